@@ -22,8 +22,8 @@ its_actor state s operation (of_walk walk read told x) = (x.actor, x.is_step)
 
 swaps_last : OfLastSteps (λ limits before s after. SwapsAsExpected before s after)
 swaps_last limits states steps t run takes keys s o m notes handle offer carries =
-    let (root, is_open, was, expected) = roots_swapped_as_expected limits states (suc t) run t handle offer (swap_of limits states (suc t) run t (omega arith) s o m notes handle offer carries) in
-    let now = new_root limits states (suc t) run t (omega arith) s o m notes handle offer carries in
+    let (root, is_open, was, expected) = roots_swapped_as_expected run t handle offer (swap_of run t (omega arith) s o m notes handle offer carries) in
+    let now = new_root run t (omega arith) s o m notes handle offer carries in
     record { was = ap (λ x. root_of (word_of x)) is_open ∙ was; expected = expected; is = ap (λ x. root_of (word_of x)) now.is_open ∙ now.over }
 
 -- a step of an operation
@@ -31,9 +31,9 @@ abbrev KeepsIfGone : Bounds → State → Step → State → Type 0
 KeepsIfGone limits before s after = (actor : ℕ) → s ≡ step.Go actor → KeepsOtherRoots before s after
 
 keeps_last : OfLastSteps KeepsIfGone
-keeps_last limits states steps t run takes keys s o m notes actor go handle root at none = by (handle_step limits states (suc t) run t (omega arith) s o m notes handle root at)
+keeps_last limits states steps t run takes keys s o m notes actor go handle root at none = by (handle_step run t (omega arith) s o m notes handle root at)
   where
-    by : HandleStep limits states (suc t) run t (omega arith) s o m notes handle root → (later : Root) × (root_at (states (suc t)) handle ≡ Some later) × (root_of later.word ≡ root_of root.word)
+    by : HandleStep run t (omega arith) s o m notes handle root → (later : Root) × (root_at (states (suc t)) handle ≡ Some later) × (root_of later.word ≡ root_of root.word)
     by (keeps stands) = (stands.root, stands.is_open, stands.over)
     by (changes_root offer carries old stands) = absurd (none offer carries)
     by (is_closed closer e gone) = absurd (let both = sym go ∙ e in let wrong : ⊥ = cc both in wrong)

@@ -206,13 +206,13 @@ module _ (limits : Bounds) (states : ℕ → State) (steps : ℕ → Step) (t : 
         by (changes own) =
             own_below own
             (own_does limits states (suc t) (depth_of_run states steps (suc t)) (path_of_run states steps (suc t)) run
-            (sites_of_updates limits states (suc t) run steps takes keys) t s (omega arith) own)
+            (sites_of_updates run steps takes keys) t s (omega arith) own)
 
   -- ---- a root that is swapped in
 
   module _ (on : ℕ) (offer : Descriptor) (carries : CarriesOut (states t) s on offer) where
     old : Carried.IsOffered (states t) on offer
-    old = Carried.root limits states (suc t) run t on offer (swap_of limits states (suc t) run t (omega arith) s o m notes on offer carries)
+    old = Carried.root run t on offer (swap_of run t (omega arith) s o m notes on offer carries)
 
     -- who carries an offer out commits nothing
     old_below : size_from trie.node (trie.main (suc t)) most_levels (root_of old.root.word) ≤ length (nodes_of (states t) on)
@@ -224,7 +224,7 @@ module _ (limits : Bounds) (states : ℕ → State) (steps : ℕ → Step) (t : 
 
     old_main : trie.main (suc t) (root_of old.root.word) ≡ offer.expected
     old_main = ap (trie.main (suc t)) (ap root_of old.word)
-        ∙ no_late_commit limits states (suc t) run t on offer (swap_of limits states (suc t) run t (omega arith) s o m notes on offer carries) (suc t) (omega arith) (omega arith)
+        ∙ no_late_commit run t on offer (swap_of run t (omega arith) s o m notes on offer carries) (suc t) (omega arith) (omega arith)
 
     old_link : is_indirection (node_under states (suc t) (root_of old.root.word)) ≡ true
     old_link = root_link limits states steps (suc t) run takes keys t (omega arith) on old.root old.is_open
@@ -280,7 +280,7 @@ module _ (limits : Bounds) (states : ℕ → State) (steps : ℕ → Step) (t : 
   -- ---- the laws of one step
 
   grows : StepsGrowLittle limits (states t) s (states (suc t))
-  grows handle root now at at_now = by (handle_step limits states (suc t) run t (omega arith) s o m notes handle root at)
+  grows handle root now at at_now = by (handle_step run t (omega arith) s o m notes handle root at)
     where
       by_size : (q : Ref) → q ≡ root_of root.word → root_of now.word ≡ q →
           (size_from trie.node (trie.main (suc t)) most_levels (root_of root.word) ≤ length (nodes_of (states t) handle))
@@ -294,7 +294,7 @@ module _ (limits : Bounds) (states : ℕ → State) (steps : ℕ → Step) (t : 
           let size = handle_size limits states steps (suc t) run takes keys (suc t) (omega arith) handle now at_now in
           inr (adds, omega (arith, size, ap (λ x. size_from trie.node (trie.main (suc t)) most_levels x) (over ∙ is), few))
 
-      by : HandleStep limits states (suc t) run t (omega arith) s o m notes handle root →
+      by : HandleStep run t (omega arith) s o m notes handle root →
           (length (nodes_of (states (suc t)) handle) ≤ length (nodes_of (states t) handle))
           ⊎ (AddsKey (states t) s handle × (length (nodes_of (states (suc t)) handle) ≤ length (nodes_of (states t) handle) + most_growth))
       by (keeps stands) =
@@ -307,7 +307,7 @@ module _ (limits : Bounds) (states : ℕ → State) (steps : ℕ → Step) (t : 
 
   opens : OpenedNoLarger limits (states t) s (states (suc t))
   opens handle now shut at_now =
-      let it = opened_step limits states (suc t) run t (omega arith) s o m notes handle now shut at_now in
+      let it = opened_step run t (omega arith) s o m notes handle now shut at_now in
       let call = its_call limits states steps t run takes keys s o m notes it.on it.offer it.carries in
       let stands = old it.on it.offer it.carries in
       let (copies, few) = opened_below it.on it.offer it.carries call (brings limits states steps t run takes keys s o m notes it.on it.offer it.carries) handle it.number it.now in
@@ -328,9 +328,9 @@ SweepKeeps limits before s after =
 
 pub sweep_keeps : OfLastSteps SweepKeeps
 sweep_keeps limits states steps t run takes keys s o m notes sweeps handle root at =
-    by (main_step limits states steps t run takes keys s o m notes) (handle_step limits states (suc t) run t (omega arith) s o m notes handle root at)
+    by (main_step limits states steps t run takes keys s o m notes) (handle_step run t (omega arith) s o m notes handle root at)
   where
-    by : MainStep limits states run.records (suc t) (assigned_at states (suc t)) t s → HandleStep limits states (suc t) run t (omega arith) s o m notes handle root →
+    by : MainStep limits states run.records (suc t) (assigned_at states (suc t)) t s → HandleStep run t (omega arith) s o m notes handle root →
         (now : Root) × (root_at (states (suc t)) handle ≡ Some now) × (nodes_of (states (suc t)) handle ≡ nodes_of (states t) handle)
     by (changes own) step_is = absurd (let bad : Sweep ≡ Go own.taker = sym sweeps ∙ own.takes in cc)
     by (stays none same) (is_closed actor e gone) = absurd (let bad : Sweep ≡ Begin actor (Close handle) None = sym sweeps ∙ e in cc)

@@ -182,9 +182,9 @@ swaps_are_own limits steps ok =
     at_end : (actor : ℕ) (operation : Operation) → operation_of (states_of limits steps (last_of limits steps)) actor ≡ Some operation → (why : Purpose) (s : Swap) → operation.line ≡ line.Swap why s →
         (operation.access ≡ Writable) × (operation.generation ≡ Some (generation_at (states_of limits steps (last_of limits steps)).heap s.indirection))
     at_end actor operation is why s at =
-        let own = swaps_in_own_generation limits (states_of limits steps) (last_of limits steps) run (last_of limits steps) (omega arith) actor operation is why s at in
+        let own = swaps_in_own_generation run (last_of limits steps) (omega arith) actor operation is why s at in
         let wants =
-        line_finds (states_of limits steps (last_of limits steps)) (safe_at limits (states_of limits steps) (last_of limits steps) run (last_of limits steps) (omega arith)) actor operation is in
+        line_finds (states_of limits steps (last_of limits steps)) (safe_at run (last_of limits steps) (omega arith)) actor operation is in
         let used = subst (λ l. AllHold (IsInUse (states_of limits steps (last_of limits steps)).heap) (states_of limits steps (last_of limits steps)).heap
         (line_wants (states_of limits steps (last_of limits steps)).limits.hash operation.call operation.access l)) at wants in
-        (own.0, own.1 ∙ ap (λ g. Some g) (used_generation limits (states_of limits steps) (last_of limits steps) run (last_of limits steps) (omega arith) s.indirection (safe_of used.0)))
+        (own.0, own.1 ∙ ap (λ g. Some g) (used_generation run (last_of limits steps) (omega arith) s.indirection (safe_of used.0)))

@@ -36,7 +36,7 @@ module _ (limits : Bounds) (states : ℕ → State) (steps : ℕ → Step) (t : 
   ok = whole.is_trie limits states steps (suc t) run takes keys
 
   all : CommitsAt limits states run.records (suc t) (assigned_at states (suc t))
-  all = fresh_commits_at limits states (suc t) run
+  all = fresh_commits_at run
 
   pub main_step : MainStep limits states run.records (suc t) (assigned_at states (suc t)) t s
   main_step = all t (omega arith) s o m notes
@@ -71,7 +71,7 @@ module _ (limits : Bounds) (states : ℕ → State) (steps : ℕ → Step) (t : 
         by_step (changes own) =
             by_own own
             (own_does limits states (suc t) (depth_of_run states steps (suc t)) (path_of_run states steps (suc t)) run
-            (sites_of_updates limits states (suc t) run steps takes keys) t s (omega arith) own)
+            (sites_of_updates run steps takes keys) t s (omega arith) own)
 
     -- a handle over a root with these values has this content behind the step
     pub content_later : (other : ℕ) (now : Root) → root_at (states (suc t)) other ≡ Some now →

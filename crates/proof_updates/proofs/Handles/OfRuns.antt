@@ -40,9 +40,9 @@ module _ (limits : Bounds) (states : ℕ → State) (steps : ℕ → Step) (t : 
   -- ---- handles that aren't touched
 
   stays : (handle : ℕ) (access : Access) (pairs : List (ℕ × ℕ)) → HandleHolds (states t) handle access pairs → ¬ Touches (states t) s handle → HandleHolds (states (suc t)) handle access pairs
-  stays handle access pairs holds untouched = by_root (handle_step limits states (suc t) run t (omega arith) s o m notes handle holds.root holds.is_open)
+  stays handle access pairs holds untouched = by_root (handle_step run t (omega arith) s o m notes handle holds.root holds.is_open)
     where
-      by_root : HandleStep limits states (suc t) run t (omega arith) s o m notes handle holds.root → HandleHolds (states (suc t)) handle access pairs
+      by_root : HandleStep run t (omega arith) s o m notes handle holds.root → HandleHolds (states (suc t)) handle access pairs
       by_root (keeps stands) = record {
         root = stands.root;
         is_open = stands.is_open;
@@ -114,7 +114,7 @@ module _ (limits : Bounds) (states : ℕ → State) (steps : ℕ → Step) (t : 
   brought : (call : Call) (opens : Option ℕ) → (c : CarriesOutCall (states t) s call opens) → Brings states (suc t) t c.handle c.offer call
   brought call opens c =
       subst (Brings states (suc t) t c.handle c.offer) c.calls
-      (swaps_bring limits states (suc t) run t c.handle c.offer (swap_of limits states (suc t) run t (omega arith) s o m notes c.handle c.offer c.carries) c.actor c.operation c.runs c.its)
+      (swaps_bring run t c.handle c.offer (swap_of run t (omega arith) s o m notes c.handle c.offer c.carries) c.actor c.operation c.runs c.its)
 
   empties : ClearsEmpty limits (states t) s (states (suc t))
   empties handle opens c = cleared limits states steps t run takes keys s o m notes c.handle c.offer c.carries (Clear handle) (brought (Clear handle) opens c) handle refl
@@ -124,8 +124,8 @@ module _ (limits : Bounds) (states : ℕ → State) (steps : ℕ → Step) (t : 
       by_call (copied limits states steps t run takes keys s o m notes it.on it.offer it.carries
       (its_call limits states steps t run takes keys s o m notes it.on it.offer it.carries) (brings limits states steps t run takes keys s o m notes it.on it.offer it.carries) handle it.number it.now)
     where
-      it : IsOpened limits states (suc t) run t (omega arith) s o m notes handle
-      it = opened_step limits states (suc t) run t (omega arith) s o m notes handle root shut now
+      it : IsOpened run t (omega arith) s o m notes handle
+      it = opened_step run t (omega arith) s o m notes handle root shut now
 
       calls : CarriesOutCall (states t) s (its_call limits states steps t run takes keys s o m notes it.on it.offer it.carries) (Some handle)
       calls = carries_call limits states steps t run takes keys s o m notes it.on it.offer it.carries (Some handle) it.number

@@ -43,19 +43,19 @@ module _ (limits : Bounds) (states : ℕ → State) (steps : ℕ → Step) (t : 
   T = trie limits states steps t run takes keys s o m notes
 
   abbrev swap : IsSwap states run.records (suc t) t on offer
-  swap = swap_of limits states (suc t) run t (omega arith) s o m notes on offer carries
+  swap = swap_of run t (omega arith) s o m notes on offer carries
 
   abbrev old : Carried.IsOffered (states t) on offer
-  old = Carried.root limits states (suc t) run t on offer swap
+  old = Carried.root run t on offer swap
 
   -- ---- whose offer it is
 
   abbrev pub its_call : Call
-  its_call = (offerer limits states (suc t) run t on offer swap).owner.call
+  its_call = (offerer run t on offer swap).owner.call
 
   pub carries_call : (opens : Option ℕ) → offer.opens ≡ opens → CarriesOutCall (states t) s its_call opens
   carries_call opens e =
-      let who = offerer limits states (suc t) run t on offer swap in
+      let who = offerer run t on offer swap in
       record {
         handle = on;
         offer = offer;
@@ -64,14 +64,14 @@ module _ (limits : Bounds) (states : ℕ → State) (steps : ℕ → Step) (t : 
         actor = suc who.k;
         operation = who.owner;
         runs = who.runs;
-        its = sym (offers limits states (suc t) run t on offer swap).its;
+        its = sym (offers run t on offer swap).its;
         calls = refl;
       }
 
   pub brings : Brings states (suc t) t on offer its_call
   brings =
-      let who = offerer limits states (suc t) run t on offer swap in
-      swaps_bring limits states (suc t) run t on offer swap (suc who.k) who.owner who.runs (sym (offers limits states (suc t) run t on offer swap).its)
+      let who = offerer run t on offer swap in
+      swaps_bring run t on offer swap (suc who.k) who.owner who.runs (sym (offers run t on offer swap).its)
 
   -- ---- values behind the swap
 
@@ -89,7 +89,7 @@ module _ (limits : Bounds) (states : ℕ → State) (steps : ℕ → Step) (t : 
   over_old : (r : Ref) → counting_main states (suc t) (suc t) r ≡ offer.expected → (key : ℕ) → value_below T (suc t) r key ≡ value_below T t (root_of old.root.word) key
   over_old r main key =
       one_main r (root_of old.root.word) key
-      (main ∙ sym (no_late_commit limits states (suc t) run t on offer swap (suc t) (omega arith) (omega arith)) ∙ ap (counting_main states (suc t) (suc t)) (sym (ap root_of old.word)))
+      (main ∙ sym (no_late_commit run t on offer swap (suc t) (omega arith) (omega arith)) ∙ ap (counting_main states (suc t) (suc t)) (sym (ap root_of old.word)))
       ∙ old_stays key
 
   -- so a handle over it has the content of the handle copied
@@ -109,7 +109,7 @@ module _ (limits : Bounds) (states : ℕ → State) (steps : ℕ → Step) (t : 
   pub cleared : (call : Call) → Brings states (suc t) t on offer call → (handle : ℕ) → call ≡ Clear handle → HandleHolds (states (suc t)) handle Writable []
   cleared call (clears opens new empty) handle e =
       let same : on ≡ handle = cc e in
-      let stands = new_root limits states (suc t) run t (omega arith) s o m notes on offer carries in
+      let stands = new_root run t (omega arith) s o m notes on offer carries in
       subst (λ h. HandleHolds (states (suc t)) h Writable []) same (record {
         root = stands.root;
         is_open = stands.is_open;
@@ -143,5 +143,5 @@ module _ (limits : Bounds) (states : ℕ → State) (steps : ℕ → Step) (t : 
         root = opened_root offer None;
         is_open = at;
         kind = refl;
-        content = copies offer.root (no_late_commit limits states (suc t) run t on offer swap (suc t) (omega arith) (omega arith)) handle (opened_root offer None) at refl;
+        content = copies offer.root (no_late_commit run t on offer swap (suc t) (omega arith) (omega arith)) handle (opened_root offer None) at refl;
       })

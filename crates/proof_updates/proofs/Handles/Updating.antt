@@ -50,7 +50,7 @@ module _ (limits : Bounds) (states : ℕ → State) (steps : ℕ → Step) (t : 
   link own =
       let its : Claims (IsInUse (states t).heap) (states t).heap (Is own.indirection AnIndirection) =
       (subst (λ l. AllHold (IsInUse (states t).heap) (states t).heap (line_wants limits.hash own.owner.call own.owner.access l)) own.swaps
-      (line_at limits states (suc t) run t (omega arith) own.actor own.owner own.runs)).0 in
+      (line_at run t (omega arith) own.actor own.owner own.runs)).0 in
       sym (link_same limits states steps (suc t) run takes keys t (omega arith) own.indirection (safe_of its)) ∙ meets_of its
 
   -- what is updated is its indirection
@@ -96,7 +96,7 @@ module _ (limits : Bounds) (states : ℕ → State) (steps : ℕ → Step) (t : 
         (later : List (ℕ × ℕ)) × HandleHolds (states (suc t)) handle root.access later × Turns (hash_of limits.hash) call former (entries (map_of T.keys (value_below T t r))) later
     update_changes u = by_step (main_step limits states steps t run takes keys s o m notes)
       where
-        by_root : (own : Mine) → HandleStep limits states (suc t) run t (omega arith) s o m notes handle root → StandsOver (states (suc t)) handle root.access r
+        by_root : (own : Mine) → HandleStep run t (omega arith) s o m notes handle root → StandsOver (states (suc t)) handle root.access r
         by_root own (keeps stands) = stands
         by_root own (changes_root offer carries old stands) = absurd (carries_nothing limits states run.records (suc t) t s handle offer carries own)
         by_root own (is_closed actor number e gone) = absurd (let both = sym e ∙ own.takes in let wrong : ⊥ = cc both in wrong)
@@ -105,7 +105,7 @@ module _ (limits : Bounds) (states : ℕ → State) (steps : ℕ → Step) (t : 
             (later : List (ℕ × ℕ)) × HandleHolds (states (suc t)) handle root.access later × Turns (hash_of limits.hash) call former (entries (map_of T.keys (value_below T t r))) later
         by_step (stays none same) = absurd (no_update limits states run.records (suc t) t s none i call former u)
         by_step (changes own) =
-            let stands = by_root own (handle_step limits states (suc t) run t (omega arith) s o m notes handle root at) in (
+            let stands = by_root own (handle_step run t (omega arith) s o m notes handle root at) in (
               entries (map_of T.keys (value_below T (suc t) r)),
               record {
                 root = stands.root;
