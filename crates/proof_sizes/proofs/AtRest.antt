@@ -91,7 +91,7 @@ module _ {limits : Bounds} {states : ℕ → State} (steps : ℕ → Step) {last
   safe = safe_at run last (omega arith)
 
   shape : HasShape (trie_of_run limits states steps last)
-  shape = runs_have_shape steps run takes keys
+  shape = runs_have_shape limits states steps last run takes keys
 
   -- ---- nobody decides a node
 

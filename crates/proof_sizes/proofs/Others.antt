@@ -62,7 +62,7 @@ module _ {limits : Bounds} {states : ℕ → State} (steps : ℕ → Step) {last
   met levels r = weight_from (once x) trie.node (trie.main u) levels r
 
   shape : HasShape (trie_of_run limits states steps last)
-  shape = runs_have_shape steps run takes keys
+  shape = runs_have_shape limits states steps last run takes keys
 
   was_opened : (h : ℕ) → MayStandBelow run.records u g h → WasOpened states u h
   was_opened h (inl same) = subst (WasOpened states u) (sym same) opened

@@ -80,7 +80,7 @@ module _ {limits : Bounds} {states : ℕ → State} (steps : ℕ → Step) {last
   safe = safe_at run t within
 
   shape : HasShape (trie_of_run limits states steps last)
-  shape = runs_have_shape steps run takes keys
+  shape = runs_have_shape limits states steps last run takes keys
 
   -- ---- nodes
 

@@ -66,7 +66,7 @@ module _ {limits : Bounds} {states : ℕ → State} (steps : ℕ → Step) {last
   r = root_of root.word
 
   shape : HasShape (bare_trie_of_run limits states steps last)
-  shape = bare_runs_have_shape steps run takes keys
+  shape = bare_runs_have_shape limits states steps last run takes keys
 
   pub I : IsSafe (states last)
   I = safe_at run last (omega arith)

@@ -215,10 +215,10 @@ module _ {limits : Bounds} {states : ℕ → State} (steps : ℕ → Step) {last
   }
 
 pub runs_have_shape : RunsHaveShape
-runs_have_shape steps run takes keys =
+runs_have_shape limits states steps last run takes keys =
     let trie = trie_of_run limits states steps last in
     has_shape steps run takes keys (λ n. n) (λ n. refl) (λ t h i child g word. none_is_newer run trie.depth trie.path t h i child g word)
 
 pub bare_runs_have_shape : BareRunsHaveShape
-bare_runs_have_shape steps run takes keys =
+bare_runs_have_shape limits states steps last run takes keys =
     has_shape steps run takes keys bare bare_again (λ t h i child g word within is. omega (arith, bare_generation (node_under states last child)))

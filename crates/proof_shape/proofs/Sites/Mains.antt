@@ -67,9 +67,9 @@ mains_share_sites limits steps ok fit =
     let last = last_of limits steps in
     let ends = run_ends limits steps in (
       λ i slot g w found is. subst (λ (x : State). OneSite limits steps w i × OneSite limits steps (logical_main x.heap i) i) ends
-          (main_sites limits states (steps_of limits steps) last (run_is limits steps ok) (takes_steps limits steps) (keys_fit limits steps fit) last (omega arith) i slot g w
+          (main_sites (steps_of limits steps) (run_is limits steps ok) (takes_steps limits steps) (keys_fit limits steps fit) last (omega arith) i slot g w
           (ap (λ (x : State). standing x.heap i) ends ∙ found) is),
-      λ handle root at. root_sites limits states (steps_of limits steps) last (run_is limits steps ok) (takes_steps limits steps) (keys_fit limits steps fit) last (omega arith) handle root
+      λ handle root at. root_sites (steps_of limits steps) (run_is limits steps ok) (takes_steps limits steps) (keys_fit limits steps fit) last (omega arith) handle root
           (ap (λ x. root_at x handle) ends ∙ at),
     )
 
@@ -78,8 +78,8 @@ paths_are_short limits steps actor operation ok fit is =
     let states = states_of limits steps in
     let last = last_of limits steps in
     let running = ap (λ x. operation_of x actor) (run_ends limits steps) ∙ is in (
-      (ways_have_sites limits states (steps_of limits steps) last (run_is limits steps ok) (takes_steps limits steps) (keys_fit limits steps fit) last (omega arith) actor operation running).0,
-      λ d within. let both = way_stands limits states (steps_of limits steps) last (run_is limits steps ok) (takes_steps limits steps)
+      (ways_have_sites (steps_of limits steps) (run_is limits steps ok) (takes_steps limits steps) (keys_fit limits steps fit) last (omega arith) actor operation running).0,
+      λ d within. let both = way_stands (steps_of limits steps) (run_is limits steps ok) (takes_steps limits steps)
           (keys_fit limits steps fit) last (omega arith) actor operation running d within in
           let next : d + 1 ≡ suc d = omega arith in
           (both.0 ∙ next, both.1),

@@ -130,7 +130,7 @@ module _ {limits : Bounds} {states : ℕ → State} (steps : ℕ → Step) {last
     root_led = ap (λ b. cond b (path_until states steps last r) 0) root_link ∙ root_path (sites_of states steps last) (paths_fit states steps last) r level_is
 
     shape : HasShape trie
-    shape = runs_have_shape steps run takes keys
+    shape = runs_have_shape limits states steps last run takes keys
 
     -- the trie at this time, with this root alone
     abbrev pub now : Trie

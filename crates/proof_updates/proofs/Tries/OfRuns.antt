@@ -27,7 +27,7 @@ module _ {limits : Bounds} {states : ℕ → State} (steps : ℕ → Step) {last
   sites = sites_of_updates run steps takes keys
 
   shape : HasShape (trie_of_run limits states steps last)
-  shape = runs_have_shape steps run takes keys
+  shape = runs_have_shape limits states steps last run takes keys
 
   fits : (t : ℕ) → t ≤ last → (k : ℕ) (operation : Operation) → Runs (states t) k operation → key_of operation.call < 2 ^ 64
   fits = keys_of_operations run steps takes keys
