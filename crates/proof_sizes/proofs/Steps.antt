@@ -118,19 +118,19 @@ module _ (limits : Bounds) (states : ℕ → State) (steps : ℕ → Step) (t : 
     r = root_of root.word
 
     size_at : length (nodes_of (states t) handle) ≡ size_from trie.node (trie.main t) most_levels (root_of root.word)
-    size_at = handle_size limits states steps (suc t) run takes keys t (omega arith) handle root at
+    size_at = handle_size steps run takes keys t (omega arith) handle root at
 
     -- one node more heavy
     heavy_at : (i : Ref) (more : ℕ) → weight_from (heavier i more) trie.node (trie.main t) most_levels (root_of root.word) ≤ length (nodes_of (states t) handle) + more
     heavy_at i more =
-        let weighs = handle_weighs limits states steps (suc t) run takes keys t (omega arith) handle root at (heavier i more) in
-        let few = heavy_once i more (nodes_of (states t) handle) (nodes_once limits states steps (suc t) run takes keys t (omega arith) handle root at i) in
+        let weighs = handle_weighs steps run takes keys t (omega arith) handle root at (heavier i more) in
+        let few = heavy_once i more (nodes_of (states t) handle) (nodes_once steps run takes keys t (omega arith) handle root at i) in
         omega (arith, weighs, few)
 
     light_at : (i : Ref) (more : ℕ) → times i (nodes_of (states t) handle) ≡ 0 →
         weight_from (heavier i more) trie.node (trie.main t) most_levels (root_of root.word) ≡ length (nodes_of (states t) handle)
     light_at i more none =
-        let weighs = handle_weighs limits states steps (suc t) run takes keys t (omega arith) handle root at (heavier i more) in
+        let weighs = handle_weighs steps run takes keys t (omega arith) handle root at (heavier i more) in
         sym weighs ∙ heavy_none i more (nodes_of (states t) handle) none
 
     abbrev pub Grows : Ref → Type 0
@@ -157,7 +157,7 @@ module _ (limits : Bounds) (states : ℕ → State) (steps : ℕ → Step) (t : 
     own_below own (inl (p, former, e)) = by former refl
       where
         u : Updates trie t own.start own.owner.call former
-        u = whole.updates_at limits states steps (suc t) run takes keys t s (omega arith) own p former e
+        u = whole.updates_at steps run takes keys t s (omega arith) own p former e
 
         few : (levels : ℕ) (q : Ref) → size_from trie.node (trie.main (suc t)) levels q ≤ weight_from (heavier u.indirection (added former)) trie.node (trie.main t) levels q
         few = update_grows_little trie t refl (λ n j le. shape.shaped n j le) u.indirection u.leaves own.start _ former u.now u.updates
@@ -227,7 +227,7 @@ module _ (limits : Bounds) (states : ℕ → State) (steps : ℕ → Step) (t : 
         ∙ no_late_commit run t on offer (swap_of run t (omega arith) s o m notes on offer carries) (suc t) (omega arith) (omega arith)
 
     old_link : is_indirection (node_under states (suc t) (root_of old.root.word)) ≡ true
-    old_link = root_link limits states steps (suc t) run takes keys t (omega arith) on old.root old.is_open
+    old_link = root_link steps run takes keys t (omega arith) on old.root old.is_open
 
     -- two indirections over one main node reach as many
     over_one : (a b : Ref) → is_indirection (node_under states (suc t) a) ≡ true → is_indirection (node_under states (suc t) b) ≡ true → trie.main (suc t) a ≡ trie.main (suc t) b →
@@ -243,8 +243,8 @@ module _ (limits : Bounds) (states : ℕ → State) (steps : ℕ → Step) (t : 
     over_expected : (handle : ℕ) (now : Root) → root_at (states (suc t)) handle ≡ Some now → trie.main (suc t) (root_of now.word) ≡ offer.expected →
         length (nodes_of (states (suc t)) handle) ≤ length (nodes_of (states t) on)
     over_expected handle now at main =
-        let size = handle_size limits states steps (suc t) run takes keys (suc t) (omega arith) handle now at in
-        let link = root_link limits states steps (suc t) run takes keys (suc t) (omega arith) handle now at in
+        let size = handle_size steps run takes keys (suc t) (omega arith) handle now at in
+        let link = root_link steps run takes keys (suc t) (omega arith) handle now at in
         let same = over_one (root_of now.word) (root_of old.root.word) link old_link (main ∙ sym old_main) in
         omega (arith, size, same, old_below)
 
@@ -252,8 +252,8 @@ module _ (limits : Bounds) (states : ℕ → State) (steps : ℕ → Step) (t : 
     over_empty : (handle : ℕ) (now : Root) → root_at (states (suc t)) handle ≡ Some now → trie.node (trie.main (suc t) (root_of now.word)) ≡ empty_branch →
         length (nodes_of (states (suc t)) handle) ≤ length (nodes_of (states t) on)
     over_empty handle now at empty =
-        let size = handle_size limits states steps (suc t) run takes keys (suc t) (omega arith) handle now at in
-        let node_new = indirection_is (node_under states (suc t) (root_of now.word)) (root_link limits states steps (suc t) run takes keys (suc t) (omega arith) handle now at) in
+        let size = handle_size steps run takes keys (suc t) (omega arith) handle now at in
+        let node_new = indirection_is (node_under states (suc t) (root_of now.word)) (root_link steps run takes keys (suc t) (omega arith) handle now at) in
         let node_old = indirection_is (node_under states (suc t) (root_of old.root.word)) old_link in
         let new_is = weight_link one trie.node (trie.main (suc t)) 14 node_new.0 (root_of now.word) node_new.1 node_new.2
         ∙ ap (λ n. 1 + 1 + sum_by (size_from trie.node (trie.main (suc t)) 14) (entries_of n)) empty in
@@ -288,10 +288,10 @@ module _ (limits : Bounds) (states : ℕ → State) (steps : ℕ → Step) (t : 
           (length (nodes_of (states (suc t)) handle) ≤ length (nodes_of (states t) handle))
           ⊎ (AddsKey (states t) s handle × (length (nodes_of (states (suc t)) handle) ≤ length (nodes_of (states t) handle) + most_growth))
       by_size q is over (inl few) =
-          let size = handle_size limits states steps (suc t) run takes keys (suc t) (omega arith) handle now at_now in
+          let size = handle_size steps run takes keys (suc t) (omega arith) handle now at_now in
           inl (omega (arith, size, ap (λ x. size_from trie.node (trie.main (suc t)) most_levels x) (over ∙ is), few))
       by_size q is over (inr (adds, few)) =
-          let size = handle_size limits states steps (suc t) run takes keys (suc t) (omega arith) handle now at_now in
+          let size = handle_size steps run takes keys (suc t) (omega arith) handle now at_now in
           inr (adds, omega (arith, size, ap (λ x. size_from trie.node (trie.main (suc t)) most_levels x) (over ∙ is), few))
 
       by : HandleStep run t (omega arith) s o m notes handle root →
@@ -339,8 +339,8 @@ sweep_keeps limits states steps t run takes keys s o m notes sweeps handle root 
     by (stays none same) (keeps stands) = (
       stands.root,
       stands.is_open,
-      handle_nodes limits states steps (suc t) run takes keys (suc t) (omega arith) handle stands.root stands.is_open
+      handle_nodes steps run takes keys (suc t) (omega arith) handle stands.root stands.is_open
           ∙ ap (nodes_from (node_under states (suc t)) (counting_main states (suc t) (suc t)) most_levels) stands.over
           ∙ nodes_alike (node_under states (suc t)) (counting_main states (suc t) (suc t)) (counting_main states (suc t) t) same most_levels (root_of root.word)
-          ∙ sym (handle_nodes limits states steps (suc t) run takes keys t (omega arith) handle root at),
+          ∙ sym (handle_nodes steps run takes keys t (omega arith) handle root at),
     )

@@ -33,7 +33,7 @@ module _ (limits : Bounds) (states : ℕ → State) (steps : ℕ → Step) (t : 
   Own = OwnCommit limits states run.records (suc t) (assigned_at states (suc t)) t s
 
   pub ok : IsTrie (trie_of_run limits states steps (suc t))
-  ok = whole.is_trie limits states steps (suc t) run takes keys
+  ok = whole.is_trie steps run takes keys
 
   all : CommitsAt limits states run.records (suc t) (assigned_at states (suc t))
   all = fresh_commits_at run
@@ -54,15 +54,15 @@ module _ (limits : Bounds) (states : ℕ → State) (steps : ℕ → Step) (t : 
     values_stay misses key = by_step main_step
       where
         deep : trie.depth r ≡ 0
-        deep = root_deep limits states steps (suc t) run takes keys t (omega arith) handle root at
+        deep = root_deep steps run takes keys t (omega arith) handle root at
 
         by_own : (own : Own) → ((p : List Ref) × (former : Option ℕ) × (own.why ≡ purpose.Update p former))
             ⊎ IsRepair trie (generation trie own.indirection) t (node_in trie t own.indirection) (node_in trie (suc t) own.indirection) →
             value_below trie (suc t) r key ≡ value_below trie t r key
         by_own own (inl (p, former, e)) =
-            let link = indirection_is (node_under states (suc t) r) (root_link limits states steps (suc t) run takes keys t (omega arith) handle root at) in
+            let link = indirection_is (node_under states (suc t) r) (root_link steps run takes keys t (omega arith) handle root at) in
             missed_below trie t own.indirection r (λ j. shape.shaped t j (omega arith)) own.others
-            (λ from. misses own p former e (reach_from limits states steps (suc t) run takes keys t (omega arith) handle root at own.indirection from))
+            (λ from. misses own p former e (reach_from steps run takes keys t (omega arith) handle root at own.indirection from))
             key most_levels 0 r link.1 link.0 deep itself link.2
         by_own own (inr repair) = repair_below trie ok t refl own.indirection own.others repair r deep key
 
@@ -77,6 +77,6 @@ module _ (limits : Bounds) (states : ℕ → State) (steps : ℕ → Step) (t : 
     pub content_later : (other : ℕ) (now : Root) → root_at (states (suc t)) other ≡ Some now →
         ((key : ℕ) → value_below trie (suc t) (root_of now.word) key ≡ value_below trie t (root_of root.word) key) → content_at (states (suc t)) other ≡ content_at (states t) handle
     content_later other now at_now same =
-        content_shown limits states steps (suc t) run takes keys (suc t) (omega arith) other now at_now
+        content_shown steps run takes keys (suc t) (omega arith) other now at_now
         ∙ ap entries (map_of-same trie.keys (value_below trie (suc t) (root_of now.word)) (value_below trie t (root_of root.word)) same)
-        ∙ sym (content_shown limits states steps (suc t) run takes keys t (omega arith) handle root at)
+        ∙ sym (content_shown steps run takes keys t (omega arith) handle root at)

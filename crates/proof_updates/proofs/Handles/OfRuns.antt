@@ -94,7 +94,7 @@ module _ (limits : Bounds) (states : ℕ → State) (steps : ℕ → Step) (t : 
         record {
           before = turned.before;
           after = turned.after;
-          begins = turned.begins ∙ sym (content_shown limits states steps (suc t) run takes keys t (omega arith) handle holds.root holds.is_open) ∙ holds.content;
+          begins = turned.begins ∙ sym (content_shown steps run takes keys t (omega arith) handle holds.root holds.is_open) ∙ holds.content;
           ends = turned.ends;
           changes = turned.changes;
         },

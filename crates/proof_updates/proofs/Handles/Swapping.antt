@@ -114,7 +114,7 @@ module _ (limits : Bounds) (states : ℕ → State) (steps : ℕ → Step) (t : 
         root = stands.root;
         is_open = stands.is_open;
         kind = stands.kind;
-        content = content_shown limits states steps (suc t) run takes keys (suc t) (omega arith) on stands.root stands.is_open
+        content = content_shown steps run takes keys (suc t) (omega arith) on stands.root stands.is_open
             ∙ ap map.entries (no_values T.keys _ (λ key. nothing stands.over key)) ∙ no_entries;
       })
     where

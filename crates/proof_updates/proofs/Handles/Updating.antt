@@ -51,7 +51,7 @@ module _ (limits : Bounds) (states : ℕ → State) (steps : ℕ → Step) (t : 
       let its : Claims (IsInUse (states t).heap) (states t).heap (Is own.indirection AnIndirection) =
       (subst (λ l. AllHold (IsInUse (states t).heap) (states t).heap (line_wants limits.hash own.owner.call own.owner.access l)) own.swaps
       (line_at run t (omega arith) own.actor own.owner own.runs)).0 in
-      sym (link_same limits states steps (suc t) run takes keys t (omega arith) own.indirection (safe_of its)) ∙ meets_of its
+      sym (link_same steps run takes keys t (omega arith) own.indirection (safe_of its)) ∙ meets_of its
 
   -- what is updated is its indirection
   one_changes : (own : Mine) (call : Call) (former : Option ℕ) (u : Updates T t own.start call former) → u.indirection ≡ own.indirection
@@ -78,7 +78,7 @@ module _ (limits : Bounds) (states : ℕ → State) (steps : ℕ → Step) (t : 
         after = map_of T.keys (value_below T (suc t) r)
 
         u : Updates T t own.start own.owner.call former
-        u = whole.updates_at limits states steps (suc t) run takes keys t s (omega arith) own w.path former w.purpose_is
+        u = whole.updates_at steps run takes keys t s (omega arith) own w.path former w.purpose_is
 
         its : u.indirection ≡ i
         its = one_changes own own.owner.call former u ∙ w.indirection_is
@@ -87,9 +87,9 @@ module _ (limits : Bounds) (states : ℕ → State) (steps : ℕ → Step) (t : 
         acted =
             let node = indirection_is (node_under states (suc t) own.indirection) (link own) in
             update_below T t refl r (ok limits states steps t run takes keys s o m notes) (bare_runs_have_shape limits states steps (suc t) run takes keys)
-            (root_deep limits states steps (suc t) run takes keys t (omega arith) handle root at) (root_led limits states steps (suc t) run takes keys t (omega arith) handle root at)
+            (root_deep steps run takes keys t (omega arith) handle root at) (root_led steps run takes keys t (omega arith) handle root at)
             own.start own.owner.call former u node.1 node.0 (ap (node_under states (suc t)) (its ∙ sym w.indirection_is) ∙ node.2)
-            (subst (λ j. From T t r j) (sym its) (from_reach limits states steps (suc t) run takes keys t (omega arith) handle root at i reach))
+            (subst (λ j. From T t r j) (sym its) (from_reach steps run takes keys t (omega arith) handle root at i reach))
 
     -- the handle keeps its root, and its pairs are those that the call makes of the earlier ones
     pub update_changes : CommitsUpdate (states t) s i call former →
@@ -111,7 +111,7 @@ module _ (limits : Bounds) (states : ℕ → State) (steps : ℕ → Step) (t : 
                 root = stands.root;
                 is_open = stands.is_open;
                 kind = stands.kind;
-                content = content_shown limits states steps (suc t) run takes keys (suc t) (omega arith) handle stands.root stands.is_open
+                content = content_shown steps run takes keys (suc t) (omega arith) handle stands.root stands.is_open
                     ∙ ap (λ q. entries (map_of T.keys (value_below T (suc t) q))) stands.over;
               },
               record {

@@ -13,25 +13,25 @@ use Rattle.proof_updates.specs.Laws.Tries.{OfEachRun, EachStepDoes, OthersKeepCo
 use Rattle.proof_updates.proofs.Tries.OfRuns as whole
 
 of_each_run : (Law : Bounds → (ℕ → State) → (ℕ → Record) → ℕ → Trie → Type 0) →
-    ({limits : Bounds} {states : ℕ → State} (steps : ℕ → Step) {last : ℕ} (run : IsRun limits states last) → TakesSteps states steps last → StepsFit steps last →
+    ((limits : Bounds) (states : ℕ → State) (steps : ℕ → Step) (last : ℕ) (run : IsRun limits states last) → TakesSteps states steps last → StepsFit steps last →
     Law limits states run.records last (trie_of_run limits states steps last)) → OfEachRun Law
 of_each_run Law holds limits steps ok fit =
-    holds (steps_of limits steps) (run_is limits steps ok) (takes_steps limits steps) (keys_fit limits steps fit)
+    holds limits (states_of limits steps) (steps_of limits steps) (last_of limits steps) (run_is limits steps ok) (takes_steps limits steps) (keys_fit limits steps fit)
 
 pub each_step_does : EachStepDoes
-each_step_does = of_each_run (λ limits states records last trie. StepsDo trie) (λ steps run takes keys. (whole.is_trie steps run takes keys).does)
+each_step_does = of_each_run (λ limits states records last trie. StepsDo trie) (λ limits states steps last run takes keys. (whole.is_trie steps run takes keys).does)
 
 pub others_keep_contents : OthersKeepContents
-others_keep_contents = of_each_run (λ limits states records last trie. StepsKeep states records last trie) whole.steps_keep
+others_keep_contents = of_each_run (λ limits states records last trie. StepsKeep states records last trie) (λ limits states steps last run. whole.steps_keep steps run)
 
 pub updates_lead_on : UpdatesLeadOn
-updates_lead_on = of_each_run UpdatesFollow whole.updates_follow
+updates_lead_on = of_each_run UpdatesFollow (λ limits states steps last run. whole.updates_follow steps run)
 
 pub paths_lie_on_keys : PathsLieOnKeys
-paths_lie_on_keys = of_each_run (λ limits states records last trie. PathsLie states last trie) whole.paths_lie
+paths_lie_on_keys = of_each_run (λ limits states records last trie. PathsLie states last trie) (λ limits states steps last run. whole.paths_lie steps run)
 
 pub ends_are_seen : EndsAreSeen
-ends_are_seen = of_each_run (λ limits states records last trie. KeysLook states records last trie) whole.keys_look
+ends_are_seen = of_each_run (λ limits states records last trie. KeysLook states records last trie) (λ limits states steps last run. whole.keys_look steps run)
 
 pub replies_are_right : RepliesAreRight
-replies_are_right = of_each_run RepliesRight whole.replies_right
+replies_are_right = of_each_run RepliesRight (λ limits states steps last run. whole.replies_right steps run)
