@@ -150,10 +150,10 @@ module _ (limits : Bounds) (steps more : List Step) (ok : AreBounds limits) (id 
           let contained : Contains (told_all (last_of limits (steps ++ more))).places p =
           contains_among _ p (subst (λ (s : Record). Among p s.places) (sym (record_ends limits (steps ++ more))) (subst (Among p) (sym grown.1) (among_right before.places grown.0 p a))) in
           let (k, operation, runs, same) = facts1.runs_behind p contained in
-          let told = (books_at limits all (last_of limits (steps ++ more)) (run_is limits (steps ++ more) ok) (suc p.step) (omega (arith, low, within))).told k operation runs in
+          let told = (books_at (run_is limits (steps ++ more) ok) (suc p.step) (omega (arith, low, within))).told k operation runs in
           let begun : HasBegun (told_all (suc p.step)).events p.id =
           subst (HasBegun (told_all (suc p.step)).events) same (told.place, record { actor = suc k; call = operation.call; opens = operation.opens }, told.begins) in
-          let at_rest = holds_later limits all (last_of limits (steps ++ more)) (run_is limits (steps ++ more) ok) (λ s past. HasBegun past.events p.id) (begun_kept p.id)
+          let at_rest = holds_later (run_is limits (steps ++ more) ok) (λ s past. HasBegun past.events p.id) (begun_kept p.id)
           (suc p.step) (last_of limits steps) (omega (arith, low)) (omega (arith, within)) begun in
           new_begun p a (subst (λ (s : Record). HasBegun s.events p.id) (records_in_front limits steps more ∙ record_ends limits steps) at_rest)
 

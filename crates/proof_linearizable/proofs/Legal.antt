@@ -31,7 +31,7 @@ fit_in_front (s ∷ xs) ys fit = All-cons FitsKey s xs (All-head FitsKey s (xs +
 facts_of : (limits : Bounds) (steps : List Step) → AreBounds limits → KeysFit steps → Facts limits (states_of limits steps) (records_of limits steps) (last_of limits steps) (shown limits steps)
 facts_of limits steps ok fit =
     let r = run_is limits steps ok in
-    facts limits (states_of limits steps) (last_of limits steps) r (steps_of limits steps) (takes_steps limits steps) (keys_fit limits steps fit)
+    facts r (steps_of limits steps) (takes_steps limits steps) (keys_fit limits steps fit)
 
 pub every_order_is_legal : EveryOrderIsLegal
 every_order_is_legal limits steps ok fit = legal_by_facts limits steps (shown limits steps) ok (facts_of limits steps ok fit)
