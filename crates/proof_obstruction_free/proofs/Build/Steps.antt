@@ -61,9 +61,9 @@ module _ (a : Lone) (weight : ℕ → ℕ) (heavy : IsWeight a weight) (steps : 
       (path : List Ref) (main : Ref) (position : ℕ) (below : Ref) (depth t : ℕ) (g : Option ℕ) → Stands a t g (line.Build (build.Rung path main position below depth)) →
       (depth_of path + 1 ≤ depth) × (depth ≤ 12)
   rung_low path main position below depth t g s =
-      let level = subst (LineLevel (level_until a.states a.steps a.last)) s.line (lines_have_sites a.limits a.states a.steps a.last a.run a.takes a.fit t s.until a.actor s.operation s.runs).0 in
+      let level = subst (LineLevel (level_until a.states a.steps a.last)) s.line (lines_have_sites a.steps a.run a.takes a.fit t s.until a.actor s.operation s.runs).0 in
       let wanted = steps.wants t g (line.Build (build.Rung path main position below depth)) s in
       let (slot, found, is) = kind_at a.states t below AnIndirection wanted.1.1.1.0 in
-      let shape = (grown_sites a.limits a.states a.steps a.last a.run a.takes a.fit t s.until below slot found).shape in
+      let shape = (grown_sites a.steps a.run a.takes a.fit t s.until below slot found).shape in
       let low = link_high (list_depth a.limits.hash) (level_until a.states a.steps a.last below) slot.node is shape in
       (level.1, omega (arith, low, level.2, list_depth-le a.limits.hash))

@@ -29,7 +29,7 @@ module _ (a : Lone) where
   -- an indirection is something else than what stands nowhere, or a single
   link_somewhere : (below : Ref) (g : ℕ) → IsOf a below g → below ≡ no_ref → ⊥
   link_somewhere below g (m, is) none =
-      let branch : is_branch (node a below) ≡ true = ap (λ r. is_branch (node a r)) none ∙ ap is_branch (no_node a.limits a.states a.last a.run a.last (omega arith)) in
+      let branch : is_branch (node a below) ≡ true = ap (λ r. is_branch (node a r)) none ∙ ap is_branch (no_node a.run a.last (omega arith)) in
       true≢false (sym branch ∙ ap is_branch is)
 
   pub link_no_single : (below : Ref) (g k v : ℕ) → IsOf a below g → node a below ≡ Single k v → ⊥

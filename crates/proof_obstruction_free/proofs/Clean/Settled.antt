@@ -21,7 +21,7 @@ module _ (a : Lone) where
       by_slot : (o : Option Slot) → grown a.states u entry ≡ o → ⊥
       by_slot None e = let bad : true ≡ false = sym h.made ∙ ap is_some e in true≢false bad
       by_slot (Some slot) e =
-          let same : is_indirection slot.node ≡ false = sym (link_same a.limits a.states a.steps a.last a.run a.takes a.fit u within entry slot e) ∙ plain in
+          let same : is_indirection slot.node ≡ false = sym (link_same a.steps a.run a.takes a.fit u within entry slot e) ∙ plain in
           let none : m ≡ no_ref = sym h.main ∙ ap (λ o. main_of (node_of o)) e ∙ no_main slot.node same in
-          let branch : is_branch (node a m) ≡ true = ap (λ r. is_branch (node a r)) none ∙ ap is_branch (no_node a.limits a.states a.last a.run a.last (omega arith)) in
+          let branch : is_branch (node a m) ≡ true = ap (λ r. is_branch (node a r)) none ∙ ap is_branch (no_node a.run a.last (omega arith)) in
           true≢false (sym branch ∙ ap is_branch tomb)

@@ -24,7 +24,7 @@ levels c = 14 * (c + 12) + 3
 
 -- the path of an operation's line has 14 indirections at most
 pub short_way : (a : Lone) (t : ℕ) (g : Option ℕ) (l : Line) → Stands a t g l → length (way_of l) ≤ 14
-short_way a t g l s = subst (λ x. length (way_of x) ≤ 14) s.line (ways_have_sites a.limits a.states a.steps a.last a.run a.takes a.fit t s.until a.actor s.operation s.runs).0
+short_way a t g l s = subst (λ x. length (way_of x) ≤ 14) s.line (ways_have_sites a.steps a.run a.takes a.fit t s.until a.actor s.operation s.runs).0
 
 module _ (a : Lone) (weight : ℕ → ℕ) (c : ℕ) (heavy : IsWeight a weight) (steps : Stepping a) (machines : Machines a weight c) where
   abbrev W : (ℕ → Type 0) → ℕ → ℕ → Type 0

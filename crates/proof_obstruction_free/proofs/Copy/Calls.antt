@@ -116,5 +116,5 @@ none_so limits k operation at_k = absurd (none_found limits.actors k operation a
 pub copy_lines : (a : Lone) → IsCopying a.own.call → a.start ≤ a.last → OfCopy a.own.line
 copy_lines a copies within =
     let (k, place, at_k) = place_of_actor (a.states a.start) a.actor a.own a.begins in
-    at_each_time a.limits a.states a.last a.run AllSo (none_so a.limits)
+    at_each_time a.run AllSo (none_so a.limits)
     (λ before s o after m all j found at_j. so_by before s all j found (comes before s o after m j found at_j)) a.start within k a.own at_k copies

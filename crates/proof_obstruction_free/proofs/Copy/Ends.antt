@@ -60,7 +60,7 @@ module _ (a : Lone) (copies : IsCopying a.own.call) where
       by Writable e = e
       by ReadOnly e =
           let (k, place, at_k) = place_of_actor (a.states t) a.actor s.operation s.runs in
-          let fits = (safe_at a.limits a.states a.last a.run t s.until).fits k s.operation at_k (s.access ∙ e) in
+          let fits = (safe_at a.run t s.until).fits k s.operation at_k (s.access ∙ e) in
           absurd (true≢false (sym (writes a.own.call copies) ∙ ap needs_writable (sym s.call) ∙ fits))
 
   -- the root was read, and stands in the handle's word

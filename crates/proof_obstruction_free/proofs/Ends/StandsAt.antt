@@ -49,4 +49,4 @@ module _ (a : Lone) where
 
   -- nor is one the line on which nothing is possible
   pub never : (t : ℕ) (g : Option ℕ) → Stands a t g line.Impossible → ⊥
-  never t g s = never_impossible a.limits a.states a.last a.run t s.until a.actor s.operation s.runs s.line
+  never t g s = never_impossible a.run t s.until a.actor s.operation s.runs s.line

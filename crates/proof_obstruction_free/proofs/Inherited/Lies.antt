@@ -20,7 +20,7 @@ module _ (a : Lone) where
   trie = trie_of_run a.limits a.states a.steps a.last
 
   pub is_trie : IsTrie (trie_of_run a.limits a.states a.steps a.last)
-  is_trie = whole.is_trie a.limits a.states a.steps a.last a.run a.takes a.fit
+  is_trie = whole.is_trie a.steps a.run a.takes a.fit
 
   -- the call's key
   abbrev pub q : ℕ
@@ -67,10 +67,10 @@ module _ (a : Lone) where
         let plain : root.word ≡ Plain r = sym (ap word_of found) ∙ x.plain in
         let its : generation_at (a.states t).heap (root_of root.word) ≡ g =
         ap (λ w. generation_at (a.states t).heap (root_of w)) plain ∙ root_generation a t (Some g) (line.Key (key.Main path main)) s refl r x.plain ∙ (let same = x.own in cc same) in
-        ap trie.root (sym its) ∙ root_of_run a.limits a.states a.last a.run t (handle_of a.own.call) root s.until found ∙ ap root_of plain
+        ap trie.root (sym its) ∙ root_of_run a.run t (handle_of a.own.call) root s.until found ∙ ap root_of plain
 
     -- its path lies on that of the key
     pub lies : a.own.access ≡ Writable → LiesOn trie t g q path
     lies writes =
         subst (λ k. LiesOn trie t g k path) (ap key_of s.call)
-        (whole.paths_lie a.limits a.states a.steps a.last a.run a.takes a.fit t a.actor g s.operation path s.until s.runs (s.access ∙ writes) s.generation (ap path_of s.line))
+        (whole.paths_lie a.steps a.run a.takes a.fit t a.actor g s.operation path s.until s.runs (s.access ∙ writes) s.generation (ap path_of s.line))

@@ -148,8 +148,8 @@ module _ (a : Lone) (weight : ℕ → ℕ) (c : ℕ) (heavy : IsWeight a weight)
   pub fine_ends : FineEnds a weight c
   fine_ends room =
       let within : a.start ≤ a.last = omega (arith, room) in
-      from_line a.own.line a.start a.own.generation (key_lines a.limits a.states a.last a.run a.start within a.actor a.own a.begins on)
-      (settled_at a.limits a.states a.last a.run a.start within a.actor a.own a.begins).starts (begins a within) room
+      from_line a.own.line a.start a.own.generation (key_lines a.run a.start within a.actor a.own a.begins on)
+      (settled_at a.run a.start within a.actor a.own a.begins).starts (begins a within) room
 
 -- where a READ costs 2
 pub fine_most_is : fine_most 2 ≡ 3640

@@ -157,7 +157,7 @@ module _ (a : Lone) where
       at : (d : ℕ) → d < length path → depth_of_run a.states a.steps a.last (get_or path d no_ref) ≡ d
       at d lt =
           subst (λ p. d < length p → depth_of_run a.states a.steps a.last (get_or p d no_ref) ≡ d) here
-          (λ low. ((ways_have_sites a.limits a.states a.steps a.last a.run a.takes a.fit t s.until a.actor s.operation s.runs).1 d low).1) lt
+          (λ low. ((ways_have_sites a.steps a.run a.takes a.fit t s.until a.actor s.operation s.runs).1 d low).1) lt
 
       apart : (x y : ℕ) → x < y → depth_of_run a.states a.steps a.last (get_or path k no_ref) ≡ x → depth_of_run a.states a.steps a.last (current path) ≡ y → ⊥
       apart x y lt one two = let e : x ≡ y = sym one ∙ ap (depth_of_run a.states a.steps a.last) same ∙ two in omega (arith, lt, e)

@@ -18,7 +18,7 @@ module _ (a : Lone) where
   -- the flag of the call's key
   pub flag_is : (t : ℕ) (g : Option ℕ) (l : Line) (s : Stands a t g l) (path : List Ref) → flag_in (a.states t) s.operation path ≡ flag_at a (depth_of path)
   flag_is t g l s path =
-      ap₂ (λ (x : Bounds) (call : Call). flag_of (hash_of x.hash (key_of call)) (depth_of path)) (limits_at a.limits a.states a.last a.run t s.until) s.call
+      ap₂ (λ (x : Bounds) (call : Call). flag_of (hash_of x.hash (key_of call)) (depth_of path)) (limits_at a.run t s.until) s.call
 
   module _ (steps : Stepping a) where
     -- a main node at which KEY is

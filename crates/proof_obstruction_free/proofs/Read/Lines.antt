@@ -117,5 +117,5 @@ module _ (a : Lone) where
 
   pub asks_writable : (t : ℕ) (g : Option ℕ) (l : Line) → Stands a t g l → (i m q : Ref) → read_of l ≡ Some (record { indirection = i; line = read.AskRoot m q }) → a.own.access ≡ Writable
   asks_writable t g l s i m q e =
-      let known = remembers_at a.limits a.states a.last (known_run a.limits a.states a.last (own_run a)) t s.until a.actor s.operation s.runs in
+      let known = remembers_at a.limits a.states a.last (known_run (own_run a)) t s.until a.actor s.operation s.runs in
       sym s.access ∙ asks _ (s.operation.access ≡ Writable) s.operation.line known _ (ap read_of s.line ∙ e)

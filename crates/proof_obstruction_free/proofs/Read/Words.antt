@@ -23,7 +23,7 @@ use Rattle.proof_obstruction_free.proofs.Step.Next.{own_run}
 
 module _ (a : Lone) where
   abbrev pub p : Protocol
-  p = protocol a.limits a.states a.last (known_run a.limits a.states a.last (own_run a))
+  p = protocol a.limits a.states a.last (known_run (own_run a))
 
   abbrev pub w : Words
   w = p.words

@@ -107,11 +107,11 @@ module _ (a : Lone) (reads : a.own.access ≡ ReadOnly) (on : IsOnKey a.own.call
       record {
         read_only = read_only;
         on_key = subst IsOnKey (sym s.call) on;
-        reads = (safe_at a.limits a.states a.last a.run t s.until).fits k s.operation at_k read_only;
+        reads = (safe_at a.run t s.until).fits k s.operation at_k read_only;
       }
 
   pub reader_lines : (t : ℕ) (g : Option ℕ) (l : Line) → Stands a t g l → OfReader l
   reader_lines t g l s =
       let (k, place, at_k) = place_of_actor (a.states t) a.actor s.operation s.runs in
       let reader = reader_at t g l s in
-      subst OfReader s.line (all_so a.limits a.states a.last a.run t s.until k s.operation at_k reader.read_only reader.on_key)
+      subst OfReader s.line (all_so a.run t s.until k s.operation at_k reader.read_only reader.on_key)

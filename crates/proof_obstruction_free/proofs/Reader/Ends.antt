@@ -64,7 +64,7 @@ module _ (a : Lone) (read_only : a.own.access ≡ ReadOnly) (on_key : IsOnKey a.
       by_slot None e = let none : length ss.items ≡ 0 = ap (λ n. length (entries_of n)) (sym is ∙ ap node_of e) in omega arith
       by_slot (Some slot) e =
           let node_is : slot.node ≡ Listed ss = sym (ap node_of e) ∙ is in
-          let shape = made_shaped a.limits a.states a.steps a.last a.run a.takes a.fit a.last (omega arith) m (slot, e, ap (meets AMain) node_is) in
+          let shape = made_shaped a.steps a.run a.takes a.fit a.last (omega arith) m (slot, e, ap (meets AMain) node_is) in
           (list_shape (trie_at a.limits.hash (sites_of a.states a.steps a.last)) m (node a m) ss shape is).most
   few_by m (Indirection g w) is e = absurd (false≢true e)
   few_by m (Branch b es) is e = absurd (false≢true e)
@@ -183,14 +183,14 @@ module _ (a : Lone) (read_only : a.own.access ≡ ReadOnly) (on_key : IsOnKey a.
   root_plain : (t : ℕ) (g : Option ℕ) → Stands a t g (line.Root root.Read) → (r : Ref) × IsPlain a t r
   root_plain t g s =
       let (found, is, access) = handle_open a t g (line.Root root.Read) s refl in
-      let plain = read_only_plain (a.states t) (a.run.records t) (safe_at a.limits a.states a.last a.run t s.until) (ordered_at a.limits a.states a.last a.run t s.until)
+      let plain = read_only_plain (a.states t) (a.run.records t) (safe_at a.run t s.until) (ordered_at a.run t s.until)
       (handle_of a.own.call) found is (access ∙ read_only) in
       (root_of found.word, ap word_of is ∙ plain)
 
   never_completes : (t : ℕ) (g : Option ℕ) (c : Complete) → Stands a t g (line.Root (root.Completing c)) → ⊥
   never_completes t g c s =
       subst (KnowsReader (Ends a.states a.run.records a.last t) (Shut a.states a.run.records a.last t) (LateEnd a.states a.run.records a.last t (moment_at (a.run.records t) a.actor))) s.line
-      ((knows_at a.limits a.states a.last a.run t s.until a.actor s.operation s.runs).1 (s.access ∙ read_only))
+      ((knows_at a.run t s.until a.actor s.operation s.runs).1 (s.access ∙ read_only))
 
   from_line : (t : ℕ) (g : Option ℕ) (l : Line) → OfReader l → Stands a t g l → Never 164 t
   from_line t g (line.Root root.Read) o s =

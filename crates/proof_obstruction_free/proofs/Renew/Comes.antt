@@ -140,7 +140,7 @@ module _ (a : Lone) (steps : Stepping a) (weight : ℕ → ℕ) (c : ℕ) (heavy
   -- no more is done than there is
   not_more : (path : List Ref) (main : Ref) (done : List Ref) (t g : ℕ) → Stands a t (Some g) (line.Renew (renew.Branch path main done)) → length done ≤ length (entries_of (node a main))
   not_more path main done t g s =
-      let sites = (lines_have_sites a.limits a.states a.steps a.last a.run a.takes a.fit t s.until a.actor s.operation s.runs).1 in
+      let sites = (lines_have_sites a.steps a.run a.takes a.fit t s.until a.actor s.operation s.runs).1 in
       (subst (LineSite a.limits.hash (sites_of a.states a.steps a.last) (hash_of a.limits.hash (key_of s.operation.call))) s.line sites).1
 
   pub renews_branch : RenewsBranch a weight c

@@ -32,7 +32,7 @@ module _ (a : Lone) where
       by_slot None e = let none : length es.items ≡ 0 = ap (λ n. length (entries_of n)) (sym is ∙ ap node_of e) in omega arith
       by_slot (Some slot) e =
           let node_is : slot.node ≡ Branch b es = sym (ap node_of e) ∙ is in
-          let shape = made_shaped a.limits a.states a.steps a.last a.run a.takes a.fit a.last (omega arith) m (slot, e, ap (meets AMain) node_is) in
+          let shape = made_shaped a.steps a.run a.takes a.fit a.last (omega arith) m (slot, e, ap (meets AMain) node_is) in
           let branch = branch_shape (trie_at a.limits.hash (sites_of a.states a.steps a.last)) m (node a m) b es shape is in
           omega (arith, ap length branch.has.stand, standing-le branch.places, branch.has.size)
 
@@ -51,7 +51,7 @@ module _ (a : Lone) where
       by_slot None e = let bad : node_of None ≡ Tomb single = sym (ap node_of e) ∙ is in absurd (let worse : true ≡ false = ap is_branch bad in cc)
       by_slot (Some slot) e =
           let node_is : slot.node ≡ Tomb single = sym (ap node_of e) ∙ is in
-          let shape = made_shaped a.limits a.states a.steps a.last a.run a.takes a.fit a.last (omega arith) m (slot, e, ap (meets AMain) node_is) in
+          let shape = made_shaped a.steps a.run a.takes a.fit a.last (omega arith) m (slot, e, ap (meets AMain) node_is) in
           let tomb = tomb_shape (trie_at a.limits.hash (sites_of a.states a.steps a.last)) m (node a m) single shape is in
           (tomb.key, tomb.value, bare_single (node a single) tomb.key tomb.value tomb.is)
 
@@ -96,5 +96,5 @@ module _ (a : Lone) where
     -- what a line looks at is there
     pub looks_at : (t : ℕ) (g : Option ℕ) (l : Line) (s : Stands a t g l) (r : Ref) → line_action (a.states t) s.operation l ≡ act.Look r → IsInUse (a.states t).heap r
     looks_at t g l s r is =
-        let claims = action_at a.limits a.states a.last a.run t s.until a.actor s.operation s.runs in
+        let claims = action_at a.run t s.until a.actor s.operation s.runs in
         safe_of (subst (λ x. AllHold (IsInUse (a.states t).heap) (a.states t).heap (action_wants x)) (ap (line_action (a.states t) s.operation) s.line ∙ is) claims).0

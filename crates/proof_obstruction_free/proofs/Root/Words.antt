@@ -101,7 +101,7 @@ module _ (a : Lone) where
   -- an own offer stands only while the operation completes it
   own_completes : (t : ℕ) (g : Option ℕ) (l : Line) → Stands a t g l → own_offer l ≡ None → (d : Descriptor) → word a t ≡ Offer d → d.operation ≡ a.own.id → ⊥
   own_completes t g l s none d stands own =
-      let I = has_offers_at a.limits a.states a.last a.run t s.until in
+      let I = has_offers_at a.run t s.until in
       let b = I.offers handle d stands in
       let (k, place, at_k) = place_of_actor (a.states t) a.actor s.operation s.runs in
       let mine = own_numbers b.owner d (I.own b.k b.owner b.runs) b.completes in
@@ -111,7 +111,7 @@ module _ (a : Lone) where
   -- what the operation offers has its id
   offers_own : (t : ℕ) (g : Option ℕ) (l : Line) (s : Stands a t g l) (d : Descriptor) → line_action (a.states t) s.operation l ≡ act.Offer d → d.operation ≡ a.own.id
   offers_own t g l s d e =
-      let I = has_offers_at a.limits a.states a.last a.run t s.until in
+      let I = has_offers_at a.run t s.until in
       let (k, place, at_k) = place_of_actor (a.states t) a.actor s.operation s.runs in
       let x = s.operation in
       let fits : IsOwn x.call x.id x.opens (_) d = subst (λ y. LineFits x.call x.id x.opens x.attempt y) (s.line ∙ offer_line (a.states t) x l d e) (I.own k x at_k) in

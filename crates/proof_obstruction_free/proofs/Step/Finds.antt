@@ -20,16 +20,16 @@ module _ (a : Lone) where
   pub wants : (t : ℕ) (g : Option ℕ) (l : Line) → Stands a t g l →
       AllHold (IsInUse (a.states t).heap) (a.states t).heap (line_wants a.limits.hash a.own.call a.own.access l)
   wants t g l s =
-      let its = line_at a.limits a.states a.last a.run t s.until a.actor s.operation s.runs in
+      let its = line_at a.run t s.until a.actor s.operation s.runs in
       subst (λ x. AllHold (IsInUse (a.states t).heap) (a.states t).heap (line_wants a.limits.hash a.own.call a.own.access x)) s.line
       (subst (λ x. AllHold (IsInUse (a.states t).heap) (a.states t).heap (line_wants a.limits.hash a.own.call x s.operation.line)) s.access
       (subst (λ x. AllHold (IsInUse (a.states t).heap) (a.states t).heap (line_wants a.limits.hash x s.operation.access s.operation.line)) s.call its))
 
   pub node_found : (t : ℕ) (r : Ref) → t ≤ a.last → IsInUse (a.states t).heap r → is_indirection (node_at (a.states t).heap r) ≡ false → node_at (a.states t).heap r ≡ node a r
-  node_found t r within used not = sym (node_known a.limits a.states a.last a.run t within r used (no_link (node_at (a.states t).heap r) not))
+  node_found t r within used not = sym (node_known a.run t within r used (no_link (node_at (a.states t).heap r) not))
 
   pub link_found : (t : ℕ) (r : Ref) (g : ℕ) (m : Ref) → t ≤ a.last → IsInUse (a.states t).heap r → node_at (a.states t).heap r ≡ Indirection g m → (n : Ref) × (node a r ≡ Indirection g n)
-  link_found t r g m within used is = link_known a.limits a.states a.last a.run t within r used g m is
+  link_found t r g m within used is = link_known a.run t within r used g m is
 
   -- ---- what is made
 
@@ -42,10 +42,10 @@ module _ (a : Lone) where
       is_indirection n ≡ false → next_ref (a.states t).heap ≡ Some r → node a r ≡ n
   made t g l s more n r makes not next =
       let took = takes t g l s more n r makes next in
-      node_stays a.states a.last (nodes_stay a.limits a.states a.last a.run) (suc t) r _ (omega arith) took.here (no_link n not)
+      node_stays a.states a.last (nodes_stay a.run) (suc t) r _ (omega arith) took.here (no_link n not)
 
   pub made_link : (t : ℕ) (g : Option ℕ) (l : Line) (s : Stands a t g l) → t < a.last → (h : ℕ) (m r : Ref) → line_action (a.states t) s.operation l ≡ act.Make (Indirection h m) →
       next_ref (a.states t).heap ≡ Some r → (n : Ref) × (node a r ≡ Indirection h n)
   made_link t g l s more h m r makes next =
       let took = takes t g l s more (Indirection h m) r makes next in
-      indirection_stays a.states a.last (nodes_stay a.limits a.states a.last a.run) (suc t) r _ h m (omega arith) took.here refl
+      indirection_stays a.states a.last (nodes_stay a.run) (suc t) r _ h m (omega arith) took.here refl

@@ -32,7 +32,7 @@ acted_word state at handle action leaves = refl
 
 module _ (a : Lone) where
   abbrev known : Known a.limits a.states a.last
-  known = known_run a.limits a.states a.last (own_run a)
+  known = known_run (own_run a)
 
   -- ---- the step itself
 

@@ -40,14 +40,14 @@ module _ (a : Lone) where
   pub handle_open : (t : ℕ) (g : Option ℕ) (l : Line) → Stands a t g l → is_end l ≡ false → (root : Root) × (root_at (a.states t) (handle_of a.own.call) ≡ Some root) × (root.access ≡ a.own.access)
   handle_open t g l s going =
       let (k, place, at_k) = place_of_actor (a.states t) a.actor s.operation s.runs in
-      let no_close = no_close_at a.limits a.states a.last a.run t s.until k s.operation at_k (ap is_end s.line ∙ going) in
-      let (root, found, access) = (has_handles_at a.limits a.states a.last a.run t s.until).1.on_open k s.operation at_k no_close in
+      let no_close = no_close_at a.run t s.until k s.operation at_k (ap is_end s.line ∙ going) in
+      let (root, found, access) = (has_handles_at a.run t s.until).1.on_open k s.operation at_k no_close in
       (root, ap (λ c. root_at (a.states t) (handle_of c)) (sym s.call) ∙ found, access ∙ s.access)
 
   root_claim : (t : ℕ) (root : Root) (r : Ref) → t ≤ a.last → root_at (a.states t) (handle_of a.own.call) ≡ Some root → root.word ≡ Plain r →
       Holds (IsInUse (a.states t).heap) (a.states t).heap (Is r AnIndirection)
   root_claim t root r h found plain =
-      let all = (safe_at a.limits a.states a.last a.run t h).words (handle_of a.own.call) root found in
+      let all = (safe_at a.run t h).words (handle_of a.own.call) root found in
       (subst (λ x. AllHold (IsInUse (a.states t).heap) (a.states t).heap (word_wants x)) plain all).0
 
   -- its generation is that of the root
@@ -65,13 +65,13 @@ module _ (a : Lone) where
     pub swap_writable : (t : ℕ) (g : Option ℕ) (x : SwapLine) → Stands a t g (swap_line a why i replaced fresh x) → a.own.access ≡ Writable
     swap_writable t g x s =
         sym s.access
-        ∙ (swaps_in_own_generation a.limits a.states a.last a.run t s.until a.actor s.operation s.runs why (record { indirection = i; replaced = replaced; fresh = fresh; line = x }) s.line).0
+        ∙ (swaps_in_own_generation a.run t s.until a.actor s.operation s.runs why (record { indirection = i; replaced = replaced; fresh = fresh; line = x }) s.line).0
 
     -- into an indirection of the operation's generation
     pub swap_generation : (t : ℕ) (g : Option ℕ) (x : SwapLine) → Stands a t g (swap_line a why i replaced fresh x) → g ≡ Some (generation a i)
     swap_generation t g x s =
         sym s.generation
-        ∙ (swaps_in_own_generation a.limits a.states a.last a.run t s.until a.actor s.operation s.runs why (record { indirection = i; replaced = replaced; fresh = fresh; line = x }) s.line).1
+        ∙ (swaps_in_own_generation a.run t s.until a.actor s.operation s.runs why (record { indirection = i; replaced = replaced; fresh = fresh; line = x }) s.line).1
 
     fresh_private : (t : ℕ) (g : Option ℕ) → Stands a t g (swap_line a why i replaced fresh swap.Publish) → Private (w a) t fresh
     fresh_private t g s =
@@ -95,4 +95,4 @@ module _ (a : Lone) where
         by true link = private.apart j (stands_now link has.main)
         by false none =
             let same : fresh ≡ no_ref = sym has.main ∙ no_main (node_under a.states t j) none in
-            true≢false (sym private.made ∙ ap (λ r. is_some (grown a.states t r)) same ∙ ap is_some (nothing_stands a.limits a.states a.last a.run t s.until))
+            true≢false (sym private.made ∙ ap (λ r. is_some (grown a.states t r)) same ∙ ap is_some (nothing_stands a.run t s.until))

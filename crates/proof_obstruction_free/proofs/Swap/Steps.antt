@@ -25,7 +25,7 @@ reads_no_end l r e = tt
 
 module _ (a : Lone) where
   abbrev pub known : Known a.limits a.states a.last
-  known = known_run a.limits a.states a.last (own_run a)
+  known = known_run (own_run a)
 
   -- the words of the run, with no closing told
   abbrev pub w : Words

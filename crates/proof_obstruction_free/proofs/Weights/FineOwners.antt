@@ -41,7 +41,7 @@ module _ (a : Lone) where
       by_test true e = e
       by_test false e =
           let none : m ≡ no_ref = sym sees.main ∙ no_main (node_under a.states t i) e in
-          absurd (undecided (sym sees.prev ∙ ap (prev_word a.states t) none ∙ ap prev_of (nothing_stands a.limits a.states a.last a.run t within)))
+          absurd (undecided (sym sees.prev ∙ ap (prev_word a.states t) none ∙ ap prev_of (nothing_stands a.run t within)))
 
   pub failed_owner : (t : ℕ) → t ≤ a.last → (i m q : Ref) → Sees a t i m (prev.Failed q) → FailedOwner (w a) t i m
   failed_owner t within i m q sees =

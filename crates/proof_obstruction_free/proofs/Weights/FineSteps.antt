@@ -32,7 +32,7 @@ module _ (a : Lone) where
   pub actors_at : (t : ℕ) → t ≤ a.last → length (a.states t).actors ≡ a.limits.actors
   unfolding first_state
   actors_at t within =
-      at_each_time a.limits a.states a.last a.run (λ s. length s.actors ≡ a.limits.actors) (length-replicate _ _) (λ before s o after m e. actors_length before s o after m ∙ e) t within
+      at_each_time a.run (λ s. length s.actors ≡ a.limits.actors) (length-replicate _ _) (λ before s o after m e. actors_length before s o after m ∙ e) t within
 
   -- who is in a SWAP is one of them
   pub in_range : (t k : ℕ) → t ≤ a.last → (i x f : Ref) (l : _) → (w a).stage t k ≡ Decides i x f l → (1 ≤ k) × (k ≤ a.limits.actors)
@@ -60,9 +60,9 @@ module _ (a : Lone) where
         let moved = takes a t s.since more in
         let after = next a t g l s more not in
         let goes = goes_by (action_of (a.states t) s.operation) (λ answer e. no_end (a.states t) s.operation l not answer (ap (line_action (a.states t) s.operation) (sym s.line) ∙ e)) in
-        let turn = line_turn a.limits a.states a.last (known_run a.limits a.states a.last (own_run a)) t more a.actor s.operation s.operation.line goes (record {
-          facts = line_facts a.limits a.states a.last (known_run a.limits a.states a.last (own_run a)) t more a.actor s.operation moved.outcome moved.moves s.runs (noted_so a t g l s more not);
-          remembers = remembers_at a.limits a.states a.last (known_run a.limits a.states a.last (own_run a)) t s.until a.actor s.operation s.runs;
+        let turn = line_turn a.limits a.states a.last (known_run (own_run a)) t more a.actor s.operation s.operation.line goes (record {
+          facts = line_facts a.limits a.states a.last (known_run (own_run a)) t more a.actor s.operation moved.outcome moved.moves s.runs (noted_so a t g l s more not);
+          remembers = remembers_at a.limits a.states a.last (known_run (own_run a)) t s.until a.actor s.operation s.runs;
         }) in
         subst (λ x. Word.Moves (w a) t a.actor x ((w a).stage (suc t) a.actor)) (sym (ap stage_of_actor s.runs))
         (subst (λ x. Word.Moves (w a) t a.actor (stage_of s.operation.line) x)

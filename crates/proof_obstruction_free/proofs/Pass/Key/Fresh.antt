@@ -75,7 +75,7 @@ module _
         -- the flag is that of the call's key
         flag_is : flag_in (a.states t) now.operation path ≡ flag_at a (depth_of path)
         flag_is =
-            ap (λ (l : Bounds). flag_of (hash_of l.hash (key_of now.operation.call)) (depth_of path)) (limits_at a.limits a.states a.last a.run t now.until)
+            ap (λ (l : Bounds). flag_of (hash_of l.hash (key_of now.operation.call)) (depth_of path)) (limits_at a.run t now.until)
             ∙ ap (λ k. flag_of (hash_of a.limits.hash (key_of k)) (depth_of path)) now.call
 
         -- an indirection at the key's place would lead on

@@ -45,7 +45,7 @@ module _ (a : Lone) where
   few_singles t g path main position steps s_ =
       let wanted = steps.wants t g (line.Key (key.Listed path main position)) s_ in
       let (slot, grown_is, is) = kind_at a.states t main (listed a.own.access) wanted.1.1.0 in
-      let inside = (grown_sites a.limits a.states a.steps a.last a.run a.takes a.fit t s_.until main slot grown_is).inside in
+      let inside = (grown_sites a.steps a.run a.takes a.fit t s_.until main slot grown_is).inside in
       let same : node_at (a.states t).heap main ≡ slot.node = node_found a.states t main (safe_of wanted.1.1.0) ∙ ap node_of grown_is in (
         ltb-true position (length (entries_of (node_at (a.states t).heap main))) (meets_of wanted.1.1.1.0),
         subst (λ n. length (entries_of n) ≤ 32) (sym same) (few main slot.node a.own.access is inside),

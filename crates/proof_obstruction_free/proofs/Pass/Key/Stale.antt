@@ -42,7 +42,7 @@ module _ (a : Lone) (steps : Stepping a) (path : List Ref) (main : Ref) (positio
   -- and that entry
   entry_used : IsInUse (a.states t).heap (entry_at (a.states t).heap main position)
   entry_used =
-      let wanted = action_at a.limits a.states a.last a.run t now.until a.actor now.operation now.runs in
+      let wanted = action_at a.run t now.until a.actor now.operation now.runs in
       let looked = subst (λ l. AllHold (IsInUse (a.states t).heap) (a.states t).heap (action_wants (line_action (a.states t) now.operation l))) now.line wanted in
       safe_of looked.0
 
