@@ -94,7 +94,7 @@ impl Core {
         }
     }
 
-    /// Whether the actor's operation goes on behind its next step: it runs one, and that isn't its end.
+    /// Whether the actor's operation goes on after its next step: it runs one, and that isn't its end.
     #[inline(always)]
     pub fn goes_on(&self, actor: u8) -> bool
         ensures { result ≡ goes_on (next_kind self.now.state actor) }

@@ -58,7 +58,7 @@ fn go_or_end(body: &mut Core, kept: &mut Chronicle, actor: u8) -> Result<Outcome
     }
 }
 
-/// One behind which it goes on, told by its kind alone. It swaps in this main node, if it does.
+/// One after which it goes on, told by its kind alone. It swaps in this main node, if it does.
 #[tactic(auto, using(crate::proofs::Feeding::feeds))]
 #[inline(always)]
 pub fn go(
