@@ -36,7 +36,7 @@ pub fn take(body: &mut Core, kept: &mut Chronicle, step: Step) -> Result<Outcome
 fn begin(body: &mut Core, kept: &mut Chronicle, actor: u8, call: Call) -> Result<Outcome, Refusal>
     requires fits { CanTell body.old.state kept.old }
     requires room { 0 < kept.old.room }
-    ensures { TakesAndTells result body.old.state kept.old (steps.Begin actor call) body.new.state kept.new }
+    ensures { TakesAndTells result body.old.state kept.old (steps.Begin actor call None) body.new.state kept.new }
 {
     let step = body.steps_taken();
     let begun = body.begin(actor, call)?;
