@@ -1,6 +1,6 @@
 //! Steps of the state that are told to its record.
 
-ghost use Rattle.std.specs.Prelude.{◌≡◌, ◌<◌, false, true};
+ghost use Rattle.std.specs.Prelude.{◌≡◌, ◌<◌, false, true, None};
 ghost use Rattle.machine_core.specs.Asking.{asked};
 ghost use Rattle.machine_core.specs.Told.{published_in};
 ghost use Rattle.machine_model.specs.declared.steps.Step.TheVariants as steps;
