@@ -112,10 +112,11 @@ uint32_t ctrie_shared_try_close(struct ctrie_seat *seat, uint16_t handle);
 /* ---- a shared map and its seats: these don't wait */
 
 /* Makes a shared map in this number of shards, from 1 to 64, each of which is as ctrie_new makes a map with these slots,
-   with a reserve of its own; and this number of seats at it, from 1 to 255. The struct holds one, which hands out the others. Keys spread over the shards, some of which
-   get more than their share: a call is FULL where its key's shard is, whatever the others have. DONE; BAD_HASH, before all others; HAS_MAP
-   where it holds one already; BAD_SIZES where the number of slots or of shards is out of range; MEMORY; NO_SEATS where
-   there are to be none. */
+   with a reserve of its own; and this number of seats at it, from 1 to 255. The struct holds one, which hands out the
+   others. Keys spread over the shards, some of which get more than their share, and a put of a new key is FULL where its
+   shard has no free slot, whatever the others have: so ask for more than ctrie_slots_for(keys / shards). DONE; BAD_HASH,
+   before all others; HAS_MAP where it holds one already; BAD_SIZES where the number of slots or of shards is out of
+   range; MEMORY; NO_SEATS where there are to be none. */
 CTRIE_MUST_USE
 uint32_t ctrie_shared_open(struct ctrie_seat *seat, uint32_t slots, uint32_t hash, uint8_t seats, uint8_t shards);
 

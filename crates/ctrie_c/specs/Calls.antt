@@ -1,14 +1,14 @@
 -- What the calls do, each in the words of the map's own contract.
-use Rattle.std.specs.Prelude.{◌≡◌, ◌⊎◌, ◌<◌, ◌≤◌, ◌+◌, ◌-◌, ℕ, nat_eq, List, length, Bool, Option, Some, None, Result, Ok, IfOk, IfErr, IsTrue, if◌then◌else◌}
+use Rattle.std.specs.Prelude.{◌≡◌, ◌⊎◌, ◌<◌, ◌≤◌, ◌+◌, ◌-◌, ℕ, nat_eq, List, length, Bool, Option, Some, None, Result, Ok, Err, IfOk, IfErr, IsTrue, if◌then◌else◌}
 use Rattle.std.specs.Prelude as list
 use Rattle.std.specs.FinMap as map
 use Rattle.ctrie_c.specs.Vocabulary.{HashKind, Low, Fold, Wide, Block, Access, Writable, ReadOnly, Call, Clear, Close, Freeze, Put, PutIfAbsent, Remove, RemoveIf, Replace, ReplaceIf, Snapshot}
 use Rattle.ctrie_c.specs.Vocabulary.{has_value, KeyMap, handle_limit, in_use, most_slots}
 use Rattle.shared_map.specs.Beneath.proof_memory.specs.Sweeping.{UsesReached}
 use Rattle.shared_map.specs.Beneath.ctrie_map.specs.declared.errors.MapError.{MapError}
-use Rattle.shared_map.specs.Beneath.ctrie_map.specs.declared.errors.MapError.TheVariants.{Memory}
+use Rattle.shared_map.specs.Beneath.ctrie_map.specs.declared.errors.MapError.TheVariants.{Full, Memory}
 use Rattle.shared_map.specs.Beneath.ctrie_map.specs.Batches.{work_of_changes}
-use Rattle.shared_map.specs.Beneath.ctrie_map.specs.Changes.{Changes, Closes, Copies, HasLife, HasRoom, IsAny, IsCrowdedAt, Refuses}
+use Rattle.shared_map.specs.Beneath.ctrie_map.specs.Changes.{Changes, Closes, Copies, HasLife, HasRoom, IsAny, IsCrowdedAt, IsFullFor, Refuses}
 use Rattle.shared_map.specs.Beneath.ctrie_map.specs.Changes.{removed_if_it_has, set_if_absent, set_if_it_has, set_if_there}
 use Rattle.shared_map.specs.Beneath.ctrie_map.specs.Costs.{WorksUpTo, work_of_a_change, work_of_a_close, work_of_a_copy}
 use Rattle.shared_map.specs.Beneath.ctrie_map.specs.Filling.{PutsAll, RefusesPuts}
@@ -16,7 +16,7 @@ use Rattle.shared_map.specs.Beneath.ctrie_map.specs.Names.{IsNext}
 use Rattle.shared_map.specs.Beneath.ctrie_map.specs.Popping.{RefusesPop}
 use Rattle.shared_map.specs.Beneath.ctrie_map.specs.Maps.{AreSlots, IsNew, MapState, RefusesSizes, free_of, handles_of, slots_asked}
 use Rattle.shared_map.specs.Beneath.ctrie_map.specs.Reading.{IsOneOf, Reads, reading, without, writability}
-use Rattle.shared_map.specs.Beneath.ctrie_map.specs.Restoring.{HasLifeIfTried, RefusesRestore, Restores}
+use Rattle.shared_map.specs.Beneath.ctrie_map.specs.Restoring.{HasLifeIfTried, IsFullToRestore, RefusesRestore, Restores}
 use Rattle.ctrie_c.specs.Answers.{bad_hash, code_limit, done_told, has_map}
 use Rattle.ctrie_c.specs.Buffers.{Fills}
 use Rattle.ctrie_c.specs.Listing.{entry_of}
@@ -77,7 +77,7 @@ CountsFree told old new =
 abbrev pub Sets : Call → ℕ → ℕ → (KeyMap → KeyMap) → Result (Option ℕ) MapError → MapState → MapState → Type 0
 Sets call handle key change told old new =
     IfOk told (λ before. HasLife old × Changes old handle (λ m. (before ≡ map.get m key) × HasRoom old key m) change new)
-    × IfErr told (Refuses old call (IsCrowdedAt old handle key) new) × WorksUpTo work_of_a_change old new
+    × IfErr told (Refuses old call (IsCrowdedAt old handle key) new) × (IsFullFor old call → told ≡ Err Full) × WorksUpTo work_of_a_change old new
 
 abbrev pub Puts : ℕ → ℕ → ℕ → Result (Option ℕ) MapError → MapState → MapState → Type 0
 Puts handle key value = Sets (Put handle key value) handle key (λ m. map.insert m key value)
@@ -132,7 +132,7 @@ Clears handle told old new =
 abbrev pub Opens : Call → ℕ → Access → Result ℕ MapError → MapState → MapState → Type 0
 Opens call handle access told old new =
     IfOk told (λ copy. HasLife old × Copies old handle access copy new) × IfOk told (IsNext old.names.last (handles_of old)) × IfErr told (Refuses old call ⊥ new)
-    × WorksUpTo work_of_a_copy old new
+    × (IsFullFor old call → told ≡ Err Full) × WorksUpTo work_of_a_copy old new
 
 abbrev pub Snapshots : ℕ → Result ℕ MapError → MapState → MapState → Type 0
 Snapshots handle = Opens (Snapshot handle) handle Writable
@@ -143,7 +143,7 @@ Freezes handle = Opens (Freeze handle) handle ReadOnly
 abbrev pub RestoresIt : ℕ → ℕ → Result (Unit {0}) MapError → MapState → MapState → Type 0
 RestoresIt handle copy told old new =
     IfOk told (λ _. Restores old handle copy new) × (handle ≡ copy → new ≡ old) × IfErr told (RefusesRestore old handle copy new)
-    × HasLifeIfTried told old handle copy × WorksUpTo (work_of_a_copy + work_of_a_close) old new
+    × HasLifeIfTried told old handle copy × (IsFullToRestore old handle copy → told ≡ Err Full) × WorksUpTo (work_of_a_copy + work_of_a_close) old new
 
 abbrev pub ClosesIt : ℕ → Result (Unit {0}) MapError → MapState → MapState → Type 0
 ClosesIt handle told old new =

@@ -69,7 +69,8 @@ root_found state actor call root allowed writes word = by (root_at state (handle
         e ∙ ap (λ a. Some (record found { access = a })) kind ∙ ap (λ w. Some (record { access = Writable; word = w })) there
 
 -- the root and its main node are in use
-pub over_lives : (before : Parts) (actor : ℕ) (call : Call) (root main : Ref) → IsCore before → begin_denial (seen before) actor call None ≡ None → word_at (seen before) (handle_of call) ≡ Plain root →
+pub over_lives : (before : Parts) (actor : ℕ) (call : Call) (root main : Ref) → IsCore before → begin_denial (seen before) actor call None ≡ None →
+    word_at (seen before) (handle_of call) ≡ Plain root →
     IsOverDecided before.heap.heap root main → IsLive before.heap.heap root × IsLive before.heap.heap main
 over_lives before actor call root main core allowed word over = root_lives (seen before) core.run actor call root main allowed word (sym (ap main_of over.indirection))
 

@@ -15,6 +15,7 @@ use Rattle.machine_model.specs.declared.reading.After.{After}
 use Rattle.machine_model.specs.declared.reading.After.TheVariants.{Goes, Gives}
 use Rattle.machine_model.specs.declared.reading.Read.{Read}
 use Rattle.machine_model.specs.declared.reading.ReadLine.{ReadLine}
+use Rattle.machine_model.specs.declared.reading.Swap.{Swap}
 use Rattle.machine_model.specs.declared.reading.SwapLine.{SwapLine}
 use Rattle.machine_model.specs.declared.reading.SwapLine.TheVariants as swap
 use Rattle.machine_model.specs.declared.repairs.CleanLine.{CleanLine}
@@ -120,17 +121,19 @@ by_walk walk.Root r is = absurd (none-some r is)
 by_walk (walk.Main main todo pairs) r is = absurd (none-some r is)
 by_walk (walk.Entry todo pairs) r is = absurd (none-some r is)
 
+abbrev swap_at : Ref → Ref → Ref → ReadLine → Swap
+swap_at indirection replaced fresh l = record { indirection = indirection; replaced = replaced; fresh = fresh; line = swap.Deciding l }
+
 by_swap : (why : Purpose) (indirection replaced fresh : Ref) (l : SwapLine) (r : Read) → swapping_read indirection l ≡ Some r →
     Embeds (line.Swap why (record { indirection = indirection; replaced = replaced; fresh = fresh; line = l })) r
 by_swap why indirection replaced fresh (swap.Deciding q) r is =
-    subst (Embeds (line.Swap why (record { indirection = indirection; replaced = replaced; fresh = fresh; line = swap.Deciding q })))
-    (same_Some (record { indirection = indirection; line = q }) r is) (record {
+    subst (Embeds (line.Swap why (swap_at indirection replaced fresh q))) (same_Some (record { indirection = indirection; line = q }) r is) (record {
       here = refl;
       embedded = record { reads = λ at. refl; acts = λ state operation at. refl };
       again = λ at other. refl;
       leads = λ state operation at.
-          by_out (λ a. after_swap state operation why (record { indirection = indirection; replaced = replaced; fresh = fresh; line = swap.Deciding at }) (on_line (record { indirection = indirection; replaced = replaced; fresh = fresh; line = swap.Deciding at }) (after_deciding a))) (line_behind operation.call (line.Swap why (record { indirection = indirection; replaced = replaced; fresh = fresh; line = swap.Deciding q }))) (λ x. refl) (λ m. refl)
-          (reads_to state operation indirection at);
+          by_out (λ a. after_swap state operation why (swap_at indirection replaced fresh at) (on_line (swap_at indirection replaced fresh at) (after_deciding a)))
+          (line_behind operation.call (line.Swap why (swap_at indirection replaced fresh q))) (λ x. refl) (λ m. refl) (reads_to state operation indirection at);
       stays = λ state operation at. refl;
     })
 by_swap why indirection replaced fresh swap.Publish r is = absurd (none-some r is)
@@ -145,7 +148,8 @@ by_root offer (complete.Reading q) r is =
       embedded = record { reads = λ at. refl; acts = λ state operation at. refl };
       again = λ at other. refl;
       leads = λ state operation at.
-          by_out (λ a. after_root operation (after_completing (of_offer offer (after_reading a)))) (line_behind operation.call (line.Root (root.Completing (record { offer = offer; line = complete.Reading q })))) (λ x. refl) (λ m. refl)
+          by_out (λ a. after_root operation (after_completing (of_offer offer (after_reading a))))
+          (line_behind operation.call (line.Root (root.Completing (record { offer = offer; line = complete.Reading q })))) (λ x. refl) (λ m. refl)
           (reads_to state operation offer.root at);
       stays = λ state operation at.
           by_out (λ a. given_root state (after_completing (of_offer offer (after_reading a))) operation.generation) (λ a. operation.generation) (λ x. refl) (λ m. refl)
@@ -161,7 +165,8 @@ by_climbed_root c offer (complete.Reading q) r is =
       embedded = record { reads = λ at. refl; acts = λ state operation at. refl };
       again = λ at other. refl;
       leads = λ state operation at.
-          by_out (λ a. climb_after_root state operation c (after_completing (of_offer offer (after_reading a)))) (line_behind operation.call (line.Climb (climb.Root c (root.Completing (record { offer = offer; line = complete.Reading q }))))) (λ x. refl) (λ m. refl)
+          by_out (λ a. climb_after_root state operation c (after_completing (of_offer offer (after_reading a))))
+          (line_behind operation.call (line.Climb (climb.Root c (root.Completing (record { offer = offer; line = complete.Reading q }))))) (λ x. refl) (λ m. refl)
           (reads_to state operation offer.root at);
       stays = λ state operation at. refl;
     })
@@ -189,7 +194,8 @@ by_complete offer (complete.Reading q) r is =
       embedded = record { reads = λ at. refl; acts = λ state operation at. refl };
       again = λ at other. refl;
       leads = λ state operation at.
-          by_out (λ a. copy_after_complete operation (of_offer offer (after_reading a))) (line_behind operation.call (line.Copy (copy.Complete (record { offer = offer; line = complete.Reading q })))) (λ x. refl) (λ m. refl)
+          by_out (λ a. copy_after_complete operation (of_offer offer (after_reading a)))
+          (line_behind operation.call (line.Copy (copy.Complete (record { offer = offer; line = complete.Reading q })))) (λ x. refl) (λ m. refl)
           (reads_to state operation offer.root at);
       stays = λ state operation at. refl;
     })

@@ -50,7 +50,8 @@ marked_runs None xs k operation at_k = at_k
 marked_runs (Some id) xs k operation at_k = get_or-map (marked id) xs k None ∙ ap (marked id) at_k
 
 -- an actor that runs an operation begins no other
-pub begin_not_running : (state : State) (k actor : ℕ) (call : Call) (number : Option ℕ) (operation : Operation) → begin_denial state actor call number ≡ None → actor ≡ suc k → Runs state k operation → ⊥
+pub begin_not_running : (state : State) (k actor : ℕ) (call : Call) (number : Option ℕ) (operation : Operation) → begin_denial state actor call number ≡ None → actor ≡ suc k →
+    Runs state k operation → ⊥
 begin_not_running state k actor call number operation d own is = denied (subst (λ a. operation_of state a ≡ Some operation) (sym own) is)
   where
     denied : operation_of state actor ≡ Some operation → ⊥
@@ -118,7 +119,8 @@ pub data Comes (state : State) (s : Step) (k : ℕ) (found : Operation) : Type 0
 comes_by : (state : State) (s : Step) (o : Outcome) (after : State) → Moves state s o after → (k : ℕ) (found : Operation) → Runs after k found → Dec (IsOf (suc k) s) → Comes state s k found
 comes_by state s o after m k found at_k (no other) = let (was, at_was, same) = of_others state s o after m k other found at_k in rested was at_was same other
 comes_by state s o after (Begins {actor} {call} {number} d) k found at_k (yes own) =
-    began call number (ap (λ a. step.Begin a call number) own) (subst (λ a. begin_denial state a call number ≡ None) own d) (of_begin state actor call (begun_operation state call number) k own found at_k)
+    began call number (ap (λ a. step.Begin a call number) own) (subst (λ a. begin_denial state a call number ≡ None) own d)
+    (of_begin state actor call (begun_operation state call number) k own found at_k)
 comes_by state s o after (Goes {actor} {operation} d is a g) k found at_k (yes own) =
     went operation (ap (λ a. step.Go a) own) (at_place state actor k operation own is) (rw a g)
     (of_itself state actor operation k own found at_k ∙ ap (λ x. mark_one (marks_by state x) (operation_after state operation)) (sym is))

@@ -85,7 +85,8 @@ module _ (limits : Bounds) (steps : List Step) (ok : AreBounds limits) (keys : K
   closes closing = (closes_end limits (began limits steps actor call) actor own runs closing left_one).0
 
   leads_by : IsOnKeyOrRoot call ⊎ (is_close call ≡ true) → LeadsToEnd
-  leads_by (inl on) = let (n, few, goes, last) = each_step_leads_to_its_end limits (began limits steps actor call) actor own (alone on) in record { at = n; few = omega (arith, few, few_actors); goes = goes; ends = last }
+  leads_by (inl on) = let (n, few, goes, last) = each_step_leads_to_its_end limits (began limits steps actor call) actor own (alone on) in
+      record { at = n; few = omega (arith, few, few_actors); goes = goes; ends = last }
   leads_by (inr closing) = record {
     at = 0;
     few = omega arith;

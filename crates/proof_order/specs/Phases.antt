@@ -1,6 +1,6 @@
 -- When an operation has its place in the order, along a run. State t is the state before step t.
 use Rattle.std.specs.Prelude.{◌≡◌, ◌≢◌, ℕ, suc, ◌≤◌, ◌<◌, true, false, List, ◌∷◌, Contains, Option, Some, []}
-use Rattle.proof_order.specs.Vocabulary.{Writable, Call, Reply, Ref, Place, Line, Purpose, Operation, Swap, SwapLine, ClimbLine, Complete, Descriptor, Outcome, Step, handle_of, changed_reply, State}
+use Rattle.proof_order.specs.Vocabulary.{Writable, Call, Reply, Ref, Place, Line, Purpose, Operation, Swap, SwapLine, Complete, Descriptor, Outcome, Step, handle_of, changed_reply, State}
 use Rattle.proof_order.specs.Vocabulary.{operation_of, former_of, tells_effect, action_of, Moves, prev_word, place_of, is_placed, Record, entrant_of}
 use Rattle.proof_order.specs.Beneath.history.specs.declared.replies.Reply.TheVariants as reply
 use Rattle.proof_order.specs.Beneath.slot_arena.specs.declared.nodes.Prev.TheVariants as prev
@@ -9,7 +9,6 @@ use Rattle.proof_order.specs.Beneath.machine_model.specs.declared.copying.CopyLi
 use Rattle.proof_order.specs.Beneath.machine_model.specs.declared.lines.Line.TheVariants as line
 use Rattle.proof_order.specs.Beneath.machine_model.specs.declared.lines.Purpose.TheVariants as purpose
 use Rattle.proof_order.specs.Beneath.machine_model.specs.declared.reading.SwapLine.TheVariants as swap
-use Rattle.proof_order.specs.Beneath.machine_model.specs.declared.repairs.ClimbLine.TheVariants as climb
 use Rattle.proof_order.specs.Facts.{IsRooted, IsReply, Runs, committed_by_step, entered_by_step, CarriesOut, Notes}
 
 -- ---- phases

@@ -27,7 +27,7 @@ pub use Rattle.proof_order.specs.Beneath.history.specs.declared.replies.Reply.{R
 pub use Rattle.proof_order.specs.Beneath.history.specs.declared.replies.Reply.TheVariants.{NoSlots}
 pub use Rattle.proof_order.specs.Beneath.machine_model.specs.Acting.{aborted, acted, carried_out, completed, ended, gone, if_changed, mark_after, marked, new_root_taken, offered, opened}
 pub use Rattle.proof_order.specs.Beneath.machine_model.specs.Acting.{opened_root, operation_after}
-pub use Rattle.proof_order.specs.Beneath.machine_model.specs.Building.{after_link, after_single, build_after_made, build_if_made}
+pub use Rattle.proof_order.specs.Beneath.machine_model.specs.Building.{after_single, build_after_made, build_if_made}
 pub use Rattle.proof_order.specs.Beneath.machine_model.specs.Calls.{changed_reply, handle_of, inserts, is_clear, is_close, is_snapshot, key_of, opens_handle, when_found}
 pub use Rattle.proof_order.specs.Beneath.machine_model.specs.Climbing.{climb_after_contracted, climb_after_main, climb_after_read, climb_after_root, climbed, climbing, higher, holds_it}
 pub use Rattle.proof_order.specs.Beneath.machine_model.specs.Contents.{content_at}

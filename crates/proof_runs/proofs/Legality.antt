@@ -190,7 +190,8 @@ module _ (before machine after : Taken) (actor : ℕ) (call : Call) (went : Went
       let h = more go_limit NoSlots goes in
       let fit = fit_in_front (before.steps ++ step.Begin actor call None ∷ []) h.more (subst KeysFit h.steps keys) in
       spared_behind law closes spare before actor call (subst AreLimits h.limits sizes) (fit_in_front before.steps (step.Begin actor call None ∷ []) fit)
-      (All-contains FitsKey (before.steps ++ step.Begin actor call None ∷ []) (step.Begin actor call None) fit (Contains-push before.steps (step.Begin actor call None))) sure free d (went.1.0 + go_limit) after
+      (All-contains FitsKey (before.steps ++ step.Begin actor call None ∷ []) (step.Begin actor call None) fit (Contains-push before.steps (step.Begin actor call None))) sure free d
+      (went.1.0 + go_limit) after
       (goes_further before after actor call went.0 went.1.0 go_limit machine NoSlots went.1.1 goes)
 
   pub spares_again : EachStepLeadsToItsEnd → ClosesEnd → EnoughForCall → AreLimits after.limits → KeysFit after.steps → (result : Result (Option Reply) Refusal) →

@@ -132,13 +132,15 @@ module _ (limits : Bounds) (steps : List Step) (actor : ℕ) (operation : Operat
       subst (λ (r : Recorded). HasEnded r.state r.past.events actor operation.id) (sym same) has
 
   -- by the laws of operations that end
-  ended : AloneItEnds → ClosesEnd → AreBounds limits → limits.actors ≤ 64 → KeysFit steps → operation_of (run limits steps) actor ≡ Some operation → IsSure (run limits steps) operation.call most_steps_alone →
+  ended : AloneItEnds → ClosesEnd → AreBounds limits → limits.actors ≤ 64 → KeysFit steps → operation_of (run limits steps) actor ≡ Some operation →
+      IsSure (run limits steps) operation.call most_steps_alone →
       HasEnded at_end.state at_end.past.events actor operation.id
   ended law closes sizes few keys runs sure =
       let most : (run limits steps).limits.steps ≡ limits.steps = ap (λ (l : Bounds). l.steps) (limits_along limits steps) in
       let left : (run limits steps).steps + most_steps_of limits.actors ≤ limits.steps = omega (arith, sure.1, most, few) in
       elim (of_no_walk operation.call sure.0) [
-        | inl call ↦ ended_by (most_steps_of limits.actors) (12742 - 5 * limits.actors) (omega (arith, few)) (law limits steps actor operation (record { limits_ok = sizes; keys_fit = keys; runs = runs; call = call; left = left }))
+        | inl call ↦ ended_by (most_steps_of limits.actors) (12742 - 5 * limits.actors) (omega (arith, few))
+            (law limits steps actor operation (record { limits_ok = sizes; keys_fit = keys; runs = runs; call = call; left = left }))
         | inr closing ↦ ended_by 1 16383 refl (closes limits steps actor operation runs closing (omega (arith, left))).1
       ]
 
@@ -161,7 +163,8 @@ module _ (law : AloneItEnds) (closes : ClosesEnd) (before : Taken) (sizes : AreL
       subst (λ id. let after = recorded_from (recorded_in before) (doing actor begins None (state_of before)) in HasEnded after.state after.past.events actor id)
       (sym (alike_along (bounded before.limits) before.steps).begun_are)
       (subst (λ (r : Recorded). let after = recorded_from r (going go_limit None actor r.state) in HasEnded after.state after.past.events actor operation.id) (taken before begins)
-      (ended (bounded before.limits) (before.steps ++ begins ∷ []) actor operation law closes (in_bounds before.limits sizes) (few_actors before.limits sizes) (All-push FitsKey before.steps begins keys fits)
+      (ended (bounded before.limits) (before.steps ++ begins ∷ []) actor operation law closes (in_bounds before.limits sizes) (few_actors before.limits sizes)
+      (All-push FitsKey before.steps begins keys fits)
       (begun_runs_on before actor call d) (sure_behind before actor call d most_steps_alone sure)))
 
   do_ends : (actor : ℕ) (call : Call) → FitsKey (step.Begin actor call None) → DoEnds (recorded_in before) actor call (after_line (recorded_in before) (Do actor call))

@@ -225,7 +225,7 @@ module _ (hash : HashKind) (before : List MapState) (are : AreShards hash before
 
   pub many_have : (c : Call) (ss : List MapState) → 2 ≤ length ss → ¬ IsAnyTight c ss → IsNoneTight c ss
   many_have c [] many none = absurd (omega (arith, many))
-  many_have c (s ∷ []) many none = tt
+  many_have c (s ∷ []) many none = absurd (omega (arith, many))
   many_have c (s ∷ t ∷ ss) many none = none
 
   calls_are : (t : Turn) (told : Replied) (after : List MapState) → ChangesAll hash before (call_of t) told after → CallsAll hash before (call_of t) told after

@@ -14,6 +14,7 @@ use Rattle.ctrie_map.specs.Reading.{RefusesReading, read_of, reading}
 use Rattle.sharded_gate.specs.Shards.{AnswersAlone}
 use Rattle.shared_map.specs.Answering.{AnswersAll, MapAnswers}
 use Rattle.shared_map.specs.declared.asks.Answer.TheVariants as answer
+use Rattle.shared_map.specs.Asking.{TellsFull}
 use Rattle.shared_map.specs.Asks.{Replied, Told, about, key_in, place_asked, place_of, told_as}
 use Rattle.shared_map.specs.Beneath.proof_core.specs.Scanning.{scanned}
 use Rattle.shared_map.specs.Readings.{entries_in}
@@ -33,12 +34,12 @@ keyed f (Some k) shard e = (k, refl, (let same : f k ≡ shard = cc in same))
 
 module _ (seat : ℕ) (s t : MapState) (request : Request) where
   pub called_alone : (call : Call) (replied : Replied) → request.ask ≡ Do call → request.hash ≡ s.core.limits.hash → Calls replied s call t →
-      WorksUpTo (work_of_call call) s t → AnswersAlone MapAnswers about seat s request (told_as answer.Reply replied) t
-  called_alone call replied ask_is hash_is calls works whole shard at is hash are =
+      TellsFull s call replied → WorksUpTo (work_of_call call) s t → AnswersAlone MapAnswers about seat s request (told_as answer.Reply replied) t
+  called_alone call replied ask_is hash_is calls full works whole shard at is hash are =
       let (k, key, here) = keyed (λ key. place_of request.hash (length whole) key) (key_in call) shard
       (ap (place_asked request.hash (length whole)) (sym ask_is) ∙ is) in
       let same : request.hash ≡ hash = hash_is ∙ shards.hash_is hash whole are shard s at in
-      let (answers, next) = key_call_answers hash whole are shard s t at k (ap (λ h. place_of h (length whole) k) (sym same) ∙ here) call key replied calls works in
+      let (answers, next) = key_call_answers hash whole are shard s t at k (ap (λ h. place_of h (length whole) k) (sym same) ∙ here) call key replied calls full works in
       record {
         shards = next;
         answered = λ e. subst (λ a. AnswersAll hash whole a (told_as answer.Reply replied) (slice_set whole shard t)) (sym ask_is) (replied, refl, answers);

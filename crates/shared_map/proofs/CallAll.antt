@@ -46,9 +46,9 @@ turned_from t v u before mid after same is each worn tight allowed =
 
 module _ (first : Knowing) (before : List MapState) where
   pub if_alone : (c : Call) (told : Replied) (after : List MapState) → IsCalledAlone c before told after → RepliesIf first before c told after
-  if_alone c told after (s, t, is, next, calls, works) hash are knows on none =
+  if_alone c told after (s, t, is, next, calls, full, works) hash are knows on none =
       let hashed : AreShards hash (s ∷ []) = subst (AreShards hash) is are in
-      let whole : RepliesAll hash (s ∷ []) c told (t ∷ []) × AreShards hash (t ∷ []) = one_answers hash s t hashed.hashed.0 c told none calls works in (
+      let whole : RepliesAll hash (s ∷ []) c told (t ∷ []) × AreShards hash (t ∷ []) = one_answers hash s t hashed.hashed.0 c told none calls full works in (
         subst (λ xs. RepliesAll hash xs c told after) (sym is) (subst (λ ys. RepliesAll hash (s ∷ []) c told ys) (sym next) whole.0),
         subst (AreShards hash) (sym next) whole.1,
       )

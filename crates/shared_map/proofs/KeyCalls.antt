@@ -23,6 +23,7 @@ use Rattle.ctrie_map.proofs.ByName.{opens_none}
 use Rattle.ctrie_map.proofs.Changing.{says}
 use Rattle.ctrie_map.proofs.Named.{at_other, at_same}
 use Rattle.shared_map.specs.Answering.{AreBegun, ChangesAll, RepliesAll, WorkUpTo}
+use Rattle.shared_map.specs.Asking.{TellsFull}
 use Rattle.shared_map.specs.Asks.{Replied, key_in, place_of, shard_of}
 use Rattle.shared_map.specs.Shards.{AreShards, IsNoneTight, LackSlots, concerned, is_any_worn_out, those_at, world_of_all}
 use Rattle.shared_map.specs.Uniting.{kind_of, united, united_at, value_at, value_of}
@@ -162,8 +163,8 @@ module _ (hash : HashKind) (before : List MapState) (are : AreShards hash before
         effect_among (hash_of hash) mine c o ≡ Some (answer, last)
     effect_here o answer last e = ap (λ k. effect_among (hash_of k) mine c o) (sym (shards.hash_is hash before are i s at)) ∙ e
 
-    by_reply : (answer : Reply) → IsBegun s c → Answers s c answer t → Comes (Ok answer)
-    by_reply reply.NoSlots b p = (
+    by_reply : (answer : Reply) → TellsFull s c (Ok answer) → IsBegun s c → Answers s c answer t → Comes (Ok answer)
+    by_reply reply.NoSlots full b p = (
       (
         begun b.0 b.1,
         subst (LackSlots c) (sym concerns) p.0,
@@ -175,14 +176,14 @@ module _ (hash : HashKind) (before : List MapState) (are : AreShards hash before
       ),
       shards.shards_stay hash before are i s at t p.1.0 p.1.2,
     )
-    by_reply (reply.Opened copy) b (number, (last, e, has)) =
+    by_reply (reply.Opened copy) full b (number, (last, e, has)) =
         let (m, there, told, to) = says mine h f (reply.Opened copy) last (sym (does mine (Some copy)) ∙ effect_here (Some copy) (reply.Opened copy) last e) in
         absurd (opens m copy (sym told))
-    by_reply answer b p =
+    by_reply answer full b p =
         let turns = turned_by h f alike p.3.0 answer p.1 (sym (does mine p.0) ∙ effect_here p.0 answer p.1 p.2) p.3.2 in (
           (
             begun b.0 b.1,
-            subst (IsNoneTight c) (sym concerns) tt,
+            subst (IsNoneTight c) (sym concerns) (λ f. let e = full f in cc),
             (
               p.0,
               turns.last,
@@ -204,18 +205,18 @@ module _ (hash : HashKind) (before : List MapState) (are : AreShards hash before
     by_error WornOut p = ((same_denial ∙ p.0, worn_as ∙ p.1, shards.same_after hash before are i s at t p.2), unchanged p.2)
     by_error error p = ((same_denial ∙ p.0, shards.same_after hash before are i s at t p.1), unchanged p.1)
 
-    changes_so : (told : Replied) → Performs told s c t → Comes told
-    changes_so (Ok answer) p = by_reply answer p.0 p.1
-    changes_so (Err error) p = by_error error p
+    changes_so : (told : Replied) → TellsFull s c told → Performs told s c t → Comes told
+    changes_so (Ok answer) full p = by_reply answer full p.0 p.1
+    changes_so (Err error) full p = by_error error p
 
     works_so : WorksUpTo (work_of_call c) s t → WorkUpTo (length (concerned hash c before) * work_of_call c) before next
     works_so works =
         subst (λ n. WorkUpTo n before next) (sym (ap (λ (xs : List MapState). length xs * work_of_call c) concerns ∙ one-mul (work_of_call c)))
         (shards.works_after hash before are i s at t (work_of_call c) works)
 
-    pub answers_so : (told : Replied) → Performs told s c t → WorksUpTo (work_of_call c) s t →
+    pub answers_so : (told : Replied) → Performs told s c t → TellsFull s c told → WorksUpTo (work_of_call c) s t →
         (ChangesAll hash before c told next × WorkUpTo (length (concerned hash c before) * work_of_call c) before next) × AreNext
-    answers_so told p works = let comes = changes_so told p in ((comes.0, works_so works), comes.1)
+    answers_so told p full works = let comes = changes_so told full p in ((comes.0, works_so works), comes.1)
 
   -- ---- each call on one key
 
@@ -239,43 +240,43 @@ module _ (hash : HashKind) (before : List MapState) (are : AreShards hash before
       concerns_get : concerned hash (call.Get h k) before ≡ s ∷ []
       concerns_get = ap (λ n. option_to_list (slice_get before n)) here ∙ ap option_to_list at
 
-  pub key_call_answers : (c : Call) → key_in c ≡ Some k → (told : Replied) → Calls told s c t → WorksUpTo (work_of_call c) s t → Whole c told
-  key_call_answers (call.Get h q) e told p works =
+  pub key_call_answers : (c : Call) → key_in c ≡ Some k → (told : Replied) → Calls told s c t → TellsFull s c told → WorksUpTo (work_of_call c) s t → Whole c told
+  key_call_answers (call.Get h q) e told p full works =
       let same : q ≡ k = same_Some q k e in
       subst (λ k. Whole (call.Get h k) told) (sym same) (reads h told (subst (λ k. Calls told s (call.Get h k) t) same p) works)
-  key_call_answers (call.Put h q v) e told p works =
+  key_call_answers (call.Put h q v) e told p full works =
       let same : q ≡ k = same_Some q k e in
       answers_so (call.Put h q v) h (λ m. put_in (hash_of hash) m q v) e refl refl refl (opens_none (hash_of hash) (call.Put h q v)) (λ w o. refl)
       (subst (λ q. ActsAlike (λ m. put_in (hash_of hash) m q v)) (sym same)
-      (λ all own alike. puts (hash_of hash) place (λ q k e. ap (shard_of (length before)) e) i k here all own alike v)) told p works
-  key_call_answers (call.PutIfAbsent h q v) e told p works =
+      (λ all own alike. puts (hash_of hash) place (λ q k e. ap (shard_of (length before)) e) i k here all own alike v)) told p full works
+  key_call_answers (call.PutIfAbsent h q v) e told p full works =
       let same : q ≡ k = same_Some q k e in
       answers_so (call.PutIfAbsent h q v) h (λ m. put_if_absent_in (hash_of hash) m q v) e refl refl refl (opens_none (hash_of hash) (call.PutIfAbsent h q v)) (λ w o. refl)
       (subst (λ q. ActsAlike (λ m. put_if_absent_in (hash_of hash) m q v)) (sym same)
-      (λ all own alike. puts_if_absent (hash_of hash) place (λ q k e. ap (shard_of (length before)) e) i k here all own alike v)) told p works
-  key_call_answers (call.Replace h q v) e told p works =
+      (λ all own alike. puts_if_absent (hash_of hash) place (λ q k e. ap (shard_of (length before)) e) i k here all own alike v)) told p full works
+  key_call_answers (call.Replace h q v) e told p full works =
       let same : q ≡ k = same_Some q k e in
       answers_so (call.Replace h q v) h (λ m. replace_in m q v) e refl refl refl (opens_none (hash_of hash) (call.Replace h q v)) (λ w o. refl)
       (subst (λ q. ActsAlike (λ m. replace_in m q v)) (sym same)
-      (λ all own alike. replaces (hash_of hash) place (λ q k e. ap (shard_of (length before)) e) i k here all own alike v)) told p works
-  key_call_answers (call.ReplaceIf h q a b) e told p works =
+      (λ all own alike. replaces (hash_of hash) place (λ q k e. ap (shard_of (length before)) e) i k here all own alike v)) told p full works
+  key_call_answers (call.ReplaceIf h q a b) e told p full works =
       let same : q ≡ k = same_Some q k e in
       answers_so (call.ReplaceIf h q a b) h (λ m. replace_if_in m q a b) e refl refl refl (opens_none (hash_of hash) (call.ReplaceIf h q a b)) (λ w o. refl)
       (subst (λ q. ActsAlike (λ m. replace_if_in m q a b)) (sym same)
-      (λ all own alike. replaces_if (hash_of hash) place (λ q k e. ap (shard_of (length before)) e) i k here all own alike a b)) told p works
-  key_call_answers (call.Remove h q) e told p works =
+      (λ all own alike. replaces_if (hash_of hash) place (λ q k e. ap (shard_of (length before)) e) i k here all own alike a b)) told p full works
+  key_call_answers (call.Remove h q) e told p full works =
       let same : q ≡ k = same_Some q k e in
       answers_so (call.Remove h q) h (λ m. remove_in m q) e refl refl refl (opens_none (hash_of hash) (call.Remove h q)) (λ w o. refl)
       (subst (λ q. ActsAlike (λ m. remove_in m q)) (sym same)
-      (λ all own alike. removes (hash_of hash) place (λ q k e. ap (shard_of (length before)) e) i k here all own alike)) told p works
-  key_call_answers (call.RemoveIf h q v) e told p works =
+      (λ all own alike. removes (hash_of hash) place (λ q k e. ap (shard_of (length before)) e) i k here all own alike)) told p full works
+  key_call_answers (call.RemoveIf h q v) e told p full works =
       let same : q ≡ k = same_Some q k e in
       answers_so (call.RemoveIf h q v) h (λ m. remove_if_in m q v) e refl refl refl (opens_none (hash_of hash) (call.RemoveIf h q v)) (λ w o. refl)
       (subst (λ q. ActsAlike (λ m. remove_if_in m q v)) (sym same)
-      (λ all own alike. removes_if (hash_of hash) place (λ q k e. ap (shard_of (length before)) e) i k here all own alike v)) told p works
-  key_call_answers (call.Clear h) e told p works = cc
-  key_call_answers (call.Snapshot h) e told p works = cc
-  key_call_answers (call.Freeze h) e told p works = cc
-  key_call_answers (call.Close h) e told p works = cc
-  key_call_answers (call.Entries h) e told p works = cc
-  key_call_answers (call.Count h) e told p works = cc
+      (λ all own alike. removes_if (hash_of hash) place (λ q k e. ap (shard_of (length before)) e) i k here all own alike v)) told p full works
+  key_call_answers (call.Clear h) e told p full works = cc
+  key_call_answers (call.Snapshot h) e told p full works = cc
+  key_call_answers (call.Freeze h) e told p full works = cc
+  key_call_answers (call.Close h) e told p full works = cc
+  key_call_answers (call.Entries h) e told p full works = cc
+  key_call_answers (call.Count h) e told p full works = cc

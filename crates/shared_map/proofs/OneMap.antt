@@ -2,6 +2,7 @@
 use Rattle.std.proofs.Common.{◌≡◌, ℕ, ◌*◌, false, List, [], ◌∷◌, length, map, Option, Some, None, option_map, slice_get}
 use Rattle.std.proofs.Common.{Ok, Err, refl, sym, ap, subst, ◌∙◌, arith, one-mul}
 use Rattle.std.specs.FinMap as maps
+use Rattle.std.proofs.lemmas.Bool.{true≢false}
 use Rattle.std.proofs.lemmas.List.Sums.{sum_by-cons}
 use Rattle.std.proofs.lemmas.Option.{same_Some}
 use Rattle.shared_map.specs.Vocabulary.{hash_of, HashKind, Call, Reply, HandleMap}
@@ -18,9 +19,10 @@ use Rattle.ctrie_map.specs.Names.{IsNext}
 use Rattle.ctrie_map.specs.Performing.{EffectAmong, Performs, effect_among}
 use Rattle.ctrie_map.specs.Reading.{read_of}
 use Rattle.shared_map.specs.Answering.{AreBegun, CallsAll, ChangesAll, HaveThen, RepliesAll, WorkUpTo}
+use Rattle.shared_map.specs.Asking.{TellsFull}
 use Rattle.shared_map.specs.Asks.{Replied, key_in, place_of}
 use Rattle.shared_map.specs.Laws.{OneShardIsAMap}
-use Rattle.shared_map.specs.Shards.{LackSlots, concerned, is_any_worn_out, those_at, world_of_all}
+use Rattle.shared_map.specs.Shards.{IsNoneTight, LackSlots, concerned, is_any_worn_out, those_at, world_of_all}
 use Rattle.shared_map.proofs.OnePlace.{only_place}
 use Rattle.shared_map.proofs.OneShard.{or_none}
 use Rattle.shared_map.proofs.United.{united_one}
@@ -104,11 +106,24 @@ module _ (s : MapState) where
       (s, p.0, (refl, p.1 ∙ ap (λ w. read_of (λ m. reply.Count (maps.len m)) (maps.get w h)) world_is))
   calls c told after p = by_change c after told p
 
+  -- where it is full for the call, it is told so
+  full_change : (c : Call) (after : List MapState) (told : Replied) → ChangesAll hash before c told after → TellsFull s c told
+  full_change c after (Ok reply.NoSlots) p full = refl
+  full_change c after (Ok answer) p full = absurd (subst (λ xs. IsNoneTight c xs) (about c) p.1 full)
+  full_change c after (Err error.WornOut) p full = absurd (true≢false (sym p.1 ∙ worn_is c ∙ full.1))
+  full_change c after (Err why) p full = let bad : Some why ≡ None = sym p.0 ∙ denial_is c ∙ full.0 in cc
+
+  tells_full : (c : Call) (told : Replied) (after : List MapState) → CallsAll hash before c told after → TellsFull s c told
+  tells_full (call.Get h k) told after p full = absurd (true≢false (sym full.2))
+  tells_full (call.Entries h) told after p full = absurd (true≢false (sym full.2))
+  tells_full (call.Count h) told after p full = absurd (true≢false (sym full.2))
+  tells_full c told after p full = full_change c after told p full
+
   answers : (c : Call) (told : Replied) (after : List MapState) → RepliesAll hash before c told after →
-      (t : MapState) × (after ≡ t ∷ []) × Calls told s c t × WorksUpTo (work_of_call c) s t
+      (t : MapState) × (after ≡ t ∷ []) × Calls told s c t × TellsFull s c told × WorksUpTo (work_of_call c) s t
   answers c told after p =
       let (t, is, does) = calls c told after p.0 in
-      (t, is, does, works t c (subst (λ xs. WorkUpTo (length (concerned hash c before) * work_of_call c) before xs) is p.1))
+      (t, is, does, tells_full c told after p.0, works t c (subst (λ xs. WorkUpTo (length (concerned hash c before) * work_of_call c) before xs) is p.1))
 
 pub one_shard_is_a_map : OneShardIsAMap
 one_shard_is_a_map map = (world_is map, answers map)

@@ -17,6 +17,7 @@ use Rattle.ctrie_map.specs.Names.{IsNext}
 use Rattle.ctrie_map.specs.Performing.{Answers, EffectAmong, IsBegun, Performs, effect_among}
 use Rattle.ctrie_map.specs.Reading.{read_of}
 use Rattle.shared_map.specs.Answering.{CallsAll, ChangesAll, RepliesAll, WorkUpTo}
+use Rattle.shared_map.specs.Asking.{TellsFull}
 use Rattle.shared_map.specs.Asks.{Replied, key_in}
 use Rattle.shared_map.specs.Shards.{AreShards, IsNoneTight, LackSlots, concerned, is_any_worn_out, world_of_all}
 use Rattle.shared_map.specs.Uniting.{kind_of}
@@ -76,8 +77,8 @@ module _ (hash : HashKind) (s t : MapState) (hash_is : s.core.limits.hash ≡ ha
     effect_is opens answer next effect =
         ap (λ w. effect_among (hash_of hash) w c opens) world_is ∙ ap (λ h. effect_among (hash_of h) (handles_of s) c opens) (sym hash_is) ∙ effect
 
-    by_reply : (answer : Reply) → IsBegun s c → Answers s c answer t → ChangesAll hash before c (Ok answer) after × (t.core.limits ≡ s.core.limits)
-    by_reply reply.NoSlots begun p = (
+    by_reply : (answer : Reply) → TellsFull s c (Ok answer) → IsBegun s c → Answers s c answer t → ChangesAll hash before c (Ok answer) after × (t.core.limits ≡ s.core.limits)
+    by_reply reply.NoSlots full begun p = (
       (
         (denial_is ∙ begun.0, ap (λ xs. is_any_worn_out xs) about ∙ or_none (is_worn_out s.core) ∙ begun.1),
         subst (λ xs. LackSlots c xs) (sym about) p.0,
@@ -85,10 +86,10 @@ module _ (hash : HashKind) (s t : MapState) (hash_is : s.core.limits.hash ≡ ha
       ),
       p.1.0,
     )
-    by_reply (reply.Opened copy) begun (number, (next, effect, has)) = (
+    by_reply (reply.Opened copy) full begun (number, (next, effect, has)) = (
       (
         (denial_is ∙ begun.0, ap (λ xs. is_any_worn_out xs) about ∙ or_none (is_worn_out s.core) ∙ begun.1),
-        subst (λ xs. IsNoneTight c xs) (sym about) tt,
+        subst (λ xs. IsNoneTight c xs) (sym about) (λ f. let e = full f in cc),
         (
           subst (λ w. IsNext s.names.last w copy) (sym world_is) number,
           (next, effect_is (Some copy) (reply.Opened copy) next effect, (limits_are has.0, has.1, world_then ∙ has.2)),
@@ -96,10 +97,10 @@ module _ (hash : HashKind) (s t : MapState) (hash_is : s.core.limits.hash ≡ ha
       ),
       has.0,
     )
-    by_reply answer begun p = (
+    by_reply answer full begun p = (
       (
         (denial_is ∙ begun.0, ap (λ xs. is_any_worn_out xs) about ∙ or_none (is_worn_out s.core) ∙ begun.1),
-        subst (λ xs. IsNoneTight c xs) (sym about) tt,
+        subst (λ xs. IsNoneTight c xs) (sym about) (λ f. let e = full f in cc),
         (
           p.0,
           p.1,
@@ -117,26 +118,26 @@ module _ (hash : HashKind) (s t : MapState) (hash_is : s.core.limits.hash ≡ ha
     )
     by_error why p = ((denial_is ∙ p.0, ap (λ x. x ∷ []) p.1), ap (λ (s : MapState). s.core.limits) p.1)
 
-    changes : (told : Replied) → Performs told s c t → ChangesAll hash before c told after × (t.core.limits ≡ s.core.limits)
-    changes (Ok answer) p = by_reply answer p.0 p.1
-    changes (Err why) p = by_error why p
+    changes : (told : Replied) → TellsFull s c told → Performs told s c t → ChangesAll hash before c told after × (t.core.limits ≡ s.core.limits)
+    changes (Ok answer) full p = by_reply answer full p.0 p.1
+    changes (Err why) full p = by_error why p
 
   abbrev Whole : Call → Replied → Type 0
   Whole c told = RepliesAll hash before c told after × AreShards hash after
 
   by_change : (c : Call) (told : Replied) → (ChangesAll hash before c told after → CallsAll hash before c told after) → concerned hash c before ≡ before →
-      Performs told s c t → WorksUpTo (work_of_call c) s t → Whole c told
-  by_change c told is about p w =
-      let (change, limits) = changes c about told p in
+      Performs told s c t → TellsFull s c told → WorksUpTo (work_of_call c) s t → Whole c told
+  by_change c told is about p full w =
+      let (change, limits) = changes c about told full p in
       ((is change, subst (λ (xs : List MapState). WorkUpTo (length xs * work_of_call c) before after) (sym about) (works (work_of_call c) w)), shards_are limits)
 
   -- each call that is about all shards
-  pub one_answers : (c : Call) (told : Replied) → key_in c ≡ None → Calls told s c t → WorksUpTo (work_of_call c) s t → Whole c told
-  one_answers (call.Clear h) told none p w = by_change (call.Clear h) told (λ x. x) refl p w
-  one_answers (call.Snapshot h) told none p w = by_change (call.Snapshot h) told (λ x. x) refl p w
-  one_answers (call.Freeze h) told none p w = by_change (call.Freeze h) told (λ x. x) refl p w
-  one_answers (call.Close h) told none p w = by_change (call.Close h) told (λ x. x) refl p w
-  one_answers (call.Entries h) told none p w = (
+  pub one_answers : (c : Call) (told : Replied) → key_in c ≡ None → Calls told s c t → TellsFull s c told → WorksUpTo (work_of_call c) s t → Whole c told
+  one_answers (call.Clear h) told none p full w = by_change (call.Clear h) told (λ x. x) refl p full w
+  one_answers (call.Snapshot h) told none p full w = by_change (call.Snapshot h) told (λ x. x) refl p full w
+  one_answers (call.Freeze h) told none p full w = by_change (call.Freeze h) told (λ x. x) refl p full w
+  one_answers (call.Close h) told none p full w = by_change (call.Close h) told (λ x. x) refl p full w
+  one_answers (call.Entries h) told none p full w = (
     (
       (
         ap (λ x. x ∷ []) p.0,
@@ -146,7 +147,7 @@ module _ (hash : HashKind) (s t : MapState) (hash_is : s.core.limits.hash ≡ ha
     ),
     shards_are (ap (λ (s : MapState). s.core.limits) p.0),
   )
-  one_answers (call.Count h) told none p w = (
+  one_answers (call.Count h) told none p full w = (
     (
       (
         ap (λ x. x ∷ []) p.0,
@@ -156,10 +157,10 @@ module _ (hash : HashKind) (s t : MapState) (hash_is : s.core.limits.hash ≡ ha
     ),
     shards_are (ap (λ (s : MapState). s.core.limits) p.0),
   )
-  one_answers (call.Get h k) told none p w = cc
-  one_answers (call.Put h k v) told none p w = cc
-  one_answers (call.PutIfAbsent h k v) told none p w = cc
-  one_answers (call.Replace h k v) told none p w = cc
-  one_answers (call.ReplaceIf h k a b) told none p w = cc
-  one_answers (call.Remove h k) told none p w = cc
-  one_answers (call.RemoveIf h k v) told none p w = cc
+  one_answers (call.Get h k) told none p full w = cc
+  one_answers (call.Put h k v) told none p full w = cc
+  one_answers (call.PutIfAbsent h k v) told none p full w = cc
+  one_answers (call.Replace h k v) told none p full w = cc
+  one_answers (call.ReplaceIf h k a b) told none p full w = cc
+  one_answers (call.Remove h k) told none p full w = cc
+  one_answers (call.RemoveIf h k v) told none p full w = cc

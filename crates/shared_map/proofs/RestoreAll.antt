@@ -1,18 +1,19 @@
 -- A restore in all shards is one of the whole.
-use Rattle.std.proofs.Common.{◌≡◌, ◌≢◌, ◌⊎◌, inl, inr, ℕ, ◌≤◌, ◌*◌, Bool, true, false, ◌&&◌, not, nat_eq, nat_le, nat_lt, if◌then◌else◌}
+use Rattle.std.proofs.Common.{◌≡◌, ◌≢◌, ◌⊎◌, inl, inr, ℕ, ◌≤◌, ◌*◌, Bool, true, false, ◌&&◌, not, nat_eq, nat_le, if◌then◌else◌}
 use Rattle.std.proofs.Common.{List, [], ◌∷◌, length, map, Option, Some, None, option_map, Result, Ok, Err}
 use Rattle.std.proofs.Common.{refl, sym, ap, ap₂, subst, ◌∙◌, arith}
 use Rattle.std.specs.FinMap as maps
 use Rattle.std.proofs.lemmas.Bool.{cases_eq}
 use Rattle.std.proofs.lemmas.Option.{same_Some}
 use Rattle.shared_map.specs.Vocabulary.{HashKind, Access, Writable, ReadOnly, Snapshot, naming, HandleMap, HandleState, KeyMap, handle_limit}
+use Rattle.ctrie_map.specs.Changes.{IsFullFor}
 use Rattle.ctrie_map.specs.Costs.{WorksUpTo}
-use Rattle.ctrie_map.specs.Denials.{is_frozen}
+use Rattle.ctrie_map.specs.Denials.{denial_by, is_frozen}
 use Rattle.ctrie_map.specs.declared.errors.MapError.{MapError}
 use Rattle.ctrie_map.specs.declared.errors.MapError.TheVariants as error
 use Rattle.ctrie_map.specs.Maps.{MapState, handles_of}
 use Rattle.ctrie_map.specs.Reading.{writability_by}
-use Rattle.ctrie_map.specs.Restoring.{HasLifeIfTried, RefusesRestore, is_worn_out_to_restore, restore_denial_by}
+use Rattle.ctrie_map.specs.Restoring.{HasLifeIfTried, IsFullToRestore, RefusesRestore, Restores, is_worn_out_to_restore, restore_denial_by}
 use Rattle.ctrie_map.specs.Sharding.{may_lack_slots}
 use Rattle.ctrie_map.proofs.Named.{at_other, at_same}
 use Rattle.shared_map.specs.Answering.{AnswersAll, RestoresAll, WorkUpTo}
@@ -109,6 +110,13 @@ undenied (Some s) (Some t) full e = by_access s.access e
     by_access : (a : Access) → restore_denial_by (Some (shown_as s.pairs a)) (Some t) full ≡ None → AreOpen (Some (shown_as s.pairs a)) (Some t)
     by_access Writable e = record { m = s.pairs; has = refl; shown = t; there = refl }
     by_access ReadOnly e = cc
+
+-- nothing denies a restore of a writable handle from an open one, where there is a handle for it
+open_undenied : (m : KeyMap) (shown : HandleState) (apart full : Bool) → (if full then Some error.HandlesFull else None) ≡ None →
+    restore_denial_by (Some (shown_as m Writable)) (Some shown) (apart && full) ≡ None
+open_undenied m shown apart true e = cc
+open_undenied m shown true false e = refl
+open_undenied m shown false false e = refl
 
 naming_same : (w : HandleMap) (h : ℕ) (m : KeyMap) → maps.get w h ≡ Some (shown_as m Writable) → naming w h Writable m ≡ w
 naming_same w h m at = same_world (naming w h Writable m) w (λ g. by_handle g (cases_eq g h))
@@ -257,6 +265,15 @@ module _ (hash : HashKind) (s t : MapState) (hash_is : s.core.limits.hash ≡ ha
   )
   refuses_one why p life = ((denial_of_one ∙ p.0, ap (λ x. x ∷ []) p.1), ap (λ (s : MapState). s.core.limits) p.1)
 
+  -- what is done wasn't full for the copy
+  not_full_one : (done : Unit {0}) → Restores s h copy t → h ≢ copy → is_worn_out_to_restore s ≡ false → (IsFullToRestore s h copy → Ok done ≡ Err error.Full) →
+      ¬ IsFullFor s (Snapshot copy)
+  not_full_one done (shown, writable, at, becomes) apart life tells full =
+      let room = ap (λ o. denial_by false true o (maps.len (handles_of s))) (sym at) ∙ full.0 in
+      let none = ap₂ (λ o p. restore_denial_by o p (not (nat_eq h copy) && nat_le handle_limit (maps.len (handles_of s)))) writable.1 at
+      ∙ open_undenied writable.0 shown (not (nat_eq h copy)) (nat_le handle_limit (maps.len (handles_of s))) room in
+      let bad = tells (apart, none, life, full.3) in cc
+
   comes_one : (told : Result (Unit {0}) MapError) → ComesTo s h copy told t →
       RestoresAll hash (s ∷ []) h copy (told_as answer_to_restore told) (t ∷ []) × (t.core.limits ≡ s.core.limits)
   comes_one (Ok done) p =
@@ -264,7 +281,7 @@ module _ (hash : HashKind) (s t : MapState) (hash_is : s.core.limits.hash ≡ ha
         (
           refl,
           (λ same. ap (λ x. x ∷ []) (p.1 same)),
-          (λ apart. (one.or_none (is_worn_out_to_restore s) ∙ p.3 apart, tt)),
+          (λ apart. (one.or_none (is_worn_out_to_restore s) ∙ p.3 apart, not_full_one done p.0 apart (p.3 apart) p.4)),
           (
             naming (handles_of s) h Writable shown.pairs,
             among (naming (handles_of s) h Writable shown.pairs) (shown, writable, at, refl),

@@ -1,8 +1,10 @@
 -- What shards are asked before all of them are changed.
 use Rattle.std.specs.Prelude.{◌≡◌, ◌&&◌, ◌||◌, ℕ, Bool, true, false, not, nat_le, if◌then◌else◌, Option, Some, None, Result, Ok, Err}
 use Rattle.std.specs.FinMap as map
-use Rattle.shared_map.specs.Vocabulary.{handle_limit}
+use Rattle.shared_map.specs.Vocabulary.{Call, handle_limit}
+use Rattle.history.specs.declared.replies.Reply.TheVariants as reply
 use Rattle.ctrie_map.specs.Calling.{Calls}
+use Rattle.ctrie_map.specs.Changes.{IsFullFor}
 use Rattle.ctrie_map.specs.Cores.{is_worn_out}
 use Rattle.ctrie_map.specs.Costs.{WorksUpTo, work_of_call}
 use Rattle.ctrie_map.specs.declared.errors.MapError.{MapError}
@@ -12,6 +14,7 @@ use Rattle.ctrie_map.specs.Names.{IsNext}
 use Rattle.ctrie_map.specs.Reading.{writability}
 use Rattle.ctrie_map.specs.Restoring.{is_worn_out_to_restore}
 use Rattle.ctrie_map.specs.Sharding.{may_lack_slots}
+use Rattle.shared_map.specs.Asks.{Replied}
 use Rattle.shared_map.specs.declared.asking.Calling.{Calling}
 use Rattle.shared_map.specs.declared.asking.Knowing.{Knowing}
 use Rattle.shared_map.specs.declared.asking.Measuring.{Measuring}
@@ -47,5 +50,10 @@ Measures before shard after later =
     (later ≡ shard) × (after.call ≡ before.call) × (after.restores ≡ before.restores)
     × (after.is_worn_out ≡ (before.is_worn_out || is_worn_out_for before.restores shard)) × (after.is_tight ≡ (before.is_tight || may_lack_slots before.call shard))
 
+-- where the shard is full for the call, it is told so
+abbrev pub TellsFull : MapState → Call → Replied → Type 0
+TellsFull shard call told = IsFullFor shard call → told ≡ Ok reply.NoSlots
+
 abbrev pub CallsOne : Calling → MapState → Calling → MapState → Type 0
-CallsOne before shard after later = Calls after.told shard before.call later × WorksUpTo (work_of_call before.call) shard later
+CallsOne before shard after later =
+    Calls after.told shard before.call later × TellsFull shard before.call after.told × WorksUpTo (work_of_call before.call) shard later

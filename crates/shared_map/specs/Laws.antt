@@ -8,6 +8,7 @@ use Rattle.ctrie_map.specs.Costs.{WorksUpTo, work_of_call}
 use Rattle.ctrie_map.specs.Maps.{MapState, handles_of}
 use Rattle.shared_map.specs.declared.asks.Request.{Request}
 use Rattle.shared_map.specs.Answering.{MapAnswers, RepliesAll}
+use Rattle.shared_map.specs.Asking.{TellsFull}
 use Rattle.shared_map.specs.Asks.{Replied, Told, place_of}
 use Rattle.shared_map.specs.Opening.{AreNewMaps}
 use Rattle.shared_map.specs.Replaying.{Replays}
@@ -35,9 +36,10 @@ ShardsMakeTheMap =
     (kind_of (map.get (world_of_all shards) handle) ≡ kind_of (map.get (handles_of shard) handle))
     × ((key : ℕ) → place_of hash (length shards) key ≡ i → value_at (world_of_all shards) handle key ≡ value_at (handles_of shard) handle key)
 
--- In one shard the world of the whole is the map's own, and what is told of a call, and becomes of the shards, is what `Map` alone does.
+-- In one shard the world of the whole is the map's own, and what is told of a call, and becomes of the shards, is what `Map` alone does; it is told that no slot is free
+-- where it is full for the call.
 abbrev pub OneShardIsAMap : Type 0
 OneShardIsAMap =
     (map : MapState) → (world_of_all (map ∷ []) ≡ handles_of map)
     × ((call : Call) (told : Replied) (after : List MapState) → RepliesAll map.core.limits.hash (map ∷ []) call told after →
-    (later : MapState) × (after ≡ later ∷ []) × Calls told map call later × WorksUpTo (work_of_call call) map later)
+    (later : MapState) × (after ≡ later ∷ []) × Calls told map call later × TellsFull map call told × WorksUpTo (work_of_call call) map later)

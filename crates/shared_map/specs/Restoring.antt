@@ -5,7 +5,7 @@ use Rattle.ctrie_map.specs.Costs.{WorksUpTo}
 use Rattle.ctrie_map.specs.declared.errors.MapError.{MapError}
 use Rattle.ctrie_map.specs.declared.errors.MapError.TheVariants.{Full, HandlesFull, ReadOnly, WornOut}
 use Rattle.ctrie_map.specs.Maps.{MapState}
-use Rattle.ctrie_map.specs.Restoring.{HasLifeIfTried, RefusesRestore, Restores, restore_denial}
+use Rattle.ctrie_map.specs.Restoring.{HasLifeIfTried, IsFullToRestore, RefusesRestore, Restores, restore_denial}
 use Rattle.shared_map.specs.declared.asks.Answer.TheVariants.{Restored}
 use Rattle.shared_map.specs.declared.restoring.Restoring.{Restoring}
 use Rattle.shared_map.specs.declared.turning.Turn.TheVariants as turn
@@ -18,7 +18,7 @@ use Rattle.shared_map.specs.Turning.{HaveBecome, turned}
 abbrev pub ComesTo : MapState → ℕ → ℕ → Result (Unit {0}) MapError → MapState → Type 0
 ComesTo before handle copy told after =
     IfOk told (λ _. Restores before handle copy after) × (handle ≡ copy → after ≡ before)
-    × IfErr told (RefusesRestore before handle copy after) × HasLifeIfTried told before handle copy
+    × IfErr told (RefusesRestore before handle copy after) × HasLifeIfTried told before handle copy × (IsFullToRestore before handle copy → told ≡ Err Full)
 
 abbrev pub RestoresOne : Restoring → MapState → Restoring → MapState → Type 0
 RestoresOne before shard after later =

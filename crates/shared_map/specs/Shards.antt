@@ -2,7 +2,7 @@
 use Rattle.std.specs.Prelude.{◌≡◌, ℕ, ◌≤◌, Bool, true, Option, Some, None, List, [], ◌∷◌, length, map, option_map, option_to_list, slice_get, sum_by, not, nat_eq}
 use Rattle.std.specs.List.{list_any}
 use Rattle.shared_map.specs.Vocabulary.{HashKind, Access, Call, HandleMap}
-use Rattle.ctrie_map.specs.Changes.{LacksSlots}
+use Rattle.ctrie_map.specs.Changes.{IsFullFor, LacksSlots}
 use Rattle.ctrie_map.specs.Cores.{is_worn_out}
 use Rattle.ctrie_map.specs.Maps.{MapState, free_of, handles_of, slots_asked}
 use Rattle.ctrie_map.specs.Restoring.{is_worn_out_to_restore}
@@ -65,9 +65,9 @@ abbrev pub LackSlots : Call → List MapState → Type 0
 LackSlots call (s ∷ []) = LacksSlots s call
 LackSlots call shards = IsAnyTight call shards
 
--- Of several none is tight. The only one isn't asked before.
+-- Of several none is tight. The only one isn't asked before: it isn't full for it.
 abbrev pub IsNoneTight : Call → List MapState → Type 0
-IsNoneTight call (s ∷ []) = Unit {0}
+IsNoneTight call (s ∷ []) = ¬ IsFullFor s call
 IsNoneTight call shards = ¬ IsAnyTight call shards
 
 -- ---- what is counted of all shards

@@ -1,5 +1,5 @@
 -- Changes of all shards, each of which is turned alike.
-use Rattle.std.specs.Prelude.{◌≡◌, ◌<◌, ◌≤◌, ℕ, false, Option, Some, None, List, [], ◌∷◌}
+use Rattle.std.specs.Prelude.{◌≡◌, ◌<◌, ℕ, false, Option, Some, None, List, [], ◌∷◌}
 use Rattle.std.specs.FinMap as map
 use Rattle.shared_map.specs.Vocabulary.{Writable, Call, Reply, naming, HandleMap, HandleState, KeyMap, handle_of, handle_limit}
 use Rattle.history.specs.declared.calls.Call.TheVariants as call

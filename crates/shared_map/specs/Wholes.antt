@@ -10,7 +10,7 @@ use Rattle.shared_map.specs.declared.asking.Knowing.{Knowing}
 use Rattle.shared_map.specs.declared.asks.Ask.{Ask}
 use Rattle.shared_map.specs.declared.turning.Turn.{Turn}
 use Rattle.shared_map.specs.Answering.{AnswersAll, RepliesAll}
-use Rattle.shared_map.specs.Asking.{IsKnown}
+use Rattle.shared_map.specs.Asking.{IsKnown, TellsFull}
 use Rattle.shared_map.specs.Asks.{Replied, Told, handle_asked, key_in}
 use Rattle.shared_map.specs.Shards.{AreShards, IsAnyTight, is_any_worn_out}
 use Rattle.shared_map.specs.Turning.{AreAllowed, HaveTurned, call_of, reply_of}
@@ -22,7 +22,7 @@ KnowsFirst first shards = (s : MapState) × (slice_get shards 0 ≡ Some s) × I
 -- the only shard is called
 abbrev pub IsCalledAlone : Call → List MapState → Replied → List MapState → Type 0
 IsCalledAlone call before told after =
-    (s t : MapState) × (before ≡ s ∷ []) × (after ≡ t ∷ []) × Calls told s call t × WorksUpTo (work_of_call call) s t
+    (s t : MapState) × (before ≡ s ∷ []) × (after ≡ t ∷ []) × Calls told s call t × TellsFull s call told × WorksUpTo (work_of_call call) s t
 
 -- a change of all that nothing denies: it is refused before any shard has changed, or it is done in all
 abbrev pub TurnsAll : Turn → List MapState → Replied → List MapState → Type 0

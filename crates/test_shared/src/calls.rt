@@ -106,6 +106,16 @@ fn read_and_copy<R: Wait + AllocGlobal + Abort>(rt: &R, shards: u8) -> Result<()
     Ok(())
 }
 
+/// Puts this many keys, as far as there are slots.
+fn put_each<R: Wait>(rt: &R, map: &SharedMap, seat: &mut MapSeat, keys: u64)
+    requires { IsSeatOf map.now seat.old }
+    ensures { IsSeatOf map.now seat.new }
+{
+    for key in 0..keys {
+        let _ = seat.put(rt, map, Handle::first(), key, key);
+    }
+}
+
 /// A freeze of a map in two shards, each of three slots, in which this many keys are to be put; and after it a clear.
 fn freeze_two_shards<R: Wait + AllocGlobal>(
     rt: &R,
@@ -115,9 +125,7 @@ fn freeze_two_shards<R: Wait + AllocGlobal>(
     let Some(mut seat) = seats.pop() else {
         return Err(MapError::BadSizes);
     };
-    for key in 0..keys {
-        let _ = seat.put(rt, &map, Handle::first(), key, key);
-    }
+    put_each(rt, &map, &mut seat, keys);
     let copy = seat.freeze(rt, &map, Handle::first());
     let cleared = seat.clear(rt, &map, Handle::first());
     Ok((copy, cleared))
@@ -127,7 +135,10 @@ fn freeze_two_shards<R: Wait + AllocGlobal>(
 #[test]
 fn a_copy_is_full_where_a_shard_is(rt: HostRuntime) -> Result<(), Fail> {
     assert_eq!(rt; freeze_two_shards(&rt, 0), Ok((Ok(Handle::new(1)), Ok(()))));
-    assert_eq!(rt; freeze_two_shards(&rt, 40), Ok((Err(MapError::Full), Ok(()))));
+    assert_eq!(rt;
+        freeze_two_shards(&rt, 40),
+        Ok((Err(MapError::Full), Ok(())))
+    );
     Ok(())
 }
 

@@ -149,7 +149,8 @@ rest state after past actors = Rests _ (λ j. ap (λ xs. ran xs j) actors) refl
 pub turns : (state : State) (past : Record) (s : Step) (o : Outcome) (after : State) → length state.actors ≡ state.limits.actors → begun past.events ≡ state.begun →
     Moves state s o after → Turns (recorded state past) (recorded after (noted past state.steps (told_in state s))) s o
 turns state past s o after fits count (Begins {actor = zero} {call = call} {number} d) = no_actor (begins_as state zero call number d).0
-turns state past s o after fits count (Begins {actor = suc k} {call = call} {number} d) = come state past (noted past state.steps (told_in state (step.Begin (suc k) call number))) k call number fits count d _ refl refl
+turns state past s o after fits count (Begins {actor = suc k} {call = call} {number} d) = come state past
+    (noted past state.steps (told_in state (step.Begin (suc k) call number))) k call number fits count d _ refl refl
 turns state past s o after fits count (Goes {actor = zero} {operation = operation} d is a g) = absurd (none-some operation is)
 turns state past s o after fits count (Goes {actor = suc k} {operation = operation} {action = action} d is a g) =
     Stays k (operation.id, operation.call) _ (ap shown is) (gone_ran state k operation is)

@@ -22,7 +22,8 @@ begun_kept state s o after (GivesUp d is a) = omega arith
 begun_kept state s o after (Sweeps spent) = omega arith
 
 -- one more with a begin
-pub begun_more : (state : State) (s : Step) (o : Outcome) (after : State) → Moves state s o after → (actor : ℕ) (call : Call) (number : Option ℕ) → s ≡ step.Begin actor call number → after.begun ≡ state.begun + 1
+pub begun_more : (state : State) (s : Step) (o : Outcome) (after : State) → Moves state s o after → (actor : ℕ) (call : Call) (number : Option ℕ) → s ≡ step.Begin actor call number →
+    after.begun ≡ state.begun + 1
 begun_more state s o after (Begins {actor} {call} {number} d) other c n e = begin_counted state actor call (begun_operation state call number)
 begun_more state s o after (Goes d is a g) other c n e = let wrong : ⊥ = cc e in absurd wrong
 begun_more state s o after (Ends d is a) other c n e = let wrong : ⊥ = cc e in absurd wrong

@@ -140,7 +140,8 @@ module _ (state : State) (I : HasOffers state) (H : HasHandles state) where
   here actor operation st offer same c = record { main = c.main; is_it = c.is_it; carried = ap (λ w. is_carried_out w offer c.main) (sym same) ∙ c.carried }
 
   pub stays : (s : Step) (o : Outcome) (after : State) → Moves state s o after → (handle : ℕ) (root : Root) → root_at state handle ≡ Some root →
-      ((actor : ℕ) (call : Call) (number : Option ℕ) → s ≡ step.Begin actor call number → begin_denial state actor call number ≡ None → is_close call ≡ true → handle ≡ handle_of call → ⊥) → StaysOpen after handle root
+      ((actor : ℕ) (call : Call) (number : Option ℕ) → s ≡ step.Begin actor call number → begin_denial state actor call number ≡ None → is_close call ≡ true → handle ≡ handle_of call → ⊥) →
+      StaysOpen after handle root
   stays s o after (Begins {actor} {call} {number} d) handle root e not_closed =
       (root, closed_root state call handle (not_closed actor call number refl d) ∙ e, refl)
   stays s o after (Goes {actor} {operation} d is a g) handle root e not_closed =
@@ -177,7 +178,8 @@ module _ (state : State) (I : HasOffers state) (H : HasHandles state) where
     abbrev IsOn : ℕ → Access → Type 0
     IsOn handle access = (root : Root) × (root_at after handle ≡ Some root) × (root.access ≡ access)
 
-    on_open_by : (k : ℕ) (found : Operation) → Ran state s k found ⊎ ((call : Call) × (number : Option ℕ) × (s ≡ step.Begin (suc k) call number) × (begin_denial state (suc k) call number ≡ None) × (found ≡ begun_operation state call number)) →
+    on_open_by : (k : ℕ) (found : Operation) → Ran state s k found ⊎
+        ((call : Call) × (number : Option ℕ) × (s ≡ step.Begin (suc k) call number) × (begin_denial state (suc k) call number ≡ None) × (found ≡ begun_operation state call number)) →
         is_close found.call ≡ false → IsOn (handle_of found.call) found.access
     on_open_by k found (inl r) no_close =
         let (root, e, access) = H.on_open k r.was r.at_k (ap is_close (sym r.call) ∙ no_close) in
@@ -195,7 +197,8 @@ module _ (state : State) (I : HasOffers state) (H : HasHandles state) where
             (now, ap (λ (x : Operation). root_at after (handle_of x.call)) it ∙ found_now, same ∙ sym (ap (λ (x : Operation). x.access) it ∙ ap (λ r. unwrap_or (access_of r) Writable) e))
 
     unopened_by : (k n : ℕ) (found : Operation) →
-        Ran state s k found ⊎ ((call : Call) × (number : Option ℕ) × (s ≡ step.Begin (suc k) call number) × (begin_denial state (suc k) call number ≡ None) × (found ≡ begun_operation state call number)) →
+        Ran state s k found ⊎ ((call : Call) × (number : Option ℕ) × (s ≡ step.Begin (suc k) call number) × (begin_denial state (suc k) call number ≡ None) ×
+        (found ≡ begun_operation state call number)) →
         found.is_marked ≡ false → found.opens ≡ Some n → root_at after n ≡ None
     unopened_by k n found (inl r) unmarked its =
         stays_none s o after m n (H.unopened k n r.was r.at_k (r.unmarked unmarked) (sym r.opens ∙ its))
@@ -215,7 +218,8 @@ module _ (state : State) (I : HasOffers state) (H : HasHandles state) where
         clash actor k call number e f = let both : step.Go actor ≡ step.Begin (suc k) call number = sym e ∙ f in cc both
 
     abbrev From : ℕ → Operation → Type 0
-    From k found = Ran state s k found ⊎ ((call : Call) × (number : Option ℕ) × (s ≡ step.Begin (suc k) call number) × (begin_denial state (suc k) call number ≡ None) × (found ≡ begun_operation state call number))
+    From k found = Ran state s k found ⊎ ((call : Call) × (number : Option ℕ) × (s ≡ step.Begin (suc k) call number) × (begin_denial state (suc k) call number ≡ None) ×
+        (found ≡ begun_operation state call number))
 
     same_begin : (k j : ℕ) (a b : Call) (m n : Option ℕ) → s ≡ step.Begin (suc k) a m → s ≡ step.Begin (suc j) b n → k ≡ j
     same_begin k j a b m n e f = let same : step.Begin (suc k) a m ≡ step.Begin (suc j) b n = sym e ∙ f in let both : suc k ≡ suc j = cc same in omega arith

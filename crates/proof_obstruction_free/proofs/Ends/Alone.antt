@@ -216,4 +216,5 @@ ends_alone short limits steps actor operation r = ends_within limits steps actor
 
 pub steps_lead_to_the_end : NoneIsLong → EachStepLeadsToItsEnd
 steps_lead_to_the_end short limits steps actor operation r =
-    let ended = ended_before limits steps actor operation r (most_steps_of limits.actors) (omega arith) (too_long limits steps actor operation r short) in (ended.at, ended.before, ended.goes, ended.ends)
+    let ended = ended_before limits steps actor operation r (most_steps_of limits.actors) (omega arith) (too_long limits steps actor operation r short) in
+    (ended.at, ended.before, ended.goes, ended.ends)

@@ -33,7 +33,8 @@ begun_by state k call number o after (Begins d) operation is =
       free = ap (λ h. length h.free) (begin_heap state (suc k) call (begun_operation state call number));
     }
 
-begun_after : (state : State) (k : ℕ) (call : Call) (number : Option ℕ) (answer : Answer) → MovesIfTaken state (step.Begin (suc k) call number) answer → operation_of state (suc k) ≡ None → (operation : Operation) →
+begun_after : (state : State) (k : ℕ) (call : Call) (number : Option ℕ) (answer : Answer) → MovesIfTaken state (step.Begin (suc k) call number) answer → operation_of state (suc k) ≡ None →
+    (operation : Operation) →
     operation_of (state_after state answer) (suc k) ≡ Some operation → HasBegun state (state_after state answer) call operation
 begun_after state k call number (Ok done) m idle operation is = begun_by state k call number done.0 done.1 m operation is
 begun_after state k call number (Err why) m idle operation is = absurd (none-some operation (sym idle ∙ is))

@@ -123,7 +123,8 @@ begin_follows state past actor call number d books = (
       let (k, was, own, at_k, is) = books.running other actor r in begin_not_running state k actor call number was d own at_k,
 )
 
-pub begins_books : (state : State) (past : Record) (actor : ℕ) (call : Call) (number : Option ℕ) (o : Outcome) (after : State) → Moves state (step.Begin actor call number) o after → begin_denial state actor call number ≡ None →
+pub begins_books : (state : State) (past : Record) (actor : ℕ) (call : Call) (number : Option ℕ) (o : Outcome) (after : State) → Moves state (step.Begin actor call number) o after →
+    begin_denial state actor call number ≡ None →
     after.actors ≡ set state.actors (actor - 1) (Some (begun_operation state call number)) → after.limits ≡ state.limits → Books state past →
     Books after (noted past state.steps (told_in state (step.Begin actor call number)))
 begins_books state past actor call number o after m d actors limits books = record {

@@ -19,7 +19,8 @@ use Rattle.proof_order.specs.Beneath.machine_model.proofs.Recorded.{at_each_reco
 -- ---- a begin
 
 -- the operation runs behind it
-pub begun_runs : (state : State) {past : Record} (s : Step) (o : Outcome) (after : State) → Moves state s o after → Books state past → (actor : ℕ) (call : Call) (number : Option ℕ) → s ≡ step.Begin actor call number →
+pub begun_runs : (state : State) {past : Record} (s : Step) (o : Outcome) (after : State) → Moves state s o after → Books state past → (actor : ℕ) (call : Call) (number : Option ℕ) →
+    s ≡ step.Begin actor call number →
     (k : ℕ) × Runs after k (begun_operation state call number)
 begun_runs state s o after (Begins {actor = own} {call = calls} {number = wish} d) books actor call number go =
     let same : calls ≡ call = cc go in

@@ -1,11 +1,11 @@
 -- A call's own change takes away a value with which the call answers that it changed its key.
-use Rattle.std.proofs.Common.{◌≡◌, ℕ, suc, ◌+◌, ◌-◌, ◌≤◌, ◌<◌, ◌==◌, ◌&&◌, Bool, true, false, nat_lt, nat_le, List, [], length, Option, Some, None, refl, sym, ap, ◌∙◌, subst, arith}
+use Rattle.std.proofs.Common.{◌≡◌, ℕ, suc, ◌+◌, ◌-◌, ◌≤◌, ◌==◌, ◌&&◌, Bool, true, nat_lt, nat_le, List, [], length, Option, Some, None, refl, sym, ◌∙◌, subst, arith}
 use Rattle.std.proofs.lemmas.Bool.{cond_both}
 use Rattle.proof_order.specs.Vocabulary.{Access, Writable, ReadOnly, Call, Ref, Node, Indirection, Branch, Single, Tomb, List as Listed, node_at, entry_at, entries_of, next_ref, has_flag, Site}
 use Rattle.proof_order.specs.Vocabulary.{BuildLine, CopyLine, KeyLine, WhenFound, Answers, Sets, Removes, Line, Purpose, Operation, After, Gives, Read, Swap, CleanLine, ClimbLine, RenewLine}
 use Rattle.proof_order.specs.Vocabulary.{RootLine, Bounds, Step, WalkLine, State, word_at, key_of, inserts, when_found, handle_of, depth_of, flag_in, is_below_root, absent, removing, found_so}
-use Rattle.proof_order.specs.Vocabulary.{key_after_read, key_after_main, key_after_entry, after_listed, after_sibling, after_tomb, is_passable, renew_next, after_single, after_link}
-use Rattle.proof_order.specs.Vocabulary.{build_after_made, build_if_made, swap_after, read_step, first_line, line_after, swapped, operation_after, turns, IsRun, Turn}
+use Rattle.proof_order.specs.Vocabulary.{key_after_read, key_after_main, key_after_entry, after_listed, after_sibling, after_tomb, is_passable, renew_next, after_single, build_after_made}
+use Rattle.proof_order.specs.Vocabulary.{build_if_made, swap_after, read_step, first_line, line_after, swapped, operation_after, turns, IsRun, Turn}
 use Rattle.proof_order.specs.Beneath.machine_model.specs.declared.building.Site.TheVariants as site
 use Rattle.proof_order.specs.Beneath.machine_model.specs.declared.building.BuildLine.TheVariants as build
 use Rattle.proof_order.specs.Beneath.machine_model.specs.declared.copying.CopyLine.TheVariants as copy

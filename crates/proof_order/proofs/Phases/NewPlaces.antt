@@ -196,7 +196,8 @@ module _ (limits : Bounds) (states : ℕ → State) (last : ℕ) (r : IsRun limi
 
   -- ---- by a close
 
-  closed : (actor handle : ℕ) (number : Option ℕ) → s ≡ step.Begin actor (Close handle) number → (k : ℕ) (found : Operation) → found.id ≡ (states t).begun → From (states t) s k found → Phase states (suc t) found
+  closed : (actor handle : ℕ) (number : Option ℕ) → s ≡ step.Begin actor (Close handle) number → (k : ℕ) (found : Operation) → found.id ≡ (states t).begun → From (states t) s k found →
+      Phase states (suc t) found
   closed actor handle number go k found same (began new) =
       let calls : step.Begin (suc k) new.call new.number ≡ step.Begin actor (Close handle) number = sym new.is_step ∙ go in
       let call : new.call ≡ Close handle = cc calls in

@@ -1,10 +1,9 @@
 -- An operation that has its place stays in its phase.
-use Rattle.std.proofs.Common.{◌≡◌, ◌≢◌, ℕ, suc, ◌<◌, ◌≤◌, true, inl, inr, Option, Some, sym, ap, ◌∙◌, subst, arith}
+use Rattle.std.proofs.Common.{◌≡◌, ℕ, suc, ◌<◌, ◌≤◌, true, inl, inr, Option, Some, sym, ap, ◌∙◌, subst, arith}
 use Rattle.std.proofs.lemmas.Bool.{cases_Bool}
 use Rattle.std.proofs.lemmas.Option.{none-some}
-use Rattle.proof_order.specs.Vocabulary.{Call, Clear, Place, Operation, Bounds, Step, State, copied_reply, action_of, line_action, operation_after, GoesOn, IsRun, is_placed, Record, given_up}
-use Rattle.proof_order.specs.Vocabulary.{gave_up, tells_effect, unless_effect, Reply}
-use Rattle.proof_order.specs.Beneath.history.specs.declared.replies.Reply.TheVariants as reply
+use Rattle.proof_order.specs.Vocabulary.{Place, Operation, Bounds, Step, State, copied_reply, action_of, line_action, operation_after, GoesOn, IsRun, is_placed, Record, given_up, gave_up}
+use Rattle.proof_order.specs.Vocabulary.{tells_effect, unless_effect, Reply}
 use Rattle.proof_order.specs.Beneath.machine_model.proofs.Actors.{mark_one, mark_only, marks_in, marks_by}
 use Rattle.proof_order.specs.Facts.{Runs}
 use Rattle.proof_order.specs.Beneath.history.proofs.Among.{Among}

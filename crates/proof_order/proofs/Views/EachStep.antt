@@ -40,7 +40,8 @@ pub data Changes (state : State) (past : Record) (s : Step) (after : State) (now
 
 -- ---- a begin
 
-open_by : (state : State) (actor handle : ℕ) (number : Option ℕ) → begin_denial state actor (Close handle) number ≡ None → (o : Option Root) → root_at state handle ≡ o → (root : Root) × (root_at state handle ≡ Some root)
+open_by : (state : State) (actor handle : ℕ) (number : Option ℕ) → begin_denial state actor (Close handle) number ≡ None → (o : Option Root) → root_at state handle ≡ o →
+    (root : Root) × (root_at state handle ≡ Some root)
 open_by state actor handle number d (Some root) e = (root, e)
 open_by state actor handle number d None e = absurd (denied e)
   where
@@ -48,7 +49,8 @@ open_by state actor handle number d None e = absurd (denied e)
     denied e = grind arith
 
 begin_changes : (state : State) (past : Record) (actor : ℕ) (call : Call) (number : Option ℕ) → begin_denial state actor call number ≡ None →
-    Changes state past (step.Begin actor call number) (settled state (with_begin state actor call (begun_operation state call number))) (noted past state.steps (told_in state (step.Begin actor call number)))
+    Changes state past (step.Begin actor call number) (settled state (with_begin state actor call (begun_operation state call number)))
+    (noted past state.steps (told_in state (step.Begin actor call number)))
 begin_changes state past actor (Close handle) number d =
     let (root, is) = open_by state actor handle number d (root_at state handle) refl in
     closes actor handle number root refl is refl refl refl

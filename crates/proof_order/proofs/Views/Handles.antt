@@ -1,13 +1,12 @@
 -- Handle numbers: a handle that an operation is to open has a number in range.
-use Rattle.std.proofs.Common.{◌≡◌, ℕ, zero, suc, ◌+◌, ◌<◌, ◌≤◌, Bool, true, false, cond, nat_le, ◌⊎◌, inl, inr, length, replicate, Option, Some, None, refl, sym, ap, ◌∙◌, subst}
-use Rattle.std.proofs.Common.{length-set, add-one, arith}
+use Rattle.std.proofs.Common.{◌≡◌, ℕ, suc, ◌<◌, ◌≤◌, length, replicate, Option, Some, None, refl, sym, ap, ◌∙◌, subst}
+use Rattle.std.proofs.Common.{length-set, arith}
 use Rattle.std.proofs.lemmas.List.{length-replicate}
 use Rattle.std.proofs.lemmas.Option.{none-some, same_Some}
 use Rattle.proof_order.specs.Vocabulary.{Writable, Call, Close, Ref, Operation, Action, Root, Plain, ref_to, Descriptor, Bounds, Outcome, Step, handle_of, opens_handle, State, first_state}
 use Rattle.proof_order.specs.Vocabulary.{handle_limit, action_of, acted, aborted, offered, completed, opened, new_root_taken, begin_denial, with_begin, operation_after, Begins, Ends, Sweeps}
 use Rattle.proof_order.specs.Vocabulary.{GivesUp, Moves, begun_operation, IsRun}
 use Rattle.proof_order.specs.Beneath.machine_model.specs.declared.actions.Action.TheVariants as act
-use Rattle.proof_order.specs.Beneath.machine_model.specs.declared.steps.Step.TheVariants as step
 use Rattle.proof_order.specs.Beneath.machine_model.specs.Moves.{Goes}
 use Rattle.proof_order.specs.Beneath.machine_model.proofs.Found.{none_found}
 use Rattle.proof_order.specs.Beneath.machine_model.proofs.Times.{at_each_time}

@@ -1,5 +1,6 @@
 -- Each step of a run by what the facts say of it: one constructor for each kind.
-use Rattle.std.proofs.Common.{Option, ◌≡◌, ◌≢◌, ℕ, suc, ◌+◌, ◌<◌, Bool, true, false, cond, ◌⊎◌, inl, inr, List, ◌∷◌, ◌++◌, length, Some, None, slice_get, refl, sym, ap, ◌∙◌, subst, append-nil, arith, []}
+use Rattle.std.proofs.Common.{Option, ◌≡◌, ◌≢◌, ℕ, suc, ◌+◌, ◌<◌, Bool, true, false, cond, ◌⊎◌, inl, inr, List, ◌∷◌, ◌++◌, length, Some, None, slice_get, refl, sym, ap, ◌∙◌, subst}
+use Rattle.std.proofs.Common.{append-nil, arith, []}
 use Rattle.proof_order.specs.Vocabulary.{KeyMap, Access, Close, Reply, End, BeginsAt, HasEnded, begun, Recalls, generation_at, Place, on_time, Operation, Descriptor, Bounds, Outcome, Step, State}
 use Rattle.proof_order.specs.Vocabulary.{operation_of, action_of, Moves, IsRun, place_of, is_placed, entered_at_end, Record, moment_at, noted, entrant_of, told_in}
 use Rattle.proof_order.specs.Beneath.history.specs.declared.replies.Reply.TheVariants as reply

@@ -14,6 +14,7 @@ module _ (P : ℕ → ℕ → Operation → Type 0) (with_mark : (t actor : ℕ)
     (stays : (t : ℕ) → t < last → (actor : ℕ) (operation : Operation) → operation_of (states t) actor ≡ Some operation → P t actor operation → P (suc t) actor operation) where
   pub each_at : OfEachAt states last P
   each_at =
-      each_with limits states last run P with_mark (λ t h actor call number d takes e. begins t h actor call number d) (λ t h actor operation go takes all. goes t h actor operation go (all actor operation go.runs))
+      each_with limits states last run P with_mark (λ t h actor call number d takes e. begins t h actor call number d)
+      (λ t h actor operation go takes all. goes t h actor operation go (all actor operation go.runs))
       (λ t h actor operation answer is may all. gives_up t h actor operation answer is may (all actor operation is))
       (λ t h actor operation is apart all. stays t h actor operation is (all actor operation is))

@@ -166,7 +166,8 @@ module _ (state : State) (past : Record) (k : ℕ) (call : Call) (root : Ref) (a
 
   -- the call's path has just these
   pub path_is_along : (fits : k < length past.moments) (at_root : OnLine (begun_record state past k call) (going_down [] root) 1) (depth : ℕ) (indirection : Ref)
-      (leads : Leads state.heap (begun_operation state call None).access (key_hash state (key_of call)) root depth indirection) → (comes_down fits at_root depth indirection leads).path ≡ path_along leads
+      (leads : Leads state.heap (begun_operation state call None).access (key_hash state (key_of call)) root depth indirection) →
+      (comes_down fits at_root depth indirection leads).path ≡ path_along leads
   unfolding path_along comes_down
   path_is_along fits at_root depth indirection (to_root is) = refl
   path_is_along fits at_root depth indirection (below {depth = d} {bitmap} {generation} {above} {word} {entries} so_far entry leads passed) =

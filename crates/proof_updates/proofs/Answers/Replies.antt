@@ -33,11 +33,13 @@ use Rattle.proof_order.proofs.Phases.LineTimes.{answered_unless}
 -- ---- a begin
 
 -- a call that walks reads a read-only handle
-begun_reads : (state : State) (actor : ℕ) (call : Call) (number : Option ℕ) → begin_denial state actor call number ≡ None → needs_read_only call ≡ true → (begun_operation state call number).access ≡ ReadOnly
+begun_reads : (state : State) (actor : ℕ) (call : Call) (number : Option ℕ) → begin_denial state actor call number ≡ None → needs_read_only call ≡ true →
+    (begun_operation state call number).access ≡ ReadOnly
 begun_reads state actor call number d e = grind arith
 
 -- a close has its place at once
-close_places : (state : State) (past : Record) (actor : ℕ) (call : Call) (number : Option ℕ) → is_close call ≡ true → is_placed (noted past state.steps (told_in state (step.Begin actor call number))) state.begun ≡ true
+close_places : (state : State) (past : Record) (actor : ℕ) (call : Call) (number : Option ℕ) → is_close call ≡ true →
+    is_placed (noted past state.steps (told_in state (step.Begin actor call number))) state.begun ≡ true
 close_places state past actor (Close handle) number e =
     is_placed_so (noted past state.steps (told_in state (step.Begin actor (Close handle) number))) (on_time state.steps false state.begun)
     (among_right past.places (on_time state.steps false state.begun ∷ []) _ (inl refl)) state.begun refl

@@ -194,7 +194,8 @@ module _ (limits : Bounds) (states : ℕ → State) (last : ℕ) (run : IsRun li
 -- ---- a close
 
 -- who begins a close takes the handle away
-pub closed_handle : (state : State) (s : Step) (o : Outcome) (after : State) → Moves state s o after → (closer handle : ℕ) (number : Option ℕ) → s ≡ step.Begin closer (Close handle) number → root_at after handle ≡ None
+pub closed_handle : (state : State) (s : Step) (o : Outcome) (after : State) → Moves state s o after → (closer handle : ℕ) (number : Option ℕ) → s ≡ step.Begin closer (Close handle) number →
+    root_at after handle ≡ None
 closed_handle state s o after (Begins {actor} {call} {number = wish} d) closer handle number e =
     let same : call ≡ Close handle = cc e in
     subst (λ c. root_at (settled state (with_begin state actor c (begun_operation state c wish))) handle ≡ None) (sym same) gone

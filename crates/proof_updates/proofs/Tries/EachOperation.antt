@@ -27,7 +27,8 @@ own_notes states records t k operation own = own.noted ∙ sym (noted_going (sta
 -- P of a time, a place and an operation, whatever its mark, holds of an operation that begins or gives up, and is kept by its own steps and by all others
 module _ (limits : Bounds) (states : ℕ → State) (last : ℕ) (run : IsRun limits states last) (P : ℕ → ℕ → Operation → Type 0)
     (marks : (t k : ℕ) (operation : Operation) (b : Bool) → P t k operation → P t k (record operation { is_marked = b }))
-    (begins : (t k : ℕ) → t < last → (call : Call) (number : Option ℕ) (o : Outcome) → Moves (states t) (step.Begin (suc k) call number) o (states (suc t)) → begin_denial (states t) (suc k) call number ≡ None →
+    (begins : (t k : ℕ) → t < last → (call : Call) (number : Option ℕ) (o : Outcome) → Moves (states t) (step.Begin (suc k) call number) o (states (suc t)) →
+    begin_denial (states t) (suc k) call number ≡ None →
     Notes states run.records t (step.Begin (suc k) call number) → P (suc t) k (begun_operation (states t) call number))
     (gives_up : (t k : ℕ) → t < last → (operation : Operation) (answer : Reply) → Runs (states t) k operation → given_up operation.call operation.line ≡ Some answer →
     (o : Outcome) → Moves (states t) (step.GiveUp (suc k)) o (states (suc t)) → run.records (suc t) ≡ run.records t → P t k operation → P (suc t) k (gave_up operation answer))

@@ -14,7 +14,7 @@ pub returns-in-Do : goal.returns-in-Do
 returns-in-Do c =
     subst (λ t. AnswersAlone MapAnswers about c.args._seat c.args.self.now c.args.request t c.call.new.self) (sym c.told_reply.ensures)
     (called_alone c.args._seat c.args.self.now c.call.new.self c.args.request c.in-Do.call c.call.result c.in-Do.is (c.is_same.ensures.same c.if-not-is_same.false ∙ c.hash.ensures)
-    c.call.ensures.calls c.call.ensures.work)
+    c.call.ensures.calls c.call.ensures.full c.call.ensures.work)
 
 pub returns-in-Scan : goal.returns-in-Scan
 returns-in-Scan c =
