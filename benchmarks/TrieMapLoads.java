@@ -1,7 +1,7 @@
 // Scala's TrieMap under the loads of bench_map: java -cp scala-library.jar:. TrieMapLoads LOAD THREADS OPERATIONS KEYS
 // LOAD is mix (get, put, remove 6 : 6 : 4), get, put, insert (each key once, in ascending order) or copy (a snapshot that is only read, and
 // the first put after it). It makes so many operations in each of eight rounds, and prints the nanoseconds an operation of the fastest one:
-// of all threads together, as the clock on the wall has it. LOAD heap inserts KEYS spread keys, and prints the bytes a key of the heap behind
+// of all threads together, as the clock on the wall has it. LOAD heap inserts KEYS spread keys, and prints the bytes a key of the heap after
 // a collection, boxed keys and values among them, and the inserts a second.
 import scala.collection.concurrent.TrieMap;
 

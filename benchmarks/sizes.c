@@ -35,7 +35,7 @@ static void fill(struct ctrie *map, uint64_t keys) {
     for (uint64_t n = 0; n < keys; n++) need(!CTRIE_REFUSED(ctrie_put(map, 0, key_of(n), n, NULL)), "put");
 }
 
-/* The time of a part of 64 pairs, behind keys all over the map. */
+/* The time of a part of 64 pairs, after keys all over the map. */
 static double time_parts(struct ctrie *map, uint64_t keys) {
     struct ctrie_pair pairs[64];
     double start = now();

@@ -14,10 +14,10 @@
  *     ctrie_free(&map);
  *     return CTRIE_REFUSED(code);
  *
- * A map's memory is what ctrie_new took, until ctrie_free: some 346 bytes a slot and 230 kB, however long it lives.
- * Of these 66 bytes a slot are written at once, and 264 for as many slots as there were branches or lists at once.
- * Beside it ctrie_entries, ctrie_scan, ctrie_diff and ctrie_put_all take memory for a list, and give it back at their
- * end.
+ * A map is made with a number of slots: ctrie_slots_for says how many to ask for, for how many keys. Its memory is
+ * what ctrie_new took, until ctrie_free: some 346 bytes a slot and 230 kB, however long it lives. Of these 66 bytes a
+ * slot are written at once, and 264 for as many slots as there were branches or lists at once. Beside it
+ * ctrie_entries, ctrie_scan, ctrie_diff and ctrie_put_all take memory for a list, and give it back at their end.
  *
  * Each call answers a code: CTRIE_DONE, CTRIE_NO or CTRIE_YES where it was done, else why it was refused. A call that
  * is refused changes no map. What a call returns beside its code it writes where the last pointer says, and only

@@ -22,13 +22,14 @@ void *__wrap_realloc(void *old, size_t size) {
     return refusing ? NULL : __real_realloc(old, size);
 }
 
-/* How many kB of the process are resident, counted page by page: /proc/self/statm is a guess. */
+/* How many kB of the process are resident, counted page by page: /proc/self/statm is a guess. What a file is behind, as the
+   library's code, isn't counted: the system takes such pages away and brings them back. */
 static long resident(void) {
     char line[256];
     long size = 0;
     FILE *pages = fopen("/proc/self/smaps_rollup", "r");
     while (pages && size == 0 && fgets(line, sizeof line, pages))
-        if (sscanf(line, "Rss: %ld", &size) != 1) size = 0;
+        if (sscanf(line, "Anonymous: %ld", &size) != 1) size = 0;
     if (pages) fclose(pages);
     if (size == 0) {
         printf("/proc/self/smaps_rollup tells no size\n");

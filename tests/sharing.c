@@ -3,7 +3,7 @@
    up: the first and the last hundred thousand calls are noted with the numbers that the map gives them, and in the order of
    these each answer is that of a plain map; of its own keys a thread knows each answer, in the map and in its copies; and of
    all calls the values that came and didn't go are those that are there in the end. Nothing is allocated by these calls, and
-   at most a hundredth more is resident behind all of them than behind the first hundred thousand. `c` runs it. */
+   at most a hundredth more is resident after all of them than after the first hundred thousand. `c` runs it. */
 #include "memory.h"
 #include <ctrie_shared.h>
 #include <pthread.h>

@@ -1,5 +1,5 @@
 /* The memory of a map is what ctrie_new took. `c` runs it: a million changes, freezes and closes on a thousand keys
-   allocate nothing, and at most a hundredth more is resident behind them than behind the first ten thousand. Where no
+   allocate nothing, and at most a hundredth more is resident after them than after the first ten thousand. Where no
    memory is given, a call that makes a list says so, and changes nothing. */
 #include "memory.h"
 #include <ctrie.h>

@@ -3,7 +3,7 @@
  * examples/histories/find_order.py read. It knows nothing of the map: calls and replies are given as docs/SCRIPTS.md
  * spells them.
  *
- *     struct recording *mine = recording_new(5000);     a thread's own, for so many calls
+ *     struct recording *mine = recording_new(5000);     a thread's own, for this many calls
  *     recording_begin(mine, "put 0 %d %d", key, value); just before the call
  *     ... the call ...
  *     recording_end(mine, "some %d", before);           just after it
@@ -110,7 +110,7 @@ static inline void recording_write_events(FILE *file, struct recorded_event *eve
     }
 }
 
-/* Writes the recordings of so many threads, at most 255, of a map whose keys have this hash; with the order of all calls
+/* Writes the recordings of this many threads, at most 255, of a map whose keys have this hash; with the order of all calls
    where each has a number, else without one. */
 static inline void recording_write(FILE *file, const char *hash, struct recording **threads, size_t count) {
     size_t calls = 0, many = 0, numbered = 0, i, k;

@@ -34,7 +34,7 @@ fn branch(entries: &[Ref]) -> Node
     renewed(0xFFFF, entries)
 }
 
-/// An arena of so many slots with singles in all but a few, and the references to them.
+/// An arena of this many slots with singles in all but a few, and the references to them.
 pub(crate) fn new_arena(alloc: Global, slots: u32) -> Result<(Arena, Vec<Ref>), Refusal>
     ensures { IfOk result (λ made. AreLive made.0.heap made.1.items) }
 {
@@ -60,7 +60,7 @@ fn add_single(arena: &mut Arena, refs: &mut Vec<Ref>, key: u32) -> Result<(), Re
     Ok(())
 }
 
-/// Makes a branch of 16 entries and frees it, so many times, with other entries each time. Whether all
+/// Makes a branch of 16 entries and frees it, this many times, with other entries each time. Whether all
 /// was done.
 pub(crate) fn make_and_free(arena: &mut Arena, refs: &[Ref], count: u32) -> bool
     requires { AreLive arena.old.heap refs.now }

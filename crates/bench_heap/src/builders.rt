@@ -32,7 +32,7 @@ fn changed(n: u32, entries: &[Ref], bitmap: u32) -> u64 {
     }
 }
 
-/// So many branches; the sum of what stands in them.
+/// This many branches; the sum of what stands in them.
 pub(crate) fn branches(count: u32) -> u64 {
     let entries = [Ref::new(1, 2); ENTRIES];
     let mut sum = 0u64;

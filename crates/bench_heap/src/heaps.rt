@@ -10,7 +10,7 @@ use epochs::Heap;
 use slot_arena::{Node, NodeRef, Ref};
 use std::alloc::Global;
 
-/// A heap of so many slots with singles in all but a few, all of them in limbo, and the references to them.
+/// A heap of this many slots with singles in all but a few, all of them in limbo, and the references to them.
 pub(crate) fn new_heap(alloc: Global, slots: u32) -> Result<(Heap, Vec<Ref>), Refusal>
     ensures live { IfOk result (λ made. AreLive made.0.heap made.1.items) }
     ensures free { IfOk result (λ made. made.0.outside ≡ []) }
@@ -41,7 +41,7 @@ fn add_single(heap: &mut Heap, refs: &mut Vec<Ref>, key: u32) -> Result<(), Refu
     Ok(())
 }
 
-/// Looks at slots one after the other, so many times; the sum of their keys.
+/// Looks at slots one after the other, this many times; the sum of their keys.
 pub(crate) fn look(heap: &Heap, refs: &[Ref], count: u32) -> u64
     requires { AreLive heap.now.heap refs.now }
 {
@@ -104,7 +104,7 @@ pub(crate) enum MainChange {
     Publish,
 }
 
-/// Changes the main word of an indirection, so many times, to one reference after the other. Whether all
+/// Changes the main word of an indirection, this many times, to one reference after the other. Whether all
 /// was done.
 pub(crate) fn change_main(heap: &mut Heap, refs: &[Ref], count: u32, by: MainChange) -> bool
     requires { AreLive heap.old.heap refs.now }
@@ -166,7 +166,7 @@ fn change_once(
     }
 }
 
-/// Settles so many times with nothing to settle.
+/// Settles this many times with nothing to settle.
 pub(crate) fn settle(heap: &mut Heap, count: u32)
     ensures heap { heap.new.heap ≡ heap.old.heap }
     ensures outside { heap.new.outside ≡ heap.old.outside }
@@ -176,7 +176,7 @@ pub(crate) fn settle(heap: &mut Heap, count: u32)
     }
 }
 
-/// So many times: holds four slots and settles, so that they leave limbo, and releases them and settles,
+/// This many times: holds four slots and settles, so that they leave limbo, and releases them and settles,
 /// so that they enter it again. Whether all was done.
 pub(crate) fn hold_and_release(heap: &mut Heap, refs: &[Ref], count: u32) -> bool
     requires live { AreLive heap.old.heap refs.now }

@@ -1,8 +1,8 @@
 //! The speed of the lower crates of the fast body.
 //!
 //! `bench_heap COUNT EVERY SLOTS` writes how many nanoseconds each of these takes: a changed branch of 16
-//! entries; a place, where every so many places a generation is closed, and a place in the order; in an
-//! arena and a heap of so many slots, all but a few of them in use, a branch of 16 entries made and
+//! entries; a place, where a generation is closed after each EVERY of them, and a place in the order; in an
+//! arena and a heap of SLOTS slots, all but a few of them in use, a branch of 16 entries made and
 //! freed, a look, a swap of a main word, a main node published, and a settling. Without words few are done, and just written
 //! that they were.
 #![tactic(auto)]
@@ -32,7 +32,7 @@ use std::time::{Clock, Instant};
 /// How many slots are few: those that a cache holds.
 const FEW: usize = 512;
 
-/// What is done: so many of each kind, with a closing every so many places, on so many slots.
+/// What is done: `count` of each kind, with a closing after each `every` places, on this many slots.
 #[derive(Clone, Copy)]
 struct Load {
     count: u32,
@@ -40,12 +40,12 @@ struct Load {
     slots: u32,
 }
 
-/// Nanoseconds since then for each of so many.
+/// Nanoseconds since then for each of this many.
 fn each<C: Clock>(rt: &C, start: Instant, count: u32) -> u128 {
     start.elapsed(rt).map_or(0, |time| time.as_nanos()) / u128::from(count.max(1))
 }
 
-/// Writes how long each of so many took, where the clock told the start.
+/// Writes how long each of this many took, where the clock told the start.
 fn tell<R: Clock + Print>(rt: &R, what: &str, start: Option<Instant>, count: u32) {
     if let Some(start) = start {
         let nanos = each(rt, start, count);

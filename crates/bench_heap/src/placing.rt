@@ -7,7 +7,7 @@ use ctrie_base::Refusal;
 use places::{Place, Places};
 use std::alloc::Global;
 
-/// So many places, with a closing every so many of them; every fourth one is late.
+/// `count` places, with a closing after each `every` of them; every fourth one is late.
 pub(crate) fn places(alloc: Global, count: u32, every: u32) -> Result<Places, Refusal> {
     let mut places = Places::new(alloc);
     let mut closed = 0u64;

@@ -5,7 +5,7 @@ use ctrie_base::Refusal;
 use history::{Call, Reply};
 use lock_runner::{Machine, Step};
 
-/// After so many operations a copy is frozen, read and closed, where the load has copies.
+/// After this many operations a copy is frozen, read and closed, where the load has copies.
 const EVERY: u64 = 100;
 
 /// Whose turn it is, and what was drawn and made so far.
@@ -32,7 +32,7 @@ impl Caller {
         }
     }
 
-    /// Performs so many operations. How many of them found no free slot.
+    /// Performs this many operations. How many of them found no free slot.
     pub(crate) fn perform(&mut self, machine: &mut Machine, count: u64) -> Result<u64, Refusal> {
         let mut refused = 0u64;
         for _ in 0..count {

@@ -38,7 +38,7 @@ impl Calls {
         }
     }
 
-    /// The call that follows from this number, after so many others.
+    /// The call that follows from this number, after this many others.
     pub(crate) fn call(self, drawn: u64, made: u64, keys: u64) -> Call {
         let keys = keys.max(1);
         let key = drawn % keys;

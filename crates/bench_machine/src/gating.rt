@@ -1,4 +1,4 @@
-//! The same calls on a machine without the gate, and through it on so many threads.
+//! The same calls on a machine without the gate, and through it on this many threads.
 
 ghost use Rattle.lock_runner.specs.Seats.{IsSeatOf};
 
@@ -19,7 +19,7 @@ const KEYS: u64 = 16;
 /// How many steps of the sweep follow each call.
 const SWEEPS: u32 = 6;
 
-/// What is done: so many calls in all, by so many threads.
+/// What is done: this many calls in all, by this many threads.
 #[derive(Clone, Copy)]
 pub struct Load {
     threads: u8,
@@ -51,7 +51,7 @@ fn plain(alloc: Global, load: Load) -> Result<u64, Refusal> {
     Ok(machine.steps_taken())
 }
 
-/// The steps of the sweep behind a call.
+/// The steps of the sweep after a call.
 fn sweep_alone(machine: &mut Machine) -> Result<(), Refusal> {
     for _ in 0..SWEEPS {
         machine.apply(Step::Sweep)?;
@@ -70,7 +70,7 @@ fn work<R: Wait>(rt: &R, runner: &Runner, seat: &mut Seat, calls: u64)
     }
 }
 
-/// The steps of the sweep behind a call, through the gate.
+/// The steps of the sweep after a call, through the gate.
 fn sweep_through<R: Wait>(rt: &R, runner: &Runner, seat: &mut Seat)
     requires { IsSeatOf runner.now seat.old }
     ensures { IsSeatOf runner.now seat.new }

@@ -13,7 +13,7 @@ use std::sync::Wait;
 use std::thread;
 use std::thread::Threads;
 
-/// What is done: so many calls by each of so many threads, over so many keys; one thread more sweeps.
+/// What is done: this many calls by each of this many threads, over this many keys; one thread more sweeps.
 #[derive(Clone, Copy)]
 pub struct Load {
     threads: u8,

@@ -1,15 +1,15 @@
 //! The speed of the machine, with its whole record and through the gate, and long runs of threads that are judged.
 //!
 //! `bench_machine record CALLS BEFORE COUNT KEYS SLOTS ACTORS [STEPS]` performs COUNT operations without a gate after BEFORE
-//! others, over so many keys, and writes how many steps they took, how many nanoseconds, and how many found no free slot. CALLS is
+//! others, over this many keys, and writes how many steps they took, how many nanoseconds, and how many found no free slot. CALLS is
 //! `mix`, `get`, `put`, `insert` or `freeze`. Before gets alone each key is put. `bench_machine record order BEFORE ..` performs
 //! those of `freeze` and writes how many nanoseconds their order takes. The memory that the record of STEPS steps takes is
 //! reserved before.
 //!
-//! `bench_machine gate THREADS CALLS SLOTS` makes the same calls without the gate, and through it on so many threads, and writes
+//! `bench_machine gate THREADS CALLS SLOTS` makes the same calls without the gate, and through it on this many threads, and writes
 //! how many steps each took, and how many nanoseconds a step.
 //!
-//! `bench_machine judge THREADS CALLS SLOTS KEYS` judges what so many threads did, beside one more that sweeps. The exit status is
+//! `bench_machine judge THREADS CALLS SLOTS KEYS` judges what this many threads did, beside one more that sweeps. The exit status is
 //! 3 where the record isn't right.
 //!
 //! Without words a little of each is done, and nothing written that hangs on time or schedule.

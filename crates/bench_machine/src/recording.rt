@@ -16,7 +16,7 @@ enum Timed {
     Order,
 }
 
-/// What is done: so many operations of these calls, and others before.
+/// What is done: this many operations of these calls, and others before.
 #[derive(Clone, Copy)]
 pub struct Load {
     timed: Timed,

@@ -13,7 +13,7 @@ use std::time::{Clock, Instant};
 /// How many keys few operations are about.
 const KEYS: u64 = 40;
 
-/// What is done: so many operations of a load, behind so many keys that are put.
+/// What is done: this many operations of a load, after this many keys that are put.
 #[derive(Clone, Copy)]
 pub(crate) struct Task {
     load: Load,
@@ -43,7 +43,7 @@ impl Task {
     }
 }
 
-/// A map with so many keys.
+/// A map with this many keys.
 fn filled_map(alloc: Global, task: Task) -> Result<Map, MapError> {
     let mut map = Map::new(alloc, task.slots, HashKind::Low)?;
     Caller::new(Load::Insert, task.filled).perform(&mut map, task.filled);
@@ -91,7 +91,7 @@ pub(crate) fn small<R: Print + AllocGlobal>(rt: &R) -> Result<(), MapError> {
     Ok(())
 }
 
-/// Few operations of this load, behind so many keys that are put.
+/// Few operations of this load, after this many keys that are put.
 fn few(alloc: Global, load: Load, filled: u64) -> Result<Done, MapError> {
     let task = Task {
         load,

@@ -26,7 +26,7 @@ impl Drawn {
         Drawn(drawn ^ drawn << 17)
     }
 
-    /// The call's key, of so many.
+    /// The call's key, of this many.
     #[inline(always)]
     pub(crate) fn key(self, keys: u64) -> u64 {
         self.0 % keys.max(1)

@@ -1,14 +1,14 @@
-//! The speed of a map for programs, alone and shared by threads: whole calls, with what is swept behind each.
+//! The speed of a map for programs, alone and shared by threads: whole calls, with what is swept after each.
 //!
-//! `bench_map alone CALLS FILLED COUNT KEYS SLOTS` has one thread make COUNT operations over so many keys, on a map in which
+//! `bench_map alone CALLS FILLED COUNT KEYS SLOTS` has one thread make COUNT operations over this many keys, on a map in which
 //! FILLED keys were put, and writes how many steps they took, how many nanoseconds, and how many were refused. CALLS is `mix`,
 //! `get`, `put`, `insert`, `freeze`, `copy`, `diff`, `count`, `part` or `scan`.
 //!
 //! `bench_map shared THREADS FILLED COUNT KEYS SLOTS SHARDS EVERY` has each thread make its share of COUNT calls of the mix (gets,
-//! puts and removals, 6 : 6 : 4) over so many keys, the same for all, on a map in so many shards of SLOTS slots each, in which FILLED
-//! keys were put; behind every EVERY calls also a freeze, 100 gets of that, and a close (0: never). The first thread makes the calls of
+//! puts and removals, 6 : 6 : 4) over this many keys, the same for all, on a map in this many shards of SLOTS slots each, in which FILLED
+//! keys were put; after every EVERY calls also a freeze, 100 gets of that, and a close (0: never). The first thread makes the calls of
 //! `mix` alone. It writes how many nanoseconds they took, from the first call of the thread that begins first to the last one of that
-//! which ends last: the map's making and the puts before aren't in it, nor the threads' start but that one begins behind the other.
+//! which ends last: the map's making and the puts before aren't in it, nor the threads' start but that one begins after the other.
 //! Then how many calls were refused, and how many of two sums are wrong: the keys, and the values, that came and didn't go by what
 //! the threads were told are those that are found in the end, outside that time.
 //!

@@ -19,7 +19,7 @@ use std::thread;
 use std::thread::Threads;
 use std::time::{Clock, Instant};
 
-/// What is done: so many calls in all, behind so many keys that are put.
+/// What is done: this many calls in all, after this many keys that are put.
 #[derive(Clone, Copy)]
 pub(crate) struct Task {
     threads: u8,
@@ -29,7 +29,7 @@ pub(crate) struct Task {
     /// How many slots each shard has.
     slots: u32,
     shards: u8,
-    /// After so many calls of a thread a copy is frozen, read and closed; 0 for never.
+    /// After this many calls of a thread a copy is frozen, read and closed; 0 for never.
     every: u64,
 }
 

@@ -79,7 +79,7 @@ impl Model for Chronicle {
 }
 
 impl Chronicle {
-    /// Nothing was told. There will be so many slots and actors. `Memory` is the only refusal.
+    /// Nothing was told. There will be this many slots and actors. `Memory` is the only refusal.
     pub fn new(alloc: Global, slots: u32, actors: u8) -> Result<Chronicle, Refusal>
         ensures past { IfOk result (λ made. (limits : Bounds) → limits.actors ≡ actors → made.past ≡ first_record limits) }
         ensures slots { IfOk result (λ made. made.slots ≡ slots) }
@@ -96,7 +96,7 @@ impl Chronicle {
         })
     }
 
-    /// Makes room for what the next step tells, of a machine that has drawn so many generations. `Memory` is the only
+    /// Makes room for what the next step tells, of a machine that has drawn this many generations. `Memory` is the only
     /// refusal; the record is the same whatever comes of it.
     #[inline(always)]
     pub fn make_room(&mut self, generations: u64) -> Result<(), Refusal>
@@ -134,7 +134,7 @@ impl Chronicle {
         Ok(())
     }
 
-    /// Makes room for what so many steps tell, in memory that is written here: the first touch of fresh memory costs more
+    /// Makes room for what this many steps tell, in memory that is written here: the first touch of fresh memory costs more
     /// than a step. `Memory` is the only refusal; the record is the same whatever comes of it.
     pub fn reserve(&mut self, steps: usize) -> Result<(), Refusal>
         ensures past { self.new.past ≡ self.old.past }

@@ -45,7 +45,7 @@ impl Closings {
         }
     }
 
-    /// Makes room for the closings of so many generations. After an error nothing that is seen but room has changed.
+    /// Makes room for the closings of this many generations. After an error nothing that is seen but room has changed.
     pub fn room_for(&mut self, generations: u64) -> Result<(), AllocError>
         ensures closings { self.new.closings ≡ self.old.closings }
         ensures generations { OnOk result (generations ≤ self.new.generations) }
@@ -54,7 +54,7 @@ impl Closings {
         lengthen(&mut self.steps, generations as usize)
     }
 
-    /// Makes room for so many generations more, in memory that is written here. After an error nothing but room has changed.
+    /// Makes room for this many generations more, in memory that is written here. After an error nothing but room has changed.
     pub fn reserve(&mut self, count: usize) -> Result<(), AllocError>
         ensures closings { self.new.closings ≡ self.old.closings }
         ensures generations { self.new.generations ≡ self.old.generations }
@@ -90,7 +90,7 @@ impl Closings {
     }
 }
 
-/// At least so many steps, of which the new ones are none.
+/// At least this many steps, of which the new ones are none.
 fn lengthen(steps: &mut Vec<Option<u64>>, count: usize) -> Result<(), AllocError>
     ensures same { (other : ℕ) → slice_index_or steps.new.items other None ≡ slice_index_or steps.old.items other None }
     ensures length { OnOk result (count ≤ length steps.new.items) }

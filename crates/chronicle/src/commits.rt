@@ -31,7 +31,7 @@ impl Model for Commits {
 }
 
 impl Commits {
-    /// No main node was committed; there is room for those of so many slots.
+    /// No main node was committed; there is room for those of this many slots.
     #[tactic(auto, using(crate::proofs::CommitSteps::none_latest))]
     pub fn new(alloc: Global, slots: u32) -> Result<Commits, AllocError>
         ensures commits { IfOk result (λ made. made.commits ≡ []) }

@@ -68,7 +68,7 @@ impl Ordered {
         self.places.room()
     }
 
-    /// Makes room for so many ids, closings and places, in memory that is written here. After an error nothing but room
+    /// Makes room for this many ids, closings and places, in memory that is written here. After an error nothing but room
     /// has changed.
     pub fn reserve(&mut self, count: usize) -> Result<(), Refusal>
         ensures only_memory { IsOkUnless result Memory }

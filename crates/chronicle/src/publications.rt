@@ -31,7 +31,7 @@ impl Model for Publications {
 }
 
 impl Publications {
-    /// Nothing was published; there is room for main nodes of so many slots.
+    /// Nothing was published; there is room for main nodes of this many slots.
     #[tactic(auto, using(crate::proofs::Publishing::none_last))]
     pub fn new(alloc: Global, slots: u32) -> Result<Publications, AllocError>
         ensures published { IfOk result (λ made. made.published ≡ []) }

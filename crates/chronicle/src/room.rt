@@ -5,7 +5,7 @@ ghost use Rattle.std.specs.Prelude.{◌≡◌, ◌+◌, ◌≤◌, OnOk, vec_len
 use history::{Event, Reply};
 use std::alloc::AllocError;
 
-/// Makes room for so many events more, each of which is written once. The events stay.
+/// Makes room for this many events more, each of which is written once. The events stay.
 pub fn touch_room(events: &mut Vec<Event>, count: usize) -> Result<(), AllocError>
     ensures same { events.new.items ≡ events.old.items }
     ensures room { OnOk result (vec_len events.new + count ≤ vec_capacity events.new) }

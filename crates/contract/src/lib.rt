@@ -1,7 +1,7 @@
 //! Repairs of the trie, which leave its content alone: the renewing, the cleaning and the contraction of the concurrent
 //! trie with snapshots (Ctrie: A. Prokopec, N. G. Bronson, P. Bagwell, M. Odersky).
 //!
-//! Behind a snapshot the new root's generation differs from that of what stands below it. A writable operation that comes
+//! After a snapshot the new root's generation differs from that of what stands below it. A writable operation that comes
 //! to an older indirection renews the branch: each such entry is read by READ, so that what is pending below it is decided
 //! while its own generation still counts, and gets an indirection of the root's generation over what that gave; one GCAS
 //! puts the new branch in the old one's place. Where a removal has left a tomb, no writable operation goes on before it is

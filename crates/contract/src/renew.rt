@@ -175,7 +175,7 @@ impl Renew {
         Next::More(Kind::Look)
     }
 
-    /// One entry more, of so many, is done.
+    /// One entry more, of this many, is done.
     fn put(&mut self, entries: usize, entry: Ref)
         requires { length self.old.done.items < 32 }
         ensures { (path : List ARef) (s : ASwap) → renew_line path s None self.new ≡ next_of entries path self.old.main (self.old.done.items ++ entry ∷ []) }
@@ -284,7 +284,7 @@ impl Renew {
     }
 }
 
-/// Where a renewing stands that has done so many of so many entries.
+/// Where a renewing stands that has done this many of this many entries.
 fn next(done: usize, entries: usize) -> RenewAt
     ensures { (path : List ARef) (s : ASwap) (main : ARef) (kept : List ARef) → length kept ≡ done →
         renew_line path s None (record { main = main; done = record { items = kept }; at = result }) ≡ next_of entries path main kept }

@@ -7,7 +7,7 @@ ghost use Rattle.std.proofs.lemmas.Nat.{xor_of_32};
 
 use std::fmt;
 
-/// A hash of keys with so many bits.
+/// A hash of keys with this many bits.
 pub trait KeyHash<const BITS: u32> {
     /// The hash as a function of the key.
     ghost hash_of: { ℕ → ℕ };

@@ -43,7 +43,7 @@ pub enum Refusal {
     BadHeader = 22,
     /// There are more lines than the limit. Nothing is run or written.
     TooLong = 23,
-    /// An order line is missing, stands twice, or has something else than one `slots` line behind it.
+    /// An order line is missing, stands twice, or has something else than one `slots` line after it.
     /// Nothing is written.
     BadOrder = 24,
 }

@@ -11,7 +11,7 @@ use crate::listing::Pair;
 use shared_map::Handle;
 use std::alloc::Global;
 
-/// Sets the key's value, and tells the value before, if it had one.
+/// Sets the key's value, and answers the value before, if it had one.
 #[unsafe(no_mangle)]
 pub extern "C" fn ctrie_put(
     alloc: Global,
@@ -34,7 +34,7 @@ pub extern "C" fn ctrie_put(
     }
 }
 
-/// Sets the value of a key that has none, and tells the value that it has already, if it has one.
+/// Sets the value of a key that has none, and answers the value that it has already, if it has one.
 #[unsafe(no_mangle)]
 pub extern "C" fn ctrie_put_if_absent(
     alloc: Global,
@@ -57,7 +57,7 @@ pub extern "C" fn ctrie_put_if_absent(
     }
 }
 
-/// Sets the value of a key that has one, and tells the value before, if it had one.
+/// Sets the value of a key that has one, and answers the value before, if it had one.
 #[unsafe(no_mangle)]
 pub extern "C" fn ctrie_replace(
     alloc: Global,
@@ -80,7 +80,7 @@ pub extern "C" fn ctrie_replace(
     }
 }
 
-/// Sets the value of a key that has the value `before`, and tells whether it had it.
+/// Sets the value of a key that has the value `before`, and answers whether it had it.
 #[unsafe(no_mangle)]
 pub extern "C" fn ctrie_replace_if(
     alloc: Global,
@@ -102,7 +102,7 @@ pub extern "C" fn ctrie_replace_if(
     }
 }
 
-/// Removes the key, and tells the value before, if it had one.
+/// Removes the key, and answers the value before, if it had one.
 #[unsafe(no_mangle)]
 pub extern "C" fn ctrie_remove(
     alloc: Global,
@@ -124,7 +124,7 @@ pub extern "C" fn ctrie_remove(
     }
 }
 
-/// Removes a key that has this value, and tells whether it had it.
+/// Removes a key that has this value, and answers whether it had it.
 #[unsafe(no_mangle)]
 pub extern "C" fn ctrie_remove_if(
     alloc: Global,
@@ -145,7 +145,7 @@ pub extern "C" fn ctrie_remove_if(
     }
 }
 
-/// Takes a key out, whichever is found first, and tells it with the value that it had, if there is one.
+/// Takes a key out, whichever is found first, and answers it with the value that it had, if there is one.
 #[unsafe(no_mangle)]
 pub extern "C" fn ctrie_pop(alloc: Global, held: &mut HeldMap, handle: u16, pair: &mut Pair) -> u32
     ensures does { Does held.old.state held.new.state result (Pops handle (pair_told result pair.new)) }

@@ -41,7 +41,7 @@ pub(crate) fn refusal(error: MapError) -> u32
     }
 }
 
-/// Tells of a value, which is written where there is one.
+/// The code of a value, which is written where there is one.
 pub(crate) fn tell_value(told: Result<Option<u64>, MapError>, value: &mut u64) -> u32
     ensures told { value_told result value.new ≡ told }
     ensures bound { result < code_limit }
@@ -57,7 +57,7 @@ pub(crate) fn tell_value(told: Result<Option<u64>, MapError>, value: &mut u64) -
     }
 }
 
-/// Tells of a key with its value, which are written where there is one.
+/// The code of a key with its value, which are written where there is one.
 pub(crate) fn tell_pair(told: Result<Option<(u64, u64)>, MapError>, pair: &mut Pair) -> u32
     ensures told { pair_told result pair.new ≡ told }
     ensures bound { result < code_limit }
@@ -73,7 +73,7 @@ pub(crate) fn tell_pair(told: Result<Option<(u64, u64)>, MapError>, pair: &mut P
     }
 }
 
-/// Tells whether something is so.
+/// The code of what is so or isn't.
 pub(crate) fn tell_truth(told: Result<bool, MapError>) -> u32
     ensures told { truth_told result ≡ told }
     ensures bound { result < code_limit }
@@ -85,7 +85,7 @@ pub(crate) fn tell_truth(told: Result<bool, MapError>) -> u32
     }
 }
 
-/// Tells that it is done.
+/// The code of what is done.
 pub(crate) fn tell_done(told: Result<(), MapError>) -> u32
     ensures told { done_told result ≡ told }
     ensures bound { result < code_limit }
@@ -97,7 +97,7 @@ pub(crate) fn tell_done(told: Result<(), MapError>) -> u32
     }
 }
 
-/// Tells a count, which is written unless it was refused.
+/// The code of a count, which is written unless it was refused.
 pub(crate) fn tell_count(told: Result<u64, MapError>, count: &mut u64) -> u32
     ensures told { number_told result count.new ≡ told }
     ensures bound { result < code_limit }
@@ -113,7 +113,7 @@ pub(crate) fn tell_count(told: Result<u64, MapError>, count: &mut u64) -> u32
     }
 }
 
-/// Tells a handle, which is written unless it was refused.
+/// The code of a handle, which is written unless it was refused.
 pub(crate) fn tell_handle(told: Result<Handle, MapError>, handle: &mut u16) -> u32
     ensures told { number_told result handle.new ≡ told }
     ensures bound { result < code_limit }

@@ -41,7 +41,7 @@ impl Difference {
     }
 }
 
-/// Tells how many keys have different values in two maps, and writes the first of these in ascending order, as many as there is
+/// Answers how many keys have different values in two maps, and writes the first of these in ascending order, as many as there is
 /// room for.
 #[unsafe(no_mangle)]
 pub extern "C" fn ctrie_diff(

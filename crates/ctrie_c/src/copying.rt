@@ -9,7 +9,7 @@ use crate::held::{HeldMap, give, take};
 use shared_map::Handle;
 use std::alloc::Global;
 
-/// Opens a writable copy, and tells its handle.
+/// Opens a writable copy, and answers its handle.
 #[unsafe(no_mangle)]
 pub extern "C" fn ctrie_snapshot(
     alloc: Global,
@@ -31,7 +31,7 @@ pub extern "C" fn ctrie_snapshot(
     }
 }
 
-/// Opens a read-only copy, and tells its handle.
+/// Opens a read-only copy, and answers its handle.
 #[unsafe(no_mangle)]
 pub extern "C" fn ctrie_freeze(
     alloc: Global,

@@ -12,7 +12,7 @@ use crate::held::{HeldMap, give, take};
 use shared_map::Map;
 use std::alloc::Global;
 
-/// Tells how many handles are open, and writes the first of these in ascending order, as many as there is room for.
+/// Answers how many handles are open, and writes the first of these in ascending order, as many as there is room for.
 #[unsafe(no_mangle)]
 pub extern "C" fn ctrie_open_handles(
     alloc: Global,

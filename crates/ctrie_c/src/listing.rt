@@ -46,7 +46,7 @@ impl Cursor {
     }
 }
 
-/// Writes the next pairs of a map by rising key, and tells how many; none are left where there are fewer than there is room for.
+/// Writes the next pairs of a map by rising key, and answers how many; none are left where there are fewer than there is room for.
 #[unsafe(no_mangle)]
 pub extern "C" fn ctrie_entries(
     alloc: Global,

@@ -8,7 +8,7 @@ use crate::held::{HeldMap, give, take};
 use shared_map::{HashKind, Map, MapError, slots_for};
 use std::alloc::Global;
 
-/// How many slots to ask for, for so many keys.
+/// How many slots to ask for, for this many keys.
 #[unsafe(no_mangle)]
 pub extern "C" fn ctrie_slots_for(keys: u32) -> u32
     ensures { result ≡ min (3 * keys + 40) (2 ^ 32 - 1) }
@@ -16,7 +16,7 @@ pub extern "C" fn ctrie_slots_for(keys: u32) -> u32
     slots_for(keys)
 }
 
-/// Makes a map with so many slots, whose keys are hashed so, where there is none.
+/// Makes a map with this many slots, whose keys are hashed so, where there is none.
 #[unsafe(no_mangle)]
 pub extern "C" fn ctrie_new(alloc: Global, held: &mut HeldMap, slots: u32, hash: u32) -> u32
     ensures { Makes (kind_of hash) slots result held.old.state held.new.state }

@@ -11,7 +11,7 @@ use crate::listing::Pair;
 use shared_map::Handle;
 use std::alloc::Global;
 
-/// Tells the key's value, if it has one.
+/// Answers the key's value, if it has one.
 #[unsafe(no_mangle)]
 pub extern "C" fn ctrie_get(
     alloc: Global,
@@ -33,7 +33,7 @@ pub extern "C" fn ctrie_get(
     }
 }
 
-/// Tells whether the key has a value.
+/// Answers whether the key has a value.
 #[unsafe(no_mangle)]
 pub extern "C" fn ctrie_contains(alloc: Global, held: &mut HeldMap, handle: u16, key: u64) -> u32
     ensures does { Does held.old.state held.new.state result (Contains handle key (truth_told result)) }
@@ -48,7 +48,7 @@ pub extern "C" fn ctrie_contains(alloc: Global, held: &mut HeldMap, handle: u16,
     }
 }
 
-/// Tells whether the handle is open.
+/// Answers whether the handle is open.
 #[unsafe(no_mangle)]
 pub extern "C" fn ctrie_is_open(alloc: Global, held: &mut HeldMap, handle: u16) -> u32
     ensures does { Does held.old.state held.new.state result (TellsOpen handle (truth_told result)) }
@@ -63,7 +63,7 @@ pub extern "C" fn ctrie_is_open(alloc: Global, held: &mut HeldMap, handle: u16) 
     }
 }
 
-/// Tells whether the handle's map may be changed by it.
+/// Answers whether the handle's map may be changed by it.
 #[unsafe(no_mangle)]
 pub extern "C" fn ctrie_is_writable(alloc: Global, held: &mut HeldMap, handle: u16) -> u32
     ensures does { Does held.old.state held.new.state result (TellsWritable handle (truth_told result)) }
@@ -78,7 +78,7 @@ pub extern "C" fn ctrie_is_writable(alloc: Global, held: &mut HeldMap, handle: u
     }
 }
 
-/// Tells how many keys have a value.
+/// Answers how many keys have a value.
 #[unsafe(no_mangle)]
 pub extern "C" fn ctrie_count(
     alloc: Global,
@@ -100,7 +100,7 @@ pub extern "C" fn ctrie_count(
     }
 }
 
-/// Tells a key with its value, whichever is found first, if there is one.
+/// Answers a key with its value, whichever is found first, if there is one.
 #[unsafe(no_mangle)]
 pub extern "C" fn ctrie_first(
     alloc: Global,
@@ -121,7 +121,7 @@ pub extern "C" fn ctrie_first(
     }
 }
 
-/// Tells how many handles are open.
+/// Answers how many handles are open.
 #[unsafe(no_mangle)]
 pub extern "C" fn ctrie_handles(alloc: Global, held: &mut HeldMap, handles: &mut u32) -> u32
     ensures does { Does held.old.state held.new.state result (CountsHandles (number_told result handles.new)) }
@@ -138,7 +138,7 @@ pub extern "C" fn ctrie_handles(alloc: Global, held: &mut HeldMap, handles: &mut
     }
 }
 
-/// Tells how many slots were asked for.
+/// Answers how many slots were asked for.
 #[unsafe(no_mangle)]
 pub extern "C" fn ctrie_slots(alloc: Global, held: &mut HeldMap, slots: &mut u32) -> u32
     ensures does { Does held.old.state held.new.state result (CountsSlots (number_told result slots.new)) }
@@ -155,7 +155,7 @@ pub extern "C" fn ctrie_slots(alloc: Global, held: &mut HeldMap, slots: &mut u32
     }
 }
 
-/// Tells how many of these no open handle reaches.
+/// Answers how many of these no open handle reaches.
 #[unsafe(no_mangle)]
 pub extern "C" fn ctrie_free_slots(alloc: Global, held: &mut HeldMap, free: &mut u32) -> u32
     ensures does { Does held.old.state held.new.state result (CountsFree (number_told result free.new)) }

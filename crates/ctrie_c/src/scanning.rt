@@ -10,7 +10,7 @@ use crate::listing::{Cursor, Pair, write};
 use shared_map::Handle;
 use std::alloc::Global;
 
-/// Writes the next pairs of a map in its own order, and tells how many; none are left where there are fewer than there is room for.
+/// Writes the next pairs of a map in its own order, and answers how many; none are left where there are fewer than there is room for.
 #[unsafe(no_mangle)]
 pub extern "C" fn ctrie_scan(
     alloc: Global,

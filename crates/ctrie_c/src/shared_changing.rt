@@ -15,7 +15,7 @@ use shared_map::Ask;
 use shared_map::telling::{done, found, opened, restored, truth};
 use std::alloc::Global;
 
-/// Sets the key's value, and tells the value before, if it had one.
+/// Sets the key's value, and answers the value before, if it had one.
 #[unsafe(no_mangle)]
 pub extern "C" fn ctrie_shared_try_put(
     alloc: Global,
@@ -34,7 +34,7 @@ pub extern "C" fn ctrie_shared_try_put(
     }
 }
 
-/// Sets the value of a key that has none, and tells the value that it has already, if it has one.
+/// Sets the value of a key that has none, and answers the value that it has already, if it has one.
 #[unsafe(no_mangle)]
 pub extern "C" fn ctrie_shared_try_put_if_absent(
     alloc: Global,
@@ -57,7 +57,7 @@ pub extern "C" fn ctrie_shared_try_put_if_absent(
     }
 }
 
-/// Sets the value of a key that has one, and tells the value before, if it had one.
+/// Sets the value of a key that has one, and answers the value before, if it had one.
 #[unsafe(no_mangle)]
 pub extern "C" fn ctrie_shared_try_replace(
     alloc: Global,
@@ -76,7 +76,7 @@ pub extern "C" fn ctrie_shared_try_replace(
     }
 }
 
-/// Sets the value of a key that has the value `old`, and tells whether it had it.
+/// Sets the value of a key that has the value `old`, and answers whether it had it.
 #[unsafe(no_mangle)]
 pub extern "C" fn ctrie_shared_try_replace_if(
     alloc: Global,
@@ -103,7 +103,7 @@ pub extern "C" fn ctrie_shared_try_replace_if(
     }
 }
 
-/// Removes the key, and tells the value before, if it had one.
+/// Removes the key, and answers the value before, if it had one.
 #[unsafe(no_mangle)]
 pub extern "C" fn ctrie_shared_try_remove(
     alloc: Global,
@@ -121,7 +121,7 @@ pub extern "C" fn ctrie_shared_try_remove(
     }
 }
 
-/// Removes a key that has this value, and tells whether it had it.
+/// Removes a key that has this value, and answers whether it had it.
 #[unsafe(no_mangle)]
 pub extern "C" fn ctrie_shared_try_remove_if(
     alloc: Global,
@@ -150,7 +150,7 @@ pub extern "C" fn ctrie_shared_try_clear(alloc: Global, held: &mut HeldSeat, han
     }
 }
 
-/// Opens a writable copy, and tells its handle.
+/// Opens a writable copy, and answers its handle.
 #[unsafe(no_mangle)]
 pub extern "C" fn ctrie_shared_try_snapshot(
     alloc: Global,
@@ -168,7 +168,7 @@ pub extern "C" fn ctrie_shared_try_snapshot(
     }
 }
 
-/// Opens a read-only copy, and tells its handle.
+/// Opens a read-only copy, and answers its handle.
 #[unsafe(no_mangle)]
 pub extern "C" fn ctrie_shared_try_freeze(
     alloc: Global,

@@ -13,7 +13,7 @@ use shared_map::{HashKind, MapError, MapSeat, SharedMap};
 use std::alloc::Global;
 use std::sync::Arc;
 
-/// Makes a shared map in so many shards, each with so many slots, whose keys are hashed so, and so many seats, where there is
+/// Makes a shared map in this many shards, each with this many slots, whose keys are hashed so, and this many seats, where there is
 /// none. One seat is held then, and hands out the others.
 #[unsafe(no_mangle)]
 pub extern "C" fn ctrie_shared_open(

@@ -19,7 +19,7 @@ use shared_map::telling::{contained, counted, first, found, has_room, listed, nu
 use shared_map::{Ask, ShardCount};
 use std::alloc::Global;
 
-/// Tells the key's value, if it has one.
+/// Answers the key's value, if it has one.
 #[unsafe(no_mangle)]
 pub extern "C" fn ctrie_shared_try_get(
     alloc: Global,
@@ -37,7 +37,7 @@ pub extern "C" fn ctrie_shared_try_get(
     }
 }
 
-/// Tells whether the key has a value.
+/// Answers whether the key has a value.
 #[unsafe(no_mangle)]
 pub extern "C" fn ctrie_shared_try_contains(
     alloc: Global,
@@ -53,7 +53,7 @@ pub extern "C" fn ctrie_shared_try_contains(
     }
 }
 
-/// Tells whether the handle is open.
+/// Answers whether the handle is open.
 #[unsafe(no_mangle)]
 pub extern "C" fn ctrie_shared_try_is_open(alloc: Global, held: &mut HeldSeat, handle: u16) -> u32
     ensures does { Tries held.old.state held.new.state result (Says (λ told. Ok (open_in told)) (IsWritable handle) (truth_told result)) }
@@ -64,7 +64,7 @@ pub extern "C" fn ctrie_shared_try_is_open(alloc: Global, held: &mut HeldSeat, h
     }
 }
 
-/// Tells whether the handle's map may be changed by it.
+/// Answers whether the handle's map may be changed by it.
 #[unsafe(no_mangle)]
 pub extern "C" fn ctrie_shared_try_is_writable(
     alloc: Global,
@@ -79,7 +79,7 @@ pub extern "C" fn ctrie_shared_try_is_writable(
     }
 }
 
-/// Tells a key with its value, whichever is found first, if there is one.
+/// Answers a key with its value, whichever is found first, if there is one.
 #[unsafe(no_mangle)]
 pub extern "C" fn ctrie_shared_try_first(
     alloc: Global,
@@ -96,7 +96,7 @@ pub extern "C" fn ctrie_shared_try_first(
     }
 }
 
-/// Tells how many keys have a value.
+/// Answers how many keys have a value.
 #[unsafe(no_mangle)]
 pub extern "C" fn ctrie_shared_try_count(
     alloc: Global,
@@ -114,7 +114,7 @@ pub extern "C" fn ctrie_shared_try_count(
     }
 }
 
-/// Tells how many handles are open.
+/// Answers how many handles are open.
 #[unsafe(no_mangle)]
 pub extern "C" fn ctrie_shared_try_handles(
     alloc: Global,
@@ -131,7 +131,7 @@ pub extern "C" fn ctrie_shared_try_handles(
     }
 }
 
-/// Tells how many slots no open handle reaches.
+/// Answers how many slots no open handle reaches.
 #[unsafe(no_mangle)]
 pub extern "C" fn ctrie_shared_try_free_slots(
     alloc: Global,
@@ -148,7 +148,7 @@ pub extern "C" fn ctrie_shared_try_free_slots(
     }
 }
 
-/// Tells whether a slot is free in each shard.
+/// Answers whether a slot is free in each shard.
 #[unsafe(no_mangle)]
 pub extern "C" fn ctrie_shared_try_has_room(alloc: Global, held: &mut HeldSeat) -> u32
     ensures does { Tries held.old.state held.new.state result (Says (λ told. Ok (has_room_in told)) HasRoom (truth_told result)) }
@@ -159,7 +159,7 @@ pub extern "C" fn ctrie_shared_try_has_room(alloc: Global, held: &mut HeldSeat) 
     }
 }
 
-/// Tells how many keys have a value, and writes the first of them with their values, by rising key, as many as there is room for.
+/// Answers how many keys have a value, and writes the first of them with their values, by rising key, as many as there is room for.
 #[unsafe(no_mangle)]
 pub extern "C" fn ctrie_shared_try_entries(
     alloc: Global,
@@ -182,7 +182,7 @@ pub extern "C" fn ctrie_shared_try_entries(
     }
 }
 
-/// Writes the first of these, as many as there is room for, and tells how many there are.
+/// Writes the first of these, as many as there is room for, and answers how many there are.
 fn write_front(all: &[(u64, u64)], pairs: &mut [Pair]) -> u64
     ensures count { result ≡ length all.now }
     ensures front { IsFront all.now pairs.old pairs.new }
@@ -193,7 +193,7 @@ fn write_front(all: &[(u64, u64)], pairs: &mut [Pair]) -> u64
     all.len() as u64
 }
 
-/// Tells a shard, and how many calls about it the seat knows of: after a call of its own one that this was about, and its number
+/// Answers a shard, and how many calls about it the seat knows of: after a call of its own one that this was about, and its number
 /// there.
 #[unsafe(no_mangle)]
 pub extern "C" fn ctrie_shared_last(alloc: Global, held: &mut HeldSeat, last: &mut Count) -> u32
@@ -215,7 +215,7 @@ pub extern "C" fn ctrie_shared_last(alloc: Global, held: &mut HeldSeat, last: &m
     }
 }
 
-/// As `SharedMap::try_hear`: whether so many calls about a shard stand in the log that the seat finds.
+/// As `SharedMap::try_hear`: whether this many calls about a shard stand in the log that the seat finds.
 #[tactic(auto, using(crate::proofs::Tries::heard_so))]
 #[unsafe(no_mangle)]
 pub extern "C" fn ctrie_shared_try_hear(alloc: Global, held: &mut HeldSeat, count: &Count) -> u32

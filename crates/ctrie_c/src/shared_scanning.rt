@@ -13,7 +13,7 @@ use shared_map::Ask;
 use shared_map::telling::part;
 use std::alloc::Global;
 
-/// Writes the next pairs of those that lie in a shard, in the map's own order, and tells how many; none are left there where there
+/// Writes the next pairs of those that lie in a shard, in the map's own order, and answers how many; none are left there where there
 /// are fewer than there is room for.
 #[unsafe(no_mangle)]
 pub extern "C" fn ctrie_shared_try_scan(
@@ -58,7 +58,7 @@ fn write_part(part: &[(u64, u64)], cursor: &mut Cursor, pairs: &mut [Pair]) -> u
     write(part, cursor, pairs) as u64
 }
 
-/// Tells how many shards there are.
+/// Answers how many shards there are.
 #[unsafe(no_mangle)]
 pub extern "C" fn ctrie_shared_shards(alloc: Global, held: &mut HeldSeat, shards: &mut u64) -> u32
     ensures does { TellsShards held.old.state held.new.state result (number_told result shards.new) }

@@ -22,7 +22,7 @@ pub(crate) struct Worker {
 
 impl Worker {
     /// Performs the calls that the lines name for its actor, one after the other. After an error the lines
-    /// behind were left out.
+    /// after it were left out.
     pub(crate) fn perform_lines<R: Wait, B: Between>(
         &mut self,
         rt: &R,
@@ -93,7 +93,7 @@ impl Worker {
         }
     }
 
-    /// Takes the steps of the sweep that the lines name. After an error the lines behind were left out.
+    /// Takes the steps of the sweep that the lines name. After an error the lines after it were left out.
     pub(crate) fn sweep_lines<R: Wait>(
         &mut self,
         rt: &R,
@@ -134,7 +134,7 @@ impl Worker {
         }
     }
 
-    /// Takes so many steps of the sweep, and notes why one is denied, if one is.
+    /// Takes this many steps of the sweep, and notes why one is denied, if one is.
     #[tactic(auto, using(lock_runner::proofs::Steps::gone_same, lock_runner::proofs::Whole::gone_more))]
     fn sweep_often<R: Wait>(
         &mut self,

@@ -24,7 +24,7 @@ use crate::telling::found;
 use history::{Access, Call};
 use machine_core::Core;
 
-/// How many steps a change of a key takes at most, with the sweep behind it, but for what becomes free by it.
+/// How many steps a change of a key takes at most, with the sweep after it, but for what becomes free by it.
 const CHANGE_STEPS: u64 = 6_818;
 
 /// What is done with each key.
@@ -100,7 +100,7 @@ pub(crate) fn remove_all(
     change_each(core, name.core, Batch::Removes, pairs)
 }
 
-/// Whether no more steps are left than so many changes of a copy take, and a call behind them.
+/// Whether no more steps are left than this many changes of a copy take, and a call after them.
 fn are_too_many(core: &Core, many: usize) -> bool
     requires { IsCalm core.now.state }
     ensures { result ≡ is_worn_out_by (work_of_changes many) core.now.state }

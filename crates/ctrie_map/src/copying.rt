@@ -17,7 +17,7 @@ use history::{Access, Call};
 
 impl Map {
     /// Opens a writable copy, of a read-only map too. It is changed on its own, as is the map that was copied. Its number is
-    /// the next one behind the number that was given last, round about, that isn't open. Refused as `NoHandle`, as
+    /// the next one after the number that was given last, round about, that isn't open. Refused as `NoHandle`, as
     /// `HandlesFull` where 256 handles are open, as `WornOut`, or as `Full` exactly where `free` is 0.
     pub fn snapshot(&mut self, handle: Handle) -> Result<Handle, MapError>
         ensures done { IfOk result (λ copy. HasLife self.old × Copies self.old handle Writable copy self.new) }

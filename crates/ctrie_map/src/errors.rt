@@ -33,7 +33,7 @@ pub enum MapError {
     /// The number of slots isn't from 3 to 1,000,000, or that of a shared map's shards isn't from 1 to 64.
     #[error("the number of slots or shards is out of range")]
     BadSizes,
-    /// No more steps are left than a change, a copy or a close may take with the sweep behind it, of the 2^45 - 2^21 of a
+    /// No more steps are left than a change, a copy or a close may take with the sweep after it, of the 2^45 - 2^21 of a
     /// map's life. A `restore`, a `put_all` and a `retain` that has pairs to remove want their own steps besides. The map can
     /// still be read.
     #[error("the map is worn out")]

@@ -17,7 +17,7 @@ use machine_core::Core;
 impl Map {
     /// Sets the values of all these keys, or of none: where it is refused, no map has changed. Of pairs of one key the last one
     /// counts. Refused as `NoHandle`, `ReadOnly` or `Crowded`; as `HandlesFull` where 256 handles are open, since it works on a
-    /// copy, which takes one more for the moment; as `WornOut` where no more steps are left than so many changes may take; and as
+    /// copy, which takes one more for the moment; as `WornOut` where no more steps are left than this many changes may take; and as
     /// `Full` where the last step of that copy, or of the change of one of the keys in it, was to make a node and no slot was
     /// free: never where 24 slots and 571 for each pair were free before it.
     pub fn put_all(&mut self, handle: Handle, pairs: &[(u64, u64)]) -> Result<(), MapError>

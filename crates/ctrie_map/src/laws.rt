@@ -3,7 +3,7 @@
 ghost use Rattle.ctrie_map.specs.Changes.{OneHandleHasSlots};
 ghost use Rattle.ctrie_map.specs.Listings.{AllAreListed, PartsJoin};
 
-/// A law: a part of a scan, and the one behind its last key, are one part.
+/// A law: a part of a scan, and the one after its last key, are one part.
 pub fn parts_join()
     ensures { PartsJoin }
 {}

@@ -24,7 +24,7 @@ const LEAST_SLOTS: u32 = 3;
 /// The most slots that a map has, beside its reserve.
 const MOST_SLOTS: u32 = 1_000_000;
 
-/// Whether a map can't have so many slots.
+/// Whether a map can't have this many slots.
 fn is_no_size(slots: u32) -> bool
     ensures { result ≡ (nat_lt slots 3 || nat_lt 1000000 slots) }
 {

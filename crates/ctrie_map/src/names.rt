@@ -84,7 +84,7 @@ impl Names {
         self.many
     }
 
-    /// The first number behind the one that was given last, round about, that has no name.
+    /// The first number after the one that was given last, round about, that has no name.
     pub(crate) fn next_free(&self) -> Option<u16>
         ensures next { IfSome result (IsNextFree self.now) }
         ensures none { IfNone result (how_many self.now ≡ handle_limit) }

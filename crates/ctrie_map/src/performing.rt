@@ -1,4 +1,4 @@
-//! One call of the core below a map, from its begin to its end, and the sweep behind it.
+//! One call of the core below a map, from its begin to its end, and the sweep after it.
 
 ghost use Rattle.std.specs.Prelude.{◌≡◌, ◌≢◌, ◌<◌, ◌≤◌, ◌+◌, ◌&&◌, ℕ, nat_eq, IfOk, Ok, None, true, false, [], length};
 ghost use Rattle.std.specs.FinMap as map;
@@ -30,13 +30,13 @@ pub(crate) const RESERVE: u32 = 597;
 /// How many steps a call takes at most, with its begin.
 const CALL_STEPS: u64 = 3_963;
 
-/// How many steps a snapshot takes at most, with the sweep behind it, but for what becomes free by it.
+/// How many steps a snapshot takes at most, with the sweep after it, but for what becomes free by it.
 pub(crate) const COPY_STEPS: u64 = 144;
 
 /// How many steps of the sweep there are at most for a slot.
 const SLOT_SWEEPS: u64 = 5;
 
-/// How many more steps are left than a call may take with the sweep behind it.
+/// How many more steps are left than a call may take with the sweep after it.
 pub(crate) fn life_left(core: &Core) -> u64
     requires { IsCalm core.now.state }
     ensures { result ≡ life_left core.now.state }
@@ -48,7 +48,7 @@ pub(crate) fn life_left(core: &Core) -> u64
         .saturating_sub(most)
 }
 
-/// Whether no more steps are left than a call may take with the sweep behind it.
+/// Whether no more steps are left than a call may take with the sweep after it.
 pub(crate) fn is_worn_out(core: &Core) -> bool
     requires { IsCalm core.now.state }
     ensures { result ≡ is_worn_out core.now.state }
@@ -57,7 +57,7 @@ pub(crate) fn is_worn_out(core: &Core) -> bool
 }
 
 /// Whether no more steps are left than so much work takes, with the slots in use that may become free by it, and a call
-/// behind it.
+/// after it.
 pub(crate) fn is_worn_out_by(core: &Core, work: u64) -> bool
     requires { IsCalm core.now.state }
     ensures { result ≡ is_worn_out_by work core.now.state }

@@ -22,7 +22,7 @@ impl Map {
     /// keys, before anything changes, and of none where the handle isn't open or is read-only, where 256 handles are open, or where
     /// there is no memory for a list of the pairs. While one handle alone is open it is never `Full`. While others are, it works on
     /// a copy, and is `Full` only where that copy, or the removal of an unwanted pair from it, found no slot: never where 24 slots
-    /// and 571 for each unwanted pair were free before it. It is `WornOut` where no more steps are left than so many changes may
+    /// and 571 for each unwanted pair were free before it. It is `WornOut` where no more steps are left than this many changes may
     /// take. No map has changed then, and `remove` may do for some of the pairs. Where all are wanted, nothing changes, no step is
     /// taken, and it is neither `Full` nor `WornOut`.
     pub fn retain<F: FnMut(u64, u64) -> bool>(
@@ -77,7 +77,7 @@ fn leave_unwanted<F: FnMut(u64, u64) -> bool>(pairs: &mut Vec<(u64, u64)>, mut f
     pairs.truncate(many);
 }
 
-/// Puts a pair that isn't wanted behind the first `many` ones. How many these are then.
+/// Puts a pair that isn't wanted after the first `many` ones. How many these are then.
 fn settle(pairs: &mut Vec<(u64, u64)>, many: usize, pair: (u64, u64), wants: bool) -> usize
     requires { many < length pairs.old.items }
     ensures settled { pairs.new.items ≡ (if wants then pairs.old.items else slice_set pairs.old.items many pair) }

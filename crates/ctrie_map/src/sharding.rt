@@ -22,7 +22,7 @@ use ctrie_base::HashKind;
 use history::{Access, Call, Reply};
 use machine_core::Core;
 
-/// So many slots are enough for a clear.
+/// This many slots are enough for a clear.
 const COPY_SLOTS: u32 = 23;
 
 impl Map {
@@ -33,7 +33,7 @@ impl Map {
         self.core.limits().hash
     }
 
-    /// Whether changes are refused as `WornOut`: no more steps are left than one may take with the sweep behind it.
+    /// Whether changes are refused as `WornOut`: no more steps are left than one may take with the sweep after it.
     pub fn is_worn_out(&self) -> bool
         ensures { result ≡ is_worn_out self.now.core }
     {

@@ -2,7 +2,7 @@
 
 ghost use Rattle.std.specs.Prelude.{◌≡◌, ◌+◌, ◌-◌, ◌*◌, ◌^◌, min};
 
-/// How many slots to ask for, for so many keys: three for each, and 40. It is a guide, and no promise: by what was counted of
+/// How many slots to ask for, for this many keys: three for each, and 40. It is a guide, and no promise: by what was counted of
 /// maps of random keys they have room then for one open copy while a third of the keys are overwritten. Keys whose hashes have
 /// many low bits in common take more. More than 333,320 keys come to more slots than a map can have.
 pub fn slots_for(keys: u32) -> u32

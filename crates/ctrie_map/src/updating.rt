@@ -18,7 +18,7 @@ use crate::map::Map;
 impl Map {
     /// Gives the key the value that `f` makes of its value, each of which may be none. The value that it has then. Where that
     /// is the one that it had, nothing changes, and no step is taken. Refused as `NoHandle` or `ReadOnly` before `f` is called;
-    /// and behind it as the `put` or the `remove` is by which the key would get what it made.
+    /// and after it as the `put` or the `remove` is by which the key would get what it made.
     pub fn update<F: FnOnce(Option<u64>) -> Option<u64>>(
         &mut self,
         handle: Handle,
@@ -41,7 +41,7 @@ impl Map {
     }
 
     /// The key's value; where it has none, it gets the one that `f` makes. `f` isn't called where the key has a value. Refused
-    /// as `NoHandle` or `ReadOnly` before `f` is called, and behind it as the `put` is of what it made.
+    /// as `NoHandle` or `ReadOnly` before `f` is called, and after it as the `put` is of what it made.
     pub fn get_or_put_with<F: FnOnce() -> u64>(
         &mut self,
         handle: Handle,

@@ -57,7 +57,7 @@ impl Map {
         entries_after(&self.core, name.core, after, room)
     }
 
-    /// The next keys behind this one with their values, `room` of them at most, in the map's own order; from its first key on
+    /// The next keys after this one with their values, `room` of them at most, in the map's own order; from its first key on
     /// where it is none. The order is by the keys' hashes, five bits after five from the lowest on, and by key among keys of one
     /// hash, so it is the same for each map of this hash. Each call goes one way down and over what it answers, and takes
     /// memory for that: all parts of a map cost about one walk over it. The parts of a frozen copy are a listing of one

@@ -62,7 +62,7 @@ fn are_passed(epoch: u64, pins: &[Option<u64>]) -> bool
 
 impl Heap {
     /// Lets the epoch grow at once, where the next steps of the sweep pass each actor, from the first one on: it does what
-    /// these steps do, one for each actor and one more. Tells whether it did; else nothing has changed but its
+    /// these steps do, one for each actor and one more. Returns whether it did; else nothing has changed but its
     /// tick. Limbo stays, and all is settled.
     #[inline(always)]
     pub fn grow(&mut self) -> bool

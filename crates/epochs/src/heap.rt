@@ -181,7 +181,7 @@ impl Heap {
         self.arena.prev(at)
     }
 
-    /// Where the main word of an indirection is `from` it becomes `to`. Tells whether it was.
+    /// Where the main word of an indirection is `from` it becomes `to`. Returns whether it was.
     pub fn swap_main(&mut self, at: Ref, from: Ref, to: Ref) -> bool
         requires live { IsLive self.old.heap at }
         requires kind { is_indirection (node_at self.old.heap at) ≡ true }
@@ -199,7 +199,7 @@ impl Heap {
         swapped
     }
 
-    /// Where the `prev` word of a main node is `from` it becomes `to`. Tells whether it was.
+    /// Where the `prev` word of a main node is `from` it becomes `to`. Returns whether it was.
     #[inline(always)]
     pub fn swap_prev(&mut self, at: Ref, from: Prev, to: Prev) -> bool
         requires live { IsLive self.old.heap at }
@@ -218,7 +218,7 @@ impl Heap {
         swapped
     }
 
-    /// Where the main word is `from` it becomes `to`, which becomes pending over `from`. Tells whether it was.
+    /// Where the main word is `from` it becomes `to`, which becomes pending over `from`. Returns whether it was.
     #[inline(always)]
     pub fn publish(&mut self, at: Ref, from: Ref, to: Ref) -> bool
         requires live { IsLive self.old.heap at }

@@ -2,7 +2,7 @@
 
 ghost use Rattle.epochs.specs.Laws.{FreedLeaves, CountsAlone, RunningKeeps};
 
-/// A law: behind the freeing of a slot, limbo comes out the same whether the slot was taken out of it
+/// A law: after the freeing of a slot, limbo comes out the same whether the slot was taken out of it
 /// or left to the settling.
 pub fn freed_leaves()
     ensures { FreedLeaves }

@@ -12,8 +12,8 @@ use std::alloc::{AllocError, Global};
 use std::marker::Model;
 use std::mem;
 
-/// Three bags of slots, in one ring: behind each bag's beginning its slots, in the order in which they
-/// entered. The beginnings have numbers behind those of the slots. Links and flags count their own ticks.
+/// Three bags of slots, in one ring: after each bag's beginning its slots, in the order in which they
+/// entered. The beginnings have numbers after those of the slots. Links and flags count their own ticks.
 pub(crate) struct Ring {
     next: Links,
     back: Links,
@@ -62,7 +62,7 @@ impl Model for Ring {
 }
 
 impl Ring {
-    /// Three empty bags for so many slots.
+    /// Three empty bags for this many slots.
     pub(crate) fn new(alloc: Global, size: u32) -> Result<Ring, AllocError>
         requires { size ≤ most_slots }
         ensures { IfOk result (λ ring. ring ≡ record { bags = record { oldest = []; middle = []; present = []; size = size }; ticks = 6 }) }

@@ -3,7 +3,7 @@
 
 ghost use Rattle.shared_map.specs.Seats.{IsSeatOf};
 
-use shared_map::{Handle, HashKind, MapCalls, MapError, MapSeat, SharedMap};
+use shared_map::{Handle, HashKind, MapCalls, MapError, MapSeat, SharedMap, slots_for};
 use std::sync::Wait;
 use std::thread;
 
@@ -17,7 +17,7 @@ fn work<R: Wait>(rt: &R, map: &SharedMap, seat: &mut MapSeat)
 }
 
 fn main(rt: HostRuntime) -> Result<(), MapError> {
-    let (map, mut seats) = SharedMap::new(rt.alloc(), 1_024, HashKind::Wide, 4, 8)?;
+    let (map, mut seats) = SharedMap::new(rt.alloc(), slots_for(300), HashKind::Wide, 4, 8)?;
     thread::for_each_mut(
         &rt,
         seats.as_mut_slice(),

@@ -19,7 +19,7 @@ const CHANGES: u64 = 400;
 
 const EXPORTS: u64 = 40;
 
-/// So many keys are read at once: a shard is held for these alone.
+/// This many keys are read at once: a shard is held for these alone.
 const PART: usize = 16;
 
 /// Where the confirmed numbers stand: that many keys above those that were announced.
@@ -49,7 +49,7 @@ fn value(pairs: &[(u64, u64)], key: u64) -> u64 {
     0
 }
 
-/// Whether each number that was announced is the one confirmed last, or the one behind it.
+/// Whether each number that was announced is the one confirmed last, or the one after it.
 fn is_of_one_moment(pairs: &[(u64, u64)]) -> bool {
     for key in 2..5 {
         let announced = value(pairs, key);

@@ -74,7 +74,7 @@ fn ask_all(cache: &mut Cache) -> Result<u64, MapError> {
     Ok(most)
 }
 
-/// Asks a cache of so many slots for all of them three times.
+/// Asks a cache of this many slots for all of them three times.
 fn ask<R: Print + AllocGlobal>(rt: &R, slots: u32) -> Result<(), MapError> {
     let mut cache = Cache::new(rt.alloc(), slots)?;
     let mut most = 0;

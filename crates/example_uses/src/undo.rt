@@ -3,7 +3,7 @@
 use ctrie_map::{Handle, HashKind, Map, MapError};
 use std::alloc::Global;
 
-/// So many handles may be open: a restore takes one more for the moment.
+/// This many handles may be open: a restore takes one more for the moment.
 const MOST_HANDLES: u32 = 255;
 
 /// A sheet of numbered cells, and the copies to which it can go back.

@@ -59,8 +59,8 @@ impl<O: Object<C, A> + Drop, C: Copy, A: Drop> Gate<O, C, A> {
         Some(answer)
     }
 
-    /// Tells whether so many calls stand in the log that it finds, as `Seat::last` numbers them. All that it found stands
-    /// before what the seat calls next, so who is told the number of a call, and is answered `true`, comes behind it.
+    /// Returns whether this many calls stand in the log that it finds, as `Seat::last` numbers them. All that it found stands
+    /// before what the seat calls next, so who is told the number of a call, and is answered `true`, comes after it.
     pub fn hear<R: Wait>(&self, rt: &R, seat: &mut Seat<O, C, A>, calls: u64) -> bool
         requires { IsSeatOf self.now seat.old }
         ensures heard { HasHeard O.answers seat.old seat.new }

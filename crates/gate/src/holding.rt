@@ -10,7 +10,7 @@ use crate::rules::{Enter, Leave};
 use crate::seats::Pass;
 
 impl<O: Object<C, A>, C, A> Gate<O, C, A> {
-    /// Takes the gate if it is open, and tells whether it was.
+    /// Takes the gate if it is open, and returns whether it was.
     #[inline(always)]
     pub(crate) fn try_enter(&self, pass: &mut Pass<O, C, A>, number: u8) -> bool
         requires seat { pass.old.table_id ≡ self.now.id }

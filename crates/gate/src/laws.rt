@@ -26,7 +26,7 @@ pub fn logs_go_on<O: Object<C, A>, C, A>()
     ensures { LogsGoOn O.answers }
 {}
 
-/// A law: a call of a seat that knew of another call stands behind it, in each log that goes on from both.
+/// A law: a call of a seat that knew of another call stands after it, in each log that goes on from both.
 pub fn told_calls_stand_before<O: Object<C, A>, C, A>()
     ensures { ToldCallsStandBefore O.answers }
 {}

@@ -7,7 +7,7 @@ pub trait Object<C, A> {
     ghost answers: { ℕ → Self → C → A → Self → Type 0 };
 
     /// Whether a seat with this call is in the midst of something on which others wait. It waits less long between
-    /// two tries to come in.
+    /// two tries.
     fn is_midway(_call: &C) -> bool {
         false
     }

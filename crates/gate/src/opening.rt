@@ -15,7 +15,7 @@ use atomic_table::Table;
 use std::alloc::Global;
 
 impl<O: Object<C, A> + Drop, C: Drop, A: Drop> Gate<O, C, A> {
-    /// A gate before this object, and so many seats, with the numbers 1 and on. Where memory is wanting the object
+    /// A gate before this object, and this many seats, with the numbers 1 and on. Where memory is wanting the object
     /// comes back.
     pub fn new(
         alloc: Global,

@@ -69,7 +69,7 @@ pub fn short_pause() {
     pause(SHORT_PAUSES);
 }
 
-/// So many pauses.
+/// This many pauses.
 fn pause(times: u32) {
     for _ in 0..times {
         spin_loop();

@@ -9,7 +9,7 @@
 //! generation is read by the caller, who knows the root word (ABORT), and handed in.
 //!
 //! Computed are the definition's `Reading`, and SWAP in its `Swapping`: `specs/Reads` and `specs/Swaps` say which line of
-//! the definition the code's READ or SWAP stands for, and that a step leads to the line behind it. A program in which a
+//! the definition the code's READ or SWAP stands for, and that a step leads to the line after it. A program in which a
 //! READ runs says so by `ReadsAlong`. `specs/Acted` is what actions do to the heap.
 #![tactic(auto)]
 

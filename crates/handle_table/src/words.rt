@@ -24,7 +24,7 @@ pub fn flip(words: &mut Vec<u64>, number: u16)
     words[number as usize / 64] ^= 1 << (number % 64);
 }
 
-/// The least number whose bit isn't set, or that behind the last word.
+/// The least number whose bit isn't set, or that after the last word.
 pub fn first_unset(words: &[u64]) -> u16
     requires { length words.now ≡ 4 }
     ensures below { (number : ℕ) → number < result → is_set words.now number ≡ true }

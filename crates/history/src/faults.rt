@@ -31,7 +31,7 @@ pub enum OrderFault {
     StandsTwice {
         id: u64,
     },
-    /// The operation stands in the order and was refused for want of slots.
+    /// The operation stands in the order and was refused for lack of slots.
     WasRefused {
         id: u64,
     },

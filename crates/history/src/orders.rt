@@ -22,8 +22,8 @@ use ctrie_base::{HashKind, Refusal};
 use std::alloc::Global;
 
 /// Whether the order is legal for the history: the history is well formed; the order's ids are distinct, have
-/// begun, and are every operation that was answered and none that was refused for want of slots; no
-/// operation stands behind one that began after its end; and the calls, one after the other in this order, have
+/// begun, and are every operation that was answered and none that was refused for lack of slots; no
+/// operation stands after one that began after its end; and the calls, one after the other in this order, have
 /// the recorded replies. Any events and any order may be given. `Memory` is the only refusal.
 pub fn is_order(
     alloc: Global,
@@ -87,7 +87,7 @@ impl Drop for Replay {
 }
 
 impl Replay {
-    /// The replay of no operation, of a history with so many.
+    /// The replay of no operation, of a history with this many.
     fn new(alloc: Global, operations: usize) -> Result<Replay, Refusal>
         ensures world { IfOk result (λ replay. replay.world ≡ first_world) }
         ensures marks { IfOk result (λ replay. (history : List Event) → begun history ≡ operations

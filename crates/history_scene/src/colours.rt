@@ -11,7 +11,7 @@ use history::{Call, OrderFault, Reply};
 pub enum Colour {
     /// The first fault of the order names it.
     Wrong,
-    /// It was refused for want of slots.
+    /// It was refused for lack of slots.
     Refused,
     /// It opens a copy of a map.
     Copy,

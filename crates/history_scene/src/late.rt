@@ -34,7 +34,7 @@ pub fn late_of(
     Ok(late)
 }
 
-/// Whether the end, if there is one, is behind the earliest, if there is one.
+/// Whether the end, if there is one, is after the earliest, if there is one.
 fn is_behind(earliest: Option<usize>, end: Option<usize>) -> bool
     ensures { result ≡ is_behind earliest end }
 {

@@ -60,7 +60,7 @@ pub struct Bar {
 pub struct Stand {
     /// Its first place, counted from 0.
     pub place: usize,
-    /// The last event that begins one of the operations up to that place, but one before its own end: behind
+    /// The last event that begins one of the operations up to that place, but one before its own end: after
     /// it the operation may have taken effect.
     pub moment: usize,
     /// Whether it stands before a snapshot, a freeze or a clear that was answered before it ended.

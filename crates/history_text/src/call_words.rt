@@ -11,7 +11,7 @@ use ctrie_base::Refusal;
 use history::Call;
 use text_lines::both;
 
-/// A call, and the handle behind `as` where it opens one.
+/// A call, and the handle after `as` where it opens one.
 pub type Said = Result<(Call, Option<u16>), Refusal>;
 
 /// The call that these words say. The name and the number of words are wrong with BadLine, a number

@@ -51,7 +51,7 @@ impl fmt::Display for OpensText {
     }
 }
 
-/// An order as its line: `order`, and each id behind a space.
+/// An order as its line: `order`, and each id after a space.
 #[derive(Clone, Copy)]
 pub struct OrderText<'a>(pub &'a [u64]);
 
@@ -63,7 +63,7 @@ impl fmt::Display for OrderText<'_> {
     }
 }
 
-// Each id behind a space.
+// Each id after a space.
 #[derive(Clone, Copy)]
 struct IdsText<'a>(&'a [u64]);
 

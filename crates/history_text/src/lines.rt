@@ -31,7 +31,7 @@ pub fn header_of(words: &[&[u8]]) -> Result<HashKind, Refusal>
     }
 }
 
-/// The begin that the words behind `begin` say. Beside wrong words, another id than the next and an
+/// The begin that the words after `begin` say. Beside wrong words, another id than the next and an
 /// actor whose operation runs are BadLine.
 #[tactic(auto, unfolding(crate::specs::Running::begin_of))]
 pub fn begin_of(log: &Log, words: &[&[u8]]) -> Result<Event, Refusal>
@@ -56,7 +56,7 @@ fn begin_from(log: &Log, id: &[u8], actor: &[u8], call: &[&[u8]]) -> Result<Even
     })
 }
 
-/// The end that the words behind `end` say. Beside wrong words, the id of an operation that doesn't
+/// The end that the words after `end` say. Beside wrong words, the id of an operation that doesn't
 /// run is BadLine. Anything may be answered as `Memory`.
 #[tactic(auto, unfolding(crate::specs::Running::end_of))]
 pub fn end_of(alloc: Global, log: &Log, words: &[&[u8]]) -> Result<Event, Refusal>

@@ -36,7 +36,7 @@ pub enum Progress {
     InEvents(Log),
     /// The order was read.
     Ordered(Given),
-    /// The line behind the order was read.
+    /// The line after the order was read.
     Ended(Given),
 }
 
@@ -96,7 +96,7 @@ fn started(alloc: Global, words: &[&[u8]]) -> Result<Progress, Refusal>
     Ok(Progress::InEvents(Log::new(alloc, hash)))
 }
 
-/// What a line behind the header says, by its first word and the words behind it.
+/// What a line after the header says, by its first word and the words after it.
 fn named_line(
     alloc: Global,
     log: Log,
@@ -129,7 +129,7 @@ fn named_line(
     }
 }
 
-/// What a line behind the order says, by its first word.
+/// What a line after the order says, by its first word.
 fn last_line(read: Given, name: Option<LineName>) -> Result<Progress, Refusal>
     ensures { made seen result ≡ last_line (given read) name }
 {

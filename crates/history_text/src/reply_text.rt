@@ -30,7 +30,7 @@ impl fmt::Display for ReplyText<'_> {
     }
 }
 
-// Each pair behind a space.
+// Each pair after a space.
 #[derive(Clone, Copy)]
 struct PairsText<'a>(&'a [(u64, u64)]);
 

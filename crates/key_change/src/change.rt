@@ -156,7 +156,7 @@ impl Change {
         Next::More(Kind::Look)
     }
 
-    /// Makes a node, and stands on the line behind that.
+    /// Makes a node, and stands on the line after that.
     #[inline(always)]
     fn make(
         &mut self,
@@ -186,7 +186,7 @@ impl Change {
         }
     }
 
-    /// Stands on the line behind the making of a node; two singles part at this depth.
+    /// Stands on the line after the making of a node; two singles part at this depth.
     fn go_on(&mut self, work: &mut Work, path: &[Ref], building: &Building, depth: usize, made: Ref)
         ensures follows { (state : State) (operation : Operation) → depth ≡ depth_for state operation (build_line path.now self.old.main building.now) →
             line_of path.now work.new.swap None self.new ≡ build_after_made state operation (build_line path.now self.old.main building.now) made }

@@ -160,7 +160,7 @@ pub fn after_listed(
     }
 }
 
-/// Where the key is absent at the end of a list of so many singles: 32 are the most.
+/// Where the key is absent at the end of a list of this many singles: 32 are the most.
 fn absent_listed(call: KeyCall, singles: usize) -> Found
     ensures { (state : State) (path : List ARef) (main : ARef) (s : Swap) (handle : ℕ) →
         line_found state path s main result ≡ (if inserts (call_of handle call) && nat_le 32 singles then line.End reply.Crowded else absent_for (call_of handle call) path
@@ -206,7 +206,7 @@ fn removing(heap: &Heap, path: &[Ref], main: Ref, position: usize, value: u64) -
     }
 }
 
-/// Takes the key out of a branch of so many entries: of two below the root the other one is looked at first.
+/// Takes the key out of a branch of this many entries: of two below the root the other one is looked at first.
 fn from_branch(path: &[Ref], position: usize, value: u64, entries: usize) -> Found
     ensures { (state : State) (main : ARef) (s : Swap) →
         line_found state path.now s main result ≡ (if is_below_root path.now && (entries == 2) then line.Key (key.Sibling path.now main position value) else line.Build
@@ -221,7 +221,7 @@ fn from_branch(path: &[Ref], position: usize, value: u64, entries: usize) -> Fou
     changing(NodeChange::Remove { position }, value)
 }
 
-/// Takes the key out of a list of so many singles: of two a tomb of the other one is made.
+/// Takes the key out of a list of this many singles: of two a tomb of the other one is made.
 fn from_list(other: Ref, position: usize, value: u64, singles: usize) -> Found
     ensures { (state : State) (path : List ARef) (main : ARef) (s : Swap) →
         line_found state path s main result ≡ (if singles == 2 then line.Build (build.Main path main (becomes.Entomb other) (Some value)) else line.Build

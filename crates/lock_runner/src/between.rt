@@ -3,7 +3,7 @@ ghost use Rattle.std.specs.Prelude.{◌≤◌};
 
 /// What a caller does between two steps of a call.
 pub trait Between {
-    /// Is called after each step of a call but its last, with the gate open: so many steps of this seat's
+    /// Is called after each step of a call but its last, with the gate open: this many steps of this seat's
     /// call were taken.
     fn between(&self, seat: u8, taken: u64)
         requires seat { 1 ≤ seat }

@@ -12,7 +12,7 @@ use std::alloc::{AllocError, Global};
 use step_machine::{Limits, Machine};
 
 impl Runner {
-    /// A runner over a new machine of these sizes, and so many seats: the first is actor 1's, the next is
+    /// A runner over a new machine of these sizes, and this many seats: the first is actor 1's, the next is
     /// actor 2's and so on. `BadLimits` exactly where a size is out of range, or the number of seats isn't 1
     /// to the number of actors; and else only `Memory`. Nothing is made then.
     pub fn new(alloc: Global, limits: Limits, seats: u8) -> Result<(Runner, Vec<Seat>), Refusal>

@@ -26,7 +26,7 @@ impl Runner {
         self.carry_on(rt, seat, between, 1)
     }
 
-    /// Goes on until the operation has ended. So many steps of the call were taken before.
+    /// Goes on until the operation has ended. This many steps of the call were taken before.
     pub(crate) fn carry_on<R: Wait, B: Between>(
         &self,
         rt: &R,

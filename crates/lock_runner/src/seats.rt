@@ -88,7 +88,7 @@ impl Seat {
         self.sweeps
     }
 
-    /// Tells the seat that so many events are recorded. A call that finds fewer stops with `Ahead`.
+    /// Tells the seat that this many events are recorded. A call that finds fewer stops with `Ahead`.
     pub fn hear(&mut self, events: u64)
         ensures { self.new ≡ record self.old { heard = max self.old.heard events } }
     {

@@ -35,7 +35,7 @@ impl Runner {
         Ok(())
     }
 
-    /// Takes the next step of the operation that the seat's actor runs, and tells whether it has ended. An
+    /// Takes the next step of the operation that the seat's actor runs, and returns whether it has ended. An
     /// idle seat is told so before memory is asked for.
     pub(crate) fn go<R: Wait>(&self, rt: &R, seat: &mut Seat) -> Result<bool, Stop>
         requires { IsSeatOf self.now seat.old }

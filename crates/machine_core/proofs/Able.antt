@@ -15,7 +15,7 @@ use Rattle.machine_core.specs.Beneath.rdcss_root.specs.Tables.{Table}
 use Rattle.machine_core.specs.Beneath.root_asking.specs.declared.asking.Asking.{Asking}
 use Rattle.machine_core.specs.Beneath.root_asking.specs.declared.asking.Asking.TheVariants.{Unasked, Met, Told}
 use Rattle.machine_core.specs.Beneath.root_asking.specs.Asked.{abort_of}
-use Rattle.machine_core.specs.Beneath.machine_model.proofs.Embedding.{each_embeds}
+use Rattle.machine_model.proofs.Embedding.{each_embeds}
 use Rattle.machine_core.specs.Beneath.operate.specs.Steps.{operation_for as as_key}
 use Rattle.machine_core.specs.Beneath.snapshot.specs.Copies.{IsReadyBeside}
 use Rattle.running.specs.declared.job.Program.{Program}

@@ -30,7 +30,7 @@ pub fn keys_apart(parts: &Parts, older: u16, newer: u16) -> Result<Vec<u64>, All
     Ok(keys)
 }
 
-/// Adds the keys of pairs that are reached from only one of two entries, within so many levels.
+/// Adds the keys of pairs that are reached from only one of two entries, within this many levels.
 #[cycle(comparing)]
 fn compare(
     keys: &mut Vec<u64>,
@@ -58,7 +58,7 @@ fn compare(
     )
 }
 
-/// Adds the keys of pairs that are reached from only one of two main nodes, within so many levels.
+/// Adds the keys of pairs that are reached from only one of two main nodes, within this many levels.
 #[cycle(comparing)]
 fn compare_mains(
     keys: &mut Vec<u64>,

@@ -32,7 +32,7 @@ pub fn content_of(parts: &Parts, handle: u16) -> Result<Pairs, AllocError>
     pairs_by_key(parts.alloc, pairs.as_slice())
 }
 
-/// Adds the pairs that are reached from an indirection or a single, within so many levels.
+/// Adds the pairs that are reached from an indirection or a single, within this many levels.
 #[cycle(gathering)]
 #[tactic(auto, using(proof_core::proofs::Gathering::gathering))]
 fn gather(pairs: &mut Vec<(u64, u64)>, levels: u32, heap: &Heap, at: Ref) -> Result<(), AllocError>
@@ -53,7 +53,7 @@ fn gather(pairs: &mut Vec<(u64, u64)>, levels: u32, heap: &Heap, at: Ref) -> Res
     }
 }
 
-/// Adds the pairs that are reached from the entries of a main node, within so many levels.
+/// Adds the pairs that are reached from the entries of a main node, within this many levels.
 #[cycle(gathering)]
 #[tactic(auto, using(proof_core::proofs::Gathering::gathering))]
 fn gather_each(

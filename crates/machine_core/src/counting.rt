@@ -24,7 +24,7 @@ pub fn count_of(parts: &Parts, handle: u16) -> u64
     count(MOST_LEVELS, &parts.heap, root_of(parts.word(handle)))
 }
 
-/// How many pairs are reached from an indirection or a single, within so many levels.
+/// How many pairs are reached from an indirection or a single, within this many levels.
 #[cycle(counting)]
 #[tactic(auto, using(proof_core::proofs::Counted::counted))]
 fn count(levels: u32, heap: &Heap, at: Ref) -> u64
@@ -41,7 +41,7 @@ fn count(levels: u32, heap: &Heap, at: Ref) -> u64
     }
 }
 
-/// How many pairs are reached from the entries of a main node, within so many levels.
+/// How many pairs are reached from the entries of a main node, within this many levels.
 #[cycle(counting)]
 #[tactic(auto, using(proof_core::proofs::Counted::counted))]
 fn count_each(levels: u32, heap: &Heap, main: Ref) -> u64

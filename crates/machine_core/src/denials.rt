@@ -82,7 +82,7 @@ pub fn go_denial(parts: &Parts, actor: u8) -> Option<Refusal>
     }
 }
 
-/// The same where the operation goes on behind that step: so there is an actor who runs it, and only a machine that has
+/// The same where the operation goes on after that step: so there is an actor who runs it, and only a machine that has
 /// taken all its steps denies one more.
 #[inline(always)]
 pub fn spent_denial(parts: &Parts, _actor: u8) -> Option<Refusal>

@@ -37,7 +37,7 @@ pub struct Place {
     pub entry: Entry,
 }
 
-/// How the way goes on behind a main node.
+/// How the way goes on after a main node.
 #[derive(Clone, Copy)]
 pub enum Onward {
     /// By this indirection, of this generation.

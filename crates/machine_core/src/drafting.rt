@@ -1,5 +1,5 @@
 //! What a call that runs alone changes of the heap: nodes are made, and the last one is swapped in and committed. Limbo is
-//! brought up to date behind each.
+//! brought up to date after each.
 
 ghost use Rattle.std.specs.Prelude.{◌≡◌, ◌+◌, ◌<◌, ◌≤◌, ◌∷◌, ◌++◌, [], true, length};
 ghost use Rattle.slot_arena.specs.Heaps.{main_at, node_at, prev_at, refs_of_node, taken};

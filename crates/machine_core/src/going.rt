@@ -1,4 +1,4 @@
-//! A step of an operation that goes on behind it: all of it but for limbo and the count of steps.
+//! A step of an operation that goes on after it: all of it but for limbo and the count of steps.
 
 ghost use Rattle.std.specs.Prelude.{◌≡◌, ◌-◌, true, slice_get, option_map, Some, None};
 ghost use Rattle.machine_model.specs.declared.operations.Operation.{Operation};
@@ -25,7 +25,7 @@ use epochs::Heap;
 use machine_model::{Carried, Outcome, Progress, Publication};
 use running::{Roots, Taken, generation_at};
 
-/// Whether the actor's operation goes on behind its next step: it runs one, and that isn't its end.
+/// Whether the actor's operation goes on after its next step: it runs one, and that isn't its end.
 #[inline(always)]
 pub fn goes_on(parts: &Parts, actor: u8) -> bool
     ensures { result ≡ goes_on (next_kind (seen parts.now) actor) }
@@ -118,7 +118,7 @@ fn take_offer(parts: &mut Parts) -> Option<Carried>
 }
 
 impl Actor {
-    /// Whether its operation goes on behind its next step.
+    /// Whether its operation goes on after its next step.
     #[inline(always)]
     fn goes_on(&self) -> bool
         ensures { (state : State) → (table : Table) → result ≡ goes_on (option_map (λ operation. kind_of (action_of state operation)) (operation_seen table self.now)) }

@@ -12,7 +12,7 @@
 //! | `rooming` | memory for what a walk meets | none: the definition knows no memory |
 //! | `counting`, `picking`, `listing`, `scanning`, `comparing`, `differing` | what is told of maps without a list of all; `selection`, `selecting`, `entries` help | `Contents` |
 //! | `straight`, `descending`, `changing`, `pairing`, `drafting` | calls that run alone, at once: all of one, the way down to a key, changes, the heap | what its steps come to (`proof_straight`) |
-//! | `renewing` | the branches that such a call renews on its way down | the same, and what it finds behind that |
+//! | `renewing` | the branches that such a call renews on its way down | the same, and what it finds after that |
 //! | `copying`, `rooting` | the same of snapshots, freezes, clears and closes: all of one, the root words | the same |
 #![tactic(auto)]
 

@@ -37,7 +37,7 @@ pub fn next_of(
     Ok(Pairs::from_vec(selection.into_sorted()))
 }
 
-/// Takes the pairs in that are reached from an indirection or a single, within so many levels.
+/// Takes the pairs in that are reached from an indirection or a single, within this many levels.
 #[cycle(listing)]
 #[tactic(auto, using(crate::proofs::Selections::selecting))]
 fn select(selection: &mut Selection, levels: u32, heap: &Heap, at: Ref) -> Result<(), AllocError>
@@ -55,7 +55,7 @@ fn select(selection: &mut Selection, levels: u32, heap: &Heap, at: Ref) -> Resul
     }
 }
 
-/// Takes the pairs in that are reached from the entries of a main node, within so many levels.
+/// Takes the pairs in that are reached from the entries of a main node, within this many levels.
 #[cycle(listing)]
 #[tactic(auto, using(crate::proofs::Selections::selecting))]
 pub fn select_each(

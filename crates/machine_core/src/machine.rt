@@ -83,7 +83,7 @@ impl Core {
     /// each step's work is bounded, however many slots, actors and handles there are. That a step looks at the nodes of no other
     /// slots than those that it is about is so by reading and by measurement, and in no clause.
     pub fn begin(&mut self, actor: u8, call: Call) -> Result<Begun, Refusal>
-        ensures answers { Answers (began result) self.old.state (next self.old.state (steps.Begin actor call)) self.new.state }
+        ensures answers { Answers (began result) self.old.state (next self.old.state (steps.Begin actor call None)) self.new.state }
         ensures tells { IfOk result (λ begun. TellsBegin self.old.state actor call begun) }
         ensures work { OnOk result (WorksLittle self.old self.new) }
         ensures same { OnErr result (self.new ≡ self.old) }
@@ -94,7 +94,7 @@ impl Core {
         }
     }
 
-    /// Whether the actor's operation goes on behind its next step: it runs one, and that isn't its end.
+    /// Whether the actor's operation goes on after its next step: it runs one, and that isn't its end.
     #[inline(always)]
     pub fn goes_on(&self, actor: u8) -> bool
         ensures { result ≡ goes_on (next_kind self.now.state actor) }

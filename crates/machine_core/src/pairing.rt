@@ -1,4 +1,4 @@
-//! A key is put in where the single of another key stands: both get a main node, so many levels below, and a way down to it.
+//! A key is put in where the single of another key stands: both get a main node, this many levels below, and a way down to it.
 
 ghost use Rattle.std.specs.Prelude.{◌≡◌, ◌+◌, ◌-◌, ◌*◌, ◌<◌, ◌≤◌, ℕ};
 ghost use Rattle.ctrie_base.specs.Hashes.{hash_of};
@@ -87,7 +87,7 @@ fn hash_at(heap: &Heap, hashes: HashKind, single: Ref) -> u64
     hashes.hash(key_at(heap, single))
 }
 
-/// Puts a single of the key beside that of another key, where the way down ends. It tells how many levels below both stand.
+/// Puts a single of the key beside that of another key, where the way down ends. It returns how many levels below both stand.
 pub fn put_beside(
     heap: &mut Heap,
     hashes: HashKind,

@@ -21,7 +21,7 @@ pub fn first_of(parts: &Parts, handle: u16) -> Option<(u64, u64)>
     pick(MOST_LEVELS, &parts.heap, root_of(parts.word(handle)))
 }
 
-/// The first pair that is reached from an indirection or a single, within so many levels.
+/// The first pair that is reached from an indirection or a single, within this many levels.
 #[cycle(picking)]
 #[tactic(auto, using(proof_core::proofs::Picked::picked))]
 fn pick(levels: u32, heap: &Heap, at: Ref) -> Option<(u64, u64)>
@@ -37,7 +37,7 @@ fn pick(levels: u32, heap: &Heap, at: Ref) -> Option<(u64, u64)>
     }
 }
 
-/// The first pair that is reached from the entries of a main node, within so many levels.
+/// The first pair that is reached from the entries of a main node, within this many levels.
 #[cycle(picking)]
 #[tactic(auto, using(proof_core::proofs::Picked::picked))]
 fn pick_among(levels: u32, heap: &Heap, main: Ref) -> Option<(u64, u64)>

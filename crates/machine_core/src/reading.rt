@@ -58,10 +58,10 @@ impl Core {
         Ok(next_of(&self.parts, handle, after, room)?)
     }
 
-    /// The next part of the map of an open handle in the map's own order: its first pairs whose keys are behind this one, `room`
-    /// at most; all are behind none. The order is by the hash, five bits after five from the lowest on, and by key among keys of
+    /// The next part of the map of an open handle in the map's own order: its first pairs whose keys are after this one, `room`
+    /// at most; all are after none. The order is by the hash, five bits after five from the lowest on, and by key among keys of
     /// one hash. A part costs a way down and what it hands out, and not the whole map. Parts of a handle that doesn't change,
-    /// each behind the last key of the one before, are one listing, where each key stands once. `NoHandle` exactly where the
+    /// each after the last key of the one before, are one listing, where each key stands once. `NoHandle` exactly where the
     /// handle isn't open; any other refusal is `Memory`.
     pub fn scan(&self, handle: u16, after: Option<u64>, room: usize) -> Result<Pairs, Refusal>
         ensures exact { IfOk result (λ pairs. pairs ≡ scanned self.now.state.limits.hash after room (content_at self.now.state handle)) }

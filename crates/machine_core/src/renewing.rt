@@ -129,7 +129,7 @@ fn renew_entry(heap: &mut Heap, made: &mut Made, generation: u64, entry: Ref) ->
     make_more(heap, made, Node::Indirection { generation, main })
 }
 
-/// Renews the branch of an indirection. It tells how many steps of a call that takes.
+/// Renews the branch of an indirection. It returns how many steps of a call that takes.
 fn renew(heap: &mut Heap, generation: u64, indirection: Ref, main: Ref) -> u64
     requires can { CanSwap heap.old.heap indirection main 33 }
     requires branch { IsBranch heap.old.heap main }

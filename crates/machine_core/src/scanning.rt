@@ -27,7 +27,7 @@ use running::{bitmap_at, entries_at, entry_at, flag_of, node_at};
 use slot_arena::{NodeRef, Ref};
 use std::alloc::AllocError;
 
-/// The next pairs of the handle's map behind the last key, `room` of them at most, in the order of the trie.
+/// The next pairs of the handle's map after the last key, `room` of them at most, in the order of the trie.
 pub fn scanned(
     parts: &Parts,
     handle: u16,
@@ -47,7 +47,7 @@ pub fn scanned(
     Ok(Pairs::from_vec(pairs))
 }
 
-/// Adds the next pairs of those that are reached from an indirection or a single at this depth, within so many levels.
+/// Adds the next pairs of those that are reached from an indirection or a single at this depth, within this many levels.
 #[cycle(scanning)]
 #[tactic(auto, using(crate::proofs::Scans::scanning))]
 fn scan(
@@ -196,7 +196,7 @@ fn next_listed(
     Ok(selection.into_sorted())
 }
 
-/// Whether a key is behind the last one in the order of the trie.
+/// Whether a key is after the last one in the order of the trie.
 fn is_behind(hashes: HashKind, after: Option<u64>, key: u64) -> bool
     ensures { result ≡ is_behind hashes after key }
 {

@@ -22,7 +22,7 @@ pub fn settle(parts: &mut Parts)
     parts.steps += 1;
 }
 
-/// Counts a call of so many steps.
+/// Counts a call of this many steps.
 pub fn count_call(parts: &mut Parts, steps: u64)
     requires begun { parts.old.begun < 2 ^ 63 }
     requires steps { parts.old.steps + steps < 2 ^ 64 }

@@ -40,7 +40,7 @@ pub fn are_bounds(bounds: Bounds) -> bool
         && bounds.steps <= LONGEST_LIFE
 }
 
-/// A heap of so many slots, of which the first two have an empty branch and over it the root of handle 0,
+/// A heap of this many slots, of which the first two have an empty branch and over it the root of handle 0,
 /// which alone is held.
 #[tactic(auto, using(crate::proofs::Starts::next_first, crate::proofs::Starts::next_second, crate::proofs::Starts::first_limbo, proof_core::proofs::Claims::one_live))]
 fn first_memory(alloc: Global, slots: u32, actors: u8) -> Result<Heap, Refusal>
@@ -120,7 +120,7 @@ fn idle_actor(alloc: Global, hashes: HashKind) -> Actor
     }
 }
 
-/// So many of them.
+/// This many of them.
 fn idle_actors(alloc: Global, hashes: HashKind, actors: u8) -> Result<Vec<Actor>, AllocError>
     ensures { IfOk result (λ idle. AreIdle hashes actors idle.items) }
 {

@@ -29,7 +29,7 @@ use machine_model::{Outcome, Publication};
 pub fn take_begin(parts: &mut Parts, actor: u8, call: Call) -> Begun
     requires core { IsCore parts.old }
     requires allowed { begin_denial (seen parts.old) actor call None ≡ None }
-    ensures taken { next (seen parts.old) (steps.Begin actor call) ≡ Ok (Outcome.Began result.id, seen parts.new) }
+    ensures taken { next (seen parts.old) (steps.Begin actor call None) ≡ Ok (Outcome.Began result.id, seen parts.new) }
     ensures tells { TellsBegin (seen parts.old) actor call result }
     ensures core { IsCore parts.new }
     ensures work { WorksLittle (worked parts.old) (worked parts.new) }

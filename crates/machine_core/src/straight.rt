@@ -132,7 +132,7 @@ fn looks_before(heap: &Heap, place: &Place, key: u64, deed: &Deed) -> Option<u64
     }
 }
 
-/// What the call does at the place, behind so many looks more where it takes its key out.
+/// What the call does at the place, after this many looks more where it takes its key out.
 #[inline(always)]
 fn carry_out(
     parts: &mut Parts,
@@ -249,7 +249,7 @@ fn part(parts: &mut Parts, _actor: u8, call: Call, root: Ref, place: Place) -> R
     changed_reply(call, None)
 }
 
-/// Takes the key out; so many entries more are looked at to see that more than a single is left.
+/// Takes the key out; this many entries more are looked at to see that more than a single is left.
 fn remove(parts: &mut Parts, _actor: u8, call: Call, _root: Ref, place: Place, more: u64) -> Reply
     requires fit { IsFit parts.old _actor call _root 0 }
     requires keyed { IsKeyed call }

@@ -40,7 +40,7 @@ fn can_sweep(parts: &Parts) -> bool
 }
 
 /// Takes all steps of the sweep up to where the epoch grows, at once, where they pass each actor, from the first one on, and
-/// that many are left. Tells whether it did.
+/// that many are left. Returns whether it did.
 #[inline(always)]
 fn grow(parts: &mut Parts) -> bool
     requires core { IsCore parts.old }

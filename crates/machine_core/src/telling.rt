@@ -13,7 +13,7 @@ pub struct Begun {
     pub opens: Option<u16>,
 }
 
-/// What a step of an operation tells that goes on behind it.
+/// What a step of an operation tells that goes on after it.
 #[derive(Clone, Copy)]
 pub struct Stepped {
     /// The step's kind.

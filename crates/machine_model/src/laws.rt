@@ -11,7 +11,7 @@ pub fn slots_add_up()
     ensures { SlotsAddUp }
 {}
 
-/// A law: an operation is refused for want of slots only where its step before was to make a node, and no
+/// A law: an operation is refused for lack of slots only where its step before was to make a node, and no
 /// slot was free before that step, or where it gave up.
 pub fn refused_for_want_alone()
     ensures { RefusedForWantAlone }
@@ -53,7 +53,7 @@ pub fn one_slot_a_step()
     ensures { OneSlotAStep }
 {}
 
-/// A law: an operation on a read-only handle is never refused for want of slots, unless it gave up.
+/// A law: an operation on a read-only handle is never refused for lack of slots, unless it gave up.
 pub fn readers_never_refused()
     ensures { ReadersNeverRefused }
 {}

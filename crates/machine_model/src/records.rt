@@ -30,7 +30,7 @@ pub struct Carried {
     pub operation: u64,
 }
 
-/// What a step tells of an operation that goes on behind it.
+/// What a step tells of an operation that goes on after it.
 #[derive(Clone, Copy)]
 pub struct Progress {
     /// The main node that it committed.

@@ -3,7 +3,7 @@
 //!
 //! A try begins at the root and goes down by READ and looks, each one atomic step. A writable call renews what is of
 //! another generation and cleans where it meets a tomb, and both of them and its own change come about by one GCAS each;
-//! whatever of these is lost begins the next try. Behind a removal that left a tomb it climbs.
+//! whatever of these is lost begins the next try. After a removal that left a tomb it climbs.
 //!
 //! Computed are `Finding` of `machine_model`, and of its `Operations` how the programs of a call on one key lead into each
 //! other.

@@ -15,10 +15,10 @@ use std::marker::Model;
 
 /// The places of operations, and the steps at which generations were closed.
 ///
-/// A closing ends a segment: the places up to its step. All segments stand in one list, one behind the
+/// A closing ends a segment: the places up to its step. All segments stand in one list, one after the
 /// other, but for the places that came after their segment was ended.
 pub struct Places {
-    /// Those of all segments, one segment behind the other.
+    /// Those of all segments, one segment after the other.
     listed: Segment,
     /// Those that came after their segment was ended.
     stray: Segment,
@@ -97,7 +97,7 @@ impl Places {
         Ok(())
     }
 
-    /// Makes room for so many closings and places, in memory that is written here. An error says that memory was
+    /// Makes room for this many closings and places, in memory that is written here. An error says that memory was
     /// refused: then at most the room has grown.
     pub fn reserve(&mut self, count: usize) -> Result<(), Refusal>
         ensures only_memory { IsOkUnless result Memory }
@@ -217,7 +217,7 @@ fn reach(places: &[Place], closing: u64) -> usize
     first_behind(places, closing).unwrap_or(places.len())
 }
 
-/// The index of the first place behind the closing.
+/// The index of the first place after the closing.
 fn first_behind(places: &[Place], closing: u64) -> Option<usize>
     ensures { result ≡ position (λ place. nat_lt closing place.step) places.now }
 {

@@ -4,7 +4,7 @@ ghost use Rattle.std.specs.Prelude.{◌≡◌, ◌+◌, ◌≤◌, OnOk, vec_len
 
 use std::alloc::AllocError;
 
-/// Makes room for so many items more, in memory that is written here: the first touch of fresh memory costs more
+/// Makes room for this many items more, in memory that is written here: the first touch of fresh memory costs more
 /// than what is written there. The items stay.
 pub fn touch_room<T: Copy>(items: &mut Vec<T>, count: usize, item: T) -> Result<(), AllocError>
     ensures same { items.new.items ≡ items.old.items }

@@ -47,7 +47,7 @@ impl Segment {
         self.places.reserve(1)
     }
 
-    /// Makes room for so many places more, in memory that is written here.
+    /// Makes room for this many places more, in memory that is written here.
     pub(crate) fn reserve(&mut self, count: usize) -> Result<(), AllocError>
         ensures same { self.new.places.items ≡ self.old.places.items }
         ensures writes { self.new.writes.count ≡ self.old.writes.count }

@@ -1,4 +1,4 @@
-//! Laws of calls that run alone, and of the sweep behind them.
+//! Laws of calls that run alone, and of the sweep after them.
 
 ghost use Rattle.proof_alone.specs.Calls.{CallsBegin, CallsDo, CallsEnd, CallsGoOn, EnoughSlotsForCalls, RefusedIfOut};
 ghost use Rattle.proof_alone.specs.Sweeps.{CleanIsReached, SweepsLeave};
@@ -23,12 +23,12 @@ pub fn calls_do()
     ensures { CallsDo }
 {}
 
-/// A law: it is refused for want of slots only where its last step before that was to make a node and none was free.
+/// A law: it is refused for lack of slots only where its last step before that was to make a node and none was free.
 pub fn refused_if_out()
     ensures { RefusedIfOut }
 {}
 
-/// A law: it isn't where so many slots are free as it may take.
+/// A law: it isn't where as many slots are free as it may take.
 pub fn enough_slots_for_calls()
     ensures { EnoughSlotsForCalls }
 {}

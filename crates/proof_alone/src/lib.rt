@@ -1,4 +1,4 @@
-//! What a call comes to that runs alone from rest, and the sweep behind it: its end, its effect on the maps of handles, its steps and its slots.
+//! What a call comes to that runs alone from rest, and the sweep after it: its end, its effect on the maps of handles, its steps and its slots.
 #![tactic(auto)]
 
 mod laws;

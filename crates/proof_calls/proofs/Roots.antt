@@ -36,7 +36,7 @@ keeps_last limits states steps t run takes keys s o m notes actor go handle root
     by : HandleStep run t (omega arith) s o m notes handle root → (later : Root) × (root_at (states (suc t)) handle ≡ Some later) × (root_of later.word ≡ root_of root.word)
     by (keeps stands) = (stands.root, stands.is_open, stands.over)
     by (changes_root offer carries old stands) = absurd (none offer carries)
-    by (is_closed closer e gone) = absurd (let both = sym go ∙ e in let wrong : ⊥ = cc both in wrong)
+    by (is_closed closer number e gone) = absurd (let both = sym go ∙ e in let wrong : ⊥ = cc both in wrong)
 
 pub swaps_as_expected : OfEachCallStep SwapsAsExpected
 swaps_as_expected limits steps s outcome after ok fit taken operation call =

@@ -10,7 +10,7 @@ pub fn every_order_is_legal()
 {}
 
 /// A law: an operation that runs alone from rest enters the order last, and its call leads from the world
-/// before it to the one after it, with its reply; where it is refused for want of slots, neither changes.
+/// before it to the one after it, with its reply; where it is refused for lack of slots, neither changes.
 pub fn alone_it_acts()
     ensures { AloneItActs }
 {}

@@ -88,7 +88,7 @@ pub fn renews_straight()
     ensures { RenewsStraight }
 {}
 
-/// A law: behind such a renewal the call goes on like one in that state, and comes by the same states.
+/// A law: after such a renewal the call goes on like one in that state, and comes by the same states.
 pub fn passes_renewal()
     ensures { PassesRenewal }
 {}

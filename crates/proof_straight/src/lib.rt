@@ -1,4 +1,4 @@
-//! What a call that runs alone comes to: the state behind it in closed form, its answer, and what is recorded of it.
+//! What a call that runs alone comes to: the state after it in closed form, its answer, and what is recorded of it.
 //!
 //! `specs/Running` says what that means and when a call is ready for it, `specs/Drafts`, `specs/Changes` and `specs/Copies` what it brings about, `specs/Recorded` what
 //! is recorded, `specs/Places` where a call on one key comes to, `specs/Renewals` how it

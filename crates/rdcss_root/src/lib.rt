@@ -14,7 +14,7 @@
 //! knows by handle who offered, where the definition looks for the operation.
 //!
 //! Computed are COMPLETE and ROOT in the definition's `Swapping`, ABORT in its `Reading`, and OFFER in its `Copying`:
-//! `specs/Programs` says which line the code's program stands for, and that a step leads to the line behind it. `specs/Tables`
+//! `specs/Programs` says which line the code's program stands for, and that a step leads to the line after it. `specs/Tables`
 //! is what actions do to root words.
 #![tactic(auto)]
 

@@ -1,4 +1,4 @@
-//! ROOT: gives the root, behind the end of an offer that stands in its way.
+//! ROOT: gives the root, after the end of an offer that stands in its way.
 
 ghost use Rattle.std.specs.Prelude.{◌≡◌, ℕ, None, List, Option, is_some};
 ghost use Rattle.rdcss_root.specs.Beneath.slot_arena.specs.declared.refs.Ref.{Ref as ARef};

@@ -127,7 +127,7 @@ impl Roots {
         }
     }
 
-    /// Puts the actor's offer into the root word, if its root still stands there with no offer. Tells whether it did.
+    /// Puts the actor's offer into the root word, if its root still stands there with no offer. Returns whether it did.
     pub(crate) fn offer(
         &mut self,
         heap: &mut Heap,

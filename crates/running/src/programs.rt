@@ -111,7 +111,7 @@ impl Programs {
     }
 
     /// Makes room for what the next step of a walk may put into its lists, and does nothing for any other program. After an
-    /// error, which is want of memory, nothing has changed but room.
+    /// error, which is lack of memory, nothing has changed but room.
     #[inline(always)]
     pub fn make_room(&mut self, program: &Program) -> Result<(), Refusal>
         ensures lines { (program : AProgram) → line_for program self.new ≡ line_for program self.old }

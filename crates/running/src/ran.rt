@@ -17,7 +17,7 @@ pub(crate) enum Ran {
 }
 
 impl Ran {
-    /// The step in full, behind which the operation's READ stands here.
+    /// The step in full, after which the operation's READ stands here.
     #[inline(always)]
     pub(crate) fn taken(self, at: &ReadAt) -> Taken
         ensures { result ≡ outcome_of self at.now }

@@ -15,7 +15,7 @@ pub struct Taken {
     kind: Kind,
     /// Whether the step was one of the operation's READ.
     is_reading: bool,
-    /// Whether behind it that READ has given a main node, and which.
+    /// Whether after it that READ has given a main node, and which.
     has_given: bool,
     main: Ref,
 }
@@ -29,7 +29,7 @@ impl Model for Taken {
 }
 
 impl Taken {
-    /// A step of this kind, behind which the operation's READ stands here.
+    /// A step of this kind, after which the operation's READ stands here.
     #[inline(always)]
     pub(crate) fn by_read(kind: Kind, at: &ReadAt) -> Taken
         ensures { result ≡ taken_so kind at.now }
@@ -37,7 +37,7 @@ impl Taken {
         Taken::by_key(true, kind, at)
     }
 
-    /// A step of this kind of a call on one key, which was in a READ or not, and behind which its READ stands here.
+    /// A step of this kind of a call on one key, which was in a READ or not, and after which its READ stands here.
     #[inline(always)]
     pub(crate) fn by_key(is_reading: bool, kind: Kind, at: &ReadAt) -> Taken
         ensures { result ≡ taken_in is_reading kind at.now }
@@ -124,7 +124,7 @@ fn given_if(kind: Kind, given: Option<Ref>) -> Option<Ref>
     }
 }
 
-/// What a READ commits by a step of this kind, behind which it has given this.
+/// What a READ commits by a step of this kind, after which it has given this.
 #[inline(always)]
 fn committed_if(kind: Kind, given: Option<Ref>) -> Option<Ref>
     ensures { result ≡ committed_if kind given }

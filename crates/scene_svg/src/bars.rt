@@ -24,7 +24,7 @@ impl fmt::Display for Bars<'_> {
     }
 }
 
-// One bar of a picture of so many events.
+// One bar of a picture of this many events.
 #[derive(Clone, Copy)]
 struct OneBar<'a> {
     bar: &'a Bar,

@@ -42,7 +42,7 @@ impl fmt::Display for Escape {
     }
 }
 
-/// As much of a text as there is room for: so many characters, the last two of them dots if it is longer.
+/// As much of a text as there is room for: this many characters, the last two of them dots if it is longer.
 #[derive(Clone, Copy)]
 pub struct Fitted<'a> {
     pub text: &'a [u8],
@@ -61,7 +61,7 @@ impl fmt::Display for Fitted<'_> {
     }
 }
 
-/// The beginning of a text that is too long, with room for two dots behind it.
+/// The beginning of a text that is too long, with room for two dots after it.
 fn kept(text: &[u8], room: u128) -> &[u8]
     ensures { result.now ≡ kept room text.now }
 {

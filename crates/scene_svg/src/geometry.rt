@@ -28,7 +28,7 @@ pub fn bar_y(lane: usize) -> u128
     lane_y(lane) + 24
 }
 
-/// How many events further a bar ends; a bar that is open ends behind the last of so many events.
+/// How many events further a bar ends; a bar that is open ends after the last of this many events.
 pub fn span_of(bar: &Bar, events: usize) -> u128
     ensures span { result ≡ span_of bar.now events }
     ensures bound { result < 2 ^ 64 }
@@ -68,7 +68,7 @@ pub fn height_of(scene: &Scene) -> u128
     bottom_of(scene) + 196
 }
 
-/// Where the line of the order passes an operation that stands so: half a step behind its moment.
+/// Where the line of the order passes an operation that stands so: half a step after its moment.
 pub fn point_x(stand: &Stand) -> u128
     ensures { result ≡ point_x stand.now }
 {

@@ -99,7 +99,7 @@ impl fmt::Display for Line<'_> {
     }
 }
 
-// The points of the line, each behind a space.
+// The points of the line, each after a space.
 #[derive(Clone, Copy)]
 struct Points<'a>(&'a Scene);
 

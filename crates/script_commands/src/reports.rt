@@ -158,7 +158,7 @@ fn tell_end(text: &mut String, order: &[u64], slots: SlotsText) -> Result<(), Al
     writeln!(text, "{slots}")
 }
 
-/// The report of what threads did, with the lines of their denials behind the events.
+/// The report of what threads did, with the lines of their denials after the events.
 pub fn report_of_record(alloc: Global, made: &Record, denied: &str) -> Result<String, AllocError>
     ensures text { IfOk result (λ text. string_bytes text ≡ record_report made.now denied.now) }
     ensures fit { All EventFits made.now.events.items }

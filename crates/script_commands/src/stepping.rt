@@ -83,7 +83,7 @@ fn go(
     Ok(denial)
 }
 
-/// Takes steps of the actor's operation, at most so many, up to where they stop.
+/// Takes steps of the actor's operation, at most this many, up to where they stop.
 fn go_on(
     machine: &mut Machine,
     actor: u8,
@@ -114,7 +114,7 @@ fn stops(wanted: Option<Kind>, kind: Option<Kind>) -> bool
     }
 }
 
-/// Takes so many steps of the sweep. They are never told of, not even where they are denied.
+/// Takes this many steps of the sweep. They are never told of, not even where they are denied.
 fn sweep(machine: &mut Machine, times: u32) -> Result<Option<Refusal>, AllocError>
     ensures state { OnOk result (recorded_in machine.new ≡ recorded_from (recorded_in machine.old) (replicate times Sweep)) }
     ensures denial { IfOk result (λ denial. denial ≡ None) }

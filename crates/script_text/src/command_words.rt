@@ -23,7 +23,7 @@ pub fn command_of(words: &[&[u8]]) -> Result<Command, Refusal>
     named_command(CommandName::of(name), more)
 }
 
-/// What the words behind the name of a command say.
+/// What the words after the name of a command say.
 fn named_command(name: Option<CommandName>, words: &[&[u8]]) -> Result<Command, Refusal>
     ensures { result ≡ named_command name (nows words.now) }
 {
@@ -38,7 +38,7 @@ fn named_command(name: Option<CommandName>, words: &[&[u8]]) -> Result<Command, 
     }
 }
 
-/// The command that the words behind `actor` say.
+/// The command that the words after `actor` say.
 #[tactic(auto, unfolding(crate::specs::Commands::begin_of))]
 fn begin_of(words: &[&[u8]]) -> Result<Command, Refusal>
     ensures { result ≡ begin_of (nows words.now) }
@@ -50,7 +50,7 @@ fn begin_of(words: &[&[u8]]) -> Result<Command, Refusal>
     Ok(Command::Begin { actor, call })
 }
 
-/// The command that the words behind `do` say.
+/// The command that the words after `do` say.
 #[tactic(auto, unfolding(crate::specs::Commands::do_of))]
 fn do_of(words: &[&[u8]]) -> Result<Command, Refusal>
     ensures { result ≡ do_of (nows words.now) }
@@ -62,7 +62,7 @@ fn do_of(words: &[&[u8]]) -> Result<Command, Refusal>
     Ok(Command::Do { actor, call })
 }
 
-/// The command that the words behind `go` say.
+/// The command that the words after `go` say.
 #[tactic(auto, unfolding(crate::specs::Commands::go_of))]
 fn go_of(words: &[&[u8]]) -> Result<Command, Refusal>
     ensures { result ≡ go_of (nows words.now) }
@@ -74,7 +74,7 @@ fn go_of(words: &[&[u8]]) -> Result<Command, Refusal>
     Ok(Command::Go { actor, times })
 }
 
-/// The command that the words behind `until` say.
+/// The command that the words after `until` say.
 #[tactic(auto, unfolding(crate::specs::Commands::until_of))]
 fn until_of(words: &[&[u8]]) -> Result<Command, Refusal>
     ensures { result ≡ until_of (nows words.now) }
@@ -86,7 +86,7 @@ fn until_of(words: &[&[u8]]) -> Result<Command, Refusal>
     Ok(Command::Until { actor, kind })
 }
 
-/// The command that the words behind `finish` say.
+/// The command that the words after `finish` say.
 #[tactic(auto, unfolding(crate::specs::Commands::finish_of))]
 fn finish_of(words: &[&[u8]]) -> Result<Command, Refusal>
     ensures { result ≡ finish_of (nows words.now) }
@@ -98,7 +98,7 @@ fn finish_of(words: &[&[u8]]) -> Result<Command, Refusal>
     Ok(Command::Finish { actor })
 }
 
-/// The command that the words behind `sweep` say.
+/// The command that the words after `sweep` say.
 #[tactic(auto, unfolding(crate::specs::Commands::sweep_of))]
 fn sweep_of(words: &[&[u8]]) -> Result<Command, Refusal>
     ensures { result ≡ sweep_of (nows words.now) }
@@ -144,7 +144,7 @@ fn script_call(words: &[&[u8]]) -> Result<Call, Refusal>
     Ok(call)
 }
 
-/// The snapshot or the freeze that the words behind its name say.
+/// The snapshot or the freeze that the words after its name say.
 #[tactic(auto, unfolding(crate::specs::Commands::opening_call))]
 fn opening_call(name: Option<CallName>, words: &[&[u8]]) -> Result<Call, Refusal>
     ensures { result ≡ opening_call name (nows words.now) }

@@ -3,12 +3,12 @@
 use ctrie_base::Kind;
 use history::Call;
 
-/// What one line behind the header says.
+/// What one line after the header says.
 #[derive(Clone, Copy, Debug, PartialEq, Eq)]
 pub enum Command {
     /// `actor A CALL`: the actor begins the call.
     Begin { actor: u8, call: Call },
-    /// `go A N`: up to so many steps of the actor, fewer where its operation ends.
+    /// `go A N`: up to this many steps of the actor, fewer where its operation ends.
     Go { actor: u8, times: u32 },
     /// `until A KIND`: steps of the actor until its next one is of this kind or its operation has ended.
     Until { actor: u8, kind: Kind },
@@ -16,6 +16,6 @@ pub enum Command {
     Finish { actor: u8 },
     /// `do A CALL`: the actor begins the call and, if it may, steps until the operation has ended.
     Do { actor: u8, call: Call },
-    /// `sweep N`: so many steps of the sweep.
+    /// `sweep N`: this many steps of the sweep.
     Sweep { times: u32 },
 }

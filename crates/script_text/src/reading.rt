@@ -17,7 +17,7 @@ use machine_model::Limits;
 use std::alloc::Global;
 use text_lines::{LineReader, Told, read_text};
 
-/// What one line behind the header says, in scripts of one kind.
+/// What one line after the header says, in scripts of one kind.
 pub trait ScriptLine: Drop {
     /// How the lines of such scripts are read.
     ghost dialect: { Dialect Self };
@@ -26,7 +26,7 @@ pub trait ScriptLine: Drop {
     fn actors_of(words: &[&[u8]]) -> Result<u8, Refusal>
         ensures { result ≡ dialect.actors_of (nows words.now) };
 
-    /// What the words of a line say to so many actors.
+    /// What the words of a line say to this many actors.
     fn line_of(words: &[&[u8]], actors: u8) -> Result<Self, Refusal>
         ensures { result ≡ dialect.line_of actors (nows words.now) };
 }
@@ -48,7 +48,7 @@ impl ScriptLine for Command {
 pub struct Script<L> {
     /// What the header says.
     pub limits: Limits,
-    /// What the lines behind the header say, in their order.
+    /// What the lines after the header say, in their order.
     pub lines: Vec<L>,
 }
 
@@ -61,7 +61,7 @@ pub(crate) enum Progress<L> {
     Sized(u32),
     /// The line of the actors is still to come.
     Hashed(u32, HashKind),
-    /// The lines behind the header are read.
+    /// The lines after the header are read.
     InLines(Script<L>),
 }
 

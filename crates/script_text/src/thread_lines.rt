@@ -10,12 +10,12 @@ use crate::headers::actors_of;
 use ctrie_base::Refusal;
 use history::Call;
 
-/// What one line behind the header says.
+/// What one line after the header says.
 #[derive(Clone, Copy, Debug, PartialEq, Eq)]
 pub enum ThreadLine {
     /// `do A CALL`: the actor performs the call.
     Do { actor: u8, call: Call },
-    /// `sweep N`: so many steps of the sweep.
+    /// `sweep N`: this many steps of the sweep.
     Sweep { times: u32 },
 }
 
@@ -33,7 +33,7 @@ pub fn thread_actors_of(words: &[&[u8]]) -> Result<u8, Refusal>
     Ok(actors)
 }
 
-/// What the words of a line say to so many actors. A line that is neither `do` nor `sweep` is BadLine, an
+/// What the words of a line say to this many actors. A line that is neither `do` nor `sweep` is BadLine, an
 /// actor that isn't among them BadNumber.
 #[tactic(auto, unfolding(crate::specs::Threads::Lines::thread_line_of))]
 pub fn thread_line_of(words: &[&[u8]], actors: u8) -> Result<ThreadLine, Refusal>
@@ -55,7 +55,7 @@ fn is_for_threads(name: &[u8]) -> bool
     name == b"do".as_slice() || name == b"sweep".as_slice()
 }
 
-/// The command, if it is one for so many threads.
+/// The command, if it is one for this many threads.
 fn thread_line_from(command: Command, actors: u8) -> Result<ThreadLine, Refusal>
     ensures { result ≡ thread_line_from actors command }
 {

@@ -12,7 +12,7 @@ use std::marker::Model;
 type Gap = [u64; 16];
 
 /// A shard, and the log of the calls about it, which takes no bytes but those of their number. Each call about the shard writes
-/// this number, and no other word need be in its lines: neither of the shard nor of the next one, which lies behind this one.
+/// this number, and no other word need be in its lines: neither of the shard nor of the next one, which lies after this one.
 #[derive(Drop)]
 #[repr(C)]
 pub struct Shard<O, C, A> {

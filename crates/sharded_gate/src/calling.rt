@@ -151,9 +151,9 @@ impl<O: Sharded<C, A> + Drop, C: Copy, A: Drop> ShardedGate<O, C, A> {
         (hand.into_pass(), answer)
     }
 
-    /// Tells whether the shard is there, and so many calls about it stand in the log that it finds, as `ShardedSeat::last`
+    /// Returns whether the shard is there, and this many calls about it stand in the log that it finds, as `ShardedSeat::last`
     /// numbers them. All that it found stands before what the seat calls next, so who is told the number of a call, and is
-    /// answered `true`, comes behind it. Where the shard isn't there it waits for the first one and looks there, and the answer
+    /// answered `true`, comes after it. Where the shard isn't there it waits for the first one and looks there, and the answer
     /// is `false`, whatever number is asked for.
     pub fn hear<R: Wait>(&self, rt: &R, seat: &mut ShardedSeat<O, C, A>, count: ShardCount) -> bool
         requires { IsSeatOf self.now seat.old.seat }

@@ -118,7 +118,7 @@ fn has_seat<S: HoldsShardedSeat<O, C, A>, O: Sharded<C, A>, C, A>(seats: &[S], n
     false
 }
 
-/// The objects of the slots, of which there are so many.
+/// The objects of the slots, of which there are this many.
 fn take_out<O: Drop, C: Drop, A: Drop>(
     mut closed: Closed<Shard<O, C, A>, Global>,
     shards: usize,

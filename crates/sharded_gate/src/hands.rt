@@ -104,7 +104,7 @@ impl<O: Sharded<C, A>, C, A> Shards<O> for Hand<'_, O, C, A> {
     }
 }
 
-/// The shard that the seat took last goes behind the others, so many times. Nothing is done for it.
+/// The shard that the seat took last goes after the others, this many times. Nothing is done for it.
 fn turn<O, C, A>(pass: &mut Pass<O, C, A>, times: usize)
     ensures table { pass.new.table_id ≡ pass.old.table_id }
     ensures view { pass.new.me.0 ≡ pass.old.me.0 }

@@ -10,7 +10,7 @@ use crate::sharded::Sharded;
 use gate::{SHORT_WAITS, short_pause};
 
 impl<O: Sharded<C, A>, C, A> ShardedGate<O, C, A> {
-    /// Takes the shard if it is not taken, and tells whether it did.
+    /// Takes the shard if it is not taken, and returns whether it did.
     #[inline(always)]
     pub(crate) fn try_enter(&self, pass: &mut Pass<O, C, A>, shard: usize, number: u8) -> bool
         requires seat { pass.old.table_id ≡ self.now.id }
@@ -27,7 +27,7 @@ impl<O: Sharded<C, A>, C, A> ShardedGate<O, C, A> {
         found == 0
     }
 
-    /// The same, by so many tries at most.
+    /// The same, by this many tries at most.
     fn enter_by_tries(&self, pass: &mut Pass<O, C, A>, shard: usize, number: u8, tries: u32) -> bool
         requires seat { pass.old.table_id ≡ self.now.id }
         requires number { IsOf number pass.old.me }

@@ -27,7 +27,7 @@ pub fn logs_go_on<O: Sharded<C, A>, C, A>()
     ensures { LogsGoOn O.answers }
 {}
 
-/// A law: a call of a seat that knew of another call about a shard stands behind it, in each log that goes on from both.
+/// A law: a call of a seat that knew of another call about a shard stands after it, in each log that goes on from both.
 pub fn told_calls_of_a_shard_stand_before<O: Sharded<C, A>, C, A>()
     ensures { ToldCallsOfAShardStandBefore O.answers O.about }
 {}

@@ -17,7 +17,7 @@ use std::alloc::Global;
 use std::collections::LinkedList;
 
 impl<O: Sharded<C, A> + Drop, C: Drop, A: Drop> ShardedGate<O, C, A> {
-    /// A gate before the object in these shards, of which there is one at least, and so many seats, with the numbers 1 and
+    /// A gate before the object in these shards, of which there is one at least, and this many seats, with the numbers 1 and
     /// on. Where memory is wanting the shards come back.
     pub fn new(
         alloc: Global,

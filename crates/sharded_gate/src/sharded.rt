@@ -42,7 +42,7 @@ pub trait Sharded<C, A> {
     /// be these then.
     ghost answers: { ℕ → List Self → C → A → List Self → Type 0 };
 
-    /// Of a whole in so many shards, the one that the call is about, or none where it is about all.
+    /// Of a whole in this many shards, the one that the call is about, or none where it is about all.
     ghost about: { ℕ → C → Option ℕ };
 
     /// The shard that the call is about, or none where it is about all.

@@ -11,7 +11,7 @@ use ctrie_map::{Handle, Map, MapError};
 use history::Call;
 use sharded_gate::{Shards, Visit};
 
-/// So many steps a copy takes at most, with the sweep behind it.
+/// This many steps a copy takes at most, with the sweep after it.
 const COPY_STEPS: u64 = 144;
 
 /// What the first shard tells of a handle, and of what all shards have alike.
@@ -112,7 +112,7 @@ fn is_worn_out_for(restores: bool, map: &Map) -> bool
 }
 
 /// Whether no more steps are left than a restore takes, with five for each slot in use that may become free by it, and a call
-/// behind it.
+/// after it.
 fn is_worn_out_to_restore(map: &Map) -> bool
     ensures { result ≡ is_worn_out_to_restore map.now }
 {

@@ -13,7 +13,7 @@ use history::{Call, Pairs, Reply};
 pub enum Ask {
     /// A call on the map of a handle.
     Do(Call),
-    /// The next entries of a handle's map behind this key, `room` of them at most, in ascending order of keys; from the first
+    /// The next entries of a handle's map after this key, `room` of them at most, in ascending order of keys; from the first
     /// one on where it is none. All shards are held for one walk over the map, in memory for `room` pairs of each. Parts of a
     /// frozen copy are a listing of one moment (`parts_list_one_moment`). `NoHandle` where the handle isn't open; else only
     /// memory is refused.
@@ -22,7 +22,7 @@ pub enum Ask {
         after: Option<u64>,
         room: usize,
     },
-    /// The next entries behind this key, `room` of them at most, of those that lie in one shard, in the order of `Map::scan`;
+    /// The next entries after this key, `room` of them at most, of those that lie in one shard, in the order of `Map::scan`;
     /// from the first one on where it is none. Shards are counted from 0, and a number beyond the last one counts round again.
     /// It holds this shard alone, for a way down and what it hands out, in memory for that. The parts of all shards of a
     /// frozen copy are a listing of one moment (`scans_list_one_moment`). `NoHandle` where the handle isn't open; else only
@@ -142,7 +142,7 @@ pub(crate) fn told_writable(writable: Result<bool, MapError>) -> Told
 /// 2^64 over the golden ratio, to the next odd number.
 const SPREAD: u64 = 11_400_714_819_323_198_485;
 
-/// The shard of a hash, of so many.
+/// The shard of a hash, of this many.
 #[tactic(auto, using(crate::proofs::OnePlace::shard_within))]
 fn shard_of(hash: u64, shards: usize) -> usize
     requires { 0 < shards }
@@ -153,7 +153,7 @@ fn shard_of(hash: u64, shards: usize) -> usize
     ((u128::from(product) * shards as u128) >> 64) as usize
 }
 
-/// The shard of a key, of so many. Where there is one, nothing is worked out.
+/// The shard of a key, of this many. Where there is one, nothing is worked out.
 #[tactic(auto, using(crate::proofs::OnePlace::place_if_one))]
 fn place_of(hash: HashKind, key: u64, shards: usize) -> usize
     requires { 0 < shards }

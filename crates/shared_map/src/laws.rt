@@ -37,7 +37,7 @@ pub fn frozen_handles_stay()
     ensures { FrozenHandlesStay }
 {}
 
-/// A law: a scan of a shard, and one behind its last key, are one scan.
+/// A law: a scan of a shard, and one after its last key, are one scan.
 pub fn scans_join()
     ensures { ScansJoin }
 {}

@@ -19,7 +19,7 @@ use std::mem;
 pub(crate) enum Listed {
     /// All of them.
     All,
-    /// The next ones behind this key, so many at most.
+    /// The next ones after this key, this many at most.
     Next { after: Option<u64>, room: usize },
 }
 

@@ -39,7 +39,7 @@ impl Model for SharedMap {
 }
 
 impl SharedMap {
-    /// A new map in so many shards, from 1 to 64, each with so many slots as `Map::new` takes, and so many seats, with the
+    /// A new map in this many shards, from 1 to 64, each with this many slots as `Map::new` takes, and this many seats, with the
     /// numbers 1 and on. `BadSizes` exactly where the number of slots or of shards is out of range; else `Memory` where memory
     /// is wanting. Nothing is kept then.
     #[tactic(auto, using(crate::proofs::New::new_are))]
@@ -73,7 +73,7 @@ impl SharedMap {
         }
     }
 
-    /// This map behind a gate, in one shard, and so many seats, with the numbers 1 and on. Where memory is wanting it comes
+    /// This map behind a gate, in one shard, and this many seats, with the numbers 1 and on. Where memory is wanting it comes
     /// back.
     pub fn of(alloc: Global, map: Map, seats: u8) -> Result<(SharedMap, Vec<MapSeat>), Map>
         ensures made { IfOk result (λ made. Shares map seats made.0 made.1.items) }
@@ -91,7 +91,7 @@ impl SharedMap {
         }
     }
 
-    /// The shards of one map with this hash behind a gate, as they came out of `finish`, and so many seats, with the numbers 1
+    /// The shards of one map with this hash behind a gate, as they came out of `finish`, and this many seats, with the numbers 1
     /// and on. Where memory is wanting they come back.
     pub fn of_shards(
         alloc: Global,
@@ -160,7 +160,7 @@ fn slots_of(shards: &[Map]) -> u64
     slots
 }
 
-/// How many slots so many shards have.
+/// How many slots this many shards have.
 #[tactic(auto, using(crate::proofs::Slots::few_slots))]
 fn slots_in_all(slots: u32, shards: u8) -> u64
     ensures { result ≡ slots * shards }
@@ -168,7 +168,7 @@ fn slots_in_all(slots: u32, shards: u8) -> u64
     u64::from(slots) * u64::from(shards)
 }
 
-/// So many new maps.
+/// This many new maps.
 #[tactic(auto, using(crate::proofs::New::one_more_new))]
 fn new_maps(alloc: Global, slots: u32, hash: HashKind, shards: u8) -> Result<Vec<Map>, MapError>
     requires { 0 < shards }

@@ -16,7 +16,7 @@ use ctrie_map::{Map, MapError};
 use history::Pairs;
 use sharded_gate::Shards;
 
-/// The next entries of the handle behind this key, so many at most, if it is open.
+/// The next entries of the handle after this key, this many at most, if it is open.
 pub(crate) fn part_of_all<S: Shards<Map>>(
     shards: &mut S,
     first: &Knowing,

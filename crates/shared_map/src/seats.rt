@@ -36,9 +36,9 @@ impl SharedMap {
         self.gate.try_call(seat, Request { ask, hash })
     }
 
-    /// Tells whether so many calls about a shard stand in the log that it finds, as `last` of a seat numbers them; of a shard
-    /// that isn't there it tells `false`, once it has looked at the first one. All that it found stands before what the seat
-    /// calls next, so who is told the number of a call, and hears `true` of it, comes behind it. It may find no more than the
+    /// Returns whether this many calls about a shard stand in the log that it finds, as `last` of a seat numbers them; of a shard
+    /// that isn't there it returns `false`, once it has looked at the first one. All that it found stands before what the seat
+    /// calls next, so who is told the number of a call, and hears `true` of it, comes after it. It may find no more than the
     /// seat had seen before.
     pub fn hear<R: Wait>(&self, rt: &R, seat: &mut MapSeat, count: ShardCount) -> bool
         requires { IsSeatOf self.now seat.old }

@@ -61,7 +61,7 @@ impl Model for Arena {
 }
 
 impl Arena {
-    /// An arena of so many slots, all free: from 2 to 1,048,576. All memory is taken here.
+    /// An arena of this many slots, all free: from 2 to 1,048,576. All memory is taken here.
     pub fn new(alloc: Global, slots: u32) -> Result<Arena, Refusal>
         ensures made { IfOk result (λ arena. (arena ≡ new_arena slots) × AreSlots slots) }
         ensures refused { IfErr result (λ refusal. (refusal ≡ Refusal.BadLimits × ¬ AreSlots slots) ⊎ (refusal ≡ Refusal.Memory × AreSlots slots)) }
@@ -216,7 +216,7 @@ impl Arena {
         self.cells.prev(at.slot())
     }
 
-    /// Where the main word of an indirection is `from` it becomes `to`. Tells whether it was.
+    /// Where the main word of an indirection is `from` it becomes `to`. Returns whether it was.
     pub fn swap_main(&mut self, at: Ref, from: Ref, to: Ref) -> bool
         requires live { IsLive self.old.heap at }
         requires kind { is_indirection (node_at self.old.heap at) ≡ true }
@@ -236,7 +236,7 @@ impl Arena {
         true
     }
 
-    /// Where the `prev` word of a main node is `from` it becomes `to`. Tells whether it was.
+    /// Where the `prev` word of a main node is `from` it becomes `to`. Returns whether it was.
     pub fn swap_prev(&mut self, at: Ref, from: Prev, to: Prev) -> bool
         requires live { IsLive self.old.heap at }
         requires kind { is_main_node (node_at self.old.heap at) ≡ true }
@@ -275,7 +275,7 @@ impl Arena {
         self.ledger.settle(at);
     }
 
-    /// Where an indirection's main word is `from`, it becomes `to`, `to` pending over `from`. Tells whether it was.
+    /// Where an indirection's main word is `from`, it becomes `to`, `to` pending over `from`. Returns whether it was.
     #[inline(always)]
     pub fn publish(&mut self, at: Ref, from: Ref, to: Ref) -> bool
         requires live { IsLive self.old.heap at }

@@ -46,7 +46,7 @@ impl Model for Cells {
 }
 
 impl Cells {
-    /// So many slots, none in use.
+    /// This many slots, none in use.
     pub(crate) fn new(alloc: Global, slots: u32) -> Result<Cells, AllocError>
         ensures { IfOk result (λ cells. cells ≡ replicate slots None) }
     {

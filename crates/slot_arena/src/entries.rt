@@ -53,7 +53,7 @@ impl EntryChange {
         }
     }
 
-    /// The entries that stay, in front of the position and behind it.
+    /// The entries that stay, in front of the position and after it.
     #[inline(always)]
     pub(crate) fn staying<'a>(&self, entries: &'a [Ref]) -> (&'a [Ref], &'a [Ref])
         requires { Fits self.now entries.now }
@@ -80,7 +80,7 @@ pub(crate) fn put_changed(entries: &mut Entries, refs: &[Ref], change: &EntryCha
     append(entries, front, change.coming(), back);
 }
 
-/// The references of three slices, one behind the other, as entries.
+/// The references of three slices, one after the other, as entries.
 #[inline(always)]
 pub fn joined(front: &[Ref], middle: &[Ref], back: &[Ref]) -> Entries
     requires { length front.now + length middle.now + length back.now ≤ 32 }
@@ -92,7 +92,7 @@ pub fn joined(front: &[Ref], middle: &[Ref], back: &[Ref]) -> Entries
     entries
 }
 
-/// Puts three slices, one behind the other, into entries that were none.
+/// Puts three slices, one after the other, into entries that were none.
 #[inline(always)]
 fn append(entries: &mut Entries, front: &[Ref], middle: &[Ref], back: &[Ref])
     requires none { entries.old.items ≡ [] }

@@ -11,7 +11,7 @@ use ctrie_base::{Change, Ticks, Trace};
 use std::alloc::{AllocError, Global};
 use std::marker::Model;
 
-/// The free slots, the next one first: a link for each slot, and behind them the end, whose link leads
+/// The free slots, the next one first: a link for each slot, and after them the end, whose link leads
 /// to the first one.
 #[derive(Drop)]
 pub(crate) struct FreeSlots {
@@ -33,7 +33,7 @@ impl Model for FreeSlots {
 }
 
 impl FreeSlots {
-    /// The slots from 0 on, so many.
+    /// The slots from 0 on, this many.
     pub(crate) fn new(alloc: Global, slots: u32) -> Result<FreeSlots, AllocError>
         requires { slots ≤ most_slots }
         ensures { IfOk result (λ free. free ≡ record { slots = range_with_len 0 slots; size = slots; ticks = slots }) }

@@ -43,7 +43,7 @@ impl Model for Ledger {
 }
 
 impl Ledger {
-    /// So many slots, none with a reference.
+    /// This many slots, none with a reference.
     pub(crate) fn new(alloc: Global, slots: usize) -> Result<Ledger, AllocError>
         ensures { IfOk result (λ ledger. (ledger.tally ≡ record { counts = replicate slots 0; noted = []; ticks = 0 }) × IsOver ledger.loan) }
     {

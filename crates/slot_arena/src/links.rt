@@ -22,7 +22,7 @@ impl Model for Links {
 }
 
 impl Links {
-    /// So many links, each to 0.
+    /// This many links, each to 0.
     pub fn new(alloc: Global, count: usize) -> Result<Links, AllocError>
         ensures { IfOk result (λ links. links ≡ record { words = replicate count 0; ticks = 0 }) }
     {
@@ -77,7 +77,7 @@ impl Model for Flags {
 }
 
 impl Flags {
-    /// So many flags, none of them set.
+    /// This many flags, none of them set.
     pub fn new(alloc: Global, count: usize) -> Result<Flags, AllocError>
         ensures { IfOk result (λ flags. flags ≡ record { marks = replicate count false; ticks = 0 }) }
     {

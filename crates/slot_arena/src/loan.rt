@@ -108,7 +108,7 @@ impl Loan {
         self.kept
     }
 
-    /// What is lent, in front of the one that isn't and behind it.
+    /// What is lent, in front of the one that isn't and after it.
     pub(crate) fn parts(&self) -> (&[Ref], &[Ref])
         ensures front { result.0.now ≡ take self.now.kept self.now.refs }
         ensures back { result.1.now ≡ drop (self.now.kept + 1) self.now.refs }

@@ -5,7 +5,7 @@ ghost use Rattle.slot_arena.specs.Refs.{ref_to, slot_of, birth_of, most_slots, b
 
 use std::marker::Model;
 
-/// How many slots there are at most: so many numbers of slots a reference has.
+/// How many slots there are at most: this many numbers of slots a reference has.
 pub const MOST_SLOTS: u32 = 1 << 20;
 
 /// A reference to a slot in use: the slot's number, and the birth number that was drawn when the slot

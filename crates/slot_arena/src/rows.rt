@@ -41,7 +41,7 @@ impl Model for Rows {
 }
 
 impl Rows {
-    /// No rows, with room for so many.
+    /// No rows, with room for this many.
     pub(crate) fn new(alloc: Global, size: u32) -> Result<Rows, AllocError>
         ensures { IfOk result (λ rows. rows ≡ record { rows = []; spare = []; size = size }) }
     {
@@ -106,7 +106,7 @@ impl Rows {
         self.add(joined(front, change.coming(), back))
     }
 
-    /// Adds a row of these entries behind all others, where none is spare.
+    /// Adds a row of these entries after all others, where none is spare.
     #[inline(always)]
     fn add(&mut self, entries: ArrayVec<Ref, 32>) -> u32
         requires none { self.old.spare ≡ [] }

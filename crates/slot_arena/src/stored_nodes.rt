@@ -52,7 +52,7 @@ impl Model for StoredNodes {
 }
 
 impl StoredNodes {
-    /// So many slots, each without a node.
+    /// This many slots, each without a node.
     pub(crate) fn new(alloc: Global, slots: u32) -> Result<StoredNodes, AllocError>
         ensures { IfOk result (λ nodes. nodes ≡ replicate slots None) }
     {

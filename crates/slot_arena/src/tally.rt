@@ -44,7 +44,7 @@ impl Model for Tally {
 }
 
 impl Tally {
-    /// So many slots, none with a reference.
+    /// This many slots, none with a reference.
     pub(crate) fn new(alloc: Global, slots: usize) -> Result<Tally, AllocError>
         ensures { IfOk result (λ tally. tally ≡ record { counts = replicate slots 0; noted = []; ticks = 0 }) }
     {
@@ -143,7 +143,7 @@ impl Tally {
         self.counts[slot as usize] += 1;
     }
 
-    /// Counts one reference less to a slot, but for its last one. Tells whether it did.
+    /// Counts one reference less to a slot, but for its last one. Returns whether it did.
     #[inline(always)]
     pub(crate) fn lower_but_last(&mut self, slot: u32) -> bool
         requires within { slot < length self.old.counts }

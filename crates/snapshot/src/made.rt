@@ -56,7 +56,7 @@ impl CopyOp {
         }
     }
 
-    /// Where the program stands behind the making of a node: a writable snapshot makes a second root.
+    /// Where the program stands after the making of a node: a writable snapshot makes a second root.
     fn after_made(&self, making: &Making, task: CopyTask, made: Ref) -> CopyAt
         requires { self.now.attempt < 2 ^ 64 - 1 }
         ensures line { (operation : Operation) (access : AnAccess) (mark : Bool) (r : ARead) →

@@ -40,7 +40,7 @@ impl Taken {
         self.pairs.clear();
     }
 
-    /// Makes room for one more. After an error, which is want of memory, nothing has changed but room.
+    /// Makes room for one more. After an error, which is lack of memory, nothing has changed but room.
     pub(crate) fn make_room(&mut self) -> Result<(), AllocError>
         ensures same { self.new.items ≡ self.old.items }
         ensures room { OnOk result (0 < self.new.room) }

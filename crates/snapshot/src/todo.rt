@@ -41,7 +41,7 @@ impl Todo {
         self.stack.clear();
     }
 
-    /// Makes room for the entries of a node. After an error, which is want of memory, nothing has changed but room.
+    /// Makes room for the entries of a node. After an error, which is lack of memory, nothing has changed but room.
     pub(crate) fn make_room(&mut self) -> Result<(), AllocError>
         ensures same { self.new.items ≡ self.old.items }
         ensures room { OnOk result (32 ≤ self.new.room) }

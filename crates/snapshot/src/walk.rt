@@ -90,7 +90,7 @@ impl Walk {
         }
     }
 
-    /// Makes room for what its next step may put into its lists. After an error, which is want of memory, nothing has changed
+    /// Makes room for what its next step may put into its lists. After an error, which is lack of memory, nothing has changed
     /// but room.
     pub fn make_room(&mut self) -> Result<(), Refusal>
         ensures same { KeepsWalk self.old self.new }

@@ -33,7 +33,7 @@ impl Machine {
     /// begin is answered, and nothing has changed then. After `Memory` or `Spent` the steps taken so far stand:
     /// an operation that began still runs. `Memory` is answered only where nothing denies the next step. From
     /// rest, the history grows by the begin and the end of an operation that ends; it enters the order last, and
-    /// the contents change by its call, with its reply; where it is refused for want of slots, neither order nor
+    /// the contents change by its call, with its reply; where it is refused for lack of slots, neither order nor
     /// contents change. The machine is at rest again then. Nor is a call that is sure to end refused so where 570
     /// slots are free; a snapshot, a freeze or a clear isn't where 23 are, and a close never is.
     pub fn complete(&mut self, actor: u8, call: Call) -> Result<Option<Reply>, Refusal>
@@ -106,7 +106,7 @@ impl Machine {
         Ok(None)
     }
 
-    /// Whether the actor's operation goes on behind its next step.
+    /// Whether the actor's operation goes on after its next step.
     #[inline(always)]
     fn goes_on(&self, actor: u8) -> bool
         ensures { result ≡ goes_on (next_kind (state_of self.now) actor) }
@@ -114,7 +114,7 @@ impl Machine {
         self.body().goes_on(actor)
     }
 
-    /// Takes a step of it behind which it goes on, told by its kind alone. Most swap in no main node: they are told apart
+    /// Takes a step of it after which it goes on, told by its kind alone. Most swap in no main node: they are told apart
     /// first, so that their code has nothing of one; and it is asked for anew, so that it isn't held while they are taken.
     #[inline(always)]
     fn go(&mut self, actor: u8) -> Result<Kind, Refusal>
@@ -138,7 +138,7 @@ impl Machine {
         self.body().published(actor)
     }
 
-    /// Takes a step of the actor's operation, and tells the reply, if it is the end. It stands alone, so that the loop
+    /// Takes a step of the actor's operation, and returns the reply, if it is the end. It stands alone, so that the loop
     /// around it has no outcome in memory.
     #[inline(never)]
     fn reply(&mut self, actor: u8) -> Result<Option<Reply>, Refusal>

@@ -89,7 +89,7 @@ impl Machine {
         })
     }
 
-    /// Makes room in the record for so many steps more: all that they may add to steps, events and order. The memory is
+    /// Makes room in the record for this many steps more: all that they may add to steps, events and order. The memory is
     /// written once here, since the first touch of fresh memory costs more than a step. Nothing has changed then;
     /// `Memory` is the only refusal.
     pub fn reserve(&mut self, steps: u64) -> Result<(), Refusal>
@@ -103,14 +103,14 @@ impl Machine {
         self.kept.reserve(count)
     }
 
-    /// Takes a step. Where it is refused, for want of memory too, nothing has changed; `Memory` is answered
+    /// Takes a step. Where it is refused, for lack of memory too, nothing has changed; `Memory` is answered
     /// only where nothing else denies the step. A reply `NoSlots` comes only where the actor's step before
     /// was to make a node, and no slot was free before it.
     ///
     /// What the step takes for granted is in use (`used`). It frees a slot only where nothing has referred to
     /// it for two epochs (`frees`), and makes one under a reference that never was in use (`draws`). `contents`
     /// says what it does to the content of each open handle. An operation on one key, a snapshot, a freeze, a
-    /// clear or a close ends within 3,962 steps of its actor alone, while so many are left (`ends`); each one
+    /// clear or a close ends within 3,962 steps of its actor alone, while that many are left (`ends`); each one
     /// that is taken leaves one less (`nearer`). What `ticks` counts grows by at most one.
     #[inline(always)]
     pub fn apply(&mut self, step: Step) -> Result<Outcome, Refusal>
@@ -156,7 +156,7 @@ impl Machine {
         Ok(outcome)
     }
 
-    /// A step of the actor's operation behind which it goes on, told by its kind alone. It swaps in this main node, if it does.
+    /// A step of the actor's operation after which it goes on, told by its kind alone. It swaps in this main node, if it does.
     #[tactic(auto, using(crate::proofs::Steps::one_more, crate::proofs::Denials::not_taken))]
     #[inline(always)]
     pub(crate) fn go_publishing(
@@ -196,7 +196,7 @@ impl Machine {
         self.wanting(Step::Go { actor })
     }
 
-    /// Why a step is denied, if it is: what `apply` answers, but for want of memory.
+    /// Why a step is denied, if it is: what `apply` answers, but for lack of memory.
     pub fn denial(&self, step: Step) -> Option<Refusal>
         ensures { result ≡ denial_of (state_of self.now) (asked step) }
     {

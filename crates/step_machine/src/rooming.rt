@@ -7,7 +7,7 @@ use ctrie_base::Refusal;
 use machine_core::Step;
 use std::alloc::AllocError;
 
-/// Makes room for one more step, and for what it tells, of a machine that has drawn so many generations. What is kept stays.
+/// Makes room for one more step, and for what it tells, of a machine that has drawn this many generations. What is kept stays.
 #[inline(always)]
 pub fn make_room(
     steps: &mut Vec<Step>,
@@ -25,7 +25,7 @@ pub fn make_room(
     kept.make_room(generations)
 }
 
-/// Makes room for so many steps more, each of which is written once. The steps stay.
+/// Makes room for this many steps more, each of which is written once. The steps stay.
 pub fn touch_room(steps: &mut Vec<Step>, count: usize) -> Result<(), AllocError>
     ensures { steps.new.items ≡ steps.old.items }
 {

@@ -1,6 +1,6 @@
 //! Steps of the state that are told to its record.
 
-ghost use Rattle.std.specs.Prelude.{◌≡◌, ◌<◌, false, true};
+ghost use Rattle.std.specs.Prelude.{◌≡◌, ◌<◌, false, true, None};
 ghost use Rattle.machine_core.specs.Asking.{asked};
 ghost use Rattle.machine_core.specs.Told.{published_in};
 ghost use Rattle.machine_model.specs.declared.steps.Step.TheVariants as steps;
@@ -36,7 +36,7 @@ pub fn take(body: &mut Core, kept: &mut Chronicle, step: Step) -> Result<Outcome
 fn begin(body: &mut Core, kept: &mut Chronicle, actor: u8, call: Call) -> Result<Outcome, Refusal>
     requires fits { CanTell body.old.state kept.old }
     requires room { 0 < kept.old.room }
-    ensures { TakesAndTells result body.old.state kept.old (steps.Begin actor call) body.new.state kept.new }
+    ensures { TakesAndTells result body.old.state kept.old (steps.Begin actor call None) body.new.state kept.new }
 {
     let step = body.steps_taken();
     let begun = body.begin(actor, call)?;
@@ -58,7 +58,7 @@ fn go_or_end(body: &mut Core, kept: &mut Chronicle, actor: u8) -> Result<Outcome
     }
 }
 
-/// One behind which it goes on, told by its kind alone. It swaps in this main node, if it does.
+/// One after which it goes on, told by its kind alone. It swaps in this main node, if it does.
 #[tactic(auto, using(crate::proofs::Feeding::feeds))]
 #[inline(always)]
 pub fn go(

@@ -198,7 +198,7 @@ fn fail_each_read<R: Abort + AllocGlobal + Threads + Wait + Sync>(
     }
 }
 
-/// Nothing is written behind a failed read. One that was interrupted is made again, and all is.
+/// Nothing is written after a failed read. One that was interrupted is made again, and all is.
 #[test]
 fn tells_each_failed_read(rt: HostRuntime) {
     for case in CASES {

@@ -33,7 +33,7 @@ impl Between for Meeting {
     }
 }
 
-/// Waits for so many turns until it is told.
+/// Waits for this many turns until it is told.
 fn is_soon(told: &AtomicBool) -> bool {
     for _ in 0..TURNS {
         if told.load(Ordering::SeqCst) {

@@ -243,7 +243,7 @@ fn ask<R: Wait>(
     (bank.call(rt, seat, order), seat.last())
 }
 
-/// Whether a seat hears of so many orders.
+/// Whether a seat hears of this many orders.
 fn hears<R: Wait>(
     rt: &R,
     bank: &ShardedGate<Branch, Order, u64>,
@@ -258,7 +258,7 @@ fn hears<R: Wait>(
 }
 
 /// A branch counts the orders that are about it, or about all, whichever seat gives them. A branch that isn't there has none. A
-/// try comes in where nobody else has a branch.
+/// try succeeds where nobody else has a branch.
 #[test]
 fn orders_have_numbers(rt: HostRuntime) -> Result<(), Fail> {
     let mut branches = Vec::new(rt.alloc());

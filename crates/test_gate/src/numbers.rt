@@ -41,7 +41,7 @@ fn calls_have_numbers(rt: HostRuntime) -> Result<(), Fail> {
 }
 
 /// Seat one adds 1, and adds 2 then; the other one is told the number of the first call, and adds 3: whether it heard of
-/// the number. If so it stands behind that call, though seat one has called again.
+/// the number. If so it stands after that call, though seat one has called again.
 fn call_again<R: Wait>(
     rt: &R,
     gate: &Gate<Counter, u64, u64>,
@@ -75,7 +75,7 @@ fn awaited(told: &AtomicU64) -> Option<u64> {
 }
 
 /// Seat 1 adds 1, and tells the number of that call. The other one waits for the number, hears of it, and is answered
-/// behind it: whether it was.
+/// after it: whether it was.
 fn tell<R: Wait>(
     rt: &R,
     gate: &Gate<Counter, u64, u64>,

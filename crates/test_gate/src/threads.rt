@@ -14,7 +14,7 @@ use std::thread;
 /// How many calls each thread makes.
 const CALLS: u64 = 2_000;
 
-/// Draws so many tickets; their sum.
+/// Draws this many tickets; their sum.
 fn draw<O: Object<u64, u64> + Drop, R: Wait>(
     rt: &R,
     gate: &Gate<O, u64, u64>,

@@ -28,7 +28,7 @@ fn draw_one(gate: &Gate<Counter, u64, u64>, seat: &mut Seat<Counter, u64, u64>) 
     0
 }
 
-/// Draws so many; their sum.
+/// Draws this many; their sum.
 fn draw(gate: &Gate<Counter, u64, u64>, seat: &mut Seat<Counter, u64, u64>) -> u64
     requires { IsSeatOf gate.now seat.old }
     ensures { IsSeatOf gate.now seat.new }

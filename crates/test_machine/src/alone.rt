@@ -27,7 +27,7 @@ fn put(key: u64) -> Call {
     }
 }
 
-/// The first calls on an empty map, each with the number of its steps behind its begin.
+/// The first calls on an empty map, each with the number of its steps after its begin.
 #[test]
 fn takes_few_steps(rt: HostRuntime) -> Result<(), Fail> {
     let calls = [
@@ -87,7 +87,7 @@ fn go_until(machine: &mut Machine, actor: u8, kind: Kind) -> Result<(), Refusal>
     Ok(())
 }
 
-/// A remove stops behind its commit, before the tomb gives way: the long path ends in a tomb.
+/// A remove stops after its commit, before the tomb gives way: the long path ends in a tomb.
 fn leave_a_tomb(machine: &mut Machine) -> Result<(), Refusal> {
     let remove = Call::Remove {
         handle: 0,

@@ -63,7 +63,7 @@ fn completed(rt: &(impl Abort + AllocGlobal)) -> Result<Machine, Fail> {
     Ok(machine)
 }
 
-/// So many slots are in use and free, and so many nodes are in limbo.
+/// This many slots are in use and free, and this many nodes are in limbo.
 fn has_slots(rt: &impl Abort, machine: &Machine, used: u32, free: u32, limbo: u32) {
     assert_eq!(rt; machine.used(), used);
     assert_eq!(rt; machine.free_slots(), free);
@@ -85,7 +85,7 @@ fn reclaims(rt: HostRuntime) -> Result<(), Fail> {
     Ok(())
 }
 
-/// The kinds of the steps behind the begin of a put into the empty map.
+/// The kinds of the steps after the begin of a put into the empty map.
 const PUT_KINDS: [Kind; 12] = [
     Kind::ReadRoot,
     Kind::ReadMain,
@@ -181,7 +181,7 @@ fn takes_steps(rt: HostRuntime) -> Result<(), Fail> {
     Ok(())
 }
 
-/// The actor takes so many steps.
+/// The actor takes this many steps.
 fn push_steps(steps: &mut Vec<Step>, actor: u8, times: u32) -> Result<(), AllocError> {
     for _ in 0..times {
         steps.push(Step::Go { actor })?;

@@ -16,7 +16,7 @@ enum Act {
     Until(u8, Kind),
     /// The actor goes on until its operation has ended.
     Finish(u8),
-    /// So many steps of the sweep.
+    /// This many steps of the sweep.
     Sweep(u32),
 }
 

@@ -27,7 +27,7 @@ fn filled(alloc: Global) -> Result<Machine, Refusal> {
     Ok(machine)
 }
 
-/// What the put did is told, and a get finds the pair: its steps come behind those of the put.
+/// What the put did is told, and a get finds the pair: its steps come after those of the put.
 fn goes_on(rt: &(impl Abort + AllocGlobal), machine: &mut Machine) -> Result<(), Fail> {
     assert_eq!(rt; machine.steps().len(), 13);
     assert_eq!(rt; machine.events().len(), 2);

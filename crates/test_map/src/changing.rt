@@ -24,7 +24,7 @@ pub fn change(alloc: Global, map: &mut Map, line: &Line<'_>) -> Result<Option<St
     Ok(Some(told))
 }
 
-/// The pairs of which the numbers behind the handle are.
+/// The pairs of which the numbers after the handle are.
 fn pairs_of(alloc: Global, line: &Line<'_>) -> Result<Vec<(u64, u64)>, AllocError> {
     let mut pairs = Vec::new(alloc);
     for pair in 0..line.numbers().len() / 2 {
@@ -42,7 +42,7 @@ fn put_squares(map: &mut Map, all: Handle, first: u64, behind: u64) -> Result<()
     Ok(())
 }
 
-/// Takes all keys out, one after the other. How many were the first one just before, had their square, and were gone behind it.
+/// Takes all keys out, one after the other. How many were the first one just before, had their square, and were gone after it.
 fn pop_squares(map: &mut Map, all: Handle) -> Result<u64, MapError> {
     let mut right = 0_u64;
     for _ in 0..map.count(all)? {

@@ -23,14 +23,14 @@ pub fn copy(alloc: Global, map: &mut Map, line: &Line<'_>) -> Result<Option<Stri
     Ok(Some(told))
 }
 
-/// A new map with so many slots.
+/// A new map with this many slots.
 fn renew(alloc: Global, map: &mut Map, line: &Line<'_>, hash: HashKind) -> Result<(), MapError> {
     let slots = u32::try_from(line.number(0)).unwrap_or(u32::MAX);
     *map = Map::new(alloc, slots, hash)?;
     Ok(())
 }
 
-/// So many copies.
+/// This many copies.
 fn freeze_times(map: &mut Map, all: Handle, times: u64) -> Result<(), MapError> {
     for _ in 0..times {
         map.freeze(all)?;
@@ -38,7 +38,7 @@ fn freeze_times(map: &mut Map, all: Handle, times: u64) -> Result<(), MapError> 
     Ok(())
 }
 
-/// So many copies, each closed before the next one. The last one's handle.
+/// This many copies, each closed before the next one. The last one's handle.
 fn freeze_and_close(map: &mut Map, all: Handle, times: u64) -> Result<Handle, MapError> {
     let mut last = all;
     for _ in 0..times {

@@ -86,7 +86,7 @@ fn changes(rt: HostRuntime) -> Result<(), Fail> {
     Ok(())
 }
 
-/// Reads and copies a map in so many shards.
+/// Reads and copies a map in this many shards.
 fn read_and_copy<R: Wait + AllocGlobal + Abort>(rt: &R, shards: u8) -> Result<(), Fail> {
     let (map, mut seats) = SharedMap::new(rt.alloc(), 4_096, HashKind::Fold, 1, shards)?;
     let Some(mut seat) = seats.pop() else {
@@ -106,7 +106,7 @@ fn read_and_copy<R: Wait + AllocGlobal + Abort>(rt: &R, shards: u8) -> Result<()
     Ok(())
 }
 
-/// Puts so many keys, as far as there are slots.
+/// Puts this many keys, as far as there are slots.
 fn put_each<R: Wait>(rt: &R, map: &SharedMap, seat: &mut MapSeat, keys: u64)
     requires { IsSeatOf map.now seat.old }
     ensures { IsSeatOf map.now seat.new }
@@ -116,7 +116,7 @@ fn put_each<R: Wait>(rt: &R, map: &SharedMap, seat: &mut MapSeat, keys: u64)
     }
 }
 
-/// A freeze of a map in two shards, each of three slots, in which so many keys are to be put; and after it a clear.
+/// A freeze of a map in two shards, each of three slots, in which this many keys are to be put; and after it a clear.
 fn freeze_two_shards<R: Wait + AllocGlobal>(
     rt: &R,
     keys: u64,

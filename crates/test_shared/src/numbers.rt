@@ -21,7 +21,7 @@ fn call_twice<R: Wait>(rt: &R, map: &SharedMap, seat: &mut MapSeat) -> bool
         && seat.get(rt, map, Handle::new(9), 6) == Err(MapError::NoHandle)
 }
 
-/// Whether the seat hears of so many calls about a shard, and not of one more.
+/// Whether the seat hears of this many calls about a shard, and not of one more.
 fn hears_of<R: Wait>(rt: &R, map: &SharedMap, seat: &mut MapSeat, count: ShardCount) -> bool
     requires { IsSeatOf map.now seat.old }
     ensures { IsSeatOf map.now seat.new }

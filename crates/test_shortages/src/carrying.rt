@@ -60,7 +60,7 @@ impl Shown {
     }
 }
 
-/// Takes a step, and tells whether it was taken.
+/// Takes a step, and returns whether it was taken.
 fn take(machine: &mut Machine, step: Step) -> Result<bool, Stop> {
     let before = Shown::by(machine, step);
     match machine.apply(step) {
@@ -80,7 +80,7 @@ fn take_again(machine: &mut Machine, step: Step) -> Result<bool, Stop> {
     }
 }
 
-/// Takes steps of the actor's operation, at most so many, until its next step is of this kind or it has ended.
+/// Takes steps of the actor's operation, at most this many, until its next step is of this kind or it has ended.
 fn go_on(machine: &mut Machine, actor: u8, wanted: Option<Kind>, most: u32) -> Result<(), Stop> {
     for _ in 0..most {
         let kind = machine.next_kind(actor);

@@ -103,7 +103,7 @@ fn is_shown(
     }
 }
 
-/// Whether the order is legal, and each open handle has the content that it has behind the last of the order.
+/// Whether the order is legal, and each open handle has the content that it has after the last of the order.
 pub fn is_explained(alloc: Global, machine: &Machine) -> Result<bool, Refusal> {
     let hash = machine.limits().hash;
     let order = machine.order()?;

@@ -40,7 +40,7 @@ fn script_in<R: AllocGlobal + Files>(
     Ok(read_script(rt.alloc(), text.as_slice()).ok())
 }
 
-/// Whether the machine's order explains its history and its contents, with so many slots.
+/// Whether the machine's order explains its history and its contents, with this many slots.
 fn is_right(alloc: Global, script: &Script<Command>, slots: u32) -> Result<bool, Stop> {
     let limits = Limits {
         slots,

@@ -11,10 +11,10 @@ use std::test::Fail;
 /// The actor who calls.
 const ACTOR: u8 = 1;
 
-/// No call takes so many steps.
+/// No call takes this many steps.
 const MOST_STEPS: u64 = 4096;
 
-/// No sweep takes so many.
+/// No sweep takes this many.
 const MOST_SWEEPS: u64 = 1 << 20;
 
 /// How many calls are made in each test.
@@ -111,8 +111,8 @@ fn hold_the_same(one: &Core, other: &Core, handle: u16) -> Result<bool, Refusal>
     }
 }
 
-/// One call of both, and a sweep behind it now and then; counts it where it went at once. It tells whether the two are alike
-/// behind it.
+/// One call of both, and a sweep after it now and then; counts it where it went at once. It returns whether the two are alike
+/// after it.
 fn call_both(
     one: &mut Core,
     other: &mut Core,

@@ -94,7 +94,7 @@ fn a_refused_growth_stops_one_seat(rt: HostRuntime) {
     }
 }
 
-/// At most so many operations haven't ended, and the record is right.
+/// At most this many operations haven't ended, and the record is right.
 fn judge(rt: &(impl Abort + AllocGlobal), record: &Record, most: usize) {
     assert!(rt; unended(record.events.as_slice()) <= most);
     if let Ok(right) = is_right(rt.alloc(), record) {

@@ -40,7 +40,7 @@ impl Between for Holder {
     }
 }
 
-/// Waits for so many turns until it is told.
+/// Waits for this many turns until it is told.
 fn is_soon(told: &AtomicBool) -> bool {
     for _ in 0..TURNS {
         if told.load(Ordering::SeqCst) {

@@ -15,7 +15,7 @@ pub(crate) fn entries_from(refs: &[Ref]) -> Entries
     entries
 }
 
-/// The references of three slices, one behind the other, as the entries of a node.
+/// The references of three slices, one after the other, as the entries of a node.
 pub(crate) fn entries_from_parts(front: &[Ref], middle: &[Ref], back: &[Ref]) -> Entries
     ensures { result ≡ entries_from (front.now ++ middle.now ++ back.now) }
 {

@@ -4,7 +4,7 @@ use crate::alone::loads::Load;
 use crate::drawing::{Drawn, Kind};
 use shared_map::{Handle, Map, MapError};
 
-/// After so many operations a copy is frozen, read and closed, where the load has copies now and then.
+/// After this many operations a copy is frozen, read and closed, where the load has copies now and then.
 const EVERY: u64 = 100;
 
 /// How many entries a part of a listing has.
@@ -30,7 +30,7 @@ impl Caller {
         }
     }
 
-    /// Performs so many operations. How many of them were refused.
+    /// Performs this many operations. How many of them were refused.
     pub(crate) fn perform(&mut self, map: &mut Map, count: u64) -> u64 {
         let mut refused = 0u64;
         for _ in 0..count {

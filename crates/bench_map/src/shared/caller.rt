@@ -13,7 +13,7 @@ const READS: u64 = 100;
 pub(crate) struct Share {
     pub(crate) calls: u64,
     pub(crate) keys: u64,
-    /// After so many calls a copy is frozen, read and closed; 0 for never.
+    /// After this many calls a copy is frozen, read and closed; 0 for never.
     pub(crate) every: u64,
 }
 
@@ -35,7 +35,7 @@ impl Caller {
         }
     }
 
-    /// Puts so many keys, 0 and on.
+    /// Puts this many keys, 0 and on.
     pub(crate) fn fill<N: MapName, R: Wait>(
         &mut self,
         rt: &R,
@@ -69,7 +69,7 @@ impl Caller {
         self.call_often(rt, map, seat, share.keys, left);
     }
 
-    /// So many calls of the mix.
+    /// This many calls of the mix.
     fn call_often<N: MapName, R: Wait>(
         &mut self,
         rt: &R,

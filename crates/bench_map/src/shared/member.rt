@@ -29,7 +29,7 @@ impl<N: MapName> Member<N> {
         }
     }
 
-    /// Puts so many keys, 0 and on.
+    /// Puts this many keys, 0 and on.
     pub(crate) fn fill<R: Wait>(&mut self, rt: &R, map: &NamedMap<N>, keys: u64) {
         self.caller.fill(rt, map, &mut self.seat, keys);
     }
@@ -50,7 +50,7 @@ impl<N: MapName> Member<N> {
         self.caller = caller;
     }
 
-    /// What is in the map, of so many keys.
+    /// What is in the map, of this many keys.
     pub(crate) fn found<R: Wait>(
         &mut self,
         rt: &R,

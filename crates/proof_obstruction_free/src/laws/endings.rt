@@ -15,7 +15,7 @@ pub fn each_step_leads_to_its_end()
 {}
 
 /// A law: an operation on one key, a snapshot, a freeze or a clear whose actor alone takes steps makes 3,962 nodes at
-/// most (`makes`); so where as many slots are free, or were when it began, it isn't refused for want of slots (`spare`, `begun`).
+/// most (`makes`); so where as many slots are free, or were when it began, it isn't refused for lack of slots (`spare`, `begun`).
 pub fn enough_slots()
     ensures makes { MakesAtMost }
     ensures spare { EnoughSlots }
@@ -23,7 +23,7 @@ pub fn enough_slots()
 {}
 
 /// A law: from where a try begins, so from its begin, an operation on one key, a snapshot, a freeze or a clear whose actor
-/// alone takes steps makes 570 nodes at most (`makes`); so where as many slots are free it isn't refused for want of
+/// alone takes steps makes 570 nodes at most (`makes`); so where as many slots are free it isn't refused for lack of
 /// slots (`spare`, `begun`).
 pub fn enough_slots_for_tries()
     ensures makes { TriesMakeFew }
@@ -32,7 +32,7 @@ pub fn enough_slots_for_tries()
 {}
 
 /// A law: a snapshot, a freeze or a clear makes 23 nodes at most from its begin (`makes`); so where as many slots are free
-/// it isn't refused for want of slots (`spare`, `begun`).
+/// it isn't refused for lack of slots (`spare`, `begun`).
 pub fn enough_slots_for_copies()
     ensures makes { CopiesMakeFew }
     ensures spare { EnoughForCopies }

@@ -22,7 +22,7 @@ pub fn closed_roots_stay()
     ensures { ClosedRootsStay }
 {}
 
-/// A law: behind a root swap the new root of a clear is over an empty branch, and those of a snapshot and a freeze
+/// A law: after a root swap the new root of a clear is over an empty branch, and those of a snapshot and a freeze
 /// over the logical main node of the old root.
 pub fn new_roots_follow()
     ensures { NewRootsFollow }

@@ -17,15 +17,15 @@ pub fn contents_follow_updates()
 {}
 
 /// A law: each indirection on the path of an operation on a writable handle was once on its key's path (`path`);
-/// and the main node with which it goes on from there was that of the path's end just behind the operation's
+/// and the main node with which it goes on from there was that of the path's end just after the operation's
 /// moment (`end`).
 pub fn paths_lie_on_keys()
     ensures path { PathsLieOnKeys }
     ensures end { EndsAreSeen }
 {}
 
-/// A law: what an operation is answered that has no place in the order by then, and isn't refused for want of slots,
-/// is right: by the content just behind its moment on a writable handle, and by the final one on a read-only handle.
+/// A law: what an operation is answered that has no place in the order by then, and isn't refused for lack of slots,
+/// is right: by the content just after its moment on a writable handle, and by the final one on a read-only handle.
 pub fn replies_are_right()
     ensures { RepliesAreRight }
 {}

@@ -10,7 +10,7 @@ pub struct FailsAt {
     pub kind: ErrorKind,
 }
 
-/// A reader that gives so many bytes a call, and fails at one call.
+/// A reader that gives this many bytes a call, and fails at one call.
 #[derive(Drop)]
 pub struct Source<'a> {
     rest: &'a [u8],
@@ -42,7 +42,7 @@ impl Read for Source<'_> {
     }
 }
 
-/// A writer that takes so many bytes a call, and fails or takes none at one call.
+/// A writer that takes this many bytes a call, and fails or takes none at one call.
 #[derive(Drop)]
 pub struct Sink {
     pub taken: Vec<u8>,

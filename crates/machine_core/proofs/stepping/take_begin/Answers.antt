@@ -1,4 +1,4 @@
-use Rattle.std.proofs.Common.{refl, arith}
+use Rattle.std.proofs.Common.{None, refl, arith}
 use Rattle.machine_model.specs.declared.steps.Outcome.TheVariants as outcome
 use Rattle.machine_model.specs.declared.steps.Step.TheVariants as steps
 use Rattle.machine_core.specs.Seen.{seen}
@@ -20,12 +20,12 @@ returns-clause-taken c =
     let before = seen c.args.parts.now in
     let begun = c.begin_operation-begun.ensures in
     let id = begun_id before c.args.actor c.args.call c.begin_operation-begun.result begun.tells in
-    leads_taken before (seen c.begin_operation-begun.new.parts) (seen c.settle.new.parts) (steps.Begin c.args.actor c.args.call) (outcome.Began c.begin_operation-begun.result.id)
+    leads_taken before (seen c.begin_operation-begun.new.parts) (seen c.settle.new.parts) (steps.Begin c.args.actor c.args.call None) (outcome.Began c.begin_operation-begun.result.id)
     (begin_leads before (seen c.begin_operation-begun.new.parts) c.args.actor c.args.call c.begin_operation-begun.result.id c.requires.allowed id begun.begun) c.settle.ensures.settled
 
 pub returns-clause-core : goal.returns-clause-core
 returns-clause-core c = record {
-  run = taken_run (seen c.args.parts.now) _ (steps.Begin c.args.actor c.args.call) _ (returns-clause-taken c) c.key_fits.ensures c.requires.core.run;
+  run = taken_run (seen c.args.parts.now) _ (steps.Begin c.args.actor c.args.call None) _ (returns-clause-taken c) c.key_fits.ensures c.requires.core.run;
   kept = c.settle.ensures.kept;
   settled = c.settle.ensures.noted;
 }
