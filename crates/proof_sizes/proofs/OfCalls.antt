@@ -189,7 +189,7 @@ module _ (limits : Bounds) (steps : List Step) (ok : AreBounds limits) (keys : K
     grows root at =
         subst (λ s. length (nodes_of s handle) ≤ length (nodes_of (run limits steps) handle) + growth call answer) after_is
         (subst (λ s. length (nodes_of (states_of limits all last) handle) ≤ length (nodes_of s handle) + growth call answer) before_is
-        (grown_little limits (states_of limits all) (steps_of limits all) last is_run (takes_steps limits all) (keys_fit limits all all_fit_keys) noted_each
+        (grown_little (steps_of limits all) is_run (takes_steps limits all) (keys_fit limits all all_fit_keys) noted_each
         start actor call more at_rest begins_at goes_at answer
         ended_there handle root now (ap (λ s. root_at s handle) before_is ∙ at) at_last))
 
@@ -197,7 +197,7 @@ module _ (limits : Bounds) (steps : List Step) (ok : AreBounds limits) (keys : K
     stays_small apart root at =
         subst (λ s. length (nodes_of s handle) ≤ length (nodes_of (run limits steps) handle)) after_is
         (subst (λ s. length (nodes_of (states_of limits all last) handle) ≤ length (nodes_of s handle)) before_is
-        (others_small limits (states_of limits all) (steps_of limits all) last is_run (takes_steps limits all) (keys_fit limits all all_fit_keys) noted_each
+        (others_small (steps_of limits all) is_run (takes_steps limits all) (keys_fit limits all all_fit_keys) noted_each
         start actor call more at_rest begins_at goes_at answer
         ended_there handle root now apart (ap (λ s. root_at s handle) before_is ∙ at) at_last))
 
@@ -205,7 +205,7 @@ module _ (limits : Bounds) (steps : List Step) (ok : AreBounds limits) (keys : K
     opens_no_larger shut =
         subst (λ s. length (nodes_of s handle) ≤ length (nodes_of (run limits steps) (handle_of call))) after_is
         (subst (λ s. length (nodes_of (states_of limits all last) handle) ≤ length (nodes_of s (handle_of call))) before_is
-        (no_larger limits (states_of limits all) (steps_of limits all) last is_run (takes_steps limits all) (keys_fit limits all all_fit_keys) noted_each
+        (no_larger (steps_of limits all) is_run (takes_steps limits all) (keys_fit limits all all_fit_keys) noted_each
         start actor call more at_rest begins_at goes_at answer
         ended_there handle now (ap (λ s. root_at s handle) before_is ∙ shut) at_last))
 
