@@ -1,0 +1,7 @@
+pub mod Places
+pub mod Accounts
+pub mod Nodes
+pub mod Roots
+pub mod Rules
+pub mod Steps
+pub mod Loading

@@ -1,0 +1,44 @@
+//! The rule of the words.
+
+ghost use Rattle.lock_free.specs.Rules.{IsKept, first_view};
+ghost use Rattle.lock_free.specs.Loading.{has_looked};
+
+use crate::accounts::Account;
+use crate::sizes::Sizes;
+use atomic_table::{Play, TableRule};
+use history::Call;
+use std::collections::LinkedList;
+use trie_words::Pin;
+
+/// What a seat knows. No value of it is made.
+pub struct View {
+    /// How many of everything there are.
+    pub sizes: Sizes,
+    /// The seat is this actor.
+    pub actor: u8,
+    /// It has the actors after it up to this one too, for seats that are split off.
+    pub last: u8,
+    /// What had happened at its last access.
+    pub account: Account,
+    /// What its own word says.
+    pub pin: Option<Pin>,
+    /// The slots that are free for it alone.
+    pub pool: LinkedList<u32>,
+    /// What it has written in these.
+    pub drafts: LinkedList<(u64, u64)>,
+}
+
+pub struct Rule;
+
+impl TableRule<Call, View, Sizes> for Rule {
+    ghost holds = { IsKept };
+
+    ghost first = { first_view };
+}
+
+/// The main node of a READ is read, and looked at.
+pub struct Looks;
+
+impl Play<Call, View> for Looks {
+    ghost then = { has_looked };
+}
