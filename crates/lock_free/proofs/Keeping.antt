@@ -35,7 +35,7 @@ use Rattle.lock_free.specs.declared.accounts.Known.{Known}
 use Rattle.lock_free.specs.declared.rules.View.{View}
 use Rattle.lock_free.specs.declared.sizes.Sizes.{Sizes}
 use Rattle.lock_free.specs.Accounts.{state_of, place_at, place_of, HasWaited, IsOfOther, gone_on}
-use Rattle.lock_free.specs.Nodes.{StandsAs, IsAhead, IsOver, is_single, SaysPrevious, decided, ahead, pending, failed, SaysHeader, SaysShape, of_branch, of_tomb, of_list, IsEntryOf, AreEntries, half_at}
+use Rattle.lock_free.specs.Nodes.{StandsAs, IsAhead, IsOver, is_single, SaysPrevious, decided, ahead, pending, failed, SaysHeader, SaysShape, of_branch, of_tomb, of_list, IsEntryOf, AreEntries, half_of, InTable}
 use Rattle.lock_free.specs.Roots.{MeansRoot, closed, reserved, writable, read_only, closing_writable, closing_read_only, offered, opening, opens_later, IsWritten, second_of}
 use Rattle.lock_free.specs.Rules.{Standing, Stands, NodesStand, IsSpare, IsSeat, Has, IsKept}
 use Rattle.lock_free.specs.Steps.{Leaves, Reads}
@@ -87,15 +87,15 @@ module _ (account : Account) (steps : List Step) (before after : State) (same : 
     code = h.code;
   }
 
-  entries_kept : (name : ℕ) (entries : List Ref) → AreEntries account before.heap words name entries → AreEntries later after.heap words name entries
-  entries_kept name entries h position e at = entry_kept e (half_at words name position) (h position e at)
+  entries_kept : (name : ℕ) (entries : List Ref) → AreEntries account before.heap (InTable words) name entries → AreEntries later after.heap (InTable words) name entries
+  entries_kept name entries h position e at = let x = h position e at in (x.0, x.1, entry_kept e (half_of x.0 position) x.2)
 
-  pub stands_kept : (name k : ℕ) (slot : Slot) (node : Node) → StandsAs account before words name k slot node → StandsAs later after words name k slot node
+  pub stands_kept : (name k : ℕ) (slot : Slot) (node : Node) → StandsAs account before (InTable words) name k slot node → StandsAs later after (InTable words) name k slot node
   stands_kept name k slot (Indirection generation main) h = h
   stands_kept name k slot (Single key value) h = h
-  stands_kept name k slot (Branch bitmap entries) h = (header_kept k slot _ h.0, entries_kept name entries.items h.1)
-  stands_kept name k slot (Tomb single) h = header_kept k slot _ h
-  stands_kept name k slot (Listed singles) h = (header_kept k slot _ h.0, entries_kept name singles.items h.1)
+  stands_kept name k slot (Branch bitmap entries) h = ((h.0.0, h.0.1, header_kept k slot h.0.0 h.0.2), entries_kept name entries.items h.1)
+  stands_kept name k slot (Tomb single) h = (h.0, h.1, header_kept k slot h.0 h.2)
+  stands_kept name k slot (Listed singles) h = ((h.0.0, h.0.1, header_kept k slot h.0.0 h.0.2), entries_kept name singles.items h.1)
 
   meaning_kept : (word : ℕ) (r : Option Root) → MeansRoot account words word r → MeansRoot later words word r
   meaning_kept word r closed = closed

@@ -33,15 +33,23 @@ is_single node = false
 abbrev pub half_of : ℕ → ℕ → ℕ
 half_of word position = if position % 2 == 0 then (pair_of word).low else (pair_of word).high
 
-abbrev pub half_at : List ℕ → ℕ → ℕ → ℕ
-half_at words name position = half_of (slice_index words (2 * name + 1 + position / 2)) position
+abbrev pub entry_word : ℕ → ℕ → ℕ
+entry_word name position = 2 * name + 1 + position / 2
+
+-- What words have, by their numbers: those of the table, or those that a seat has written in a slot of its own.
+abbrev pub Has : Type 1
+Has = ℕ → ℕ → Type 0
+
+abbrev pub InTable : List ℕ → Has
+InTable words i word = slice_index words i ≡ word
 
 pub record IsEntryOf (account : Account) (heap : Heap) (e : Ref) (half : ℕ) : Type 0 where
   pub own : Bool
   pub code : half ≡ entry_code (record { slot = place_of account e; own = own; is_single = is_single (node_at heap e) })
 
-abbrev pub AreEntries : Account → Heap → List ℕ → ℕ → List Ref → Type 0
-AreEntries account heap words name entries = (position : ℕ) (e : Ref) → slice_get entries position ≡ Some e → IsEntryOf account heap e (half_at words name position)
+abbrev pub AreEntries : Account → Heap → Has → ℕ → List Ref → Type 0
+AreEntries account heap has name entries =
+    (position : ℕ) (e : Ref) → slice_get entries position ≡ Some e → (word : ℕ) × has (entry_word name position) word × IsEntryOf account heap e (half_of word position)
 
 -- ---- whether a main node is decided
 
@@ -84,15 +92,15 @@ pub record SaysHeader (account : Account) (state : State) (k : ℕ) (slot : Slot
   pub code : word ≡ header_code (record { previous = previous; shape = shape })
 
 -- this node stands in the words of this slot of the table
-abbrev pub StandsAs : Account → State → List ℕ → ℕ → ℕ → Slot → Node → Type 0
-StandsAs account state words name k slot (Indirection generation main) =
-    (generation < 2 ^ 36) × ((own : Bool) × OwnIs account.owned k (slot_of main) own × (slice_index words (2 * name) ≡ link_code (record { generation = generation; main = record { slot = place_of account main; own = own } })))
-StandsAs account state words name k slot (Single key value) = (slice_index words (2 * name) ≡ key) × (slice_index words (2 * name + 1) ≡ value)
-StandsAs account state words name k slot (Branch bitmap entries) =
-    SaysHeader account state k slot (slice_index words (2 * name)) × AreEntries account state.heap words name entries.items
-StandsAs account state words name k slot (Tomb single) = SaysHeader account state k slot (slice_index words (2 * name))
-StandsAs account state words name k slot (Listed singles) =
-    SaysHeader account state k slot (slice_index words (2 * name)) × AreEntries account state.heap words name singles.items
+abbrev pub StandsAs : Account → State → Has → ℕ → ℕ → Slot → Node → Type 0
+StandsAs account state has name k slot (Indirection generation main) =
+    (generation < 2 ^ 36) × ((own : Bool) × OwnIs account.owned k (slot_of main) own × has (2 * name) (link_code (record { generation = generation; main = record { slot = place_of account main; own = own } })))
+StandsAs account state has name k slot (Single key value) = has (2 * name) key × has (2 * name + 1) value
+StandsAs account state has name k slot (Branch bitmap entries) =
+    ((word : ℕ) × has (2 * name) word × SaysHeader account state k slot word) × AreEntries account state.heap has name entries.items
+StandsAs account state has name k slot (Tomb single) = (word : ℕ) × has (2 * name) word × SaysHeader account state k slot word
+StandsAs account state has name k slot (Listed singles) =
+    ((word : ℕ) × has (2 * name) word × SaysHeader account state k slot word) × AreEntries account state.heap has name singles.items
 
 -- the class of slots in which a node stands
 abbrev pub class_of : Node → ℕ

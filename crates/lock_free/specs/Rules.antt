@@ -21,7 +21,7 @@ use Rattle.lock_free.specs.declared.accounts.Known.{Known}
 use Rattle.lock_free.specs.declared.rules.View.{View}
 use Rattle.lock_free.specs.declared.sizes.Sizes.{Sizes}
 use Rattle.lock_free.specs.Accounts.{bounds_for, state_of, place_at, HasWaited}
-use Rattle.lock_free.specs.Nodes.{StandsAs, class_of}
+use Rattle.lock_free.specs.Nodes.{StandsAs, InTable, class_of}
 use Rattle.lock_free.specs.Places.{AreSizes, words_of, words_in, IsSlot, generation_word, taken_word, pin_word, root_word}
 use Rattle.lock_free.specs.Roots.{MeansRoot, IsWritten}
 
@@ -48,7 +48,7 @@ Stands stands state k slot = (stands k ≡ true) × (slice_index_or state.heap.s
 pub record NodesStand (sizes : Sizes) (account : Account) (stands : Standing) (words : List ℕ) : Type 0 where
   pub within : (k : ℕ) (slot : Slot) → Stands stands (state_of sizes account) k slot → IsSlot sizes (class_of slot.node) (place_at account k)
   pub apart : (j k : ℕ) (x y : Slot) → Stands stands (state_of sizes account) j x → Stands stands (state_of sizes account) k y → place_at account j ≡ place_at account k → j ≡ k
-  pub written : (k : ℕ) (slot : Slot) → Stands stands (state_of sizes account) k slot → StandsAs account (state_of sizes account) words (place_at account k) k slot slot.node
+  pub written : (k : ℕ) (slot : Slot) → Stands stands (state_of sizes account) k slot → StandsAs account (state_of sizes account) (InTable words) (place_at account k) k slot slot.node
 
 -- ---- seats
 
