@@ -1,12 +1,13 @@
 -- A step that only reads keeps the rule, whatever the seat knows of what it read.
 use Rattle.history.specs.declared.calls.Call.{Call}
-use Rattle.std.proofs.Common.{Option, append_assoc, append-nil, ◌≡◌, ◌≢◌, ◌+◌, ◌*◌, ℕ, suc, ◌<◌, ◌≤◌, inl, inr, Bool, true, false, List, [], ◌∷◌, ◌++◌, Contains, All, length, set, get_or, slice_index, Some, None, refl, sym, ap, subst, ◌∙◌, arith}
+use Rattle.std.proofs.Common.{Option, append_assoc, append-nil, ◌≡◌, ◌≢◌, ◌+◌, ◌*◌, ℕ, zero, suc, ◌<◌, ◌≤◌, inl, inr, Bool, true, false, List, [], ◌∷◌, ◌++◌, Contains, All, length, set, get_or, slice_index, is_some, Some, None, refl, sym, ap, subst, ◌∙◌, arith}
 use Rattle.std.proofs.lemmas.Option.{same_Some}
 use Rattle.std.proofs.lemmas.List.Elements.{All-append, All-cons, All-nil}
-use mathlib.Core.Option.{some}
+use mathlib.Core.Option.{some, some-injective, some-ne-none}
 use lib.ListN.{get_elem?}
 use Rattle.atomic_table.specs.Table as Table
-use Rattle.atomic_table.proofs.Lists.{at_set}
+use Rattle.atomic_table.proofs.Lists.{at_set, set_else, set_here}
+use Rattle.std.proofs.lemmas.Bool.{cases_eq}
 use Rattle.machine_model.specs.Beneath.slot_arena.specs.declared.refs.Ref.{Ref}
 use Rattle.machine_model.specs.Beneath.slot_arena.specs.declared.nodes.Slot.{Slot}
 use Rattle.machine_model.specs.Beneath.slot_arena.specs.declared.nodes.Node.{Node}
@@ -37,8 +38,13 @@ use Rattle.lock_free.specs.declared.sizes.Sizes.{Sizes}
 use Rattle.lock_free.specs.Accounts.{state_of, place_at, place_of, HasWaited, IsOfOther, gone_on}
 use Rattle.lock_free.specs.Nodes.{StandsAs, IsAhead, IsOver, is_single, SaysPrevious, decided, ahead, pending, failed, SaysHeader, SaysShape, of_branch, of_tomb, of_list, IsEntryOf, AreEntries, half_of, InTable}
 use Rattle.lock_free.specs.Roots.{MeansRoot, closed, reserved, writable, read_only, closing_writable, closing_read_only, offered, opening, opens_later, IsWritten, second_of}
-use Rattle.lock_free.specs.Rules.{Standing, Stands, NodesStand, IsSpare, IsSeat, Has, IsKept}
+use Rattle.lock_free.specs.Rules.{Standing, Stands, NodesStand, RootsStand, IsClosing, SaysClosing, IsFree, IsSpare, IsSeat, HasActor, IsKept}
 use Rattle.lock_free.specs.Steps.{Leaves, Reads}
+
+within : {A : Type 0} (xs : List A) (n : ℕ) (x : A) → get_elem? xs n ≡ some x → n < length xs
+within [] n x e = absurd (some-ne-none x (sym e))
+within (y ∷ ys) zero x e = omega arith
+within (y ∷ ys) (suc n) x e = let h = within ys n x e in omega (arith, h)
 
 -- nobody is about to swap a node in but who was
 abbrev pub SameAhead : State → State → Type 0
@@ -119,7 +125,8 @@ module _ (account : Account) (steps : List Step) (before after : State) (same : 
 
 module _ (sizes : Sizes) (s : Table.State Call View) (kept : IsKept sizes s) (id : ℕ) (v : View) (at : get_elem? s.views id ≡ some v) (operation : Operation)
     (runs : operation_of (state_of sizes kept.account) v.actor ≡ Some operation) (reads : Reads sizes kept.account v.actor operation)
-    (aheads : SameAhead (state_of sizes kept.account) (state_of sizes (gone_on v.actor kept.account))) (same_call : (operation_after (state_of sizes kept.account) operation).call ≡ operation.call) where
+    (aheads : SameAhead (state_of sizes kept.account) (state_of sizes (gone_on v.actor kept.account))) (same_call : (operation_after (state_of sizes kept.account) operation).call ≡ operation.call)
+    (same_opens : (operation_after (state_of sizes kept.account) operation).opens ≡ operation.opens) where
   abbrev now : State
   now = state_of sizes kept.account
 
@@ -140,10 +147,21 @@ module _ (sizes : Sizes) (s : Table.State Call View) (kept : IsKept sizes s) (id
     within = λ k slot h. kept.nodes.within k slot (stood k slot h);
     apart = λ j k x y a b same. kept.nodes.apart j k x y (stood j x a) (stood k y b) same;
     written = λ k slot h. stands_kept kept.account then_account.steps now then reads.leaves.nodes aheads s.words (place_at kept.account k) k slot slot.node (kept.nodes.written k slot (stood k slot h));
+    live = λ r h. kept.nodes.live r (reads.leaves.live r h);
+  }
+
+  roots_then : RootsStand sizes then_account s.words
+  roots_then = record {
+    means = λ handle low.
+        meaning_kept kept.account then_account.steps now then reads.leaves.nodes aheads s.words _ _
+        (subst (λ rs. MeansRoot kept.account s.words (slice_index s.words (root_word handle)) (get_or rs handle None)) (sym reads.leaves.roots) (kept.roots.means handle low));
+    offers = λ k c. written_kept kept.account then_account.steps now then reads.leaves.nodes aheads s.words k (kept.roots.offers k c);
+    blocks = kept.roots.blocks;
+    single = kept.roots.single;
   }
 
   spare_then : (name : ℕ) → IsSpare sizes kept.account kept.stands name → IsSpare sizes then_account kept.stands name
-  spare_then name h = (h.0, λ k slot e. h.1 k slot (stood k slot e), h.2)
+  spare_then name h = (λ k slot e. h.0 k slot (stood k slot e), h.1)
 
   waits : (w : View) → w.actor ≢ v.actor → HasWaited w.actor w.account kept.account → HasWaited w.actor w.account then_account
   waits w other h = record {
@@ -183,16 +201,18 @@ module _ (sizes : Sizes) (s : Table.State Call View) (kept : IsKept sizes s) (id
     waited = waited_none;
     rests = λ a low high. (reads.leaves.others a (λ e. absurd (omega (arith, low, e))) ∙ (seat.rests a low high).0, (seat.rests a low high).1);
     pinned = seat.pinned;
+    entered = λ handle e. let h = seat.entered handle e in (h.0, ap (λ rs. is_some (get_or rs handle None)) reads.leaves.roots ∙ h.1, h.2);
     calls = λ o e.
         (let is : o ≡ operation_after now operation = same_Some o (operation_after now operation) (sym e ∙ reads.own) in
-        let h = seat.calls operation runs in
-        (h.0, h.1, h.2 ∙ ap handle_of (sym same_call ∙ ap (λ (x : Operation). x.call) (sym is))));
-    spare = λ name c. spare_then name (seat.spare name c);
+        seat.calls operation runs ∙ ap (λ c. Some (handle_of c)) (sym same_call ∙ ap (λ (x : Operation). x.call) (sym is)));
+    opens = seat.opens;
+    reserves = λ o e handle is. seat.reserves operation runs handle (sym same_opens ∙ ap (λ (x : Operation). x.opens) (same_Some (operation_after now operation) o (sym reads.own ∙ e)) ∙ is);
+    spare = λ class name c. (let h = seat.spare class name c in (h.0, spare_then name h.1));
     once = seat.once;
     drafts = seat.drafts;
   }
 
-  not_own : (other : ℕ) (w : View) → get_elem? s.views other ≡ some w → (other ≡ id → ⊥) → (a : ℕ) → Has w a → a ≢ v.actor
+  not_own : (other : ℕ) (w : View) → get_elem? s.views other ≡ some w → (other ≡ id → ⊥) → (a : ℕ) → HasActor w a → a ≢ v.actor
   not_own other w e apart a has same = apart (kept.alone other id w v a e at has (subst (λ n. (v.actor ≤ n) × (n ≤ v.last)) (sym same) (omega arith, seat.top)))
 
   other_then : (other : ℕ) (w : View) → get_elem? s.views other ≡ some w → (other ≡ id → ⊥) → IsSeat sizes then_account kept.stands s.words w
@@ -207,8 +227,11 @@ module _ (sizes : Sizes) (s : Table.State Call View) (kept : IsKept sizes s) (id
         waited = waits w differs h.waited;
         rests = λ a low high. (reads.leaves.others a (not_own other w e apart a (omega (arith, low), high)) ∙ (h.rests a low high).0, (h.rests a low high).1);
         pinned = h.pinned;
+        entered = λ handle f. (let x = h.entered handle f in (x.0, ap (λ rs. is_some (get_or rs handle None)) reads.leaves.roots ∙ x.1, x.2));
         calls = λ o f. h.calls o (sym (reads.leaves.others w.actor differs) ∙ f);
-        spare = λ name c. spare_then name (h.spare name c);
+        opens = h.opens;
+        reserves = λ o f handle is. h.reserves o (sym (reads.leaves.others w.actor differs) ∙ f) handle is;
+        spare = λ class name c. (let x = h.spare class name c in (x.0, spare_then name x.1));
         once = h.once;
         drafts = h.drafts;
       }
@@ -222,15 +245,38 @@ module _ (sizes : Sizes) (s : Table.State Call View) (kept : IsKept sizes s) (id
     | inr h ↦ other_then other w h.1 h.0
   ]
 
-  -- each view then is of a seat before, with the same actors and pool
-  was : (other : ℕ) (w : View) → get_elem? then_views other ≡ some w → (u : View) × (get_elem? s.views other ≡ some u) × (u.actor ≡ w.actor) × (u.last ≡ w.last) × (u.pool ≡ w.pool)
+  -- each view then is one before, with another account
+  was : (other : ℕ) (w : View) → get_elem? then_views other ≡ some w → (u : View) × (get_elem? s.views other ≡ some u) × (w ≡ record u { account = w.account })
   was other w e = elim (at_set s.views id other then_view w e) [
-    | inl h ↦ (v, ap (λ n. get_elem? s.views n) h.0 ∙ at, ap (λ (x : View). x.actor) h.1, ap (λ (x : View). x.last) h.1, ap (λ (x : View). x.pool) h.1)
-    | inr h ↦ (w, h.1, refl, refl, refl)
+    | inl h ↦ (v, ap (λ n. get_elem? s.views n) h.0 ∙ at, sym h.1 ∙ ap (λ (x : View). record v { account = x.account }) h.1)
+    | inr h ↦ (w, h.1, refl)
   ]
 
-  had : (u w : View) (a : ℕ) → u.actor ≡ w.actor → u.last ≡ w.last → Has w a → Has u a
-  had u w a p q h = (subst (λ n. n ≤ a) (sym p) h.0, subst (λ n. a ≤ n) (sym q) h.1)
+  -- and the other way round
+  becomes : (other : ℕ) (u : View) → get_elem? s.views other ≡ some u → (w : View) × (get_elem? then_views other ≡ some w) × (w ≡ record u { account = w.account })
+  becomes other u e = elim (cases_eq other id) [
+    | inl same ↦
+        (let mine : v ≡ u = some-injective v u (sym at ∙ ap (λ n. get_elem? s.views n) (sym same) ∙ e) in
+        (then_view, ap (λ n. get_elem? then_views n) same ∙ set_here s.views id then_view (within s.views id v at), ap (λ (x : View). record x { account = then_account }) mine))
+    | inr apart ↦ (u, set_else s.views id other then_view apart ∙ e, refl)
+  ]
+
+  closing_then : (handle who : ℕ) → IsClosing s.views handle who → IsClosing then_views handle who
+  closing_then handle who h =
+      let b = becomes h.id h.view h.at in
+      record {
+        id = h.id;
+        view = b.0;
+        at = b.1;
+        its = ap (λ (x : View). x.actor) b.2 ∙ h.its;
+        closing = h.closing;
+        is = ap (λ (x : View). x.closing) b.2 ∙ h.is;
+        this = h.this;
+        none = λ other w e inside apart.
+            (let p = was other w e in
+            let actors = ap (λ (x : View). x.actor) p.2 in
+            subst (λ n. h.closing.looked < n) (sym actors) (h.none other p.0 p.1 (sym (ap (λ (x : View). x.entered) p.2) ∙ inside) (λ same. apart (actors ∙ same))));
+      }
 
   pub kept_then : IsKept sizes (record { words = s.words; homes = s.homes; views = then_views })
   kept_then = record {
@@ -239,17 +285,21 @@ module _ (sizes : Sizes) (s : Table.State Call View) (kept : IsKept sizes s) (id
     range = kept.range;
     bounds = reads.bounds;
     keys = All-append FitsKey kept.account.steps (step.Go v.actor ∷ []) kept.keys (All-cons FitsKey (step.Go v.actor) [] tt (All-nil FitsKey));
+    counted = kept.counted ∙ sym reads.leaves.births;
     size = kept.size;
-    nodes = nodes_then;
+    taken = kept.taken;
     generations = kept.generations ∙ sym reads.leaves.generations;
-    roots = λ handle low.
-        meaning_kept kept.account then_account.steps now then reads.leaves.nodes aheads s.words _ _
-        (subst (λ rs. MeansRoot kept.account s.words (slice_index s.words (root_word handle)) (get_or rs handle None)) (sym reads.leaves.roots) (kept.roots handle low));
-    offers = λ k c. written_kept kept.account then_account.steps now then reads.leaves.nodes aheads s.words k (kept.offers k c);
+    nodes = nodes_then;
+    roots = roots_then;
+    closings = λ handle who low says. closing_then handle who (kept.closings handle who low says);
     seats = seats_then;
     alone = λ i j x y a ei ej hx hy.
-        (let p = was i x ei in let q = was j y ej in kept.alone i j p.0 q.0 a p.1 q.1 (had p.0 x a p.2 p.3 hx) (had q.0 y a q.2 q.3 hy));
-    pools = λ i j x y name ei ej cx cy.
         (let p = was i x ei in let q = was j y ej in
-        kept.pools i j p.0 q.0 name p.1 q.1 (subst (λ xs. Contains xs name) (sym p.4) cx) (subst (λ xs. Contains xs name) (sym q.4) cy));
+        kept.alone i j p.0 q.0 a p.1 q.1 (subst (λ (z : View). HasActor z a) p.2 hx) (subst (λ (z : View). HasActor z a) q.2 hy));
+    pools = λ i j x y b c name ei ej cx cy.
+        (let p = was i x ei in let q = was j y ej in
+        kept.pools i j p.0 q.0 b c name p.1 q.1 (subst (λ (z : View). IsFree z b name) p.2 cx) (subst (λ (z : View). IsFree z c name) q.2 cy));
+    numbers = λ i j x y handle ei ej cx cy.
+        (let p = was i x ei in let q = was j y ej in
+        kept.numbers i j p.0 q.0 handle p.1 q.1 (sym (ap (λ (z : View). z.opens) p.2) ∙ cx) (sym (ap (λ (z : View). z.opens) q.2) ∙ cy));
   }

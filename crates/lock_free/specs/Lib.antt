@@ -1,5 +1,6 @@
 pub mod Places
 pub mod Accounts
+pub mod Live
 pub mod Nodes
 pub mod Roots
 pub mod Rules

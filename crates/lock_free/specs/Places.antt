@@ -1,5 +1,5 @@
 -- Which word is what: counters, a word for each handle and each seat, and three parts with slots of one size each. A slot is named by its first word, halved.
-use Rattle.std.specs.Prelude.{◌≡◌, ℕ, zero, suc, ◌+◌, ◌*◌, ◌^◌, ◌<◌, ◌≤◌, ◌==◌, if◌then◌else◌, nat_le}
+use Rattle.std.specs.Prelude.{◌≡◌, ℕ, zero, suc, ◌+◌, ◌*◌, ◌^◌, ◌<◌, ◌≤◌, ◌==◌, if◌then◌else◌, nat_le, List, slice_index}
 use Rattle.lock_free.specs.declared.sizes.Sizes.{Sizes}
 
 -- 16 words are two lines of the cache, so that who writes one counter doesn't take another from a processor
@@ -43,11 +43,15 @@ part_of sizes class =
 abbrev pub words_of : Sizes → ℕ
 words_of sizes = first_slot_word sizes + 2 * sizes.small + 8 * sizes.medium + 24 * sizes.wide
 
--- the name of a slot of this class
-pub record IsSlot (sizes : Sizes) (class : ℕ) (name : ℕ) : Type 0 where
+-- the name of a slot of this class that was handed out
+pub record IsTaken (sizes : Sizes) (words : List ℕ) (class : ℕ) (name : ℕ) : Type 0 where
   pub number : ℕ
-  pub few : number < slots_in sizes class
+  pub few : number < slice_index words (taken_word class)
   pub first : 2 * name ≡ part_of sizes class + words_in class * number
+
+-- no more were handed out than there are
+abbrev pub HaveTaken : Sizes → List ℕ → Type 0
+HaveTaken sizes words = (class : ℕ) → class < 3 → slice_index words (taken_word class) ≤ slots_in sizes class
 
 -- the class of a main node with so many entries, and of what is no main node
 abbrev pub class_for : ℕ → ℕ

@@ -4,6 +4,8 @@ use Rattle.machine_model.specs.declared.operations.Operation.{Operation}
 use Rattle.machine_model.specs.Acting.{operation_after}
 use Rattle.machine_model.specs.Machine.{AreBounds}
 use Rattle.machine_model.specs.States.{State, operation_of}
+use Rattle.machine_model.specs.Beneath.slot_arena.specs.declared.refs.Ref.{Ref}
+use Rattle.lock_free.specs.Live.{IsLive}
 use Rattle.lock_free.specs.declared.accounts.Account.{Account}
 use Rattle.lock_free.specs.declared.sizes.Sizes.{Sizes}
 use Rattle.lock_free.specs.Accounts.{state_of, bounds_for, gone_on}
@@ -11,6 +13,9 @@ use Rattle.lock_free.specs.Accounts.{state_of, bounds_for, gone_on}
 -- all but this actor's operation is as before
 pub record Leaves (actor : ℕ) (before after : State) : Type 0 where
   pub nodes : (k : ℕ) → slice_index_or after.heap.slots k None ≡ slice_index_or before.heap.slots k None
+  pub births : after.heap.births ≡ before.heap.births
+  -- nothing more is live
+  pub live : (r : Ref) → IsLive after r → IsLive before r
   pub roots : after.roots ≡ before.roots
   pub generations : after.generations ≡ before.generations
   pub others : (a : ℕ) → a ≢ actor → operation_of after a ≡ operation_of before a

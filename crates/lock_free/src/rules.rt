@@ -10,6 +10,20 @@ use history::Call;
 use std::collections::LinkedList;
 use trie_words::Pin;
 
+/// The slots that are free for one seat alone, by their size. No value of it is made.
+pub struct Pool {
+    pub small: LinkedList<u32>,
+    pub medium: LinkedList<u32>,
+    pub wide: LinkedList<u32>,
+}
+
+/// A handle that a seat has marked, since it would close it, and how many seats it has found in no call on it since. No value of it
+/// is made.
+pub struct Closing {
+    pub handle: u16,
+    pub looked: u8,
+}
+
 /// What a seat knows. No value of it is made.
 pub struct View {
     /// How many of everything there are.
@@ -22,9 +36,15 @@ pub struct View {
     pub account: Account,
     /// What its own word says.
     pub pin: Option<Pin>,
+    /// The handle that it has found open since it pinned itself to it: so nobody closes it.
+    pub entered: Option<u16>,
+    /// What it would close.
+    pub closing: Option<Closing>,
+    /// The number that it has reserved.
+    pub opens: Option<u16>,
     /// The slots that are free for it alone.
-    pub pool: LinkedList<u32>,
-    /// What it has written in these.
+    pub pool: Pool,
+    /// What it has written in these: the number of a word, and what it has.
     pub drafts: LinkedList<(u64, u64)>,
 }
 
