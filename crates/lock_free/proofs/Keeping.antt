@@ -199,6 +199,7 @@ module _ (sizes : Sizes) (s : Table.State Call View) (kept : IsKept sizes s) (id
     top = seat.top;
     most = seat.most;
     waited = waited_none;
+    counts = kept.counted ∙ sym reads.leaves.births;
     rests = λ a low high. (reads.leaves.others a (λ e. absurd (omega (arith, low, e))) ∙ (seat.rests a low high).0, (seat.rests a low high).1);
     pinned = seat.pinned;
     entered = λ handle e. let h = seat.entered handle e in (h.0, ap (λ rs. is_some (get_or rs handle None)) reads.leaves.roots ∙ h.1, h.2);
@@ -225,6 +226,7 @@ module _ (sizes : Sizes) (s : Table.State Call View) (kept : IsKept sizes s) (id
         top = h.top;
         most = h.most;
         waited = waits w differs h.waited;
+        counts = h.counts;
         rests = λ a low high. (reads.leaves.others a (not_own other w e apart a (omega (arith, low), high)) ∙ (h.rests a low high).0, (h.rests a low high).1);
         pinned = h.pinned;
         entered = λ handle f. (let x = h.entered handle f in (x.0, ap (λ rs. is_some (get_or rs handle None)) reads.leaves.roots ∙ x.1, x.2));

@@ -105,6 +105,7 @@ pub record IsSeat (sizes : Sizes) (account : Account) (stands : Standing) (words
   pub top : v.actor ≤ v.last
   pub most : v.last ≤ sizes.seats
   pub waited : HasWaited v.actor v.account account
+  pub counts : length v.account.names ≡ (state_of sizes v.account).heap.births
   -- the actors after it run nothing
   pub rests : (a : ℕ) → v.actor < a → a ≤ v.last → (operation_of (state_of sizes account) a ≡ None) × (slice_index words (pin_word a) ≡ 0)
   pub pinned : slice_index words (pin_word v.actor) ≡ pin_word_of v.pin

@@ -9,5 +9,5 @@ mod sizes;
 
 pub use loads::{Words, Actor, load_header};
 pub use accounts::{Known, Account, Owned};
-pub use rules::{Closing, Looks, Pool, Rule, View};
+pub use rules::{Closing, Goes, Pool, Rule, Sees, View};
 pub use sizes::Sizes;

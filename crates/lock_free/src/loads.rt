@@ -3,7 +3,7 @@
 ghost use Rattle.std.specs.Prelude.{◌≡◌, ◌<◌, ◌*◌};
 ghost use Rattle.lock_free.specs.Loading.{IsAtHeader, HasLooked};
 
-use crate::rules::{Looks, Rule, View};
+use crate::rules::{Goes, Rule, View};
 use crate::sizes::Sizes;
 use atomic_table::{Seat, Shared};
 use history::Call;
@@ -22,5 +22,5 @@ pub fn load_header(words: &Words, actor: &mut Actor, main: u32) -> u64
     ensures table { actor.new.table_id ≡ actor.old.table_id }
     ensures looked { HasLooked actor.old.me.0 result actor.new.me.0 }
 {
-    words.load::<Looks>(actor, 2 * main as usize)
+    words.load::<Goes>(actor, 2 * main as usize)
 }

@@ -1,7 +1,7 @@
 //! The rule of the words.
 
 ghost use Rattle.lock_free.specs.Rules.{IsKept, first_view};
-ghost use Rattle.lock_free.specs.Loading.{has_looked};
+ghost use Rattle.lock_free.specs.Loading.{has_seen, has_gone};
 
 use crate::accounts::Account;
 use crate::sizes::Sizes;
@@ -56,9 +56,16 @@ impl TableRule<Call, View, Sizes> for Rule {
     ghost first = { first_view };
 }
 
-/// The main node of a READ is read, and looked at.
-pub struct Looks;
+/// Something is looked at, and no step is taken.
+pub struct Sees;
 
-impl Play<Call, View> for Looks {
-    ghost then = { has_looked };
+impl Play<Call, View> for Sees {
+    ghost then = { has_seen };
+}
+
+/// The operation's next step, which changes no word, is taken.
+pub struct Goes;
+
+impl Play<Call, View> for Goes {
+    ghost then = { has_gone };
 }
