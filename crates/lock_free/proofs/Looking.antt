@@ -105,7 +105,7 @@ header_allowed sizes size id me word main p s kept length_is at low =
       ((record { table = s; sizes = sizes; same = its; kept = kept; id = id; at = at; finds = refl }, refl), refl),
     )
 
-prev_in : Action → Ref
+abbrev prev_in : Action → Ref
 prev_in (act.ReadPrev m) = m
 prev_in action = no_ref
 
