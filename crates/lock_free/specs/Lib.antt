@@ -6,3 +6,4 @@ pub mod Roots
 pub mod Rules
 pub mod Steps
 pub mod Loading
+pub mod Making
