@@ -1,3 +1,4 @@
 mod Keeping
 mod Definition
 mod Looking
+mod Geometry
