@@ -41,7 +41,7 @@ use Rattle.lock_free.specs.Roots.{MeansRoot, closed, reserved, writable, read_on
 use Rattle.lock_free.specs.Rules.{Standing, Stands, NodesStand, RootsStand, IsClosing, SaysClosing, IsFree, IsSpare, IsSeat, HasActor, IsKept}
 use Rattle.lock_free.specs.Steps.{Leaves, Reads}
 
-within : {A : Type 0} (xs : List A) (n : ℕ) (x : A) → get_elem? xs n ≡ some x → n < length xs
+pub within : {A : Type 0} (xs : List A) (n : ℕ) (x : A) → get_elem? xs n ≡ some x → n < length xs
 within [] n x e = absurd (some-ne-none x (sym e))
 within (y ∷ ys) zero x e = omega arith
 within (y ∷ ys) (suc n) x e = let h = within ys n x e in omega (arith, h)

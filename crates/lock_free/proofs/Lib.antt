@@ -2,3 +2,4 @@ mod Keeping
 mod Definition
 mod Looking
 mod Geometry
+mod Assembling
