@@ -3,3 +3,4 @@ mod Definition
 mod Looking
 mod Geometry
 mod Assembling
+mod Framing

@@ -14,6 +14,7 @@ use Rattle.trie_words.specs.declared.pins.Pin.{Pin}
 use Rattle.machine_model.specs.Beneath.slot_arena.specs.declared.refs.Ref.{Ref}
 use Rattle.machine_model.specs.Beneath.slot_arena.specs.declared.nodes.Slot.{Slot}
 use Rattle.machine_model.specs.Beneath.slot_arena.specs.Refs.{slot_of}
+use Rattle.machine_model.specs.Beneath.slot_arena.specs.Heaps.{entries_of}
 use Rattle.machine_model.specs.declared.operations.Operation.{Operation}
 use Rattle.machine_model.specs.Calls.{handle_of}
 use Rattle.machine_model.specs.Keys.{KeysFit}
@@ -50,6 +51,8 @@ Stands stands state k slot = (stands k ≡ true) × (slice_index_or state.heap.s
 
 pub record NodesStand (sizes : Sizes) (account : Account) (stands : Standing) (words : List ℕ) : Type 0 where
   pub within : (k : ℕ) (slot : Slot) → Stands stands (state_of sizes account) k slot → IsTaken sizes words (class_of slot.node) (place_at account k)
+  -- so each of its words is one of the slot's
+  pub small : (k : ℕ) (slot : Slot) → Stands stands (state_of sizes account) k slot → length (entries_of slot.node) ≤ 32
   pub apart : (j k : ℕ) (x y : Slot) → Stands stands (state_of sizes account) j x → Stands stands (state_of sizes account) k y → place_at account j ≡ place_at account k → j ≡ k
   pub written : (k : ℕ) (slot : Slot) → Stands stands (state_of sizes account) k slot →
       StandsAs account (state_of sizes account) (InTable words) (place_at account k) k slot slot.node

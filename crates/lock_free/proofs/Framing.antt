@@ -1,0 +1,163 @@
+-- A store to a word of a slot that nothing stands in changes nothing that the rule says of words, but what a seat has written there itself.
+use Rattle.history.specs.declared.calls.Call.{Call}
+use Rattle.std.proofs.Common.{◌≡◌, ◌≢◌, ◌+◌, ◌*◌, ◌/◌, ℕ, zero, suc, ◌<◌, ◌≤◌, List, [], ◌∷◌, Contains, length, set, get_or, slice_index, Option, Some, None, refl, sym, ap, subst, ◌∙◌, arith, nat_le, Bool, true, false, cond, if◌then◌else◌, length-set, slice_get}
+use Rattle.std.proofs.lemmas.List.{get_or-set_other}
+use Rattle.std.proofs.lemmas.Option.{none-some}
+use Rattle.history.specs.declared.calls.Access.TheVariants.{Writable}
+use Rattle.machine_model.specs.Beneath.slot_arena.specs.declared.refs.Ref.{Ref}
+use Rattle.machine_model.specs.Beneath.slot_arena.specs.declared.nodes.Node.{Node}
+use Rattle.machine_model.specs.Beneath.slot_arena.specs.declared.nodes.Node.TheVariants.{Indirection, Branch, Single, Tomb, List as Listed}
+use Rattle.machine_model.specs.Beneath.slot_arena.specs.declared.nodes.Slot.{Slot}
+use Rattle.machine_model.specs.Beneath.slot_arena.specs.Heaps.{entries_of}
+use Rattle.machine_model.specs.States.{State, handle_limit, root_at}
+use Rattle.machine_model.specs.declared.roots.Root.{Root}
+use Rattle.lock_free.specs.declared.accounts.Account.{Account}
+use Rattle.lock_free.specs.declared.accounts.Known.{Known}
+use Rattle.lock_free.specs.declared.rules.View.{View}
+use Rattle.lock_free.specs.declared.sizes.Sizes.{Sizes}
+use Rattle.lock_free.specs.Accounts.{state_of, place_at}
+use Rattle.lock_free.specs.Nodes.{Has, StandsAs, AreEntries, InTable, entry_word, class_of}
+use Rattle.lock_free.specs.Places.{first_slot_word, words_in, slots_in, class_for, IsTaken, HaveTaken, taken_word, generation_word, root_word, pin_word}
+use Rattle.lock_free.specs.Roots.{MeansRoot, closed, reserved, writable, read_only, closing_writable, closing_read_only, offered, opening, opens_later, IsWritten, meant, opened_by, open_with}
+use Rattle.lock_free.specs.Rules.{Standing, Stands, NodesStand, RootsStand, IsSpare}
+use Rattle.lock_free.proofs.Geometry.{IsWordOf, slots_apart, above, root_below}
+use Rattle.lock_free.proofs.Assembling.{AllStand}
+
+-- ---- a node's words are its slot's
+
+-- a main node with so many entries has room for each of them
+room_by : (n position : ℕ) (two fourteen : Bool) → nat_le n 2 ≡ two → nat_le n 14 ≡ fourteen → n ≤ 32 → position < n →
+    1 + position / 2 < words_in (if two then 0 else (if fourteen then 1 else 2))
+room_by n position true fourteen a b most low = grind (arith, a, most, low)
+room_by n position false true a b most low = grind (arith, a, b, most, low)
+room_by n position false false a b most low = grind (arith, a, b, most, low)
+
+entry_inside : (n name position : ℕ) → n ≤ 32 → position < n → IsWordOf (class_for n) name (entry_word name position)
+entry_inside n name position most low =
+    let room = room_by n position (nat_le n 2) (nat_le n 14) refl refl most low in
+    record { low = omega arith; high = omega (arith, room) }
+
+class_has : (n : ℕ) → 0 < words_in (class_for n)
+class_has n = by (nat_le n 2) (nat_le n 14)
+  where
+    by : (two fourteen : Bool) → 0 < words_in (if two then 0 else (if fourteen then 1 else 2))
+    by true fourteen = omega arith
+    by false true = omega arith
+    by false false = omega arith
+
+class_below : (n : ℕ) → class_for n < 3
+class_below n = by (nat_le n 2) (nat_le n 14)
+  where
+    by : (two fourteen : Bool) → (if two then 0 else (if fourteen then 1 else 2)) < 3
+    by true fourteen = omega arith
+    by false true = omega arith
+    by false false = omega arith
+
+first_inside : (n name : ℕ) → IsWordOf (class_for n) name (2 * name)
+first_inside n name = let some = class_has n in record { low = omega arith; high = omega (arith, some) }
+
+-- ---- a store to a spare slot's word
+
+got_within : {A : Type 0} (xs : List A) (n : ℕ) (x : A) → slice_get xs n ≡ Some x → n < length xs
+got_within [] n x e = absurd (none-some x e)
+got_within (y ∷ ys) zero x e = omega arith
+got_within (y ∷ ys) (suc n) x e = let h = got_within ys n x e in omega (arith, h)
+
+module _ (sizes : Sizes) (account : Account) (stands : Standing) (words : List ℕ) (all : AllStand sizes account stands words) (class name : ℕ) (small : class < 3)
+    (taken : IsTaken sizes words class name) (spare : IsSpare sizes account stands name) (i : ℕ) (here : IsWordOf class name i) (x : ℕ) where
+  abbrev pub stored : List ℕ
+  stored = set words i x
+
+  pub other_word : (j : ℕ) → j ≢ i → slice_index stored j ≡ slice_index words j
+  other_word j apart = get_or-set_other words i j x 0 apart
+
+  pub low_word : (j : ℕ) → j < first_slot_word sizes → slice_index stored j ≡ slice_index words j
+  low_word j low = other_word j (λ same. (let high = above sizes words all.taken class name i small taken here in absurd (omega (arith, low, high, same))))
+
+  class_small : (node : Node) → class_of node < 3
+  class_small (Indirection generation main) = omega arith
+  class_small (Single key value) = omega arith
+  class_small (Tomb single) = omega arith
+  class_small (Branch bitmap entries) = class_below (length entries.items)
+  class_small (Listed singles) = class_below (length singles.items)
+
+  -- no word of a node that stands, or of an offer
+  not_of_node : (k : ℕ) (slot : Slot) → Stands stands (state_of sizes account) k slot → (j : ℕ) → IsWordOf (class_of slot.node) (place_at account k) j → j ≢ i
+  not_of_node k slot h j w same =
+      spare.0 k slot h
+      (slots_apart sizes words all.taken (class_of slot.node) class (place_at account k) name i (class_small slot.node) small (all.nodes.within k slot h) taken
+          (subst (λ n. IsWordOf (class_of slot.node) (place_at account k) n) same w) here).1
+
+  not_of_offer : (k : Known) → Contains account.offers k → (j : ℕ) → IsWordOf 1 k.slot j → j ≢ i
+  not_of_offer k c j w same =
+      spare.1 k c (slots_apart sizes words all.taken 1 class k.slot name i (omega arith) small (all.roots.blocks k c) taken (subst (λ n. IsWordOf 1 k.slot n) same w) here).1
+
+  module _ (p : ℕ) (state : State) (k : ℕ) (slot : Slot) where
+    entries_over : (entries : List Ref) → length entries ≤ 32 → ((j : ℕ) → IsWordOf (class_for (length entries)) p j → j ≢ i) →
+        AreEntries account state.heap (InTable words) p entries → AreEntries account state.heap (InTable stored) p entries
+    entries_over entries most apart h position e at =
+        let y = h position e at in
+        (y.0, other_word (entry_word p position) (apart (entry_word p position) (entry_inside (length entries) p position most (got_within entries position e at))) ∙ y.1, y.2)
+
+    pub stands_over : (node : Node) → length (entries_of node) ≤ 32 → ((j : ℕ) → IsWordOf (class_of node) p j → j ≢ i) → StandsAs account state (InTable words) p k slot node →
+        StandsAs account state (InTable stored) p k slot node
+    stands_over (Indirection generation main) most apart h = (h.0, (h.1.0, h.1.1, other_word (2 * p) (apart (2 * p) (first_inside 0 p)) ∙ h.1.2))
+    stands_over (Single key value) most apart h =
+        (other_word (2 * p) (apart (2 * p) (first_inside 0 p)) ∙ h.0, other_word (2 * p + 1) (apart (2 * p + 1) (record { low = omega arith; high = omega arith })) ∙ h.1)
+    stands_over (Branch bitmap entries) most apart h =
+        ((h.0.0, other_word (2 * p) (apart (2 * p) (first_inside (length entries.items) p)) ∙ h.0.1, h.0.2), entries_over entries.items most apart h.1)
+    stands_over (Tomb single) most apart h = (h.0, other_word (2 * p) (apart (2 * p) (first_inside 0 p)) ∙ h.1, h.2)
+    stands_over (Listed singles) most apart h =
+        ((h.0.0, other_word (2 * p) (apart (2 * p) (first_inside (length singles.items) p)) ∙ h.0.1, h.0.2), entries_over singles.items most apart h.1)
+
+  taken_over : (b n : ℕ) → b < 3 → IsTaken sizes words b n → IsTaken sizes stored b n
+  taken_over b n low h = record { number = h.number; few = subst (λ m. h.number < m) (sym (low_word (taken_word b) (omega (arith, low)))) h.few; first = h.first }
+
+  nodes_over : NodesStand sizes account stands stored
+  nodes_over = record {
+    within = λ k slot h. taken_over (class_of slot.node) (place_at account k) (class_small slot.node) (all.nodes.within k slot h);
+    small = all.nodes.small;
+    apart = all.nodes.apart;
+    written = λ k slot h. stands_over (place_at account k) (state_of sizes account) k slot slot.node (all.nodes.small k slot h) (not_of_node k slot h) (all.nodes.written k slot h);
+    live = all.nodes.live;
+  }
+
+  first_of_offer : (k : Known) → Contains account.offers k → slice_index stored (2 * k.slot) ≡ slice_index words (2 * k.slot)
+  first_of_offer k c = other_word (2 * k.slot) (not_of_offer k c (2 * k.slot) (record { low = omega arith; high = omega arith }))
+
+  meaning_over : (word : ℕ) (r : Option Root) → MeansRoot account words word r → MeansRoot account stored word r
+  meaning_over word r closed = closed
+  meaning_over word r reserved = reserved
+  meaning_over word r (writable q) = writable q
+  meaning_over word r (read_only q) = read_only q
+  meaning_over word r (closing_writable q seat) = closing_writable q seat
+  meaning_over word r (closing_read_only q seat) = closing_read_only q seat
+  meaning_over word r (offered k is) = subst (λ n. MeansRoot account stored word (open_with Writable (meant n k.offer))) (first_of_offer k is) (offered k is)
+  meaning_over word r (opening k is) = subst (λ n. MeansRoot account stored word (opened_by n k.offer)) (first_of_offer k is) (opening k is)
+  meaning_over word r (opens_later slot none) = opens_later slot none
+
+  roots_over : RootsStand sizes account stored
+  roots_over = record {
+    means = λ handle low.
+        (let where_it_is = root_below handle low in
+        subst (λ n. MeansRoot account stored n (root_at (state_of sizes account) handle)) (sym (low_word (root_word handle) (omega (arith, where_it_is.1))))
+        (meaning_over (slice_index words (root_word handle)) (root_at (state_of sizes account) handle) (all.roots.means handle low)));
+    offers = λ k c. (let h = all.roots.offers k c in record {
+      olds = other_word (2 * k.slot + 1) (not_of_offer k c (2 * k.slot + 1) (record { low = omega arith; high = omega arith })) ∙ h.olds;
+      news = other_word (2 * k.slot + 2) (not_of_offer k c (2 * k.slot + 2) (record { low = omega arith; high = omega arith })) ∙ h.news;
+    });
+    blocks = λ k c. taken_over 1 k.slot (omega arith) (all.roots.blocks k c);
+    single = all.roots.single;
+  }
+
+  pub all_over : AllStand sizes account stands stored
+  all_over = record {
+    bounds = all.bounds;
+    keys = all.keys;
+    counted = all.counted;
+    size = length-set words i x ∙ all.size;
+    taken = λ c low. subst (λ n. n ≤ slots_in sizes c) (sym (low_word (taken_word c) (omega (arith, low)))) (all.taken c low);
+    generations = low_word generation_word (omega arith) ∙ all.generations;
+    nodes = nodes_over;
+    roots = roots_over;
+  }
