@@ -4,3 +4,5 @@ mod Looking
 mod Geometry
 mod Assembling
 mod Framing
+mod Made
+mod MadeAll

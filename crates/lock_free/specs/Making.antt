@@ -11,7 +11,8 @@ use Rattle.machine_model.specs.Beneath.slot_arena.specs.declared.nodes.Node.TheV
 use Rattle.machine_model.specs.Beneath.slot_arena.specs.declared.nodes.Prev.TheVariants as prev
 use Rattle.machine_model.specs.Beneath.slot_arena.specs.declared.nodes.Slot.{Slot}
 use Rattle.machine_model.specs.Beneath.slot_arena.specs.Refs.{slot_of}
-use Rattle.machine_model.specs.Beneath.slot_arena.specs.Heaps.{Heap, refs_of_node, refs_of_slot}
+use Rattle.machine_model.specs.Beneath.slot_arena.specs.Heaps.{Heap, main_at, refs_of_node, refs_of_slot, refs_of_option}
+use Rattle.machine_model.specs.declared.roots.Descriptor.{Descriptor}
 use Rattle.machine_model.specs.declared.building.BuildLine.TheVariants as build
 use Rattle.machine_model.specs.declared.repairs.RenewLine.TheVariants as renew
 use Rattle.machine_model.specs.declared.repairs.CleanLine.TheVariants as clean
@@ -84,12 +85,17 @@ abbrev pub made_at : ℕ → ℕ → Bool → Node → Account → Account
 made_at actor name own node account =
     record { steps = account.steps ++ step.Go actor ∷ []; names = account.names ++ name ∷ []; owned = owned_with account.owned (length account.names) own node; offers = account.offers }
 
+-- the references of an offer
+abbrev pub refs_of_offer : Descriptor → List Ref
+refs_of_offer offer = offer.root ∷ offer.expected ∷ offer.successor ∷ refs_of_option offer.second
+
 -- no reference that stands anywhere names what isn't made yet
 pub record NamesNot (k : ℕ) (account : Account) (state : State) : Type 0 where
   pub empty : slice_index_or state.heap.slots k None ≡ None
   pub nodes : (j : ℕ) (slot : Slot) → slice_index_or state.heap.slots j None ≡ Some slot → (r : Ref) → Contains (refs_of_slot (Some slot)) r → slot_of r ≢ k
   pub roots : (handle : ℕ) (r : Ref) → Contains (refs_of_root (root_at state handle)) r → slot_of r ≢ k
   pub aheads : (i a f : Ref) → IsAhead state i a f → (slot_of i ≢ k) × (slot_of a ≢ k) × (slot_of f ≢ k)
+  pub offers : (x : Known) → Contains account.offers x → (r : Ref) → Contains (refs_of_offer x.offer) r → slot_of r ≢ k
 
 -- the actor's operation makes this node; its number is that of the nodes made before
 pub record Makes (sizes : Sizes) (account after : Account) (actor : ℕ) (operation : Operation) (node : Node) : Type 0 where
@@ -102,6 +108,9 @@ pub record Makes (sizes : Sizes) (account after : Account) (actor : ℕ) (operat
   pub prev_is : made.prev ≡ prev.None
   pub nodes : (k : ℕ) → k ≢ length account.names → slice_index_or (state_of sizes after).heap.slots k None ≡ slice_index_or (state_of sizes account).heap.slots k None
   pub births : (state_of sizes after).heap.births ≡ (state_of sizes account).heap.births + 1
+  -- the main node of an indirection that is made is decided
+  pub decided : (i : Ref) → slot_of i ≡ length account.names → (k : ℕ) (slot : Slot) → slice_index_or (state_of sizes account).heap.slots k None ≡ Some slot →
+      slot_of (main_at (state_of sizes after).heap i) ≡ k → slot.prev ≡ prev.None
   pub live : (r : Ref) → IsLive (state_of sizes after) r → IsLive (state_of sizes account) r ⊎ (slot_of r ≡ length account.names)
   pub roots : (state_of sizes after).roots ≡ (state_of sizes account).roots
   pub generations : (state_of sizes after).generations ≡ (state_of sizes account).generations
@@ -110,7 +119,7 @@ pub record Makes (sizes : Sizes) (account after : Account) (actor : ℕ) (operat
   -- it is about to swap the node in, if it is a main node to be swapped in; nobody else is who wasn't
   pub aheads : (i a f : Ref) → IsAhead (state_of sizes after) i a f → IsAhead (state_of sizes account) i a f ⊎ ((over_of operation.line ≡ Some (i, a)) × (slot_of f ≡ length account.names))
   pub still : (i a f : Ref) → IsAhead (state_of sizes account) i a f → IsAhead (state_of sizes after) i a f
-  pub next : (i a : Ref) → over_of operation.line ≡ Some (i, a) → (f : Ref) × (slot_of f ≡ length account.names) × IsAhead (state_of sizes after) i a f
+  pub next : (i a : Ref) → over_of operation.line ≡ Some (i, a) → (slot_of a ≢ length account.names) × ((f : Ref) × (slot_of f ≡ length account.names) × IsAhead (state_of sizes after) i a f)
 
 -- ---- the seat's slots
 
