@@ -45,7 +45,7 @@ class_has n = by (nat_le n 2) (nat_le n 14)
     by false true = omega arith
     by false false = omega arith
 
-class_below : (n : ℕ) → class_for n < 3
+pub class_below : (n : ℕ) → class_for n < 3
 class_below n = by (nat_le n 2) (nat_le n 14)
   where
     by : (two fourteen : Bool) → (if two then 0 else (if fourteen then 1 else 2)) < 3
@@ -55,6 +55,13 @@ class_below n = by (nat_le n 2) (nat_le n 14)
 
 first_inside : (n name : ℕ) → IsWordOf (class_for n) name (2 * name)
 first_inside n name = let some = class_has n in record { low = omega arith; high = omega (arith, some) }
+
+pub class_small : (node : Node) → class_of node < 3
+class_small (Indirection generation main) = omega arith
+class_small (Single key value) = omega arith
+class_small (Tomb single) = omega arith
+class_small (Branch bitmap entries) = class_below (length entries.items)
+class_small (Listed singles) = class_below (length singles.items)
 
 -- ---- a store to a spare slot's word
 
@@ -73,13 +80,6 @@ module _ (sizes : Sizes) (account : Account) (stands : Standing) (words : List �
 
   pub low_word : (j : ℕ) → j < first_slot_word sizes → slice_index stored j ≡ slice_index words j
   low_word j low = other_word j (λ same. (let high = above sizes words all.taken class name i small taken here in absurd (omega (arith, low, high, same))))
-
-  class_small : (node : Node) → class_of node < 3
-  class_small (Indirection generation main) = omega arith
-  class_small (Single key value) = omega arith
-  class_small (Tomb single) = omega arith
-  class_small (Branch bitmap entries) = class_below (length entries.items)
-  class_small (Listed singles) = class_below (length singles.items)
 
   -- no word of a node that stands, or of an offer
   not_of_node : (k : ℕ) (slot : Slot) → Stands stands (state_of sizes account) k slot → (j : ℕ) → IsWordOf (class_of slot.node) (place_at account k) j → j ≢ i
@@ -110,7 +110,7 @@ module _ (sizes : Sizes) (account : Account) (stands : Standing) (words : List �
     stands_over (Listed singles) most apart h =
         ((h.0.0, other_word (2 * p) (apart (2 * p) (first_inside (length singles.items) p)) ∙ h.0.1, h.0.2), entries_over singles.items most apart h.1)
 
-  taken_over : (b n : ℕ) → b < 3 → IsTaken sizes words b n → IsTaken sizes stored b n
+  pub taken_over : (b n : ℕ) → b < 3 → IsTaken sizes words b n → IsTaken sizes stored b n
   taken_over b n low h = record { number = h.number; few = subst (λ m. h.number < m) (sym (low_word (taken_word b) (omega (arith, low)))) h.few; first = h.first }
 
   nodes_over : NodesStand sizes account stands stored

@@ -6,3 +6,5 @@ mod Assembling
 mod Framing
 mod Made
 mod MadeAll
+mod Waiting
+mod MadeKept
