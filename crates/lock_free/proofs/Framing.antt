@@ -70,16 +70,85 @@ got_within [] n x e = absurd (none-some x e)
 got_within (y ∷ ys) zero x e = omega arith
 got_within (y ∷ ys) (suc n) x e = let h = got_within ys n x e in omega (arith, h)
 
+-- a store to a word of some slot
+module _ (sizes : Sizes) (account : Account) (words : List ℕ) (have : HaveTaken sizes words) (i : ℕ) (far : first_slot_word sizes ≤ i) (x : ℕ) where
+  abbrev pub changed : List ℕ
+  changed = set words i x
+
+  pub else_word : (j : ℕ) → j ≢ i → slice_index changed j ≡ slice_index words j
+  else_word j apart = get_or-set_other words i j x 0 apart
+
+  pub below_word : (j : ℕ) → j < first_slot_word sizes → slice_index changed j ≡ slice_index words j
+  below_word j low = else_word j (λ same. absurd (omega (arith, low, far, same)))
+
+  module _ (p : ℕ) (state : State) (k : ℕ) (slot : Slot) where
+    entries_over : (entries : List Ref) → length entries ≤ 32 → ((j : ℕ) → IsWordOf (class_for (length entries)) p j → j ≢ i) →
+        AreEntries account state.heap (InTable words) p entries → AreEntries account state.heap (InTable changed) p entries
+    entries_over entries most apart h position e at =
+        let y = h position e at in
+        (y.0, else_word (entry_word p position) (apart (entry_word p position) (entry_inside (length entries) p position most (got_within entries position e at))) ∙ y.1, y.2)
+
+    pub stands_over : (node : Node) → length (entries_of node) ≤ 32 → ((j : ℕ) → IsWordOf (class_of node) p j → j ≢ i) → StandsAs account state (InTable words) p k slot node →
+        StandsAs account state (InTable changed) p k slot node
+    stands_over (Indirection generation main) most apart h = (h.0, (h.1.0, h.1.1, else_word (2 * p) (apart (2 * p) (first_inside 0 p)) ∙ h.1.2))
+    stands_over (Single key value) most apart h =
+        (else_word (2 * p) (apart (2 * p) (first_inside 0 p)) ∙ h.0, else_word (2 * p + 1) (apart (2 * p + 1) (record { low = omega arith; high = omega arith })) ∙ h.1)
+    stands_over (Branch bitmap entries) most apart h =
+        ((h.0.0, else_word (2 * p) (apart (2 * p) (first_inside (length entries.items) p)) ∙ h.0.1, h.0.2), entries_over entries.items most apart h.1)
+    stands_over (Tomb single) most apart h = (h.0, else_word (2 * p) (apart (2 * p) (first_inside 0 p)) ∙ h.1, h.2)
+    stands_over (Listed singles) most apart h =
+        ((h.0.0, else_word (2 * p) (apart (2 * p) (first_inside (length singles.items) p)) ∙ h.0.1, h.0.2), entries_over singles.items most apart h.1)
+
+  pub still_taken : (b n : ℕ) → b < 3 → IsTaken sizes words b n → IsTaken sizes changed b n
+  still_taken b n low h = record { number = h.number; few = subst (λ m. h.number < m) (sym (below_word (taken_word b) (omega (arith, low)))) h.few; first = h.first }
+
+  pub have_still : HaveTaken sizes changed
+  have_still c low = subst (λ n. n ≤ slots_in sizes c) (sym (below_word (taken_word c) (omega (arith, low)))) (have c low)
+
+  -- where it is no offer's
+  module _ (apart : (k : Known) → Contains account.offers k → (j : ℕ) → IsWordOf 1 k.slot j → j ≢ i) where
+    first_of_offer : (k : Known) → Contains account.offers k → slice_index changed (2 * k.slot) ≡ slice_index words (2 * k.slot)
+    first_of_offer k c = else_word (2 * k.slot) (apart k c (2 * k.slot) (record { low = omega arith; high = omega arith }))
+
+    meaning_over : (word : ℕ) (r : Option Root) → MeansRoot account words word r → MeansRoot account changed word r
+    meaning_over word r closed = closed
+    meaning_over word r reserved = reserved
+    meaning_over word r (writable q) = writable q
+    meaning_over word r (read_only q) = read_only q
+    meaning_over word r (closing_writable q seat) = closing_writable q seat
+    meaning_over word r (closing_read_only q seat) = closing_read_only q seat
+    meaning_over word r (offered k is) = subst (λ n. MeansRoot account changed word (open_with Writable (meant n k.offer))) (first_of_offer k is) (offered k is)
+    meaning_over word r (opening k is) = subst (λ n. MeansRoot account changed word (opened_by n k.offer)) (first_of_offer k is) (opening k is)
+    meaning_over word r (opens_later slot none) = opens_later slot none
+
+    pub roots_still : RootsStand sizes account words → RootsStand sizes account changed
+    roots_still roots = record {
+      means = λ handle low.
+          (let where_it_is = root_below handle low in
+          subst (λ n. MeansRoot account changed n (root_at (state_of sizes account) handle)) (sym (below_word (root_word handle) (omega (arith, where_it_is.1))))
+          (meaning_over (slice_index words (root_word handle)) (root_at (state_of sizes account) handle) (roots.means handle low)));
+      offers = λ k c. (let h = roots.offers k c in record {
+        olds = else_word (2 * k.slot + 1) (apart k c (2 * k.slot + 1) (record { low = omega arith; high = omega arith })) ∙ h.olds;
+        news = else_word (2 * k.slot + 2) (apart k c (2 * k.slot + 2) (record { low = omega arith; high = omega arith })) ∙ h.news;
+      });
+      blocks = λ k c. still_taken 1 k.slot (omega arith) (roots.blocks k c);
+      single = roots.single;
+    }
+
+-- a store to a spare slot's word
 module _ (sizes : Sizes) (account : Account) (stands : Standing) (words : List ℕ) (all : AllStand sizes account stands words) (class name : ℕ) (small : class < 3)
     (taken : IsTaken sizes words class name) (spare : IsSpare sizes account stands name) (i : ℕ) (here : IsWordOf class name i) (x : ℕ) where
   abbrev pub stored : List ℕ
   stored = set words i x
 
+  far : first_slot_word sizes ≤ i
+  far = above sizes words all.taken class name i small taken here
+
   pub other_word : (j : ℕ) → j ≢ i → slice_index stored j ≡ slice_index words j
-  other_word j apart = get_or-set_other words i j x 0 apart
+  other_word = else_word sizes account words all.taken i far x
 
   pub low_word : (j : ℕ) → j < first_slot_word sizes → slice_index stored j ≡ slice_index words j
-  low_word j low = other_word j (λ same. (let high = above sizes words all.taken class name i small taken here in absurd (omega (arith, low, high, same))))
+  low_word = below_word sizes account words all.taken i far x
 
   -- no word of a node that stands, or of an offer
   not_of_node : (k : ℕ) (slot : Slot) → Stands stands (state_of sizes account) k slot → (j : ℕ) → IsWordOf (class_of slot.node) (place_at account k) j → j ≢ i
@@ -92,62 +161,18 @@ module _ (sizes : Sizes) (account : Account) (stands : Standing) (words : List �
   not_of_offer k c j w same =
       spare.1 k c (slots_apart sizes words all.taken 1 class k.slot name i (omega arith) small (all.roots.blocks k c) taken (subst (λ n. IsWordOf 1 k.slot n) same w) here).1
 
-  module _ (p : ℕ) (state : State) (k : ℕ) (slot : Slot) where
-    entries_over : (entries : List Ref) → length entries ≤ 32 → ((j : ℕ) → IsWordOf (class_for (length entries)) p j → j ≢ i) →
-        AreEntries account state.heap (InTable words) p entries → AreEntries account state.heap (InTable stored) p entries
-    entries_over entries most apart h position e at =
-        let y = h position e at in
-        (y.0, other_word (entry_word p position) (apart (entry_word p position) (entry_inside (length entries) p position most (got_within entries position e at))) ∙ y.1, y.2)
-
-    pub stands_over : (node : Node) → length (entries_of node) ≤ 32 → ((j : ℕ) → IsWordOf (class_of node) p j → j ≢ i) → StandsAs account state (InTable words) p k slot node →
-        StandsAs account state (InTable stored) p k slot node
-    stands_over (Indirection generation main) most apart h = (h.0, (h.1.0, h.1.1, other_word (2 * p) (apart (2 * p) (first_inside 0 p)) ∙ h.1.2))
-    stands_over (Single key value) most apart h =
-        (other_word (2 * p) (apart (2 * p) (first_inside 0 p)) ∙ h.0, other_word (2 * p + 1) (apart (2 * p + 1) (record { low = omega arith; high = omega arith })) ∙ h.1)
-    stands_over (Branch bitmap entries) most apart h =
-        ((h.0.0, other_word (2 * p) (apart (2 * p) (first_inside (length entries.items) p)) ∙ h.0.1, h.0.2), entries_over entries.items most apart h.1)
-    stands_over (Tomb single) most apart h = (h.0, other_word (2 * p) (apart (2 * p) (first_inside 0 p)) ∙ h.1, h.2)
-    stands_over (Listed singles) most apart h =
-        ((h.0.0, other_word (2 * p) (apart (2 * p) (first_inside (length singles.items) p)) ∙ h.0.1, h.0.2), entries_over singles.items most apart h.1)
-
   pub taken_over : (b n : ℕ) → b < 3 → IsTaken sizes words b n → IsTaken sizes stored b n
-  taken_over b n low h = record { number = h.number; few = subst (λ m. h.number < m) (sym (low_word (taken_word b) (omega (arith, low)))) h.few; first = h.first }
+  taken_over = still_taken sizes account words all.taken i far x
 
   nodes_over : NodesStand sizes account stands stored
   nodes_over = record {
     within = λ k slot h. taken_over (class_of slot.node) (place_at account k) (class_small slot.node) (all.nodes.within k slot h);
     small = all.nodes.small;
     apart = all.nodes.apart;
-    written = λ k slot h. stands_over (place_at account k) (state_of sizes account) k slot slot.node (all.nodes.small k slot h) (not_of_node k slot h) (all.nodes.written k slot h);
+    offers = all.nodes.offers;
+    written = λ k slot h.
+        stands_over sizes account words all.taken i far x (place_at account k) (state_of sizes account) k slot slot.node (all.nodes.small k slot h) (not_of_node k slot h) (all.nodes.written k slot h);
     live = all.nodes.live;
-  }
-
-  first_of_offer : (k : Known) → Contains account.offers k → slice_index stored (2 * k.slot) ≡ slice_index words (2 * k.slot)
-  first_of_offer k c = other_word (2 * k.slot) (not_of_offer k c (2 * k.slot) (record { low = omega arith; high = omega arith }))
-
-  meaning_over : (word : ℕ) (r : Option Root) → MeansRoot account words word r → MeansRoot account stored word r
-  meaning_over word r closed = closed
-  meaning_over word r reserved = reserved
-  meaning_over word r (writable q) = writable q
-  meaning_over word r (read_only q) = read_only q
-  meaning_over word r (closing_writable q seat) = closing_writable q seat
-  meaning_over word r (closing_read_only q seat) = closing_read_only q seat
-  meaning_over word r (offered k is) = subst (λ n. MeansRoot account stored word (open_with Writable (meant n k.offer))) (first_of_offer k is) (offered k is)
-  meaning_over word r (opening k is) = subst (λ n. MeansRoot account stored word (opened_by n k.offer)) (first_of_offer k is) (opening k is)
-  meaning_over word r (opens_later slot none) = opens_later slot none
-
-  roots_over : RootsStand sizes account stored
-  roots_over = record {
-    means = λ handle low.
-        (let where_it_is = root_below handle low in
-        subst (λ n. MeansRoot account stored n (root_at (state_of sizes account) handle)) (sym (low_word (root_word handle) (omega (arith, where_it_is.1))))
-        (meaning_over (slice_index words (root_word handle)) (root_at (state_of sizes account) handle) (all.roots.means handle low)));
-    offers = λ k c. (let h = all.roots.offers k c in record {
-      olds = other_word (2 * k.slot + 1) (not_of_offer k c (2 * k.slot + 1) (record { low = omega arith; high = omega arith })) ∙ h.olds;
-      news = other_word (2 * k.slot + 2) (not_of_offer k c (2 * k.slot + 2) (record { low = omega arith; high = omega arith })) ∙ h.news;
-    });
-    blocks = λ k c. taken_over 1 k.slot (omega arith) (all.roots.blocks k c);
-    single = all.roots.single;
   }
 
   pub all_over : AllStand sizes account stands stored
@@ -156,8 +181,8 @@ module _ (sizes : Sizes) (account : Account) (stands : Standing) (words : List �
     keys = all.keys;
     counted = all.counted;
     size = length-set words i x ∙ all.size;
-    taken = λ c low. subst (λ n. n ≤ slots_in sizes c) (sym (low_word (taken_word c) (omega (arith, low)))) (all.taken c low);
+    taken = have_still sizes account words all.taken i far x;
     generations = low_word generation_word (omega arith) ∙ all.generations;
     nodes = nodes_over;
-    roots = roots_over;
+    roots = roots_still sizes account words all.taken i far x not_of_offer all.roots;
   }

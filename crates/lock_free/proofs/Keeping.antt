@@ -147,6 +147,7 @@ module _ (sizes : Sizes) (s : Table.State Call View) (kept : IsKept sizes s) (id
     within = λ k slot h. kept.nodes.within k slot (stood k slot h);
     small = λ k slot h. kept.nodes.small k slot (stood k slot h);
     apart = λ j k x y a b same. kept.nodes.apart j k x y (stood j x a) (stood k y b) same;
+    offers = λ x c k slot h. kept.nodes.offers x c k slot (stood k slot h);
     written = λ k slot h. stands_kept kept.account then_account.steps now then reads.leaves.nodes aheads s.words (place_at kept.account k) k slot slot.node (kept.nodes.written k slot (stood k slot h));
     live = λ r h. kept.nodes.live r (reads.leaves.live r h);
   }

@@ -77,6 +77,10 @@ module _ (sizes : Sizes) (account : Account) (actor : ℕ) (operation : Operatio
         | inr q ↦ all.nodes.apart j k x y o.1 q.1 (sym (place_old j o.0) ∙ same ∙ place_old k q.0)
       ]
     ];
+    offers = λ x c k slot h. elim (which k slot h) [
+      | inl n ↦ (λ same. spare.1 x c (sym same ∙ place_new k n.0))
+      | inr o ↦ (λ same. all.nodes.offers x c k slot o.1 (sym (place_old k o.0) ∙ same))
+    ];
     written = λ k slot h. elim (which k slot h) [
       | inl n ↦
           subst (λ p. StandsAs later (state_of sizes later) (InTable words) p k slot slot.node) (sym (place_new k n.0))

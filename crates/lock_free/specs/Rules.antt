@@ -54,6 +54,7 @@ pub record NodesStand (sizes : Sizes) (account : Account) (stands : Standing) (w
   -- so each of its words is one of the slot's
   pub small : (k : ℕ) (slot : Slot) → Stands stands (state_of sizes account) k slot → length (entries_of slot.node) ≤ 32
   pub apart : (j k : ℕ) (x y : Slot) → Stands stands (state_of sizes account) j x → Stands stands (state_of sizes account) k y → place_at account j ≡ place_at account k → j ≡ k
+  pub offers : (x : Known) → Contains account.offers x → (k : ℕ) (slot : Slot) → Stands stands (state_of sizes account) k slot → place_at account k ≢ x.slot
   pub written : (k : ℕ) (slot : Slot) → Stands stands (state_of sizes account) k slot →
       StandsAs account (state_of sizes account) (InTable words) (place_at account k) k slot slot.node
   -- what a root or an operation leads to stands there
