@@ -8,3 +8,4 @@ mod Made
 mod MadeAll
 mod Waiting
 mod MadeKept
+mod Published

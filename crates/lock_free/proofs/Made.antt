@@ -68,15 +68,15 @@ stands_new k stands j same = ap (λ b. if b then true else stands j) (eq-eqb j k
 pub stands_else : (k : ℕ) (stands : Standing) (j : ℕ) → j ≢ k → stands_too k stands j ≡ stands j
 stands_else k stands j other = ap (λ b. if b then true else stands j) (ne_eqb j k other)
 
-abbrev is_undecided : Prev → Bool
+abbrev pub is_undecided : Prev → Bool
 is_undecided prev.None = false
 is_undecided (prev.Pending p) = true
 is_undecided (prev.Failed p) = true
 
-is_pending : (q : Ref) → prev.Pending q ≡ prev.None → ⊥
+pub is_pending : (q : Ref) → prev.Pending q ≡ prev.None → ⊥
 is_pending q e = true≢false (ap is_undecided e)
 
-is_failed : (q : Ref) → prev.Failed q ≡ prev.None → ⊥
+pub is_failed : (q : Ref) → prev.Failed q ≡ prev.None → ⊥
 is_failed q e = true≢false (ap is_undecided e)
 
 module _ (sizes : Sizes) (account : Account) (actor : ℕ) (operation : Operation) (name : ℕ) (own : Bool) (node : Node) (makes : Makes sizes account (made_at actor name own node account) actor operation node) where

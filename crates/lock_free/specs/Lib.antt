@@ -7,3 +7,4 @@ pub mod Rules
 pub mod Steps
 pub mod Loading
 pub mod Making
+pub mod Publishing
