@@ -9,3 +9,4 @@ mod MadeAll
 mod Waiting
 mod MadeKept
 mod Published
+mod PublishedAll
