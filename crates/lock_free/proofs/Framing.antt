@@ -155,7 +155,7 @@ module _ (sizes : Sizes) (account : Account) (stands : Standing) (words : List �
   not_of_node k slot h j w same =
       spare.0 k slot h
       (slots_apart sizes words all.taken (class_of slot.node) class (place_at account k) name i (class_small slot.node) small (all.nodes.within k slot h) taken
-          (subst (λ n. IsWordOf (class_of slot.node) (place_at account k) n) same w) here).1
+      (subst (λ n. IsWordOf (class_of slot.node) (place_at account k) n) same w) here).1
 
   not_of_offer : (k : Known) → Contains account.offers k → (j : ℕ) → IsWordOf 1 k.slot j → j ≢ i
   not_of_offer k c j w same =

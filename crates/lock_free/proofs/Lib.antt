@@ -10,3 +10,5 @@ mod Waiting
 mod MadeKept
 mod Published
 mod PublishedAll
+mod Seats
+mod PublishedKept

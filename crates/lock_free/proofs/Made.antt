@@ -127,7 +127,6 @@ module _ (sizes : Sizes) (account : Account) (actor : ℕ) (operation : Operatio
     | inr new ↦ other (sym its ∙ new.1)
   ]
 
-
   previous_by : (k : ℕ) → k ≢ K → (p : Prev) (says : Previous) → ((q : Ref) → Contains (refs_of_prev p) q → slot_of q ≢ K) → ((q : Ref) (b : Bool) → (p ≡ prev.None → ⊥) → IsOver account now k q b → IsOver after next k q b) →
       SaysPrevious account now k p says → SaysPrevious after next k p says
   previous_by k other p says refs over (decided none) = decided (no_ahead k other none)
@@ -165,10 +164,15 @@ module _ (sizes : Sizes) (account : Account) (actor : ℕ) (operation : Operatio
 
   -- a node that stood stands as before
   pub stood_stands : (has : Has) (p k : ℕ) (slot : Slot) (n : Node) → k ≢ K → get_or now.heap.slots k None ≡ Some slot → n ≡ slot.node → StandsAs account now has p k slot n → StandsAs after next has p k slot n
-  stood_stands has p k slot (Indirection generation main) other at is h =
-      (h.0, (h.1.0, owns k (slot_of main) h.1.0 h.1.1,
-          subst (λ q. has (2 * p) (link_code (record { generation = generation; main = record { slot = q; own = h.1.0 } })))
-          (sym (same_place main (node_refs k slot at main (subst (λ m. Contains (refs_of_node m) main) is (Contains-get_or (main ∷ []) 0 main (omega arith)))))) h.1.2))
+  stood_stands has p k slot (Indirection generation main) other at is h = (
+    h.0,
+    (
+      h.1.0,
+      owns k (slot_of main) h.1.0 h.1.1,
+      subst (λ q. has (2 * p) (link_code (record { generation = generation; main = record { slot = q; own = h.1.0 } })))
+          (sym (same_place main (node_refs k slot at main (subst (λ m. Contains (refs_of_node m) main) is (Contains-get_or (main ∷ []) 0 main (omega arith)))))) h.1.2,
+    ),
+  )
   stood_stands has p k slot (Single key value) other at is h = h
   stood_stands has p k slot (Branch bitmap entries) other at is h =
       ((h.0.0, h.0.1, header_kept k slot h.0.0 other at h.0.2), entries_kept has p entries.items (λ e c. node_refs k slot at e (subst (λ m. Contains (refs_of_node m) e) is c)) h.1)
@@ -187,7 +191,7 @@ module _ (sizes : Sizes) (account : Account) (actor : ℕ) (operation : Operatio
       let n = makes.next over.0 over.1 is in
       subst (λ x. SaysPrevious after next K prev.None x) (sym h.2)
       (subst (λ p. SaysPrevious after next K prev.None (previous.Pending (record { slot = p; own = h.0 }))) (same_place over.1 n.0)
-          (ahead over.0 over.1 n.1.0 h.0 n.1.2 n.1.1 (owns (slot_of over.0) (slot_of over.1) h.0 h.1)))
+      (ahead over.0 over.1 n.1.0 h.0 n.1.2 n.1.1 (owns (slot_of over.0) (slot_of over.1) h.0 h.1)))
 
   new_header : (n : Node) (word : ℕ) → n ≡ node → DraftsHeader account now.heap (over_of operation.line) n word → SaysHeader after next K makes.made word
   new_header n word is h = record {
@@ -200,10 +204,15 @@ module _ (sizes : Sizes) (account : Account) (actor : ℕ) (operation : Operatio
 
   -- it stands where it was written
   pub new_stands : (has : Has) (n : Node) → n ≡ node → DraftsNode account now.heap (over_of operation.line) has name own n → StandsAs after next has name K makes.made n
-  new_stands has (Indirection generation main) is h =
-      (h.0, (own, subst (λ m. OwnIs (owned_with account.owned K own m) K (slot_of main) own) is (first _ account.owned),
-          subst (λ q. has (2 * name) (link_code (record { generation = generation; main = record { slot = q; own = own } })))
-          (sym (same_place main (makes.refs main (subst (λ m. Contains (refs_of_node m) main) is (Contains-get_or (main ∷ []) 0 main (omega arith)))))) h.1))
+  new_stands has (Indirection generation main) is h = (
+    h.0,
+    (
+      own,
+      subst (λ m. OwnIs (owned_with account.owned K own m) K (slot_of main) own) is (first _ account.owned),
+      subst (λ q. has (2 * name) (link_code (record { generation = generation; main = record { slot = q; own = own } })))
+          (sym (same_place main (makes.refs main (subst (λ m. Contains (refs_of_node m) main) is (Contains-get_or (main ∷ []) 0 main (omega arith)))))) h.1,
+    ),
+  )
   new_stands has (Single key value) is h = h
   new_stands has (Branch bitmap entries) is h =
       ((h.0.0, h.0.1, new_header (Branch bitmap entries) h.0.0 is h.0.2), entries_kept has name entries.items (λ e c. makes.refs e (subst (λ m. Contains (refs_of_node m) e) is c)) h.1)

@@ -85,9 +85,9 @@ module _ (sizes : Sizes) (account : Account) (actor : ℕ) (operation : Operatio
       | inl n ↦
           subst (λ p. StandsAs later (state_of sizes later) (InTable words) p k slot slot.node) (sym (place_new k n.0))
           (subst (λ j. StandsAs later (state_of sizes later) (InTable words) name j slot slot.node) (sym n.0)
-              (subst (λ (x : Slot). StandsAs later (state_of sizes later) (InTable words) name k0 x x.node) n.1
-                  (subst (λ m. StandsAs later (state_of sizes later) (InTable words) name k0 makes.made m) (sym makes.node_is)
-                      (new_stands sizes account actor operation name own node makes (InTable words) node refl drafted))))
+          (subst (λ (x : Slot). StandsAs later (state_of sizes later) (InTable words) name k0 x x.node) n.1
+          (subst (λ m. StandsAs later (state_of sizes later) (InTable words) name k0 makes.made m) (sym makes.node_is)
+          (new_stands sizes account actor operation name own node makes (InTable words) node refl drafted))))
       | inr o ↦
           subst (λ p. StandsAs later (state_of sizes later) (InTable words) p k slot slot.node) (sym (place_old k o.0))
           (stood_stands sizes account actor operation name own node makes (InTable words) (place_at account k) k slot slot.node o.0 o.1.1 refl (all.nodes.written k slot o.1))

@@ -59,11 +59,13 @@ one_there x n c = by c.0 c.1 c.2
 once_rest : (xs : List ℕ) (n : ℕ) → Once (xs ++ n ∷ []) → Once xs × (Contains xs n → ⊥)
 once_rest [] n h = (tt, λ c. none_there n c)
 once_rest (x ∷ xs) n h =
-    let below = once_rest xs n h.1 in
-    ((λ c. h.0 (Contains-append_left xs (n ∷ []) x c), below.0), λ c. elim (Contains-append_cases (x ∷ []) xs n c) [
-      | inl first ↦ h.0 (subst (λ y. Contains (xs ++ n ∷ []) y) (one_there x n first) (Contains-push xs n))
-      | inr more ↦ below.1 more
-    ])
+    let below = once_rest xs n h.1 in (
+      (λ c. h.0 (Contains-append_left xs (n ∷ []) x c), below.0),
+      λ c. elim (Contains-append_cases (x ∷ []) xs n c) [
+        | inl first ↦ h.0 (subst (λ y. Contains (xs ++ n ∷ []) y) (one_there x n first) (Contains-push xs n))
+        | inr more ↦ below.1 more
+      ],
+    )
 
 -- ---- pools
 
@@ -150,10 +152,13 @@ module _ (sizes : Sizes) (s : Table.State Call View) (kept : IsKept sizes s) (id
 
   -- a slot that is another one is spare still
   spare_then : (other : ℕ) → other ≢ name → IsSpare sizes kept.account kept.stands other → IsSpare sizes account_then stands_then other
-  spare_then other differs h = (λ k slot e p. elim (cases_eq k (length kept.account.names)) [
-    | inl new ↦ differs (sym p ∙ ap (λ n. get_or (kept.account.names ++ name ∷ []) n 0) new ∙ place_last kept.account.names name)
-    | inr old ↦ h.0 k slot (sym (stands_else (length kept.account.names) kept.stands k old) ∙ e.0, sym (makes.nodes k old) ∙ e.1) (sym (place_else kept.account.names name k old) ∙ p)
-  ], h.1)
+  spare_then other differs h = (
+    λ k slot e p. elim (cases_eq k (length kept.account.names)) [
+      | inl new ↦ differs (sym p ∙ ap (λ n. get_or (kept.account.names ++ name ∷ []) n 0) new ∙ place_last kept.account.names name)
+      | inr old ↦ h.0 k slot (sym (stands_else (length kept.account.names) kept.stands k old) ∙ e.0, sym (makes.nodes k old) ∙ e.1) (sym (place_else kept.account.names name k old) ∙ p)
+    ],
+    h.1,
+  )
 
   -- ---- the other seats
 
@@ -201,9 +206,9 @@ module _ (sizes : Sizes) (s : Table.State Call View) (kept : IsKept sizes s) (id
             (let x = h.drafts d c in
             let slot = x.1 in
             let not_last : d.0 ≢ last = λ same.
-                (let both = slots_apart sizes s.words kept.taken slot.0 (class_of node) slot.1 name last slot.2.0 (class_small node) (h.spare slot.0 slot.1 slot.2).0 is_spare.0
-                    (record { low = subst (λ n. 2 * slot.1 ≤ n) same slot.3; high = subst (λ n. n < 2 * slot.1 + words_in slot.0) same slot.4 }) inside_it in
-                apart (kept.pools other id w v slot.0 (class_of node) name e at (subst (λ n. IsFree w slot.0 n) both.1 slot.2) its_own)) in
+            (let both = slots_apart sizes s.words kept.taken slot.0 (class_of node) slot.1 name last slot.2.0 (class_small node) (h.spare slot.0 slot.1 slot.2).0 is_spare.0
+            (record { low = subst (λ n. 2 * slot.1 ≤ n) same slot.3; high = subst (λ n. n < 2 * slot.1 + words_in slot.0) same slot.4 }) inside_it in
+            apart (kept.pools other id w v slot.0 (class_of node) name e at (subst (λ n. IsFree w slot.0 n) both.1 slot.2) its_own)) in
             (other_word sizes kept.account kept.stands s.words all (class_of node) name (class_small node) is_spare.0 is_spare.1 last inside_it value d.0 not_last ∙ x.0, x.1));
       }
 
@@ -214,14 +219,17 @@ module _ (sizes : Sizes) (s : Table.State Call View) (kept : IsKept sizes s) (id
   was_free b other f = elim (cases_eq b (class_of node)) [
     | inl same ↦
         (let inside_rest : Contains rest other = subst (λ xs. Contains xs other) (ap (λ n. pool_of view_then.pool n) same ∙ pool_same v.pool (class_of node) rest (class_small node)) f.1 in
-        let alone = once_rest rest name (subst Once pool (seat.once (class_of node) (class_small node))) in
-        ((f.0, subst (λ xs. Contains xs other) (sym (ap (λ n. pool_of v.pool n) same ∙ pool)) (Contains-append_left rest (name ∷ []) other inside_rest)),
-            λ is. alone.1 (subst (λ n. Contains rest n) is inside_rest)))
+        let alone = once_rest rest name (subst Once pool (seat.once (class_of node) (class_small node))) in (
+          (f.0, subst (λ xs. Contains xs other) (sym (ap (λ n. pool_of v.pool n) same ∙ pool)) (Contains-append_left rest (name ∷ []) other inside_rest)),
+          λ is. alone.1 (subst (λ n. Contains rest n) is inside_rest),
+        ))
     | inr differs ↦
-        (let before : IsFree v b other = (f.0, subst (λ xs. Contains xs other) (pool_else v.pool (class_of node) b rest (class_small node) f.0 differs) f.1) in
-        (before, λ is. differs
-            (slots_apart sizes s.words kept.taken b (class_of node) other name (2 * name) f.0 (class_small node) (seat.spare b other before).0 is_spare.0
-                (record { low = omega (arith, is); high = (let some = has_words b f.0 in omega (arith, is, some)) }) (record { low = omega arith; high = (let some = has_words (class_of node) (class_small node) in omega (arith, some)) })).0))
+        (let before : IsFree v b other = (f.0, subst (λ xs. Contains xs other) (pool_else v.pool (class_of node) b rest (class_small node) f.0 differs) f.1) in (
+          before,
+          λ is. differs
+              (slots_apart sizes s.words kept.taken b (class_of node) other name (2 * name) f.0 (class_small node) (seat.spare b other before).0 is_spare.0
+              (record { low = omega (arith, is); high = (let some = has_words b f.0 in omega (arith, is, some)) }) (record { low = omega arith; high = (let some = has_words (class_of node) (class_small node) in omega (arith, some)) })).0,
+        ))
   ]
 
   once_then : (b : ℕ) → b < 3 → Once (pool_of view_then.pool b)

@@ -45,27 +45,27 @@ module _ (sizes : Sizes) (account : Account) (actor : ℕ) (operation : Operatio
   abbrev pub words_then : List ℕ
   words_then = set words its_word new_word
 
-  link_stands : Stands stands (state_of sizes account) (slot_of i) publishes.link
+  pub link_stands : Stands stands (state_of sizes account) (slot_of i) publishes.link
   link_stands = (here, publishes.link_is)
 
   link_class : class_of publishes.link.node ≡ 0
   link_class = ap class_of publishes.link_node
 
-  link_taken : IsTaken sizes words 0 (place_of account i)
+  pub link_taken : IsTaken sizes words 0 (place_of account i)
   link_taken = subst (λ c. IsTaken sizes words c (place_of account i)) link_class (all.nodes.within (slot_of i) publishes.link link_stands)
 
   its_slot : IsWordOf 0 (place_of account i) its_word
   its_slot = record { low = omega arith; high = omega arith }
 
-  far : first_slot_word sizes ≤ its_word
+  pub far : first_slot_word sizes ≤ its_word
   far = above sizes words all.taken 0 (place_of account i) its_word (omega arith) link_taken its_slot
 
   -- no word of another node that stands, or of an offer
   not_of_node : (k : ℕ) (slot : Slot) → k ≢ slot_of i → Stands stands (state_of sizes account) k slot → (j : ℕ) → IsWordOf (class_of slot.node) (place_at account k) j → j ≢ its_word
   not_of_node k slot other h j w same =
       other (all.nodes.apart k (slot_of i) slot publishes.link h link_stands
-          (slots_apart sizes words all.taken (class_of slot.node) 0 (place_at account k) (place_of account i) its_word (class_small slot.node) (omega arith) (all.nodes.within k slot h) link_taken
-              (subst (λ n. IsWordOf (class_of slot.node) (place_at account k) n) same w) its_slot).1)
+      (slots_apart sizes words all.taken (class_of slot.node) 0 (place_at account k) (place_of account i) its_word (class_small slot.node) (omega arith) (all.nodes.within k slot h) link_taken
+      (subst (λ n. IsWordOf (class_of slot.node) (place_at account k) n) same w) its_slot).1)
 
   pub not_of_offer : (x : Known) → Contains account.offers x → (j : ℕ) → IsWordOf 1 x.slot j → j ≢ its_word
   not_of_offer x c j w same =
@@ -88,9 +88,12 @@ module _ (sizes : Sizes) (account : Account) (actor : ℕ) (operation : Operatio
 
   -- the slot of that number before
   pub before : (k : ℕ) (slot : Slot) → Which k slot → (was : Slot) × (get_or (state_of sizes account).heap.slots k None ≡ Some was) × (class_of slot.node ≡ class_of was.node) × (length (entries_of slot.node) ≡ length (entries_of was.node))
-  before k slot (is_link at_link is) =
-      (publishes.link, ap (λ n. get_or (state_of sizes account).heap.slots n None) at_link ∙ publishes.link_is,
-          ap (λ (x : Slot). class_of x.node) is ∙ sym link_class, ap (λ (x : Slot). length (entries_of x.node)) is ∙ sym (ap (λ n. length (entries_of n)) publishes.link_node))
+  before k slot (is_link at_link is) = (
+    publishes.link,
+    ap (λ n. get_or (state_of sizes account).heap.slots n None) at_link ∙ publishes.link_is,
+    ap (λ (x : Slot). class_of x.node) is ∙ sym link_class,
+    ap (λ (x : Slot). length (entries_of x.node)) is ∙ sym (ap (λ n. length (entries_of n)) publishes.link_node),
+  )
   before k slot (is_fresh at_fresh is) =
       (publishes.fresh, ap (λ n. get_or (state_of sizes account).heap.slots n None) at_fresh ∙ publishes.fresh_is, ap (λ (x : Slot). class_of x.node) is, ap (λ (x : Slot). length (entries_of x.node)) is)
   before k slot (is_else other another e) = (slot, e, refl, refl)
@@ -108,20 +111,20 @@ module _ (sizes : Sizes) (account : Account) (actor : ℕ) (operation : Operatio
   written_by k slot h (is_link at_link is) =
       subst (λ (x : Slot). StandsAs later (state_of sizes later) (InTable words_then) (place_at later k) k x x.node) (sym is)
       (subst (λ n. StandsAs later (state_of sizes later) (InTable words_then) (place_at later n) n (with_main_of publishes.link publishes.generation f) (Indirection publishes.generation f)) (sym at_link)
-          (link_written.0, (true, first _ account.owned, get_or-set_same words its_word new_word 0 inside_words)))
+      (link_written.0, (true, first _ account.owned, get_or-set_same words its_word new_word 0 inside_words)))
   written_by k slot h (is_fresh at_fresh is) =
       let stood : Stands stands (state_of sizes account) (slot_of f) publishes.fresh = (ap stands (sym at_fresh) ∙ h, publishes.fresh_is) in
       let apart : slot_of f ≢ slot_of i = λ e. differ sizes account actor operation i a f publishes (sym e) in
       subst (λ (x : Slot). StandsAs later (state_of sizes later) (InTable words_then) (place_at later k) k x x.node) (sym is)
       (subst (λ n. StandsAs later (state_of sizes later) (InTable words_then) (place_at later n) n (over publishes.fresh a) publishes.fresh.node) (sym at_fresh)
-          (fresh_stands sizes account actor operation i a f publishes (InTable words_then) (place_of account f) publishes.fresh.node publishes.fresh_main
-              (stands_over sizes account words all.taken its_word far new_word (place_of account f) (state_of sizes account) (slot_of f) publishes.fresh publishes.fresh.node
-                  (all.nodes.small (slot_of f) publishes.fresh stood) (not_of_node (slot_of f) publishes.fresh apart stood) (all.nodes.written (slot_of f) publishes.fresh stood))))
+      (fresh_stands sizes account actor operation i a f publishes (InTable words_then) (place_of account f) publishes.fresh.node publishes.fresh_main
+      (stands_over sizes account words all.taken its_word far new_word (place_of account f) (state_of sizes account) (slot_of f) publishes.fresh publishes.fresh.node
+      (all.nodes.small (slot_of f) publishes.fresh stood) (not_of_node (slot_of f) publishes.fresh apart stood) (all.nodes.written (slot_of f) publishes.fresh stood))))
   written_by k slot h (is_else other another e) =
       let stood : Stands stands (state_of sizes account) k slot = (h, e) in
       else_stands sizes account actor operation i a f publishes (InTable words_then) (place_at account k) k slot slot.node another
       (stands_over sizes account words all.taken its_word far new_word (place_at account k) (state_of sizes account) k slot slot.node (all.nodes.small k slot stood) (not_of_node k slot other stood)
-          (all.nodes.written k slot stood))
+      (all.nodes.written k slot stood))
 
   nodes_then : NodesStand sizes later stands words_then
   nodes_then = record {

@@ -2,12 +2,12 @@
 //! some list of its steps.
 #![tactic(auto)]
 
-mod loads;
 mod accounts;
+mod loads;
 mod rules;
 mod sizes;
 
-pub use loads::{Words, Actor, load_header};
-pub use accounts::{Known, Account, Owned};
+pub use accounts::{Account, Known, Owned};
+pub use loads::{Actor, Words, load_header};
 pub use rules::{Closing, Goes, Pool, Rule, Sees, View};
 pub use sizes::Sizes;

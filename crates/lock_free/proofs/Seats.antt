@@ -1,0 +1,92 @@
+-- What an access of one seat leaves of the seats.
+use Rattle.history.specs.declared.calls.Call.{Call}
+use Rattle.std.proofs.Common.{◌≡◌, ◌≢◌, ◌+◌, ◌*◌, ℕ, ◌<◌, ◌≤◌, Bool, true, List, [], ◌∷◌, Contains, get_or, slice_index, is_some, length, Some, None, refl, sym, ap, subst, ◌∙◌, arith}
+use Rattle.std.proofs.lemmas.Option.{same_Some}
+use mathlib.Core.Option.{some}
+use lib.ListN.{get_elem?}
+use Rattle.atomic_table.specs.Table as Table
+use Rattle.machine_model.specs.Calls.{handle_of}
+use Rattle.machine_model.specs.declared.operations.Operation.{Operation}
+use Rattle.machine_model.specs.States.{State, operation_of, root_at, handle_limit}
+use Rattle.lock_free.specs.declared.accounts.Account.{Account}
+use Rattle.lock_free.specs.declared.rules.View.{View}
+use Rattle.lock_free.specs.declared.sizes.Sizes.{Sizes}
+use Rattle.lock_free.specs.Accounts.{state_of, HasWaited}
+use Rattle.lock_free.specs.Places.{pin_word, root_word, IsTaken}
+use Rattle.lock_free.specs.Rules.{Standing, IsFree, IsSpare, IsSeat, IsKept}
+use Rattle.lock_free.proofs.Assembling.{not_its, other_actor}
+use Rattle.lock_free.proofs.Geometry.{IsWordOf}
+use Rattle.lock_free.proofs.Waiting.{waited_none}
+
+module _ (sizes : Sizes) (s : Table.State Call View) (kept : IsKept sizes s) (id : ℕ) (v : View) (at : get_elem? s.views id ≡ some v) (account : Account) (stands : Standing) (words : List ℕ) where
+  -- the access keeps what other seats rely on
+  pub record Stays : Type 0 where
+    pub waits : (actor : ℕ) (first : Account) → actor ≢ v.actor → HasWaited actor first kept.account → HasWaited actor first account
+    pub others : (a : ℕ) → a ≢ v.actor → operation_of (state_of sizes account) a ≡ operation_of (state_of sizes kept.account) a
+    pub pins : (a : ℕ) → a ≤ sizes.seats → a ≢ v.actor → slice_index words (pin_word a) ≡ slice_index s.words (pin_word a)
+    pub taken_numbers : (handle : ℕ) → handle < handle_limit → slice_index words (root_word handle) ≡ 0 → slice_index s.words (root_word handle) ≡ 0
+    pub still_open : (handle : ℕ) → is_some (root_at (state_of sizes kept.account) handle) ≡ true → is_some (root_at (state_of sizes account) handle) ≡ true
+    pub taken : (b name : ℕ) → b < 3 → IsTaken sizes s.words b name → IsTaken sizes words b name
+    pub spare : (other : ℕ) (w : View) (b name : ℕ) → get_elem? s.views other ≡ some w → IsFree w b name → IsSpare sizes account stands name
+    pub words_of_spare : (other : ℕ) (w : View) (b name : ℕ) → get_elem? s.views other ≡ some w → IsFree w b name → (j : ℕ) → IsWordOf b name j → slice_index words j ≡ slice_index s.words j
+
+  module _ (stays : Stays) where
+    pub other_kept : (other : ℕ) (w : View) → get_elem? s.views other ≡ some w → (other ≡ id → ⊥) → IsSeat sizes account stands words w
+    other_kept other w e apart =
+        let h = kept.seats other w e in
+        let differs = other_actor sizes s kept id v at v refl refl other w e apart in
+        let not_mine = not_its sizes s kept id v at v refl refl other w e apart in
+        record {
+          same = h.same;
+          low = h.low;
+          top = h.top;
+          most = h.most;
+          waited = stays.waits w.actor w.account differs h.waited;
+          counts = h.counts;
+          rests = λ a above below.
+              (let r = h.rests a above below in
+              let its = not_mine a (omega (arith, above), below) in
+              (stays.others a its ∙ r.0, stays.pins a (omega (arith, below, h.most)) its ∙ r.1));
+          pinned = stays.pins w.actor (omega (arith, h.top, h.most)) differs ∙ h.pinned;
+          entered = λ handle f. (let x = h.entered handle f in (x.0, stays.still_open handle x.1, x.2));
+          calls = λ o f. h.calls o (sym (stays.others w.actor differs) ∙ f);
+          opens = λ handle f. (let x = h.opens handle f in (x.0, λ none. x.1 (stays.taken_numbers handle x.0 none)));
+          reserves = λ o f handle is. h.reserves o (sym (stays.others w.actor differs) ∙ f) handle is;
+          spare = λ b name f. (let x = h.spare b name f in (stays.taken b name f.0 x.0, stays.spare other w b name e f));
+          once = h.once;
+          drafts = λ d c.
+              (let x = h.drafts d c in
+              let slot = x.1 in
+              (stays.words_of_spare other w slot.0 slot.1 e slot.2 d.0 (record { low = slot.3; high = slot.4 }) ∙ x.0, slot));
+        }
+
+    -- and the seat itself, where the access is its operation's step and changes nothing else of its own
+    module _ (operation next : Operation) (runs : operation_of (state_of sizes kept.account) v.actor ≡ Some operation) (goes_on : operation_of (state_of sizes account) v.actor ≡ Some next)
+        (same_call : next.call ≡ operation.call) (same_opens : next.opens ≡ operation.opens) (counted : length account.names ≡ (state_of sizes account).heap.births)
+        (own_pin : slice_index words (pin_word v.actor) ≡ slice_index s.words (pin_word v.actor)) where
+      pub own_kept : IsSeat sizes account stands words (record v { account = account })
+      own_kept =
+          let h = kept.seats id v at in
+          record {
+            same = h.same;
+            low = h.low;
+            top = h.top;
+            most = h.most;
+            waited = waited_none v.actor account;
+            counts = counted;
+            rests = λ a above below.
+                (let r = h.rests a above below in
+                let its : a ≢ v.actor = λ is. absurd (omega (arith, above, is)) in
+                (stays.others a its ∙ r.0, stays.pins a (omega (arith, below, h.most)) its ∙ r.1));
+            pinned = own_pin ∙ h.pinned;
+            entered = λ handle f. (let x = h.entered handle f in (x.0, stays.still_open handle x.1, x.2));
+            calls = λ o f. h.calls operation runs ∙ ap (λ c. Some (handle_of c)) (sym same_call ∙ ap (λ (x : Operation). x.call) (same_Some next o (sym goes_on ∙ f)));
+            opens = λ handle f. (let x = h.opens handle f in (x.0, λ none. x.1 (stays.taken_numbers handle x.0 none)));
+            reserves = λ o f handle is. h.reserves operation runs handle (sym same_opens ∙ ap (λ (x : Operation). x.opens) (same_Some next o (sym goes_on ∙ f)) ∙ is);
+            spare = λ b name f. (let x = h.spare b name f in (stays.taken b name f.0 x.0, stays.spare id v b name at f));
+            once = h.once;
+            drafts = λ d c.
+                (let x = h.drafts d c in
+                let slot = x.1 in
+                (stays.words_of_spare id v slot.0 slot.1 at slot.2 d.0 (record { low = slot.3; high = slot.4 }) ∙ x.0, slot));
+          }
