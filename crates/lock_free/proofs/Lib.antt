@@ -7,8 +7,8 @@ mod Framing
 mod Made
 mod MadeAll
 mod Waiting
-mod MadeKept
 mod Published
 mod PublishedAll
 mod Seats
+mod MadeKept
 mod PublishedKept

@@ -34,6 +34,7 @@ use Rattle.lock_free.proofs.Framing.{stored, other_word, low_word, taken_over, a
 use Rattle.lock_free.proofs.Geometry.{IsWordOf, slots_apart, inside, root_below}
 use Rattle.lock_free.proofs.Made.{stands_too, stands_else, place_else, place_last}
 use Rattle.lock_free.proofs.MadeAll.{all_then, later, later_stands}
+use Rattle.lock_free.proofs.Seats.{Stays, StaysSpare, other_kept}
 use Rattle.lock_free.proofs.Waiting.{waited_none, waited_more}
 
 -- what is written in the words that are meant is written in those that are there
@@ -162,11 +163,11 @@ module _ (sizes : Sizes) (s : Table.State Call View) (kept : IsKept sizes s) (id
 
   -- ---- the other seats
 
-  waits : (w : View) → w.actor ≢ v.actor → HasWaited w.actor w.account kept.account → HasWaited w.actor w.account account_then
-  waits w differs h =
-      subst (λ owned. HasWaited w.actor w.account (record { steps = kept.account.steps ++ step.Go v.actor ∷ []; names = kept.account.names ++ name ∷ []; owned = owned; offers = kept.account.offers }))
+  waits : (actor : ℕ) (before : Account) → actor ≢ v.actor → HasWaited actor before kept.account → HasWaited actor before account_then
+  waits actor before differs h =
+      subst (λ owned. HasWaited actor before (record { steps = kept.account.steps ++ step.Go v.actor ∷ []; names = kept.account.names ++ name ∷ []; owned = owned; offers = kept.account.offers }))
       (owned_is node)
-      (waited_more w.actor w.account kept.account (step.Go v.actor ∷ []) (name ∷ []) (owned_more node) [] (All-cons (IsOfOther w.actor) (step.Go v.actor) [] (λ e. differs (sym e)) (All-nil (IsOfOther w.actor))) h)
+      (waited_more actor before kept.account (step.Go v.actor ∷ []) (name ∷ []) (owned_more node) [] (All-cons (IsOfOther actor) (step.Go v.actor) [] (λ e. differs (sym e)) (All-nil (IsOfOther actor))) h)
     where
       owned_more : Node → List Owned
       owned_more n = owned_with [] (length kept.account.names) own n
@@ -178,39 +179,23 @@ module _ (sizes : Sizes) (s : Table.State Call View) (kept : IsKept sizes s) (id
       owned_is (Tomb single) = refl
       owned_is (Listed singles) = refl
 
-  other_then : (other : ℕ) (w : View) → get_elem? s.views other ≡ some w → (other ≡ id → ⊥) → IsSeat sizes account_then stands_then words_then w
-  other_then other w e apart =
-      let h = kept.seats other w e in
-      let differs = other_actor sizes s kept id v at view_then refl refl other w e apart in
-      record {
-        same = h.same;
-        low = h.low;
-        top = h.top;
-        most = h.most;
-        waited = waits w differs h.waited;
-        counts = h.counts;
-        rests = λ a above below.
-            (let r = h.rests a above below in
-            (makes.others a (not_its sizes s kept id v at view_then refl refl other w e apart a (omega (arith, above), below)) ∙ r.0, pin_low a (omega (arith, below, h.most)) ∙ r.1));
-        pinned = pin_low w.actor (omega (arith, h.top, h.most)) ∙ h.pinned;
-        entered = λ handle f. (let x = h.entered handle f in (x.0, ap is_some (same_root handle) ∙ x.1, x.2));
-        calls = λ o f. h.calls o (sym (makes.others w.actor differs) ∙ f);
-        opens = λ handle f. (let x = h.opens handle f in (x.0, λ none. x.1 (sym (root_low handle x.0) ∙ none)));
-        reserves = λ o f handle is. h.reserves o (sym (makes.others w.actor differs) ∙ f) handle is;
-        spare = λ b other_name f.
-            (let x = h.spare b other_name f in
-            let not_this : other_name ≢ name = λ same. apart (kept.pools other id w v b (class_of node) name e at (subst (λ n. IsFree w b n) same f) its_own) in
-            (taken_over sizes kept.account kept.stands s.words all (class_of node) name (class_small node) is_spare.0 is_spare.1 last inside_it value b other_name f.0 x.0, spare_then other_name not_this x.1));
-        once = h.once;
-        drafts = λ d c.
-            (let x = h.drafts d c in
-            let slot = x.1 in
-            let not_last : d.0 ≢ last = λ same.
-            (let both = slots_apart sizes s.words kept.taken slot.0 (class_of node) slot.1 name last slot.2.0 (class_small node) (h.spare slot.0 slot.1 slot.2).0 is_spare.0
-            (record { low = subst (λ n. 2 * slot.1 ≤ n) same slot.3; high = subst (λ n. n < 2 * slot.1 + words_in slot.0) same slot.4 }) inside_it in
-            apart (kept.pools other id w v slot.0 (class_of node) name e at (subst (λ n. IsFree w slot.0 n) both.1 slot.2) its_own)) in
-            (other_word sizes kept.account kept.stands s.words all (class_of node) name (class_small node) is_spare.0 is_spare.1 last inside_it value d.0 not_last ∙ x.0, x.1));
-      }
+  spare_stays : (b other : ℕ) → b < 3 → other ≢ name → IsTaken sizes s.words b other → IsSpare sizes kept.account kept.stands other → StaysSpare sizes s kept id v at account_then stands_then words_then b other
+  spare_stays b other small_b differs taken spare = (spare_then other differs spare, λ j its.
+      other_word sizes kept.account kept.stands s.words all (class_of node) name (class_small node) is_spare.0 is_spare.1 last inside_it value j
+      (λ same. differs (slots_apart sizes s.words kept.taken b (class_of node) other name last small_b (class_small node) taken is_spare.0 (subst (λ n. IsWordOf b other n) same its) inside_it).1))
+
+  stays : Stays sizes s kept id v at account_then stands_then words_then
+  stays = record {
+    waits = waits;
+    others = makes.others;
+    pins = λ a most apart. pin_low a most;
+    taken_numbers = λ handle below none. sym (root_low handle below) ∙ none;
+    still_open = λ handle e. ap is_some (same_root handle) ∙ e;
+    taken = taken_over sizes kept.account kept.stands s.words all (class_of node) name (class_small node) is_spare.0 is_spare.1 last inside_it value;
+    spare = λ other w b free_name e apart free.
+        (let x = (kept.seats other w e).spare b free_name free in
+        spare_stays b free_name free.0 (λ same. apart (kept.pools other id w v b (class_of node) name e at (subst (λ n. IsFree w b n) same free) its_own)) x.0 x.1);
+  }
 
   -- ---- the seat itself
 
@@ -268,5 +253,5 @@ module _ (sizes : Sizes) (s : Table.State Call View) (kept : IsKept sizes s) (id
   -- the rule holds
   pub make_kept : IsKept sizes (record { words = words_then; homes = s.homes; views = set s.views id view_then })
   make_kept =
-      assembled sizes s kept id v at view_then refl refl account_then stands_then words_then made_all closings_then own_then other_then
+      assembled sizes s kept id v at view_then refl refl account_then stands_then words_then made_all closings_then own_then (other_kept sizes s kept id v at account_then stands_then words_then stays)
       (λ b other f. inl (was_free b other f).0) (λ handle e. inl e)

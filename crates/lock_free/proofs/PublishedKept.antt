@@ -25,7 +25,7 @@ use Rattle.lock_free.proofs.Assembling.{AllStand, all_stand, closing_stays, asse
 use Rattle.lock_free.proofs.Framing.{below_word, else_word, still_taken}
 use Rattle.lock_free.proofs.Geometry.{IsWordOf, slots_apart, root_below}
 use Rattle.lock_free.proofs.PublishedAll.{all_then, far, words_then, which, before, link_stands, link_taken}
-use Rattle.lock_free.proofs.Seats.{Stays, other_kept, own_kept}
+use Rattle.lock_free.proofs.Seats.{Stays, StaysSpare, other_kept, own_kept}
 use Rattle.lock_free.proofs.Waiting.{waited_more}
 
 module _ (sizes : Sizes) (s : Table.State Call View) (kept : IsKept sizes s) (id : ℕ) (v : View) (at : get_elem? s.views id ≡ some v) (operation : Operation)
@@ -74,6 +74,11 @@ module _ (sizes : Sizes) (s : Table.State Call View) (kept : IsKept sizes s) (id
       (sym (slots_apart sizes s.words kept.taken b 0 name (place_of kept.account i) j small (omega arith) taken (link_taken sizes kept.account v.actor operation i a f publishes kept.stands s.words all here) w
       (record { low = omega (arith, same); high = omega (arith, same) })).1)
 
+  spare_stays : (other : ℕ) (w : View) (b name : ℕ) → get_elem? s.views other ≡ some w → IsFree w b name → StaysSpare sizes s kept id v at account_then kept.stands words_after b name
+  spare_stays other w b name e free =
+      let x = (kept.seats other w e).spare b name free in
+      (spare_still name x.1, λ j its. else_word sizes kept.account s.words kept.taken (2 * place_of kept.account i) is_far _ j (not_spare b name free.0 x.0 x.1 j its))
+
   stays : Stays sizes s kept id v at account_then kept.stands words_after
   stays = record {
     waits = waits;
@@ -82,9 +87,7 @@ module _ (sizes : Sizes) (s : Table.State Call View) (kept : IsKept sizes s) (id
     taken_numbers = λ handle low e. sym (root_same handle low) ∙ e;
     still_open = λ handle e. ap (λ rs. is_some (get_or rs handle None)) publishes.roots ∙ e;
     taken = still_taken sizes kept.account s.words kept.taken (2 * place_of kept.account i) is_far _;
-    spare = λ other w b name e free. spare_still name ((kept.seats other w e).spare b name free).1;
-    words_of_spare = λ other w b name e free j its.
-        (let x = (kept.seats other w e).spare b name free in else_word sizes kept.account s.words kept.taken (2 * place_of kept.account i) is_far _ j (not_spare b name free.0 x.0 x.1 j its));
+    spare = λ other w b name e apart free. spare_stays other w b name e free;
   }
 
   closings_then : (handle who : ℕ) → handle < handle_limit → SaysClosing (slice_index words_after (root_word handle)) who → IsClosing (set s.views id view_then) handle who
@@ -96,5 +99,5 @@ module _ (sizes : Sizes) (s : Table.State Call View) (kept : IsKept sizes s) (id
   publish_kept =
       assembled sizes s kept id v at view_then refl refl account_then kept.stands words_after all_after closings_then
       (own_kept sizes s kept id v at account_then kept.stands words_after stays operation (operation_after (state_of sizes kept.account) operation) runs publishes.own same_call same_opens all_after.counted
-      (let most = (kept.seats id v at).top in let least = (kept.seats id v at).most in low_word (pin_word v.actor) (omega (arith, most, least))))
+      (let most = (kept.seats id v at).top in let least = (kept.seats id v at).most in low_word (pin_word v.actor) (omega (arith, most, least))) (λ b name free. spare_stays id v b name at free))
       (other_kept sizes s kept id v at account_then kept.stands words_after stays) (λ b name free. inl free) (λ handle e. inl e)

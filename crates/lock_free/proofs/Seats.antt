@@ -19,6 +19,10 @@ use Rattle.lock_free.proofs.Geometry.{IsWordOf}
 use Rattle.lock_free.proofs.Waiting.{waited_none}
 
 module _ (sizes : Sizes) (s : Table.State Call View) (kept : IsKept sizes s) (id : ℕ) (v : View) (at : get_elem? s.views id ≡ some v) (account : Account) (stands : Standing) (words : List ℕ) where
+  -- the slot is spare then, and its words are what they were
+  abbrev pub StaysSpare : ℕ → ℕ → Type 0
+  StaysSpare b name = IsSpare sizes account stands name × ((j : ℕ) → IsWordOf b name j → slice_index words j ≡ slice_index s.words j)
+
   -- the access keeps what other seats rely on
   pub record Stays : Type 0 where
     pub waits : (actor : ℕ) (first : Account) → actor ≢ v.actor → HasWaited actor first kept.account → HasWaited actor first account
@@ -27,8 +31,7 @@ module _ (sizes : Sizes) (s : Table.State Call View) (kept : IsKept sizes s) (id
     pub taken_numbers : (handle : ℕ) → handle < handle_limit → slice_index words (root_word handle) ≡ 0 → slice_index s.words (root_word handle) ≡ 0
     pub still_open : (handle : ℕ) → is_some (root_at (state_of sizes kept.account) handle) ≡ true → is_some (root_at (state_of sizes account) handle) ≡ true
     pub taken : (b name : ℕ) → b < 3 → IsTaken sizes s.words b name → IsTaken sizes words b name
-    pub spare : (other : ℕ) (w : View) (b name : ℕ) → get_elem? s.views other ≡ some w → IsFree w b name → IsSpare sizes account stands name
-    pub words_of_spare : (other : ℕ) (w : View) (b name : ℕ) → get_elem? s.views other ≡ some w → IsFree w b name → (j : ℕ) → IsWordOf b name j → slice_index words j ≡ slice_index s.words j
+    pub spare : (other : ℕ) (w : View) (b name : ℕ) → get_elem? s.views other ≡ some w → (other ≡ id → ⊥) → IsFree w b name → StaysSpare b name
 
   module _ (stays : Stays) where
     pub other_kept : (other : ℕ) (w : View) → get_elem? s.views other ≡ some w → (other ≡ id → ⊥) → IsSeat sizes account stands words w
@@ -52,18 +55,19 @@ module _ (sizes : Sizes) (s : Table.State Call View) (kept : IsKept sizes s) (id
           calls = λ o f. h.calls o (sym (stays.others w.actor differs) ∙ f);
           opens = λ handle f. (let x = h.opens handle f in (x.0, λ none. x.1 (stays.taken_numbers handle x.0 none)));
           reserves = λ o f handle is. h.reserves o (sym (stays.others w.actor differs) ∙ f) handle is;
-          spare = λ b name f. (let x = h.spare b name f in (stays.taken b name f.0 x.0, stays.spare other w b name e f));
+          spare = λ b name f. (let x = h.spare b name f in (stays.taken b name f.0 x.0, (stays.spare other w b name e apart f).0));
           once = h.once;
           drafts = λ d c.
               (let x = h.drafts d c in
               let slot = x.1 in
-              (stays.words_of_spare other w slot.0 slot.1 e slot.2 d.0 (record { low = slot.3; high = slot.4 }) ∙ x.0, slot));
+              ((stays.spare other w slot.0 slot.1 e apart slot.2).1 d.0 (record { low = slot.3; high = slot.4 }) ∙ x.0, slot));
         }
 
     -- and the seat itself, where the access is its operation's step and changes nothing else of its own
     module _ (operation next : Operation) (runs : operation_of (state_of sizes kept.account) v.actor ≡ Some operation) (goes_on : operation_of (state_of sizes account) v.actor ≡ Some next)
         (same_call : next.call ≡ operation.call) (same_opens : next.opens ≡ operation.opens) (counted : length account.names ≡ (state_of sizes account).heap.births)
-        (own_pin : slice_index words (pin_word v.actor) ≡ slice_index s.words (pin_word v.actor)) where
+        (own_pin : slice_index words (pin_word v.actor) ≡ slice_index s.words (pin_word v.actor))
+        (spare : (b name : ℕ) → IsFree v b name → StaysSpare b name) where
       pub own_kept : IsSeat sizes account stands words (record v { account = account })
       own_kept =
           let h = kept.seats id v at in
@@ -83,10 +87,10 @@ module _ (sizes : Sizes) (s : Table.State Call View) (kept : IsKept sizes s) (id
             calls = λ o f. h.calls operation runs ∙ ap (λ c. Some (handle_of c)) (sym same_call ∙ ap (λ (x : Operation). x.call) (same_Some next o (sym goes_on ∙ f)));
             opens = λ handle f. (let x = h.opens handle f in (x.0, λ none. x.1 (stays.taken_numbers handle x.0 none)));
             reserves = λ o f handle is. h.reserves operation runs handle (sym same_opens ∙ ap (λ (x : Operation). x.opens) (same_Some next o (sym goes_on ∙ f)) ∙ is);
-            spare = λ b name f. (let x = h.spare b name f in (stays.taken b name f.0 x.0, stays.spare id v b name at f));
+            spare = λ b name f. (let x = h.spare b name f in (stays.taken b name f.0 x.0, (spare b name f).0));
             once = h.once;
             drafts = λ d c.
                 (let x = h.drafts d c in
                 let slot = x.1 in
-                (stays.words_of_spare id v slot.0 slot.1 at slot.2 d.0 (record { low = slot.3; high = slot.4 }) ∙ x.0, slot));
+                ((spare slot.0 slot.1 slot.2).1 d.0 (record { low = slot.3; high = slot.4 }) ∙ x.0, slot));
           }
