@@ -34,7 +34,7 @@ use Rattle.lock_free.proofs.Framing.{stored, other_word, low_word, taken_over, a
 use Rattle.lock_free.proofs.Geometry.{IsWordOf, slots_apart, inside, root_below}
 use Rattle.lock_free.proofs.Made.{stands_too, stands_else, place_else, place_last}
 use Rattle.lock_free.proofs.MadeAll.{all_then, later, later_stands}
-use Rattle.lock_free.proofs.Seats.{Stays, StaysSpare, other_kept}
+use Rattle.lock_free.proofs.Seats.{Stays, StaysSpare, other_kept, own_kept}
 use Rattle.lock_free.proofs.Waiting.{waited_none, waited_more}
 
 -- what is written in the words that are meant is written in those that are there
@@ -225,26 +225,11 @@ module _ (sizes : Sizes) (s : Table.State Call View) (kept : IsKept sizes s) (id
   ]
 
   own_then : IsSeat sizes account_then stands_then words_then view_then
-  own_then = record {
-    same = seat.same;
-    low = seat.low;
-    top = seat.top;
-    most = seat.most;
-    waited = waited_none v.actor account_then;
-    counts = made_all.counted;
-    rests = λ a above below. (let r = seat.rests a above below in (makes.others a (λ is. absurd (omega (arith, above, is))) ∙ r.0, pin_low a (omega (arith, below, seat.most)) ∙ r.1));
-    pinned = pin_low v.actor (omega (arith, seat.top, seat.most)) ∙ seat.pinned;
-    entered = λ handle f. (let x = seat.entered handle f in (x.0, ap is_some (same_root handle) ∙ x.1, x.2));
-    calls = λ o f. seat.calls operation runs ∙ ap (λ (x : Operation). Some (handle_of x.call)) (same_Some (operation_after (state_of sizes kept.account) operation) o (sym makes.own ∙ f));
-    opens = λ handle f. (let x = seat.opens handle f in (x.0, λ none. x.1 (sym (root_low handle x.0) ∙ none)));
-    reserves = λ o f handle is. seat.reserves operation runs handle (ap (λ (x : Operation). x.opens) (same_Some (operation_after (state_of sizes kept.account) operation) o (sym makes.own ∙ f)) ∙ is);
-    spare = λ b other f.
-        (let before = was_free b other f in
-        let x = seat.spare b other before.0 in
-        (taken_over sizes kept.account kept.stands s.words all (class_of node) name (class_small node) is_spare.0 is_spare.1 last inside_it value b other f.0 x.0, spare_then other before.1 x.1));
-    once = once_then;
-    drafts = λ d c. absurd (omega (arith, c.1));
-  }
+  own_then =
+      own_kept sizes s kept id v at account_then stands_then words_then stays operation (operation_after (state_of sizes kept.account) operation) runs makes.own refl refl made_all.counted
+      (pin_low v.actor (omega (arith, seat.top, seat.most))) view_then.pool []
+      (λ b other f. (let before = was_free b other f in let x = seat.spare b other before.0 in (stays.taken b other f.0 x.0, spare_then other before.1 x.1))) once_then
+      (λ d c. absurd (omega (arith, c.1)))
 
   closings_then : (handle who : ℕ) → handle < handle_limit → SaysClosing (slice_index words_then (root_word handle)) who → IsClosing (set s.views id view_then) handle who
   closings_then handle who low_handle says =

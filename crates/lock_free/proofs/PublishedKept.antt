@@ -25,13 +25,12 @@ use Rattle.lock_free.proofs.Assembling.{AllStand, all_stand, closing_stays, asse
 use Rattle.lock_free.proofs.Framing.{below_word, else_word, still_taken}
 use Rattle.lock_free.proofs.Geometry.{IsWordOf, slots_apart, root_below}
 use Rattle.lock_free.proofs.PublishedAll.{all_then, far, words_then, which, before, link_stands, link_taken}
-use Rattle.lock_free.proofs.Seats.{Stays, StaysSpare, other_kept, own_kept}
+use Rattle.lock_free.proofs.Seats.{Stays, StaysSpare, other_kept, own_kept, drafts_kept}
 use Rattle.lock_free.proofs.Waiting.{waited_more}
 
 module _ (sizes : Sizes) (s : Table.State Call View) (kept : IsKept sizes s) (id : ℕ) (v : View) (at : get_elem? s.views id ≡ some v) (operation : Operation)
     (runs : operation_of (state_of sizes kept.account) v.actor ≡ Some operation) (i a f : Ref) (publishes : Publishes sizes kept.account (swapped_in v.actor i f kept.account) v.actor operation i a f)
-    (here : kept.stands (slot_of i) ≡ true) (same_call : (operation_after (state_of sizes kept.account) operation).call ≡ operation.call)
-    (same_opens : (operation_after (state_of sizes kept.account) operation).opens ≡ operation.opens) where
+    (here : kept.stands (slot_of i) ≡ true) where
   abbrev all : AllStand sizes kept.account kept.stands s.words
   all = all_stand sizes s kept
 
@@ -98,6 +97,8 @@ module _ (sizes : Sizes) (s : Table.State Call View) (kept : IsKept sizes s) (id
   pub publish_kept : IsKept sizes (record { words = words_after; homes = s.homes; views = set s.views id view_then })
   publish_kept =
       assembled sizes s kept id v at view_then refl refl account_then kept.stands words_after all_after closings_then
-      (own_kept sizes s kept id v at account_then kept.stands words_after stays operation (operation_after (state_of sizes kept.account) operation) runs publishes.own same_call same_opens all_after.counted
-      (let most = (kept.seats id v at).top in let least = (kept.seats id v at).most in low_word (pin_word v.actor) (omega (arith, most, least))) (λ b name free. spare_stays id v b name at free))
+      (own_kept sizes s kept id v at account_then kept.stands words_after stays operation (operation_after (state_of sizes kept.account) operation) runs publishes.own refl refl all_after.counted
+      (let most = (kept.seats id v at).top in let least = (kept.seats id v at).most in low_word (pin_word v.actor) (omega (arith, most, least))) v.pool v.drafts
+      (λ b name free. (let x = (kept.seats id v at).spare b name free in (stays.taken b name free.0 x.0, (spare_stays id v b name at free).0))) (kept.seats id v at).once
+      (λ d c. drafts_kept sizes s kept id v at account_then kept.stands words_after stays view_then d ((kept.seats id v at).drafts d c) (λ b name free. (free, (spare_stays id v b name at free).1))))
       (other_kept sizes s kept id v at account_then kept.stands words_after stays) (λ b name free. inl free) (λ handle e. inl e)

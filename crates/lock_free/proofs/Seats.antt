@@ -9,11 +9,12 @@ use Rattle.machine_model.specs.Calls.{handle_of}
 use Rattle.machine_model.specs.declared.operations.Operation.{Operation}
 use Rattle.machine_model.specs.States.{State, operation_of, root_at, handle_limit}
 use Rattle.lock_free.specs.declared.accounts.Account.{Account}
+use Rattle.lock_free.specs.declared.rules.Pool.{Pool}
 use Rattle.lock_free.specs.declared.rules.View.{View}
 use Rattle.lock_free.specs.declared.sizes.Sizes.{Sizes}
 use Rattle.lock_free.specs.Accounts.{state_of, HasWaited}
 use Rattle.lock_free.specs.Places.{pin_word, root_word, IsTaken}
-use Rattle.lock_free.specs.Rules.{Standing, IsFree, IsSpare, IsSeat, IsKept}
+use Rattle.lock_free.specs.Rules.{Standing, AreDrafts, Once, pool_of, IsFree, IsSpare, IsSeat, IsKept}
 use Rattle.lock_free.proofs.Assembling.{not_its, other_actor}
 use Rattle.lock_free.proofs.Geometry.{IsWordOf}
 use Rattle.lock_free.proofs.Waiting.{waited_none}
@@ -33,7 +34,18 @@ module _ (sizes : Sizes) (s : Table.State Call View) (kept : IsKept sizes s) (id
     pub taken : (b name : ℕ) → b < 3 → IsTaken sizes s.words b name → IsTaken sizes words b name
     pub spare : (other : ℕ) (w : View) (b name : ℕ) → get_elem? s.views other ≡ some w → (other ≡ id → ⊥) → IsFree w b name → StaysSpare b name
 
+  -- the seat with what is free for it then and what it has written there
+  abbrev pub seat_then : Pool → List (ℕ × ℕ) → View
+  seat_then pool drafts = record v { account = account; pool = pool; drafts = drafts }
+
   module _ (stays : Stays) where
+    -- what is free and written stays so
+    pub drafts_kept : (w : View) (d : ℕ × ℕ) → AreDrafts s.words v d → ((b name : ℕ) → IsFree v b name → IsFree w b name × ((j : ℕ) → IsWordOf b name j → slice_index words j ≡ slice_index s.words j)) → AreDrafts words w d
+    drafts_kept w d x still =
+        let slot = x.1 in
+        let free = still slot.0 slot.1 slot.2 in
+        (free.1 d.0 (record { low = slot.3; high = slot.4 }) ∙ x.0, (slot.0, slot.1, free.0, slot.3, slot.4))
+
     pub other_kept : (other : ℕ) (w : View) → get_elem? s.views other ≡ some w → (other ≡ id → ⊥) → IsSeat sizes account stands words w
     other_kept other w e apart =
         let h = kept.seats other w e in
@@ -63,12 +75,13 @@ module _ (sizes : Sizes) (s : Table.State Call View) (kept : IsKept sizes s) (id
               ((stays.spare other w slot.0 slot.1 e apart slot.2).1 d.0 (record { low = slot.3; high = slot.4 }) ∙ x.0, slot));
         }
 
-    -- and the seat itself, where the access is its operation's step and changes nothing else of its own
+    -- and the seat itself, where the access is its operation's step, with what is free for it then and what it has written there
     module _ (operation next : Operation) (runs : operation_of (state_of sizes kept.account) v.actor ≡ Some operation) (goes_on : operation_of (state_of sizes account) v.actor ≡ Some next)
         (same_call : next.call ≡ operation.call) (same_opens : next.opens ≡ operation.opens) (counted : length account.names ≡ (state_of sizes account).heap.births)
-        (own_pin : slice_index words (pin_word v.actor) ≡ slice_index s.words (pin_word v.actor))
-        (spare : (b name : ℕ) → IsFree v b name → StaysSpare b name) where
-      pub own_kept : IsSeat sizes account stands words (record v { account = account })
+        (own_pin : slice_index words (pin_word v.actor) ≡ slice_index s.words (pin_word v.actor)) (pool : Pool) (drafts : List (ℕ × ℕ))
+        (spare : (b name : ℕ) → IsFree (seat_then pool drafts) b name → IsTaken sizes words b name × IsSpare sizes account stands name) (once : (b : ℕ) → b < 3 → Once (pool_of pool b))
+        (written : (d : ℕ × ℕ) → Contains drafts d → AreDrafts words (seat_then pool drafts) d) where
+      pub own_kept : IsSeat sizes account stands words (seat_then pool drafts)
       own_kept =
           let h = kept.seats id v at in
           record {
@@ -87,10 +100,7 @@ module _ (sizes : Sizes) (s : Table.State Call View) (kept : IsKept sizes s) (id
             calls = λ o f. h.calls operation runs ∙ ap (λ c. Some (handle_of c)) (sym same_call ∙ ap (λ (x : Operation). x.call) (same_Some next o (sym goes_on ∙ f)));
             opens = λ handle f. (let x = h.opens handle f in (x.0, λ none. x.1 (stays.taken_numbers handle x.0 none)));
             reserves = λ o f handle is. h.reserves operation runs handle (sym same_opens ∙ ap (λ (x : Operation). x.opens) (same_Some next o (sym goes_on ∙ f)) ∙ is);
-            spare = λ b name f. (let x = h.spare b name f in (stays.taken b name f.0 x.0, (spare b name f).0));
-            once = h.once;
-            drafts = λ d c.
-                (let x = h.drafts d c in
-                let slot = x.1 in
-                ((spare slot.0 slot.1 slot.2).1 d.0 (record { low = slot.3; high = slot.4 }) ∙ x.0, slot));
+            spare = spare;
+            once = once;
+            drafts = written;
           }

@@ -103,6 +103,10 @@ abbrev pub IsSpare : Sizes → Account → Standing → ℕ → Type 0
 IsSpare sizes account stands name =
     ((k : ℕ) (slot : Slot) → Stands stands (state_of sizes account) k slot → place_at account k ≢ name) × ((k : Known) → Contains account.offers k → k.slot ≢ name)
 
+-- what the seat has written in a free slot of its own
+abbrev pub AreDrafts : List ℕ → View → ℕ × ℕ → Type 0
+AreDrafts words v d = (slice_index words d.0 ≡ d.1) × ((class name : ℕ) × IsFree v class name × (2 * name ≤ d.0) × (d.0 < 2 * name + words_in class))
+
 pub record IsSeat (sizes : Sizes) (account : Account) (stands : Standing) (words : List ℕ) (v : View) : Type 0 where
   pub same : v.sizes ≡ sizes
   pub low : 1 ≤ v.actor
@@ -121,7 +125,7 @@ pub record IsSeat (sizes : Sizes) (account : Account) (stands : Standing) (words
   pub reserves : (operation : Operation) → operation_of (state_of sizes account) v.actor ≡ Some operation → (handle : ℕ) → operation.opens ≡ Some handle → v.opens ≡ Some handle
   pub spare : (class name : ℕ) → IsFree v class name → IsTaken sizes words class name × IsSpare sizes account stands name
   pub once : (class : ℕ) → class < 3 → Once (pool_of v.pool class)
-  pub drafts : (d : ℕ × ℕ) → Contains v.drafts d → (slice_index words d.0 ≡ d.1) × ((class name : ℕ) × IsFree v class name × (2 * name ≤ d.0) × (d.0 < 2 * name + words_in class))
+  pub drafts : (d : ℕ × ℕ) → Contains v.drafts d → AreDrafts words v d
 
 -- the actor is one of the seat's
 abbrev pub HasActor : View → ℕ → Type 0
