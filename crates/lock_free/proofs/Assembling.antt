@@ -15,7 +15,11 @@ use Rattle.lock_free.specs.declared.sizes.Sizes.{Sizes}
 use Rattle.lock_free.specs.Accounts.{bounds_for, state_of}
 use Rattle.lock_free.specs.Places.{HaveTaken, words_of, generation_word, root_word}
 use Rattle.lock_free.specs.Rules.{Standing, NodesStand, RootsStand, IsClosing, SaysClosing, IsFree, IsSeat, HasActor, IsKept}
-use Rattle.lock_free.proofs.Keeping.{within}
+
+within : {A : Type 0} (xs : List A) (n : ℕ) (x : A) → get_elem? xs n ≡ some x → n < length xs
+within [] n x e = absurd (some-ne-none x (sym e))
+within (y ∷ ys) zero x e = omega arith
+within (y ∷ ys) (suc n) x e = let h = within ys n x e in omega (arith, h)
 
 -- what is said of words, steps and nodes, apart from seats
 pub record AllStand (sizes : Sizes) (account : Account) (stands : Standing) (words : List ℕ) : Type 0 where

@@ -11,10 +11,9 @@ use Rattle.machine_model.specs.Machine.{AreBounds}
 use Rattle.proof_memory.specs.Wants.{is_main_node}
 use Rattle.lock_free.specs.declared.accounts.Account.{Account}
 use Rattle.lock_free.specs.declared.sizes.Sizes.{Sizes}
-use Rattle.lock_free.specs.Accounts.{bounds_for, state_of, HasWaited, running, gone_on}
+use Rattle.lock_free.specs.Accounts.{bounds_for, state_of, HasWaited, running}
 use Rattle.lock_free.specs.Live.{IsLive}
 use Rattle.lock_free.specs.Steps.{Reads}
-use Rattle.lock_free.proofs.Keeping.{SameAhead}
 
 -- the action changes no word
 abbrev pub IsReading : Action → Type 0
@@ -25,7 +24,7 @@ IsReading (act.Look r) = Unit {0}
 IsReading action = ⊥
 
 module _ (sizes : Sizes) (account : Account) (bounds : AreBounds (bounds_for sizes account.steps)) (actor : ℕ) (operation : Operation) (runs : running sizes account actor operation) where
-  pub reads_of : IsReading (action_of (state_of sizes account) operation) → Reads sizes account actor operation × SameAhead (state_of sizes account) (state_of sizes (gone_on actor account))
+  pub reads_of : IsReading (action_of (state_of sizes account) operation) → Reads sizes account actor operation
   reads_of h = ?
 
   -- the main node that it is to read is live, in use, and a main node

@@ -95,8 +95,8 @@ header_allowed sizes size id me word main p s kept length_is at low =
     let here = waits sizes v.actor v.account kept.account waited kept.bounds p.operation (subst (λ z. running z v.account v.actor p.operation) its p.runs) in
     let o : Operation = record p.operation { is_marked = here.0 } in
     let acts : action_of (state_of sizes kept.account) o ≡ act.ReadPrev main = here.2 ∙ subst (λ z. action_of (state_of z v.account) p.operation ≡ act.ReadPrev main) its p.acts in
-    let both = reads_of sizes kept.account kept.bounds v.actor o here.1 (subst IsReading (sym acts) tt) in
-    let next = kept_then sizes s kept id v at o here.1 both.0 both.1 refl refl in (
+    let reads = reads_of sizes kept.account kept.bounds v.actor o here.1 (subst IsReading (sym acts) tt) in
+    let next = kept_then sizes s kept id v at o here.1 reads in (
       record v { account = gone_on v.actor kept.account },
       keeps,
       tt,

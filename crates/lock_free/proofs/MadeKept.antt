@@ -180,9 +180,12 @@ module _ (sizes : Sizes) (s : Table.State Call View) (kept : IsKept sizes s) (id
       owned_is (Listed singles) = refl
 
   spare_stays : (b other : ℕ) → b < 3 → other ≢ name → IsTaken sizes s.words b other → IsSpare sizes kept.account kept.stands other → StaysSpare sizes s kept id v at account_then stands_then words_then b other
-  spare_stays b other small_b differs taken spare = (spare_then other differs spare, λ j its.
-      other_word sizes kept.account kept.stands s.words all (class_of node) name (class_small node) is_spare.0 is_spare.1 last inside_it value j
-      (λ same. differs (slots_apart sizes s.words kept.taken b (class_of node) other name last small_b (class_small node) taken is_spare.0 (subst (λ n. IsWordOf b other n) same its) inside_it).1))
+  spare_stays b other small_b differs taken spare = (
+    spare_then other differs spare,
+    λ j its.
+        other_word sizes kept.account kept.stands s.words all (class_of node) name (class_small node) is_spare.0 is_spare.1 last inside_it value j
+        (λ same. differs (slots_apart sizes s.words kept.taken b (class_of node) other name last small_b (class_small node) taken is_spare.0 (subst (λ n. IsWordOf b other n) same its) inside_it).1),
+  )
 
   stays : Stays sizes s kept id v at account_then stands_then words_then
   stays = record {
