@@ -20,7 +20,7 @@ use Rattle.lock_free.specs.Nodes.{Has, StandsAs, AreEntries, InTable, entry_word
 use Rattle.lock_free.specs.Places.{first_slot_word, words_in, slots_in, class_for, IsTaken, HaveTaken, taken_word, generation_word, root_word, pin_word}
 use Rattle.lock_free.specs.Roots.{MeansRoot, closed, reserved, writable, read_only, closing_writable, closing_read_only, offered, opening, opens_later, IsWritten, meant, opened_by, open_with}
 use Rattle.lock_free.specs.Rules.{Standing, Stands, NodesStand, RootsStand, IsSpare}
-use Rattle.lock_free.proofs.Geometry.{IsWordOf, slots_apart, above, root_below}
+use Rattle.lock_free.proofs.Geometry.{IsWordOf, slots_apart, above, inside, root_below}
 use Rattle.lock_free.proofs.Assembling.{AllStand}
 
 -- ---- a node's words are its slot's
@@ -63,6 +63,15 @@ class_small (Tomb single) = omega arith
 class_small (Branch bitmap entries) = class_below (length entries.items)
 class_small (Listed singles) = class_below (length singles.items)
 
+pub has_words : (class : ℕ) → class < 3 → 0 < words_in class
+has_words zero low = omega arith
+has_words (suc zero) low = omega arith
+has_words (suc (suc zero)) low = omega arith
+has_words (suc (suc (suc class))) low = absurd (omega (arith, low))
+
+pub first_word : (node : Node) (name : ℕ) → IsWordOf (class_of node) name (2 * name)
+first_word node name = let some = has_words (class_of node) (class_small node) in record { low = omega arith; high = omega (arith, some) }
+
 -- ---- a store to a spare slot's word
 
 got_within : {A : Type 0} (xs : List A) (n : ℕ) (x : A) → slice_get xs n ≡ Some x → n < length xs
@@ -82,11 +91,15 @@ module _ (sizes : Sizes) (account : Account) (words : List ℕ) (have : HaveTake
   below_word j low = else_word j (λ same. absurd (omega (arith, low, far, same)))
 
   module _ (p : ℕ) (state : State) (k : ℕ) (slot : Slot) where
+    -- no entry's word is it
+    pub entries_else : (entries : List Ref) → ((position : ℕ) → position < length entries → entry_word p position ≢ i) →
+        AreEntries account state.heap (InTable words) p entries → AreEntries account state.heap (InTable changed) p entries
+    entries_else entries apart h position e at =
+        let y = h position e at in (y.0, else_word (entry_word p position) (apart position (got_within entries position e at)) ∙ y.1, y.2)
+
     entries_over : (entries : List Ref) → length entries ≤ 32 → ((j : ℕ) → IsWordOf (class_for (length entries)) p j → j ≢ i) →
         AreEntries account state.heap (InTable words) p entries → AreEntries account state.heap (InTable changed) p entries
-    entries_over entries most apart h position e at =
-        let y = h position e at in
-        (y.0, else_word (entry_word p position) (apart (entry_word p position) (entry_inside (length entries) p position most (got_within entries position e at))) ∙ y.1, y.2)
+    entries_over entries most apart = entries_else entries (λ position low. apart (entry_word p position) (entry_inside (length entries) p position most low))
 
     pub stands_over : (node : Node) → length (entries_of node) ≤ 32 → ((j : ℕ) → IsWordOf (class_of node) p j → j ≢ i) → StandsAs account state (InTable words) p k slot node →
         StandsAs account state (InTable changed) p k slot node
@@ -186,3 +199,37 @@ module _ (sizes : Sizes) (account : Account) (stands : Standing) (words : List �
     nodes = nodes_over;
     roots = roots_still sizes account words all.taken i far x not_of_offer all.roots;
   }
+
+-- a store to a word of a node that stands
+module _ (sizes : Sizes) (account : Account) (stands : Standing) (words : List ℕ) (all : AllStand sizes account stands words) (k : ℕ) (slot : Slot) (stood : Stands stands (state_of sizes account) k slot)
+    (i : ℕ) (its : IsWordOf (class_of slot.node) (place_at account k) i) (x : ℕ) where
+  pub node_far : first_slot_word sizes ≤ i
+  node_far = above sizes words all.taken (class_of slot.node) (place_at account k) i (class_small slot.node) (all.nodes.within k slot stood) its
+
+  pub node_inside : i < length words
+  node_inside = subst (λ n. i < n) (sym all.size) (inside sizes words all.taken (class_of slot.node) (place_at account k) i (class_small slot.node) (all.nodes.within k slot stood) its)
+
+  -- no word of another node that stands, of an offer, or of a spare slot
+  pub not_of_other : (j : ℕ) (another : Slot) → j ≢ k → Stands stands (state_of sizes account) j another → (n : ℕ) → IsWordOf (class_of another.node) (place_at account j) n → n ≢ i
+  not_of_other j another differs h n w same =
+      differs
+      (all.nodes.apart j k another slot h stood
+          (slots_apart sizes words all.taken (class_of another.node) (class_of slot.node) (place_at account j) (place_at account k) i (class_small another.node) (class_small slot.node) (all.nodes.within j another h)
+              (all.nodes.within k slot stood) (subst (λ m. IsWordOf (class_of another.node) (place_at account j) m) same w) its).1)
+
+  pub not_of_any_offer : (o : Known) → Contains account.offers o → (n : ℕ) → IsWordOf 1 o.slot n → n ≢ i
+  not_of_any_offer o c n w same =
+      all.nodes.offers o c k slot stood
+      (sym (slots_apart sizes words all.taken 1 (class_of slot.node) o.slot (place_at account k) i (omega arith) (class_small slot.node) (all.roots.blocks o c) (all.nodes.within k slot stood)
+          (subst (λ m. IsWordOf 1 o.slot m) same w) its).1)
+
+  pub not_of_spare : (b name : ℕ) → b < 3 → IsTaken sizes words b name → IsSpare sizes account stands name → (n : ℕ) → IsWordOf b name n → n ≢ i
+  not_of_spare b name small taken spare n w same =
+      spare.0 k slot stood
+      (sym (slots_apart sizes words all.taken b (class_of slot.node) name (place_at account k) i small (class_small slot.node) taken (all.nodes.within k slot stood) (subst (λ m. IsWordOf b name m) same w) its).1)
+
+  pub root_beside : (handle : ℕ) → handle < handle_limit → slice_index (set words i x) (root_word handle) ≡ slice_index words (root_word handle)
+  root_beside handle low = let where_it_is = root_below handle low in below_word sizes account words all.taken i node_far x (root_word handle) (omega (arith, where_it_is.1))
+
+  pub pin_beside : (a : ℕ) → a ≤ sizes.seats → slice_index (set words i x) (pin_word a) ≡ slice_index words (pin_word a)
+  pin_beside a most = below_word sizes account words all.taken i node_far x (pin_word a) (omega (arith, most))

@@ -45,28 +45,29 @@ use Rattle.lock_free.proofs.Assembling.{AllStand, closing_stays, assembled}
 use Rattle.lock_free.proofs.Seats.{Stays, other_kept, own_kept, drafts_kept}
 use Rattle.lock_free.proofs.Waiting.{waited_more}
 
-abbrev pub SameSlots : State → State → Type 0
-SameSlots before after = (k : ℕ) → get_or after.heap.slots k None ≡ get_or before.heap.slots k None
+-- each node is what it was
+abbrev pub SameNodes : State → State → Type 0
+SameNodes before after = (r : Ref) → node_at after.heap r ≡ node_at before.heap r
 
-module _ (account : Account) (steps : List Step) (dropped : Dropped) (before after : State) (same : SameSlots before after) (aheads : (i a f : Ref) → IsAhead after i a f → IsAhead before i a f)
+pub same_nodes : (before after : State) → ((k : ℕ) → get_or after.heap.slots k None ≡ get_or before.heap.slots k None) → SameNodes before after
+unfolding node_at stored
+same_nodes before after same r = ap node_of (same (slot_of r))
+
+module _ (account : Account) (steps : List Step) (dropped : Dropped) (before after : State) (same : SameNodes before after) (aheads : (i a f : Ref) → IsAhead after i a f → IsAhead before i a f)
     (still : (i a f : Ref) → IsAhead before i a f → dropped (slot_of f) ≡ false → IsAhead after i a f) (words : List ℕ) where
   abbrev pub later : Account
   later = record account { steps = steps }
 
-  pub same_node : (r : Ref) → node_at after.heap r ≡ node_at before.heap r
-  unfolding node_at stored
-  same_node r = ap node_of (same (slot_of r))
-
-  pub same_main : (r : Ref) → main_at after.heap r ≡ main_at before.heap r
-  same_main r = ap main_of (same_node r)
+  same_main : (r : Ref) → main_at after.heap r ≡ main_at before.heap r
+  same_main r = ap main_of (same r)
 
   entry_kept : (e : Ref) (half : ℕ) → IsEntryOf account before.heap e half → IsEntryOf later after.heap e half
   entry_kept e half h = record {
     own = h.own;
-    code = h.code ∙ ap (λ node. entry_code (record { slot = place_of account e; own = h.own; is_single = is_single node })) (sym (same_node e));
+    code = h.code ∙ ap (λ node. entry_code (record { slot = place_of account e; own = h.own; is_single = is_single node })) (sym (same e));
   }
 
-  over_kept : (k : ℕ) (q : Ref) (own : Bool) → IsOver account before k q own → IsOver later after k q own
+  pub over_kept : (k : ℕ) (q : Ref) (own : Bool) → IsOver account before k q own → IsOver later after k q own
   over_kept k q own h i e = h i (ap slot_of (sym (same_main i)) ∙ e)
 
   previous_kept : (k : ℕ) (q : Prev) (says : Previous) → dropped k ≡ false → SaysPrevious account before k q says → SaysPrevious later after k q says
@@ -75,7 +76,7 @@ module _ (account : Account) (steps : List Step) (dropped : Dropped) (before aft
   previous_kept k q says stays (pending o own h) = pending o own (over_kept k o own h)
   previous_kept k q says stays (failed o own h) = failed o own (over_kept k o own h)
 
-  shape_kept : (node : Node) (says : Shape) → SaysShape account before.heap node says → SaysShape later after.heap node says
+  pub shape_kept : (node : Node) (says : Shape) → SaysShape account before.heap node says → SaysShape later after.heap node says
   shape_kept node says (of_branch bitmap entries) = of_branch bitmap entries
   shape_kept node says (of_tomb single own) = of_tomb single own
   shape_kept node says (of_list singles) = of_list singles
@@ -89,7 +90,7 @@ module _ (account : Account) (steps : List Step) (dropped : Dropped) (before aft
     code = h.code;
   }
 
-  entries_kept : (name : ℕ) (entries : List Ref) → AreEntries account before.heap (InTable words) name entries → AreEntries later after.heap (InTable words) name entries
+  pub entries_kept : (name : ℕ) (entries : List Ref) → AreEntries account before.heap (InTable words) name entries → AreEntries later after.heap (InTable words) name entries
   entries_kept name entries h position e at = let x = h position e at in (x.0, x.1, entry_kept e (half_of x.0 position) x.2)
 
   pub stands_kept : (name k : ℕ) (slot : Slot) (node : Node) → dropped k ≡ false → StandsAs account before (InTable words) name k slot node → StandsAs later after (InTable words) name k slot node
@@ -99,7 +100,7 @@ module _ (account : Account) (steps : List Step) (dropped : Dropped) (before aft
   stands_kept name k slot (Tomb single) stays h = (h.0, h.1, header_kept k slot h.0 stays h.2)
   stands_kept name k slot (Listed singles) stays h = ((h.0.0, h.0.1, header_kept k slot h.0.0 stays h.0.2), entries_kept name singles.items h.1)
 
-  meaning_kept : (word : ℕ) (r : Option Root) → MeansRoot account words word r → MeansRoot later words word r
+  pub meaning_kept : (word : ℕ) (r : Option Root) → MeansRoot account words word r → MeansRoot later words word r
   meaning_kept word r closed = closed
   meaning_kept word r reserved = reserved
   meaning_kept word r (writable q) = writable q
@@ -160,16 +161,16 @@ module _ (sizes : Sizes) (s : Table.State Call View) (kept : IsKept sizes s) (id
     offers = λ x c k slot h. kept.nodes.offers x c k slot (stood k slot h).0;
     written = λ k slot h.
         (let was = stood k slot h in
-        stands_kept kept.account account_then.steps dropped now next_state leads.nodes leads.aheads leads.still s.words (place_at kept.account k) k slot slot.node was.1 (kept.nodes.written k slot was.0));
+        stands_kept kept.account account_then.steps dropped now next_state (same_nodes now next_state leads.nodes) leads.aheads leads.still s.words (place_at kept.account k) k slot slot.node was.1 (kept.nodes.written k slot was.0));
     live = λ r h. (let x = leads.live r h in live_then (dropped (slot_of r)) (slot_of r) refl x.1 (kept.nodes.live r x.0));
   }
 
   roots_then : RootsStand sizes account_then s.words
   roots_then = record {
     means = λ handle low.
-        meaning_kept kept.account account_then.steps dropped now next_state leads.nodes leads.aheads leads.still s.words _ _
+        meaning_kept kept.account account_then.steps dropped now next_state (same_nodes now next_state leads.nodes) leads.aheads leads.still s.words _ _
         (subst (λ rs. MeansRoot kept.account s.words (slice_index s.words (root_word handle)) (get_or rs handle None)) (sym leads.roots) (kept.roots.means handle low));
-    offers = λ k c. written_kept kept.account account_then.steps dropped now next_state leads.nodes leads.aheads leads.still s.words k (kept.roots.offers k c);
+    offers = λ k c. written_kept kept.account account_then.steps dropped now next_state (same_nodes now next_state leads.nodes) leads.aheads leads.still s.words k (kept.roots.offers k c);
     blocks = kept.roots.blocks;
     single = kept.roots.single;
   }

@@ -12,3 +12,4 @@ mod MadeKept
 mod Published
 mod PublishedAll
 mod PublishedKept
+mod Decided

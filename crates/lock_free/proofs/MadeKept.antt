@@ -30,7 +30,7 @@ use Rattle.lock_free.specs.Making.{over_of, Drafted, DraftsNode, owned_with, mad
 use Rattle.lock_free.specs.Places.{words_in, first_slot_word, pin_word, root_word, IsTaken}
 use Rattle.lock_free.specs.Rules.{Standing, Stands, IsClosing, SaysClosing, IsFree, IsSpare, IsSeat, HasActor, IsKept, Once, pool_of, pin_word_of}
 use Rattle.lock_free.proofs.Assembling.{AllStand, all_stand, not_its, other_actor, closing_stays, assembled}
-use Rattle.lock_free.proofs.Framing.{stored, other_word, low_word, taken_over, all_over, class_small}
+use Rattle.lock_free.proofs.Framing.{has_words, stored, other_word, low_word, taken_over, all_over, class_small}
 use Rattle.lock_free.proofs.Geometry.{IsWordOf, slots_apart, inside, root_below}
 use Rattle.lock_free.proofs.Made.{stands_too, stands_else, place_else, place_last}
 use Rattle.lock_free.proofs.MadeAll.{all_then, later, later_stands}
@@ -69,12 +69,6 @@ once_rest (x ∷ xs) n h =
     )
 
 -- ---- pools
-
-has_words : (class : ℕ) → class < 3 → 0 < words_in class
-has_words zero low = omega arith
-has_words (suc zero) low = omega arith
-has_words (suc (suc zero)) low = omega arith
-has_words (suc (suc (suc class))) low = absurd (omega (arith, low))
 
 pool_same : (pool : Pool) (class : ℕ) (rest : List ℕ) → class < 3 → pool_of (without_last pool class rest) class ≡ rest
 pool_same pool zero rest low = refl

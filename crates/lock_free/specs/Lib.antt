@@ -8,3 +8,4 @@ pub mod Steps
 pub mod Loading
 pub mod Making
 pub mod Publishing
+pub mod Deciding
