@@ -6,6 +6,7 @@ mod Seats
 mod Keeping
 mod Looking
 mod Framing
+mod NodeWord
 mod Made
 mod MadeAll
 mod MadeKept
@@ -13,3 +14,4 @@ mod Published
 mod PublishedAll
 mod PublishedKept
 mod Decided
+mod DecidedKept
