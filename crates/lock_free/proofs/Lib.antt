@@ -15,3 +15,4 @@ mod PublishedAll
 mod PublishedKept
 mod Decided
 mod DecidedKept
+mod Restored

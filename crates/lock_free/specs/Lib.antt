@@ -9,3 +9,4 @@ pub mod Loading
 pub mod Making
 pub mod Publishing
 pub mod Deciding
+pub mod Restoring
