@@ -16,3 +16,4 @@ mod PublishedKept
 mod Decided
 mod DecidedKept
 mod Restored
+mod Drafting

@@ -1,6 +1,6 @@
 -- A node is made: what a seat has written in a free slot of its own, what the definition's step leaves, and what the seat knows then.
 use Rattle.history.specs.declared.calls.Call.{Call}
-use Rattle.std.specs.Prelude.{◌≡◌, ◌≢◌, ℕ, ◌+◌, ◌*◌, ◌^◌, ◌<◌, ◌⊎◌, Bool, true, false, List, [], ◌∷◌, ◌++◌, Contains, length, Option, Some, None, slice_get, slice_index_or, if◌then◌else◌, ◌==◌}
+use Rattle.std.specs.Prelude.{◌≡◌, ◌≢◌, ℕ, ◌+◌, ◌*◌, ◌^◌, ◌<◌, ◌⊎◌, Bool, true, false, List, [], ◌∷◌, ◌++◌, Contains, filter, not, length, Option, Some, None, slice_get, slice_index_or, if◌then◌else◌, ◌==◌}
 use Rattle.trie_words.specs.Codes.{link_code, header_code}
 use Rattle.trie_words.specs.declared.headers.Previous.{Previous}
 use Rattle.trie_words.specs.declared.headers.Previous.TheVariants as previous
@@ -50,6 +50,13 @@ over_of l = None
 -- the words of its drafts, and this one more, which is written last
 abbrev pub Drafted : List (ℕ × ℕ) → ℕ → ℕ → Has
 Drafted drafts last value i word = (i ≡ last → word ≡ value) × (i ≢ last → Contains drafts (i, word))
+
+-- the drafts with this one, which is the only one of its word
+abbrev pub others_than : ℕ → List (ℕ × ℕ) → List (ℕ × ℕ)
+others_than j drafts = filter (λ (d : ℕ × ℕ). not (d.0 == j)) drafts
+
+abbrev pub with_draft : List (ℕ × ℕ) → ℕ → ℕ → List (ℕ × ℕ)
+with_draft drafts j x = (j, x) ∷ others_than j drafts
 
 -- the header says that it is pending over the main node that it is to replace, or decided where it isn't swapped in itself
 abbrev pub IsOverBy : Account → Option (Ref × Ref) → Previous → Type 0
