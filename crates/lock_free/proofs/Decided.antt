@@ -147,7 +147,7 @@ module _ (sizes : Sizes) (account : Account) (actor : ℕ) (operation : Operatio
   entries_then : (xs : List Ref) → AreEntries account now.heap (InTable words) p xs → AreEntries account_then next.heap (InTable words_then) p xs
   entries_then xs h =
       entries_kept account account_then.steps nothing now next same decides.aheads still words_then p xs
-      (entries_else sizes account words all.taken (2 * p) far value p now (slot_of main) decides.slot xs (λ position low e. absurd (omega (arith, e))) h)
+      (entries_else account words (2 * p) value p now (slot_of main) decides.slot xs (λ position low e. absurd (omega (arith, e))) h)
 
   -- ---- what stands
 
@@ -174,7 +174,7 @@ module _ (sizes : Sizes) (account : Account) (actor : ℕ) (operation : Operatio
               (all.nodes.written (slot_of main) decides.slot stood)))
   written_by k slot h (is_else other e) =
       stands_kept account account_then.steps nothing now next same decides.aheads still words_then (place_at account k) k slot slot.node refl
-      (stands_over sizes account words all.taken (2 * p) far value (place_at account k) now k slot slot.node (all.nodes.small k slot (h, e))
+      (stands_over account words (2 * p) value (place_at account k) now k slot slot.node (all.nodes.small k slot (h, e))
           (not_of_other sizes account stands words all (slot_of main) decides.slot stood (2 * p) its value k slot other (h, e)) (all.nodes.written k slot (h, e)))
 
   still_its : (b n : ℕ) → b < 3 → IsTaken sizes words b n → IsTaken sizes words_then b n

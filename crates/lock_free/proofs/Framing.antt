@@ -79,16 +79,13 @@ got_within [] n x e = absurd (none-some x e)
 got_within (y ∷ ys) zero x e = omega arith
 got_within (y ∷ ys) (suc n) x e = let h = got_within ys n x e in omega (arith, h)
 
--- a store to a word of some slot
-module _ (sizes : Sizes) (account : Account) (words : List ℕ) (have : HaveTaken sizes words) (i : ℕ) (far : first_slot_word sizes ≤ i) (x : ℕ) where
+-- a store to some word
+module _ (account : Account) (words : List ℕ) (i x : ℕ) where
   abbrev pub changed : List ℕ
   changed = set words i x
 
   pub else_word : (j : ℕ) → j ≢ i → slice_index changed j ≡ slice_index words j
   else_word j apart = get_or-set_other words i j x 0 apart
-
-  pub below_word : (j : ℕ) → j < first_slot_word sizes → slice_index changed j ≡ slice_index words j
-  below_word j low = else_word j (λ same. absurd (omega (arith, low, far, same)))
 
   module _ (p : ℕ) (state : State) (k : ℕ) (slot : Slot) where
     -- no entry's word is it
@@ -112,18 +109,12 @@ module _ (sizes : Sizes) (account : Account) (words : List ℕ) (have : HaveTake
     stands_over (Listed singles) most apart h =
         ((h.0.0, else_word (2 * p) (apart (2 * p) (first_inside (length singles.items) p)) ∙ h.0.1, h.0.2), entries_over singles.items most apart h.1)
 
-  pub still_taken : (b n : ℕ) → b < 3 → IsTaken sizes words b n → IsTaken sizes changed b n
-  still_taken b n low h = record { number = h.number; few = subst (λ m. h.number < m) (sym (below_word (taken_word b) (omega (arith, low)))) h.few; first = h.first }
-
-  pub have_still : HaveTaken sizes changed
-  have_still c low = subst (λ n. n ≤ slots_in sizes c) (sym (below_word (taken_word c) (omega (arith, low)))) (have c low)
-
-  -- where it is no offer's
+  -- which is no offer's
   module _ (apart : (k : Known) → Contains account.offers k → (j : ℕ) → IsWordOf 1 k.slot j → j ≢ i) where
     first_of_offer : (k : Known) → Contains account.offers k → slice_index changed (2 * k.slot) ≡ slice_index words (2 * k.slot)
     first_of_offer k c = else_word (2 * k.slot) (apart k c (2 * k.slot) (record { low = omega arith; high = omega arith }))
 
-    meaning_over : (word : ℕ) (r : Option Root) → MeansRoot account words word r → MeansRoot account changed word r
+    pub meaning_over : (word : ℕ) (r : Option Root) → MeansRoot account words word r → MeansRoot account changed word r
     meaning_over word r closed = closed
     meaning_over word r reserved = reserved
     meaning_over word r (writable q) = writable q
@@ -134,16 +125,32 @@ module _ (sizes : Sizes) (account : Account) (words : List ℕ) (have : HaveTake
     meaning_over word r (opening k is) = subst (λ n. MeansRoot account changed word (opened_by n k.offer)) (first_of_offer k is) (opening k is)
     meaning_over word r (opens_later slot none) = opens_later slot none
 
-    pub roots_still : RootsStand sizes account words → RootsStand sizes account changed
+    pub written_over : (k : Known) → Contains account.offers k → IsWritten account words k → IsWritten account changed k
+    written_over k c h = record {
+      olds = else_word (2 * k.slot + 1) (apart k c (2 * k.slot + 1) (record { low = omega arith; high = omega arith })) ∙ h.olds;
+      news = else_word (2 * k.slot + 2) (apart k c (2 * k.slot + 2) (record { low = omega arith; high = omega arith })) ∙ h.news;
+    }
+
+-- a store to a word of some slot
+module _ (sizes : Sizes) (account : Account) (words : List ℕ) (have : HaveTaken sizes words) (i : ℕ) (far : first_slot_word sizes ≤ i) (x : ℕ) where
+  pub below_word : (j : ℕ) → j < first_slot_word sizes → slice_index (set words i x) j ≡ slice_index words j
+  below_word j low = else_word account words i x j (λ same. absurd (omega (arith, low, far, same)))
+
+  pub still_taken : (b n : ℕ) → b < 3 → IsTaken sizes words b n → IsTaken sizes (set words i x) b n
+  still_taken b n low h = record { number = h.number; few = subst (λ m. h.number < m) (sym (below_word (taken_word b) (omega (arith, low)))) h.few; first = h.first }
+
+  pub have_still : HaveTaken sizes (set words i x)
+  have_still c low = subst (λ n. n ≤ slots_in sizes c) (sym (below_word (taken_word c) (omega (arith, low)))) (have c low)
+
+  -- which is no offer's
+  module _ (apart : (k : Known) → Contains account.offers k → (j : ℕ) → IsWordOf 1 k.slot j → j ≢ i) where
+    pub roots_still : RootsStand sizes account words → RootsStand sizes account (set words i x)
     roots_still roots = record {
       means = λ handle low.
           (let where_it_is = root_below handle low in
-          subst (λ n. MeansRoot account changed n (root_at (state_of sizes account) handle)) (sym (below_word (root_word handle) (omega (arith, where_it_is.1))))
-          (meaning_over (slice_index words (root_word handle)) (root_at (state_of sizes account) handle) (roots.means handle low)));
-      offers = λ k c. (let h = roots.offers k c in record {
-        olds = else_word (2 * k.slot + 1) (apart k c (2 * k.slot + 1) (record { low = omega arith; high = omega arith })) ∙ h.olds;
-        news = else_word (2 * k.slot + 2) (apart k c (2 * k.slot + 2) (record { low = omega arith; high = omega arith })) ∙ h.news;
-      });
+          subst (λ n. MeansRoot account (set words i x) n (root_at (state_of sizes account) handle)) (sym (below_word (root_word handle) (omega (arith, where_it_is.1))))
+          (meaning_over account words i x apart (slice_index words (root_word handle)) (root_at (state_of sizes account) handle) (roots.means handle low)));
+      offers = λ k c. written_over account words i x apart k c (roots.offers k c);
       blocks = λ k c. still_taken 1 k.slot (omega arith) (roots.blocks k c);
       single = roots.single;
     }
@@ -158,7 +165,7 @@ module _ (sizes : Sizes) (account : Account) (stands : Standing) (words : List �
   far = above sizes words all.taken class name i small taken here
 
   pub other_word : (j : ℕ) → j ≢ i → slice_index stored j ≡ slice_index words j
-  other_word = else_word sizes account words all.taken i far x
+  other_word = else_word account words i x
 
   pub low_word : (j : ℕ) → j < first_slot_word sizes → slice_index stored j ≡ slice_index words j
   low_word = below_word sizes account words all.taken i far x
@@ -184,7 +191,7 @@ module _ (sizes : Sizes) (account : Account) (stands : Standing) (words : List �
     apart = all.nodes.apart;
     offers = all.nodes.offers;
     written = λ k slot h.
-        stands_over sizes account words all.taken i far x (place_at account k) (state_of sizes account) k slot slot.node (all.nodes.small k slot h) (not_of_node k slot h) (all.nodes.written k slot h);
+        stands_over account words i x (place_at account k) (state_of sizes account) k slot slot.node (all.nodes.small k slot h) (not_of_node k slot h) (all.nodes.written k slot h);
     live = all.nodes.live;
   }
 
@@ -233,3 +240,34 @@ module _ (sizes : Sizes) (account : Account) (stands : Standing) (words : List �
 
   pub pin_beside : (a : ℕ) → a ≤ sizes.seats → slice_index (set words i x) (pin_word a) ≡ slice_index words (pin_word a)
   pin_beside a most = below_word sizes account words all.taken i node_far x (pin_word a) (omega (arith, most))
+
+-- a store to a word before all slots, which takes back none that was handed out
+module _ (sizes : Sizes) (account : Account) (stands : Standing) (words : List ℕ) (all : AllStand sizes account stands words) (i : ℕ) (before : i < first_slot_word sizes) (x : ℕ)
+    (taken : (b n : ℕ) → b < 3 → IsTaken sizes words b n → IsTaken sizes (set words i x) b n) where
+  pub no_slot : (b name : ℕ) → b < 3 → IsTaken sizes words b name → (j : ℕ) → IsWordOf b name j → j ≢ i
+  no_slot b name small is j its same = let far = above sizes words all.taken b name j small is its in absurd (omega (arith, far, before, same))
+
+  no_offer : (k : Known) → Contains account.offers k → (j : ℕ) → IsWordOf 1 k.slot j → j ≢ i
+  no_offer k c = no_slot 1 k.slot (omega arith) (all.roots.blocks k c)
+
+  pub nodes_below : NodesStand sizes account stands (set words i x)
+  nodes_below = record {
+    within = λ k slot h. taken (class_of slot.node) (place_at account k) (class_small slot.node) (all.nodes.within k slot h);
+    small = all.nodes.small;
+    apart = all.nodes.apart;
+    offers = all.nodes.offers;
+    written = λ k slot h.
+        stands_over account words i x (place_at account k) (state_of sizes account) k slot slot.node (all.nodes.small k slot h)
+        (no_slot (class_of slot.node) (place_at account k) (class_small slot.node) (all.nodes.within k slot h)) (all.nodes.written k slot h);
+    live = all.nodes.live;
+  }
+
+  -- what a word of a handle means, and what is written of offers
+  pub meaning_below : (word : ℕ) (r : Option Root) → MeansRoot account words word r → MeansRoot account (set words i x) word r
+  meaning_below = meaning_over account words i x no_offer
+
+  pub written_below : (k : Known) → Contains account.offers k → IsWritten account (set words i x) k
+  written_below k c = written_over account words i x no_offer k c (all.roots.offers k c)
+
+  pub blocks_below : (k : Known) → Contains account.offers k → IsTaken sizes (set words i x) 1 k.slot
+  blocks_below k c = taken 1 k.slot (omega arith) (all.roots.blocks k c)

@@ -56,7 +56,7 @@ module _ (sizes : Sizes) (s : Table.State Call View) (kept : IsKept sizes s) (id
   spare_stays other w b name e free =
       let x = (kept.seats other w e).spare b name free in
       (spare_then name x.1, λ j its_word.
-          else_word sizes kept.account s.words kept.taken i (node_far sizes kept.account kept.stands s.words all k slot stood i its value) value j
+          else_word kept.account s.words i value j
           (not_of_spare sizes kept.account kept.stands s.words all k slot stood i its value b name free.0 x.0 x.1 j its_word))
 
   root_same : (handle : ℕ) → handle < handle_limit → slice_index words_then (root_word handle) ≡ slice_index s.words (root_word handle)

@@ -118,12 +118,12 @@ module _ (sizes : Sizes) (account : Account) (actor : ℕ) (operation : Operatio
       subst (λ (x : Slot). StandsAs later (state_of sizes later) (InTable words_then) (place_at later k) k x x.node) (sym is)
       (subst (λ n. StandsAs later (state_of sizes later) (InTable words_then) (place_at later n) n (over publishes.fresh a) publishes.fresh.node) (sym at_fresh)
       (fresh_stands sizes account actor operation i a f publishes (InTable words_then) (place_of account f) publishes.fresh.node publishes.fresh_main
-      (stands_over sizes account words all.taken its_word far new_word (place_of account f) (state_of sizes account) (slot_of f) publishes.fresh publishes.fresh.node
+      (stands_over account words its_word new_word (place_of account f) (state_of sizes account) (slot_of f) publishes.fresh publishes.fresh.node
       (all.nodes.small (slot_of f) publishes.fresh stood) (not_of_node (slot_of f) publishes.fresh apart stood) (all.nodes.written (slot_of f) publishes.fresh stood))))
   written_by k slot h (is_else other another e) =
       let stood : Stands stands (state_of sizes account) k slot = (h, e) in
       else_stands sizes account actor operation i a f publishes (InTable words_then) (place_at account k) k slot slot.node another
-      (stands_over sizes account words all.taken its_word far new_word (place_at account k) (state_of sizes account) k slot slot.node (all.nodes.small k slot stood) (not_of_node k slot other stood)
+      (stands_over account words its_word new_word (place_at account k) (state_of sizes account) k slot slot.node (all.nodes.small k slot stood) (not_of_node k slot other stood)
       (all.nodes.written k slot stood))
 
   nodes_then : NodesStand sizes later stands words_then

@@ -167,7 +167,7 @@ module _ (sizes : Sizes) (account : Account) (actor : ℕ) (operation : Operatio
           (link_written.0, (own, owned, get_or-set_same words (2 * p) value 0 (node_inside sizes account stands words all (slot_of i) restores.link stood (2 * p) its value))))
   written_by k slot h (is_else other e) =
       else_stands (InTable words_then) (place_at account k) k slot slot.node e
-      (stands_over sizes account words all.taken (2 * p) far value (place_at account k) now k slot slot.node (all.nodes.small k slot (h, e))
+      (stands_over account words (2 * p) value (place_at account k) now k slot slot.node (all.nodes.small k slot (h, e))
           (not_of_other sizes account stands words all (slot_of i) restores.link stood (2 * p) its value k slot other (h, e)) (all.nodes.written k slot (h, e)))
 
   still_its : (b n : ℕ) → b < 3 → IsTaken sizes words b n → IsTaken sizes words_then b n
