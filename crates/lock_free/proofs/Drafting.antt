@@ -18,7 +18,7 @@ use Rattle.lock_free.specs.Rules.{IsClosing, SaysClosing, IsFree, IsSpare, AreDr
 use Rattle.lock_free.proofs.Assembling.{AllStand, all_stand, closing_stays, assembled}
 use Rattle.lock_free.proofs.Framing.{other_word, low_word, taken_over, all_over}
 use Rattle.lock_free.proofs.Geometry.{IsWordOf, slots_apart, inside, root_below}
-use Rattle.lock_free.proofs.Seats.{Stays, StaysSpare, other_kept}
+use Rattle.lock_free.proofs.Seats.{Stays, other_kept, own_still}
 
 -- what is among the drafts then is the new one, or one of another word
 which : (j x : ℕ) (drafts : List (ℕ × ℕ)) (d : ℕ × ℕ) → Contains (with_draft drafts j x) d → (d ≡ (j, x)) ⊎ ((d.0 ≢ j) × Contains drafts d)
@@ -93,23 +93,9 @@ module _ (sizes : Sizes) (s : Table.State Call View) (kept : IsKept sizes s) (id
   drafted d (inr old) = let y = seat.drafts d old.1 in (else_same d.0 old.0 ∙ y.0, y.1)
 
   own_then : IsSeat sizes kept.account kept.stands words_then view_then
-  own_then = record {
-    same = seat.same;
-    low = seat.low;
-    top = seat.top;
-    most = seat.most;
-    waited = seat.waited;
-    counts = seat.counts;
-    rests = λ a above below. (let r = seat.rests a above below in (r.0, pin_same a (omega (arith, below, seat.most)) ∙ r.1));
-    pinned = pin_same v.actor (omega (arith, seat.top, seat.most)) ∙ seat.pinned;
-    entered = seat.entered;
-    calls = seat.calls;
-    opens = λ handle e. (let y = seat.opens handle e in (y.0, λ none. y.1 (stays.taken_numbers handle y.0 none)));
-    reserves = seat.reserves;
-    spare = λ b other f. (let y = seat.spare b other f in (taken_then b other f.0 y.0, y.1));
-    once = seat.once;
-    drafts = λ d c. drafted d (which j x v.drafts d c);
-  }
+  own_then =
+      own_still sizes s kept id v at words_then stays (pin_same v.actor (omega (arith, seat.top, seat.most))) v.pool view_then.drafts
+      (λ b other f. (let y = seat.spare b other f in (taken_then b other f.0 y.0, y.1))) seat.once (λ d c. drafted d (which j x v.drafts d c))
 
   closings_then : (handle who : ℕ) → handle < handle_limit → SaysClosing (slice_index words_then (root_word handle)) who → IsClosing (set s.views id view_then) handle who
   closings_then handle who low says =

@@ -7,6 +7,7 @@ mod Keeping
 mod Looking
 mod Framing
 mod NodeWord
+mod Pools
 mod Made
 mod MadeAll
 mod MadeKept
@@ -17,3 +18,4 @@ mod Decided
 mod DecidedKept
 mod Restored
 mod Drafting
+mod Taking

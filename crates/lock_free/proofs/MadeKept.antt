@@ -26,7 +26,7 @@ use Rattle.lock_free.specs.declared.rules.View.{View}
 use Rattle.lock_free.specs.declared.sizes.Sizes.{Sizes}
 use Rattle.lock_free.specs.Accounts.{state_of, place_at, HasWaited, IsOfOther}
 use Rattle.lock_free.specs.Nodes.{Has, InTable, AreEntries, class_of}
-use Rattle.lock_free.specs.Making.{over_of, Drafted, DraftsNode, owned_with, made_at, Makes, without_last, made_by}
+use Rattle.lock_free.specs.Making.{over_of, Drafted, DraftsNode, owned_with, made_at, Makes, with_slots, made_by}
 use Rattle.lock_free.specs.Places.{words_in, first_slot_word, pin_word, root_word, IsTaken}
 use Rattle.lock_free.specs.Rules.{Standing, Stands, IsClosing, SaysClosing, IsFree, IsSpare, IsSeat, HasActor, IsKept, Once, pool_of, pin_word_of}
 use Rattle.lock_free.proofs.Assembling.{AllStand, all_stand, not_its, other_actor, closing_stays, assembled}
@@ -34,6 +34,7 @@ use Rattle.lock_free.proofs.Framing.{has_words, stored, other_word, low_word, ta
 use Rattle.lock_free.proofs.Geometry.{IsWordOf, slots_apart, inside, root_below}
 use Rattle.lock_free.proofs.Made.{stands_too, stands_else, place_else, place_last}
 use Rattle.lock_free.proofs.MadeAll.{all_then, later, later_stands}
+use Rattle.lock_free.proofs.Pools.{once_rest, pool_same, pool_else}
 use Rattle.lock_free.proofs.Seats.{Stays, StaysSpare, other_kept, own_kept}
 use Rattle.lock_free.proofs.Waiting.{waited_none, waited_more}
 
@@ -45,49 +46,6 @@ drafts_in account heap over has there name own (Single key value) f h = (f (2 * 
 drafts_in account heap over has there name own (Branch bitmap entries) f h = ((h.0.0, f (2 * name) h.0.0 h.0.1, h.0.2), λ position e at. (let x = h.1 position e at in (x.0, f _ x.0 x.1, x.2)))
 drafts_in account heap over has there name own (Tomb single) f h = (h.0, f (2 * name) h.0 h.1, h.2)
 drafts_in account heap over has there name own (Listed singles) f h = ((h.0.0, f (2 * name) h.0.0 h.0.1, h.0.2), λ position e at. (let x = h.1 position e at in (x.0, f _ x.0 x.1, x.2)))
-
-none_there : (n : ℕ) → Contains [] n → ⊥
-none_there n c = absurd (omega (arith, c.1))
-
-one_there : (x n : ℕ) → Contains (x ∷ []) n → n ≡ x
-one_there x n c = by c.0 c.1 c.2
-  where
-    by : (k : ℕ) → k < 1 → get_or (x ∷ []) k n ≡ n → n ≡ x
-    by zero low e = sym e
-    by (suc k) low e = absurd (omega (arith, low))
-
--- no number stands twice in what is left of a pool, and the last one isn't among them
-once_rest : (xs : List ℕ) (n : ℕ) → Once (xs ++ n ∷ []) → Once xs × (Contains xs n → ⊥)
-once_rest [] n h = (tt, λ c. none_there n c)
-once_rest (x ∷ xs) n h =
-    let below = once_rest xs n h.1 in (
-      (λ c. h.0 (Contains-append_left xs (n ∷ []) x c), below.0),
-      λ c. elim (Contains-append_cases (x ∷ []) xs n c) [
-        | inl first ↦ h.0 (subst (λ y. Contains (xs ++ n ∷ []) y) (one_there x n first) (Contains-push xs n))
-        | inr more ↦ below.1 more
-      ],
-    )
-
--- ---- pools
-
-pool_same : (pool : Pool) (class : ℕ) (rest : List ℕ) → class < 3 → pool_of (without_last pool class rest) class ≡ rest
-pool_same pool zero rest low = refl
-pool_same pool (suc zero) rest low = refl
-pool_same pool (suc (suc zero)) rest low = refl
-pool_same pool (suc (suc (suc class))) rest low = absurd (omega (arith, low))
-
-pool_else : (pool : Pool) (class b : ℕ) (rest : List ℕ) → class < 3 → b < 3 → b ≢ class → pool_of (without_last pool class rest) b ≡ pool_of pool b
-pool_else pool zero zero rest low small differs = absurd (differs refl)
-pool_else pool zero (suc zero) rest low small differs = refl
-pool_else pool zero (suc (suc zero)) rest low small differs = refl
-pool_else pool (suc zero) zero rest low small differs = refl
-pool_else pool (suc zero) (suc zero) rest low small differs = absurd (differs refl)
-pool_else pool (suc zero) (suc (suc zero)) rest low small differs = refl
-pool_else pool (suc (suc zero)) zero rest low small differs = refl
-pool_else pool (suc (suc zero)) (suc zero) rest low small differs = refl
-pool_else pool (suc (suc zero)) (suc (suc zero)) rest low small differs = absurd (differs refl)
-pool_else pool (suc (suc (suc class))) b rest low small differs = absurd (omega (arith, low))
-pool_else pool class (suc (suc (suc b))) rest low small differs = absurd (omega (arith, small))
 
 module _ (sizes : Sizes) (s : Table.State Call View) (kept : IsKept sizes s) (id : ℕ) (v : View) (at : get_elem? s.views id ≡ some v) (operation : Operation)
     (runs : operation_of (state_of sizes kept.account) v.actor ≡ Some operation) (name : ℕ) (own : Bool) (node : Node) (makes : Makes sizes kept.account (made_at v.actor name own node kept.account) v.actor operation node)

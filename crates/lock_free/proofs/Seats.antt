@@ -104,3 +104,30 @@ module _ (sizes : Sizes) (s : Table.State Call View) (kept : IsKept sizes s) (id
             once = once;
             drafts = written;
           }
+
+-- ---- an access that is no step
+
+module _ (sizes : Sizes) (s : Table.State Call View) (kept : IsKept sizes s) (id : ℕ) (v : View) (at : get_elem? s.views id ≡ some v) (words : List ℕ) (stays : Stays sizes s kept id v at kept.account kept.stands words)
+    (own_pin : slice_index words (pin_word v.actor) ≡ slice_index s.words (pin_word v.actor)) (pool : Pool) (drafts : List (ℕ × ℕ))
+    (spare : (b name : ℕ) → IsFree (record v { pool = pool; drafts = drafts }) b name → IsTaken sizes words b name × IsSpare sizes kept.account kept.stands name) (once : (b : ℕ) → b < 3 → Once (pool_of pool b))
+    (written : (d : ℕ × ℕ) → Contains drafts d → AreDrafts words (record v { pool = pool; drafts = drafts }) d) where
+  pub own_still : IsSeat sizes kept.account kept.stands words (record v { pool = pool; drafts = drafts })
+  own_still =
+      let h = kept.seats id v at in
+      record {
+        same = h.same;
+        low = h.low;
+        top = h.top;
+        most = h.most;
+        waited = h.waited;
+        counts = h.counts;
+        rests = λ a above below. (let r = h.rests a above below in (r.0, stays.pins a (omega (arith, below, h.most)) (λ is. absurd (omega (arith, above, is))) ∙ r.1));
+        pinned = own_pin ∙ h.pinned;
+        entered = h.entered;
+        calls = h.calls;
+        opens = λ handle f. (let x = h.opens handle f in (x.0, λ none. x.1 (stays.taken_numbers handle x.0 none)));
+        reserves = h.reserves;
+        spare = spare;
+        once = once;
+        drafts = written;
+      }

@@ -130,11 +130,15 @@ pub record Makes (sizes : Sizes) (account after : Account) (actor : ℕ) (operat
 
 -- ---- the seat's slots
 
--- the last slot of the pool's class is taken out
-abbrev pub without_last : Pool → ℕ → List ℕ → Pool
-without_last pool class rest =
+-- these slots of the class, in the place of those
+abbrev pub with_slots : Pool → ℕ → List ℕ → Pool
+with_slots pool class rest =
     if class == 0 then record pool { small = rest } else (if class == 1 then record pool { medium = rest } else record pool { wide = rest })
+
+-- one more slot, last
+abbrev pub with_slot : Pool → ℕ → ℕ → Pool
+with_slot pool class name = with_slots pool class (pool_of pool class ++ name ∷ [])
 
 -- the seat then: the node stands, and its slot isn't free any more
 abbrev pub made_by : View → ℕ → ℕ → List ℕ → Bool → Node → Account → View
-made_by v class name rest own node account = record v { account = made_at v.actor name own node account; pool = without_last v.pool class rest; drafts = [] }
+made_by v class name rest own node account = record v { account = made_at v.actor name own node account; pool = with_slots v.pool class rest; drafts = [] }
