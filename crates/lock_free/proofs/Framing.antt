@@ -242,24 +242,24 @@ module _ (sizes : Sizes) (account : Account) (stands : Standing) (words : List �
   pin_beside a most = below_word sizes account words all.taken i node_far x (pin_word a) (omega (arith, most))
 
 -- a store to a word before all slots, which takes back none that was handed out
-module _ (sizes : Sizes) (account : Account) (stands : Standing) (words : List ℕ) (all : AllStand sizes account stands words) (i : ℕ) (before : i < first_slot_word sizes) (x : ℕ)
+module _ (sizes : Sizes) (account : Account) (stands : Standing) (words : List ℕ) (have : HaveTaken sizes words) (nodes : NodesStand sizes account stands words) (roots : RootsStand sizes account words) (i : ℕ) (before : i < first_slot_word sizes) (x : ℕ)
     (taken : (b n : ℕ) → b < 3 → IsTaken sizes words b n → IsTaken sizes (set words i x) b n) where
   pub no_slot : (b name : ℕ) → b < 3 → IsTaken sizes words b name → (j : ℕ) → IsWordOf b name j → j ≢ i
-  no_slot b name small is j its same = let far = above sizes words all.taken b name j small is its in absurd (omega (arith, far, before, same))
+  no_slot b name small is j its same = let far = above sizes words have b name j small is its in absurd (omega (arith, far, before, same))
 
   no_offer : (k : Known) → Contains account.offers k → (j : ℕ) → IsWordOf 1 k.slot j → j ≢ i
-  no_offer k c = no_slot 1 k.slot (omega arith) (all.roots.blocks k c)
+  no_offer k c = no_slot 1 k.slot (omega arith) (roots.blocks k c)
 
   pub nodes_below : NodesStand sizes account stands (set words i x)
   nodes_below = record {
-    within = λ k slot h. taken (class_of slot.node) (place_at account k) (class_small slot.node) (all.nodes.within k slot h);
-    small = all.nodes.small;
-    apart = all.nodes.apart;
-    offers = all.nodes.offers;
+    within = λ k slot h. taken (class_of slot.node) (place_at account k) (class_small slot.node) (nodes.within k slot h);
+    small = nodes.small;
+    apart = nodes.apart;
+    offers = nodes.offers;
     written = λ k slot h.
-        stands_over account words i x (place_at account k) (state_of sizes account) k slot slot.node (all.nodes.small k slot h)
-        (no_slot (class_of slot.node) (place_at account k) (class_small slot.node) (all.nodes.within k slot h)) (all.nodes.written k slot h);
-    live = all.nodes.live;
+        stands_over account words i x (place_at account k) (state_of sizes account) k slot slot.node (nodes.small k slot h)
+        (no_slot (class_of slot.node) (place_at account k) (class_small slot.node) (nodes.within k slot h)) (nodes.written k slot h);
+    live = nodes.live;
   }
 
   -- what a word of a handle means, and what is written of offers
@@ -267,7 +267,7 @@ module _ (sizes : Sizes) (account : Account) (stands : Standing) (words : List �
   meaning_below = meaning_over account words i x no_offer
 
   pub written_below : (k : Known) → Contains account.offers k → IsWritten account (set words i x) k
-  written_below k c = written_over account words i x no_offer k c (all.roots.offers k c)
+  written_below k c = written_over account words i x no_offer k c (roots.offers k c)
 
   pub blocks_below : (k : Known) → Contains account.offers k → IsTaken sizes (set words i x) 1 k.slot
-  blocks_below k c = taken 1 k.slot (omega arith) (all.roots.blocks k c)
+  blocks_below k c = taken 1 k.slot (omega arith) (roots.blocks k c)

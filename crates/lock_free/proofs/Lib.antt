@@ -10,6 +10,7 @@ mod NodeWord
 mod Pools
 mod Made
 mod MadeAll
+mod MadeSeats
 mod MadeKept
 mod Published
 mod PublishedAll

@@ -79,7 +79,7 @@ is_pending q e = true≢false (ap is_undecided e)
 pub is_failed : (q : Ref) → prev.Failed q ≡ prev.None → ⊥
 is_failed q e = true≢false (ap is_undecided e)
 
-module _ (sizes : Sizes) (account : Account) (actor : ℕ) (operation : Operation) (name : ℕ) (own : Bool) (node : Node) (makes : Makes sizes account (made_at actor name own node account) actor operation node) where
+module _ (sizes : Sizes) (account : Account) (actor : ℕ) (operation : Operation) (name : ℕ) (own : Bool) (node : Node) (more : ℕ) (makes : Makes sizes account (made_at actor name own node account) actor operation node more) where
   abbrev pub after : Account
   after = made_at actor name own node account
 

@@ -23,13 +23,13 @@ use Rattle.lock_free.specs.declared.sizes.Sizes.{Sizes}
 use Rattle.lock_free.specs.Accounts.{state_of, place_at, place_of}
 use Rattle.lock_free.specs.Nodes.{Has, StandsAs, InTable, AreEntries, class_of}
 use Rattle.lock_free.specs.Making.{over_of, DraftsNode, made_at, refs_of_offer, Makes}
-use Rattle.lock_free.specs.Places.{IsTaken, root_word}
+use Rattle.lock_free.specs.Places.{IsTaken, root_word, words_of, HaveTaken, generation_word}
 use Rattle.lock_free.specs.Roots.{MeansRoot, closed, reserved, writable, read_only, closing_writable, closing_read_only, offered, opening, opens_later, open_with, IsWritten, second_of}
 use Rattle.lock_free.specs.Rules.{Standing, Stands, NodesStand, RootsStand, IsSpare}
 use Rattle.lock_free.proofs.Assembling.{AllStand}
 use Rattle.lock_free.proofs.Made.{after, K, place_else, place_last, same_place, stands_too, stands_new, stands_else, stood_stands, new_stands}
 
-module _ (sizes : Sizes) (account : Account) (actor : ℕ) (operation : Operation) (name : ℕ) (own : Bool) (node : Node) (makes : Makes sizes account (made_at actor name own node account) actor operation node)
+module _ (sizes : Sizes) (account : Account) (actor : ℕ) (operation : Operation) (name : ℕ) (own : Bool) (node : Node) (more : ℕ) (makes : Makes sizes account (made_at actor name own node account) actor operation node more)
     (stands : Standing) (words : List ℕ) (all : AllStand sizes account stands words) (taken : IsTaken sizes words (class_of node) name) (spare : IsSpare sizes account stands name)
     (small : length (entries_of node) ≤ 32) (drafted : DraftsNode account (state_of sizes account).heap (over_of operation.line) (InTable words) name own node) where
   abbrev pub later : Account
@@ -57,7 +57,7 @@ module _ (sizes : Sizes) (account : Account) (actor : ℕ) (operation : Operatio
   new_node : (slot : Slot) → makes.made ≡ slot → node ≡ slot.node
   new_node slot is = sym makes.node_is ∙ ap (λ (x : Slot). x.node) is
 
-  nodes_then : NodesStand sizes later later_stands words
+  pub nodes_then : NodesStand sizes later later_stands words
   nodes_then = record {
     within = λ k slot h. elim (which k slot h) [
       | inl n ↦ subst (λ m. IsTaken sizes words (class_of m) (place_at later k)) (new_node slot n.1) (subst (λ p. IsTaken sizes words (class_of node) p) (sym (place_new k n.0)) taken)
@@ -87,10 +87,10 @@ module _ (sizes : Sizes) (account : Account) (actor : ℕ) (operation : Operatio
           (subst (λ j. StandsAs later (state_of sizes later) (InTable words) name j slot slot.node) (sym n.0)
           (subst (λ (x : Slot). StandsAs later (state_of sizes later) (InTable words) name k0 x x.node) n.1
           (subst (λ m. StandsAs later (state_of sizes later) (InTable words) name k0 makes.made m) (sym makes.node_is)
-          (new_stands sizes account actor operation name own node makes (InTable words) node refl drafted))))
+          (new_stands sizes account actor operation name own node more makes (InTable words) node refl drafted))))
       | inr o ↦
           subst (λ p. StandsAs later (state_of sizes later) (InTable words) p k slot slot.node) (sym (place_old k o.0))
-          (stood_stands sizes account actor operation name own node makes (InTable words) (place_at account k) k slot slot.node o.0 o.1.1 refl (all.nodes.written k slot o.1))
+          (stood_stands sizes account actor operation name own node more makes (InTable words) (place_at account k) k slot slot.node o.0 o.1.1 refl (all.nodes.written k slot o.1))
     ];
     live = λ r h. elim (makes.live r h) [
       | inl before ↦ stands_by r (all.nodes.live r before)
@@ -105,7 +105,7 @@ module _ (sizes : Sizes) (account : Account) (actor : ℕ) (operation : Operatio
       ]
 
   place_then : (r : Ref) → slot_of r ≢ k0 → place_of account r ≡ place_of later r
-  place_then r other = sym (same_place sizes account actor operation name own node makes r other)
+  place_then r other = sym (same_place sizes account actor operation name own node more makes r other)
 
   meaning_then : (handle found : ℕ) (root : Option Root) → root ≡ root_at (state_of sizes account) handle → MeansRoot account words found root → MeansRoot later words found root
   meaning_then handle found root is closed = closed
@@ -137,7 +137,7 @@ module _ (sizes : Sizes) (account : Account) (actor : ℕ) (operation : Operatio
         news = h.news ∙ ap (λ p. pair_code (record { low = p; high = second_of account k.offer.second })) successor ∙ ap (λ p. pair_code (record { low = place_of later k.offer.successor; high = p })) second;
       }
 
-  roots_then : RootsStand sizes later words
+  pub roots_then : RootsStand sizes later words
   roots_then = record {
     means = λ handle low.
         subst (λ rs. MeansRoot later words (slice_index words (root_word handle)) (get_or rs handle None)) (sym makes.roots)
@@ -147,14 +147,17 @@ module _ (sizes : Sizes) (account : Account) (actor : ℕ) (operation : Operatio
     single = all.roots.single;
   }
 
-  pub all_then : AllStand sizes later later_stands words
-  all_then = record {
-    bounds = makes.bounds;
-    keys = All-append FitsKey account.steps (step.Go actor ∷ []) all.keys (All-cons FitsKey (step.Go actor) [] tt (All-nil FitsKey));
-    counted = (let one = length-append account.names (name ∷ []) in omega (arith, one, all.counted, makes.births));
-    size = all.size;
-    taken = all.taken;
-    generations = all.generations ∙ sym makes.generations;
-    nodes = nodes_then;
-    roots = roots_then;
-  }
+  -- with the words that were exchanged since, before all slots
+  module _ (words_then : List ℕ) (size : length words_then ≡ words_of sizes) (have : HaveTaken sizes words_then) (generations : slice_index words_then generation_word ≡ (state_of sizes later).generations)
+      (nodes : NodesStand sizes later later_stands words_then) (roots : RootsStand sizes later words_then) where
+    pub all_then : AllStand sizes later later_stands words_then
+    all_then = record {
+      bounds = makes.bounds;
+      keys = All-append FitsKey account.steps (step.Go actor ∷ []) all.keys (All-cons FitsKey (step.Go actor) [] tt (All-nil FitsKey));
+      counted = (let one = length-append account.names (name ∷ []) in omega (arith, one, all.counted, makes.births));
+      size = size;
+      taken = have;
+      generations = generations;
+      nodes = nodes;
+      roots = roots;
+    }

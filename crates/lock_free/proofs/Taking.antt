@@ -17,7 +17,7 @@ use Rattle.lock_free.specs.Nodes.{class_of}
 use Rattle.lock_free.specs.Places.{words_in, slots_in, part_of, first_slot_word, words_of, taken_word, generation_word, pin_word, root_word, IsTaken, HaveTaken}
 use Rattle.lock_free.specs.Roots.{MeansRoot}
 use Rattle.lock_free.specs.Rules.{Stands, NodesStand, RootsStand, IsClosing, SaysClosing, IsFree, IsSpare, AreDrafts, IsSeat, IsKept}
-use Rattle.lock_free.proofs.Assembling.{AllStand, all_stand, closing_stays, assembled}
+use Rattle.lock_free.proofs.Assembling.{AllStand, closing_stays, assembled}
 use Rattle.lock_free.proofs.Framing.{else_word, class_small, has_words, no_slot, nodes_below, meaning_below, written_below, blocks_below}
 use Rattle.lock_free.proofs.Geometry.{IsWordOf, slots_apart, root_below}
 use Rattle.lock_free.proofs.Pools.{free_still, was_free, once_with}
@@ -28,9 +28,6 @@ same_class b c e = omega (arith, e)
 
 module _ (sizes : Sizes) (s : Table.State Call View) (kept : IsKept sizes s) (id : ℕ) (v : View) (at : get_elem? s.views id ≡ some v) (class : ℕ) (small : class < 3)
     (few : slice_index s.words (taken_word class) < slots_in sizes class) (name : ℕ) (first : 2 * name ≡ part_of sizes class + words_in class * slice_index s.words (taken_word class)) where
-  abbrev all : AllStand sizes kept.account kept.stands s.words
-  all = all_stand sizes s kept
-
   abbrev pub number : ℕ
   number = slice_index s.words (taken_word class)
 
@@ -102,10 +99,10 @@ module _ (sizes : Sizes) (s : Table.State Call View) (kept : IsKept sizes s) (id
   roots_then : RootsStand sizes kept.account words_then
   roots_then = record {
     means = λ handle low. subst (λ n. MeansRoot kept.account words_then n (root_at (state_of sizes kept.account) handle)) (sym (root_same handle low))
-        (meaning_below sizes kept.account kept.stands s.words all (taken_word class) before_slots (number + 1) taken_then (slice_index s.words (root_word handle)) (root_at (state_of sizes kept.account) handle)
+        (meaning_below sizes kept.account kept.stands s.words kept.taken kept.nodes kept.roots (taken_word class) before_slots (number + 1) taken_then (slice_index s.words (root_word handle)) (root_at (state_of sizes kept.account) handle)
             (kept.roots.means handle low));
-    offers = λ k c. written_below sizes kept.account kept.stands s.words all (taken_word class) before_slots (number + 1) taken_then k c;
-    blocks = λ k c. blocks_below sizes kept.account kept.stands s.words all (taken_word class) before_slots (number + 1) taken_then k c;
+    offers = λ k c. written_below sizes kept.account kept.stands s.words kept.taken kept.nodes kept.roots (taken_word class) before_slots (number + 1) taken_then k c;
+    blocks = λ k c. blocks_below sizes kept.account kept.stands s.words kept.taken kept.nodes kept.roots (taken_word class) before_slots (number + 1) taken_then k c;
     single = kept.roots.single;
   }
 
@@ -117,14 +114,14 @@ module _ (sizes : Sizes) (s : Table.State Call View) (kept : IsKept sizes s) (id
     size = length-set s.words (taken_word class) (number + 1) ∙ kept.size;
     taken = have_then;
     generations = same generation_word (λ e. absurd (omega (arith, e))) ∙ kept.generations;
-    nodes = nodes_below sizes kept.account kept.stands s.words all (taken_word class) before_slots (number + 1) taken_then;
+    nodes = nodes_below sizes kept.account kept.stands s.words kept.taken kept.nodes kept.roots (taken_word class) before_slots (number + 1) taken_then;
     roots = roots_then;
   }
 
   -- ---- seats
 
   slot_words : (b other : ℕ) → b < 3 → IsTaken sizes s.words b other → (j : ℕ) → IsWordOf b other j → slice_index words_then j ≡ slice_index s.words j
-  slot_words b other low h j its = same j (no_slot sizes kept.account kept.stands s.words all (taken_word class) before_slots (number + 1) taken_then b other low h j its)
+  slot_words b other low h j its = same j (no_slot sizes kept.account kept.stands s.words kept.taken kept.nodes kept.roots (taken_word class) before_slots (number + 1) taken_then b other low h j its)
 
   stays : Stays sizes s kept id v at kept.account kept.stands words_then
   stays = record {

@@ -104,8 +104,8 @@ pub record NamesNot (k : ℕ) (account : Account) (state : State) : Type 0 where
   pub aheads : (i a f : Ref) → IsAhead state i a f → (slot_of i ≢ k) × (slot_of a ≢ k) × (slot_of f ≢ k)
   pub offers : (x : Known) → Contains account.offers x → (r : Ref) → Contains (refs_of_offer x.offer) r → slot_of r ≢ k
 
--- the actor's operation makes this node; its number is that of the nodes made before
-pub record Makes (sizes : Sizes) (account after : Account) (actor : ℕ) (operation : Operation) (node : Node) : Type 0 where
+-- the actor's operation makes this node; its number is that of the nodes made before; and so many generations more are given out: one with the root of a copy
+pub record Makes (sizes : Sizes) (account after : Account) (actor : ℕ) (operation : Operation) (node : Node) (more : ℕ) : Type 0 where
   pub bounds : AreBounds (bounds_for sizes after.steps)
   pub names_not : NamesNot (length account.names) account (state_of sizes account)
   pub refs : (r : Ref) → Contains (refs_of_node node) r → slot_of r ≢ length account.names
@@ -120,7 +120,7 @@ pub record Makes (sizes : Sizes) (account after : Account) (actor : ℕ) (operat
       slot_of (main_at (state_of sizes after).heap i) ≡ k → slot.prev ≡ prev.None
   pub live : (r : Ref) → IsLive (state_of sizes after) r → IsLive (state_of sizes account) r ⊎ (slot_of r ≡ length account.names)
   pub roots : (state_of sizes after).roots ≡ (state_of sizes account).roots
-  pub generations : (state_of sizes after).generations ≡ (state_of sizes account).generations
+  pub generations : (state_of sizes after).generations ≡ (state_of sizes account).generations + more
   pub others : (a : ℕ) → a ≢ actor → operation_of (state_of sizes after) a ≡ operation_of (state_of sizes account) a
   pub own : operation_of (state_of sizes after) actor ≡ Some (operation_after (state_of sizes account) operation)
   -- it is about to swap the node in, if it is a main node to be swapped in; nobody else is who wasn't
