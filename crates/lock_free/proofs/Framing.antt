@@ -271,3 +271,14 @@ module _ (sizes : Sizes) (account : Account) (stands : Standing) (words : List �
 
   pub blocks_below : (k : Known) → Contains account.offers k → IsTaken sizes (set words i x) 1 k.slot
   blocks_below k c = taken 1 k.slot (omega arith) (roots.blocks k c)
+
+  -- which is no handle's
+  pub roots_below : ((handle : ℕ) → handle < handle_limit → root_word handle ≢ i) → RootsStand sizes account (set words i x)
+  roots_below no_root = record {
+    means = λ handle low.
+        subst (λ n. MeansRoot account (set words i x) n (root_at (state_of sizes account) handle)) (sym (else_word account words i x (root_word handle) (no_root handle low)))
+        (meaning_below (slice_index words (root_word handle)) (root_at (state_of sizes account) handle) (roots.means handle low));
+    offers = written_below;
+    blocks = blocks_below;
+    single = roots.single;
+  }

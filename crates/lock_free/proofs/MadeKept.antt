@@ -1,6 +1,6 @@
 -- The last store to a free slot of a seat makes the node that is written there, and the exchange of the count of generations makes the root of a copy that is.
 use Rattle.history.specs.declared.calls.Call.{Call}
-use Rattle.std.proofs.Common.{◌≡◌, ◌≢◌, ◌+◌, ◌*◌, ◌⊎◌, ℕ, zero, suc, ◌<◌, ◌≤◌, inl, inr, Bool, true, false, List, [], ◌∷◌, ◌++◌, Contains, All, length, set, get_or, slice_index, is_some, Option, Some, None, refl, sym, ap, subst, ◌∙◌, arith}
+use Rattle.std.proofs.Common.{length-set, ◌≡◌, ◌≢◌, ◌+◌, ◌*◌, ◌⊎◌, ℕ, zero, suc, ◌<◌, ◌≤◌, inl, inr, Bool, true, false, List, [], ◌∷◌, ◌++◌, Contains, All, length, set, get_or, slice_index, is_some, Option, Some, None, refl, sym, ap, subst, ◌∙◌, arith}
 use Rattle.std.proofs.lemmas.Bool.{cases_eq}
 use Rattle.std.proofs.lemmas.Option.{same_Some}
 use Rattle.std.proofs.lemmas.List.{get_or-set_same}
@@ -26,11 +26,11 @@ use Rattle.lock_free.specs.declared.rules.View.{View}
 use Rattle.lock_free.specs.declared.sizes.Sizes.{Sizes}
 use Rattle.lock_free.specs.Accounts.{state_of, place_at, HasWaited, IsOfOther}
 use Rattle.lock_free.specs.Nodes.{Has, InTable, AreEntries, class_of}
-use Rattle.lock_free.specs.Making.{over_of, Drafted, DraftsNode, owned_with, made_at, Makes, with_slots, made_by}
-use Rattle.lock_free.specs.Places.{words_in, first_slot_word, pin_word, root_word, IsTaken}
-use Rattle.lock_free.specs.Rules.{Standing, Stands, IsClosing, SaysClosing, IsFree, IsSpare, IsSeat, HasActor, IsKept, Once, pool_of, pin_word_of}
+use Rattle.lock_free.specs.Making.{over_of, Drafted, AreDrafted, DraftsNode, owned_with, made_at, Makes, with_slots, made_by}
+use Rattle.lock_free.specs.Places.{words_in, slots_in, first_slot_word, generation_word, taken_word, pin_word, root_word, IsTaken}
+use Rattle.lock_free.specs.Rules.{Standing, Stands, NodesStand, RootsStand, IsClosing, SaysClosing, IsFree, IsSpare, IsSeat, HasActor, IsKept, Once, pool_of, pin_word_of}
 use Rattle.lock_free.proofs.Assembling.{AllStand, all_stand, not_its, other_actor, closing_stays, assembled}
-use Rattle.lock_free.proofs.Framing.{has_words, stored, other_word, low_word, taken_over, all_over, class_small}
+use Rattle.lock_free.proofs.Framing.{else_word, no_slot, nodes_below, roots_below, stored, other_word, low_word, taken_over, all_over, class_small}
 use Rattle.lock_free.proofs.Geometry.{IsWordOf, slots_apart, inside, root_below}
 use Rattle.lock_free.proofs.Made.{stands_too, stands_else, place_else, place_last}
 use Rattle.lock_free.proofs.MadeAll.{all_then, nodes_then, roots_then}
@@ -105,3 +105,52 @@ module _ (sizes : Sizes) (s : Table.State Call View) (kept : IsKept sizes s) (id
     make_kept =
         made_kept sizes s kept id v at operation runs name own node 0 makes rest pool words_then all_made (λ a most. low (pin_word a) (omega (arith, most)))
         (λ handle below. (let where_it_is = root_below handle below in low (root_word handle) (omega (arith, where_it_is.1)))) still slot_same
+
+  -- ---- by the exchange of the count of generations
+
+  module _ (makes : Makes sizes kept.account (made_at v.actor name own node kept.account) v.actor operation node 1)
+      (drafted : DraftsNode kept.account (state_of sizes kept.account).heap (over_of operation.line) (AreDrafted v.drafts) name own node) where
+    root_spare : IsTaken sizes s.words (class_of node) name × IsSpare sizes kept.account kept.stands name
+    root_spare = its_spare sizes s kept id v at operation runs name own node 1 makes rest pool
+
+    abbrev pub given_out : ℕ
+    given_out = slice_index s.words generation_word
+
+    abbrev pub root_words : List ℕ
+    root_words = set s.words generation_word (given_out + 1)
+
+    beside : (j : ℕ) → j ≢ generation_word → slice_index root_words j ≡ slice_index s.words j
+    beside = else_word kept.account s.words generation_word (given_out + 1)
+
+    root_drafted : DraftsNode kept.account (state_of sizes kept.account).heap (over_of operation.line) (InTable s.words) name own node
+    root_drafted =
+        drafts_in kept.account (state_of sizes kept.account).heap (over_of operation.line) (AreDrafted v.drafts) (InTable s.words) name own node (λ j w c. ((kept.seats id v at).drafts (j, w) c).0) drafted
+
+    root_nodes : NodesStand sizes (made_at v.actor name own node kept.account) (stands_too (length kept.account.names) kept.stands) s.words
+    root_nodes = nodes_then sizes kept.account v.actor operation name own node 1 makes kept.stands s.words all root_spare.0 root_spare.1 small root_drafted
+
+    root_roots : RootsStand sizes (made_at v.actor name own node kept.account) s.words
+    root_roots = roots_then sizes kept.account v.actor operation name own node 1 makes kept.stands s.words all root_spare.0 root_spare.1 small root_drafted
+
+    before_slots : generation_word < first_slot_word sizes
+    before_slots = omega arith
+
+    root_taken : (b n : ℕ) → b < 3 → IsTaken sizes s.words b n → IsTaken sizes root_words b n
+    root_taken b n low h = record { number = h.number; few = subst (λ m. h.number < m) (sym (beside (taken_word b) (λ e. absurd (omega (arith, e))))) h.few; first = h.first }
+
+    root_made : AllStand sizes (made_at v.actor name own node kept.account) (stands_too (length kept.account.names) kept.stands) root_words
+    root_made =
+        all_then sizes kept.account v.actor operation name own node 1 makes kept.stands s.words all root_spare.0 root_spare.1 small root_drafted root_words
+        (length-set s.words generation_word (given_out + 1) ∙ kept.size)
+        (λ c low. subst (λ n. n ≤ slots_in sizes c) (sym (beside (taken_word c) (λ e. absurd (omega (arith, e))))) (kept.taken c low))
+        (let size = kept.size in let same = get_or-set_same s.words generation_word (given_out + 1) 0 (omega (arith, size)) in let before = kept.generations in let one = makes.generations in omega (arith, same, before, one))
+        (nodes_below sizes (made_at v.actor name own node kept.account) (stands_too (length kept.account.names) kept.stands) s.words kept.taken root_nodes root_roots generation_word before_slots (given_out + 1) root_taken)
+        (roots_below sizes (made_at v.actor name own node kept.account) (stands_too (length kept.account.names) kept.stands) s.words kept.taken root_nodes root_roots generation_word before_slots (given_out + 1) root_taken
+            (λ handle low e. (let where_it_is = root_below handle low in absurd (omega (arith, e, where_it_is.0)))))
+
+    -- the rule holds
+    pub make_root_kept : IsKept sizes (record { words = root_words; homes = s.homes; views = set s.views id (made_by v (class_of node) name rest own node kept.account) })
+    make_root_kept =
+        made_kept sizes s kept id v at operation runs name own node 1 makes rest pool root_words root_made (λ a most. beside (pin_word a) (λ e. absurd (omega (arith, e))))
+        (λ handle below. (let where_it_is = root_below handle below in beside (root_word handle) (λ e. absurd (omega (arith, e, where_it_is.0))))) root_taken
+        (λ b other low differs taken j its. beside j (no_slot sizes kept.account kept.stands s.words kept.taken kept.nodes kept.roots generation_word before_slots (given_out + 1) root_taken b other low taken j its))

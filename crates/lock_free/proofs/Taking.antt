@@ -18,7 +18,7 @@ use Rattle.lock_free.specs.Places.{words_in, slots_in, part_of, first_slot_word,
 use Rattle.lock_free.specs.Roots.{MeansRoot}
 use Rattle.lock_free.specs.Rules.{Stands, NodesStand, RootsStand, IsClosing, SaysClosing, IsFree, IsSpare, AreDrafts, IsSeat, IsKept}
 use Rattle.lock_free.proofs.Assembling.{AllStand, closing_stays, assembled}
-use Rattle.lock_free.proofs.Framing.{else_word, class_small, has_words, no_slot, nodes_below, meaning_below, written_below, blocks_below}
+use Rattle.lock_free.proofs.Framing.{else_word, class_small, has_words, no_slot, nodes_below, roots_below}
 use Rattle.lock_free.proofs.Geometry.{IsWordOf, slots_apart, root_below}
 use Rattle.lock_free.proofs.Pools.{free_still, was_free, once_with}
 use Rattle.lock_free.proofs.Seats.{Stays, other_kept, own_still}
@@ -96,16 +96,6 @@ module _ (sizes : Sizes) (s : Table.State Call View) (kept : IsKept sizes s) (id
 
   -- ---- what stands
 
-  roots_then : RootsStand sizes kept.account words_then
-  roots_then = record {
-    means = λ handle low. subst (λ n. MeansRoot kept.account words_then n (root_at (state_of sizes kept.account) handle)) (sym (root_same handle low))
-        (meaning_below sizes kept.account kept.stands s.words kept.taken kept.nodes kept.roots (taken_word class) before_slots (number + 1) taken_then (slice_index s.words (root_word handle)) (root_at (state_of sizes kept.account) handle)
-            (kept.roots.means handle low));
-    offers = λ k c. written_below sizes kept.account kept.stands s.words kept.taken kept.nodes kept.roots (taken_word class) before_slots (number + 1) taken_then k c;
-    blocks = λ k c. blocks_below sizes kept.account kept.stands s.words kept.taken kept.nodes kept.roots (taken_word class) before_slots (number + 1) taken_then k c;
-    single = kept.roots.single;
-  }
-
   all_then : AllStand sizes kept.account kept.stands words_then
   all_then = record {
     bounds = kept.bounds;
@@ -115,7 +105,8 @@ module _ (sizes : Sizes) (s : Table.State Call View) (kept : IsKept sizes s) (id
     taken = have_then;
     generations = same generation_word (λ e. absurd (omega (arith, e))) ∙ kept.generations;
     nodes = nodes_below sizes kept.account kept.stands s.words kept.taken kept.nodes kept.roots (taken_word class) before_slots (number + 1) taken_then;
-    roots = roots_then;
+    roots = roots_below sizes kept.account kept.stands s.words kept.taken kept.nodes kept.roots (taken_word class) before_slots (number + 1) taken_then
+        (λ handle low e. (let where_it_is = root_below handle low in absurd (omega (arith, e, where_it_is.0, small))));
   }
 
   -- ---- seats

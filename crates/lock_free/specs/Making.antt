@@ -47,6 +47,9 @@ over_of l = None
 
 -- ---- what the seat has written
 
+abbrev pub AreDrafted : List (ℕ × ℕ) → Has
+AreDrafted drafts i word = Contains drafts (i, word)
+
 -- the words of its drafts, and this one more, which is written last
 abbrev pub Drafted : List (ℕ × ℕ) → ℕ → ℕ → Has
 Drafted drafts last value i word = (i ≡ last → word ≡ value) × (i ≢ last → Contains drafts (i, word))
