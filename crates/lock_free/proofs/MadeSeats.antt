@@ -1,0 +1,150 @@
+-- A seat's operation makes a node in a free slot of its own: the rule for all seats, from what stands in words then.
+use Rattle.history.specs.declared.calls.Call.{Call}
+use Rattle.std.proofs.Common.{◌≡◌, ◌≢◌, ◌+◌, ◌*◌, ◌⊎◌, ℕ, zero, suc, ◌<◌, ◌≤◌, inl, inr, Bool, true, false, List, [], ◌∷◌, ◌++◌, Contains, All, length, set, get_or, slice_index, is_some, Option, Some, None, refl, sym, ap, subst, ◌∙◌, arith}
+use Rattle.std.proofs.lemmas.Bool.{cases_eq}
+use Rattle.std.proofs.lemmas.Option.{same_Some}
+use Rattle.std.proofs.lemmas.List.{get_or-set_same}
+use Rattle.std.proofs.lemmas.List.Elements.{All-cons, All-nil, Contains-append_left, Contains-append_right, Contains-append_cases, Contains-push, Contains-get_or}
+use mathlib.Core.Option.{some}
+use lib.ListN.{get_elem?}
+use Rattle.atomic_table.specs.Table as Table
+use Rattle.machine_model.specs.Beneath.slot_arena.specs.declared.refs.Ref.{Ref}
+use Rattle.machine_model.specs.Beneath.slot_arena.specs.declared.nodes.Node.{Node}
+use Rattle.machine_model.specs.Beneath.slot_arena.specs.declared.nodes.Node.TheVariants.{Indirection, Branch, Single, Tomb, List as Listed}
+use Rattle.machine_model.specs.Beneath.slot_arena.specs.declared.nodes.Slot.{Slot}
+use Rattle.machine_model.specs.Beneath.slot_arena.specs.Heaps.{Heap, entries_of}
+use Rattle.machine_model.specs.Calls.{handle_of}
+use Rattle.machine_model.specs.declared.steps.Step.TheVariants as step
+use Rattle.machine_model.specs.declared.operations.Operation.{Operation}
+use Rattle.machine_model.specs.Acting.{operation_after}
+use Rattle.machine_model.specs.States.{State, operation_of, root_at, handle_limit}
+use Rattle.lock_free.specs.declared.accounts.Account.{Account}
+use Rattle.lock_free.specs.declared.accounts.Known.{Known}
+use Rattle.lock_free.specs.declared.accounts.Owned.{Owned}
+use Rattle.lock_free.specs.declared.rules.Pool.{Pool}
+use Rattle.lock_free.specs.declared.rules.View.{View}
+use Rattle.lock_free.specs.declared.sizes.Sizes.{Sizes}
+use Rattle.lock_free.specs.Accounts.{state_of, place_at, HasWaited, IsOfOther}
+use Rattle.lock_free.specs.Nodes.{Has, InTable, AreEntries, class_of}
+use Rattle.lock_free.specs.Making.{over_of, Drafted, DraftsNode, owned_with, made_at, Makes, with_slots, made_by}
+use Rattle.lock_free.specs.Places.{words_in, first_slot_word, pin_word, root_word, IsTaken}
+use Rattle.lock_free.specs.Rules.{Standing, Stands, IsClosing, SaysClosing, IsFree, IsSpare, IsSeat, HasActor, IsKept, Once, pool_of, pin_word_of}
+use Rattle.lock_free.proofs.Assembling.{AllStand, all_stand, not_its, other_actor, closing_stays, assembled}
+use Rattle.lock_free.proofs.Framing.{has_words, stored, other_word, low_word, taken_over, all_over, class_small}
+use Rattle.lock_free.proofs.Geometry.{IsWordOf, slots_apart, inside, root_below}
+use Rattle.lock_free.proofs.Made.{stands_too, stands_else, place_else, place_last}
+use Rattle.lock_free.proofs.Pools.{once_rest, pool_same, pool_else}
+use Rattle.lock_free.proofs.Seats.{Stays, StaysSpare, other_kept, own_kept}
+use Rattle.lock_free.proofs.Waiting.{waited_none, waited_more}
+
+
+module _ (sizes : Sizes) (s : Table.State Call View) (kept : IsKept sizes s) (id : ℕ) (v : View) (at : get_elem? s.views id ≡ some v) (operation : Operation)
+    (runs : operation_of (state_of sizes kept.account) v.actor ≡ Some operation) (name : ℕ) (own : Bool) (node : Node) (more : ℕ)
+    (makes : Makes sizes kept.account (made_at v.actor name own node kept.account) v.actor operation node more) (rest : List ℕ) (pool : pool_of v.pool (class_of node) ≡ rest ++ name ∷ []) where
+  abbrev pub account_then : Account
+  account_then = made_at v.actor name own node kept.account
+
+  abbrev pub stands_then : Standing
+  stands_then = stands_too (length kept.account.names) kept.stands
+
+  abbrev pub view_then : View
+  view_then = made_by v (class_of node) name rest own node kept.account
+
+  seat : IsSeat sizes kept.account kept.stands s.words v
+  seat = kept.seats id v at
+
+  pub its_own : IsFree v (class_of node) name
+  its_own = (class_small node, subst (λ xs. Contains xs name) (sym pool) (Contains-append_right rest (name ∷ []) name (Contains-get_or (name ∷ []) 0 name (omega arith))))
+
+  pub its_spare : IsTaken sizes s.words (class_of node) name × IsSpare sizes kept.account kept.stands name
+  its_spare = seat.spare (class_of node) name its_own
+
+  same_root : (handle : ℕ) → root_at (state_of sizes account_then) handle ≡ root_at (state_of sizes kept.account) handle
+  same_root handle = ap (λ rs. get_or rs handle None) makes.roots
+
+  -- a slot that is another one is spare still
+  spare_then : (other : ℕ) → other ≢ name → IsSpare sizes kept.account kept.stands other → IsSpare sizes account_then stands_then other
+  spare_then other differs h = (
+    λ k slot e p. elim (cases_eq k (length kept.account.names)) [
+      | inl new ↦ differs (sym p ∙ ap (λ n. get_or (kept.account.names ++ name ∷ []) n 0) new ∙ place_last kept.account.names name)
+      | inr old ↦ h.0 k slot (sym (stands_else (length kept.account.names) kept.stands k old) ∙ e.0, sym (makes.nodes k old) ∙ e.1) (sym (place_else kept.account.names name k old) ∙ p)
+    ],
+    h.1,
+  )
+
+  waits : (actor : ℕ) (before : Account) → actor ≢ v.actor → HasWaited actor before kept.account → HasWaited actor before account_then
+  waits actor before differs h =
+      subst (λ owned. HasWaited actor before (record { steps = kept.account.steps ++ step.Go v.actor ∷ []; names = kept.account.names ++ name ∷ []; owned = owned; offers = kept.account.offers }))
+      (owned_is node)
+      (waited_more actor before kept.account (step.Go v.actor ∷ []) (name ∷ []) (owned_more node) [] (All-cons (IsOfOther actor) (step.Go v.actor) [] (λ e. differs (sym e)) (All-nil (IsOfOther actor))) h)
+    where
+      owned_more : Node → List Owned
+      owned_more n = owned_with [] (length kept.account.names) own n
+
+      owned_is : (n : Node) → owned_with [] (length kept.account.names) own n ++ kept.account.owned ≡ owned_with kept.account.owned (length kept.account.names) own n
+      owned_is (Indirection generation main) = refl
+      owned_is (Branch bitmap entries) = refl
+      owned_is (Single key value') = refl
+      owned_is (Tomb single) = refl
+      owned_is (Listed singles) = refl
+
+  -- what is free for the seat then was free before, and is another slot
+  was_free : (b other : ℕ) → IsFree view_then b other → IsFree v b other × (other ≢ name)
+  was_free b other f = elim (cases_eq b (class_of node)) [
+    | inl same ↦
+        (let inside_rest : Contains rest other = subst (λ xs. Contains xs other) (ap (λ n. pool_of view_then.pool n) same ∙ pool_same v.pool (class_of node) rest (class_small node)) f.1 in
+        let alone = once_rest rest name (subst Once pool (seat.once (class_of node) (class_small node))) in (
+          (f.0, subst (λ xs. Contains xs other) (sym (ap (λ n. pool_of v.pool n) same ∙ pool)) (Contains-append_left rest (name ∷ []) other inside_rest)),
+          λ is. alone.1 (subst (λ n. Contains rest n) is inside_rest),
+        ))
+    | inr differs ↦
+        (let before : IsFree v b other = (f.0, subst (λ xs. Contains xs other) (pool_else v.pool (class_of node) b rest (class_small node) f.0 differs) f.1) in (
+          before,
+          λ is. differs
+              (slots_apart sizes s.words kept.taken b (class_of node) other name (2 * name) f.0 (class_small node) (seat.spare b other before).0 its_spare.0
+              (record { low = omega (arith, is); high = (let some = has_words b f.0 in omega (arith, is, some)) }) (record { low = omega arith; high = (let some = has_words (class_of node) (class_small node) in omega (arith, some)) })).0,
+        ))
+  ]
+
+  once_then : (b : ℕ) → b < 3 → Once (pool_of view_then.pool b)
+  once_then b small_b = elim (cases_eq b (class_of node)) [
+    | inl same ↦ subst Once (sym (ap (λ n. pool_of view_then.pool n) same ∙ pool_same v.pool (class_of node) rest (class_small node)))
+        (once_rest rest name (subst Once pool (seat.once (class_of node) (class_small node)))).0
+    | inr differs ↦ subst Once (sym (pool_else v.pool (class_of node) b rest (class_small node) small_b differs)) (seat.once b small_b)
+  ]
+
+
+  module _ (words_then : List ℕ) (made_all : AllStand sizes account_then stands_then words_then) (pin_same : (a : ℕ) → a ≤ sizes.seats → slice_index words_then (pin_word a) ≡ slice_index s.words (pin_word a))
+      (root_same : (handle : ℕ) → handle < handle_limit → slice_index words_then (root_word handle) ≡ slice_index s.words (root_word handle))
+      (taken : (b other : ℕ) → b < 3 → IsTaken sizes s.words b other → IsTaken sizes words_then b other)
+      (slot_same : (b other : ℕ) → b < 3 → other ≢ name → IsTaken sizes s.words b other → (j : ℕ) → IsWordOf b other j → slice_index words_then j ≡ slice_index s.words j) where
+    stays : Stays sizes s kept id v at account_then stands_then words_then
+    stays = record {
+      waits = waits;
+      others = makes.others;
+      pins = λ a most apart. pin_same a most;
+      taken_numbers = λ handle below none. sym (root_same handle below) ∙ none;
+      still_open = λ handle e. ap is_some (same_root handle) ∙ e;
+      taken = taken;
+      spare = λ other w b free_name e apart free.
+          (let x = (kept.seats other w e).spare b free_name free in
+          let differs : free_name ≢ name = λ same. apart (kept.pools other id w v b (class_of node) name e at (subst (λ n. IsFree w b n) same free) its_own) in
+          (spare_then free_name differs x.1, slot_same b free_name free.0 differs x.0));
+    }
+
+    own_then : IsSeat sizes account_then stands_then words_then view_then
+    own_then =
+        own_kept sizes s kept id v at account_then stands_then words_then stays operation (operation_after (state_of sizes kept.account) operation) runs makes.own refl refl made_all.counted
+        (pin_same v.actor (omega (arith, seat.top, seat.most))) view_then.pool []
+        (λ b other f. (let before = was_free b other f in let x = seat.spare b other before.0 in (taken b other f.0 x.0, spare_then other before.1 x.1))) once_then
+        (λ d c. absurd (omega (arith, c.1)))
+
+    closings_then : (handle who : ℕ) → handle < handle_limit → SaysClosing (slice_index words_then (root_word handle)) who → IsClosing (set s.views id view_then) handle who
+    closings_then handle who low_handle says =
+        closing_stays sizes s kept id v at view_then refl refl (λ h e. e) refl handle who (kept.closings handle who low_handle (subst (λ n. SaysClosing n who) (root_same handle low_handle) says))
+
+    -- the rule holds
+    pub made_kept : IsKept sizes (record { words = words_then; homes = s.homes; views = set s.views id view_then })
+    made_kept =
+        assembled sizes s kept id v at view_then refl refl account_then stands_then words_then made_all closings_then own_then (other_kept sizes s kept id v at account_then stands_then words_then stays)
+        (λ b other f. inl (was_free b other f).0) (λ handle e. inl e)

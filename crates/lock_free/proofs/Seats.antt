@@ -1,0 +1,133 @@
+-- What an access of one seat leaves of the seats.
+use Rattle.history.specs.declared.calls.Call.{Call}
+use Rattle.std.proofs.Common.{◌≡◌, ◌≢◌, ◌+◌, ◌*◌, ℕ, ◌<◌, ◌≤◌, Bool, true, List, [], ◌∷◌, Contains, get_or, slice_index, is_some, length, Some, None, refl, sym, ap, subst, ◌∙◌, arith}
+use Rattle.std.proofs.lemmas.Option.{same_Some}
+use mathlib.Core.Option.{some}
+use lib.ListN.{get_elem?}
+use Rattle.atomic_table.specs.Table as Table
+use Rattle.machine_model.specs.Calls.{handle_of}
+use Rattle.machine_model.specs.declared.operations.Operation.{Operation}
+use Rattle.machine_model.specs.States.{State, operation_of, root_at, handle_limit}
+use Rattle.lock_free.specs.declared.accounts.Account.{Account}
+use Rattle.lock_free.specs.declared.rules.Pool.{Pool}
+use Rattle.lock_free.specs.declared.rules.View.{View}
+use Rattle.lock_free.specs.declared.sizes.Sizes.{Sizes}
+use Rattle.lock_free.specs.Accounts.{state_of, HasWaited}
+use Rattle.lock_free.specs.Places.{pin_word, root_word, IsTaken}
+use Rattle.lock_free.specs.Rules.{Standing, AreDrafts, Once, pool_of, IsFree, IsSpare, IsSeat, IsKept}
+use Rattle.lock_free.proofs.Assembling.{not_its, other_actor}
+use Rattle.lock_free.proofs.Geometry.{IsWordOf}
+use Rattle.lock_free.proofs.Waiting.{waited_none}
+
+module _ (sizes : Sizes) (s : Table.State Call View) (kept : IsKept sizes s) (id : ℕ) (v : View) (at : get_elem? s.views id ≡ some v) (account : Account) (stands : Standing) (words : List ℕ) where
+  -- the slot is spare then, and its words are what they were
+  abbrev pub StaysSpare : ℕ → ℕ → Type 0
+  StaysSpare b name = IsSpare sizes account stands name × ((j : ℕ) → IsWordOf b name j → slice_index words j ≡ slice_index s.words j)
+
+  -- the access keeps what other seats rely on
+  pub record Stays : Type 0 where
+    pub waits : (actor : ℕ) (first : Account) → actor ≢ v.actor → HasWaited actor first kept.account → HasWaited actor first account
+    pub others : (a : ℕ) → a ≢ v.actor → operation_of (state_of sizes account) a ≡ operation_of (state_of sizes kept.account) a
+    pub pins : (a : ℕ) → a ≤ sizes.seats → a ≢ v.actor → slice_index words (pin_word a) ≡ slice_index s.words (pin_word a)
+    pub taken_numbers : (handle : ℕ) → handle < handle_limit → slice_index words (root_word handle) ≡ 0 → slice_index s.words (root_word handle) ≡ 0
+    pub still_open : (handle : ℕ) → is_some (root_at (state_of sizes kept.account) handle) ≡ true → is_some (root_at (state_of sizes account) handle) ≡ true
+    pub taken : (b name : ℕ) → b < 3 → IsTaken sizes s.words b name → IsTaken sizes words b name
+    pub spare : (other : ℕ) (w : View) (b name : ℕ) → get_elem? s.views other ≡ some w → (other ≡ id → ⊥) → IsFree w b name → StaysSpare b name
+
+  -- the seat with what is free for it then and what it has written there
+  abbrev pub seat_then : Pool → List (ℕ × ℕ) → View
+  seat_then pool drafts = record v { account = account; pool = pool; drafts = drafts }
+
+  module _ (stays : Stays) where
+    -- what is free and written stays so
+    pub drafts_kept : (w : View) (d : ℕ × ℕ) → AreDrafts s.words v d → ((b name : ℕ) → IsFree v b name → IsFree w b name × ((j : ℕ) → IsWordOf b name j → slice_index words j ≡ slice_index s.words j)) → AreDrafts words w d
+    drafts_kept w d x still =
+        let slot = x.1 in
+        let free = still slot.0 slot.1 slot.2 in
+        (free.1 d.0 (record { low = slot.3; high = slot.4 }) ∙ x.0, (slot.0, slot.1, free.0, slot.3, slot.4))
+
+    pub other_kept : (other : ℕ) (w : View) → get_elem? s.views other ≡ some w → (other ≡ id → ⊥) → IsSeat sizes account stands words w
+    other_kept other w e apart =
+        let h = kept.seats other w e in
+        let differs = other_actor sizes s kept id v at v refl refl other w e apart in
+        let not_mine = not_its sizes s kept id v at v refl refl other w e apart in
+        record {
+          same = h.same;
+          low = h.low;
+          top = h.top;
+          most = h.most;
+          waited = stays.waits w.actor w.account differs h.waited;
+          counts = h.counts;
+          rests = λ a above below.
+              (let r = h.rests a above below in
+              let its = not_mine a (omega (arith, above), below) in
+              (stays.others a its ∙ r.0, stays.pins a (omega (arith, below, h.most)) its ∙ r.1));
+          pinned = stays.pins w.actor (omega (arith, h.top, h.most)) differs ∙ h.pinned;
+          entered = λ handle f. (let x = h.entered handle f in (x.0, stays.still_open handle x.1, x.2));
+          calls = λ o f. h.calls o (sym (stays.others w.actor differs) ∙ f);
+          opens = λ handle f. (let x = h.opens handle f in (x.0, λ none. x.1 (stays.taken_numbers handle x.0 none)));
+          reserves = λ o f handle is. h.reserves o (sym (stays.others w.actor differs) ∙ f) handle is;
+          spare = λ b name f. (let x = h.spare b name f in (stays.taken b name f.0 x.0, (stays.spare other w b name e apart f).0));
+          once = h.once;
+          drafts = λ d c.
+              (let x = h.drafts d c in
+              let slot = x.1 in
+              ((stays.spare other w slot.0 slot.1 e apart slot.2).1 d.0 (record { low = slot.3; high = slot.4 }) ∙ x.0, slot));
+        }
+
+    -- and the seat itself, where the access is its operation's step, with what is free for it then and what it has written there
+    module _ (operation next : Operation) (runs : operation_of (state_of sizes kept.account) v.actor ≡ Some operation) (goes_on : operation_of (state_of sizes account) v.actor ≡ Some next)
+        (same_call : next.call ≡ operation.call) (same_opens : next.opens ≡ operation.opens) (counted : length account.names ≡ (state_of sizes account).heap.births)
+        (own_pin : slice_index words (pin_word v.actor) ≡ slice_index s.words (pin_word v.actor)) (pool : Pool) (drafts : List (ℕ × ℕ))
+        (spare : (b name : ℕ) → IsFree (seat_then pool drafts) b name → IsTaken sizes words b name × IsSpare sizes account stands name) (once : (b : ℕ) → b < 3 → Once (pool_of pool b))
+        (written : (d : ℕ × ℕ) → Contains drafts d → AreDrafts words (seat_then pool drafts) d) where
+      pub own_kept : IsSeat sizes account stands words (seat_then pool drafts)
+      own_kept =
+          let h = kept.seats id v at in
+          record {
+            same = h.same;
+            low = h.low;
+            top = h.top;
+            most = h.most;
+            waited = waited_none v.actor account;
+            counts = counted;
+            rests = λ a above below.
+                (let r = h.rests a above below in
+                let its : a ≢ v.actor = λ is. absurd (omega (arith, above, is)) in
+                (stays.others a its ∙ r.0, stays.pins a (omega (arith, below, h.most)) its ∙ r.1));
+            pinned = own_pin ∙ h.pinned;
+            entered = λ handle f. (let x = h.entered handle f in (x.0, stays.still_open handle x.1, x.2));
+            calls = λ o f. h.calls operation runs ∙ ap (λ c. Some (handle_of c)) (sym same_call ∙ ap (λ (x : Operation). x.call) (same_Some next o (sym goes_on ∙ f)));
+            opens = λ handle f. (let x = h.opens handle f in (x.0, λ none. x.1 (stays.taken_numbers handle x.0 none)));
+            reserves = λ o f handle is. h.reserves operation runs handle (sym same_opens ∙ ap (λ (x : Operation). x.opens) (same_Some next o (sym goes_on ∙ f)) ∙ is);
+            spare = spare;
+            once = once;
+            drafts = written;
+          }
+
+-- ---- an access that is no step
+
+module _ (sizes : Sizes) (s : Table.State Call View) (kept : IsKept sizes s) (id : ℕ) (v : View) (at : get_elem? s.views id ≡ some v) (words : List ℕ) (stays : Stays sizes s kept id v at kept.account kept.stands words)
+    (own_pin : slice_index words (pin_word v.actor) ≡ slice_index s.words (pin_word v.actor)) (pool : Pool) (drafts : List (ℕ × ℕ))
+    (spare : (b name : ℕ) → IsFree (record v { pool = pool; drafts = drafts }) b name → IsTaken sizes words b name × IsSpare sizes kept.account kept.stands name) (once : (b : ℕ) → b < 3 → Once (pool_of pool b))
+    (written : (d : ℕ × ℕ) → Contains drafts d → AreDrafts words (record v { pool = pool; drafts = drafts }) d) where
+  pub own_still : IsSeat sizes kept.account kept.stands words (record v { pool = pool; drafts = drafts })
+  own_still =
+      let h = kept.seats id v at in
+      record {
+        same = h.same;
+        low = h.low;
+        top = h.top;
+        most = h.most;
+        waited = h.waited;
+        counts = h.counts;
+        rests = λ a above below. (let r = h.rests a above below in (r.0, stays.pins a (omega (arith, below, h.most)) (λ is. absurd (omega (arith, above, is))) ∙ r.1));
+        pinned = own_pin ∙ h.pinned;
+        entered = h.entered;
+        calls = h.calls;
+        opens = λ handle f. (let x = h.opens handle f in (x.0, λ none. x.1 (stays.taken_numbers handle x.0 none)));
+        reserves = h.reserves;
+        spare = spare;
+        once = once;
+        drafts = written;
+      }

@@ -1,0 +1,12 @@
+pub mod Places
+pub mod Accounts
+pub mod Live
+pub mod Nodes
+pub mod Roots
+pub mod Rules
+pub mod Steps
+pub mod Loading
+pub mod Making
+pub mod Publishing
+pub mod Deciding
+pub mod Restoring

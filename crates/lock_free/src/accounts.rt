@@ -1,0 +1,25 @@
+//! What has happened at the words so far. No value of it is made.
+
+use machine_model::{Descriptor, Step};
+use std::collections::LinkedList;
+
+/// Whether a main node was made in the generation of the indirection where it stands: by numbers of the definition's slots.
+pub struct Owned {
+    pub indirection: u64,
+    pub main: u64,
+    pub is_own: bool,
+}
+
+/// An offer, and the slot of the table in which it was written.
+pub struct Known {
+    pub slot: u32,
+    pub offer: Descriptor,
+}
+
+/// The steps of the definition that were taken; in which slot of the table each node was made; and the offers that came to stand.
+pub struct Account {
+    pub steps: LinkedList<Step>,
+    pub names: LinkedList<u32>,
+    pub owned: LinkedList<Owned>,
+    pub offers: LinkedList<Known>,
+}
