@@ -45,6 +45,7 @@ IsOwn account indirection main b = OwnIs account.owned (slot_of indirection) (sl
 abbrev pub IsOfOther : ℕ → Step → Type 0
 IsOfOther actor (step.Begin other call) = other ≢ actor
 IsOfOther actor (step.Go other) = other ≢ actor
+IsOfOther actor (step.GiveUp other) = other ≢ actor
 IsOfOther actor step.Sweep = ⊥
 
 -- the one account goes on as the other, by others' steps alone
