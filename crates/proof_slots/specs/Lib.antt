@@ -3,3 +3,4 @@ pub mod Vocabulary
 pub mod Padding
 pub mod Laws
 pub mod Unswept
+pub mod Lasting

@@ -1,6 +1,7 @@
 //! Laws of more slots, and of steps without the sweep's.
 
 ghost use Rattle.proof_slots.specs.Laws.{MoreSlotsAlike, MoreSlotsAnswer, FewStepsHaveSlots};
+ghost use Rattle.proof_slots.specs.Lasting.{WiderAlike};
 ghost use Rattle.proof_slots.specs.Unswept.{NothingIsFreed, SlotsTellApart, SlotsAreTakenInOrder, FreeAtTheEnd};
 
 /// A law: a run with more slots leads to the same state, but that the slots more are free at the end.
@@ -16,6 +17,11 @@ pub fn more_slots_answer()
 /// A law: of as many steps as there are slots but two, each finds a free slot.
 pub fn few_steps_have_slots()
     ensures { FewStepsHaveSlots }
+{}
+
+/// A law: with more slots, and more steps that it may take, a machine comes by the same steps to the same.
+pub fn wider_alike()
+    ensures { WiderAlike }
 {}
 
 /// A law: without steps of the sweep, where a slot is free in the end, one was free before each step.
