@@ -1,3 +1,4 @@
+mod Longer
 mod Definition
 mod Geometry
 mod Assembling

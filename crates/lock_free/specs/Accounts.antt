@@ -10,6 +10,7 @@ use Rattle.machine_model.specs.Beneath.slot_arena.specs.Refs.{slot_of}
 use Rattle.machine_model.specs.Machine.{run}
 use Rattle.machine_model.specs.Records.{Record, record_of}
 use Rattle.machine_model.specs.States.{State, operation_of}
+pub use Rattle.proof_waiting.specs.Waiting.{IsOfOther}
 use Rattle.lock_free.specs.declared.accounts.Account.{Account}
 use Rattle.lock_free.specs.declared.accounts.Owned.{Owned}
 use Rattle.lock_free.specs.declared.accounts.Known.{Known}
@@ -40,13 +41,6 @@ abbrev pub IsOwn : Account → Ref → Ref → Bool → Type 0
 IsOwn account indirection main b = OwnIs account.owned (slot_of indirection) (slot_of main) b
 
 -- ---- how it goes on
-
--- a step of another actor, and no sweep: nothing is freed
-abbrev pub IsOfOther : ℕ → Step → Type 0
-IsOfOther actor (step.Begin other call) = other ≢ actor
-IsOfOther actor (step.Go other) = other ≢ actor
-IsOfOther actor (step.GiveUp other) = other ≢ actor
-IsOfOther actor step.Sweep = ⊥
 
 -- the one account goes on as the other, by others' steps alone
 pub record HasWaited (actor : ℕ) (before after : Account) : Type 0 where
