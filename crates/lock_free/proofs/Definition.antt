@@ -1,5 +1,7 @@
--- What is asked of the definition. (Open: to be shown in the crates of the proof.)
-use Rattle.std.proofs.Common.{◌≡◌, ◌+◌, ◌<◌, ◌++◌, ℕ, Bool, true, List, [], Option, Some, None, refl, sym, ap, ◌∙◌, subst, length, get_or, append-nil}
+-- What the proof on words asks of the definition: what a step that only reads leaves, and what stays while others take steps.
+use Rattle.std.proofs.Common.{◌≡◌, ◌+◌, ◌<◌, ◌++◌, ◌⊎◌, ℕ, Bool, true, List, [], ◌∷◌, Contains, Option, Some, None, refl, sym, ap, ◌∙◌, subst, inl, inr, length, get_or, append-nil, arith}
+use Rattle.std.proofs.lemmas.List.Elements.{Contains-get_or}
+use Rattle.std.proofs.lemmas.Option.{none-some}
 use Rattle.machine_model.specs.Beneath.slot_arena.specs.declared.refs.Ref.{Ref}
 use Rattle.machine_model.specs.Beneath.slot_arena.specs.declared.nodes.Slot.{Slot}
 use Rattle.machine_model.specs.Beneath.slot_arena.specs.Refs.{slot_of}
@@ -7,17 +9,43 @@ use Rattle.machine_model.specs.declared.actions.Action.{Action}
 use Rattle.machine_model.specs.declared.actions.Action.TheVariants as act
 use Rattle.machine_model.specs.declared.operations.Operation.{Operation}
 use Rattle.machine_model.specs.Operations.{action_of}
+use Rattle.machine_model.specs.Beneath.slot_arena.specs.Heaps.{Heap, stored, node_at}
+use Rattle.machine_model.specs.declared.lines.Line.{Line}
+use Rattle.machine_model.specs.declared.steps.Step.TheVariants as step
+use Rattle.machine_model.specs.Acting.{acted, gone, operation_after}
+use Rattle.machine_model.specs.Calls.{handle_of}
+use Rattle.machine_model.specs.Grown.{standing}
 use Rattle.machine_model.specs.Machine.{AreBounds, run}
-use Rattle.machine_model.specs.States.{operation_of}
+use Rattle.machine_model.specs.Moves.{GoesOn}
+use Rattle.machine_model.specs.Operations.{line_action}
+use Rattle.machine_model.specs.States.{State, operation_of, with_operation}
+use Rattle.machine_model.proofs.Grown.{standing_parts, node_standing}
+use Rattle.proof_memory.specs.Laws.{IsInUse}
+use Rattle.proof_memory.specs.Wants.{AMain, AllHold, meets, action_wants}
+use Rattle.proof_memory.proofs.Claims.Uses.{safe_of, meets_of}
+use Rattle.proof_memory.proofs.Safety.AtEachTime.{safe_along}
+use Rattle.proof_memory.proofs.Safety.AtTimes.{action_finds}
+use Rattle.proof_memory.proofs.Safety.States.{IsSafe}
+use Rattle.proof_memory.proofs.Safety.Steps.{safe_after}
+use Rattle.proof_garbage.proofs.Known.{known_used, named_known}
+use Rattle.proof_garbage.proofs.Step.{step_known}
+use Rattle.proof_waiting.specs.Beneath.proof_slots.specs.Lasting.{widened}
+use Rattle.proof_waiting.specs.Beneath.proof_slots.proofs.Below.{slots_are_below_births}
 use Rattle.proof_waiting.specs.Beneath.proof_slots.proofs.Padded.Lines.{acts_wide}
 use Rattle.proof_waiting.proofs.Operations.{operations_wait}
 use Rattle.proof_memory.specs.Wants.{is_main_node}
 use Rattle.lock_free.specs.declared.accounts.Account.{Account}
 use Rattle.lock_free.specs.declared.sizes.Sizes.{Sizes}
-use Rattle.lock_free.specs.Accounts.{bounds_for, state_of, HasWaited, running}
-use Rattle.lock_free.specs.Live.{IsLive}
+use Rattle.lock_free.specs.Accounts.{bounds_for, state_of, HasWaited, running, gone_on}
+use Rattle.lock_free.specs.Live.{IsLive, refs_of_claims}
+use Rattle.lock_free.specs.Making.{over_of}
+use Rattle.lock_free.specs.Nodes.{IsAhead}
 use Rattle.lock_free.specs.Steps.{Reads}
+use Rattle.lock_free.proofs.Aheads.{ahead_of, over_makes, ahead_acts}
+use Rattle.lock_free.proofs.Doing.{CompletesNone, others, own, aheads, still}
+use Rattle.lock_free.proofs.Going.{later, moves, more, after_is, bounds_after}
 use Rattle.lock_free.proofs.Longer.{run_longer, bounds_less}
+use Rattle.lock_free.proofs.Widened.{slot_in, live_in, ahead_in, ahead_wide}
 
 -- the action changes no word
 abbrev pub IsReading : Action → Type 0
@@ -27,18 +55,108 @@ IsReading (act.ReadPrev m) = Unit {0}
 IsReading (act.Look r) = Unit {0}
 IsReading action = ⊥
 
+reading_acts : (state : State) (handle : ℕ) (action : Action) → IsReading action → acted state handle action ≡ state
+reading_acts state handle act.ReadRoot h = refl
+reading_acts state handle (act.ReadMain i) h = refl
+reading_acts state handle (act.ReadPrev m) h = refl
+reading_acts state handle (act.Look r) h = refl
+reading_acts state handle action h = absurd h
+
+reading_goes : (action : Action) → IsReading action → GoesOn action × CompletesNone action
+reading_goes act.ReadRoot h = (tt, tt)
+reading_goes (act.ReadMain i) h = (tt, tt)
+reading_goes (act.ReadPrev m) h = (tt, tt)
+reading_goes (act.Look r) h = (tt, tt)
+reading_goes action h = absurd h
+
 module _ (sizes : Sizes) (account : Account) (bounds : AreBounds (bounds_for sizes account.steps)) (actor : ℕ) (operation : Operation) (runs : running sizes account actor operation) where
+  abbrev state : State
+  state = state_of sizes account
+
+  safe : IsSafe state
+  safe = safe_along (bounds_for sizes account.steps) bounds account.steps
+
+  module _ (h : IsReading (action_of state operation)) where
+    abbrev then : State
+    then = later sizes account bounds actor operation runs
+
+    g : GoesOn (action_of state operation)
+    g = (reading_goes (action_of state operation) h).0
+
+    whole : state_of sizes (gone_on actor account) ≡ widened 1 (more sizes account bounds actor operation runs g) then
+    whole = after_is sizes account bounds actor operation runs g
+
+    same : gone state actor operation ≡ with_operation state actor (Some (operation_after state operation))
+    same = reading_acts (with_operation state actor (Some (operation_after state operation))) (handle_of operation.call) (action_of state operation) h
+
+    same_heap : then.heap ≡ state.heap
+    same_heap = ap (λ (s : State). s.heap) same
+
+    was_live : (r : Ref) → IsLive then r → IsLive state r
+    was_live r k = by (step_known state safe (λ id. Unit {0}) (step.Go actor) _ then (moves sizes account bounds actor operation runs g) (λ o e on. tt) k)
+      where
+        used : IsInUse state.heap r
+        used = subst (λ heap. IsInUse heap r) same_heap (known_used then (safe_after state safe (step.Go actor) _ then (moves sizes account bounds actor operation runs g)) (λ id. Unit {0}) k)
+
+        by : IsLive state r ⊎ (standing state.heap r ≡ None) → IsLive state r
+        by (inl was) = was
+        by (inr none) = absurd (none-some used.0 (sym none ∙ used.1))
+
+    makes_none : (l : Line) (i a : Ref) → IsReading (line_action state operation l) → over_of l ≡ Some (i, a) → ⊥
+    makes_none l i a reads over = let (node, e) = over_makes state operation l (i, a) over in subst IsReading e reads
+
+    publishes_none : (l : Line) (i a f : Ref) → IsReading (line_action state operation l) → ahead_of l ≡ Some (i, a, f) → ⊥
+    publishes_none l i a f reads ahead = subst IsReading (ahead_acts state operation l (i, a, f) ahead) reads
+
+    reads_then : Reads sizes account actor operation
+    reads_then =
+        let none = (reading_goes (action_of state operation) h).1 in
+        let steps = more sizes account bounds actor operation runs g in
+        record {
+          bounds = bounds_after sizes account bounds actor operation runs g;
+          nodes = λ k. ap (λ (s : State). get_or s.heap.slots k None) whole ∙ slot_in 1 steps then k ∙ ap (λ (x : Heap). get_or x.slots k None) same_heap;
+          births = ap (λ (s : State). s.heap.births) whole ∙ ap (λ (x : Heap). x.births) same_heap;
+          live = λ r k. (was_live r (live_in 1 steps then (subst (λ s. IsLive s r) whole k)), refl);
+          roots = ap (λ (s : State). s.roots) whole ∙ ap (λ (s : State). s.roots) same;
+          generations = ap (λ (s : State). s.generations) whole ∙ ap (λ (s : State). s.generations) same;
+          others = λ a apart. ap (λ s. operation_of s a) whole ∙ others state actor operation runs none a apart;
+          own = ap (λ s. operation_of s actor) whole ∙ own state actor operation runs none;
+          aheads = λ i a f x. elim (aheads state actor operation runs none i a f (ahead_in 1 steps then i a f (subst (λ s. IsAhead s i a f) whole x))) [
+            | inl was ↦ was
+            | inr comes ↦ absurd (makes_none operation.line i a h comes.0)
+          ];
+          still = λ i a f x kept. elim (still state actor operation runs none i a f x) [
+            | inl is ↦ subst (λ s. IsAhead s i a f) (sym whole) (ahead_wide 1 steps then i a f is)
+            | inr gone ↦ absurd (publishes_none operation.line i a f h gone)
+          ];
+        }
+
   pub reads_of : IsReading (action_of (state_of sizes account) operation) → Reads sizes account actor operation
-  reads_of h = ?
+  reads_of h = reads_then h
+
+  module _ (m : Ref) (h : action_of (state_of sizes account) operation ≡ act.ReadPrev m) where
+    found : IsInUse state.heap m × (meets AMain (node_at state.heap m) ≡ true)
+    found =
+        let claims = subst (λ action. AllHold (IsInUse state.heap) state.heap (action_wants action)) h (action_finds state safe actor operation runs) in
+        (safe_of claims.0, meets_of claims.0)
+
+    named : IsLive state m
+    named = named_known state safe (λ id. Unit {0}) actor operation runs tt m (subst (λ action. Contains (refs_of_claims (action_wants action)) m) (sym h) (Contains-get_or (m ∷ []) 0 m (omega arith)))
+
+    slot_found : (slot : Slot) × (get_or state.heap.slots (slot_of m) None ≡ Some slot) × (is_main_node slot.node ≡ true)
+    unfolding stored
+    slot_found =
+        let (slot, stands) = found.0 in
+        (slot, (standing_parts state.heap m slot stands).0, subst (λ n. is_main_node n ≡ true) (node_standing state.heap m slot stands) found.1)
 
   -- the main node that it is to read is live, in use, and a main node
   pub prev_stands : (m : Ref) → action_of (state_of sizes account) operation ≡ act.ReadPrev m →
       IsLive (state_of sizes account) m × ((slot : Slot) × (get_or (state_of sizes account).heap.slots (slot_of m) None ≡ Some slot) × (is_main_node slot.node ≡ true))
-  prev_stands m h = ?
+  prev_stands m h = (named m h, slot_found m h)
 
   -- what is named was made
   pub prev_made : (m : Ref) → action_of (state_of sizes account) operation ≡ act.ReadPrev m → slot_of m < (state_of sizes account).heap.births
-  prev_made m h = ?
+  prev_made m h = slots_are_below_births (bounds_for sizes account.steps) account.steps m bounds (found m h).0
 
 -- while others take steps the operation stays, but for its mark, and so does what it is to do
 pub waits : (sizes : Sizes) (actor : ℕ) (before after : Account) → HasWaited actor before after → AreBounds (bounds_for sizes after.steps) → (operation : Operation) → running sizes before actor operation →

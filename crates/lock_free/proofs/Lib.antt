@@ -1,4 +1,8 @@
 mod Longer
+mod Widened
+mod Going
+mod Aheads
+mod Doing
 mod Definition
 mod Geometry
 mod Assembling

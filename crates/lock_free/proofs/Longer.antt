@@ -32,3 +32,14 @@ module _ (sizes : Sizes) (steps : List Step) where
         let left : length done ≤ (bounds_for sizes steps).steps = omega (arith, few) in
         let also : length done ≤ length (steps ++ more) + 1 = omega (arith, few, length-append steps more) in
         ap (λ b. run b done) (longer_bounds more) ∙ (wider_alike (length more) (length (steps ++ more) + 1) (bounds_for sizes steps) done ok (few_steps_have_slots (bounds_for sizes steps) done enough) left also).0
+
+    -- one step more
+    pub run_next : (s : Step) → run (bounds_for sizes (steps ++ s ∷ [])) (steps ++ s ∷ []) ≡ widened 1 (length (steps ++ s ∷ []) + 1) (next_state (run (bounds_for sizes steps) steps) s)
+    run_next s =
+        let longer = steps ++ s ∷ [] in
+        let count = length-append steps (s ∷ []) in
+        let enough : length longer + 2 ≤ (bounds_for sizes steps).slots = omega (arith, count) in
+        let left : length longer ≤ (bounds_for sizes steps).steps = omega (arith, count) in
+        ap (λ b. run b longer) (longer_bounds (s ∷ []))
+        ∙ (wider_alike 1 (length longer + 1) (bounds_for sizes steps) longer ok (few_steps_have_slots (bounds_for sizes steps) longer enough) left (omega arith)).0
+        ∙ ap (widened 1 (length longer + 1)) (run_push (first_state (bounds_for sizes steps)) steps s)

@@ -2,3 +2,4 @@
 pub mod Padded
 pub mod Unswept
 pub mod Wider
+pub mod Below

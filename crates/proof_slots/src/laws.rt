@@ -2,6 +2,7 @@
 
 ghost use Rattle.proof_slots.specs.Laws.{MoreSlotsAlike, MoreSlotsAnswer, FewStepsHaveSlots};
 ghost use Rattle.proof_slots.specs.Lasting.{WiderAlike};
+ghost use Rattle.proof_slots.specs.Slots.{SlotsAreBelowBirths};
 ghost use Rattle.proof_slots.specs.Unswept.{NothingIsFreed, SlotsTellApart, SlotsAreTakenInOrder, FreeAtTheEnd};
 
 /// A law: a run with more slots leads to the same state, but that the slots more are free at the end.
@@ -42,4 +43,9 @@ pub fn slots_tell_apart()
 /// A law: without steps of the sweep slots are taken by rising number.
 pub fn slots_are_taken_in_order()
     ensures { SlotsAreTakenInOrder }
+{}
+
+/// A law: what is in use stands in one of as many first slots as births were drawn.
+pub fn slots_are_below_births()
+    ensures { SlotsAreBelowBirths }
 {}
