@@ -44,7 +44,7 @@ use Rattle.lock_free.proofs.Geometry.{IsWordOf}
 use Rattle.lock_free.proofs.Keeping.{SameNodes, stands_kept, entries_kept, shape_kept, over_kept, meaning_kept, written_kept}
 use Rattle.lock_free.proofs.Made.{is_pending, is_failed}
 use Rattle.lock_free.proofs.Seats.{Stays, StaysSpare, other_kept, own_kept, drafts_kept}
-use Rattle.lock_free.proofs.Waiting.{waited_more}
+use Rattle.lock_free.proofs.Waiting.{waited_more, quiet_more}
 
 -- what stands in the words of a main node that is decided, with its header as it is then
 module _ (account later : Account) (before after : State) (words changed : List ℕ) (p k : ℕ) (slot : Slot) (verdict : Prev)
@@ -207,6 +207,7 @@ module _ (sizes : Sizes) (account : Account) (actor : ℕ) (operation : Operatio
   all_then = record {
     bounds = decides.bounds;
     keys = All-append FitsKey account.steps (step.Go actor ∷ []) all.keys (All-cons FitsKey (step.Go actor) [] tt (All-nil FitsKey));
+    quiet = quiet_more account.steps (step.Go actor) all.quiet tt;
     counted = all.counted ∙ sym decides.births;
     size = length-set words (2 * p) value ∙ all.size;
     taken = have_still sizes account words all.taken (2 * p) far value;

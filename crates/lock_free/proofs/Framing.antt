@@ -199,6 +199,7 @@ module _ (sizes : Sizes) (account : Account) (stands : Standing) (words : List â
   all_over = record {
     bounds = all.bounds;
     keys = all.keys;
+    quiet = all.quiet;
     counted = all.counted;
     size = length-set words i x âˆ™ all.size;
     taken = have_still sizes account words all.taken i far x;

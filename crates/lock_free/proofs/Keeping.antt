@@ -43,7 +43,7 @@ use Rattle.lock_free.specs.Rules.{Standing, Stands, NodesStand, RootsStand, Once
 use Rattle.lock_free.specs.Steps.{Dropped, nothing, Leads, Reads}
 use Rattle.lock_free.proofs.Assembling.{AllStand, closing_stays, assembled}
 use Rattle.lock_free.proofs.Seats.{Stays, other_kept, own_kept, drafts_kept}
-use Rattle.lock_free.proofs.Waiting.{waited_more}
+use Rattle.lock_free.proofs.Waiting.{waited_more, quiet_more, other_quiet}
 
 -- each node is what it was
 abbrev pub SameNodes : State → State → Type 0
@@ -179,6 +179,7 @@ module _ (sizes : Sizes) (s : Table.State Call View) (kept : IsKept sizes s) (id
   all_then = record {
     bounds = leads.bounds;
     keys = All-append FitsKey kept.account.steps (taken ∷ []) kept.keys (All-cons FitsKey taken [] fits (All-nil FitsKey));
+    quiet = quiet_more kept.account.steps taken kept.quiet (other_quiet (suc v.actor) taken (its (suc v.actor) (λ e. omega (arith, e))));
     counted = kept.counted ∙ sym leads.births;
     size = kept.size;
     taken = kept.taken;

@@ -28,6 +28,7 @@ use Rattle.lock_free.specs.Roots.{MeansRoot, closed, reserved, writable, read_on
 use Rattle.lock_free.specs.Rules.{Standing, Stands, NodesStand, RootsStand, IsSpare}
 use Rattle.lock_free.proofs.Assembling.{AllStand}
 use Rattle.lock_free.proofs.Made.{after, K, place_else, place_last, same_place, stands_too, stands_new, stands_else, stood_stands, new_stands}
+use Rattle.lock_free.proofs.Waiting.{quiet_more}
 
 module _ (sizes : Sizes) (account : Account) (actor : ℕ) (operation : Operation) (name : ℕ) (own : Bool) (node : Node) (more : ℕ) (makes : Makes sizes account (made_at actor name own node account) actor operation node more)
     (stands : Standing) (words : List ℕ) (all : AllStand sizes account stands words) (taken : IsTaken sizes words (class_of node) name) (spare : IsSpare sizes account stands name)
@@ -154,6 +155,7 @@ module _ (sizes : Sizes) (account : Account) (actor : ℕ) (operation : Operatio
     all_then = record {
       bounds = makes.bounds;
       keys = All-append FitsKey account.steps (step.Go actor ∷ []) all.keys (All-cons FitsKey (step.Go actor) [] tt (All-nil FitsKey));
+      quiet = quiet_more account.steps (step.Go actor) all.quiet tt;
       counted = (let one = length-append account.names (name ∷ []) in omega (arith, one, all.counted, makes.births));
       size = size;
       taken = have;

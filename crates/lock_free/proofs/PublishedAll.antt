@@ -29,6 +29,7 @@ use Rattle.lock_free.proofs.Assembling.{AllStand}
 use Rattle.lock_free.proofs.Framing.{changed, else_word, below_word, stands_over, still_taken, have_still, roots_still, class_small}
 use Rattle.lock_free.proofs.Geometry.{IsWordOf, slots_apart, above, inside}
 use Rattle.lock_free.proofs.Published.{differ, else_stands, fresh_stands}
+use Rattle.lock_free.proofs.Waiting.{quiet_more}
 
 module _ (sizes : Sizes) (account : Account) (actor : ℕ) (operation : Operation) (i a f : Ref) (publishes : Publishes sizes account (swapped_in actor i f account) actor operation i a f)
     (stands : Standing) (words : List ℕ) (all : AllStand sizes account stands words) (here : stands (slot_of i) ≡ true) where
@@ -167,6 +168,7 @@ module _ (sizes : Sizes) (account : Account) (actor : ℕ) (operation : Operatio
   all_then = record {
     bounds = publishes.bounds;
     keys = All-append FitsKey account.steps (step.Go actor ∷ []) all.keys (All-cons FitsKey (step.Go actor) [] tt (All-nil FitsKey));
+    quiet = quiet_more account.steps (step.Go actor) all.quiet tt;
     counted = all.counted ∙ sym publishes.births;
     size = length-set words its_word new_word ∙ all.size;
     taken = have_still sizes account words all.taken its_word far new_word;

@@ -41,6 +41,7 @@ use Rattle.lock_free.proofs.Framing.{below_word, stands_over, still_taken, have_
 use Rattle.lock_free.proofs.Geometry.{IsWordOf}
 use Rattle.lock_free.proofs.Made.{is_pending, is_failed}
 use Rattle.lock_free.proofs.NodeWord.{node_word_kept}
+use Rattle.lock_free.proofs.Waiting.{quiet_more}
 
 module _ (sizes : Sizes) (account : Account) (actor : ℕ) (operation : Operation) (i main former : Ref) (restores : Restores sizes account actor operation i main former) (stands : Standing) (words : List ℕ)
     (all : AllStand sizes account stands words) (here : stands (slot_of i) ≡ true) (own : Bool) (owned : OwnIs account.owned (slot_of i) (slot_of former) own) where
@@ -214,6 +215,7 @@ module _ (sizes : Sizes) (account : Account) (actor : ℕ) (operation : Operatio
   all_then = record {
     bounds = restores.bounds;
     keys = All-append FitsKey account.steps (step.Go actor ∷ []) all.keys (All-cons FitsKey (step.Go actor) [] tt (All-nil FitsKey));
+    quiet = quiet_more account.steps (step.Go actor) all.quiet tt;
     counted = all.counted ∙ sym restores.births;
     size = length-set words (2 * p) value ∙ all.size;
     taken = have_still sizes account words all.taken (2 * p) far value;

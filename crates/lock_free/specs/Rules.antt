@@ -9,6 +9,7 @@ use Rattle.trie_words.specs.Codes.{pin_code, root_code}
 use Rattle.trie_words.specs.declared.roots.RootWord.TheVariants as word
 use Rattle.lock_free.specs.declared.rules.Closing.{Closing}
 use Rattle.lock_free.specs.declared.rules.Pool.{Pool}
+use Rattle.proof_waiting.specs.Beneath.proof_slots.specs.Unswept.{HasNoSweeps}
 use Rattle.lock_free.specs.Live.{IsLive}
 use Rattle.trie_words.specs.declared.pins.Pin.{Pin}
 use Rattle.machine_model.specs.Beneath.slot_arena.specs.declared.refs.Ref.{Ref}
@@ -139,6 +140,8 @@ pub record IsKept (sizes : Sizes) (s : Table.State Call View) : Type 0 where
   pub range : AreSizes sizes
   pub bounds : AreBounds (bounds_for sizes account.steps)
   pub keys : KeysFit account.steps
+  -- nothing is freed, so nodes are numbered as they are made
+  pub quiet : HasNoSweeps account.steps
   -- each node that was made has its place
   pub counted : length account.names ≡ (state_of sizes account).heap.births
   pub size : length s.words ≡ words_of sizes

@@ -6,3 +6,4 @@ pub mod Stays
 pub mod Unknown
 pub mod Restoring
 pub mod Private
+pub mod Fresh

@@ -155,19 +155,19 @@ module _ (w : Words) (t k : ℕ) where
 
 -- in a run
 module _ (limits : Bounds) (steps : List Step) (ok : AreBounds limits) where
-  abbrev states : ℕ → State
+  abbrev pub states : ℕ → State
   states = states_of limits steps
 
-  abbrev last : ℕ
+  abbrev pub last : ℕ
   last = last_of limits steps
 
-  abbrev known : Known limits states last
+  abbrev pub known : Known limits states last
   known = known_from limits steps ok
 
-  abbrev w : Words
+  abbrev pub w : Words
   w = words_of states known.run.records last known.closing
 
-  staged : (actor : ℕ) (operation : Operation) → operation_of (run limits steps) actor ≡ Some operation → Staged w last actor (stage_of operation.line)
+  pub staged : (actor : ℕ) (operation : Operation) → operation_of (run limits steps) actor ≡ Some operation → Staged w last actor (stage_of operation.line)
   staged actor operation is =
       subst (λ x. Staged w last actor (stage_of_actor x)) (ap (λ (s : State). operation_of s actor) (run_ends limits steps) ∙ is)
       ((sound_at (protocol limits states last known) last (omega arith)).staged actor)
