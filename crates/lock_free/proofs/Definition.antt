@@ -40,12 +40,11 @@ use Rattle.lock_free.specs.Accounts.{bounds_for, state_of, HasWaited, running, g
 use Rattle.lock_free.specs.Live.{IsLive, refs_of_claims}
 use Rattle.lock_free.specs.Making.{over_of}
 use Rattle.lock_free.specs.Nodes.{IsAhead}
-use Rattle.lock_free.specs.Steps.{Reads}
-use Rattle.lock_free.proofs.Aheads.{ahead_of, over_makes, ahead_acts}
-use Rattle.lock_free.proofs.Doing.{CompletesNone, others, own, aheads, still}
-use Rattle.lock_free.proofs.Going.{later, moves, more, after_is, bounds_after}
-use Rattle.lock_free.proofs.Longer.{run_longer, bounds_less}
-use Rattle.lock_free.proofs.Widened.{slot_in, live_in, ahead_in, ahead_wide}
+use Rattle.lock_free.specs.Steps.{Reads, nothing}
+use Rattle.lock_free.proofs.OneStep.Aheads.{ahead_of, over_makes, ahead_acts}
+use Rattle.lock_free.proofs.OneStep.Doing.{CompletesNone}
+use Rattle.lock_free.proofs.OneStep.Leading.{leads}
+use Rattle.lock_free.proofs.OneStep.Longer.{run_longer, bounds_less}
 
 -- the action changes no word
 abbrev pub IsReading : Action → Type 0
@@ -77,30 +76,11 @@ module _ (sizes : Sizes) (account : Account) (bounds : AreBounds (bounds_for siz
   safe = safe_along (bounds_for sizes account.steps) bounds account.steps
 
   module _ (h : IsReading (action_of state operation)) where
-    abbrev then : State
-    then = later sizes account bounds actor operation runs
-
     g : GoesOn (action_of state operation)
     g = (reading_goes (action_of state operation) h).0
 
-    whole : state_of sizes (gone_on actor account) ≡ widened 1 (more sizes account bounds actor operation runs g) then
-    whole = after_is sizes account bounds actor operation runs g
-
     same : gone state actor operation ≡ with_operation state actor (Some (operation_after state operation))
     same = reading_acts (with_operation state actor (Some (operation_after state operation))) (handle_of operation.call) (action_of state operation) h
-
-    same_heap : then.heap ≡ state.heap
-    same_heap = ap (λ (s : State). s.heap) same
-
-    was_live : (r : Ref) → IsLive then r → IsLive state r
-    was_live r k = by (step_known state safe (λ id. Unit {0}) (step.Go actor) _ then (moves sizes account bounds actor operation runs g) (λ o e on. tt) k)
-      where
-        used : IsInUse state.heap r
-        used = subst (λ heap. IsInUse heap r) same_heap (known_used then (safe_after state safe (step.Go actor) _ then (moves sizes account bounds actor operation runs g)) (λ id. Unit {0}) k)
-
-        by : IsLive state r ⊎ (standing state.heap r ≡ None) → IsLive state r
-        by (inl was) = was
-        by (inr none) = absurd (none-some used.0 (sym none ∙ used.1))
 
     makes_none : (l : Line) (i a : Ref) → IsReading (line_action state operation l) → over_of l ≡ Some (i, a) → ⊥
     makes_none l i a reads over = let (node, e) = over_makes state operation l (i, a) over in subst IsReading e reads
@@ -110,26 +90,8 @@ module _ (sizes : Sizes) (account : Account) (bounds : AreBounds (bounds_for siz
 
     reads_then : Reads sizes account actor operation
     reads_then =
-        let none = (reading_goes (action_of state operation) h).1 in
-        let steps = more sizes account bounds actor operation runs g in
-        record {
-          bounds = bounds_after sizes account bounds actor operation runs g;
-          nodes = λ k. ap (λ (s : State). get_or s.heap.slots k None) whole ∙ slot_in 1 steps then k ∙ ap (λ (x : Heap). get_or x.slots k None) same_heap;
-          births = ap (λ (s : State). s.heap.births) whole ∙ ap (λ (x : Heap). x.births) same_heap;
-          live = λ r k. (was_live r (live_in 1 steps then (subst (λ s. IsLive s r) whole k)), refl);
-          roots = ap (λ (s : State). s.roots) whole ∙ ap (λ (s : State). s.roots) same;
-          generations = ap (λ (s : State). s.generations) whole ∙ ap (λ (s : State). s.generations) same;
-          others = λ a apart. ap (λ s. operation_of s a) whole ∙ others state actor operation runs none a apart;
-          own = ap (λ s. operation_of s actor) whole ∙ own state actor operation runs none;
-          aheads = λ i a f x. elim (aheads state actor operation runs none i a f (ahead_in 1 steps then i a f (subst (λ s. IsAhead s i a f) whole x))) [
-            | inl was ↦ was
-            | inr comes ↦ absurd (makes_none operation.line i a h comes.0)
-          ];
-          still = λ i a f x kept. elim (still state actor operation runs none i a f x) [
-            | inl is ↦ subst (λ s. IsAhead s i a f) (sym whole) (ahead_wide 1 steps then i a f is)
-            | inr gone ↦ absurd (publishes_none operation.line i a f h gone)
-          ];
-        }
+        leads sizes account bounds actor operation runs g (reading_goes (action_of state operation) h).1 same nothing (λ r k. refl) (λ i a over. makes_none operation.line i a h over)
+        (λ i a f ahead kept. publishes_none operation.line i a f h ahead)
 
   pub reads_of : IsReading (action_of (state_of sizes account) operation) → Reads sizes account actor operation
   reads_of h = reads_then h

@@ -1,8 +1,4 @@
-mod Longer
-mod Widened
-mod Going
-mod Aheads
-mod Doing
+mod OneStep
 mod Definition
 mod Geometry
 mod Assembling

@@ -28,7 +28,7 @@ use Rattle.proof_waiting.specs.Beneath.proof_slots.specs.Lasting.{widened}
 use Rattle.lock_free.specs.declared.accounts.Account.{Account}
 use Rattle.lock_free.specs.declared.sizes.Sizes.{Sizes}
 use Rattle.lock_free.specs.Accounts.{bounds_for, state_of, running, gone_on}
-use Rattle.lock_free.proofs.Longer.{run_next, bounds_more}
+use Rattle.lock_free.proofs.OneStep.Longer.{run_next, bounds_more}
 
 -- each step counts once at most
 steps_grow : (state : State) (s : Step) → (next_state state s).steps ≤ state.steps + 1

@@ -19,7 +19,7 @@ use Rattle.machine_model.proofs.Actors.{marks_of, marks_by, after_marks, gone_ac
 use Rattle.machine_model.proofs.Fates.{place_of_actor}
 use Rattle.machine_model.proofs.Found.{found_within, found_elsewhere}
 use Rattle.lock_free.specs.Nodes.{IsAhead}
-use Rattle.lock_free.proofs.Aheads.{ahead_of, ComesAhead, comes_ahead}
+use Rattle.lock_free.proofs.OneStep.Aheads.{ahead_of, ComesAhead, comes_ahead}
 
 -- the action carries no offer out
 abbrev pub CompletesNone : Action → Type 0
