@@ -42,6 +42,7 @@ use Rattle.lock_free.specs.Roots.{MeansRoot, closed, reserved, writable, read_on
 use Rattle.lock_free.specs.Rules.{Standing, Stands, NodesStand, RootsStand, Once, pool_of, IsFree, IsSpare, IsSeat, IsKept}
 use Rattle.lock_free.specs.Steps.{Dropped, nothing, Leads, Reads}
 use Rattle.lock_free.proofs.Assembling.{AllStand, closing_stays, assembled}
+use Rattle.lock_free.proofs.Owners.{owners_kept}
 use Rattle.lock_free.proofs.Seats.{Stays, other_kept, own_kept, drafts_kept}
 use Rattle.lock_free.proofs.Waiting.{waited_more}
 
@@ -162,6 +163,8 @@ module _ (sizes : Sizes) (s : Table.State Call View) (kept : IsKept sizes s) (id
     written = λ k slot h.
         (let was = stood k slot h in
         stands_kept kept.account account_then.steps dropped now next_state (same_nodes now next_state leads.nodes) leads.aheads leads.still s.words (place_at kept.account k) k slot slot.node was.1 (kept.nodes.written k slot was.0));
+    inside = λ k slot e. kept.nodes.inside k slot (sym (leads.nodes k) ∙ e);
+    owners = owners_kept kept.account account_then now next_state refl refl leads.aheads kept.nodes.owners;
     live = λ r h. (let x = leads.live r h in live_then (dropped (slot_of r)) (slot_of r) refl x.1 (kept.nodes.live r x.0));
   }
 

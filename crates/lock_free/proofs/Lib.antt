@@ -1,5 +1,7 @@
 mod Definition
+mod Asked
 mod Geometry
+mod Owners
 mod Assembling
 mod Waiting
 mod Seats

@@ -95,6 +95,9 @@ module _ (sizes : Sizes) (account : Account) (actor : ℕ) (operation : Operatio
   pub same_place : (r : Ref) → slot_of r ≢ K → place_of after r ≡ place_of account r
   same_place r other = place_else account.names name (slot_of r) other
 
+  refs_apart : (r : Ref) → Contains (refs_of_node node) r → slot_of r ≢ K
+  refs_apart r c same = let low = makes.refs r c in absurd (omega (arith, low, same))
+
   pub same_node : (r : Ref) → slot_of r ≢ K → node_at next.heap r ≡ node_at now.heap r
   unfolding node_at stored
   same_node r other = ap node_of (makes.nodes (slot_of r) other)
@@ -198,7 +201,7 @@ module _ (sizes : Sizes) (account : Account) (actor : ℕ) (operation : Operatio
     previous = h.previous;
     is_previous = subst (λ p. SaysPrevious after next K p h.previous) (sym makes.prev_is) (new_previous (over_of operation.line) h.previous refl h.is_previous);
     shape = h.shape;
-    is_shape = subst (λ m. SaysShape after next.heap m h.shape) (is ∙ sym makes.node_is) (shape_kept n h.shape (λ r c. makes.refs r (subst (λ m. Contains (refs_of_node m) r) is c)) h.is_shape);
+    is_shape = subst (λ m. SaysShape after next.heap m h.shape) (is ∙ sym makes.node_is) (shape_kept n h.shape (λ r c. refs_apart r (subst (λ m. Contains (refs_of_node m) r) is c)) h.is_shape);
     code = h.code;
   }
 
@@ -210,12 +213,12 @@ module _ (sizes : Sizes) (account : Account) (actor : ℕ) (operation : Operatio
       own,
       subst (λ m. OwnIs (owned_with account.owned K own m) K (slot_of main) own) is (first _ account.owned),
       subst (λ q. has (2 * name) (link_code (record { generation = generation; main = record { slot = q; own = own } })))
-          (sym (same_place main (makes.refs main (subst (λ m. Contains (refs_of_node m) main) is (Contains-get_or (main ∷ []) 0 main (omega arith)))))) h.1,
+          (sym (same_place main (refs_apart main (subst (λ m. Contains (refs_of_node m) main) is (Contains-get_or (main ∷ []) 0 main (omega arith)))))) h.1,
     ),
   )
   new_stands has (Single key value) is h = h
   new_stands has (Branch bitmap entries) is h =
-      ((h.0.0, h.0.1, new_header (Branch bitmap entries) h.0.0 is h.0.2), entries_kept has name entries.items (λ e c. makes.refs e (subst (λ m. Contains (refs_of_node m) e) is c)) h.1)
+      ((h.0.0, h.0.1, new_header (Branch bitmap entries) h.0.0 is h.0.2), entries_kept has name entries.items (λ e c. refs_apart e (subst (λ m. Contains (refs_of_node m) e) is c)) h.1)
   new_stands has (Tomb single) is h = (h.0, h.1, new_header (Tomb single) h.0 is h.2)
   new_stands has (Listed singles) is h =
-      ((h.0.0, h.0.1, new_header (Listed singles) h.0.0 is h.0.2), entries_kept has name singles.items (λ e c. makes.refs e (subst (λ m. Contains (refs_of_node m) e) is c)) h.1)
+      ((h.0.0, h.0.1, new_header (Listed singles) h.0.0 is h.0.2), entries_kept has name singles.items (λ e c. refs_apart e (subst (λ m. Contains (refs_of_node m) e) is c)) h.1)

@@ -31,7 +31,7 @@ use Rattle.lock_free.specs.declared.rules.View.{View}
 use Rattle.lock_free.specs.declared.sizes.Sizes.{Sizes}
 use Rattle.lock_free.specs.Accounts.{state_of, place_at, place_of, gone_on, OwnIs}
 use Rattle.lock_free.specs.Nodes.{Has, StandsAs, InTable, AreEntries, IsEntryOf, is_single, half_of, IsOver, SaysPrevious, decided, ahead, pending, failed, SaysShape, of_branch, of_tomb, of_list, SaysHeader, class_of}
-use Rattle.lock_free.specs.Places.{first_slot_word, generation_word, root_word, IsTaken}
+use Rattle.lock_free.specs.Places.{first_slot_word, words_in, words_of, generation_word, root_word, IsTaken}
 use Rattle.lock_free.specs.Publishing.{with_main_of}
 use Rattle.lock_free.specs.Restoring.{Restores}
 use Rattle.lock_free.specs.Roots.{MeansRoot, closed, reserved, writable, read_only, closing_writable, closing_read_only, offered, opening, opens_later, IsWritten, second_of}
@@ -40,6 +40,7 @@ use Rattle.lock_free.proofs.Assembling.{AllStand, all_stand}
 use Rattle.lock_free.proofs.Framing.{below_word, stands_over, still_taken, have_still, roots_still, class_small, first_word, node_far, node_inside, not_of_other, not_of_any_offer}
 use Rattle.lock_free.proofs.Geometry.{IsWordOf}
 use Rattle.lock_free.proofs.Made.{is_pending, is_failed}
+use Rattle.lock_free.proofs.Owners.{owners_kept}
 use Rattle.lock_free.proofs.NodeWord.{node_word_kept}
 
 module _ (sizes : Sizes) (account : Account) (actor : ℕ) (operation : Operation) (i main former : Ref) (restores : Restores sizes account actor operation i main former) (stands : Standing) (words : List ℕ)
@@ -181,6 +182,8 @@ module _ (sizes : Sizes) (account : Account) (actor : ℕ) (operation : Operatio
     apart = λ j k x y a c e. (let b = before j x (which j x a.1) in let d = before k y (which k y c.1) in all.nodes.apart j k b.0 d.0 (a.0, b.1) (c.0, d.1) e);
     offers = λ o c k slot h. (let b = before k slot (which k slot h.1) in all.nodes.offers o c k b.0 (h.0, b.1));
     written = λ k slot h. written_by k slot h.0 (which k slot h.1);
+    inside = λ k slot e. (let b = before k slot (which k slot e) in subst (λ c. 2 * place_at account k + words_in c ≤ words_of sizes) (sym b.2) (all.nodes.inside k b.0 b.1));
+    owners = owners_kept account account_then now next refl refl restores.aheads all.nodes.owners;
     live = λ r h. all.nodes.live r (restores.live r h);
   }
 

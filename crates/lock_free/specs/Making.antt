@@ -111,7 +111,9 @@ pub record NamesNot (k : ℕ) (account : Account) (state : State) : Type 0 where
 pub record Makes (sizes : Sizes) (account after : Account) (actor : ℕ) (operation : Operation) (node : Node) (more : ℕ) : Type 0 where
   pub bounds : AreBounds (bounds_for sizes after.steps)
   pub names_not : NamesNot (length account.names) account (state_of sizes account)
-  pub refs : (r : Ref) → Contains (refs_of_node node) r → slot_of r ≢ length account.names
+  -- what it names was made, and isn't about to be swapped in
+  pub refs : (r : Ref) → Contains (refs_of_node node) r → slot_of r < length account.names
+  pub unmet : (r : Ref) → Contains (refs_of_node node) r → (i a f : Ref) → IsAhead (state_of sizes account) i a f → slot_of f ≢ slot_of r
   pub made : Slot
   pub stands : slice_index_or (state_of sizes after).heap.slots (length account.names) None ≡ Some made
   pub node_is : made.node ≡ node

@@ -75,6 +75,12 @@ pub data SaysPrevious (account : Account) (state : State) (k : ℕ) : Prev → P
   failed : (p : Ref) (own : Bool) → IsOver account state k p own →
       SaysPrevious account state k (prev.Failed p) (previous.Failed (record { slot = place_of account p; own = own }))
 
+-- Whether a main node is an indirection's own is said of nodes that were made, and once and for all; of one that is about to be swapped in it isn't said yet.
+pub record AreOwners (account : Account) (state : State) : Type 0 where
+  pub made : (i m : ℕ) (b : Bool) → OwnIs account.owned i m b → (i < length account.names) × (m < length account.names)
+  pub once : (i m : ℕ) (b c : Bool) → OwnIs account.owned i m b → OwnIs account.owned i m c → b ≡ c
+  pub fresh : (i a f : Ref) → IsAhead state i a f → (j : ℕ) (b : Bool) → OwnIs account.owned j (slot_of f) b → ⊥
+
 -- ---- nodes
 
 -- what a main node is
