@@ -6,7 +6,9 @@ mod Assembling
 mod Waiting
 mod Seats
 mod Keeping
+mod Moments
 mod Looking
+mod Within
 mod Framing
 mod NodeWord
 mod Pools

@@ -1,123 +1,200 @@
--- A load of a header is a step of READ, and tells what the header says.
-use Rattle.history.specs.declared.calls.Call.{Call}
-use Rattle.std.proofs.Common.{◌≡◌, ◌+◌, ◌*◌, ◌<◌, ℕ, suc, zero, Bool, true, false, List, [], ◌∷◌, ◌++◌, set, get_or, slice_index, length, Some, None, refl, sym, ap, subst, ◌∙◌, arith}
+-- What loads of nodes find.
+use Rattle.std.proofs.Common.{◌≡◌, ◌+◌, ◌*◌, ◌/◌, ◌<◌, ◌≤◌, ℕ, Bool, true, false, List, [], ◌∷◌, Contains, get_or, slice_index, slice_get, length, Some, None, refl, sym, ap, subst, ◌∙◌, arith}
 use Rattle.std.proofs.lemmas.Bool.{true≢false}
+use Rattle.std.proofs.lemmas.List.Elements.{Contains-get_or}
 use Rattle.std.proofs.lemmas.Option.{same_Some}
-use Rattle.std.proofs.lemmas.List.{set-get_or}
-use mathlib.Core.Option.{some, none}
-use lib.ListN.{get_elem?}
-use Rattle.atomic_table.specs.Table.{Me, Allows, step, keeps}
-use Rattle.atomic_table.specs.Table as Table
 use Rattle.machine_model.specs.Beneath.slot_arena.specs.declared.refs.Ref.{Ref}
-use Rattle.machine_model.specs.Beneath.slot_arena.specs.declared.nodes.Slot.{Slot}
 use Rattle.machine_model.specs.Beneath.slot_arena.specs.declared.nodes.Node.{Node}
 use Rattle.machine_model.specs.Beneath.slot_arena.specs.declared.nodes.Node.TheVariants.{Indirection, Branch, Single, Tomb, List as Listed}
+use Rattle.machine_model.specs.Beneath.slot_arena.specs.declared.nodes.Slot.{Slot}
+use Rattle.machine_model.specs.Beneath.slot_arena.specs.Heaps.{no_ref, entries_of}
 use Rattle.machine_model.specs.Beneath.slot_arena.specs.Refs.{slot_of}
 use Rattle.machine_model.specs.declared.actions.Action.{Action}
 use Rattle.machine_model.specs.declared.actions.Action.TheVariants as act
-use Rattle.machine_model.specs.Beneath.slot_arena.specs.Heaps.{no_ref}
-use Rattle.machine_model.specs.declared.operations.Operation.{Operation}
 use Rattle.machine_model.specs.Operations.{action_of}
 use Rattle.machine_model.specs.States.{State}
-use Rattle.proof_memory.specs.Wants.{is_main_node}
+use Rattle.machine_model.specs.declared.operations.Operation.{Operation}
+use Rattle.proof_memory.specs.Wants.{is_main_node, is_branch_or_list}
 use Rattle.lock_free.specs.declared.accounts.Account.{Account}
 use Rattle.lock_free.specs.declared.rules.View.{View}
-use Rattle.lock_free.specs.declared.sizes.Sizes.{Sizes}
-use Rattle.lock_free.specs.Accounts.{bounds_for, state_of, place_at, place_of, HasWaited, running, gone_on}
-use Rattle.lock_free.specs.Nodes.{StandsAs, InTable, SaysHeader}
-use Rattle.lock_free.specs.Rules.{NodesStand, IsKept}
-use Rattle.machine_model.specs.Machine.{AreBounds}
-use Rattle.lock_free.specs.Loading.{Moment, IsAt, HasSeen, HasGone, has_gone, IsAtHeader, HasHeader, HasLooked}
-use Rattle.lock_free.proofs.Keeping.{kept_then, then_view}
-use Rattle.lock_free.proofs.Definition.{IsReading, reads_of, prev_stands, prev_made, waits, bounds_before}
+use Rattle.lock_free.specs.Accounts.{state_of, place_of, running}
+use Rattle.lock_free.specs.Loading.{Moment, now, IsAt, IsUsed, seen, HasSeen, HasGone, Holds, SaysFirst, HasFirst, HasHeader, HasLink, HasValue, HasPair, IsAtSlot, Went, Saw, SawOf, HasRead, HasReadHeader, HasReadLink, HasReadFirst, HasReadValue, HasSeenFirst, HasSeenValue, HasSeenPair}
+use Rattle.lock_free.specs.Live.{IsLive}
+use Rattle.lock_free.specs.Nodes.{StandsAs, InTable, SaysHeader, IsEntryOf, half_of}
+use Rattle.lock_free.proofs.Asked.{links_of, mains_of, link_stands, main_stands, looked_at_lives}
+use Rattle.lock_free.proofs.Moments.{IsThere, is_there, its_place, held_there, stands_there, waited_so, before}
 
--- places stay where they are
-pub place_stays : (names more : List ℕ) (k : ℕ) → k < length names → get_or (names ++ more) k 0 ≡ get_or names k 0
-place_stays [] more k h = absurd (omega (arith, h))
-place_stays (x ∷ xs) more zero h = refl
-place_stays (x ∷ xs) more (suc k) h = place_stays xs more k (omega (arith, h))
+pub one_named : (r : Ref) → Contains (r ∷ []) r
+one_named r = Contains-get_or (r ∷ []) 0 r (omega arith)
 
--- what a main node's words say of its header
-header_in : (account : Account) (state : State) (words : List ℕ) (name k : ℕ) (slot : Slot) (node : Node) → is_main_node node ≡ true → StandsAs account state (InTable words) name k slot node →
-    SaysHeader account state k slot (slice_index words (2 * name))
-header_in account state words name k slot (Indirection generation main) m h = absurd (true≢false (sym m))
-header_in account state words name k slot (Single key value) m h = absurd (true≢false (sym m))
-header_in account state words name k slot (Branch bitmap entries) m h = subst (λ w. SaysHeader account state k slot w) (sym h.0.1) h.0.2
-header_in account state words name k slot (Tomb single) m h = subst (λ w. SaysHeader account state k slot w) (sym h.1) h.2
-header_in account state words name k slot (Listed singles) m h = subst (λ w. SaysHeader account state k slot w) (sym h.0.1) h.0.2
+-- ---- what a node's words say
+
+module _ (account : Account) (state : State) (words : List ℕ) (name : ℕ) (r : Ref) (slot : Slot) where
+  first_says : (node : Node) → StandsAs account state (InTable words) name (slot_of r) slot node → SaysFirst account state r slot node (slice_index words (2 * name))
+  first_says (Indirection generation main) h = (h.0, (h.1.0, h.1.1, h.1.2))
+  first_says (Single key value) h = h.0
+  first_says (Branch bitmap entries) h = subst (λ w. SaysHeader account state (slot_of r) slot w) (sym h.0.1) h.0.2
+  first_says (Tomb single) h = subst (λ w. SaysHeader account state (slot_of r) slot w) (sym h.1) h.2
+  first_says (Listed singles) h = subst (λ w. SaysHeader account state (slot_of r) slot w) (sym h.0.1) h.0.2
+
+  value_says : (node : Node) → StandsAs account state (InTable words) name (slot_of r) slot node → (key value : ℕ) → node ≡ Single key value → slice_index words (2 * name + 1) ≡ value
+  value_says node h key value is = (subst (λ n. StandsAs account state (InTable words) name (slot_of r) slot n) is h).1
+
+  pair_says : (position : ℕ) (node : Node) → StandsAs account state (InTable words) name (slot_of r) slot node → is_branch_or_list node ≡ true → (n : ℕ) (e : Ref) → n / 2 ≡ position / 2 → slice_get (entries_of node) n ≡ Some e →
+      IsEntryOf account state.heap e (half_of (slice_index words (2 * name + 1 + position / 2)) n)
+  pair_says position (Branch bitmap entries) h is n e same at =
+      let x = h.1 n e at in subst (λ w. IsEntryOf account state.heap e (half_of w n)) (sym x.1 ∙ ap (λ m. slice_index words (2 * name + 1 + m)) same) x.2
+  pair_says position (Listed singles) h is n e same at =
+      let x = h.1 n e at in subst (λ w. IsEntryOf account state.heap e (half_of w n)) (sym x.1 ∙ ap (λ m. slice_index words (2 * name + 1 + m)) same) x.2
+  pair_says position (Indirection generation main) h is n e same at = absurd (true≢false (sym is))
+  pair_says position (Single key value) h is n e same at = absurd (true≢false (sym is))
+  pair_says position (Tomb single) h is n e same at = absurd (true≢false (sym is))
+
+header_of_first : (account : Account) (state : State) (r : Ref) (slot : Slot) (node : Node) (found : ℕ) → is_main_node node ≡ true → SaysFirst account state r slot node found → SaysHeader account state (slot_of r) slot found
+header_of_first account state r slot (Indirection generation main) found is h = absurd (true≢false (sym is))
+header_of_first account state r slot (Single key value) found is h = absurd (true≢false (sym is))
+header_of_first account state r slot (Branch bitmap entries) found is h = h
+header_of_first account state r slot (Tomb single) found is h = h
+header_of_first account state r slot (Listed singles) found is h = h
+
+-- ---- at the moment of a load
 
 module _ (v : View) (word found : ℕ) (m : Moment v word found) where
-  abbrev pub there : Account
-  there = m.kept.account
+  abbrev account : Account
+  account = m.kept.account
 
-  pub waited : HasWaited v.actor v.account there
-  waited = (m.kept.seats m.id v m.at).waited
+  abbrev state : State
+  state = state_of v.sizes account
 
-  bounds_there : AreBounds (bounds_for v.sizes there.steps)
-  bounds_there = subst (λ z. AreBounds (bounds_for z there.steps)) (sym m.same) m.kept.bounds
+  module _ (r : Ref) (h : IsThere v m.table m.kept m.id m.at r) where
+    place : place_of account r ≡ place_of v.account r
+    place = its_place v m.table m.kept m.id m.at r h
 
-  module _ (main : Ref) (p : IsAt v (act.ReadPrev main)) (its : word ≡ 2 * place_of v.account main) where
-    here : (mark : Bool) × running v.sizes there v.actor (record p.operation { is_marked = mark })
-        × (action_of (state_of v.sizes there) (record p.operation { is_marked = mark }) ≡ action_of (state_of v.sizes v.account) p.operation)
-    here = waits v.sizes v.actor v.account there waited bounds_there p.operation p.runs
+    stands : StandsAs account state (InTable m.table.words) (place_of v.account r) (slot_of r) h.slot h.slot.node
+    stands = subst (λ p. StandsAs account state (InTable m.table.words) p (slot_of r) h.slot h.slot.node) place (stands_there v m.table m.kept m.id m.at r h.slot h.lives h.used)
 
-    -- the main node was made when the seat looked last, so its place is as the seat has it
-    made : slot_of main < length v.account.names
-    made =
-        let seat = m.kept.seats m.id v m.at in
-        let births = subst (λ z. length v.account.names ≡ (state_of z v.account).heap.births) (sym m.same) seat.counts in
-        let low = prev_made v.sizes v.account (bounds_before v.sizes v.account there waited bounds_there) v.actor p.operation p.runs main p.acts in
-        omega (arith, births, low)
+    first_is : word ≡ 2 * place_of v.account r → SaysFirst account state r h.slot h.slot.node found
+    first_is its =
+        subst (λ w. SaysFirst account state r h.slot h.slot.node w) (ap (slice_index m.table.words) (sym its) ∙ m.finds) (first_says account state m.table.words (place_of v.account r) r h.slot h.slot.node stands)
 
-    same_place : place_of there main ≡ place_of v.account main
-    same_place = ap (λ xs. get_or xs (slot_of main) 0) waited.more_names ∙ place_stays v.account.names waited.names (slot_of main) made
+    pub has_first : word ≡ 2 * place_of v.account r → HasFirst account state r found
+    has_first its = record { slot = h.slot; stands = h.used; says = first_is its }
 
-    pub header : HasHeader there (state_of v.sizes there) main found
-    header =
-        let finds = prev_stands v.sizes there bounds_there v.actor (record p.operation { is_marked = here.0 }) here.1 main (here.2 ∙ p.acts) in
-        let slot = finds.1.0 in
-        let nodes = subst (λ z. NodesStand z there m.kept.stands m.table.words) (sym m.same) m.kept.nodes in
-        let says = header_in there (state_of v.sizes there) m.table.words (place_of there main) (slot_of main) slot slot.node finds.1.2 (nodes.written (slot_of main) slot (nodes.live main finds.0, finds.1.1)) in
-        record {
-          slot = slot;
-          stands = finds.1.1;
-          says = subst (λ w. SaysHeader there (state_of v.sizes there) (slot_of main) slot w)
-              (ap (λ n. slice_index m.table.words (2 * n)) same_place ∙ ap (λ n. slice_index m.table.words n) (sym its) ∙ m.finds) says;
-        }
+    pub has_header : is_main_node h.slot.node ≡ true → word ≡ 2 * place_of v.account r → HasHeader account state r found
+    has_header is its = record { slot = h.slot; stands = h.used; is_main = is; says = header_of_first account state r h.slot h.slot.node found is (first_is its) }
 
--- the load is the step
-pub header_allowed : (sizes : Sizes) (size id : ℕ) (me : Me Call View) (word : ℕ) (main : Ref) → IsAt me.0 (act.ReadPrev main) →
-    Allows (IsKept sizes) size id me word (λ n. n) (has_gone (step size word 0 0 none) me)
-header_allowed sizes size id me word main p s kept length_is at low =
-    let v = me.0 in
-    let its = (kept.seats id v at).same in
-    let waited = (kept.seats id v at).waited in
-    let here = waits sizes v.actor v.account kept.account waited kept.bounds p.operation (subst (λ z. running z v.account v.actor p.operation) its p.runs) in
-    let o : Operation = record p.operation { is_marked = here.0 } in
-    let acts : action_of (state_of sizes kept.account) o ≡ act.ReadPrev main = here.2 ∙ subst (λ z. action_of (state_of z v.account) p.operation ≡ act.ReadPrev main) its p.acts in
-    let reads = reads_of sizes kept.account kept.bounds v.actor o here.1 (subst IsReading (sym acts) tt) in
-    let next = kept_then sizes s kept id v at o here.1 reads in (
-      record v { account = gone_on v.actor kept.account },
-      keeps,
-      tt,
-      subst (λ ws. IsKept sizes (record { words = ws; homes = s.homes; views = set s.views id (record v { account = gone_on v.actor kept.account }) })) (sym (set-get_or s.words word 0)) next,
-      ((record { table = s; sizes = sizes; same = its; kept = kept; id = id; at = at; finds = refl }, refl), refl),
-    )
+    pub has_link : (generation : ℕ) (main : Ref) → h.slot.node ≡ Indirection generation main → word ≡ 2 * place_of v.account r → HasLink account state r found
+    has_link generation main is its =
+        let says = subst (λ n. SaysFirst account state r h.slot n found) is (first_is its) in
+        record { slot = h.slot; stands = h.used; generation = generation; main = main; node = is; small = says.0; own = says.1.0; is_own = says.1.1; code = says.1.2 }
 
-abbrev prev_in : Action → Ref
-prev_in (act.ReadPrev m) = m
-prev_in action = no_ref
+    pub has_value : word ≡ 2 * place_of v.account r + 1 → HasValue state r found
+    has_value its = record {
+      slot = h.slot;
+      stands = h.used;
+      says = λ key value is. sym (ap (slice_index m.table.words) (sym its) ∙ m.finds) ∙ value_says account state m.table.words (place_of v.account r) r h.slot h.slot.node stands key value is;
+    }
 
-same_prev : (v : View) (main other : Ref) → IsAt v (act.ReadPrev main) → IsAt v (act.ReadPrev other) → main ≡ other
-same_prev v main other p q =
-    let same : p.operation ≡ q.operation = same_Some p.operation q.operation (sym p.runs ∙ q.runs) in
-    ap prev_in (sym p.acts ∙ ap (action_of (state_of v.sizes v.account)) same ∙ q.acts)
+    pub has_pair : (position : ℕ) → word ≡ 2 * place_of v.account r + 1 + position / 2 → HasPair account state r position found
+    has_pair position its = record {
+      slot = h.slot;
+      stands = h.used;
+      says = λ is n e same e_at.
+          subst (λ w. IsEntryOf account state.heap e (half_of w n)) (ap (slice_index m.table.words) (sym its) ∙ m.finds)
+          (pair_says account state m.table.words (place_of v.account r) r h.slot position h.slot.node stands is n e same e_at);
+    }
 
--- what the seat is told
-pub told : (before : View) (name found : ℕ) (after : View) → IsAtHeader before name → HasGone before (2 * name) found after → HasLooked before found after
-told before name found after (main, p, place) (m, is) = record {
-  account = m.kept.account;
-  waited = waited before (2 * name) found m;
-  after_is = is;
-  says = λ other q. header before (2 * name) found m other q (ap (λ n. 2 * n) (sym place ∙ ap (place_of before.account) (same_prev before main other p q)));
-}
+  -- what the operation's action names is there
+  module _ (does : Action) (p : IsAt v does) where
+    o_there : (mark : Bool) × running v.sizes account v.actor (record p.operation { is_marked = mark }) × (action_of state (record p.operation { is_marked = mark }) ≡ action_of (now v) p.operation)
+    o_there = (waited_so v m.table m.kept m.id m.at).stays p.operation p.runs
+
+    acts_there : action_of state (record p.operation { is_marked = o_there.0 }) ≡ does
+    acts_there = o_there.2 ∙ p.acts
+
+  pub look_there : (r : Ref) → IsAt v (act.Look r) → IsThere v m.table m.kept m.id m.at r
+  look_there r p =
+      is_there v m.table m.kept m.id m.at r (looked_at_lives v.sizes v.account (before v m.table m.kept m.id m.at) v.actor p.operation p.runs r p.acts)
+      (looked_at_lives v.sizes account m.kept.bounds v.actor (record p.operation { is_marked = (o_there (act.Look r) p).0 }) (o_there (act.Look r) p).1 r (acts_there (act.Look r) p))
+
+  -- a main node or an indirection that it names
+  pub main_there : (does : Action) (r : Ref) → Contains (mains_of does) r → IsAt v does → (h : IsThere v m.table m.kept m.id m.at r) × (is_main_node h.slot.node ≡ true)
+  main_there does r c p =
+      let first = main_stands v.sizes v.account (before v m.table m.kept m.id m.at) v.actor p.operation p.runs r (subst (λ a. Contains (mains_of a) r) (sym p.acts) c) in
+      let o = o_there does p in
+      let second = main_stands v.sizes account m.kept.bounds v.actor (record p.operation { is_marked = o.0 }) o.1 r (subst (λ a. Contains (mains_of a) r) (sym (acts_there does p)) c) in
+      (record { was = first.1.0; was_used = first.1.1; lives = second.0; slot = second.1.0; used = second.1.1 }, second.1.2)
+
+  pub link_there : (does : Action) (r : Ref) → Contains (links_of does) r → IsAt v does →
+      (h : IsThere v m.table m.kept m.id m.at r) × (generation : ℕ) × (main : Ref) × (h.slot.node ≡ Indirection generation main)
+  link_there does r c p =
+      let first = link_stands v.sizes v.account (before v m.table m.kept m.id m.at) v.actor p.operation p.runs r (subst (λ a. Contains (links_of a) r) (sym p.acts) c) in
+      let o = o_there does p in
+      let second = link_stands v.sizes account m.kept.bounds v.actor (record p.operation { is_marked = o.0 }) o.1 r (subst (λ a. Contains (links_of a) r) (sym (acts_there does p)) c) in
+      (record { was = first.1.0; was_used = first.1.3; lives = second.0; slot = second.1.0; used = second.1.3 }, second.1.1, second.1.2, second.1.4)
+
+-- ---- what the seat is told
+
+-- what its action is
+same_action : (v : View) (a b : Action) → IsAt v a → IsAt v b → a ≡ b
+same_action v a b p q = sym p.acts ∙ ap (action_of (now v)) (same_Some p.operation q.operation (sym p.runs ∙ q.runs)) ∙ q.acts
+
+-- the node that a load's action names
+abbrev read_by : Action → Ref
+read_by (act.ReadMain i) = i
+read_by (act.ReadPrev m) = m
+read_by (act.Look r) = r
+read_by action = no_ref
+
+abbrev pub went : (before : View) (word found : ℕ) (after : View) → HasGone before word found after → Went before after
+went before word found after (m, is, took) = record { account = m.kept.account; waited = waited_so before m.table m.kept m.id m.at; after_is = is; took = took }
+
+abbrev pub saw : (before : View) (word found : ℕ) (after : View) → HasSeen before word found after → Saw before after
+saw before word found after (m, is) = record { account = m.kept.account; waited = waited_so before m.table m.kept m.id m.at; after_is = is }
+
+module _ (before : View) (name found : ℕ) (after : View) where
+  -- where it was to do that to the node in this slot
+  module _ (does : Ref → Action) (names : (r : Ref) → read_by (does r) ≡ r) (is_at : IsAtSlot before does name) (r : Ref) (p : IsAt before (does r)) where
+    its_slot : place_of before.account r ≡ name
+    its_slot =
+        let same : is_at.0 ≡ r = sym (names is_at.0) ∙ ap read_by (same_action before (does is_at.0) (does r) is_at.1 p) ∙ names r in
+        ap (place_of before.account) (sym same) ∙ is_at.2
+
+  pub read_first : IsAtSlot before act.Look name → HasGone before (2 * name) found after → HasReadFirst before found after
+  read_first is_at g = (went before (2 * name) found after g, λ r p.
+      has_first before (2 * name) found g.0 r (look_there before (2 * name) found g.0 r p) (ap (λ n. 2 * n) (sym (its_slot act.Look (λ q. refl) is_at r p))))
+
+  pub read_value : IsAtSlot before act.Look name → HasGone before (2 * name + 1) found after → HasReadValue before found after
+  read_value is_at g = (went before (2 * name + 1) found after g, λ r p.
+      has_value before (2 * name + 1) found g.0 r (look_there before (2 * name + 1) found g.0 r p) (ap (λ n. 2 * n + 1) (sym (its_slot act.Look (λ q. refl) is_at r p))))
+
+  pub read_header : IsAtSlot before act.ReadPrev name → HasGone before (2 * name) found after → HasReadHeader before found after
+  read_header is_at g = (went before (2 * name) found after g, λ r p.
+      (let there = main_there before (2 * name) found g.0 (act.ReadPrev r) r (one_named r) p in
+      has_header before (2 * name) found g.0 r there.0 there.1 (ap (λ n. 2 * n) (sym (its_slot act.ReadPrev (λ q. refl) is_at r p)))))
+
+  pub read_link : IsAtSlot before act.ReadMain name → HasGone before (2 * name) found after → HasReadLink before found after
+  read_link is_at g = (went before (2 * name) found after g, λ r p.
+      (let there = link_there before (2 * name) found g.0 (act.ReadMain r) r (one_named r) p in
+      has_link before (2 * name) found g.0 r there.0 there.1 there.2 there.3 (ap (λ n. 2 * n) (sym (its_slot act.ReadMain (λ q. refl) is_at r p)))))
+
+  -- ---- of what it holds
+
+  module _ (word : ℕ) (h : HasSeen before word found after) where
+    now_is : (Says : State → Type 0) → Says (state_of before.sizes h.0.kept.account) → Says (now after)
+    now_is Says x = subst (λ (w : View). Says (now w)) (sym h.1) x
+
+    held : (r : Ref) → Holds before r → IsThere before h.0.table h.0.kept h.0.id h.0.at r
+    held r holds = held_there before h.0.table h.0.kept h.0.id h.0.at r holds
+
+    pub seen_first : word ≡ 2 * name → HasSeenFirst before name found after
+    seen_first its = (saw before word found after h, λ r holds place.
+        now_is (λ state. HasFirst h.0.kept.account state r found) (has_first before word found h.0 r (held r holds) (its ∙ ap (λ n. 2 * n) (sym place))))
+
+    pub seen_value : word ≡ 2 * name + 1 → HasSeenValue before name found after
+    seen_value its = (saw before word found after h, λ r holds place.
+        now_is (λ state. HasValue state r found) (has_value before word found h.0 r (held r holds) (its ∙ ap (λ n. 2 * n + 1) (sym place))))
+
+    pub seen_pair : (position : ℕ) → word ≡ 2 * name + 1 + position / 2 → HasSeenPair before name position found after
+    seen_pair position its = (saw before word found after h, λ r holds place.
+        now_is (λ state. HasPair h.0.kept.account state r position found) (has_pair before word found h.0 r (held r holds) position (its ∙ ap (λ n. 2 * n + 1 + position / 2) (sym place))))

@@ -1,0 +1,19 @@
+use Rattle.std.proofs.Common.{◌+◌, ◌*◌, ◌/◌, sym, subst, refl}
+use Rattle.lock_free.specs.Loading.{IsSound}
+use Rattle.lock_free.proofs.Looking.{seen_first}
+use Rattle.lock_free.proofs.Moments.{load_allowed}
+use Rattle.lock_free.proofs.Within.{both_inside, held_lives}
+use Rattle.lock_free.proofs.loads.load_first.Goals as goal
+
+pub load-requires : goal.load-requires
+load-requires c = (
+  c.requires.table,
+  (both_inside c.args.words.now.table_id.words c.args.actor.now.me.0 c.requires.sound c.requires.held.0 c.args.node (held_lives c.args.actor.now.me.0 c.requires.held.0 c.requires.held.1) c.requires.held.2).0,
+  load_allowed c.args.words.now.key c.args.words.now.table_id.slots c.args.actor.now.id c.args.actor.now.me (2 * c.args.node),
+)
+
+pub returns-clause-seen : goal.returns-clause-seen
+returns-clause-seen c = seen_first c.args.actor.now.me.0 c.args.node c.load.result c.load.new.seat.me.0 (2 * c.args.node) c.load.ensures.2.0 refl
+
+pub returns-clause-sound : goal.returns-clause-sound
+returns-clause-sound c = subst (λ n. IsSound n c.load.new.seat.me.0) (sym c.requires.sound.size) c.load.ensures.2.1
