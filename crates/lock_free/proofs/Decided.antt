@@ -141,7 +141,7 @@ module _ (sizes : Sizes) (account : Account) (actor : ℕ) (operation : Operatio
         previous = says_then decides.verdict its_header.previous;
         is_previous = says_prev decides.slot.prev its_header.previous decides.verdict decides.pending decides.committed_or_failed its_header.is_previous;
         shape = its_header.shape;
-        is_shape = shape_kept account account_then.steps nothing now next same decides.aheads still words decides.slot.node its_header.shape its_header.is_shape;
+        is_shape = shape_kept account account_then.steps nothing now next same decides.aheads still words (slot_of main) decides.slot.node its_header.shape its_header.is_shape;
         code = says its_header;
       })
 

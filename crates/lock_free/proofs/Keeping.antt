@@ -77,17 +77,17 @@ module _ (account : Account) (steps : List Step) (dropped : Dropped) (before aft
   previous_kept k q says stays (pending o own h) = pending o own (over_kept k o own h)
   previous_kept k q says stays (failed o own h) = failed o own (over_kept k o own h)
 
-  pub shape_kept : (node : Node) (says : Shape) → SaysShape account before.heap node says → SaysShape later after.heap node says
-  shape_kept node says (of_branch bitmap entries) = of_branch bitmap entries
-  shape_kept node says (of_tomb single own) = of_tomb single own
-  shape_kept node says (of_list singles) = of_list singles
+  pub shape_kept : (k : ℕ) (node : Node) (says : Shape) → SaysShape account k node says → SaysShape later k node says
+  shape_kept k node says (of_branch bitmap entries) = of_branch bitmap entries
+  shape_kept k node says (of_tomb single own is) = of_tomb single own is
+  shape_kept k node says (of_list singles) = of_list singles
 
   header_kept : (k : ℕ) (slot : Slot) (word : ℕ) → dropped k ≡ false → SaysHeader account before k slot word → SaysHeader later after k slot word
   header_kept k slot word stays h = record {
     previous = h.previous;
     is_previous = previous_kept k slot.prev h.previous stays h.is_previous;
     shape = h.shape;
-    is_shape = shape_kept slot.node h.shape h.is_shape;
+    is_shape = shape_kept k slot.node h.shape h.is_shape;
     code = h.code;
   }
 

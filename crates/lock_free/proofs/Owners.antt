@@ -27,7 +27,7 @@ owners_kept account then before after same_owned same_names aheads h = record {
 
 -- what is said of owners with one more: it, or what was said before
 abbrev IsIt : Owned → ℕ → ℕ → Bool → Type 0
-IsIt x i m b = (x.indirection ≡ i) × (x.main ≡ m) × (x.is_own ≡ b)
+IsIt x i m b = (x.holder ≡ i) × (x.held ≡ m) × (x.is_own ≡ b)
 
 it_or_before : (x : Owned) (rest : List Owned) (i m : ℕ) (b : Bool) → OwnIs (x ∷ rest) i m b → IsIt x i m b ⊎ OwnIs rest i m b
 it_or_before x rest i m b (first y ys) = inl (refl, refl, refl)
@@ -35,13 +35,13 @@ it_or_before x rest i m b (later y ys j k c h) = inr h
 
 -- one more, of a made indirection and a made main node, of which nothing was said before
 module _ (account after : Account) (before next : State) (h : AreOwners account before) (x : Owned) (same : after.owned ≡ x ∷ account.owned) (more : (n : ℕ) → n < length account.names → n < length after.names)
-    (link : x.indirection < length after.names) (main : x.main < length after.names) (new : (b : Bool) → OwnIs account.owned x.indirection x.main b → ⊥)
-    (fresh : (i a f : Ref) → IsAhead next i a f → (slot_of f ≢ x.main) × ((j : ℕ) (b : Bool) → OwnIs account.owned j (slot_of f) b → ⊥)) where
+    (link : x.holder < length after.names) (main : x.held < length after.names) (new : (b : Bool) → OwnIs account.owned x.holder x.held b → ⊥)
+    (fresh : (i a f : Ref) → IsAhead next i a f → (slot_of f ≢ x.held) × ((j : ℕ) (b : Bool) → OwnIs account.owned j (slot_of f) b → ⊥)) where
   cases : (i m : ℕ) (b : Bool) → OwnIs after.owned i m b → IsIt x i m b ⊎ OwnIs account.owned i m b
   cases i m b o = it_or_before x account.owned i m b (subst (λ xs. OwnIs xs i m b) same o)
 
   new_is : (i m : ℕ) (b c : Bool) → IsIt x i m b → OwnIs account.owned i m c → ⊥
-  new_is i m b c is o = new c (subst (λ n. OwnIs account.owned n x.main c) (sym is.0) (subst (λ n. OwnIs account.owned i n c) (sym is.1) o))
+  new_is i m b c is o = new c (subst (λ n. OwnIs account.owned n x.held c) (sym is.0) (subst (λ n. OwnIs account.owned i n c) (sym is.1) o))
 
   pub owners_more : AreOwners after next
   owners_more = record {
@@ -109,16 +109,20 @@ module _ (sizes : Sizes) (account : Account) (actor : ℕ) (operation : Operatio
     fresh = λ i a f is j b o. not_said i a f is j b (subst (λ xs. OwnIs xs j (slot_of f) b) same o);
   }
 
+  -- it says whose own this node is
+  with_held : (r : Ref) → Contains (refs_of_node node) r → owned_with account.owned (length account.names) own node ≡ record { holder = length account.names; held = slot_of r; is_own = own } ∷ account.owned → AreOwners after next
+  with_held r there same =
+      let low = makes.refs r there in
+      owners_more account after (state_of sizes account) next h (record { holder = length account.names; held = slot_of r; is_own = own }) same (λ n below. omega (arith, below, longer)) (omega (arith, longer))
+      (omega (arith, low, longer)) (λ b o. (let made = (h.made (length account.names) (slot_of r) b o).0 in absurd (omega (arith, made)))) (λ i a f ahead. (not_named r there i a f ahead, not_said i a f ahead))
+
   owners_by : (n : Node) → n ≡ node → AreOwners after next
   owners_by (Indirection generation main) is =
-      let there : Contains (refs_of_node node) main = subst (λ m. Contains (refs_of_node m) main) is (Contains-get_or (main ∷ []) 0 main (omega arith)) in
-      let low = makes.refs main there in
-      owners_more account after (state_of sizes account) next h (record { indirection = length account.names; main = slot_of main; is_own = own })
-      (ap (λ m. owned_with account.owned (length account.names) own m) (sym is)) (λ n below. omega (arith, below, longer)) (omega (arith, longer)) (omega (arith, low, longer))
-      (λ b o. (let made = (h.made (length account.names) (slot_of main) b o).0 in absurd (omega (arith, made)))) (λ i a f ahead. (not_named main there i a f ahead, not_said i a f ahead))
+      with_held main (subst (λ m. Contains (refs_of_node m) main) is (Contains-get_or (main ∷ []) 0 main (omega arith))) (ap (λ m. owned_with account.owned (length account.names) own m) (sym is))
   owners_by (Branch bitmap entries) is = nothing_more (ap (λ m. owned_with account.owned (length account.names) own m) (sym is))
   owners_by (Single key value) is = nothing_more (ap (λ m. owned_with account.owned (length account.names) own m) (sym is))
-  owners_by (Tomb single) is = nothing_more (ap (λ m. owned_with account.owned (length account.names) own m) (sym is))
+  owners_by (Tomb single) is =
+      with_held single (subst (λ m. Contains (refs_of_node m) single) is (Contains-get_or (single ∷ []) 0 single (omega arith))) (ap (λ m. owned_with account.owned (length account.names) own m) (sym is))
   owners_by (Listed singles) is = nothing_more (ap (λ m. owned_with account.owned (length account.names) own m) (sym is))
 
   pub owners_made : AreOwners after next

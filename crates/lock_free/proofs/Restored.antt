@@ -102,10 +102,10 @@ module _ (sizes : Sizes) (account : Account) (actor : ℕ) (operation : Operatio
   entries_kept : (has : Has) (name : ℕ) (entries : List Ref) → AreEntries account now.heap has name entries → AreEntries account_then next.heap has name entries
   entries_kept has name entries h position e at = let x = h position e at in (x.0, x.1, entry_kept e (half_of x.0 position) x.2)
 
-  shape_kept : (n : Node) (says : Shape) → SaysShape account now.heap n says → SaysShape account_then next.heap n says
-  shape_kept n says (of_branch bitmap entries) = of_branch bitmap entries
-  shape_kept n says (of_tomb single b) = of_tomb single b
-  shape_kept n says (of_list singles) = of_list singles
+  shape_kept : (k : ℕ) (n : Node) (says : Shape) → SaysShape account k n says → SaysShape account_then k n says
+  shape_kept k n says (of_branch bitmap entries) = of_branch bitmap entries
+  shape_kept k n says (of_tomb single b is) = of_tomb single b is
+  shape_kept k n says (of_list singles) = of_list singles
 
   over_kept : (k : ℕ) (q : Ref) (b : Bool) → k ≢ slot_of former → IsOver account now k q b → IsOver account_then next k q b
   over_kept k q b other h j e = elim (main_kept j) [
@@ -128,7 +128,7 @@ module _ (sizes : Sizes) (account : Account) (actor : ℕ) (operation : Operatio
     previous = h.previous;
     is_previous = previous_kept k slot slot.prev h.previous at refl h.is_previous;
     shape = h.shape;
-    is_shape = shape_kept slot.node h.shape h.is_shape;
+    is_shape = shape_kept k slot.node h.shape h.is_shape;
     code = h.code;
   }
 

@@ -75,7 +75,7 @@ pub data SaysPrevious (account : Account) (state : State) (k : ℕ) : Prev → P
   failed : (p : Ref) (own : Bool) → IsOver account state k p own →
       SaysPrevious account state k (prev.Failed p) (previous.Failed (record { slot = place_of account p; own = own }))
 
--- Whether a main node is an indirection's own is said of nodes that were made, and once and for all; of one that is about to be swapped in it isn't said yet.
+-- Whether a node is another one's own is said of nodes that were made, and once and for all; of one that is about to be swapped in it isn't said yet.
 pub record AreOwners (account : Account) (state : State) : Type 0 where
   pub made : (i m : ℕ) (b : Bool) → OwnIs account.owned i m b → (i < length account.names) × (m < length account.names)
   pub once : (i m : ℕ) (b c : Bool) → OwnIs account.owned i m b → OwnIs account.owned i m c → b ≡ c
@@ -83,18 +83,18 @@ pub record AreOwners (account : Account) (state : State) : Type 0 where
 
 -- ---- nodes
 
--- what a main node is
-pub data SaysShape (account : Account) (heap : Heap) : Node → Shape → Type 0 where
-  of_branch : (bitmap : ℕ) (entries : _) → SaysShape account heap (Branch bitmap entries) (shape.Branch bitmap)
-  of_tomb : (single : Ref) (own : Bool) →
-      SaysShape account heap (Tomb single) (shape.Tomb (record { slot = place_of account single; own = own; is_single = true }))
-  of_list : (singles : _) → SaysShape account heap (Listed singles) (shape.List (length singles.items))
+-- what the main node of this number is
+pub data SaysShape (account : Account) (k : ℕ) : Node → Shape → Type 0 where
+  of_branch : (bitmap : ℕ) (entries : _) → SaysShape account k (Branch bitmap entries) (shape.Branch bitmap)
+  of_tomb : (single : Ref) (own : Bool) → OwnIs account.owned k (slot_of single) own →
+      SaysShape account k (Tomb single) (shape.Tomb (record { slot = place_of account single; own = own; is_single = true }))
+  of_list : (singles : _) → SaysShape account k (Listed singles) (shape.List (length singles.items))
 
 pub record SaysHeader (account : Account) (state : State) (k : ℕ) (slot : Slot) (word : ℕ) : Type 0 where
   pub previous : Previous
   pub is_previous : SaysPrevious account state k slot.prev previous
   pub shape : Shape
-  pub is_shape : SaysShape account state.heap slot.node shape
+  pub is_shape : SaysShape account k slot.node shape
   pub code : word ≡ header_code (record { previous = previous; shape = shape })
 
 -- this node stands in the words of this slot of the table
