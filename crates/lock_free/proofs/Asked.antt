@@ -11,7 +11,7 @@ use Rattle.machine_model.specs.declared.operations.Operation.{Operation}
 use Rattle.machine_model.specs.Machine.{AreBounds}
 use Rattle.machine_model.specs.Operations.{action_of}
 use Rattle.proof_memory.specs.Laws.{SameNode}
-use Rattle.proof_memory.specs.Wants.{is_main_node}
+use Rattle.proof_memory.specs.Wants.{is_main_node, is_formed}
 use Rattle.lock_free.specs.declared.accounts.Account.{Account}
 use Rattle.lock_free.specs.declared.sizes.Sizes.{Sizes}
 use Rattle.lock_free.specs.Accounts.{bounds_for, state_of, HasWaited, running}
@@ -36,6 +36,9 @@ module _ (sizes : Sizes) (account : Account) (bounds : AreBounds (bounds_for siz
   -- what is in use was made
   pub in_use_made : (k : ℕ) (slot : Slot) → get_or (state_of sizes account).heap.slots k None ≡ Some slot → k < (state_of sizes account).heap.births
   in_use_made k slot is = ?
+
+  pub is_well_formed : (k : ℕ) (slot : Slot) → get_or (state_of sizes account).heap.slots k None ≡ Some slot → is_formed slot.node ≡ true
+  is_well_formed k slot is = ?
 
   -- what is live is in use
   pub live_in_use : (r : Ref) → IsLive (state_of sizes account) r → (slot : Slot) × (get_or (state_of sizes account).heap.slots (slot_of r) None ≡ Some slot)

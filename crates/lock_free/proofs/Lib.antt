@@ -7,8 +7,9 @@ mod Waiting
 mod Seats
 mod Keeping
 mod Moments
-mod Looking
 mod Within
+mod Decoding
+mod Looking
 mod Framing
 mod NodeWord
 mod Pools

@@ -108,7 +108,7 @@ module _ (v : View) (s : Table.State Call View) (kept : IsKept v.sizes s) (id : 
   pub waited_so : Waited v there
   waited_so = record {
     waited = its.waited;
-    sound = record { size = refl; bounds = kept.bounds; counted = kept.counted; inside = kept.nodes.inside };
+    sound = record { size = refl; range = kept.range.within; bounds = kept.bounds; counted = kept.counted; inside = kept.nodes.inside };
     stays = λ o runs. waits v.sizes v.actor v.account there its.waited kept.bounds o runs;
   }
 
@@ -202,7 +202,7 @@ module _ (v : View) (s : Table.State Call View) (kept : IsKept v.sizes s) (id : 
     gone_kept = kept_then v.sizes s kept id v at o_there here.1 reads
 
     pub gone_sound : IsSound (words_of v.sizes) gone_view
-    gone_sound = record { size = refl; bounds = reads.bounds; counted = kept.counted ∙ sym reads.births; inside = λ k slot e. kept.nodes.inside k slot (sym (reads.nodes k) ∙ e) }
+    gone_sound = record { size = refl; range = kept.range.within; bounds = reads.bounds; counted = kept.counted ∙ sym reads.births; inside = λ k slot e. kept.nodes.inside k slot (sym (reads.nodes k) ∙ e) }
 
     pub gone_took : Took v there gone_view
     gone_took q runs_q = reads.own ∙ ap (λ x. Some (operation_after (state_of v.sizes there) x)) (same_Some o_there q (sym here.1 ∙ runs_q))

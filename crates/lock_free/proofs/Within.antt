@@ -18,7 +18,7 @@ use Rattle.lock_free.proofs.Asked.{live_in_use}
 use Rattle.lock_free.proofs.Framing.{class_small}
 use Rattle.lock_free.proofs.Moments.{entry_lives}
 
-two_words : (class : ℕ) → class < 3 → 2 ≤ words_in class
+pub two_words : (class : ℕ) → class < 3 → 2 ≤ words_in class
 two_words zero h = omega arith
 two_words (suc zero) h = omega arith
 two_words (suc (suc zero)) h = omega arith

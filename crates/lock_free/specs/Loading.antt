@@ -5,9 +5,11 @@ use mathlib.Core.Option.{some}
 use lib.ListN.{get_elem?}
 use Rattle.atomic_table.specs.Table as Table
 use Rattle.atomic_table.specs.Table.{Me, Step}
-use Rattle.trie_words.specs.Codes.{link_code}
+use Rattle.trie_words.specs.Codes.{IsHeader, IsLink}
+use Rattle.trie_words.specs.declared.entries.Pair.{Pair}
+use Rattle.trie_words.specs.declared.headers.Header.{Header}
+use Rattle.trie_words.specs.declared.links.Link.{Link}
 use Rattle.machine_model.specs.Beneath.slot_arena.specs.declared.refs.Ref.{Ref}
-use Rattle.machine_model.specs.Beneath.slot_arena.specs.declared.nodes.Node.{Node}
 use Rattle.machine_model.specs.Beneath.slot_arena.specs.declared.nodes.Node.TheVariants.{Indirection, Single}
 use Rattle.machine_model.specs.Beneath.slot_arena.specs.declared.nodes.Slot.{Slot}
 use Rattle.machine_model.specs.Beneath.slot_arena.specs.Heaps.{entries_of}
@@ -25,7 +27,7 @@ use Rattle.lock_free.specs.declared.rules.View.{View}
 use Rattle.lock_free.specs.declared.sizes.Sizes.{Sizes}
 use Rattle.lock_free.specs.Accounts.{bounds_for, HasWaited, running, state_of, place_at, place_of, gone_on, IsOwn}
 use Rattle.lock_free.specs.Live.{at_hand}
-use Rattle.lock_free.specs.Nodes.{SaysHeader, IsEntryOf, half_of, class_of}
+use Rattle.lock_free.specs.Nodes.{SaysPrevious, SaysShape, IsEntryOf, half_in, class_of}
 use Rattle.lock_free.specs.Places.{words_in, words_of}
 use Rattle.lock_free.specs.Rules.{IsKept}
 
@@ -59,6 +61,7 @@ IsUsed v r slot = slice_index_or (now v).heap.slots (slot_of r) None ≡ Some sl
 -- The machine never runs out, and the slots of all nodes are the table's, which has so many words.
 pub record IsSound (words : ℕ) (v : View) : Type 0 where
   pub size : words ≡ words_of v.sizes
+  pub range : words_of v.sizes ≤ 2 ^ 28
   pub bounds : AreBounds (bounds_for v.sizes v.account.steps)
   pub counted : length v.account.names ≡ (now v).heap.births
   pub inside : (k : ℕ) (slot : Slot) → slice_index_or (now v).heap.slots k None ≡ Some slot → 2 * place_at v.account k + words_in (class_of slot.node) ≤ words_of v.sizes
@@ -96,50 +99,48 @@ has_seen step before found after = HasSeen before.0 step.word found after.0 × I
 abbrev pub has_gone : Step Call → Me Call View → ℕ → Me Call View → Type 0
 has_gone step before found after = HasGone before.0 step.word found after.0 × IsSound (words_of before.0.sizes) after.0 × (after.1 ≡ before.1)
 
--- ---- what words say
+-- ---- what words say of nodes
 
--- the first word says this of the node
-abbrev pub SaysFirst : Account → State → Ref → Slot → Node → ℕ → Type 0
-SaysFirst account state r slot (Indirection generation main) found =
-    (generation < 2 ^ 36) × ((own : Bool) × IsOwn account r main own × (found ≡ link_code (record { generation = generation; main = record { slot = place_of account main; own = own } })))
-SaysFirst account state r slot (Single key value) found = found ≡ key
-SaysFirst account state r slot node found = SaysHeader account state (slot_of r) slot found
+-- this is the node
+abbrev pub Stores : State → Ref → Slot → Type 0
+Stores state r slot = slice_index_or state.heap.slots (slot_of r) None ≡ Some slot
 
-pub record HasFirst (account : Account) (state : State) (r : Ref) (found : ℕ) : Type 0 where
+-- it is this main node's header
+pub record HasHeader (account : Account) (state : State) (main : Ref) (header : Header) : Type 0 where
   pub slot : Slot
-  pub stands : slice_index_or state.heap.slots (slot_of r) None ≡ Some slot
-  pub says : SaysFirst account state r slot slot.node found
-
--- the header says this of the main node
-pub record HasHeader (account : Account) (state : State) (main : Ref) (found : ℕ) : Type 0 where
-  pub slot : Slot
-  pub stands : slice_index_or state.heap.slots (slot_of main) None ≡ Some slot
+  pub stores : Stores state main slot
   pub is_main : is_main_node slot.node ≡ true
-  pub says : SaysHeader account state (slot_of main) slot found
+  pub is_previous : SaysPrevious account state (slot_of main) slot.prev header.previous
+  pub is_shape : SaysShape account (slot_of main) slot.node header.shape
+  pub fits : IsHeader header
 
--- the word says this of the indirection
-pub record HasLink (account : Account) (state : State) (indirection : Ref) (found : ℕ) : Type 0 where
+-- it is this indirection's word
+pub record HasLink (account : Account) (state : State) (indirection : Ref) (link : Link) : Type 0 where
   pub slot : Slot
-  pub stands : slice_index_or state.heap.slots (slot_of indirection) None ≡ Some slot
-  pub generation : ℕ
+  pub stores : Stores state indirection slot
   pub main : Ref
-  pub node : slot.node ≡ Indirection generation main
-  pub small : generation < 2 ^ 36
-  pub own : Bool
-  pub is_own : IsOwn account indirection main own
-  pub code : found ≡ link_code (record { generation = generation; main = record { slot = place_of account main; own = own } })
+  pub is_link : slot.node ≡ Indirection link.generation main
+  pub place : place_of account main ≡ link.main.slot
+  pub is_own : IsOwn account indirection main link.main.own
+  pub fits : IsLink link
 
--- where a single stands there, it has this value
-pub record HasValue (state : State) (single : Ref) (found : ℕ) : Type 0 where
-  pub slot : Slot
-  pub stands : slice_index_or state.heap.slots (slot_of single) None ≡ Some slot
-  pub says : (key value : ℕ) → slot.node ≡ Single key value → found ≡ value
+-- where it is a main node, an indirection, a single, a branch or a list
+abbrev pub SaysMain : Account → State → Ref → Header → Type 0
+SaysMain account state r header = (slot : Slot) → Stores state r slot → is_main_node slot.node ≡ true → HasHeader account state r header
 
--- the halves of the word are the entries of the main node at this position and beside it
-pub record HasPair (account : Account) (state : State) (main : Ref) (position found : ℕ) : Type 0 where
-  pub slot : Slot
-  pub stands : slice_index_or state.heap.slots (slot_of main) None ≡ Some slot
-  pub says : is_branch_or_list slot.node ≡ true → (n : ℕ) (e : Ref) → n / 2 ≡ position / 2 → slice_get (entries_of slot.node) n ≡ Some e → IsEntryOf account state.heap e (half_of found n)
+abbrev pub SaysLink : Account → State → Ref → Link → Type 0
+SaysLink account state r link = (slot : Slot) (generation : ℕ) (main : Ref) → Stores state r slot → slot.node ≡ Indirection generation main → HasLink account state r link
+
+abbrev pub SaysKey : State → Ref → ℕ → Type 0
+SaysKey state r found = (slot : Slot) (key value : ℕ) → Stores state r slot → slot.node ≡ Single key value → found ≡ key
+
+abbrev pub SaysValue : State → Ref → ℕ → Type 0
+SaysValue state r found = (slot : Slot) (key value : ℕ) → Stores state r slot → slot.node ≡ Single key value → found ≡ value
+
+-- the entries at this position and beside it
+abbrev pub SaysPair : Account → State → Ref → ℕ → Pair → Type 0
+SaysPair account state r position pair =
+    (slot : Slot) (n : ℕ) (e : Ref) → Stores state r slot → is_branch_or_list slot.node ≡ true → n / 2 ≡ position / 2 → slice_get (entries_of slot.node) n ≡ Some e → IsEntryOf account state.heap e (half_in pair n)
 
 -- ---- what loads ask and tell
 
@@ -179,29 +180,40 @@ abbrev pub HasRead : (Ref → Action) → (Account → State → Ref → Type 0)
 HasRead does Says before after =
     (w : Went before after) × ((r : Ref) → IsAt before (does r) → Says w.account (now (seen before w.account)) r)
 
--- the header of the main node that it was to read
-abbrev pub HasReadHeader : View → ℕ → View → Type 0
-HasReadHeader before found after = HasRead act.ReadPrev (λ account state main. HasHeader account state main found) before after
+abbrev pub HasReadHeader : View → Header → View → Type 0
+HasReadHeader before header after = HasRead act.ReadPrev (λ account state main. HasHeader account state main header) before after
 
-abbrev pub HasReadLink : View → ℕ → View → Type 0
-HasReadLink before found after = HasRead act.ReadMain (λ account state indirection. HasLink account state indirection found) before after
+abbrev pub HasReadLink : View → Link → View → Type 0
+HasReadLink before link after = HasRead act.ReadMain (λ account state indirection. HasLink account state indirection link) before after
 
-abbrev pub HasReadFirst : View → ℕ → View → Type 0
-HasReadFirst before found after = HasRead act.Look (λ account state r. HasFirst account state r found) before after
+abbrev pub HasLookedAtMain : View → Header → View → Type 0
+HasLookedAtMain before header after = HasRead act.Look (λ account state r. SaysMain account state r header) before after
 
-abbrev pub HasReadValue : View → ℕ → View → Type 0
-HasReadValue before found after = HasRead act.Look (λ account state r. HasValue state r found) before after
+abbrev pub HasLookedAtLink : View → Link → View → Type 0
+HasLookedAtLink before link after = HasRead act.Look (λ account state r. SaysLink account state r link) before after
 
--- what it has seen of the nodes that it holds in this slot
+abbrev pub HasLookedAtKey : View → ℕ → View → Type 0
+HasLookedAtKey before found after = HasRead act.Look (λ account state r. SaysKey state r found) before after
+
+abbrev pub HasLookedAtValue : View → ℕ → View → Type 0
+HasLookedAtValue before found after = HasRead act.Look (λ account state r. SaysValue state r found) before after
+
+-- what it has seen of a node that it holds in this slot
 abbrev pub SawOf : (Account → State → Ref → Type 0) → View → ℕ → View → Type 0
 SawOf Says before name after =
-    (s : Saw before after) × ((r : Ref) → Holds before r → place_of before.account r ≡ name → Says s.account (now after) r)
+    (s : Saw before after) × ((r : Ref) → Holds before r → place_of before.account r ≡ name → Says s.account (now (seen before s.account)) r)
 
-abbrev pub HasSeenFirst : View → ℕ → ℕ → View → Type 0
-HasSeenFirst before name found after = SawOf (λ account state r. HasFirst account state r found) before name after
+abbrev pub HasSeenMain : View → ℕ → Header → View → Type 0
+HasSeenMain before name header after = SawOf (λ account state r. SaysMain account state r header) before name after
+
+abbrev pub HasSeenLink : View → ℕ → Link → View → Type 0
+HasSeenLink before name link after = SawOf (λ account state r. SaysLink account state r link) before name after
+
+abbrev pub HasSeenKey : View → ℕ → ℕ → View → Type 0
+HasSeenKey before name found after = SawOf (λ account state r. SaysKey state r found) before name after
 
 abbrev pub HasSeenValue : View → ℕ → ℕ → View → Type 0
-HasSeenValue before name found after = SawOf (λ account state r. HasValue state r found) before name after
+HasSeenValue before name found after = SawOf (λ account state r. SaysValue state r found) before name after
 
-abbrev pub HasSeenPair : View → ℕ → ℕ → ℕ → View → Type 0
-HasSeenPair before name position found after = SawOf (λ account state r. HasPair account state r position found) before name after
+abbrev pub HasSeenPair : View → ℕ → ℕ → Pair → View → Type 0
+HasSeenPair before name position pair after = SawOf (λ account state r. SaysPair account state r position pair) before name after

@@ -1,6 +1,7 @@
 -- How nodes stand in words.
 use Rattle.std.specs.Prelude.{◌≡◌, ℕ, zero, suc, ◌+◌, ◌*◌, ◌/◌, ◌%◌, ◌^◌, ◌<◌, ◌≤◌, ◌==◌, ◌⊎◌, Bool, true, false, List, length, Option, Some, None, slice_get, slice_index, slice_index_or, if◌then◌else◌}
 use Rattle.trie_words.specs.Codes.{link_code, header_code, entry_code, pair_of}
+use Rattle.trie_words.specs.declared.entries.Pair.{Pair}
 use Rattle.trie_words.specs.declared.headers.Previous.{Previous}
 use Rattle.trie_words.specs.declared.headers.Previous.TheVariants as previous
 use Rattle.trie_words.specs.declared.headers.Shape.{Shape}
@@ -30,8 +31,11 @@ is_single (Single key value) = true
 is_single node = false
 
 -- the half of a word that has the entry of this position of a main node
+abbrev pub half_in : Pair → ℕ → ℕ
+half_in pair position = if position % 2 == 0 then pair.low else pair.high
+
 abbrev pub half_of : ℕ → ℕ → ℕ
-half_of word position = if position % 2 == 0 then (pair_of word).low else (pair_of word).high
+half_of word position = half_in (pair_of word) position
 
 abbrev pub entry_word : ℕ → ℕ → ℕ
 entry_word name position = 2 * name + 1 + position / 2

@@ -1,9 +1,8 @@
-use Rattle.std.proofs.Common.{◌+◌, ◌*◌, sym, subst}
-use Rattle.machine_model.specs.declared.actions.Action.TheVariants as act
+use Rattle.std.proofs.Common.{◌+◌, ◌*◌, refl, sym, subst}
 use Rattle.lock_free.specs.Loading.{IsSound}
 use Rattle.lock_free.proofs.Asked.{looked_at_lives}
 use Rattle.lock_free.proofs.Definition.{IsReading}
-use Rattle.lock_free.proofs.Looking.{read_value}
+use Rattle.lock_free.proofs.Looking.{went, looked_value}
 use Rattle.lock_free.proofs.Moments.{go_allowed}
 use Rattle.lock_free.proofs.Within.{both_inside}
 use Rattle.lock_free.proofs.loads.look_at_value.Goals as goal
@@ -19,7 +18,12 @@ load-requires c =
     )
 
 pub returns-clause-read : goal.returns-clause-read
-returns-clause-read c = read_value c.args.actor.now.me.0 c.args.single c.load.result c.load.new.seat.me.0 c.requires.looking c.load.ensures.2.0
+returns-clause-read c =
+    let v = c.args.actor.now.me.0 in
+    let after = c.load.new.seat.me.0 in
+    let word = 2 * c.args.single + 1 in
+    let gone = c.load.ensures.2.0 in
+    (went v c.args.single word c.load.result after gone, looked_value v c.args.single word c.load.result after gone c.requires.looking refl)
 
 pub returns-clause-sound : goal.returns-clause-sound
 returns-clause-sound c = subst (λ n. IsSound n c.load.new.seat.me.0) (sym c.requires.sound.size) c.load.ensures.2.1

@@ -1,9 +1,9 @@
-use Rattle.std.proofs.Common.{◌+◌, ◌*◌, ◌/◌, sym, subst, refl}
+use Rattle.std.proofs.Common.{◌+◌, ◌*◌, ◌/◌, refl, sym, subst}
 use Rattle.lock_free.specs.Loading.{IsSound}
-use Rattle.lock_free.proofs.Looking.{seen_value}
+use Rattle.lock_free.proofs.Looking.{saw, seen_value}
 use Rattle.lock_free.proofs.Moments.{load_allowed}
 use Rattle.lock_free.proofs.Within.{both_inside, held_lives}
-use Rattle.lock_free.proofs.loads.load_value.Goals as goal
+use Rattle.lock_free.proofs.loads.see_value.Goals as goal
 
 pub load-requires : goal.load-requires
 load-requires c = (
@@ -13,7 +13,12 @@ load-requires c = (
 )
 
 pub returns-clause-seen : goal.returns-clause-seen
-returns-clause-seen c = seen_value c.args.actor.now.me.0 c.args.single c.load.result c.load.new.seat.me.0 (2 * c.args.single + 1) c.load.ensures.2.0 refl
+returns-clause-seen c =
+    let v = c.args.actor.now.me.0 in
+    let after = c.load.new.seat.me.0 in
+    let word = 2 * c.args.single + 1 in
+    let seen = c.load.ensures.2.0 in
+    (saw v c.args.single word c.load.result after seen, seen_value v c.args.single word c.load.result after seen refl)
 
 pub returns-clause-sound : goal.returns-clause-sound
 returns-clause-sound c = subst (λ n. IsSound n c.load.new.seat.me.0) (sym c.requires.sound.size) c.load.ensures.2.1

@@ -1,12 +1,11 @@
-use Rattle.std.proofs.Common.{◌+◌, ◌*◌, Contains, sym, subst}
-use Rattle.machine_model.specs.declared.actions.Action.TheVariants as act
-use Rattle.lock_free.specs.Loading.{IsSound}
+use Rattle.std.proofs.Common.{◌+◌, ◌*◌, Contains, refl, sym, subst}
+use Rattle.lock_free.specs.Loading.{IsSound, HasReadLink}
 use Rattle.lock_free.proofs.Asked.{links_of, link_stands}
 use Rattle.lock_free.proofs.Definition.{IsReading}
-use Rattle.lock_free.proofs.Looking.{one_named, read_link}
+use Rattle.lock_free.proofs.Looking.{one_named, went, link_read}
 use Rattle.lock_free.proofs.Moments.{go_allowed}
 use Rattle.lock_free.proofs.Within.{both_inside}
-use Rattle.lock_free.proofs.loads.load_link.Goals as goal
+use Rattle.lock_free.proofs.loads.read_link.Goals as goal
 
 pub load-requires : goal.load-requires
 load-requires c =
@@ -19,7 +18,12 @@ load-requires c =
     )
 
 pub returns-clause-read : goal.returns-clause-read
-returns-clause-read c = read_link c.args.actor.now.me.0 c.args.indirection c.load.result c.load.new.seat.me.0 c.requires.reading c.load.ensures.2.0
+returns-clause-read c =
+    let v = c.args.actor.now.me.0 in
+    let after = c.load.new.seat.me.0 in
+    let word = 2 * c.args.indirection in
+    let gone = c.load.ensures.2.0 in
+    subst (λ x. HasReadLink v x after) (sym c.of_word.ensures) (went v c.args.indirection word c.load.result after gone, link_read v c.args.indirection word c.load.result after gone c.requires.reading refl)
 
 pub returns-clause-sound : goal.returns-clause-sound
 returns-clause-sound c = subst (λ n. IsSound n c.load.new.seat.me.0) (sym c.requires.sound.size) c.load.ensures.2.1
