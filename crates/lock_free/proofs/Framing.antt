@@ -192,6 +192,8 @@ module _ (sizes : Sizes) (account : Account) (stands : Standing) (words : List â
     offers = all.nodes.offers;
     written = Î» k slot h.
         stands_over account words i x (place_at account k) (state_of sizes account) k slot slot.node (all.nodes.small k slot h) (not_of_node k slot h) (all.nodes.written k slot h);
+    inside = all.nodes.inside;
+    owners = all.nodes.owners;
     live = all.nodes.live;
   }
 
@@ -260,6 +262,8 @@ module _ (sizes : Sizes) (account : Account) (stands : Standing) (words : List â
     written = Î» k slot h.
         stands_over account words i x (place_at account k) (state_of sizes account) k slot slot.node (nodes.small k slot h)
         (no_slot (class_of slot.node) (place_at account k) (class_small slot.node) (nodes.within k slot h)) (nodes.written k slot h);
+    inside = nodes.inside;
+    owners = nodes.owners;
     live = nodes.live;
   }
 

@@ -1,10 +1,15 @@
 mod OneStep
 mod Definition
+mod Asked
 mod Geometry
+mod Owners
 mod Assembling
 mod Waiting
 mod Seats
 mod Keeping
+mod Moments
+mod Within
+mod Decoding
 mod Looking
 mod Framing
 mod NodeWord

@@ -32,13 +32,13 @@ place_at account k = slice_index_or account.names k 0
 abbrev pub place_of : Account → Ref → ℕ
 place_of account r = place_at account (slot_of r)
 
--- whether this main node was made in the generation of this indirection
+-- whether this main node is this indirection's own, or this single this tomb's
 pub data OwnIs : List Owned → ℕ → ℕ → Bool → Type 0 where
-  first : (x : Owned) (rest : List Owned) → OwnIs (x ∷ rest) x.indirection x.main x.is_own
+  first : (x : Owned) (rest : List Owned) → OwnIs (x ∷ rest) x.holder x.held x.is_own
   later : (x : Owned) (rest : List Owned) (i m : ℕ) (b : Bool) → OwnIs rest i m b → OwnIs (x ∷ rest) i m b
 
 abbrev pub IsOwn : Account → Ref → Ref → Bool → Type 0
-IsOwn account indirection main b = OwnIs account.owned (slot_of indirection) (slot_of main) b
+IsOwn account holder held b = OwnIs account.owned (slot_of holder) (slot_of held) b
 
 -- ---- how it goes on
 

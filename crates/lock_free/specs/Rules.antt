@@ -26,7 +26,7 @@ use Rattle.lock_free.specs.declared.accounts.Known.{Known}
 use Rattle.lock_free.specs.declared.rules.View.{View}
 use Rattle.lock_free.specs.declared.sizes.Sizes.{Sizes}
 use Rattle.lock_free.specs.Accounts.{bounds_for, state_of, place_at, HasWaited}
-use Rattle.lock_free.specs.Nodes.{StandsAs, InTable, class_of}
+use Rattle.lock_free.specs.Nodes.{StandsAs, InTable, AreOwners, class_of}
 use Rattle.lock_free.specs.Places.{AreSizes, words_of, words_in, IsTaken, HaveTaken, generation_word, pin_word, root_word}
 use Rattle.lock_free.specs.Roots.{MeansRoot, IsWritten}
 
@@ -58,6 +58,9 @@ pub record NodesStand (sizes : Sizes) (account : Account) (stands : Standing) (w
   pub offers : (x : Known) → Contains account.offers x → (k : ℕ) (slot : Slot) → Stands stands (state_of sizes account) k slot → place_at account k ≢ x.slot
   pub written : (k : ℕ) (slot : Slot) → Stands stands (state_of sizes account) k slot →
       StandsAs account (state_of sizes account) (InTable words) (place_at account k) k slot slot.node
+  -- the slot of what is in use is one of the table, whether it stands there still or not
+  pub inside : (k : ℕ) (slot : Slot) → slice_index_or (state_of sizes account).heap.slots k None ≡ Some slot → 2 * place_at account k + words_in (class_of slot.node) ≤ words_of sizes
+  pub owners : AreOwners account (state_of sizes account)
   -- what a root or an operation leads to stands there
   pub live : (r : Ref) → IsLive (state_of sizes account) r → stands (slot_of r) ≡ true
 
