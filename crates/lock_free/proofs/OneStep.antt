@@ -5,3 +5,4 @@ pub mod Going
 pub mod Aheads
 pub mod Doing
 pub mod Leading
+pub mod Found
