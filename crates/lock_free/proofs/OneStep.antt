@@ -4,5 +4,6 @@ pub mod Widened
 pub mod Going
 pub mod Aheads
 pub mod Doing
+pub mod Changing
 pub mod Leading
 pub mod Found
