@@ -7,3 +7,4 @@ pub mod Doing
 pub mod Changing
 pub mod Leading
 pub mod Found
+pub mod Restores

@@ -87,7 +87,7 @@ module _ (S : Ref → Type 0) (heap : Heap) where
   mains_found action h r c = none_in r c
 
 -- what is taken for an indirection is one
-link_of : (node : Node) → is_indirection node ≡ true → (generation : ℕ) × (main : Ref) × (node ≡ Indirection generation main)
+pub link_of : (node : Node) → is_indirection node ≡ true → (generation : ℕ) × (main : Ref) × (node ≡ Indirection generation main)
 link_of (Indirection generation main) h = (generation, main, refl)
 link_of (Branch bitmap entries) h = let wrong : ⊥ = cc h in absurd wrong
 link_of (Single key value) h = let wrong : ⊥ = cc h in absurd wrong
