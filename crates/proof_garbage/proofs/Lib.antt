@@ -6,4 +6,5 @@ pub mod Stays
 pub mod Unknown
 pub mod Restoring
 pub mod Private
+pub mod Pending
 pub mod Fresh
