@@ -8,3 +8,4 @@ pub mod Changing
 pub mod Leading
 pub mod Found
 pub mod Restores
+pub mod Decides

@@ -13,13 +13,14 @@ use Rattle.machine_model.specs.declared.actions.Action.TheVariants as act
 use Rattle.machine_model.specs.declared.operations.Operation.{Operation}
 use Rattle.machine_model.specs.Grown.{standing}
 use Rattle.machine_model.specs.Machine.{AreBounds}
-use Rattle.machine_model.specs.Operations.{action_of}
+use Rattle.machine_model.specs.Operations.{action_of, line_action}
 use Rattle.machine_model.specs.States.{State}
 use Rattle.machine_model.proofs.Grown.{standing_parts, node_standing}
 use Rattle.proof_memory.specs.Laws.{IsInUse, SameNode}
 use Rattle.proof_memory.specs.Wants.{Wanted, AnIndirection, AMain, AllHold, meets, is_main_node, is_indirection, is_formed, action_wants}
 use Rattle.proof_memory.proofs.Claims.Uses.{safe_of, meets_of}
 use Rattle.proof_memory.proofs.Safety.AtEachTime.{safe_along}
+use Rattle.proof_memory.proofs.Safety.AtTimes.{action_finds}
 use Rattle.proof_memory.proofs.Safety.Standing.{stored_stands}
 use Rattle.proof_memory.proofs.Safety.States.{IsSafe}
 use Rattle.proof_garbage.proofs.Claims.{Are, none_in, one_in, both_in}
@@ -31,6 +32,7 @@ use Rattle.lock_free.specs.declared.accounts.Account.{Account}
 use Rattle.lock_free.specs.declared.sizes.Sizes.{Sizes}
 use Rattle.lock_free.specs.Accounts.{bounds_for, state_of, HasWaited, running}
 use Rattle.lock_free.specs.Live.{IsLive}
+use Rattle.lock_free.specs.Nodes.{IsAhead}
 use Rattle.lock_free.proofs.OneStep.Longer.{run_longer, bounds_less}
 use Rattle.lock_free.proofs.OneStep.Widened.{slot_in}
 
@@ -121,6 +123,13 @@ module _ (sizes : Sizes) (account : Account) (bounds : AreBounds (bounds_for siz
   -- live references to one slot are one
   pub slots_tell : (q r : Ref) → IsLive state q → IsLive state r → slot_of q ≡ slot_of r → q ≡ r
   slots_tell q r first second same = one_ref state.heap q r (live_used q first) (live_used r second) same
+
+  -- what is about to be swapped in, where, and over what
+  pub ahead_used : (i a f : Ref) → IsAhead state i a f → IsInUse state.heap i × IsInUse state.heap a × IsInUse state.heap f
+  ahead_used i a f h =
+      let acts = ap (line_action state h.operation) h.on in
+      let claims = subst (λ action. AllHold (IsInUse state.heap) state.heap (action_wants action)) acts (action_finds state safe h.actor h.operation h.runs) in
+      (safe_of claims.0, safe_of claims.1.0, safe_of claims.1.1.0)
 
   module _ (actor : ℕ) (operation : Operation) (runs : running sizes account actor operation) where
     claims : AllHold (IsLive state) state.heap (action_wants (action_of state operation))
