@@ -6,15 +6,21 @@ use lib.ListN.{get_elem?}
 use Rattle.atomic_table.specs.Table as Table
 use Rattle.atomic_table.proofs.Lists.{at_set, set_else, set_here}
 use Rattle.std.proofs.lemmas.Bool.{cases_eq}
+use Rattle.trie_words.specs.Codes.{root_code, IsRootWord}
+use Rattle.trie_words.specs.declared.roots.RootWord.TheVariants as word
 use Rattle.machine_model.specs.Keys.{KeysFit}
+use Rattle.machine_model.specs.declared.operations.Operation.{Operation}
 use Rattle.machine_model.specs.Machine.{AreBounds}
-use Rattle.machine_model.specs.States.{State, handle_limit}
+use Rattle.machine_model.specs.States.{State, operation_of, handle_limit}
 use Rattle.lock_free.specs.declared.accounts.Account.{Account}
 use Rattle.lock_free.specs.declared.rules.View.{View}
 use Rattle.lock_free.specs.declared.sizes.Sizes.{Sizes}
 use Rattle.lock_free.specs.Accounts.{bounds_for, state_of}
 use Rattle.lock_free.specs.Places.{HaveTaken, words_of, generation_word, root_word}
-use Rattle.lock_free.specs.Rules.{Standing, NodesStand, RootsStand, IsClosing, SaysClosing, IsFree, IsSeat, HasActor, IsKept}
+use Rattle.lock_free.specs.Rules.{Standing, NodesStand, RootsStand, IsClosing, SaysClosing, IsFree, IsOpening, Reserves, HasSeat, IsSeat, HasActor, IsKept}
+use Rattle.lock_free.specs.Roots.{NoOffer}
+use Rattle.lock_free.specs.Trying.{SameTries}
+use Rattle.lock_free.proofs.Meanings.{ran, reserved}
 
 within : {A : Type 0} (xs : List A) (n : ℕ) (x : A) → get_elem? xs n ≡ some x → n < length xs
 within [] n x e = absurd (some-ne-none x (sym e))
@@ -107,15 +113,57 @@ module _ (sizes : Sizes) (s : Table.State Call View) (kept : IsKept sizes s) (id
               (let u = was_inside handle other w e inside in subst (λ n. h.closing.looked < n) u.3 (h.none other u.0 u.1 u.2 (λ same. apart (sym u.3 ∙ same))));
         }
 
+  -- ---- reserved numbers, and who runs what
+
+  has_still : (a : ℕ) → HasSeat s.views a → HasSeat later_views a
+  has_still a h = elim (cases_eq h.id id) [
+    | inl same ↦
+        (let mine : v ≡ h.view = some-injective v h.view (sym at ∙ ap (λ n. get_elem? s.views n) (sym same) ∙ h.at) in
+        record { id = id; view = later; at = here; its = actor ∙ ap (λ (x : View). x.actor) mine ∙ h.its })
+    | inr apart ↦ record { id = h.id; view = h.view; at = set_else s.views id h.id later apart ∙ h.at; its = h.its }
+  ]
+
+  -- who has reserved a number for an offer that it writes has still
+  pub opening_stays : (handle slot : ℕ) → (v.opens ≡ Some handle → IsFree v 1 slot → (later.opens ≡ Some handle) × IsFree later 1 slot) → IsOpening s.views handle slot → IsOpening later_views handle slot
+  opening_stays handle slot still h = elim (cases_eq h.id id) [
+    | inl same ↦
+        (let mine : h.view ≡ v = some-injective h.view v (sym h.at ∙ ap (λ n. get_elem? s.views n) same ∙ at) in
+        let both = still (ap (λ (x : View). x.opens) (sym mine) ∙ h.opens) (subst (λ x. IsFree x 1 slot) mine h.free) in
+        record { id = id; view = later; at = here; opens = both.0; free = both.1 })
+    | inr apart ↦ record { id = h.id; view = h.view; at = set_else s.views id h.id later apart ∙ h.at; opens = h.opens; free = h.free }
+  ]
+
+  pub record Numbers (account : Account) (words : List ℕ) : Type 0 where
+    pub openings : (handle slot : ℕ) → handle < handle_limit → IsRootWord (word.Opening slot) → slice_index words (root_word handle) ≡ root_code (word.Opening slot) → NoOffer account slot →
+        IsOpening later_views handle slot
+    -- the seat's number is what it was, or nobody else's
+    pub number : (handle : ℕ) → Reserves (state_of sizes account) later handle →
+        Reserves (state_of sizes kept.account) v handle ⊎ ((other : ℕ) (w : View) → get_elem? s.views other ≡ some w → (other ≡ id → ⊥) → Reserves (state_of sizes account) w handle → ⊥)
+    pub others : (other : ℕ) (w : View) → get_elem? s.views other ≡ some w → (other ≡ id → ⊥) → (handle : ℕ) → Reserves (state_of sizes account) w handle → Reserves (state_of sizes kept.account) w handle
+    -- nobody else runs anything who ran nothing
+    pub runners : (a : ℕ) (o : Operation) → operation_of (state_of sizes account) a ≡ Some o → (a ≡ v.actor) ⊎ ((p : Operation) × (operation_of (state_of sizes kept.account) a ≡ Some p))
+
+  -- where operations keep their tries, and no word of a handle changes
+  pub numbers_stay : (account : Account) (words : List ℕ) → SameTries (state_of sizes kept.account) (state_of sizes account) → ((slot : ℕ) → NoOffer account slot → NoOffer kept.account slot) →
+      ((handle : ℕ) → handle < handle_limit → slice_index words (root_word handle) ≡ slice_index s.words (root_word handle)) → later.opens ≡ v.opens →
+      ((slot handle : ℕ) → v.opens ≡ Some handle → IsFree v 1 slot → IsFree later 1 slot) → Numbers account words
+  numbers_stay account words tries none same opens still = record {
+    openings = λ handle slot low fits is new.
+        opening_stays handle slot (λ e f. (opens ∙ e, still slot handle e f)) (kept.openings handle slot low fits (sym (same handle low) ∙ is) (none slot new));
+    number = λ handle h. inl (reserved (state_of sizes kept.account) (state_of sizes account) tries v handle (sym opens ∙ h.0, λ o e. h.1 o (ap (operation_of (state_of sizes account)) actor ∙ e)));
+    others = λ other w e apart handle h. reserved (state_of sizes kept.account) (state_of sizes account) tries w handle h;
+    runners = λ a o e. (let p = ran (state_of sizes kept.account) (state_of sizes account) tries a o e in inr (p.0, p.1));
+  }
+
   -- ---- all of it
 
-  -- Each slot that is free for the seat then was so before, or is free for nobody else; likewise the number that it has reserved.
+  -- Each slot that is free for the seat then was so before, or is free for nobody else.
   module _ (account : Account) (stands : Standing) (words : List ℕ) (all : AllStand sizes account stands words)
       (closings : (handle who : ℕ) → handle < handle_limit → SaysClosing (slice_index words (root_word handle)) who → IsClosing later_views handle who)
       (own : IsSeat sizes account stands words later)
       (others : (other : ℕ) (w : View) → get_elem? s.views other ≡ some w → (other ≡ id → ⊥) → IsSeat sizes account stands words w)
       (free : (b name : ℕ) → IsFree later b name → IsFree v b name ⊎ ((other : ℕ) (w : View) (c : ℕ) → get_elem? s.views other ≡ some w → (other ≡ id → ⊥) → IsFree w c name → ⊥))
-      (number : (handle : ℕ) → later.opens ≡ Some handle → (v.opens ≡ Some handle) ⊎ ((other : ℕ) (w : View) → get_elem? s.views other ≡ some w → (other ≡ id → ⊥) → w.opens ≡ Some handle → ⊥)) where
+      (reserves : Numbers account words) where
     seats_then : (other : ℕ) (w : View) → get_elem? later_views other ≡ some w → IsSeat sizes account stands words w
     seats_then other w e = elim (at_set s.views id other later w e) [
       | inl h ↦ subst (λ x. IsSeat sizes account stands words x) h.1 own
@@ -140,22 +188,29 @@ module _ (sizes : Sizes) (s : Table.State Call View) (kept : IsKept sizes s) (id
       ]
     ]
 
-    number_by : (i : ℕ) (x : View) (handle : ℕ) → get_elem? s.views i ≡ some x → (i ≡ id → ⊥) → later.opens ≡ Some handle → x.opens ≡ Some handle → i ≡ id
-    number_by i x handle e apart f g = elim (number handle f) [
-      | inl h ↦ kept.numbers i id x v handle e at g h
+    number_by : (i : ℕ) (x : View) (handle : ℕ) → get_elem? s.views i ≡ some x → (i ≡ id → ⊥) → Reserves (state_of sizes account) later handle → Reserves (state_of sizes account) x handle → i ≡ id
+    number_by i x handle e apart f g = elim (reserves.number handle f) [
+      | inl h ↦ kept.numbers i id x v handle e at (reserves.others i x e apart handle g) h
       | inr none ↦ absurd (none i x e apart g)
     ]
 
-    numbers_then : (i j : ℕ) (x y : View) (handle : ℕ) → get_elem? later_views i ≡ some x → get_elem? later_views j ≡ some y → x.opens ≡ Some handle → y.opens ≡ Some handle → i ≡ j
+    numbers_then : (i j : ℕ) (x y : View) (handle : ℕ) → get_elem? later_views i ≡ some x → get_elem? later_views j ≡ some y → Reserves (state_of sizes account) x handle →
+        Reserves (state_of sizes account) y handle → i ≡ j
     numbers_then i j x y handle ei ej hx hy = elim (at_set s.views id i later x ei) [
       | inl p ↦ elim (at_set s.views id j later y ej) [
         | inl q ↦ p.0 ∙ sym q.0
-        | inr q ↦ p.0 ∙ sym (number_by j y handle q.1 q.0 (ap (λ (z : View). z.opens) p.1 ∙ hx) hy)
+        | inr q ↦ p.0 ∙ sym (number_by j y handle q.1 q.0 (subst (λ z. Reserves (state_of sizes account) z handle) (sym p.1) hx) hy)
       ]
       | inr p ↦ elim (at_set s.views id j later y ej) [
-        | inl q ↦ number_by i x handle p.1 p.0 (ap (λ (z : View). z.opens) q.1 ∙ hy) hx ∙ sym q.0
-        | inr q ↦ kept.numbers i j x y handle p.1 q.1 hx hy
+        | inl q ↦ number_by i x handle p.1 p.0 (subst (λ z. Reserves (state_of sizes account) z handle) (sym q.1) hy) hx ∙ sym q.0
+        | inr q ↦ kept.numbers i j x y handle p.1 q.1 (reserves.others i x p.1 p.0 handle hx) (reserves.others j y q.1 q.0 handle hy)
       ]
+    ]
+
+    runners_then : (a : ℕ) (o : Operation) → operation_of (state_of sizes account) a ≡ Some o → HasSeat later_views a
+    runners_then a o e = elim (reserves.runners a o e) [
+      | inl own ↦ record { id = id; view = later; at = here; its = actor ∙ sym own }
+      | inr before ↦ has_still a (kept.runners a before.0 before.1)
     ]
 
     pub assembled : IsKept sizes (record { words = words; homes = s.homes; views = later_views })
@@ -172,7 +227,9 @@ module _ (sizes : Sizes) (s : Table.State Call View) (kept : IsKept sizes s) (id
       nodes = all.nodes;
       roots = all.roots;
       closings = closings;
+      openings = reserves.openings;
       seats = seats_then;
+      runners = runners_then;
       alone = alone_then;
       pools = pools_then;
       numbers = numbers_then;

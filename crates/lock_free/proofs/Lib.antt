@@ -1,5 +1,6 @@
 mod Definition
 mod Geometry
+mod Meanings
 mod Assembling
 mod Waiting
 mod Seats

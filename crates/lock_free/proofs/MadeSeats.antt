@@ -29,12 +29,12 @@ use Rattle.lock_free.specs.Nodes.{Has, InTable, AreEntries, class_of}
 use Rattle.lock_free.specs.Making.{over_of, Drafted, DraftsNode, owned_with, made_at, Makes, with_slots, made_by}
 use Rattle.lock_free.specs.Places.{words_in, first_slot_word, pin_word, root_word, IsTaken}
 use Rattle.lock_free.specs.Rules.{Standing, Stands, IsClosing, SaysClosing, IsFree, IsSpare, IsSeat, HasActor, IsKept, Once, pool_of, pin_word_of}
-use Rattle.lock_free.proofs.Assembling.{AllStand, all_stand, not_its, other_actor, closing_stays, assembled}
+use Rattle.lock_free.proofs.Assembling.{AllStand, all_stand, not_its, other_actor, closing_stays, numbers_stay, assembled}
 use Rattle.lock_free.proofs.Framing.{has_words, stored, other_word, low_word, taken_over, all_over, class_small}
 use Rattle.lock_free.proofs.Geometry.{IsWordOf, slots_apart, inside, root_below}
 use Rattle.lock_free.proofs.Made.{stands_too, stands_else, place_else, place_last}
 use Rattle.lock_free.proofs.Pools.{once_rest, pool_same, pool_else}
-use Rattle.lock_free.proofs.Seats.{Stays, StaysSpare, other_kept, own_kept}
+use Rattle.lock_free.proofs.Seats.{ran_so, numbers_so, Stays, StaysSpare, other_kept, own_kept}
 use Rattle.lock_free.proofs.Waiting.{waited_none, waited_more}
 
 
@@ -117,13 +117,14 @@ module _ (sizes : Sizes) (s : Table.State Call View) (kept : IsKept sizes s) (id
   module _ (words_then : List ℕ) (made_all : AllStand sizes account_then stands_then words_then) (pin_same : (a : ℕ) → a ≤ sizes.seats → slice_index words_then (pin_word a) ≡ slice_index s.words (pin_word a))
       (root_same : (handle : ℕ) → handle < handle_limit → slice_index words_then (root_word handle) ≡ slice_index s.words (root_word handle))
       (taken : (b other : ℕ) → b < 3 → IsTaken sizes s.words b other → IsTaken sizes words_then b other)
-      (slot_same : (b other : ℕ) → b < 3 → other ≢ name → IsTaken sizes s.words b other → (j : ℕ) → IsWordOf b other j → slice_index words_then j ≡ slice_index s.words j) where
+      (slot_same : (b other : ℕ) → b < 3 → other ≢ name → IsTaken sizes s.words b other → (j : ℕ) → IsWordOf b other j → slice_index words_then j ≡ slice_index s.words j)
+      (unopened : (handle : ℕ) → v.opens ≡ Some handle → class_of node ≢ 1) where
     stays : Stays sizes s kept id v at account_then stands_then words_then
     stays = record {
       waits = waits;
-      others = makes.others;
+      others = λ a differs. ran_so (state_of sizes kept.account) (state_of sizes account_then) a (makes.others a differs);
       pins = λ a most apart. pin_same a most;
-      taken_numbers = λ handle below none. sym (root_same handle below) ∙ none;
+      numbers = numbers_so sizes s kept account_then words_then makes.tries makes.roots root_same;
       still_open = λ handle e. ap is_some (same_root handle) ∙ e;
       taken = taken;
       spare = λ other w b free_name e apart free.
@@ -147,4 +148,6 @@ module _ (sizes : Sizes) (s : Table.State Call View) (kept : IsKept sizes s) (id
     pub made_kept : IsKept sizes (record { words = words_then; homes = s.homes; views = set s.views id view_then })
     made_kept =
         assembled sizes s kept id v at view_then refl refl account_then stands_then words_then made_all closings_then own_then (other_kept sizes s kept id v at account_then stands_then words_then stays)
-        (λ b other f. inl (was_free b other f).0) (λ handle e. inl e)
+        (λ b other f. inl (was_free b other f).0)
+        (numbers_stay sizes s kept id v at view_then refl refl account_then words_then makes.tries (λ slot none. none) root_same refl
+            (λ slot handle e free. (free.0, subst (λ xs. Contains xs slot) (sym (pool_else v.pool (class_of node) 1 rest (class_small node) free.0 (λ same. unopened handle e (sym same)))) free.1)))

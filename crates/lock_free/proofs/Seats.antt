@@ -1,7 +1,7 @@
 -- What an access of one seat leaves of the seats.
 use Rattle.history.specs.declared.calls.Call.{Call}
-use Rattle.std.proofs.Common.{◌≡◌, ◌≢◌, ◌+◌, ◌*◌, ℕ, ◌<◌, ◌≤◌, Bool, true, List, [], ◌∷◌, Contains, get_or, slice_index, is_some, length, Some, None, refl, sym, ap, subst, ◌∙◌, arith}
-use Rattle.std.proofs.lemmas.Option.{same_Some}
+use Rattle.std.proofs.Common.{◌≡◌, ◌≢◌, ◌+◌, ◌*◌, ℕ, ◌<◌, ◌≤◌, Bool, true, Option, List, [], ◌∷◌, Contains, get_or, slice_index, is_some, length, Some, None, refl, sym, ap, subst, ◌∙◌, arith}
+use Rattle.std.proofs.lemmas.Option.{none-some, same_Some}
 use mathlib.Core.Option.{some}
 use lib.ListN.{get_elem?}
 use Rattle.atomic_table.specs.Table as Table
@@ -14,10 +14,39 @@ use Rattle.lock_free.specs.declared.rules.View.{View}
 use Rattle.lock_free.specs.declared.sizes.Sizes.{Sizes}
 use Rattle.lock_free.specs.Accounts.{state_of, HasWaited}
 use Rattle.lock_free.specs.Places.{pin_word, root_word, IsTaken}
-use Rattle.lock_free.specs.Rules.{Standing, AreDrafts, Once, pool_of, IsFree, IsSpare, IsSeat, IsKept}
+use Rattle.lock_free.specs.Rules.{Standing, AreDrafts, Once, pool_of, IsFree, IsSpare, IsSeat, IsKept, Reserves, IsHeld}
 use Rattle.lock_free.proofs.Assembling.{not_its, other_actor}
+use Rattle.lock_free.specs.Trying.{SameTries}
 use Rattle.lock_free.proofs.Geometry.{IsWordOf}
+use Rattle.lock_free.proofs.Meanings.{reserved}
 use Rattle.lock_free.proofs.Waiting.{waited_none}
+
+-- it ran before, for the same call
+pub record Ran (before : State) (a : ℕ) (o : Operation) : Type 0 where
+  pub was : Operation
+  pub runs : operation_of before a ≡ Some was
+  pub call : was.call ≡ o.call
+  pub opens : was.opens ≡ o.opens
+
+pub ran_so : (before after : State) (a : ℕ) → operation_of after a ≡ operation_of before a → (o : Operation) → operation_of after a ≡ Some o → Ran before a o
+ran_so before after a same o e = record { was = o; runs = sym same ∙ e; call = refl; opens = refl }
+
+none_by : (x : Option Operation) → ((o : Operation) → x ≡ Some o → ⊥) → x ≡ None
+none_by None h = refl
+none_by (Some o) h = absurd (h o refl)
+
+-- who runs nothing runs nothing then
+pub rests_so : (before after : State) (a : ℕ) → ((o : Operation) → operation_of after a ≡ Some o → Ran before a o) → operation_of before a ≡ None → operation_of after a ≡ None
+rests_so before after a ran rests = none_by (operation_of after a) (λ o e. (let p = ran o e in none-some p.was (sym rests ∙ p.runs)))
+
+module _ (sizes : Sizes) (s : Table.State Call View) (kept : IsKept sizes s) where
+  -- where operations keep their tries, and no word of a handle changes, nor what it means
+  pub numbers_so : (account : Account) (words : List ℕ) → SameTries (state_of sizes kept.account) (state_of sizes account) → (state_of sizes account).roots ≡ (state_of sizes kept.account).roots →
+      ((handle : ℕ) → handle < handle_limit → slice_index words (root_word handle) ≡ slice_index s.words (root_word handle)) →
+      (other : ℕ) (w : View) → get_elem? s.views other ≡ some w → (handle : ℕ) → Reserves (state_of sizes account) w handle → IsHeld (state_of sizes account) words handle
+  numbers_so account words tries roots same other w e handle h =
+      let x = (kept.seats other w e).opens handle (reserved (state_of sizes kept.account) (state_of sizes account) tries w handle h) in
+      record { low = x.low; taken = λ none. x.taken (sym (same handle x.low) ∙ none); closed = ap (λ rs. get_or rs handle None) roots ∙ x.closed }
 
 module _ (sizes : Sizes) (s : Table.State Call View) (kept : IsKept sizes s) (id : ℕ) (v : View) (at : get_elem? s.views id ≡ some v) (account : Account) (stands : Standing) (words : List ℕ) where
   -- the slot is spare then, and its words are what they were
@@ -27,9 +56,9 @@ module _ (sizes : Sizes) (s : Table.State Call View) (kept : IsKept sizes s) (id
   -- the access keeps what other seats rely on
   pub record Stays : Type 0 where
     pub waits : (actor : ℕ) (first : Account) → actor ≢ v.actor → HasWaited actor first kept.account → HasWaited actor first account
-    pub others : (a : ℕ) → a ≢ v.actor → operation_of (state_of sizes account) a ≡ operation_of (state_of sizes kept.account) a
+    pub others : (a : ℕ) → a ≢ v.actor → (o : Operation) → operation_of (state_of sizes account) a ≡ Some o → Ran (state_of sizes kept.account) a o
     pub pins : (a : ℕ) → a ≤ sizes.seats → a ≢ v.actor → slice_index words (pin_word a) ≡ slice_index s.words (pin_word a)
-    pub taken_numbers : (handle : ℕ) → handle < handle_limit → slice_index words (root_word handle) ≡ 0 → slice_index s.words (root_word handle) ≡ 0
+    pub numbers : (other : ℕ) (w : View) → get_elem? s.views other ≡ some w → (handle : ℕ) → Reserves (state_of sizes account) w handle → IsHeld (state_of sizes account) words handle
     pub still_open : (handle : ℕ) → is_some (root_at (state_of sizes kept.account) handle) ≡ true → is_some (root_at (state_of sizes account) handle) ≡ true
     pub taken : (b name : ℕ) → b < 3 → IsTaken sizes s.words b name → IsTaken sizes words b name
     pub spare : (other : ℕ) (w : View) (b name : ℕ) → get_elem? s.views other ≡ some w → (other ≡ id → ⊥) → IsFree w b name → StaysSpare b name
@@ -61,12 +90,12 @@ module _ (sizes : Sizes) (s : Table.State Call View) (kept : IsKept sizes s) (id
           rests = λ a above below.
               (let r = h.rests a above below in
               let its = not_mine a (omega (arith, above), below) in
-              (stays.others a its ∙ r.0, stays.pins a (omega (arith, below, h.most)) its ∙ r.1));
+              (rests_so (state_of sizes kept.account) (state_of sizes account) a (stays.others a its) r.0, stays.pins a (omega (arith, below, h.most)) its ∙ r.1));
           pinned = stays.pins w.actor (omega (arith, h.top, h.most)) differs ∙ h.pinned;
           entered = λ handle f. (let x = h.entered handle f in (x.0, stays.still_open handle x.1, x.2));
-          calls = λ o f. h.calls o (sym (stays.others w.actor differs) ∙ f);
-          opens = λ handle f. (let x = h.opens handle f in (x.0, λ none. x.1 (stays.taken_numbers handle x.0 none)));
-          reserves = λ o f handle is. h.reserves o (sym (stays.others w.actor differs) ∙ f) handle is;
+          calls = λ o f. (let p = stays.others w.actor differs o f in h.calls p.was p.runs ∙ ap (λ c. Some (handle_of c)) p.call);
+          opens = stays.numbers other w e;
+          reserves = λ o f. (let p = stays.others w.actor differs o f in h.reserves p.was p.runs ∙ p.opens);
           spare = λ b name f. (let x = h.spare b name f in (stays.taken b name f.0 x.0, (stays.spare other w b name e apart f).0));
           once = h.once;
           drafts = λ d c.
@@ -94,12 +123,12 @@ module _ (sizes : Sizes) (s : Table.State Call View) (kept : IsKept sizes s) (id
             rests = λ a above below.
                 (let r = h.rests a above below in
                 let its : a ≢ v.actor = λ is. absurd (omega (arith, above, is)) in
-                (stays.others a its ∙ r.0, stays.pins a (omega (arith, below, h.most)) its ∙ r.1));
+                (rests_so (state_of sizes kept.account) (state_of sizes account) a (stays.others a its) r.0, stays.pins a (omega (arith, below, h.most)) its ∙ r.1));
             pinned = own_pin ∙ h.pinned;
             entered = λ handle f. (let x = h.entered handle f in (x.0, stays.still_open handle x.1, x.2));
             calls = λ o f. h.calls operation runs ∙ ap (λ c. Some (handle_of c)) (sym same_call ∙ ap (λ (x : Operation). x.call) (same_Some next o (sym goes_on ∙ f)));
-            opens = λ handle f. (let x = h.opens handle f in (x.0, λ none. x.1 (stays.taken_numbers handle x.0 none)));
-            reserves = λ o f handle is. h.reserves operation runs handle (sym same_opens ∙ ap (λ (x : Operation). x.opens) (same_Some next o (sym goes_on ∙ f)) ∙ is);
+            opens = stays.numbers id v at;
+            reserves = λ o f. h.reserves operation runs ∙ sym same_opens ∙ ap (λ (x : Operation). x.opens) (same_Some next o (sym goes_on ∙ f));
             spare = spare;
             once = once;
             drafts = written;
@@ -125,7 +154,7 @@ module _ (sizes : Sizes) (s : Table.State Call View) (kept : IsKept sizes s) (id
         pinned = own_pin ∙ h.pinned;
         entered = h.entered;
         calls = h.calls;
-        opens = λ handle f. (let x = h.opens handle f in (x.0, λ none. x.1 (stays.taken_numbers handle x.0 none)));
+        opens = stays.numbers id v at;
         reserves = h.reserves;
         spare = spare;
         once = once;

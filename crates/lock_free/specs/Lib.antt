@@ -4,6 +4,7 @@ pub mod Live
 pub mod Nodes
 pub mod Roots
 pub mod Rules
+pub mod Trying
 pub mod Steps
 pub mod Loading
 pub mod Making

@@ -1,0 +1,89 @@
+-- What handles' words mean stays.
+use Rattle.std.proofs.Common.{◌≡◌, ◌≢◌, ◌*◌, ◌==◌, ◌⊎◌, ℕ, inl, inr, Bool, List, ◌++◌, Contains, slice_index, Option, Some, None, refl, sym, ap, subst, ◌∙◌, append_assoc}
+use Rattle.std.proofs.lemmas.Option.{none-some, same_Some}
+use Rattle.std.specs.Prelude.{option_map}
+use Rattle.trie_words.specs.declared.roots.RootWord.{RootWord as HandleWord}
+use Rattle.trie_words.specs.declared.roots.RootWord.TheVariants as word
+use Rattle.history.specs.declared.calls.Access.{Access}
+use Rattle.history.specs.declared.calls.Access.TheVariants.{Writable}
+use Rattle.machine_model.specs.Beneath.slot_arena.specs.declared.refs.Ref.{Ref}
+use Rattle.machine_model.specs.declared.operations.Operation.{Operation}
+use Rattle.machine_model.specs.declared.roots.Descriptor.{Descriptor}
+use Rattle.machine_model.specs.declared.roots.Root.{Root}
+use Rattle.machine_model.specs.declared.roots.RootWord.TheVariants.{Plain}
+use Rattle.machine_model.specs.declared.steps.Step.{Step}
+use Rattle.machine_model.specs.States.{State, operation_of}
+use Rattle.lock_free.specs.declared.accounts.Account.{Account}
+use Rattle.lock_free.specs.declared.accounts.Known.{Known}
+use Rattle.lock_free.specs.declared.rules.View.{View}
+use Rattle.lock_free.specs.declared.sizes.Sizes.{Sizes}
+use Rattle.lock_free.specs.Accounts.{place_of, HasStood}
+use Rattle.lock_free.specs.Roots.{MeansRoot, SaysRoot, SaysPlain, SaysOffered, SaysOpening, NoOffer, IsItsTry, AreMarked, fate, meant, opened_by, open_with, carried_out}
+use Rattle.lock_free.specs.Rules.{Reserves}
+use Rattle.lock_free.specs.Trying.{Try, try_of, try_at, SameTries}
+
+-- ---- words of handles
+
+-- Roots stand where they stood, and of each offer there is said what was said, or no more is asked.
+module _ (account later : Account) (before after : List ℕ) (handle : ℕ) (r : Option Root)
+    (places : (access : Access) (q : Ref) → r ≡ open_with access (Plain q) → place_of later q ≡ place_of account q)
+    (offers : (k : Known) → Contains account.offers k → Contains later.offers k × (fate after k ≡ fate before k)) (none : (slot : ℕ) → NoOffer account slot → NoOffer later slot) where
+  plain_kept : (access : Access) (slot : ℕ) → SaysPlain account access slot r → SaysPlain later access slot r
+  plain_kept access slot h = record { root = h.root; place = h.place ∙ sym (places access h.root h.is); is = h.is }
+
+  says_kept : (w : HandleWord) → SaysRoot account before handle w r → SaysRoot later after handle w r
+  says_kept word.Closed h = h
+  says_kept word.Reserved h = h
+  says_kept (word.Writable slot) h = plain_kept _ slot h
+  says_kept (word.ReadOnly slot) h = plain_kept _ slot h
+  says_kept (word.ClosingWritable slot seat) h = plain_kept _ slot h
+  says_kept (word.ClosingReadOnly slot seat) h = plain_kept _ slot h
+  says_kept (word.Offered slot) h =
+      let still = offers h.its h.here in
+      record { its = h.its; here = still.0; place = h.place; is = h.is ∙ ap (λ n. open_with Writable (meant n h.its.offer)) (sym still.1) }
+  says_kept (word.Opening slot) (inl h) =
+      let still = offers h.its h.here in
+      inl (record { its = h.its; here = still.0; place = h.place; opens = h.opens; is = h.is ∙ ap (λ n. opened_by n h.its.offer) (sym still.1) })
+  says_kept (word.Opening slot) (inr h) = inr (none slot h.0, h.1)
+
+  pub means_kept : (found : ℕ) → MeansRoot account before handle found r → MeansRoot later after handle found r
+  means_kept found h = record { what = h.what; fits = h.fits; code = h.code; says = says_kept h.what h.says }
+
+-- ---- offers that stood
+
+pub stood_still : (sizes : Sizes) (account later : Account) (steps : List Step) → later.steps ≡ account.steps ++ steps → (offer : Descriptor) → HasStood sizes account offer → HasStood sizes later offer
+stood_still sizes account later steps goes_on offer h = record {
+  steps = h.steps;
+  more = h.more ++ steps;
+  goes_on = goes_on ∙ ap (λ xs. xs ++ steps) h.goes_on ∙ append_assoc h.steps h.more steps;
+  handle = h.handle;
+  stood = h.stood;
+}
+
+-- ---- tries
+
+by_try : (o : Operation) (x : Option Operation) → option_map try_of x ≡ Some (try_of o) → (p : Operation) × (x ≡ Some p) × (try_of p ≡ try_of o)
+by_try o None e = absurd (none-some (try_of o) e)
+by_try o (Some p) e = (p, refl, same_Some (try_of p) (try_of o) e)
+
+module _ (before after : State) (same : SameTries before after) where
+  -- what runs then ran before, in the same try
+  pub ran : (a : ℕ) (o : Operation) → operation_of after a ≡ Some o → (p : Operation) × (operation_of before a ≡ Some p) × (try_of p ≡ try_of o)
+  ran a o e = by_try o (operation_of before a) (sym (same a) ∙ ap (option_map try_of) e)
+
+  pub runs_on : (a : ℕ) (o : Operation) → operation_of before a ≡ Some o → (p : Operation) × (operation_of after a ≡ Some p) × (try_of p ≡ try_of o)
+  runs_on a o e = by_try o (operation_of after a) (same a ∙ ap (option_map try_of) e)
+
+  pub reserved : (v : View) (handle : ℕ) → Reserves after v handle → Reserves before v handle
+  reserved v handle h =
+      (h.0, λ o e. (let p = runs_on v.actor o e in ap (λ (t : Try). t.is_marked) (sym p.2) ∙ h.1 p.0 p.1))
+
+  pub marks_kept : (words later : List ℕ) (offers : List Known) → ((k : Known) → Contains offers k → fate later k ≡ fate words k) → AreMarked before words offers → AreMarked after later offers
+  marks_kept words later offers fates h k c a o e its =
+      let p = ran a o e in
+      ap (λ (t : Try). t.is_marked) (sym p.2)
+      ∙ h k c a p.0 p.1 (record { its = ap (λ (t : Try). t.id) p.2 ∙ its.its; now = ap (λ (t : Try). t.attempt) p.2 ∙ its.now })
+      ∙ ap (λ n. n == carried_out) (sym (fates k c))
+
+pub no_tries : (state : State) → SameTries state state
+no_tries state a = refl
