@@ -19,7 +19,7 @@ use Rattle.lock_free.specs.Accounts.{bounds_for, state_of}
 use Rattle.lock_free.specs.Places.{HaveTaken, words_of, generation_word, root_word}
 use Rattle.lock_free.specs.Rules.{Standing, NodesStand, RootsStand, IsClosing, SaysClosing, IsFree, IsOpening, Reserves, HasSeat, IsSeat, HasActor, IsKept}
 use Rattle.lock_free.specs.Roots.{NoOffer}
-use Rattle.lock_free.specs.Trying.{SameTries}
+use Rattle.lock_free.specs.Trying.{KeepsTries}
 use Rattle.lock_free.proofs.Meanings.{ran, reserved}
 
 within : {A : Type 0} (xs : List A) (n : ℕ) (x : A) → get_elem? xs n ≡ some x → n < length xs
@@ -144,15 +144,15 @@ module _ (sizes : Sizes) (s : Table.State Call View) (kept : IsKept sizes s) (id
     pub runners : (a : ℕ) (o : Operation) → operation_of (state_of sizes account) a ≡ Some o → (a ≡ v.actor) ⊎ ((p : Operation) × (operation_of (state_of sizes kept.account) a ≡ Some p))
 
   -- where operations keep their tries, and no word of a handle changes
-  pub numbers_stay : (account : Account) (words : List ℕ) → SameTries (state_of sizes kept.account) (state_of sizes account) → ((slot : ℕ) → NoOffer account slot → NoOffer kept.account slot) →
+  pub numbers_stay : (account : Account) (words : List ℕ) → KeepsTries kept.account.offers (state_of sizes kept.account) (state_of sizes account) → ((slot : ℕ) → NoOffer account slot → NoOffer kept.account slot) →
       ((handle : ℕ) → handle < handle_limit → slice_index words (root_word handle) ≡ slice_index s.words (root_word handle)) → later.opens ≡ v.opens →
       ((slot handle : ℕ) → v.opens ≡ Some handle → IsFree v 1 slot → IsFree later 1 slot) → Numbers account words
   numbers_stay account words tries none same opens still = record {
     openings = λ handle slot low fits is new.
         opening_stays handle slot (λ e f. (opens ∙ e, still slot handle e f)) (kept.openings handle slot low fits (sym (same handle low) ∙ is) (none slot new));
-    number = λ handle h. inl (reserved (state_of sizes kept.account) (state_of sizes account) tries v handle (sym opens ∙ h.0, λ o e. h.1 o (ap (operation_of (state_of sizes account)) actor ∙ e)));
-    others = λ other w e apart handle h. reserved (state_of sizes kept.account) (state_of sizes account) tries w handle h;
-    runners = λ a o e. (let p = ran (state_of sizes kept.account) (state_of sizes account) tries a o e in inr (p.0, p.1));
+    number = λ handle h. inl (reserved kept.account.offers (state_of sizes kept.account) (state_of sizes account) tries v handle (sym opens ∙ h.0, λ o e. h.1 o (ap (operation_of (state_of sizes account)) actor ∙ e)));
+    others = λ other w e apart handle h. reserved kept.account.offers (state_of sizes kept.account) (state_of sizes account) tries w handle h;
+    runners = λ a o e. inr (ran kept.account.offers (state_of sizes kept.account) (state_of sizes account) tries a o e);
   }
 
   -- ---- all of it

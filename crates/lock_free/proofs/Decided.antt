@@ -41,6 +41,7 @@ use Rattle.lock_free.specs.Steps.{nothing}
 use Rattle.lock_free.proofs.Assembling.{AllStand, all_stand, closing_stays, assembled}
 use Rattle.lock_free.proofs.Framing.{below_word, else_word, entries_else, stands_over, still_taken, have_still, roots_still, class_small, node_far, node_inside, not_of_other, not_of_any_offer, not_of_spare, root_beside, pin_beside, first_word}
 use Rattle.lock_free.proofs.Geometry.{IsWordOf}
+use Rattle.lock_free.specs.Trying.{as_before}
 use Rattle.lock_free.proofs.Meanings.{marks_kept, stood_still}
 use Rattle.lock_free.proofs.Keeping.{SameNodes, stands_kept, entries_kept, shape_kept, over_kept, meaning_kept, written_kept}
 use Rattle.lock_free.proofs.Made.{is_pending, is_failed}
@@ -204,7 +205,7 @@ module _ (sizes : Sizes) (account : Account) (actor : ℕ) (operation : Operatio
         single = over.single;
         tries = over.tries;
         stood = λ k c. stood_still sizes account account_then (step.Go actor ∷ []) refl k.offer (over.stood k c);
-        marks = marks_kept now next decides.tries words_then words_then account.offers (λ k c. refl) over.marks;
+        marks = marks_kept account.offers now next (as_before decides.tries) words_then words_then (λ k c. refl) over.marks;
       }
 
   pub all_then : AllStand sizes account_then stands words_then

@@ -77,8 +77,8 @@ module _ (sizes : Sizes) (s : Table.State Call View) (kept : IsKept sizes s) (id
   stays = record {
     waits = λ actor first differs h. h;
     others = λ a apart. ran_so (state_of sizes kept.account) (state_of sizes kept.account) a refl;
-    pins = λ a most apart. pin_same a most;
-    numbers = numbers_so sizes s kept kept.account words_then (no_tries (state_of sizes kept.account)) refl root_same;
+    pins = λ a some most apart. pin_same a most;
+    numbers = numbers_so sizes s kept kept.account words_then (no_tries kept.account.offers (state_of sizes kept.account)) refl root_same;
     still_open = λ handle e. e;
     taken = taken_then;
     spare = λ other w b other_name e apart f.
@@ -108,4 +108,4 @@ module _ (sizes : Sizes) (s : Table.State Call View) (kept : IsKept sizes s) (id
   draft_kept =
       assembled sizes s kept id v at view_then refl refl kept.account kept.stands words_then all_then closings_then own_then (other_kept sizes s kept id v at kept.account kept.stands words_then stays)
       (λ b n f. inl f) 
-      (numbers_stay sizes s kept id v at view_then refl refl kept.account words_then (no_tries (state_of sizes kept.account)) (λ slot none. none) root_same refl (λ slot handle e free. free))
+      (numbers_stay sizes s kept id v at view_then refl refl kept.account words_then (no_tries kept.account.offers (state_of sizes kept.account)) (λ slot none. none) root_same refl (λ slot handle e free. free))

@@ -118,7 +118,7 @@ module _ (account : Account) (words : List ℕ) (i x : ℕ) where
     meaning_over handle found r = means_kept account account words changed handle r (λ access q is. refl) (λ k c. (c, first_of_offer k c)) (λ slot none. none) found
 
     pub marks_over : (state : State) → AreMarked state words account.offers → AreMarked state changed account.offers
-    marks_over state = marks_kept state state (no_tries state) words changed account.offers first_of_offer
+    marks_over state = marks_kept account.offers state state (no_tries account.offers state) words changed first_of_offer
 
     pub written_over : (k : Known) → Contains account.offers k → IsWritten account words k → IsWritten account changed k
     written_over k c h = record {

@@ -168,7 +168,7 @@ module _ (sizes : Sizes) (s : Table.State Call View) (kept : IsKept sizes s) (id
     single = kept.roots.single;
     tries = kept.roots.tries;
     stood = λ k c. stood_still sizes kept.account account_then (taken ∷ []) refl k.offer (kept.roots.stood k c);
-    marks = marks_kept now next_state leads.tries s.words s.words kept.account.offers (λ k c. refl) kept.roots.marks;
+    marks = marks_kept kept.account.offers now next_state leads.tries s.words s.words (λ k c. refl) kept.roots.marks;
   }
 
   all_then : AllStand sizes account_then stands_then s.words
@@ -195,7 +195,7 @@ module _ (sizes : Sizes) (s : Table.State Call View) (kept : IsKept sizes s) (id
   stays = record {
     waits = waits;
     others = λ a differs. ran_so now next_state a (leads.others a differs);
-    pins = λ a most apart. refl;
+    pins = λ a some most apart. refl;
     numbers = numbers_so sizes s kept account_then s.words leads.tries leads.roots (λ handle low. refl);
     still_open = λ handle e. ap (λ rs. is_some (get_or rs handle None)) leads.roots ∙ e;
     taken = λ b name small h. h;

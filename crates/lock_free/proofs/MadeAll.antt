@@ -26,6 +26,7 @@ use Rattle.lock_free.specs.Making.{over_of, DraftsNode, made_at, refs_of_offer, 
 use Rattle.lock_free.specs.Places.{IsTaken, root_word, words_of, HaveTaken, generation_word}
 use Rattle.lock_free.specs.Roots.{MeansRoot, IsWritten, second_of}
 use Rattle.lock_free.specs.Rules.{Standing, Stands, NodesStand, RootsStand, IsSpare}
+use Rattle.lock_free.specs.Trying.{as_before}
 use Rattle.lock_free.proofs.Meanings.{means_kept, marks_kept, stood_still}
 use Rattle.lock_free.proofs.Assembling.{AllStand}
 use Rattle.lock_free.proofs.Made.{after, K, place_else, place_last, same_place, stands_too, stands_new, stands_else, stood_stands, new_stands}
@@ -140,7 +141,7 @@ module _ (sizes : Sizes) (account : Account) (actor : ℕ) (operation : Operatio
     single = all.roots.single;
     tries = all.roots.tries;
     stood = λ k c. stood_still sizes account later (step.Go actor ∷ []) refl k.offer (all.roots.stood k c);
-    marks = marks_kept (state_of sizes account) (state_of sizes later) makes.tries words words account.offers (λ k c. refl) all.roots.marks;
+    marks = marks_kept account.offers (state_of sizes account) (state_of sizes later) (as_before makes.tries) words words (λ k c. refl) all.roots.marks;
   }
 
   -- with the words that were exchanged since, before all slots

@@ -29,6 +29,7 @@ use Rattle.lock_free.specs.Nodes.{Has, InTable, AreEntries, class_of}
 use Rattle.lock_free.specs.Making.{over_of, Drafted, DraftsNode, owned_with, made_at, Makes, with_slots, made_by}
 use Rattle.lock_free.specs.Places.{words_in, first_slot_word, pin_word, root_word, IsTaken}
 use Rattle.lock_free.specs.Rules.{Standing, Stands, IsClosing, SaysClosing, IsFree, IsSpare, IsSeat, HasActor, IsKept, Once, pool_of, pin_word_of}
+use Rattle.lock_free.specs.Trying.{as_before}
 use Rattle.lock_free.proofs.Assembling.{AllStand, all_stand, not_its, other_actor, closing_stays, numbers_stay, assembled}
 use Rattle.lock_free.proofs.Framing.{has_words, stored, other_word, low_word, taken_over, all_over, class_small}
 use Rattle.lock_free.proofs.Geometry.{IsWordOf, slots_apart, inside, root_below}
@@ -123,8 +124,8 @@ module _ (sizes : Sizes) (s : Table.State Call View) (kept : IsKept sizes s) (id
     stays = record {
       waits = waits;
       others = λ a differs. ran_so (state_of sizes kept.account) (state_of sizes account_then) a (makes.others a differs);
-      pins = λ a most apart. pin_same a most;
-      numbers = numbers_so sizes s kept account_then words_then makes.tries makes.roots root_same;
+      pins = λ a some most apart. pin_same a most;
+      numbers = numbers_so sizes s kept account_then words_then (as_before makes.tries) makes.roots root_same;
       still_open = λ handle e. ap is_some (same_root handle) ∙ e;
       taken = taken;
       spare = λ other w b free_name e apart free.
@@ -149,5 +150,5 @@ module _ (sizes : Sizes) (s : Table.State Call View) (kept : IsKept sizes s) (id
     made_kept =
         assembled sizes s kept id v at view_then refl refl account_then stands_then words_then made_all closings_then own_then (other_kept sizes s kept id v at account_then stands_then words_then stays)
         (λ b other f. inl (was_free b other f).0)
-        (numbers_stay sizes s kept id v at view_then refl refl account_then words_then makes.tries (λ slot none. none) root_same refl
+        (numbers_stay sizes s kept id v at view_then refl refl account_then words_then (as_before makes.tries) (λ slot none. none) root_same refl
             (λ slot handle e free. (free.0, subst (λ xs. Contains xs slot) (sym (pool_else v.pool (class_of node) 1 rest (class_small node) free.0 (λ same. unopened handle e (sym same)))) free.1)))

@@ -1,5 +1,6 @@
 -- What handles' words mean stays.
-use Rattle.std.proofs.Common.{◌≡◌, ◌≢◌, ◌*◌, ◌==◌, ◌⊎◌, ℕ, inl, inr, Bool, List, ◌++◌, Contains, slice_index, Option, Some, None, refl, sym, ap, subst, ◌∙◌, append_assoc}
+use Rattle.std.proofs.Common.{◌≡◌, ◌≢◌, ◌*◌, ◌==◌, ◌⊎◌, ℕ, inl, inr, Bool, false, List, ◌++◌, Contains, slice_index, Option, Some, None, refl, sym, ap, subst, ◌∙◌, append_assoc}
+use Rattle.std.proofs.lemmas.Bool.{cases_eq}
 use Rattle.std.proofs.lemmas.Option.{none-some, same_Some}
 use Rattle.std.specs.Prelude.{option_map}
 use Rattle.trie_words.specs.declared.roots.RootWord.{RootWord as HandleWord}
@@ -20,7 +21,7 @@ use Rattle.lock_free.specs.declared.sizes.Sizes.{Sizes}
 use Rattle.lock_free.specs.Accounts.{place_of, HasStood}
 use Rattle.lock_free.specs.Roots.{MeansRoot, SaysRoot, SaysPlain, SaysOffered, SaysOpening, NoOffer, IsItsTry, AreMarked, fate, meant, opened_by, open_with, carried_out}
 use Rattle.lock_free.specs.Rules.{Reserves}
-use Rattle.lock_free.specs.Trying.{Try, try_of, try_at, SameTries}
+use Rattle.lock_free.specs.Trying.{Try, try_of, try_at, KeepsTries, as_before, anew}
 
 -- ---- words of handles
 
@@ -66,24 +67,45 @@ by_try : (o : Operation) (x : Option Operation) → option_map try_of x ≡ Some
 by_try o None e = absurd (none-some (try_of o) e)
 by_try o (Some p) e = (p, refl, same_Some (try_of p) (try_of o) e)
 
-module _ (before after : State) (same : SameTries before after) where
-  -- what runs then ran before, in the same try
-  pub ran : (a : ℕ) (o : Operation) → operation_of after a ≡ Some o → (p : Operation) × (operation_of before a ≡ Some p) × (try_of p ≡ try_of o)
-  ran a o e = by_try o (operation_of before a) (sym (same a) ∙ ap (option_map try_of) e)
+module _ (before after : State) (a : ℕ) (same : try_at after a ≡ try_at before a) where
+  ran_at : (o : Operation) → operation_of after a ≡ Some o → (p : Operation) × (operation_of before a ≡ Some p) × (try_of p ≡ try_of o)
+  ran_at o e = by_try o (operation_of before a) (sym same ∙ ap (option_map try_of) e)
 
-  pub runs_on : (a : ℕ) (o : Operation) → operation_of before a ≡ Some o → (p : Operation) × (operation_of after a ≡ Some p) × (try_of p ≡ try_of o)
-  runs_on a o e = by_try o (operation_of after a) (same a ∙ ap (option_map try_of) e)
+  runs_at : (o : Operation) → operation_of before a ≡ Some o → (p : Operation) × (operation_of after a ≡ Some p) × (try_of p ≡ try_of o)
+  runs_at o e = by_try o (operation_of after a) (same ∙ ap (option_map try_of) e)
 
-  pub reserved : (v : View) (handle : ℕ) → Reserves after v handle → Reserves before v handle
-  reserved v handle h =
-      (h.0, λ o e. (let p = runs_on v.actor o e in ap (λ (t : Try). t.is_marked) (sym p.2) ∙ h.1 p.0 p.1))
+  unmarked_at : ((o : Operation) → operation_of after a ≡ Some o → o.is_marked ≡ false) → (o : Operation) → operation_of before a ≡ Some o → o.is_marked ≡ false
+  unmarked_at h o e = let p = runs_at o e in ap (λ (t : Try). t.is_marked) (sym p.2) ∙ h p.0 p.1
 
-  pub marks_kept : (words later : List ℕ) (offers : List Known) → ((k : Known) → Contains offers k → fate later k ≡ fate words k) → AreMarked before words offers → AreMarked after later offers
-  marks_kept words later offers fates h k c a o e its =
-      let p = ran a o e in
-      ap (λ (t : Try). t.is_marked) (sym p.2)
-      ∙ h k c a p.0 p.1 (record { its = ap (λ (t : Try). t.id) p.2 ∙ its.its; now = ap (λ (t : Try). t.attempt) p.2 ∙ its.now })
-      ∙ ap (λ n. n == carried_out) (sym (fates k c))
+  pub marked_at : (k : Known) (fate_then fate_now : ℕ) → fate_then ≡ fate_now → ((p : Operation) → operation_of before a ≡ Some p → IsItsTry p k.offer → p.is_marked ≡ (fate_now == carried_out)) →
+      (o : Operation) → operation_of after a ≡ Some o → IsItsTry o k.offer → o.is_marked ≡ (fate_then == carried_out)
+  marked_at k fate_then fate_now fates h o e its =
+      let p = ran_at o e in
+      ap (λ (t : Try). t.is_marked) (sym p.2) ∙ h p.0 p.1 (record { its = ap (λ (t : Try). t.id) p.2 ∙ its.its; now = ap (λ (t : Try). t.attempt) p.2 ∙ its.now })
+      ∙ ap (λ n. n == carried_out) (sym fates)
 
-pub no_tries : (state : State) → SameTries state state
-no_tries state a = refl
+module _ (offers : List Known) (before after : State) where
+  -- what runs then ran before
+  pub ran : KeepsTries offers before after → (a : ℕ) (o : Operation) → operation_of after a ≡ Some o → (p : Operation) × (operation_of before a ≡ Some p)
+  ran (as_before tries) a o e = let p = ran_at before after a (tries a) o e in (p.0, p.1)
+  ran (anew actor h) a o e = elim (cases_eq a actor) [
+    | inl own ↦ (h.was, ap (operation_of before) own ∙ h.ran)
+    | inr other ↦ (let p = ran_at before after a (h.others a other) o e in (p.0, p.1))
+  ]
+
+  pub reserved : KeepsTries offers before after → (v : View) (handle : ℕ) → Reserves after v handle → Reserves before v handle
+  reserved (as_before tries) v handle h = (h.0, unmarked_at before after v.actor (tries v.actor) h.1)
+  reserved (anew actor h) v handle r = (r.0, elim (cases_eq v.actor actor) [
+    | inl own ↦ (λ o e. ap (λ (x : Operation). x.is_marked) (same_Some o h.was (sym e ∙ ap (operation_of before) own ∙ h.ran)) ∙ h.unmarked)
+    | inr other ↦ unmarked_at before after v.actor (h.others v.actor other) r.1
+  ])
+
+  pub marks_kept : KeepsTries offers before after → (words later : List ℕ) → ((k : Known) → Contains offers k → fate later k ≡ fate words k) → AreMarked before words offers → AreMarked after later offers
+  marks_kept (as_before tries) words later fates h k c a o e its = marked_at before after a (tries a) k (fate later k) (fate words k) (fates k c) (h k c a) o e its
+  marks_kept (anew actor t) words later fates h k c a o e its = elim (cases_eq a actor) [
+    | inl own ↦ absurd (t.fresh k c (subst (λ x. IsItsTry x k.offer) (same_Some o t.now (sym e ∙ ap (operation_of after) own ∙ t.runs)) its))
+    | inr other ↦ marked_at before after a (t.others a other) k (fate later k) (fate words k) (fates k c) (h k c a) o e its
+  ]
+
+pub no_tries : (offers : List Known) (state : State) → KeepsTries offers state state
+no_tries offers state = as_before (λ a. refl)

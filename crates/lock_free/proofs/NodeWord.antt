@@ -18,7 +18,7 @@ use Rattle.lock_free.specs.Accounts.{state_of, place_at, HasWaited, IsOfOther}
 use Rattle.lock_free.specs.Nodes.{class_of}
 use Rattle.lock_free.specs.Places.{pin_word, root_word}
 use Rattle.lock_free.specs.Rules.{Stands, IsClosing, SaysClosing, IsFree, IsSpare, IsSeat, IsKept}
-use Rattle.lock_free.specs.Trying.{SameTries}
+use Rattle.lock_free.specs.Trying.{SameTries, as_before}
 use Rattle.lock_free.proofs.Assembling.{AllStand, all_stand, closing_stays, numbers_stay, assembled}
 use Rattle.lock_free.proofs.Framing.{else_word, still_taken, node_far, not_of_spare, root_beside, pin_beside}
 use Rattle.lock_free.proofs.Geometry.{IsWordOf}
@@ -68,8 +68,8 @@ module _ (sizes : Sizes) (s : Table.State Call View) (kept : IsKept sizes s) (id
   stays = record {
     waits = waits;
     others = λ a differs. ran_so (state_of sizes kept.account) (state_of sizes account_then) a (others a differs);
-    pins = λ a most apart. pin_beside sizes kept.account kept.stands s.words all k slot stood i its value a most;
-    numbers = numbers_so sizes s kept account_then words_then tries roots root_same;
+    pins = λ a some most apart. pin_beside sizes kept.account kept.stands s.words all k slot stood i its value a most;
+    numbers = numbers_so sizes s kept account_then words_then (as_before tries) roots root_same;
     still_open = λ handle e. ap (λ rs. is_some (get_or rs handle None)) roots ∙ e;
     taken = still_taken sizes kept.account s.words kept.taken i (node_far sizes kept.account kept.stands s.words all k slot stood i its value) value;
     spare = λ other w b name e apart free. spare_stays other w b name e free;
@@ -91,4 +91,4 @@ module _ (sizes : Sizes) (s : Table.State Call View) (kept : IsKept sizes s) (id
   pub node_word_kept : IsKept sizes (record { words = words_then; homes = s.homes; views = set s.views id view_then })
   node_word_kept =
       assembled sizes s kept id v at view_then refl refl account_then kept.stands words_then all_then closings_then own_then (other_kept sizes s kept id v at account_then kept.stands words_then stays)
-      (λ b name free. inl free) (numbers_stay sizes s kept id v at view_then refl refl account_then words_then tries (λ slot none. none) root_same refl (λ slot handle e free. free))
+      (λ b name free. inl free) (numbers_stay sizes s kept id v at view_then refl refl account_then words_then (as_before tries) (λ slot none. none) root_same refl (λ slot handle e free. free))

@@ -27,6 +27,7 @@ use Rattle.lock_free.specs.Roots.{MeansRoot, IsWritten, second_of}
 use Rattle.lock_free.specs.Rules.{Standing, Stands, NodesStand, RootsStand}
 use Rattle.lock_free.proofs.Assembling.{AllStand}
 use Rattle.lock_free.proofs.Framing.{changed, else_word, below_word, stands_over, still_taken, have_still, roots_still, class_small}
+use Rattle.lock_free.specs.Trying.{as_before}
 use Rattle.lock_free.proofs.Meanings.{means_kept, marks_kept, stood_still}
 use Rattle.lock_free.proofs.Geometry.{IsWordOf, slots_apart, above, inside}
 use Rattle.lock_free.proofs.Published.{differ, else_stands, fresh_stands}
@@ -156,7 +157,7 @@ module _ (sizes : Sizes) (account : Account) (actor : ℕ) (operation : Operatio
         single = roots.single;
         tries = roots.tries;
         stood = λ k c. stood_still sizes account later (step.Go actor ∷ []) refl k.offer (roots.stood k c);
-        marks = marks_kept (state_of sizes account) (state_of sizes later) publishes.tries words_then words_then account.offers (λ k c. refl) roots.marks;
+        marks = marks_kept account.offers (state_of sizes account) (state_of sizes later) (as_before publishes.tries) words_then words_then (λ k c. refl) roots.marks;
       }
 
   pub all_then : AllStand sizes later stands words_then

@@ -38,6 +38,7 @@ use Rattle.lock_free.specs.Roots.{MeansRoot, IsWritten, second_of}
 use Rattle.lock_free.specs.Rules.{Standing, Stands, NodesStand, RootsStand, IsSpare, IsKept}
 use Rattle.lock_free.proofs.Assembling.{AllStand, all_stand}
 use Rattle.lock_free.proofs.Framing.{below_word, stands_over, still_taken, have_still, roots_still, class_small, first_word, node_far, node_inside, not_of_other, not_of_any_offer}
+use Rattle.lock_free.specs.Trying.{as_before}
 use Rattle.lock_free.proofs.Meanings.{means_kept, marks_kept, stood_still}
 use Rattle.lock_free.proofs.Geometry.{IsWordOf}
 use Rattle.lock_free.proofs.Made.{is_pending, is_failed}
@@ -203,7 +204,7 @@ module _ (sizes : Sizes) (account : Account) (actor : ℕ) (operation : Operatio
         single = over.single;
         tries = over.tries;
         stood = λ k c. stood_still sizes account account_then (step.Go actor ∷ []) refl k.offer (over.stood k c);
-        marks = marks_kept now next restores.tries words_then words_then account.offers (λ k c. refl) over.marks;
+        marks = marks_kept account.offers now next (as_before restores.tries) words_then words_then (λ k c. refl) over.marks;
       }
 
   pub all_then : AllStand sizes account_then stands words_then

@@ -16,7 +16,7 @@ use Rattle.lock_free.specs.Accounts.{state_of, HasWaited}
 use Rattle.lock_free.specs.Places.{pin_word, root_word, IsTaken}
 use Rattle.lock_free.specs.Rules.{Standing, AreDrafts, Once, pool_of, IsFree, IsSpare, IsSeat, IsKept, Reserves, IsHeld}
 use Rattle.lock_free.proofs.Assembling.{not_its, other_actor}
-use Rattle.lock_free.specs.Trying.{SameTries}
+use Rattle.lock_free.specs.Trying.{KeepsTries}
 use Rattle.lock_free.proofs.Geometry.{IsWordOf}
 use Rattle.lock_free.proofs.Meanings.{reserved}
 use Rattle.lock_free.proofs.Waiting.{waited_none}
@@ -41,11 +41,11 @@ rests_so before after a ran rests = none_by (operation_of after a) (λ o e. (let
 
 module _ (sizes : Sizes) (s : Table.State Call View) (kept : IsKept sizes s) where
   -- where operations keep their tries, and no word of a handle changes, nor what it means
-  pub numbers_so : (account : Account) (words : List ℕ) → SameTries (state_of sizes kept.account) (state_of sizes account) → (state_of sizes account).roots ≡ (state_of sizes kept.account).roots →
+  pub numbers_so : (account : Account) (words : List ℕ) → KeepsTries kept.account.offers (state_of sizes kept.account) (state_of sizes account) → (state_of sizes account).roots ≡ (state_of sizes kept.account).roots →
       ((handle : ℕ) → handle < handle_limit → slice_index words (root_word handle) ≡ slice_index s.words (root_word handle)) →
       (other : ℕ) (w : View) → get_elem? s.views other ≡ some w → (handle : ℕ) → Reserves (state_of sizes account) w handle → IsHeld (state_of sizes account) words handle
   numbers_so account words tries roots same other w e handle h =
-      let x = (kept.seats other w e).opens handle (reserved (state_of sizes kept.account) (state_of sizes account) tries w handle h) in
+      let x = (kept.seats other w e).opens handle (reserved kept.account.offers (state_of sizes kept.account) (state_of sizes account) tries w handle h) in
       record { low = x.low; taken = λ none. x.taken (sym (same handle x.low) ∙ none); closed = ap (λ rs. get_or rs handle None) roots ∙ x.closed }
 
 module _ (sizes : Sizes) (s : Table.State Call View) (kept : IsKept sizes s) (id : ℕ) (v : View) (at : get_elem? s.views id ≡ some v) (account : Account) (stands : Standing) (words : List ℕ) where
@@ -57,7 +57,7 @@ module _ (sizes : Sizes) (s : Table.State Call View) (kept : IsKept sizes s) (id
   pub record Stays : Type 0 where
     pub waits : (actor : ℕ) (first : Account) → actor ≢ v.actor → HasWaited actor first kept.account → HasWaited actor first account
     pub others : (a : ℕ) → a ≢ v.actor → (o : Operation) → operation_of (state_of sizes account) a ≡ Some o → Ran (state_of sizes kept.account) a o
-    pub pins : (a : ℕ) → a ≤ sizes.seats → a ≢ v.actor → slice_index words (pin_word a) ≡ slice_index s.words (pin_word a)
+    pub pins : (a : ℕ) → 1 ≤ a → a ≤ sizes.seats → a ≢ v.actor → slice_index words (pin_word a) ≡ slice_index s.words (pin_word a)
     pub numbers : (other : ℕ) (w : View) → get_elem? s.views other ≡ some w → (handle : ℕ) → Reserves (state_of sizes account) w handle → IsHeld (state_of sizes account) words handle
     pub still_open : (handle : ℕ) → is_some (root_at (state_of sizes kept.account) handle) ≡ true → is_some (root_at (state_of sizes account) handle) ≡ true
     pub taken : (b name : ℕ) → b < 3 → IsTaken sizes s.words b name → IsTaken sizes words b name
@@ -90,8 +90,8 @@ module _ (sizes : Sizes) (s : Table.State Call View) (kept : IsKept sizes s) (id
           rests = λ a above below.
               (let r = h.rests a above below in
               let its = not_mine a (omega (arith, above), below) in
-              (rests_so (state_of sizes kept.account) (state_of sizes account) a (stays.others a its) r.0, stays.pins a (omega (arith, below, h.most)) its ∙ r.1));
-          pinned = stays.pins w.actor (omega (arith, h.top, h.most)) differs ∙ h.pinned;
+              (rests_so (state_of sizes kept.account) (state_of sizes account) a (stays.others a its) r.0, stays.pins a (omega (arith, above, h.low)) (omega (arith, below, h.most)) its ∙ r.1));
+          pinned = stays.pins w.actor h.low (omega (arith, h.top, h.most)) differs ∙ h.pinned;
           entered = λ handle f. (let x = h.entered handle f in (x.0, stays.still_open handle x.1, x.2));
           calls = λ o f. (let p = stays.others w.actor differs o f in h.calls p.was p.runs ∙ ap (λ c. Some (handle_of c)) p.call);
           opens = stays.numbers other w e;
@@ -123,7 +123,7 @@ module _ (sizes : Sizes) (s : Table.State Call View) (kept : IsKept sizes s) (id
             rests = λ a above below.
                 (let r = h.rests a above below in
                 let its : a ≢ v.actor = λ is. absurd (omega (arith, above, is)) in
-                (rests_so (state_of sizes kept.account) (state_of sizes account) a (stays.others a its) r.0, stays.pins a (omega (arith, below, h.most)) its ∙ r.1));
+                (rests_so (state_of sizes kept.account) (state_of sizes account) a (stays.others a its) r.0, stays.pins a (omega (arith, above, h.low)) (omega (arith, below, h.most)) its ∙ r.1));
             pinned = own_pin ∙ h.pinned;
             entered = λ handle f. (let x = h.entered handle f in (x.0, stays.still_open handle x.1, x.2));
             calls = λ o f. h.calls operation runs ∙ ap (λ c. Some (handle_of c)) (sym same_call ∙ ap (λ (x : Operation). x.call) (same_Some next o (sym goes_on ∙ f)));
@@ -150,7 +150,7 @@ module _ (sizes : Sizes) (s : Table.State Call View) (kept : IsKept sizes s) (id
         most = h.most;
         waited = h.waited;
         counts = h.counts;
-        rests = λ a above below. (let r = h.rests a above below in (r.0, stays.pins a (omega (arith, below, h.most)) (λ is. absurd (omega (arith, above, is))) ∙ r.1));
+        rests = λ a above below. (let r = h.rests a above below in (r.0, stays.pins a (omega (arith, above, h.low)) (omega (arith, below, h.most)) (λ is. absurd (omega (arith, above, is))) ∙ r.1));
         pinned = own_pin ∙ h.pinned;
         entered = h.entered;
         calls = h.calls;

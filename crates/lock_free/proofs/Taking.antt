@@ -120,8 +120,8 @@ module _ (sizes : Sizes) (s : Table.State Call View) (kept : IsKept sizes s) (id
   stays = record {
     waits = λ actor before differs h. h;
     others = λ a apart. ran_so (state_of sizes kept.account) (state_of sizes kept.account) a refl;
-    pins = λ a most apart. pin_same a;
-    numbers = numbers_so sizes s kept kept.account words_then (no_tries (state_of sizes kept.account)) refl root_same;
+    pins = λ a some most apart. pin_same a;
+    numbers = numbers_so sizes s kept kept.account words_then (no_tries kept.account.offers (state_of sizes kept.account)) refl root_same;
     still_open = λ handle e. e;
     taken = taken_then;
     spare = λ other w b n e apart free. (let x = (kept.seats other w e).spare b n free in (x.1, slot_words b n free.0 x.0));
@@ -160,4 +160,4 @@ module _ (sizes : Sizes) (s : Table.State Call View) (kept : IsKept sizes s) (id
   take_kept =
       assembled sizes s kept id v at view_then refl refl kept.account kept.stands words_then all_then closings_then own_then (other_kept sizes s kept id v at kept.account kept.stands words_then stays)
       free_then 
-      (numbers_stay sizes s kept id v at view_then refl refl kept.account words_then (no_tries (state_of sizes kept.account)) (λ slot none. none) root_same refl (λ slot handle e free. (free.0, free_still v.pool class name small 1 slot free.0 free.1)))
+      (numbers_stay sizes s kept id v at view_then refl refl kept.account words_then (no_tries kept.account.offers (state_of sizes kept.account)) (λ slot none. none) root_same refl (λ slot handle e free. (free.0, free_still v.pool class name small 1 slot free.0 free.1)))

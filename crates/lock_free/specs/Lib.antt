@@ -3,8 +3,8 @@ pub mod Accounts
 pub mod Live
 pub mod Nodes
 pub mod Roots
-pub mod Rules
 pub mod Trying
+pub mod Rules
 pub mod Steps
 pub mod Loading
 pub mod Making
