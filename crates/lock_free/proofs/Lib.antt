@@ -9,6 +9,7 @@ mod Looking
 mod Framing
 mod NodeWord
 mod Pools
+mod Spending
 mod Made
 mod MadeAll
 mod MadeSeats

@@ -34,7 +34,8 @@ use Rattle.lock_free.proofs.Assembling.{AllStand, all_stand, not_its, other_acto
 use Rattle.lock_free.proofs.Framing.{has_words, stored, other_word, low_word, taken_over, all_over, class_small}
 use Rattle.lock_free.proofs.Geometry.{IsWordOf, slots_apart, inside, root_below}
 use Rattle.lock_free.proofs.Made.{stands_too, stands_else, place_else, place_last}
-use Rattle.lock_free.proofs.Pools.{once_rest, pool_same, pool_else}
+use Rattle.lock_free.proofs.Pools.{pool_else}
+use Rattle.lock_free.proofs.Spending as spending
 use Rattle.lock_free.proofs.Seats.{ran_so, numbers_so, Stays, StaysSpare, other_kept, own_kept}
 use Rattle.lock_free.proofs.Waiting.{waited_none, waited_more}
 
@@ -55,10 +56,10 @@ module _ (sizes : Sizes) (s : Table.State Call View) (kept : IsKept sizes s) (id
   seat = kept.seats id v at
 
   pub its_own : IsFree v (class_of node) name
-  its_own = (class_small node, subst (λ xs. Contains xs name) (sym pool) (Contains-append_right rest (name ∷ []) name (Contains-get_or (name ∷ []) 0 name (omega arith))))
+  its_own = spending.its_own sizes s kept id v at (class_of node) (class_small node) name rest pool
 
   pub its_spare : IsTaken sizes s.words (class_of node) name × IsSpare sizes kept.account kept.stands name
-  its_spare = seat.spare (class_of node) name its_own
+  its_spare = spending.its_spare sizes s kept id v at (class_of node) (class_small node) name rest pool
 
   same_root : (handle : ℕ) → root_at (state_of sizes account_then) handle ≡ root_at (state_of sizes kept.account) handle
   same_root handle = ap (λ rs. get_or rs handle None) makes.roots
@@ -91,29 +92,10 @@ module _ (sizes : Sizes) (s : Table.State Call View) (kept : IsKept sizes s) (id
 
   -- what is free for the seat then was free before, and is another slot
   was_free : (b other : ℕ) → IsFree view_then b other → IsFree v b other × (other ≢ name)
-  was_free b other f = elim (cases_eq b (class_of node)) [
-    | inl same ↦
-        (let inside_rest : Contains rest other = subst (λ xs. Contains xs other) (ap (λ n. pool_of view_then.pool n) same ∙ pool_same v.pool (class_of node) rest (class_small node)) f.1 in
-        let alone = once_rest rest name (subst Once pool (seat.once (class_of node) (class_small node))) in (
-          (f.0, subst (λ xs. Contains xs other) (sym (ap (λ n. pool_of v.pool n) same ∙ pool)) (Contains-append_left rest (name ∷ []) other inside_rest)),
-          λ is. alone.1 (subst (λ n. Contains rest n) is inside_rest),
-        ))
-    | inr differs ↦
-        (let before : IsFree v b other = (f.0, subst (λ xs. Contains xs other) (pool_else v.pool (class_of node) b rest (class_small node) f.0 differs) f.1) in (
-          before,
-          λ is. differs
-              (slots_apart sizes s.words kept.taken b (class_of node) other name (2 * name) f.0 (class_small node) (seat.spare b other before).0 its_spare.0
-              (record { low = omega (arith, is); high = (let some = has_words b f.0 in omega (arith, is, some)) }) (record { low = omega arith; high = (let some = has_words (class_of node) (class_small node) in omega (arith, some)) })).0,
-        ))
-  ]
+  was_free b other f = spending.was_free sizes s kept id v at (class_of node) (class_small node) name rest pool b other f.0 f.1
 
   once_then : (b : ℕ) → b < 3 → Once (pool_of view_then.pool b)
-  once_then b small_b = elim (cases_eq b (class_of node)) [
-    | inl same ↦ subst Once (sym (ap (λ n. pool_of view_then.pool n) same ∙ pool_same v.pool (class_of node) rest (class_small node)))
-        (once_rest rest name (subst Once pool (seat.once (class_of node) (class_small node)))).0
-    | inr differs ↦ subst Once (sym (pool_else v.pool (class_of node) b rest (class_small node) small_b differs)) (seat.once b small_b)
-  ]
-
+  once_then = spending.once_then sizes s kept id v at (class_of node) (class_small node) name rest pool
 
   module _ (words_then : List ℕ) (made_all : AllStand sizes account_then stands_then words_then) (pin_same : (a : ℕ) → a ≤ sizes.seats → slice_index words_then (pin_word a) ≡ slice_index s.words (pin_word a))
       (root_same : (handle : ℕ) → handle < handle_limit → slice_index words_then (root_word handle) ≡ slice_index s.words (root_word handle))
