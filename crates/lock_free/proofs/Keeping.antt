@@ -54,10 +54,10 @@ pub same_nodes : (before after : State) → ((k : ℕ) → get_or after.heap.slo
 unfolding node_at stored
 same_nodes before after same r = ap node_of (same (slot_of r))
 
-module _ (account : Account) (steps : List Step) (dropped : Dropped) (before after : State) (same : SameNodes before after) (aheads : (i a f : Ref) → IsAhead after i a f → IsAhead before i a f)
+module _ (account : Account) (steps : List Step) (offers : List Known) (dropped : Dropped) (before after : State) (same : SameNodes before after) (aheads : (i a f : Ref) → IsAhead after i a f → IsAhead before i a f)
     (still : (i a f : Ref) → IsAhead before i a f → dropped (slot_of f) ≡ false → IsAhead after i a f) (words : List ℕ) where
   abbrev pub later : Account
-  later = record account { steps = steps }
+  later = record account { steps = steps; offers = offers }
 
   same_main : (r : Ref) → main_at after.heap r ≡ main_at before.heap r
   same_main r = ap main_of (same r)
@@ -101,15 +101,15 @@ module _ (account : Account) (steps : List Step) (dropped : Dropped) (before aft
   stands_kept name k slot (Tomb single) stays h = (h.0, h.1, header_kept k slot h.0 stays h.2)
   stands_kept name k slot (Listed singles) stays h = ((h.0.0, h.0.1, header_kept k slot h.0.0 stays h.0.2), entries_kept name singles.items h.1)
 
-  pub meaning_kept : (handle found : ℕ) (r : Option Root) → MeansRoot account words handle found r → MeansRoot later words handle found r
-  meaning_kept handle found r = means_kept account later words words handle r (λ access q is. refl) (λ k c. (c, refl)) (λ slot none. none) found
-
   second_kept : (o : Option Ref) → second_of account o ≡ second_of later o
   second_kept None = refl
   second_kept (Some r) = refl
 
   pub written_kept : (k : Known) → IsWritten account words k → IsWritten later words k
   written_kept k h = record { olds = h.olds; news = h.news ∙ ap (λ n. pair_code (record { low = place_of account k.offer.successor; high = n })) (second_kept k.offer.second) }
+
+pub meaning_kept : (account : Account) (steps : List Step) (words : List ℕ) (handle found : ℕ) (r : Option Root) → MeansRoot account words handle found r → MeansRoot (record account { steps = steps }) words handle found r
+meaning_kept account steps words handle found r = means_kept account (record account { steps = steps }) words words handle r (λ access q is. refl) (λ k c. (c, refl)) (λ slot none. none) found
 
 -- ---- the rule
 
@@ -154,16 +154,16 @@ module _ (sizes : Sizes) (s : Table.State Call View) (kept : IsKept sizes s) (id
     offers = λ x c k slot h. kept.nodes.offers x c k slot (stood k slot h).0;
     written = λ k slot h.
         (let was = stood k slot h in
-        stands_kept kept.account account_then.steps dropped now next_state (same_nodes now next_state leads.nodes) leads.aheads leads.still s.words (place_at kept.account k) k slot slot.node was.1 (kept.nodes.written k slot was.0));
+        stands_kept kept.account account_then.steps kept.account.offers dropped now next_state (same_nodes now next_state leads.nodes) leads.aheads leads.still s.words (place_at kept.account k) k slot slot.node was.1 (kept.nodes.written k slot was.0));
     live = λ r h. (let x = leads.live r h in live_then (dropped (slot_of r)) (slot_of r) refl x.1 (kept.nodes.live r x.0));
   }
 
   roots_then : RootsStand sizes account_then s.words
   roots_then = record {
     means = λ handle low.
-        meaning_kept kept.account account_then.steps dropped now next_state (same_nodes now next_state leads.nodes) leads.aheads leads.still s.words handle _ _
+        meaning_kept kept.account account_then.steps s.words handle _ _
         (subst (λ rs. MeansRoot kept.account s.words handle (slice_index s.words (root_word handle)) (get_or rs handle None)) (sym leads.roots) (kept.roots.means handle low));
-    offers = λ k c. written_kept kept.account account_then.steps dropped now next_state (same_nodes now next_state leads.nodes) leads.aheads leads.still s.words k (kept.roots.offers k c);
+    offers = λ k c. written_kept kept.account account_then.steps kept.account.offers dropped now next_state (same_nodes now next_state leads.nodes) leads.aheads leads.still s.words k (kept.roots.offers k c);
     blocks = kept.roots.blocks;
     single = kept.roots.single;
     tries = kept.roots.tries;

@@ -1,5 +1,6 @@
 mod Definition
 mod Geometry
+mod RootCodes
 mod Meanings
 mod Assembling
 mod Waiting
