@@ -245,7 +245,7 @@ module _ (sizes : Sizes) (account : Account) (stands : Standing) (words : List �
   pub no_slot : (b name : ℕ) → b < 3 → IsTaken sizes words b name → (j : ℕ) → IsWordOf b name j → j ≢ i
   no_slot b name small is j its same = let far = above sizes words have b name j small is its in absurd (omega (arith, far, before, same))
 
-  no_offer : (k : Known) → Contains account.offers k → (j : ℕ) → IsWordOf 1 k.slot j → j ≢ i
+  pub no_offer : (k : Known) → Contains account.offers k → (j : ℕ) → IsWordOf 1 k.slot j → j ≢ i
   no_offer k c = no_slot 1 k.slot (omega arith) (roots.blocks k c)
 
   pub nodes_below : NodesStand sizes account stands (set words i x)

@@ -6,6 +6,7 @@ mod Assembling
 mod Waiting
 mod Seats
 mod Keeping
+mod RootSteps
 mod Looking
 mod Framing
 mod NodeWord
@@ -23,3 +24,4 @@ mod DecidedKept
 mod Restored
 mod Drafting
 mod Taking
+mod Offered

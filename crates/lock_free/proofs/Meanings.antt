@@ -3,6 +3,7 @@ use Rattle.std.proofs.Common.{◌≡◌, ◌≢◌, ◌*◌, ◌==◌, ◌⊎◌
 use Rattle.std.proofs.lemmas.Bool.{cases_eq}
 use Rattle.std.proofs.lemmas.Option.{none-some, same_Some}
 use Rattle.std.specs.Prelude.{option_map}
+use Rattle.trie_words.specs.Codes.{root_code, IsRootWord}
 use Rattle.trie_words.specs.declared.roots.RootWord.{RootWord as HandleWord}
 use Rattle.trie_words.specs.declared.roots.RootWord.TheVariants as word
 use Rattle.history.specs.declared.calls.Access.{Access}
@@ -25,30 +26,41 @@ use Rattle.lock_free.specs.Trying.{Try, try_of, try_at, KeepsTries, as_before, a
 
 -- ---- words of handles
 
--- Roots stand where they stood, and of each offer there is said what was said, or no more is asked.
-module _ (account later : Account) (before after : List ℕ) (handle : ℕ) (r : Option Root)
+-- Roots stand where they stood, of each offer there is said what was said, and a word that names an offer that didn't stand yet names none, or it opens the handle.
+module _ (account later : Account) (before after : List ℕ) (handle found : ℕ) (r : Option Root)
     (places : (access : Access) (q : Ref) → r ≡ open_with access (Plain q) → place_of later q ≡ place_of account q)
-    (offers : (k : Known) → Contains account.offers k → Contains later.offers k × (fate after k ≡ fate before k)) (none : (slot : ℕ) → NoOffer account slot → NoOffer later slot) where
-  plain_kept : (access : Access) (slot : ℕ) → SaysPlain account access slot r → SaysPlain later access slot r
-  plain_kept access slot h = record { root = h.root; place = h.place ∙ sym (places access h.root h.is); is = h.is }
+    (offers : (k : Known) → Contains account.offers k → Contains later.offers k × (fate after k ≡ fate before k))
+    (none : (slot : ℕ) → found ≡ root_code (word.Opening slot) → IsRootWord (word.Opening slot) → NoOffer account slot → r ≡ None → SaysOpening later after handle slot r ⊎ NoOffer later slot) where
+  plain_then : (access : Access) (slot : ℕ) → SaysPlain account access slot r → SaysPlain later access slot r
+  plain_then access slot h = record { root = h.root; place = h.place ∙ sym (places access h.root h.is); is = h.is }
 
-  says_kept : (w : HandleWord) → SaysRoot account before handle w r → SaysRoot later after handle w r
-  says_kept word.Closed h = h
-  says_kept word.Reserved h = h
-  says_kept (word.Writable slot) h = plain_kept _ slot h
-  says_kept (word.ReadOnly slot) h = plain_kept _ slot h
-  says_kept (word.ClosingWritable slot seat) h = plain_kept _ slot h
-  says_kept (word.ClosingReadOnly slot seat) h = plain_kept _ slot h
-  says_kept (word.Offered slot) h =
+  opening_then : (slot : ℕ) → r ≡ None → SaysOpening later after handle slot r ⊎ NoOffer later slot → SaysRoot later after handle (word.Opening slot) r
+  opening_then slot closed (inl opens) = inl opens
+  opening_then slot closed (inr nothing) = inr (nothing, closed)
+
+  says_then : (w : HandleWord) → IsRootWord w → found ≡ root_code w → SaysRoot account before handle w r → SaysRoot later after handle w r
+  says_then word.Closed fits is h = h
+  says_then word.Reserved fits is h = h
+  says_then (word.Writable slot) fits is h = plain_then _ slot h
+  says_then (word.ReadOnly slot) fits is h = plain_then _ slot h
+  says_then (word.ClosingWritable slot seat) fits is h = plain_then _ slot h
+  says_then (word.ClosingReadOnly slot seat) fits is h = plain_then _ slot h
+  says_then (word.Offered slot) fits is h =
       let still = offers h.its h.here in
       record { its = h.its; here = still.0; place = h.place; is = h.is ∙ ap (λ n. open_with Writable (meant n h.its.offer)) (sym still.1) }
-  says_kept (word.Opening slot) (inl h) =
+  says_then (word.Opening slot) fits is (inl h) =
       let still = offers h.its h.here in
       inl (record { its = h.its; here = still.0; place = h.place; opens = h.opens; is = h.is ∙ ap (λ n. opened_by n h.its.offer) (sym still.1) })
-  says_kept (word.Opening slot) (inr h) = inr (none slot h.0, h.1)
+  says_then (word.Opening slot) fits is (inr h) = opening_then slot h.1 (none slot is fits h.0 h.1)
 
-  pub means_kept : (found : ℕ) → MeansRoot account before handle found r → MeansRoot later after handle found r
-  means_kept found h = record { what = h.what; fits = h.fits; code = h.code; says = says_kept h.what h.says }
+  pub means_then : MeansRoot account before handle found r → MeansRoot later after handle found r
+  means_then h = record { what = h.what; fits = h.fits; code = h.code; says = says_then h.what h.fits h.code h.says }
+
+pub means_kept : (account later : Account) (before after : List ℕ) (handle : ℕ) (r : Option Root) →
+    ((access : Access) (q : Ref) → r ≡ open_with access (Plain q) → place_of later q ≡ place_of account q) →
+    ((k : Known) → Contains account.offers k → Contains later.offers k × (fate after k ≡ fate before k)) → ((slot : ℕ) → NoOffer account slot → NoOffer later slot) → (found : ℕ) →
+    MeansRoot account before handle found r → MeansRoot later after handle found r
+means_kept account later before after handle r places offers none found = means_then account later before after handle found r places offers (λ slot is fits h closed. inr (none slot h))
 
 -- ---- offers that stood
 

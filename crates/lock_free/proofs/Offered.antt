@@ -1,0 +1,270 @@
+-- An exchange of a handle's word brings an offer to stand.
+use Rattle.history.specs.declared.calls.Call.{Call}
+use Rattle.std.proofs.Common.{◌≡◌, ◌≢◌, ◌+◌, ◌*◌, ◌⊎◌, ◌^◌, ℕ, zero, suc, ◌<◌, ◌≤◌, inl, inr, Bool, true, false, List, [], ◌∷◌, ◌++◌, Contains, All, length, set, get_or, slice_index, is_some, Option, Some, None, refl, sym, ap, subst, ◌∙◌, arith, append-nil}
+use Rattle.std.specs.Prelude.{option_map, ◌==◌}
+use Rattle.std.proofs.lemmas.Bool.{cases_eq, true≢false}
+use Rattle.std.proofs.lemmas.Option.{same_Some, none-some}
+use Rattle.std.proofs.lemmas.List.Elements.{All-cons, All-nil, All-append}
+use mathlib.Core.Option.{some, some-injective}
+use lib.ListN.{get_elem?}
+use Rattle.atomic_table.specs.Table as Table
+use Rattle.trie_words.specs.Codes.{root_code, IsRootWord}
+use Rattle.trie_words.specs.declared.roots.RootWord.TheVariants as word
+use Rattle.history.specs.declared.calls.Access.TheVariants.{Writable}
+use Rattle.machine_model.specs.declared.roots.Descriptor.{Descriptor}
+use Rattle.machine_model.specs.declared.roots.Root.{Root}
+use Rattle.machine_model.specs.declared.roots.RootWord.TheVariants.{Plain, Offer}
+use Rattle.machine_model.specs.Beneath.slot_arena.specs.declared.nodes.Slot.{Slot}
+use Rattle.machine_model.specs.declared.steps.Step.TheVariants as step
+use Rattle.machine_model.specs.declared.operations.Operation.{Operation}
+use Rattle.machine_model.specs.Acting.{operation_after}
+use Rattle.machine_model.specs.Calls.{handle_of}
+use Rattle.machine_model.specs.Keys.{KeysFit, FitsKey}
+use Rattle.machine_model.specs.States.{State, operation_of, root_at, word_of, handle_limit}
+use Rattle.lock_free.specs.declared.accounts.Account.{Account}
+use Rattle.lock_free.specs.declared.accounts.Known.{Known}
+use Rattle.lock_free.specs.declared.rules.Pool.{Pool}
+use Rattle.lock_free.specs.declared.rules.View.{View}
+use Rattle.lock_free.specs.declared.sizes.Sizes.{Sizes}
+use Rattle.lock_free.specs.Accounts.{state_of, place_at, HasWaited, IsOfOther, HasStood}
+use Rattle.lock_free.specs.Offering.{LeavesNodes, DraftsOffer, Offers, known_at, offered_at, offered_by}
+use Rattle.lock_free.specs.Places.{words_of, pin_word, root_word, IsTaken}
+use Rattle.lock_free.specs.Roots.{MeansRoot, SaysOpening, NoOffer, IsWritten, IsItsTry, AreMarked, fate, meant, opened_by, open_with, carried_out}
+use Rattle.lock_free.specs.Rules.{Standing, Stands, NodesStand, RootsStand, IsClosing, SaysClosing, IsFree, IsSpare, IsOpening, IsHeld, Reserves, IsSeat, IsKept, pool_of}
+use Rattle.lock_free.specs.Trying.{try_of, KeepsTries, anew}
+use Rattle.lock_free.proofs.Assembling.{AllStand, all_stand, closing_stays, opening_stays, Numbers, assembled}
+use Rattle.lock_free.proofs.Geometry.{IsWordOf, inside}
+use Rattle.lock_free.proofs.Meanings.{means_then, stood_still, ran, reserved, marks_kept}
+use Rattle.lock_free.proofs.Pools.{first_or_more, first_there, more_there}
+use Rattle.lock_free.proofs.RootCodes.{same_word}
+use Rattle.lock_free.proofs.RootSteps as root
+use Rattle.lock_free.proofs.Seats.{ran_so, Stays, StaysSpare, other_kept, own_kept}
+use Rattle.lock_free.proofs.Spending as spending
+use Rattle.lock_free.proofs.Waiting.{waited_more}
+
+module _ (sizes : Sizes) (s : Table.State Call View) (kept : IsKept sizes s) (id : ℕ) (v : View) (at : get_elem? s.views id ≡ some v) (operation : Operation)
+    (runs : operation_of (state_of sizes kept.account) v.actor ≡ Some operation) (slot : ℕ) (offer : Descriptor) (offers : Offers sizes kept.account v.actor slot operation offer)
+    (rest : List ℕ) (pool : pool_of v.pool 1 ≡ rest ++ slot ∷ []) (drafted : DraftsOffer kept.account v.drafts slot offer) where
+  abbrev all : AllStand sizes kept.account kept.stands s.words
+  all = all_stand sizes s kept
+
+  abbrev now : State
+  now = state_of sizes kept.account
+
+  abbrev pub account_then : Account
+  account_then = offered_at v.actor slot offer kept.account
+
+  abbrev next : State
+  next = state_of sizes account_then
+
+  abbrev handle : ℕ
+  handle = handle_of operation.call
+
+  abbrev pub words_then : List ℕ
+  words_then = set s.words (root_word handle) (root_code (word.Offered slot))
+
+  abbrev pub view_then : View
+  view_then = offered_by v slot rest offer kept.account
+
+  abbrev new : Known
+  new = known_at slot offer
+
+  seat : IsSeat sizes kept.account kept.stands s.words v
+  seat = kept.seats id v at
+
+  low : handle < handle_limit
+  low = (seat.entered handle (seat.calls operation runs)).0
+
+  medium : 1 < 3
+  medium = omega arith
+
+  its_own : IsFree v 1 slot
+  its_own = spending.its_own sizes s kept id v at 1 medium slot rest pool
+
+  spare : IsTaken sizes s.words 1 slot × IsSpare sizes kept.account kept.stands slot
+  spare = spending.its_spare sizes s kept id v at 1 medium slot rest pool
+
+  slot_same : (b name : ℕ) → b < 3 → IsTaken sizes s.words b name → (j : ℕ) → IsWordOf b name j → slice_index words_then j ≡ slice_index s.words j
+  slot_same = root.slot_rooted sizes kept.account kept.stands s.words all handle low (root_code (word.Offered slot))
+
+  its_word : (j value : ℕ) → Contains v.drafts (j, value) → IsWordOf 1 slot j → slice_index words_then j ≡ value
+  its_word j value c its = slot_same 1 slot medium spare.0 j its ∙ (seat.drafts (j, value) c).0
+
+  fate_new : fate words_then new ≡ 0
+  fate_new = its_word (2 * slot) 0 drafted.first (record { low = omega arith; high = omega arith })
+
+  fits : slot < 2 ^ 27
+  fits =
+      let range = kept.range.within in
+      let is = inside sizes s.words kept.taken 1 slot (2 * slot) medium spare.0 (record { low = omega arith; high = omega arith }) in omega (arith, range, is)
+
+  keeps : KeepsTries kept.account.offers now next
+  keeps = anew v.actor (record {
+    was = operation;
+    ran = runs;
+    unmarked = offers.unmarked;
+    now = operation_after now operation;
+    runs = offers.own;
+    still_unmarked = offers.still_unmarked;
+    fresh = offers.fresh;
+    others = λ a differs. ap (λ o. option_map try_of o) (offers.others a differs);
+  })
+
+  -- an older offer is in another slot
+  another : (k : Known) → Contains kept.account.offers k → k.slot ≢ slot
+  another k c = spare.1.1 k c
+
+  fate_old : (k : Known) → Contains kept.account.offers k → fate words_then k ≡ fate s.words k
+  fate_old = root.fate_rooted sizes kept.account kept.stands s.words all handle low (root_code (word.Offered slot))
+
+  -- ---- what words of handles mean
+
+  -- who waits for the slot's offer is this seat, and it is to open the handle
+  opens_this : (g found_slot : ℕ) → g < handle_limit → IsRootWord (word.Opening found_slot) → slice_index s.words (root_word g) ≡ root_code (word.Opening found_slot) → NoOffer kept.account found_slot → found_slot ≡ slot →
+      offer.opens ≡ Some g
+  opens_this g found_slot below in_range is nothing same =
+      let o = kept.openings g found_slot below in_range is nothing in
+      let mine : o.id ≡ id = kept.pools o.id id o.view v 1 1 slot o.at at (subst (λ n. IsFree o.view 1 n) same o.free) its_own in
+      let view_is : o.view ≡ v = some-injective o.view v (sym o.at ∙ ap (λ n. get_elem? s.views n) mine ∙ at) in
+      offers.opens ∙ sym (seat.reserves operation runs) ∙ ap (λ (x : View). x.opens) (sym view_is) ∙ o.opens
+
+  names : (g found_slot : ℕ) → g < handle_limit → slice_index s.words (root_word g) ≡ root_code (word.Opening found_slot) → IsRootWord (word.Opening found_slot) → NoOffer kept.account found_slot → root_at now g ≡ None →
+      SaysOpening account_then words_then g found_slot (root_at now g) ⊎ NoOffer account_then found_slot
+  names g found_slot below is in_range nothing closed = elim (cases_eq found_slot slot) [
+    | inl same ↦ inl (record {
+      its = new;
+      here = first_there new kept.account.offers;
+      place = same;
+      opens = opens_this g found_slot below in_range is nothing same;
+      is = closed ∙ ap (λ n. opened_by n offer) (sym fate_new);
+    })
+    | inr differs ↦ inr (λ k c. elim (first_or_more new kept.account.offers k c) [
+      | inl is_new ↦ (λ e. differs (sym e ∙ ap (λ (x : Known). x.slot) is_new))
+      | inr old ↦ nothing k old
+    ])
+  ]
+
+  means_else : (g : ℕ) → g < handle_limit → MeansRoot account_then words_then g (slice_index s.words (root_word g)) (root_at now g)
+  means_else g below =
+      means_then kept.account account_then s.words words_then g (slice_index s.words (root_word g)) (root_at now g) (λ access q is. refl)
+      (λ k c. (more_there new kept.account.offers k c, fate_old k c)) (λ found_slot is in_range nothing closed. names g found_slot below is in_range nothing closed) (kept.roots.means g below)
+
+  means_here : MeansRoot account_then words_then handle (root_code (word.Offered slot)) (root_at next handle)
+  means_here = record {
+    what = word.Offered slot;
+    fits = fits;
+    code = refl;
+    says = record { its = new; here = first_there new kept.account.offers; place = refl; is = offers.stands ∙ ap (λ n. open_with Writable (meant n offer)) (sym fate_new) };
+  }
+
+  root_beside : (g : ℕ) → g ≢ handle → slice_index words_then (root_word g) ≡ slice_index s.words (root_word g)
+  root_beside = root.else_root sizes kept.account kept.stands s.words all handle low (root_code (word.Offered slot))
+
+  root_here : slice_index words_then (root_word handle) ≡ root_code (word.Offered slot)
+  root_here = root.at_it sizes kept.account kept.stands s.words all handle low (root_code (word.Offered slot))
+
+  means_all : (g : ℕ) → g < handle_limit → MeansRoot account_then words_then g (slice_index words_then (root_word g)) (root_at next g)
+  means_all g below = elim (cases_eq g handle) [
+    | inl same ↦
+        subst (λ n. MeansRoot account_then words_then n (slice_index words_then (root_word n)) (root_at next n)) (sym same)
+        (subst (λ n. MeansRoot account_then words_then handle n (root_at next handle)) (sym root_here) means_here)
+    | inr differs ↦
+        subst (λ n. MeansRoot account_then words_then g n (root_at next g)) (sym (root_beside g differs))
+        (subst (λ r. MeansRoot account_then words_then g (slice_index s.words (root_word g)) r) (sym (offers.roots g differs)) (means_else g below))
+  ]
+
+  -- ---- offers
+
+  written_new : IsWritten account_then words_then new
+  written_new = record {
+    olds = its_word (2 * slot + 1) _ drafted.olds (record { low = omega arith; high = omega arith });
+    news = its_word (2 * slot + 2) _ (subst (λ n. Contains v.drafts (2 * slot + 2, n)) refl drafted.news) (record { low = omega arith; high = omega arith });
+  }
+
+  written_all : (k : Known) → Contains account_then.offers k → IsWritten account_then words_then k
+  written_all k c = elim (first_or_more new kept.account.offers k c) [
+    | inl is_new ↦ subst (λ x. IsWritten account_then words_then x) (sym is_new) written_new
+    | inr old ↦
+        root.written_left sizes kept.account account_then.steps account_then.offers offers.leaves kept.stands words_then k
+        (root.written_rooted sizes kept.account kept.stands s.words all handle low (root_code (word.Offered slot)) k old)
+  ]
+
+  still_taken : (b n : ℕ) → b < 3 → IsTaken sizes s.words b n → IsTaken sizes words_then b n
+  still_taken = root.taken_rooted sizes kept.account kept.stands s.words all handle low (root_code (word.Offered slot))
+
+  blocks_all : (k : Known) → Contains account_then.offers k → IsTaken sizes words_then 1 k.slot
+  blocks_all k c = elim (first_or_more new kept.account.offers k c) [
+    | inl is_new ↦ subst (λ (x : Known). IsTaken sizes words_then 1 x.slot) (sym is_new) (still_taken 1 slot medium spare.0)
+    | inr old ↦ still_taken 1 k.slot medium (kept.roots.blocks k old)
+  ]
+
+  single_all : (k l : Known) → Contains account_then.offers k → Contains account_then.offers l → k.slot ≡ l.slot → k ≡ l
+  single_all k l c d same = elim (first_or_more new kept.account.offers k c) [
+    | inl kn ↦ elim (first_or_more new kept.account.offers l d) [
+      | inl ln ↦ kn ∙ sym ln
+      | inr lo ↦ absurd (another l lo (sym same ∙ ap (λ (x : Known). x.slot) kn))
+    ]
+    | inr ko ↦ elim (first_or_more new kept.account.offers l d) [
+      | inl ln ↦ absurd (another k ko (same ∙ ap (λ (x : Known). x.slot) ln))
+      | inr lo ↦ kept.roots.single k l ko lo same
+    ]
+  ]
+
+  -- no older offer is of the new one's try
+  newer : (k : Known) → Contains kept.account.offers k → k.offer.operation ≡ offer.operation → k.offer.attempt ≡ offer.attempt → ⊥
+  newer k c same_id same_try = offers.fresh k c (record { its = offers.its_try.its ∙ sym same_id; now = offers.its_try.now ∙ sym same_try })
+
+  tries_all : (k l : Known) → Contains account_then.offers k → Contains account_then.offers l → k.offer.operation ≡ l.offer.operation → k.offer.attempt ≡ l.offer.attempt → k ≡ l
+  tries_all k l c d same_id same_try = elim (first_or_more new kept.account.offers k c) [
+    | inl kn ↦ elim (first_or_more new kept.account.offers l d) [
+      | inl ln ↦ kn ∙ sym ln
+      | inr lo ↦ absurd (newer l lo (sym same_id ∙ ap (λ (x : Known). x.offer.operation) kn) (sym same_try ∙ ap (λ (x : Known). x.offer.attempt) kn))
+    ]
+    | inr ko ↦ elim (first_or_more new kept.account.offers l d) [
+      | inl ln ↦ absurd (newer k ko (same_id ∙ ap (λ (x : Known). x.offer.operation) ln) (same_try ∙ ap (λ (x : Known). x.offer.attempt) ln))
+      | inr lo ↦ kept.roots.tries k l ko lo same_id same_try
+    ]
+  ]
+
+  stood_all : (k : Known) → Contains account_then.offers k → HasStood sizes account_then k.offer
+  stood_all k c = elim (first_or_more new kept.account.offers k c) [
+    | inl is_new ↦ subst (λ (x : Known). HasStood sizes account_then x.offer) (sym is_new)
+        (record { steps = account_then.steps; more = []; goes_on = sym (append-nil account_then.steps); handle = handle; stood = ap word_of offers.stands })
+    | inr old ↦ stood_still sizes kept.account account_then (step.Go v.actor ∷ []) refl k.offer (kept.roots.stood k old)
+  ]
+
+  marks_new : (a : ℕ) (o : Operation) → operation_of next a ≡ Some o → IsItsTry o offer → o.is_marked ≡ (fate words_then new == carried_out)
+  marks_new a o e its = elim (cases_eq a v.actor) [
+    | inl own ↦
+        (let is : o ≡ operation_after now operation = same_Some o (operation_after now operation) (sym e ∙ ap (operation_of next) own ∙ offers.own) in
+        ap (λ (x : Operation). x.is_marked) is ∙ offers.still_unmarked ∙ ap (λ n. n == carried_out) (sym fate_new))
+    | inr other ↦ absurd (offers.alone a o other (sym (offers.others a other) ∙ e) its.its)
+  ]
+
+  marks_all : AreMarked next words_then account_then.offers
+  marks_all k c = elim (first_or_more new kept.account.offers k c) [
+    | inl is_new ↦
+        subst (λ (x : Known). (a : ℕ) (o : Operation) → operation_of next a ≡ Some o → IsItsTry o x.offer → o.is_marked ≡ (fate words_then x == carried_out)) (sym is_new) marks_new
+    | inr old ↦ marks_kept kept.account.offers now next keeps s.words words_then fate_old kept.roots.marks k old
+  ]
+
+  -- ---- all that stands
+
+  not_its_slot : (x : Known) → Contains account_then.offers x → (k : ℕ) (n : Slot) → Stands kept.stands now k n → place_at kept.account k ≢ x.slot
+  not_its_slot x c k n h = elim (first_or_more new kept.account.offers x c) [
+    | inl is_new ↦ (λ e. spare.1.0 k n h (e ∙ ap (λ (y : Known). y.slot) is_new))
+    | inr old ↦ kept.nodes.offers x old k n h
+  ]
+
+  all_then : AllStand sizes account_then kept.stands words_then
+  all_then = record {
+    bounds = offers.leaves.bounds;
+    keys = All-append FitsKey kept.account.steps (step.Go v.actor ∷ []) kept.keys (All-cons FitsKey (step.Go v.actor) [] tt (All-nil FitsKey));
+    counted = kept.counted ∙ sym offers.leaves.births;
+    size = root.size_rooted sizes kept.account kept.stands s.words all handle low (root_code (word.Offered slot));
+    taken = root.have_rooted sizes kept.account kept.stands s.words all handle low (root_code (word.Offered slot));
+    generations = root.generations_rooted sizes kept.account kept.stands s.words all handle low (root_code (word.Offered slot)) ∙ sym offers.leaves.generations;
+    nodes = root.nodes_left sizes kept.account account_then.steps account_then.offers offers.leaves kept.stands words_then not_its_slot
+        (root.nodes_rooted sizes kept.account kept.stands s.words all handle low (root_code (word.Offered slot)));
+    roots = record { means = means_all; offers = written_all; blocks = blocks_all; single = single_all; tries = tries_all; stood = stood_all; marks = marks_all };
+  }
