@@ -268,3 +268,92 @@ module _ (sizes : Sizes) (s : Table.State Call View) (kept : IsKept sizes s) (id
         (root.nodes_rooted sizes kept.account kept.stands s.words all handle low (root_code (word.Offered slot)));
     roots = record { means = means_all; offers = written_all; blocks = blocks_all; single = single_all; tries = tries_all; stood = stood_all; marks = marks_all };
   }
+
+  -- ---- seats
+
+  waits : (actor : ℕ) (first : Account) → actor ≢ v.actor → HasWaited actor first kept.account → HasWaited actor first account_then
+  waits actor first differs h =
+      subst (λ names. HasWaited actor first (record account_then { names = names })) (append-nil kept.account.names)
+      (waited_more actor first kept.account (step.Go v.actor ∷ []) [] [] (new ∷ []) (All-cons (IsOfOther actor) (step.Go v.actor) [] (λ e. differs (sym e)) (All-nil (IsOfOther actor))) h)
+
+  not_open : (g : ℕ) → root_at now g ≡ None → g ≢ handle
+  not_open g closed same = none-some _ (sym closed ∙ ap (root_at now) same ∙ offers.stood)
+
+  held : (other : ℕ) (w : View) → get_elem? s.views other ≡ some w → (g : ℕ) → Reserves next w g → IsHeld next words_then g
+  held other w e g h =
+      let x = (kept.seats other w e).opens g (reserved kept.account.offers now next keeps w g h) in
+      let differs = not_open g x.closed in
+      record { low = x.low; taken = λ none. x.taken (sym (root_beside g differs) ∙ none); closed = offers.roots g differs ∙ x.closed }
+
+  open_still : (g : ℕ) → is_some (root_at now g) ≡ true → is_some (root_at next g) ≡ true
+  open_still g e = elim (cases_eq g handle) [
+    | inl same ↦ ap (λ n. is_some (root_at next n)) same ∙ ap is_some offers.stands
+    | inr differs ↦ ap is_some (offers.roots g differs) ∙ e
+  ]
+
+  -- a slot that is another one is spare still
+  spare_then : (other : ℕ) → other ≢ slot → IsSpare sizes kept.account kept.stands other → IsSpare sizes account_then kept.stands other
+  spare_then other differs h =
+      (λ k n e. h.0 k n (e.0, sym (offers.leaves.nodes k) ∙ e.1), λ k c. elim (first_or_more new kept.account.offers k c) [
+        | inl is_new ↦ (λ e. differs (sym e ∙ ap (λ (x : Known). x.slot) is_new))
+        | inr old ↦ h.1 k old
+      ])
+
+  pin_same : (a : ℕ) → 1 ≤ a → slice_index words_then (pin_word a) ≡ slice_index s.words (pin_word a)
+  pin_same = root.pin_rooted sizes kept.account kept.stands s.words all handle low (root_code (word.Offered slot))
+
+  stays : Stays sizes s kept id v at account_then kept.stands words_then
+  stays = record {
+    waits = waits;
+    others = λ a differs. ran_so now next a (offers.others a differs);
+    pins = λ a positive most apart. pin_same a positive;
+    numbers = held;
+    still_open = open_still;
+    taken = still_taken;
+    spare = λ other w b name e apart free.
+        (let x = (kept.seats other w e).spare b name free in
+        let differs : name ≢ slot = λ same. apart (kept.pools other id w v b 1 slot e at (subst (λ n. IsFree w b n) same free) its_own) in
+        (spare_then name differs x.1, slot_same b name free.0 x.0));
+  }
+
+  own_then : IsSeat sizes account_then kept.stands words_then view_then
+  own_then =
+      own_kept sizes s kept id v at account_then kept.stands words_then stays operation (operation_after now operation) runs offers.own refl refl all_then.counted (pin_same v.actor seat.low) view_then.pool []
+      (λ b name f. (let before = spending.was_free sizes s kept id v at 1 medium slot rest pool b name f.0 f.1 in
+      let x = seat.spare b name before.0 in (still_taken b name f.0 x.0, spare_then name before.1 x.1)))
+      (spending.once_then sizes s kept id v at 1 medium slot rest pool) (λ d c. absurd (omega (arith, c.1)))
+
+  closings_then : (g who : ℕ) → g < handle_limit → SaysClosing (slice_index words_then (root_word g)) who → IsClosing (set s.views id view_then) g who
+  closings_then g who below says = elim (cases_eq g handle) [
+    | inl same ↦ absurd (not_closing (subst (λ n. SaysClosing n who) (ap (λ n. slice_index words_then (root_word n)) same ∙ root_here) says))
+    | inr differs ↦ closing_stays sizes s kept id v at view_then refl refl (λ h e. e) refl g who (kept.closings g who below (subst (λ n. SaysClosing n who) (root_beside g differs) says))
+  ]
+    where
+      not_closing : SaysClosing (root_code (word.Offered slot)) who → ⊥
+      not_closing (inl h) = let wrong = same_word (word.Offered slot) (word.ClosingWritable h.0 who) fits h.1 h.2 in let no : ⊥ = cc wrong in no
+      not_closing (inr h) = let wrong = same_word (word.Offered slot) (word.ClosingReadOnly h.0 who) fits h.1 h.2 in let no : ⊥ = cc wrong in no
+
+  openings_then : (g found_slot : ℕ) → g < handle_limit → IsRootWord (word.Opening found_slot) → slice_index words_then (root_word g) ≡ root_code (word.Opening found_slot) → NoOffer account_then found_slot →
+      IsOpening (set s.views id view_then) g found_slot
+  openings_then g found_slot below in_range is nothing = elim (cases_eq g handle) [
+    | inl same ↦
+        (let wrong = same_word (word.Offered slot) (word.Opening found_slot) fits in_range (sym root_here ∙ ap (λ n. slice_index words_then (root_word n)) (sym same) ∙ is) in let no : ⊥ = cc wrong in absurd no)
+    | inr differs ↦
+        opening_stays sizes s kept id v at view_then refl refl g found_slot
+        (λ e f. (e, (medium, spending.still_free sizes s kept id v at 1 medium slot rest pool 1 found_slot (λ same. nothing new (first_there new kept.account.offers) (sym same)) f)))
+        (kept.openings g found_slot below in_range (sym (root_beside g differs) ∙ is) (λ k c. nothing k (more_there new kept.account.offers k c)))
+  ]
+
+  numbers_then : Numbers sizes s kept id v at view_then refl refl account_then words_then
+  numbers_then = record {
+    openings = openings_then;
+    number = λ g h. inl (reserved kept.account.offers now next keeps v g h);
+    others = λ other w e apart g h. reserved kept.account.offers now next keeps w g h;
+    runners = λ a o e. inr (ran kept.account.offers now next keeps a o e);
+  }
+
+  -- the rule holds
+  pub offer_kept : IsKept sizes (record { words = words_then; homes = s.homes; views = set s.views id view_then })
+  offer_kept =
+      assembled sizes s kept id v at view_then refl refl account_then kept.stands words_then all_then closings_then own_then (other_kept sizes s kept id v at account_then kept.stands words_then stays)
+      (λ b name f. inl (spending.was_free sizes s kept id v at 1 medium slot rest pool b name f.0 f.1).0) numbers_then
