@@ -203,6 +203,7 @@ module _ (sizes : Sizes) (account : Account) (actor : ℕ) (operation : Operatio
         offers = λ k c. written_kept account account_then.steps account.offers nothing now next same decides.aheads still words_then k (over.offers k c);
         blocks = over.blocks;
         single = over.single;
+        pending = over.pending;
         tries = over.tries;
         stood = λ k c. stood_still sizes account account_then (step.Go actor ∷ []) refl k.offer (over.stood k c);
         marks = marks_kept account.offers now next (as_before decides.tries) words_then words_then (λ k c. refl) over.marks;

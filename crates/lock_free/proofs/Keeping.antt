@@ -166,6 +166,7 @@ module _ (sizes : Sizes) (s : Table.State Call View) (kept : IsKept sizes s) (id
     offers = λ k c. written_kept kept.account account_then.steps kept.account.offers dropped now next_state (same_nodes now next_state leads.nodes) leads.aheads leads.still s.words k (kept.roots.offers k c);
     blocks = kept.roots.blocks;
     single = kept.roots.single;
+    pending = kept.roots.pending;
     tries = kept.roots.tries;
     stood = λ k c. stood_still sizes kept.account account_then (taken ∷ []) refl k.offer (kept.roots.stood k c);
     marks = marks_kept kept.account.offers now next_state leads.tries s.words s.words (λ k c. refl) kept.roots.marks;
@@ -196,6 +197,7 @@ module _ (sizes : Sizes) (s : Table.State Call View) (kept : IsKept sizes s) (id
     waits = waits;
     others = λ a differs. ran_so now next_state a (leads.others a differs);
     pins = λ a some most apart. refl;
+    named = λ handle slot low fits is none. refl;
     numbers = numbers_so sizes s kept account_then s.words leads.tries leads.roots (λ handle low. refl);
     still_open = λ handle e. ap (λ rs. is_some (get_or rs handle None)) leads.roots ∙ e;
     taken = λ b name small h. h;
@@ -243,7 +245,7 @@ module _ (sizes : Sizes) (s : Table.State Call View) (kept : IsKept sizes s) (id
 
     own_then : IsSeat sizes account_then stands_then s.words view_then
     own_then =
-        own_kept sizes s kept id v at account_then stands_then s.words stays operation next runs leads.own same_call same_opens all_then.counted refl pool v.drafts spare_own once
+        own_kept sizes s kept id v at account_then stands_then s.words stays operation next runs leads.own same_call same_opens all_then.counted refl pool v.opening (λ handle slot o n. (n, λ free. more 1 slot free.0 free.1)) v.drafts spare_own once
         (λ d c. drafts_kept sizes s kept id v at account_then stands_then s.words stays view_then d (seat.drafts d c) (λ b name free. ((free.0, more b name free.0 free.1), λ j its_word. refl)))
 
     -- the rule holds

@@ -6,6 +6,7 @@ mod Assembling
 mod Waiting
 mod Seats
 mod Keeping
+mod RootFound
 mod RootSteps
 mod Looking
 mod Framing

@@ -139,6 +139,7 @@ module _ (sizes : Sizes) (account : Account) (actor : ℕ) (operation : Operatio
     offers = λ k c. written_then k c (all.roots.offers k c);
     blocks = all.roots.blocks;
     single = all.roots.single;
+    pending = all.roots.pending;
     tries = all.roots.tries;
     stood = λ k c. stood_still sizes account later (step.Go actor ∷ []) refl k.offer (all.roots.stood k c);
     marks = marks_kept account.offers (state_of sizes account) (state_of sizes later) (as_before makes.tries) words words (λ k c. refl) all.roots.marks;

@@ -107,6 +107,7 @@ module _ (sizes : Sizes) (s : Table.State Call View) (kept : IsKept sizes s) (id
       waits = waits;
       others = λ a differs. ran_so (state_of sizes kept.account) (state_of sizes account_then) a (makes.others a differs);
       pins = λ a some most apart. pin_same a most;
+      named = λ handle slot low fits is none. root_same handle low;
       numbers = numbers_so sizes s kept account_then words_then (as_before makes.tries) makes.roots root_same;
       still_open = λ handle e. ap is_some (same_root handle) ∙ e;
       taken = taken;
@@ -116,10 +117,13 @@ module _ (sizes : Sizes) (s : Table.State Call View) (kept : IsKept sizes s) (id
           (spare_then free_name differs x.1, slot_same b free_name free.0 differs x.0));
     }
 
+    pool_still : (handle : ℕ) → v.opens ≡ Some handle → (slot : ℕ) → IsFree v 1 slot → Contains (pool_of view_then.pool 1) slot
+    pool_still handle e slot free = subst (λ xs. Contains xs slot) (sym (pool_else v.pool (class_of node) 1 rest (class_small node) free.0 (λ same. unopened handle e (sym same)))) free.1
+
     own_then : IsSeat sizes account_then stands_then words_then view_then
     own_then =
         own_kept sizes s kept id v at account_then stands_then words_then stays operation (operation_after (state_of sizes kept.account) operation) runs makes.own refl refl made_all.counted
-        (pin_same v.actor (omega (arith, seat.top, seat.most))) view_then.pool []
+        (pin_same v.actor (omega (arith, seat.top, seat.most))) view_then.pool v.opening (λ handle slot o n. (n, pool_still handle o slot)) []
         (λ b other f. (let before = was_free b other f in let x = seat.spare b other before.0 in (taken b other f.0 x.0, spare_then other before.1 x.1))) once_then
         (λ d c. absurd (omega (arith, c.1)))
 
@@ -133,4 +137,4 @@ module _ (sizes : Sizes) (s : Table.State Call View) (kept : IsKept sizes s) (id
         assembled sizes s kept id v at view_then refl refl account_then stands_then words_then made_all closings_then own_then (other_kept sizes s kept id v at account_then stands_then words_then stays)
         (λ b other f. inl (was_free b other f).0)
         (numbers_stay sizes s kept id v at view_then refl refl account_then words_then (as_before makes.tries) (λ slot none. none) root_same refl
-            (λ slot handle e free. (free.0, subst (λ xs. Contains xs slot) (sym (pool_else v.pool (class_of node) 1 rest (class_small node) free.0 (λ same. unopened handle e (sym same)))) free.1)))
+            (λ slot handle e free. (free.0, pool_still handle e slot free)))

@@ -1,5 +1,5 @@
 -- What handles' words mean stays.
-use Rattle.std.proofs.Common.{◌≡◌, ◌≢◌, ◌*◌, ◌==◌, ◌⊎◌, ℕ, inl, inr, Bool, false, List, ◌++◌, Contains, slice_index, Option, Some, None, refl, sym, ap, subst, ◌∙◌, append_assoc}
+use Rattle.std.proofs.Common.{◌≡◌, ◌≢◌, ◌*◌, ◌<◌, ◌==◌, ◌⊎◌, ℕ, inl, inr, Bool, false, List, ◌++◌, Contains, slice_index, Option, Some, None, refl, sym, ap, subst, ◌∙◌, append_assoc}
 use Rattle.std.proofs.lemmas.Bool.{cases_eq}
 use Rattle.std.proofs.lemmas.Option.{none-some, same_Some}
 use Rattle.std.specs.Prelude.{option_map}
@@ -14,13 +14,14 @@ use Rattle.machine_model.specs.declared.roots.Descriptor.{Descriptor}
 use Rattle.machine_model.specs.declared.roots.Root.{Root}
 use Rattle.machine_model.specs.declared.roots.RootWord.TheVariants.{Plain}
 use Rattle.machine_model.specs.declared.steps.Step.{Step}
-use Rattle.machine_model.specs.States.{State, operation_of}
+use Rattle.machine_model.specs.States.{State, operation_of, handle_limit}
 use Rattle.lock_free.specs.declared.accounts.Account.{Account}
 use Rattle.lock_free.specs.declared.accounts.Known.{Known}
 use Rattle.lock_free.specs.declared.rules.View.{View}
 use Rattle.lock_free.specs.declared.sizes.Sizes.{Sizes}
 use Rattle.lock_free.specs.Accounts.{place_of, HasStood}
-use Rattle.lock_free.specs.Roots.{MeansRoot, SaysRoot, SaysPlain, SaysOffered, SaysOpening, NoOffer, IsItsTry, AreMarked, fate, meant, opened_by, open_with, carried_out}
+use Rattle.lock_free.specs.Roots.{MeansRoot, SaysRoot, SaysPlain, SaysOffered, SaysOpening, NoOffer, IsItsTry, AreMarked, IsPending, fate, meant, opened_by, open_with, carried_out}
+use Rattle.lock_free.specs.Places.{root_word}
 use Rattle.lock_free.specs.Rules.{Reserves}
 use Rattle.lock_free.specs.Trying.{Try, try_of, try_at, KeepsTries, as_before, anew}
 
@@ -71,6 +72,17 @@ stood_still sizes account later steps goes_on offer h = record {
   goes_on = goes_on ∙ ap (λ xs. xs ++ steps) h.goes_on ∙ append_assoc h.steps h.more steps;
   handle = h.handle;
   stood = h.stood;
+}
+
+-- ---- offers that stand
+
+-- where no word of a handle changes
+pub pending_kept : (before after : List ℕ) (k : Known) → ((handle : ℕ) → handle < handle_limit → slice_index after (root_word handle) ≡ slice_index before (root_word handle)) → IsPending before k → IsPending after k
+pending_kept before after k same h = record {
+  handle = h.handle;
+  low = h.low;
+  stands = same h.handle h.low ∙ h.stands;
+  opens = λ opened e. (let x = h.opens opened e in (x.0, same opened x.0 ∙ x.1));
 }
 
 -- ---- tries

@@ -29,14 +29,15 @@ use Rattle.lock_free.specs.declared.sizes.Sizes.{Sizes}
 use Rattle.lock_free.specs.Accounts.{state_of, place_at, HasWaited, IsOfOther, HasStood}
 use Rattle.lock_free.specs.Offering.{LeavesNodes, DraftsOffer, Offers, known_at, offered_at, offered_by}
 use Rattle.lock_free.specs.Places.{words_of, pin_word, root_word, IsTaken}
-use Rattle.lock_free.specs.Roots.{MeansRoot, SaysOpening, NoOffer, IsWritten, IsItsTry, AreMarked, fate, meant, opened_by, open_with, carried_out}
+use Rattle.lock_free.specs.Roots.{MeansRoot, SaysOpening, NoOffer, IsWritten, IsItsTry, AreMarked, IsPending, fate, undecided, meant, opened_by, open_with, carried_out}
 use Rattle.lock_free.specs.Rules.{Standing, Stands, NodesStand, RootsStand, IsClosing, SaysClosing, IsFree, IsSpare, IsOpening, IsHeld, Reserves, IsSeat, IsKept, pool_of}
 use Rattle.lock_free.specs.Trying.{try_of, KeepsTries, anew}
 use Rattle.lock_free.proofs.Assembling.{AllStand, all_stand, closing_stays, opening_stays, Numbers, assembled}
-use Rattle.lock_free.proofs.Geometry.{IsWordOf, inside}
+use Rattle.lock_free.proofs.Geometry.{IsWordOf}
 use Rattle.lock_free.proofs.Meanings.{means_then, stood_still, ran, reserved, marks_kept}
 use Rattle.lock_free.proofs.Pools.{first_or_more, first_there, more_there}
-use Rattle.lock_free.proofs.RootCodes.{same_word}
+use Rattle.lock_free.proofs.RootCodes.{same_kind}
+use Rattle.lock_free.proofs.RootFound.{not_plain, slot_fits, offered_is, opening_is, later_is}
 use Rattle.lock_free.proofs.RootSteps as root
 use Rattle.lock_free.proofs.Seats.{ran_so, Stays, StaysSpare, other_kept, own_kept}
 use Rattle.lock_free.proofs.Spending as spending
@@ -44,7 +45,7 @@ use Rattle.lock_free.proofs.Waiting.{waited_more}
 
 module _ (sizes : Sizes) (s : Table.State Call View) (kept : IsKept sizes s) (id : ℕ) (v : View) (at : get_elem? s.views id ≡ some v) (operation : Operation)
     (runs : operation_of (state_of sizes kept.account) v.actor ≡ Some operation) (slot : ℕ) (offer : Descriptor) (offers : Offers sizes kept.account v.actor slot operation offer)
-    (rest : List ℕ) (pool : pool_of v.pool 1 ≡ rest ++ slot ∷ []) (drafted : DraftsOffer kept.account v.drafts slot offer) where
+    (rest : List ℕ) (pool : pool_of v.pool 1 ≡ rest ++ slot ∷ []) (drafted : DraftsOffer kept.account v.drafts slot offer) (names_it : (g : ℕ) → offer.opens ≡ Some g → v.opening ≡ Some slot) where
   abbrev all : AllStand sizes kept.account kept.stands s.words
   all = all_stand sizes s kept
 
@@ -94,9 +95,7 @@ module _ (sizes : Sizes) (s : Table.State Call View) (kept : IsKept sizes s) (id
   fate_new = its_word (2 * slot) 0 drafted.first (record { low = omega arith; high = omega arith })
 
   fits : slot < 2 ^ 27
-  fits =
-      let range = kept.range.within in
-      let is = inside sizes s.words kept.taken 1 slot (2 * slot) medium spare.0 (record { low = omega arith; high = omega arith }) in omega (arith, range, is)
+  fits = slot_fits sizes s.words kept.range kept.taken slot spare.0
 
   keeps : KeepsTries kept.account.offers now next
   keeps = anew v.actor (record {
@@ -248,6 +247,32 @@ module _ (sizes : Sizes) (s : Table.State Call View) (kept : IsKept sizes s) (id
     | inr old ↦ marks_kept kept.account.offers now next keeps s.words words_then fate_old kept.roots.marks k old
   ]
 
+  not_open : (g : ℕ) → root_at now g ≡ None → g ≢ handle
+  not_open g closed same = none-some _ (sym closed ∙ ap (root_at now) same ∙ offers.stood)
+
+  old_fits : (k : Known) → Contains kept.account.offers k → k.slot < 2 ^ 27
+  old_fits k c = slot_fits sizes s.words kept.range kept.taken k.slot (kept.roots.blocks k c)
+
+  pending_new : IsPending words_then new
+  pending_new = record {
+    handle = handle;
+    low = low;
+    stands = root_here;
+    opens = λ g e.
+        (let x = seat.opening g slot (seat.reserves operation runs ∙ sym offers.opens ∙ e) (names_it g e) in
+        (x.low, root_beside g (not_open g (later_is sizes kept.account s.words kept.roots g x.low slot fits x.is spare.1.1)) ∙ x.is));
+  }
+
+  pending_all : (k : Known) → Contains account_then.offers k → fate words_then k ≡ undecided → IsPending words_then k
+  pending_all k c stands = elim (first_or_more new kept.account.offers k c) [
+    | inl is_new ↦ subst (λ x. IsPending words_then x) (sym is_new) pending_new
+    | inr old ↦
+        (let before = sym (fate_old k old) ∙ stands in
+        root.pending_rooted sizes kept.account kept.stands s.words all handle low (root_code (word.Offered slot)) k
+        (λ is. not_plain k.offer offer.root (sym (offered_is sizes kept.account s.words kept.roots handle low k old (old_fits k old) is ∙ ap (λ n. open_with Writable (meant n k.offer)) before) ∙ offers.stood))
+        (λ is. not_open handle ((opening_is sizes kept.account s.words kept.roots handle low k old (old_fits k old) is).1 ∙ ap (λ n. opened_by n k.offer) before) refl) (kept.roots.pending k old before))
+  ]
+
   -- ---- all that stands
 
   not_its_slot : (x : Known) → Contains account_then.offers x → (k : ℕ) (n : Slot) → Stands kept.stands now k n → place_at kept.account k ≢ x.slot
@@ -266,7 +291,7 @@ module _ (sizes : Sizes) (s : Table.State Call View) (kept : IsKept sizes s) (id
     generations = root.generations_rooted sizes kept.account kept.stands s.words all handle low (root_code (word.Offered slot)) ∙ sym offers.leaves.generations;
     nodes = root.nodes_left sizes kept.account account_then.steps account_then.offers offers.leaves kept.stands words_then not_its_slot
         (root.nodes_rooted sizes kept.account kept.stands s.words all handle low (root_code (word.Offered slot)));
-    roots = record { means = means_all; offers = written_all; blocks = blocks_all; single = single_all; tries = tries_all; stood = stood_all; marks = marks_all };
+    roots = record { means = means_all; offers = written_all; blocks = blocks_all; single = single_all; tries = tries_all; stood = stood_all; marks = marks_all; pending = pending_all };
   }
 
   -- ---- seats
@@ -275,9 +300,6 @@ module _ (sizes : Sizes) (s : Table.State Call View) (kept : IsKept sizes s) (id
   waits actor first differs h =
       subst (λ names. HasWaited actor first (record account_then { names = names })) (append-nil kept.account.names)
       (waited_more actor first kept.account (step.Go v.actor ∷ []) [] [] (new ∷ []) (All-cons (IsOfOther actor) (step.Go v.actor) [] (λ e. differs (sym e)) (All-nil (IsOfOther actor))) h)
-
-  not_open : (g : ℕ) → root_at now g ≡ None → g ≢ handle
-  not_open g closed same = none-some _ (sym closed ∙ ap (root_at now) same ∙ offers.stood)
 
   held : (other : ℕ) (w : View) → get_elem? s.views other ≡ some w → (g : ℕ) → Reserves next w g → IsHeld next words_then g
   held other w e g h =
@@ -307,6 +329,7 @@ module _ (sizes : Sizes) (s : Table.State Call View) (kept : IsKept sizes s) (id
     waits = waits;
     others = λ a differs. ran_so now next a (offers.others a differs);
     pins = λ a positive most apart. pin_same a positive;
+    named = λ g found_slot below in_range is nothing. root_beside g (not_open g (later_is sizes kept.account s.words kept.roots g below found_slot in_range is nothing));
     numbers = held;
     still_open = open_still;
     taken = still_taken;
@@ -318,7 +341,7 @@ module _ (sizes : Sizes) (s : Table.State Call View) (kept : IsKept sizes s) (id
 
   own_then : IsSeat sizes account_then kept.stands words_then view_then
   own_then =
-      own_kept sizes s kept id v at account_then kept.stands words_then stays operation (operation_after now operation) runs offers.own refl refl all_then.counted (pin_same v.actor seat.low) view_then.pool []
+      own_kept sizes s kept id v at account_then kept.stands words_then stays operation (operation_after now operation) runs offers.own refl refl all_then.counted (pin_same v.actor seat.low) view_then.pool None (λ g n o e. absurd (none-some n e)) []
       (λ b name f. (let before = spending.was_free sizes s kept id v at 1 medium slot rest pool b name f.0 f.1 in
       let x = seat.spare b name before.0 in (still_taken b name f.0 x.0, spare_then name before.1 x.1)))
       (spending.once_then sizes s kept id v at 1 medium slot rest pool) (λ d c. absurd (omega (arith, c.1)))
@@ -330,14 +353,14 @@ module _ (sizes : Sizes) (s : Table.State Call View) (kept : IsKept sizes s) (id
   ]
     where
       not_closing : SaysClosing (root_code (word.Offered slot)) who → ⊥
-      not_closing (inl h) = let wrong = same_word (word.Offered slot) (word.ClosingWritable h.0 who) fits h.1 h.2 in let no : ⊥ = cc wrong in no
-      not_closing (inr h) = let wrong = same_word (word.Offered slot) (word.ClosingReadOnly h.0 who) fits h.1 h.2 in let no : ⊥ = cc wrong in no
+      not_closing (inl h) = let wrong = same_kind (word.Offered slot) (word.ClosingWritable h.0 who) fits h.1 h.2 in omega (arith, wrong)
+      not_closing (inr h) = let wrong = same_kind (word.Offered slot) (word.ClosingReadOnly h.0 who) fits h.1 h.2 in omega (arith, wrong)
 
   openings_then : (g found_slot : ℕ) → g < handle_limit → IsRootWord (word.Opening found_slot) → slice_index words_then (root_word g) ≡ root_code (word.Opening found_slot) → NoOffer account_then found_slot →
       IsOpening (set s.views id view_then) g found_slot
   openings_then g found_slot below in_range is nothing = elim (cases_eq g handle) [
     | inl same ↦
-        (let wrong = same_word (word.Offered slot) (word.Opening found_slot) fits in_range (sym root_here ∙ ap (λ n. slice_index words_then (root_word n)) (sym same) ∙ is) in let no : ⊥ = cc wrong in absurd no)
+        (let wrong = same_kind (word.Offered slot) (word.Opening found_slot) fits in_range (sym root_here ∙ ap (λ n. slice_index words_then (root_word n)) (sym same) ∙ is) in absurd (omega (arith, wrong)))
     | inr differs ↦
         opening_stays sizes s kept id v at view_then refl refl g found_slot
         (λ e f. (e, (medium, spending.still_free sizes s kept id v at 1 medium slot rest pool 1 found_slot (λ same. nothing new (first_there new kept.account.offers) (sym same)) f)))

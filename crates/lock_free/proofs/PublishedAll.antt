@@ -155,6 +155,7 @@ module _ (sizes : Sizes) (account : Account) (actor : ℕ) (operation : Operatio
         offers = λ k c. (let h = roots.offers k c in record { olds = h.olds; news = h.news ∙ ap (λ n. pair_code (record { low = place_of account k.offer.successor; high = n })) (second_then k.offer.second) });
         blocks = roots.blocks;
         single = roots.single;
+        pending = roots.pending;
         tries = roots.tries;
         stood = λ k c. stood_still sizes account later (step.Go actor ∷ []) refl k.offer (roots.stood k c);
         marks = marks_kept account.offers (state_of sizes account) (state_of sizes later) (as_before publishes.tries) words_then words_then (λ k c. refl) roots.marks;

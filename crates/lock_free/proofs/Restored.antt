@@ -202,6 +202,7 @@ module _ (sizes : Sizes) (account : Account) (actor : ℕ) (operation : Operatio
         offers = λ k c. (let h = over.offers k c in record { olds = h.olds; news = h.news ∙ ap (λ n. pair_code (record { low = place_of account k.offer.successor; high = n })) (second_then k.offer.second) });
         blocks = over.blocks;
         single = over.single;
+        pending = over.pending;
         tries = over.tries;
         stood = λ k c. stood_still sizes account account_then (step.Go actor ∷ []) refl k.offer (over.stood k c);
         marks = marks_kept account.offers now next (as_before restores.tries) words_then words_then (λ k c. refl) over.marks;

@@ -28,3 +28,16 @@ root_back (word.ClosingReadOnly slot seat) h = back_by 7 slot seat (slot + 2 ^ 2
 
 pub same_word : (v w : RootWord) → IsRootWord v → IsRootWord w → root_code v ≡ root_code w → v ≡ w
 same_word v w fv fw e = sym (root_back v fv) ∙ ap root_of e ∙ root_back w fw
+
+abbrev pub kind : RootWord → ℕ
+kind word.Closed = 0
+kind (word.Writable slot) = 1
+kind (word.ReadOnly slot) = 2
+kind (word.Offered slot) = 3
+kind (word.Opening slot) = 4
+kind word.Reserved = 5
+kind (word.ClosingWritable slot seat) = 6
+kind (word.ClosingReadOnly slot seat) = 7
+
+pub same_kind : (v w : RootWord) → IsRootWord v → IsRootWord w → root_code v ≡ root_code w → kind v ≡ kind w
+same_kind v w fv fw e = ap kind (same_word v w fv fw e)

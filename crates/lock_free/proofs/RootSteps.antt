@@ -2,6 +2,8 @@
 use Rattle.std.proofs.Common.{◌≡◌, ◌≢◌, ◌+◌, ◌*◌, ℕ, ◌<◌, ◌≤◌, inl, inr, List, Contains, length, set, get_or, slice_index, Option, Some, None, refl, sym, ap, subst, ◌∙◌, arith, length-set}
 use Rattle.std.proofs.lemmas.Bool.{cases_eq}
 use Rattle.std.proofs.lemmas.List.{get_or-set_same}
+use Rattle.trie_words.specs.Codes.{root_code}
+use Rattle.trie_words.specs.declared.roots.RootWord.TheVariants as word
 use Rattle.machine_model.specs.Beneath.slot_arena.specs.declared.refs.Ref.{Ref}
 use Rattle.machine_model.specs.Beneath.slot_arena.specs.declared.nodes.Slot.{Slot}
 use Rattle.machine_model.specs.declared.steps.Step.{Step}
@@ -13,7 +15,7 @@ use Rattle.lock_free.specs.Accounts.{state_of, place_at}
 use Rattle.lock_free.specs.Nodes.{class_of}
 use Rattle.lock_free.specs.Offering.{LeavesNodes}
 use Rattle.lock_free.specs.Places.{first_slot_word, slots_in, IsTaken, HaveTaken, taken_word, generation_word, root_word, pin_word, words_of}
-use Rattle.lock_free.specs.Roots.{MeansRoot, IsWritten, fate}
+use Rattle.lock_free.specs.Roots.{MeansRoot, IsWritten, IsPending, fate, undecided}
 use Rattle.lock_free.specs.Rules.{Standing, Stands, NodesStand, RootsStand}
 use Rattle.lock_free.specs.Steps.{nothing}
 use Rattle.lock_free.proofs.Assembling.{AllStand}
@@ -105,8 +107,19 @@ module _ (sizes : Sizes) (account : Account) (stands : Standing) (words : List �
   pub fate_rooted : (k : Known) → Contains account.offers k → fate rooted k ≡ fate words k
   fate_rooted = first_of_offer account words i x not_its
 
+  -- where the word named none of a pending offer
+  pub pending_rooted : (k : Known) → (slice_index words i ≡ root_code (word.Offered k.slot) → ⊥) → (slice_index words i ≡ root_code (word.Opening k.slot) → ⊥) → IsPending words k → IsPending rooted k
+  pending_rooted k not_offered not_opening h = record {
+    handle = h.handle;
+    low = h.low;
+    stands = else_root h.handle (λ same. not_offered (ap (λ n. slice_index words (root_word n)) (sym same) ∙ h.stands)) ∙ h.stands;
+    opens = λ opened e.
+        (let y = h.opens opened e in (y.0, else_root opened (λ same. not_opening (ap (λ n. slice_index words (root_word n)) (sym same) ∙ y.1)) ∙ y.1));
+  }
+
   -- where it says what the handle's root is, all stands as before
-  module _ (means : MeansRoot account rooted handle x (root_at (state_of sizes account) handle)) where
+  module _ (means : MeansRoot account rooted handle x (root_at (state_of sizes account) handle))
+      (unnamed : (k : Known) → Contains account.offers k → fate words k ≡ undecided → (slice_index words i ≡ root_code (word.Offered k.slot) → ⊥) × (slice_index words i ≡ root_code (word.Opening k.slot) → ⊥)) where
     means_by : (g : ℕ) → g < handle_limit → MeansRoot account rooted g (slice_index rooted (root_word g)) (root_at (state_of sizes account) g)
     means_by g low_g = elim (cases_eq g handle) [
       | inl same ↦
@@ -134,5 +147,7 @@ module _ (sizes : Sizes) (account : Account) (stands : Standing) (words : List �
         tries = all.roots.tries;
         stood = all.roots.stood;
         marks = marks_over account words i x not_its (state_of sizes account) all.roots.marks;
+        pending = λ k c stands.
+            (let before = sym (fate_rooted k c) ∙ stands in let none = unnamed k c before in pending_rooted k none.0 none.1 (all.roots.pending k c before));
       };
     }

@@ -5,6 +5,8 @@ use Rattle.std.proofs.lemmas.Option.{none-some, same_Some}
 use mathlib.Core.Option.{some}
 use lib.ListN.{get_elem?}
 use Rattle.atomic_table.specs.Table as Table
+use Rattle.trie_words.specs.Codes.{root_code, IsRootWord}
+use Rattle.trie_words.specs.declared.roots.RootWord.TheVariants as word
 use Rattle.machine_model.specs.Calls.{handle_of}
 use Rattle.machine_model.specs.declared.operations.Operation.{Operation}
 use Rattle.machine_model.specs.States.{State, operation_of, root_at, handle_limit}
@@ -14,7 +16,8 @@ use Rattle.lock_free.specs.declared.rules.View.{View}
 use Rattle.lock_free.specs.declared.sizes.Sizes.{Sizes}
 use Rattle.lock_free.specs.Accounts.{state_of, HasWaited}
 use Rattle.lock_free.specs.Places.{pin_word, root_word, IsTaken}
-use Rattle.lock_free.specs.Rules.{Standing, AreDrafts, Once, pool_of, IsFree, IsSpare, IsSeat, IsKept, Reserves, IsHeld}
+use Rattle.lock_free.specs.Rules.{Standing, AreDrafts, Once, pool_of, IsFree, IsSpare, IsSeat, IsKept, Reserves, IsHeld, Names}
+use Rattle.lock_free.specs.Roots.{NoOffer}
 use Rattle.lock_free.proofs.Assembling.{not_its, other_actor}
 use Rattle.lock_free.specs.Trying.{KeepsTries}
 use Rattle.lock_free.proofs.Geometry.{IsWordOf}
@@ -59,15 +62,27 @@ module _ (sizes : Sizes) (s : Table.State Call View) (kept : IsKept sizes s) (id
     pub others : (a : ℕ) → a ≢ v.actor → (o : Operation) → operation_of (state_of sizes account) a ≡ Some o → Ran (state_of sizes kept.account) a o
     pub pins : (a : ℕ) → 1 ≤ a → a ≤ sizes.seats → a ≢ v.actor → slice_index words (pin_word a) ≡ slice_index s.words (pin_word a)
     pub numbers : (other : ℕ) (w : View) → get_elem? s.views other ≡ some w → (handle : ℕ) → Reserves (state_of sizes account) w handle → IsHeld (state_of sizes account) words handle
+    -- a word that names an offer that is written
+    pub named : (handle slot : ℕ) → handle < handle_limit → IsRootWord (word.Opening slot) → slice_index s.words (root_word handle) ≡ root_code (word.Opening slot) → NoOffer kept.account slot →
+        slice_index words (root_word handle) ≡ slice_index s.words (root_word handle)
     pub still_open : (handle : ℕ) → is_some (root_at (state_of sizes kept.account) handle) ≡ true → is_some (root_at (state_of sizes account) handle) ≡ true
     pub taken : (b name : ℕ) → b < 3 → IsTaken sizes s.words b name → IsTaken sizes words b name
     pub spare : (other : ℕ) (w : View) (b name : ℕ) → get_elem? s.views other ≡ some w → (other ≡ id → ⊥) → IsFree w b name → StaysSpare b name
 
   -- the seat with what is free for it then and what it has written there
-  abbrev pub seat_then : Pool → List (ℕ × ℕ) → View
-  seat_then pool drafts = record v { account = account; pool = pool; drafts = drafts }
+  abbrev pub seat_then : Pool → Option ℕ → List (ℕ × ℕ) → View
+  seat_then pool opening drafts = record v { account = account; pool = pool; opening = opening; drafts = drafts }
 
   module _ (stays : Stays) where
+    -- a word names the seat's offer still
+    pub names_kept : (other : ℕ) (w later : View) → get_elem? s.views other ≡ some w → (handle slot : ℕ) → Names s.words w handle slot → IsFree later 1 slot → Names words later handle slot
+    names_kept other w later e handle slot n free = record {
+      low = n.low;
+      fits = n.fits;
+      is = stays.named handle slot n.low n.fits n.is ((kept.seats other w e).spare 1 slot n.free).1.1 ∙ n.is;
+      free = free;
+    }
+
     -- what is free and written stays so
     pub drafts_kept : (w : View) (d : ℕ × ℕ) → AreDrafts s.words v d → ((b name : ℕ) → IsFree v b name → IsFree w b name × ((j : ℕ) → IsWordOf b name j → slice_index words j ≡ slice_index s.words j)) → AreDrafts words w d
     drafts_kept w d x still =
@@ -95,6 +110,7 @@ module _ (sizes : Sizes) (s : Table.State Call View) (kept : IsKept sizes s) (id
           entered = λ handle f. (let x = h.entered handle f in (x.0, stays.still_open handle x.1, x.2));
           calls = λ o f. (let p = stays.others w.actor differs o f in h.calls p.was p.runs ∙ ap (λ c. Some (handle_of c)) p.call);
           opens = stays.numbers other w e;
+          opening = λ handle slot o n. (let x = h.opening handle slot o n in names_kept other w w e handle slot x x.free);
           reserves = λ o f. (let p = stays.others w.actor differs o f in h.reserves p.was p.runs ∙ p.opens);
           spare = λ b name f. (let x = h.spare b name f in (stays.taken b name f.0 x.0, (stays.spare other w b name e apart f).0));
           once = h.once;
@@ -107,10 +123,11 @@ module _ (sizes : Sizes) (s : Table.State Call View) (kept : IsKept sizes s) (id
     -- and the seat itself, where the access is its operation's step, with what is free for it then and what it has written there
     module _ (operation next : Operation) (runs : operation_of (state_of sizes kept.account) v.actor ≡ Some operation) (goes_on : operation_of (state_of sizes account) v.actor ≡ Some next)
         (same_call : next.call ≡ operation.call) (same_opens : next.opens ≡ operation.opens) (counted : length account.names ≡ (state_of sizes account).heap.births)
-        (own_pin : slice_index words (pin_word v.actor) ≡ slice_index s.words (pin_word v.actor)) (pool : Pool) (drafts : List (ℕ × ℕ))
-        (spare : (b name : ℕ) → IsFree (seat_then pool drafts) b name → IsTaken sizes words b name × IsSpare sizes account stands name) (once : (b : ℕ) → b < 3 → Once (pool_of pool b))
-        (written : (d : ℕ × ℕ) → Contains drafts d → AreDrafts words (seat_then pool drafts) d) where
-      pub own_kept : IsSeat sizes account stands words (seat_then pool drafts)
+        (own_pin : slice_index words (pin_word v.actor) ≡ slice_index s.words (pin_word v.actor)) (pool : Pool) (opening : Option ℕ)
+        (names : (handle slot : ℕ) → v.opens ≡ Some handle → opening ≡ Some slot → (v.opening ≡ Some slot) × (IsFree v 1 slot → Contains (pool_of pool 1) slot)) (drafts : List (ℕ × ℕ))
+        (spare : (b name : ℕ) → IsFree (seat_then pool opening drafts) b name → IsTaken sizes words b name × IsSpare sizes account stands name) (once : (b : ℕ) → b < 3 → Once (pool_of pool b))
+        (written : (d : ℕ × ℕ) → Contains drafts d → AreDrafts words (seat_then pool opening drafts) d) where
+      pub own_kept : IsSeat sizes account stands words (seat_then pool opening drafts)
       own_kept =
           let h = kept.seats id v at in
           record {
@@ -128,6 +145,8 @@ module _ (sizes : Sizes) (s : Table.State Call View) (kept : IsKept sizes s) (id
             entered = λ handle f. (let x = h.entered handle f in (x.0, stays.still_open handle x.1, x.2));
             calls = λ o f. h.calls operation runs ∙ ap (λ c. Some (handle_of c)) (sym same_call ∙ ap (λ (x : Operation). x.call) (same_Some next o (sym goes_on ∙ f)));
             opens = stays.numbers id v at;
+            opening = λ handle slot o n.
+                (let was = names handle slot o n in let x = h.opening handle slot o was.0 in names_kept id v (seat_then pool opening drafts) at handle slot x (x.free.0, was.1 x.free));
             reserves = λ o f. h.reserves operation runs ∙ sym same_opens ∙ ap (λ (x : Operation). x.opens) (same_Some next o (sym goes_on ∙ f));
             spare = spare;
             once = once;
@@ -139,7 +158,7 @@ module _ (sizes : Sizes) (s : Table.State Call View) (kept : IsKept sizes s) (id
 module _ (sizes : Sizes) (s : Table.State Call View) (kept : IsKept sizes s) (id : ℕ) (v : View) (at : get_elem? s.views id ≡ some v) (words : List ℕ) (stays : Stays sizes s kept id v at kept.account kept.stands words)
     (own_pin : slice_index words (pin_word v.actor) ≡ slice_index s.words (pin_word v.actor)) (pool : Pool) (drafts : List (ℕ × ℕ))
     (spare : (b name : ℕ) → IsFree (record v { pool = pool; drafts = drafts }) b name → IsTaken sizes words b name × IsSpare sizes kept.account kept.stands name) (once : (b : ℕ) → b < 3 → Once (pool_of pool b))
-    (written : (d : ℕ × ℕ) → Contains drafts d → AreDrafts words (record v { pool = pool; drafts = drafts }) d) where
+    (written : (d : ℕ × ℕ) → Contains drafts d → AreDrafts words (record v { pool = pool; drafts = drafts }) d) (still : (slot : ℕ) → IsFree v 1 slot → Contains (pool_of pool 1) slot) where
   pub own_still : IsSeat sizes kept.account kept.stands words (record v { pool = pool; drafts = drafts })
   own_still =
       let h = kept.seats id v at in
@@ -155,6 +174,9 @@ module _ (sizes : Sizes) (s : Table.State Call View) (kept : IsKept sizes s) (id
         entered = h.entered;
         calls = h.calls;
         opens = stays.numbers id v at;
+        opening = λ handle slot o n.
+            (let x = h.opening handle slot o n in
+            names_kept sizes s kept id v at kept.account kept.stands words stays id v (record v { pool = pool; drafts = drafts }) at handle slot x (x.free.0, still slot x.free));
         reserves = h.reserves;
         spare = spare;
         once = once;

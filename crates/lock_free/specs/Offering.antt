@@ -67,4 +67,4 @@ pub record Offers (sizes : Sizes) (account : Account) (actor slot : ℕ) (operat
 -- ---- the seat then
 
 abbrev pub offered_by : View → ℕ → List ℕ → Descriptor → Account → View
-offered_by v slot rest offer account = record v { account = offered_at v.actor slot offer account; pool = with_slots v.pool 1 rest; drafts = [] }
+offered_by v slot rest offer account = record v { account = offered_at v.actor slot offer account; pool = with_slots v.pool 1 rest; opening = None; drafts = [] }

@@ -1,5 +1,5 @@
 -- What the words of handles mean, with the first words of the offers in them.
-use Rattle.std.specs.Prelude.{◌≡◌, ◌≢◌, ℕ, ◌+◌, ◌*◌, ◌==◌, ◌⊎◌, Bool, true, false, List, Contains, Option, Some, None, slice_index, if◌then◌else◌}
+use Rattle.std.specs.Prelude.{◌≡◌, ◌≢◌, ℕ, ◌+◌, ◌*◌, ◌<◌, ◌==◌, ◌⊎◌, Bool, true, false, List, Contains, Option, Some, None, slice_index, if◌then◌else◌}
 use Rattle.trie_words.specs.Codes.{root_code, pair_code, IsRootWord}
 use Rattle.trie_words.specs.declared.roots.RootWord.{RootWord as HandleWord}
 use Rattle.trie_words.specs.declared.roots.RootWord.TheVariants as word
@@ -12,10 +12,11 @@ use Rattle.machine_model.specs.declared.roots.RootWord.{RootWord}
 use Rattle.machine_model.specs.declared.roots.RootWord.TheVariants.{Plain, Offer}
 use Rattle.machine_model.specs.Beneath.slot_arena.specs.declared.refs.Ref.{Ref}
 use Rattle.machine_model.specs.Acting.{opened_root}
-use Rattle.machine_model.specs.States.{State, operation_of}
+use Rattle.machine_model.specs.States.{State, operation_of, handle_limit}
 use Rattle.lock_free.specs.declared.accounts.Account.{Account}
 use Rattle.lock_free.specs.declared.accounts.Known.{Known}
 use Rattle.lock_free.specs.Accounts.{place_of}
+use Rattle.lock_free.specs.Places.{root_word}
 
 -- ---- what has become of an offer, by its first word
 
@@ -93,6 +94,15 @@ pub record MeansRoot (account : Account) (words : List ℕ) (handle found : ℕ)
   pub fits : IsRootWord what
   pub code : found ≡ root_code what
   pub says : SaysRoot account words handle what r
+
+-- ---- offers that stand
+
+-- An undecided offer's handle names it, and so does the one that it is to open.
+pub record IsPending (words : List ℕ) (k : Known) : Type 0 where
+  pub handle : ℕ
+  pub low : handle < handle_limit
+  pub stands : slice_index words (root_word handle) ≡ root_code (word.Offered k.slot)
+  pub opens : (opened : ℕ) → k.offer.opens ≡ Some opened → (opened < handle_limit) × (slice_index words (root_word opened) ≡ root_code (word.Opening k.slot))
 
 -- ---- whose offer was carried out
 

@@ -27,13 +27,13 @@ use Rattle.lock_free.specs.declared.sizes.Sizes.{Sizes}
 use Rattle.lock_free.specs.Accounts.{bounds_for, state_of, place_at, HasWaited, HasStood}
 use Rattle.lock_free.specs.Nodes.{StandsAs, InTable, class_of}
 use Rattle.lock_free.specs.Places.{AreSizes, words_of, words_in, IsTaken, HaveTaken, generation_word, pin_word, root_word}
-use Rattle.lock_free.specs.Roots.{MeansRoot, IsWritten, NoOffer, AreMarked}
+use Rattle.lock_free.specs.Roots.{MeansRoot, IsWritten, NoOffer, AreMarked, IsPending, fate, undecided}
 
 abbrev pub first_account : Account
 first_account = record { steps = []; names = []; owned = []; offers = [] }
 
 abbrev pub first_view : Sizes → View
-first_view sizes = record { sizes = sizes; actor = 1; last = sizes.seats; account = first_account; pin = None; entered = None; closing = None; opens = None; pool = record { small = []; medium = []; wide = [] }; drafts = [] }
+first_view sizes = record { sizes = sizes; actor = 1; last = sizes.seats; account = first_account; pin = None; entered = None; closing = None; opens = None; opening = None; pool = record { small = []; medium = []; wide = [] }; drafts = [] }
 
 -- no number stands twice
 abbrev pub Once : List ℕ → Type 0
@@ -72,6 +72,7 @@ pub record RootsStand (sizes : Sizes) (account : Account) (words : List ℕ) : T
   pub tries : (k l : Known) → Contains account.offers k → Contains account.offers l → k.offer.operation ≡ l.offer.operation → k.offer.attempt ≡ l.offer.attempt → k ≡ l
   pub stood : (k : Known) → Contains account.offers k → HasStood sizes account k.offer
   pub marks : AreMarked (state_of sizes account) words account.offers
+  pub pending : (k : Known) → Contains account.offers k → fate words k ≡ undecided → IsPending words k
 
 -- who would close a handle has found no call on it at the seats that it has looked at, and none has begun there since
 pub record IsClosing (views : List View) (handle seat : ℕ) : Type 0 where
@@ -122,6 +123,13 @@ pub record IsHeld (state : State) (words : List ℕ) (handle : ℕ) : Type 0 whe
   pub taken : slice_index words (root_word handle) ≢ 0
   pub closed : root_at state handle ≡ None
 
+-- the word of its number names the offer that the seat writes in this slot
+pub record Names (words : List ℕ) (v : View) (handle slot : ℕ) : Type 0 where
+  pub low : handle < handle_limit
+  pub fits : IsRootWord (word.Opening slot)
+  pub is : slice_index words (root_word handle) ≡ root_code (word.Opening slot)
+  pub free : IsFree v 1 slot
+
 pub record IsSeat (sizes : Sizes) (account : Account) (stands : Standing) (words : List ℕ) (v : View) : Type 0 where
   pub same : v.sizes ≡ sizes
   pub low : 1 ≤ v.actor
@@ -137,6 +145,7 @@ pub record IsSeat (sizes : Sizes) (account : Account) (stands : Standing) (words
   pub calls : (operation : Operation) → operation_of (state_of sizes account) v.actor ≡ Some operation → v.entered ≡ Some (handle_of operation.call)
   pub opens : (handle : ℕ) → Reserves (state_of sizes account) v handle → IsHeld (state_of sizes account) words handle
   pub reserves : (operation : Operation) → operation_of (state_of sizes account) v.actor ≡ Some operation → v.opens ≡ operation.opens
+  pub opening : (handle slot : ℕ) → v.opens ≡ Some handle → v.opening ≡ Some slot → Names words v handle slot
   pub spare : (class name : ℕ) → IsFree v class name → IsTaken sizes words class name × IsSpare sizes account stands name
   pub once : (class : ℕ) → class < 3 → Once (pool_of v.pool class)
   pub drafts : (d : ℕ × ℕ) → Contains v.drafts d → AreDrafts words v d
