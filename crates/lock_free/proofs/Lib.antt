@@ -26,3 +26,4 @@ mod Restored
 mod Drafting
 mod Taking
 mod Offered
+mod Tried

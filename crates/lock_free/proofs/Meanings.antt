@@ -30,7 +30,8 @@ use Rattle.lock_free.specs.Trying.{Try, try_of, try_at, KeepsTries, as_before, a
 -- Roots stand where they stood, of each offer there is said what was said, and a word that names an offer that didn't stand yet names none, or it opens the handle.
 module _ (account later : Account) (before after : List ℕ) (handle found : ℕ) (r : Option Root)
     (places : (access : Access) (q : Ref) → r ≡ open_with access (Plain q) → place_of later q ≡ place_of account q)
-    (offers : (k : Known) → Contains account.offers k → Contains later.offers k × (fate after k ≡ fate before k))
+    (offered : (k : Known) → Contains account.offers k → found ≡ root_code (word.Offered k.slot) → r ≡ open_with Writable (meant (fate before k) k.offer) → Contains later.offers k × (fate after k ≡ fate before k))
+    (opening : (k : Known) → Contains account.offers k → k.offer.opens ≡ Some handle → Contains later.offers k × (fate after k ≡ fate before k))
     (none : (slot : ℕ) → found ≡ root_code (word.Opening slot) → IsRootWord (word.Opening slot) → NoOffer account slot → r ≡ None → SaysOpening later after handle slot r ⊎ NoOffer later slot) where
   plain_then : (access : Access) (slot : ℕ) → SaysPlain account access slot r → SaysPlain later access slot r
   plain_then access slot h = record { root = h.root; place = h.place ∙ sym (places access h.root h.is); is = h.is }
@@ -47,10 +48,10 @@ module _ (account later : Account) (before after : List ℕ) (handle found : ℕ
   says_then (word.ClosingWritable slot seat) fits is h = plain_then _ slot h
   says_then (word.ClosingReadOnly slot seat) fits is h = plain_then _ slot h
   says_then (word.Offered slot) fits is h =
-      let still = offers h.its h.here in
+      let still = offered h.its h.here (is ∙ ap (λ n. root_code (word.Offered n)) h.place) h.is in
       record { its = h.its; here = still.0; place = h.place; is = h.is ∙ ap (λ n. open_with Writable (meant n h.its.offer)) (sym still.1) }
   says_then (word.Opening slot) fits is (inl h) =
-      let still = offers h.its h.here in
+      let still = opening h.its h.here h.opens in
       inl (record { its = h.its; here = still.0; place = h.place; opens = h.opens; is = h.is ∙ ap (λ n. opened_by n h.its.offer) (sym still.1) })
   says_then (word.Opening slot) fits is (inr h) = opening_then slot h.1 (none slot is fits h.0 h.1)
 
@@ -61,7 +62,7 @@ pub means_kept : (account later : Account) (before after : List ℕ) (handle : �
     ((access : Access) (q : Ref) → r ≡ open_with access (Plain q) → place_of later q ≡ place_of account q) →
     ((k : Known) → Contains account.offers k → Contains later.offers k × (fate after k ≡ fate before k)) → ((slot : ℕ) → NoOffer account slot → NoOffer later slot) → (found : ℕ) →
     MeansRoot account before handle found r → MeansRoot later after handle found r
-means_kept account later before after handle r places offers none found = means_then account later before after handle found r places offers (λ slot is fits h closed. inr (none slot h))
+means_kept account later before after handle r places offers none found = means_then account later before after handle found r places (λ k c is says. offers k c) (λ k c is. offers k c) (λ slot is fits h closed. inr (none slot h))
 
 -- ---- offers that stood
 
@@ -92,13 +93,13 @@ by_try o None e = absurd (none-some (try_of o) e)
 by_try o (Some p) e = (p, refl, same_Some (try_of p) (try_of o) e)
 
 module _ (before after : State) (a : ℕ) (same : try_at after a ≡ try_at before a) where
-  ran_at : (o : Operation) → operation_of after a ≡ Some o → (p : Operation) × (operation_of before a ≡ Some p) × (try_of p ≡ try_of o)
+  pub ran_at : (o : Operation) → operation_of after a ≡ Some o → (p : Operation) × (operation_of before a ≡ Some p) × (try_of p ≡ try_of o)
   ran_at o e = by_try o (operation_of before a) (sym same ∙ ap (option_map try_of) e)
 
   runs_at : (o : Operation) → operation_of before a ≡ Some o → (p : Operation) × (operation_of after a ≡ Some p) × (try_of p ≡ try_of o)
   runs_at o e = by_try o (operation_of after a) (same ∙ ap (option_map try_of) e)
 
-  unmarked_at : ((o : Operation) → operation_of after a ≡ Some o → o.is_marked ≡ false) → (o : Operation) → operation_of before a ≡ Some o → o.is_marked ≡ false
+  pub unmarked_at : ((o : Operation) → operation_of after a ≡ Some o → o.is_marked ≡ false) → (o : Operation) → operation_of before a ≡ Some o → o.is_marked ≡ false
   unmarked_at h o e = let p = runs_at o e in ap (λ (t : Try). t.is_marked) (sym p.2) ∙ h p.0 p.1
 
   pub marked_at : (k : Known) (fate_then fate_now : ℕ) → fate_then ≡ fate_now → ((p : Operation) → operation_of before a ≡ Some p → IsItsTry p k.offer → p.is_marked ≡ (fate_now == carried_out)) →

@@ -146,7 +146,7 @@ module _ (sizes : Sizes) (s : Table.State Call View) (kept : IsKept sizes s) (id
   means_else : (g : ℕ) → g < handle_limit → MeansRoot account_then words_then g (slice_index s.words (root_word g)) (root_at now g)
   means_else g below =
       means_then kept.account account_then s.words words_then g (slice_index s.words (root_word g)) (root_at now g) (λ access q is. refl)
-      (λ k c. (more_there new kept.account.offers k c, fate_old k c)) (λ found_slot is in_range nothing closed. names g found_slot below is in_range nothing closed) (kept.roots.means g below)
+      (λ k c is says. (more_there new kept.account.offers k c, fate_old k c)) (λ k c opens. (more_there new kept.account.offers k c, fate_old k c)) (λ found_slot is in_range nothing closed. names g found_slot below is in_range nothing closed) (kept.roots.means g below)
 
   means_here : MeansRoot account_then words_then handle (root_code (word.Offered slot)) (root_at next handle)
   means_here = record {

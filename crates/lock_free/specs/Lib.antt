@@ -12,3 +12,4 @@ pub mod Publishing
 pub mod Deciding
 pub mod Restoring
 pub mod Offering
+pub mod Settling
