@@ -27,3 +27,4 @@ mod Drafting
 mod Taking
 mod Offered
 mod Tried
+mod Settled
