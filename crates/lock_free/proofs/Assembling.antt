@@ -14,6 +14,7 @@ use Rattle.machine_model.specs.Machine.{AreBounds}
 use Rattle.machine_model.specs.States.{State, operation_of, handle_limit}
 use Rattle.lock_free.specs.declared.accounts.Account.{Account}
 use Rattle.lock_free.specs.declared.rules.View.{View}
+use Rattle.lock_free.specs.declared.rules.Closing.{Closing}
 use Rattle.lock_free.specs.declared.sizes.Sizes.{Sizes}
 use Rattle.lock_free.specs.Accounts.{bounds_for, state_of}
 use Rattle.lock_free.specs.Places.{HaveTaken, words_of, generation_word, root_word}
@@ -82,36 +83,41 @@ module _ (sizes : Sizes) (s : Table.State Call View) (kept : IsKept sizes s) (id
 
   -- ---- closers
 
-  -- Where the seat enters no handle and would close none that it didn't before, and the word of a handle says that somebody would close it, as it did.
-  module _ (entered : (handle : ℕ) → later.entered ≡ Some handle → v.entered ≡ Some handle) (closing : later.closing ≡ v.closing) where
-    becomes : (other : ℕ) (u : View) → get_elem? s.views other ≡ some u → (w : View) × (get_elem? later_views other ≡ some w) × (w.actor ≡ u.actor) × (w.closing ≡ u.closing)
-    becomes other u e = elim (cases_eq other id) [
+  -- Where the seat doesn't enter the handle, and would close it still if it would before.
+  module _ (handle who : ℕ) (entered : later.entered ≡ Some handle → v.entered ≡ Some handle) (closing : (c : Closing) → v.closing ≡ Some c → c.handle ≡ handle → later.closing ≡ Some c) where
+    becomes : (other : ℕ) (u : View) (c : Closing) → get_elem? s.views other ≡ some u → u.closing ≡ Some c → c.handle ≡ handle →
+        (w : View) × (get_elem? later_views other ≡ some w) × (w.actor ≡ u.actor) × (w.closing ≡ Some c)
+    becomes other u c e is this = elim (cases_eq other id) [
       | inl same ↦
           (let mine : v ≡ u = some-injective v u (sym at ∙ ap (λ n. get_elem? s.views n) (sym same) ∙ e) in
-          (later, ap (λ n. get_elem? later_views n) same ∙ here, actor ∙ ap (λ (x : View). x.actor) mine, closing ∙ ap (λ (x : View). x.closing) mine))
-      | inr apart ↦ (u, set_else s.views id other later apart ∙ e, refl, refl)
+          (later, ap (λ n. get_elem? later_views n) same ∙ here, actor ∙ ap (λ (x : View). x.actor) mine, closing c (ap (λ (x : View). x.closing) mine ∙ is) this))
+      | inr apart ↦ (u, set_else s.views id other later apart ∙ e, refl, is)
     ]
 
-    was_inside : (handle other : ℕ) (w : View) → get_elem? later_views other ≡ some w → w.entered ≡ Some handle → (u : View) × (get_elem? s.views other ≡ some u) × (u.entered ≡ Some handle) × (u.actor ≡ w.actor)
-    was_inside handle other w e inside = elim (at_set s.views id other later w e) [
-      | inl h ↦ (v, ap (λ n. get_elem? s.views n) h.0 ∙ at, entered handle (ap (λ (x : View). x.entered) h.1 ∙ inside), sym actor ∙ ap (λ (x : View). x.actor) h.1)
+    was_inside : (other : ℕ) (w : View) → get_elem? later_views other ≡ some w → w.entered ≡ Some handle → (u : View) × (get_elem? s.views other ≡ some u) × (u.entered ≡ Some handle) × (u.actor ≡ w.actor)
+    was_inside other w e inside = elim (at_set s.views id other later w e) [
+      | inl h ↦ (v, ap (λ n. get_elem? s.views n) h.0 ∙ at, entered (ap (λ (x : View). x.entered) h.1 ∙ inside), sym actor ∙ ap (λ (x : View). x.actor) h.1)
       | inr h ↦ (w, h.1, inside, refl)
     ]
 
-    pub closing_stays : (handle who : ℕ) → IsClosing s.views handle who → IsClosing later_views handle who
-    closing_stays handle who h =
-        let b = becomes h.id h.view h.at in
+    pub closing_at : IsClosing s.views handle who → IsClosing later_views handle who
+    closing_at h =
+        let b = becomes h.id h.view h.closing h.at h.is h.this in
         record {
           id = h.id;
           view = b.0;
           at = b.1;
           its = b.2 ∙ h.its;
           closing = h.closing;
-          is = b.3 ∙ h.is;
+          is = b.3;
           this = h.this;
           none = λ other w e inside apart.
-              (let u = was_inside handle other w e inside in subst (λ n. h.closing.looked < n) u.3 (h.none other u.0 u.1 u.2 (λ same. apart (sym u.3 ∙ same))));
+              (let u = was_inside other w e inside in subst (λ n. h.closing.looked < n) u.3 (h.none other u.0 u.1 u.2 (λ same. apart (sym u.3 ∙ same))));
         }
+
+  -- where the seat enters no handle and would close none that it didn't before
+  pub closing_stays : ((handle : ℕ) → later.entered ≡ Some handle → v.entered ≡ Some handle) → later.closing ≡ v.closing → (handle who : ℕ) → IsClosing s.views handle who → IsClosing later_views handle who
+  closing_stays entered closing handle who h = closing_at handle who (entered handle) (λ c is this. closing ∙ is) h
 
   -- ---- reserved numbers, and who runs what
 

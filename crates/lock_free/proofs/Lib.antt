@@ -28,3 +28,4 @@ mod Taking
 mod Offered
 mod Tried
 mod Settled
+mod Rewritten

@@ -269,7 +269,7 @@ module _ (sizes : Sizes) (s : Table.State Call View) (kept : IsKept sizes s) (id
     | inr old ↦
         (let before = sym (fate_old k old) ∙ stands in
         root.pending_rooted sizes kept.account kept.stands s.words all handle low (root_code (word.Offered slot)) k
-        (λ is. not_plain k.offer offer.root (sym (offered_is sizes kept.account s.words kept.roots handle low k old (old_fits k old) is ∙ ap (λ n. open_with Writable (meant n k.offer)) before) ∙ offers.stood))
+        (λ is. not_plain k.offer Writable offer.root (sym (offered_is sizes kept.account s.words kept.roots handle low k old (old_fits k old) is ∙ ap (λ n. open_with Writable (meant n k.offer)) before) ∙ offers.stood))
         (λ is. not_open handle ((opening_is sizes kept.account s.words kept.roots handle low k old (old_fits k old) is).1 ∙ ap (λ n. opened_by n k.offer) before) refl) (kept.roots.pending k old before))
   ]
 

@@ -3,6 +3,7 @@ use Rattle.std.proofs.Common.{◌≡◌, ◌≢◌, ◌+◌, ◌*◌, ◌⊎◌,
 use Rattle.trie_words.specs.Codes.{root_code, IsRootWord}
 use Rattle.trie_words.specs.declared.roots.RootWord.{RootWord as HandleWord}
 use Rattle.trie_words.specs.declared.roots.RootWord.TheVariants as word
+use Rattle.history.specs.declared.calls.Access.{Access}
 use Rattle.history.specs.declared.calls.Access.TheVariants.{Writable}
 use Rattle.machine_model.specs.Beneath.slot_arena.specs.declared.refs.Ref.{Ref}
 use Rattle.machine_model.specs.declared.roots.Descriptor.{Descriptor}
@@ -21,8 +22,8 @@ use Rattle.lock_free.specs.Rules.{RootsStand}
 use Rattle.lock_free.proofs.Geometry.{inside}
 use Rattle.lock_free.proofs.RootCodes.{same_word}
 
-pub not_plain : (d : Descriptor) (r : Ref) → open_with Writable (Offer d) ≡ open_with Writable (Plain r) → ⊥
-not_plain d r e = true≢false (ap is_offer e)
+pub not_plain : (d : Descriptor) (access : Access) (r : Ref) → open_with Writable (Offer d) ≡ open_with access (Plain r) → ⊥
+not_plain d access r e = true≢false (ap is_offer e)
   where
     offers_in : RootWord → Bool
     offers_in (Offer x) = true

@@ -11,12 +11,14 @@ use Rattle.machine_model.specs.Calls.{handle_of}
 use Rattle.machine_model.specs.declared.operations.Operation.{Operation}
 use Rattle.machine_model.specs.States.{State, operation_of, root_at, handle_limit}
 use Rattle.lock_free.specs.declared.accounts.Account.{Account}
+use Rattle.trie_words.specs.declared.pins.Pin.{Pin}
+use Rattle.lock_free.specs.declared.rules.Closing.{Closing}
 use Rattle.lock_free.specs.declared.rules.Pool.{Pool}
 use Rattle.lock_free.specs.declared.rules.View.{View}
 use Rattle.lock_free.specs.declared.sizes.Sizes.{Sizes}
 use Rattle.lock_free.specs.Accounts.{state_of, HasWaited}
 use Rattle.lock_free.specs.Places.{pin_word, root_word, IsTaken}
-use Rattle.lock_free.specs.Rules.{Standing, AreDrafts, Once, pool_of, IsFree, IsSpare, IsSeat, IsKept, Reserves, IsHeld, Names}
+use Rattle.lock_free.specs.Rules.{Standing, AreDrafts, Once, pool_of, IsFree, IsSpare, IsSeat, IsKept, Reserves, IsHeld, Names, pin_word_of}
 use Rattle.lock_free.specs.Roots.{NoOffer}
 use Rattle.lock_free.proofs.Assembling.{not_its, other_actor}
 use Rattle.lock_free.specs.Trying.{KeepsTries}
@@ -152,6 +154,44 @@ module _ (sizes : Sizes) (s : Table.State Call View) (kept : IsKept sizes s) (id
             once = once;
             drafts = written;
           }
+
+    -- and the seat itself, where it pins itself, enters a handle, would close one, or reserves a number
+    module _ (first : Account) (waited : HasWaited v.actor first account) (counted : length first.names ≡ (state_of sizes first).heap.births) (pin : Option Pin) (entered : Option ℕ) (closing : Option Closing)
+        (opens : Option ℕ) (opening : Option ℕ) where
+      abbrev pub seat_else : View
+      seat_else = record v { account = first; pin = pin; entered = entered; closing = closing; opens = opens; opening = opening }
+
+      module _ (pinned : slice_index words (pin_word v.actor) ≡ pin_word_of pin)
+          (inside : (handle : ℕ) → entered ≡ Some handle → (handle < handle_limit) × (is_some (root_at (state_of sizes account) handle) ≡ true) × ((p : Pin) × (pin ≡ Some p) × (p.handle ≡ handle)))
+          (calls : (o : Operation) → operation_of (state_of sizes account) v.actor ≡ Some o → entered ≡ Some (handle_of o.call))
+          (numbers : (handle : ℕ) → Reserves (state_of sizes account) seat_else handle → IsHeld (state_of sizes account) words handle)
+          (reserves : (o : Operation) → operation_of (state_of sizes account) v.actor ≡ Some o → opens ≡ o.opens)
+          (names : (handle slot : ℕ) → opens ≡ Some handle → opening ≡ Some slot → Names words seat_else handle slot)
+          (spare : (b name : ℕ) → IsFree v b name → StaysSpare b name) where
+        pub own_else : IsSeat sizes account stands words seat_else
+        own_else =
+            let h = kept.seats id v at in
+            record {
+              same = h.same;
+              low = h.low;
+              top = h.top;
+              most = h.most;
+              waited = waited;
+              counts = counted;
+              rests = λ a above below.
+                  (let r = h.rests a above below in
+                  let its : a ≢ v.actor = λ is. absurd (omega (arith, above, is)) in
+                  (rests_so (state_of sizes kept.account) (state_of sizes account) a (stays.others a its) r.0, stays.pins a (omega (arith, above, h.low)) (omega (arith, below, h.most)) its ∙ r.1));
+              pinned = pinned;
+              entered = inside;
+              calls = calls;
+              opens = numbers;
+              opening = names;
+              reserves = reserves;
+              spare = λ b name f. (let x = h.spare b name f in (stays.taken b name f.0 x.0, (spare b name f).0));
+              once = h.once;
+              drafts = λ d c. drafts_kept seat_else d (h.drafts d c) (λ b name f. (f, (spare b name f).1));
+            }
 
 -- ---- an access that is no step
 
