@@ -12,6 +12,7 @@ use Rattle.machine_model.specs.Keys.{KeysFit}
 use Rattle.machine_model.specs.declared.operations.Operation.{Operation}
 use Rattle.machine_model.specs.Machine.{AreBounds}
 use Rattle.machine_model.specs.States.{State, operation_of, handle_limit}
+use Rattle.proof_waiting.specs.Beneath.proof_slots.specs.Unswept.{HasNoSweeps}
 use Rattle.lock_free.specs.declared.accounts.Account.{Account}
 use Rattle.lock_free.specs.declared.rules.View.{View}
 use Rattle.lock_free.specs.declared.rules.Closing.{Closing}
@@ -32,6 +33,7 @@ within (y ∷ ys) (suc n) x e = let h = within ys n x e in omega (arith, h)
 pub record AllStand (sizes : Sizes) (account : Account) (stands : Standing) (words : List ℕ) : Type 0 where
   pub bounds : AreBounds (bounds_for sizes account.steps)
   pub keys : KeysFit account.steps
+  pub quiet : HasNoSweeps account.steps
   pub counted : length account.names ≡ (state_of sizes account).heap.births
   pub size : length words ≡ words_of sizes
   pub taken : HaveTaken sizes words
@@ -43,6 +45,7 @@ pub all_stand : (sizes : Sizes) (s : Table.State Call View) (kept : IsKept sizes
 all_stand sizes s kept = record {
   bounds = kept.bounds;
   keys = kept.keys;
+  quiet = kept.quiet;
   counted = kept.counted;
   size = kept.size;
   taken = kept.taken;
@@ -226,6 +229,7 @@ module _ (sizes : Sizes) (s : Table.State Call View) (kept : IsKept sizes s) (id
       range = kept.range;
       bounds = all.bounds;
       keys = all.keys;
+      quiet = all.quiet;
       counted = all.counted;
       size = all.size;
       taken = all.taken;

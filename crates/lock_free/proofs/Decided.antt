@@ -34,7 +34,7 @@ use Rattle.lock_free.specs.declared.sizes.Sizes.{Sizes}
 use Rattle.lock_free.specs.Accounts.{state_of, place_at, HasWaited, IsOfOther, gone_on}
 use Rattle.lock_free.specs.Deciding.{says_then, Decides}
 use Rattle.lock_free.specs.Nodes.{StandsAs, InTable, AreEntries, entry_word, SaysPrevious, decided, ahead, pending, failed, SaysHeader, class_of, IsAhead}
-use Rattle.lock_free.specs.Places.{first_slot_word, generation_word, pin_word, root_word, IsTaken}
+use Rattle.lock_free.specs.Places.{first_slot_word, words_in, words_of, generation_word, pin_word, root_word, IsTaken}
 use Rattle.lock_free.specs.Roots.{MeansRoot}
 use Rattle.lock_free.specs.Rules.{Standing, Stands, NodesStand, RootsStand, IsClosing, SaysClosing, IsFree, IsSpare, IsSeat, IsKept}
 use Rattle.lock_free.specs.Steps.{nothing}
@@ -45,8 +45,9 @@ use Rattle.lock_free.specs.Trying.{as_before}
 use Rattle.lock_free.proofs.Meanings.{marks_kept, stood_still}
 use Rattle.lock_free.proofs.Keeping.{SameNodes, stands_kept, entries_kept, shape_kept, over_kept, meaning_kept, written_kept}
 use Rattle.lock_free.proofs.Made.{is_pending, is_failed}
+use Rattle.lock_free.proofs.Owners.{owners_kept}
 use Rattle.lock_free.proofs.Seats.{Stays, StaysSpare, other_kept, own_kept, drafts_kept}
-use Rattle.lock_free.proofs.Waiting.{waited_more}
+use Rattle.lock_free.proofs.Waiting.{waited_more, quiet_more}
 
 -- what stands in the words of a main node that is decided, with its header as it is then
 module _ (account later : Account) (before after : State) (words changed : List ℕ) (p k : ℕ) (slot : Slot) (verdict : Prev)
@@ -142,7 +143,7 @@ module _ (sizes : Sizes) (account : Account) (actor : ℕ) (operation : Operatio
         previous = says_then decides.verdict its_header.previous;
         is_previous = says_prev decides.slot.prev its_header.previous decides.verdict decides.pending decides.committed_or_failed its_header.is_previous;
         shape = its_header.shape;
-        is_shape = shape_kept account account_then.steps account.offers nothing now next same decides.aheads still words decides.slot.node its_header.shape its_header.is_shape;
+        is_shape = shape_kept account account_then.steps account.offers nothing now next same decides.aheads still words (slot_of main) decides.slot.node its_header.shape its_header.is_shape;
         code = says its_header;
       })
 
@@ -190,6 +191,8 @@ module _ (sizes : Sizes) (account : Account) (actor : ℕ) (operation : Operatio
     apart = λ j k x y a c e. (let b = before j x (which j x a.1) in let d = before k y (which k y c.1) in all.nodes.apart j k b.0 d.0 (a.0, b.1) (c.0, d.1) e);
     offers = λ o c k slot h. (let b = before k slot (which k slot h.1) in all.nodes.offers o c k b.0 (h.0, b.1));
     written = λ k slot h. written_by k slot h.0 (which k slot h.1);
+    inside = λ k slot e. (let b = before k slot (which k slot e) in subst (λ n. 2 * place_at account k + words_in (class_of n) ≤ words_of sizes) (sym b.2) (all.nodes.inside k b.0 b.1));
+    owners = owners_kept account account_then now next refl refl decides.aheads all.nodes.owners;
     live = λ r h. all.nodes.live r (decides.live r h);
   }
 
@@ -213,6 +216,7 @@ module _ (sizes : Sizes) (account : Account) (actor : ℕ) (operation : Operatio
   all_then = record {
     bounds = decides.bounds;
     keys = All-append FitsKey account.steps (step.Go actor ∷ []) all.keys (All-cons FitsKey (step.Go actor) [] tt (All-nil FitsKey));
+    quiet = quiet_more account.steps (step.Go actor) all.quiet tt;
     counted = all.counted ∙ sym decides.births;
     size = length-set words (2 * p) value ∙ all.size;
     taken = have_still sizes account words all.taken (2 * p) far value;

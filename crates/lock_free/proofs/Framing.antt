@@ -193,6 +193,8 @@ module _ (sizes : Sizes) (account : Account) (stands : Standing) (words : List â
     offers = all.nodes.offers;
     written = Î» k slot h.
         stands_over account words i x (place_at account k) (state_of sizes account) k slot slot.node (all.nodes.small k slot h) (not_of_node k slot h) (all.nodes.written k slot h);
+    inside = all.nodes.inside;
+    owners = all.nodes.owners;
     live = all.nodes.live;
   }
 
@@ -200,6 +202,7 @@ module _ (sizes : Sizes) (account : Account) (stands : Standing) (words : List â
   all_over = record {
     bounds = all.bounds;
     keys = all.keys;
+    quiet = all.quiet;
     counted = all.counted;
     size = length-set words i x âˆ™ all.size;
     taken = have_still sizes account words all.taken i far x;
@@ -260,6 +263,8 @@ module _ (sizes : Sizes) (account : Account) (stands : Standing) (words : List â
     written = Î» k slot h.
         stands_over account words i x (place_at account k) (state_of sizes account) k slot slot.node (nodes.small k slot h)
         (no_slot (class_of slot.node) (place_at account k) (class_small slot.node) (nodes.within k slot h)) (nodes.written k slot h);
+    inside = nodes.inside;
+    owners = nodes.owners;
     live = nodes.live;
   }
 

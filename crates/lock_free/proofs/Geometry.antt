@@ -69,6 +69,13 @@ module _ (sizes : Sizes) (words : List ℕ) (have : HaveTaken sizes words) where
   pub inside : (class name i : ℕ) → class < 3 → IsTaken sizes words class name → IsWordOf class name i → i < words_of sizes
   inside class name i small t w = inside_by class i small (lies class name i small t w)
 
+-- all of a slot's words are the table's
+pub end_inside : (sizes : Sizes) (words : List ℕ) (have : HaveTaken sizes words) (class name : ℕ) → class < 3 → IsTaken sizes words class name → 2 * name + words_in class ≤ words_of sizes
+end_inside sizes words have zero name small t = let h = inside sizes words have 0 name (2 * name + 1) small t (record { low = omega arith; high = omega arith }) in omega (arith, h)
+end_inside sizes words have (suc zero) name small t = let h = inside sizes words have 1 name (2 * name + 7) small t (record { low = omega arith; high = omega arith }) in omega (arith, h)
+end_inside sizes words have (suc (suc zero)) name small t = let h = inside sizes words have 2 name (2 * name + 23) small t (record { low = omega arith; high = omega arith }) in omega (arith, h)
+end_inside sizes words have (suc (suc (suc class))) name small t = absurd (omega (arith, small))
+
 next_root : (handle : ℕ) → root_word (suc handle) ≡ 87 + suc handle
 next_root handle = ap (λ b. if b then 80 else 87 + suc handle) (ne_eqb (suc handle) 0 (λ e. omega (arith, e)))
 

@@ -44,7 +44,8 @@ use Rattle.lock_free.specs.Steps.{Dropped, nothing, Leads, Reads}
 use Rattle.lock_free.proofs.Assembling.{AllStand, closing_stays, numbers_stay, assembled}
 use Rattle.lock_free.proofs.Meanings.{means_kept, marks_kept, stood_still}
 use Rattle.lock_free.proofs.Seats.{ran_so, numbers_so, Stays, other_kept, own_kept, drafts_kept}
-use Rattle.lock_free.proofs.Waiting.{waited_more}
+use Rattle.lock_free.proofs.Owners.{owners_kept}
+use Rattle.lock_free.proofs.Waiting.{waited_more, quiet_more, other_quiet}
 
 -- each node is what it was
 abbrev pub SameNodes : State → State → Type 0
@@ -77,17 +78,17 @@ module _ (account : Account) (steps : List Step) (offers : List Known) (dropped 
   previous_kept k q says stays (pending o own h) = pending o own (over_kept k o own h)
   previous_kept k q says stays (failed o own h) = failed o own (over_kept k o own h)
 
-  pub shape_kept : (node : Node) (says : Shape) → SaysShape account before.heap node says → SaysShape later after.heap node says
-  shape_kept node says (of_branch bitmap entries) = of_branch bitmap entries
-  shape_kept node says (of_tomb single own) = of_tomb single own
-  shape_kept node says (of_list singles) = of_list singles
+  pub shape_kept : (k : ℕ) (node : Node) (says : Shape) → SaysShape account k node says → SaysShape later k node says
+  shape_kept k node says (of_branch bitmap entries) = of_branch bitmap entries
+  shape_kept k node says (of_tomb single own is) = of_tomb single own is
+  shape_kept k node says (of_list singles) = of_list singles
 
   header_kept : (k : ℕ) (slot : Slot) (word : ℕ) → dropped k ≡ false → SaysHeader account before k slot word → SaysHeader later after k slot word
   header_kept k slot word stays h = record {
     previous = h.previous;
     is_previous = previous_kept k slot.prev h.previous stays h.is_previous;
     shape = h.shape;
-    is_shape = shape_kept slot.node h.shape h.is_shape;
+    is_shape = shape_kept k slot.node h.shape h.is_shape;
     code = h.code;
   }
 
@@ -155,6 +156,8 @@ module _ (sizes : Sizes) (s : Table.State Call View) (kept : IsKept sizes s) (id
     written = λ k slot h.
         (let was = stood k slot h in
         stands_kept kept.account account_then.steps kept.account.offers dropped now next_state (same_nodes now next_state leads.nodes) leads.aheads leads.still s.words (place_at kept.account k) k slot slot.node was.1 (kept.nodes.written k slot was.0));
+    inside = λ k slot e. kept.nodes.inside k slot (sym (leads.nodes k) ∙ e);
+    owners = owners_kept kept.account account_then now next_state refl refl leads.aheads kept.nodes.owners;
     live = λ r h. (let x = leads.live r h in live_then (dropped (slot_of r)) (slot_of r) refl x.1 (kept.nodes.live r x.0));
   }
 
@@ -176,6 +179,7 @@ module _ (sizes : Sizes) (s : Table.State Call View) (kept : IsKept sizes s) (id
   all_then = record {
     bounds = leads.bounds;
     keys = All-append FitsKey kept.account.steps (taken ∷ []) kept.keys (All-cons FitsKey taken [] fits (All-nil FitsKey));
+    quiet = quiet_more kept.account.steps taken kept.quiet (other_quiet (suc v.actor) taken (its (suc v.actor) (λ e. omega (arith, e))));
     counted = kept.counted ∙ sym leads.births;
     size = kept.size;
     taken = kept.taken;

@@ -1,123 +1,209 @@
--- A load of a header is a step of READ, and tells what the header says.
-use Rattle.history.specs.declared.calls.Call.{Call}
-use Rattle.std.proofs.Common.{◌≡◌, ◌+◌, ◌*◌, ◌<◌, ℕ, suc, zero, Bool, true, false, List, [], ◌∷◌, ◌++◌, set, get_or, slice_index, length, Some, None, refl, sym, ap, subst, ◌∙◌, arith}
+-- What loads of nodes find.
+use Rattle.std.proofs.Common.{◌≡◌, ◌+◌, ◌*◌, ◌/◌, ◌<◌, ◌≤◌, ℕ, Bool, true, false, List, [], ◌∷◌, Contains, get_or, slice_index, slice_get, length, Some, None, refl, sym, ap, subst, ◌∙◌, arith}
 use Rattle.std.proofs.lemmas.Bool.{true≢false}
+use Rattle.std.proofs.lemmas.List.Elements.{Contains-get_or}
 use Rattle.std.proofs.lemmas.Option.{same_Some}
-use Rattle.std.proofs.lemmas.List.{set-get_or}
-use mathlib.Core.Option.{some, none}
-use lib.ListN.{get_elem?}
-use Rattle.atomic_table.specs.Table.{Me, Allows, step, keeps}
-use Rattle.atomic_table.specs.Table as Table
+use Rattle.trie_words.specs.Codes.{header_of, link_of, link_code, pair_of}
+use Rattle.trie_words.specs.declared.headers.Header.{Header}
+use Rattle.trie_words.specs.declared.links.Link.{Link}
 use Rattle.machine_model.specs.Beneath.slot_arena.specs.declared.refs.Ref.{Ref}
-use Rattle.machine_model.specs.Beneath.slot_arena.specs.declared.nodes.Slot.{Slot}
 use Rattle.machine_model.specs.Beneath.slot_arena.specs.declared.nodes.Node.{Node}
 use Rattle.machine_model.specs.Beneath.slot_arena.specs.declared.nodes.Node.TheVariants.{Indirection, Branch, Single, Tomb, List as Listed}
+use Rattle.machine_model.specs.Beneath.slot_arena.specs.declared.nodes.Slot.{Slot}
+use Rattle.machine_model.specs.Beneath.slot_arena.specs.Heaps.{no_ref, entries_of}
 use Rattle.machine_model.specs.Beneath.slot_arena.specs.Refs.{slot_of}
 use Rattle.machine_model.specs.declared.actions.Action.{Action}
 use Rattle.machine_model.specs.declared.actions.Action.TheVariants as act
-use Rattle.machine_model.specs.Beneath.slot_arena.specs.Heaps.{no_ref}
 use Rattle.machine_model.specs.declared.operations.Operation.{Operation}
 use Rattle.machine_model.specs.Operations.{action_of}
 use Rattle.machine_model.specs.States.{State}
-use Rattle.proof_memory.specs.Wants.{is_main_node}
+use Rattle.proof_memory.specs.Wants.{is_main_node, is_branch_or_list}
 use Rattle.lock_free.specs.declared.accounts.Account.{Account}
 use Rattle.lock_free.specs.declared.rules.View.{View}
-use Rattle.lock_free.specs.declared.sizes.Sizes.{Sizes}
-use Rattle.lock_free.specs.Accounts.{bounds_for, state_of, place_at, place_of, HasWaited, running, gone_on}
-use Rattle.lock_free.specs.Nodes.{StandsAs, InTable, SaysHeader}
-use Rattle.lock_free.specs.Rules.{NodesStand, IsKept}
-use Rattle.machine_model.specs.Machine.{AreBounds}
-use Rattle.lock_free.specs.Loading.{Moment, IsAt, HasSeen, HasGone, has_gone, IsAtHeader, HasHeader, HasLooked}
-use Rattle.lock_free.proofs.Keeping.{kept_then, then_view}
-use Rattle.lock_free.proofs.Definition.{IsReading, reads_of, prev_stands, prev_made, waits, bounds_before}
+use Rattle.lock_free.specs.Accounts.{state_of, place_of, running, OwnIs}
+use Rattle.lock_free.specs.Loading.{Moment, now, IsAt, seen, HasSeen, HasGone, Holds, Stores, HasHeader, HasLink, SaysMain, SaysLink, SaysKey, SaysValue, SaysPair, IsAtSlot, Went, Saw, SawOf, HasRead}
+use Rattle.lock_free.specs.Live.{IsLive}
+use Rattle.lock_free.specs.Nodes.{StandsAs, InTable, SaysHeader, IsEntryOf, half_of}
+use Rattle.lock_free.proofs.Asked.{links_of, mains_of, link_stands, main_stands, looked_at_lives}
+use Rattle.lock_free.proofs.Decoding.{header_found, link_found}
+use Rattle.lock_free.proofs.Moments.{IsThere, is_there, its_place, held_there, stands_there, waited_so, before}
 
--- places stay where they are
-pub place_stays : (names more : List ℕ) (k : ℕ) → k < length names → get_or (names ++ more) k 0 ≡ get_or names k 0
-place_stays [] more k h = absurd (omega (arith, h))
-place_stays (x ∷ xs) more zero h = refl
-place_stays (x ∷ xs) more (suc k) h = place_stays xs more k (omega (arith, h))
+pub one_named : (r : Ref) → Contains (r ∷ []) r
+one_named r = Contains-get_or (r ∷ []) 0 r (omega arith)
 
--- what a main node's words say of its header
-header_in : (account : Account) (state : State) (words : List ℕ) (name k : ℕ) (slot : Slot) (node : Node) → is_main_node node ≡ true → StandsAs account state (InTable words) name k slot node →
-    SaysHeader account state k slot (slice_index words (2 * name))
-header_in account state words name k slot (Indirection generation main) m h = absurd (true≢false (sym m))
-header_in account state words name k slot (Single key value) m h = absurd (true≢false (sym m))
-header_in account state words name k slot (Branch bitmap entries) m h = subst (λ w. SaysHeader account state k slot w) (sym h.0.1) h.0.2
-header_in account state words name k slot (Tomb single) m h = subst (λ w. SaysHeader account state k slot w) (sym h.1) h.2
-header_in account state words name k slot (Listed singles) m h = subst (λ w. SaysHeader account state k slot w) (sym h.0.1) h.0.2
+-- ---- what a node's words say
+
+module _ (account : Account) (state : State) (words : List ℕ) (name k : ℕ) (slot : Slot) where
+  header_in : (node : Node) → is_main_node node ≡ true → StandsAs account state (InTable words) name k slot node → SaysHeader account state k slot (slice_index words (2 * name))
+  header_in (Indirection generation main) is h = absurd (true≢false (sym is))
+  header_in (Single key value) is h = absurd (true≢false (sym is))
+  header_in (Branch bitmap entries) is h = subst (λ w. SaysHeader account state k slot w) (sym h.0.1) h.0.2
+  header_in (Tomb single) is h = subst (λ w. SaysHeader account state k slot w) (sym h.1) h.2
+  header_in (Listed singles) is h = subst (λ w. SaysHeader account state k slot w) (sym h.0.1) h.0.2
+
+  pair_in : (position : ℕ) (node : Node) → is_branch_or_list node ≡ true → StandsAs account state (InTable words) name k slot node → (n : ℕ) (e : Ref) → n / 2 ≡ position / 2 → slice_get (entries_of node) n ≡ Some e →
+      IsEntryOf account state.heap e (half_of (slice_index words (2 * name + 1 + position / 2)) n)
+  pair_in position (Branch bitmap entries) is h n e same at =
+      let x = h.1 n e at in subst (λ w. IsEntryOf account state.heap e (half_of w n)) (sym x.1 ∙ ap (λ m. slice_index words (2 * name + 1 + m)) same) x.2
+  pair_in position (Listed singles) is h n e same at =
+      let x = h.1 n e at in subst (λ w. IsEntryOf account state.heap e (half_of w n)) (sym x.1 ∙ ap (λ m. slice_index words (2 * name + 1 + m)) same) x.2
+  pair_in position (Indirection generation main) is h n e same at = absurd (true≢false (sym is))
+  pair_in position (Single key value) is h n e same at = absurd (true≢false (sym is))
+  pair_in position (Tomb single) is h n e same at = absurd (true≢false (sym is))
+
+-- ---- at the moment of a load
 
 module _ (v : View) (word found : ℕ) (m : Moment v word found) where
-  abbrev pub there : Account
-  there = m.kept.account
+  abbrev pub account : Account
+  account = m.kept.account
 
-  pub waited : HasWaited v.actor v.account there
-  waited = (m.kept.seats m.id v m.at).waited
+  abbrev pub state : State
+  state = state_of v.sizes account
 
-  bounds_there : AreBounds (bounds_for v.sizes there.steps)
-  bounds_there = subst (λ z. AreBounds (bounds_for z there.steps)) (sym m.same) m.kept.bounds
+  abbrev pub There : Ref → Type 0
+  There r = IsThere v m.table m.kept m.id m.at r
 
-  module _ (main : Ref) (p : IsAt v (act.ReadPrev main)) (its : word ≡ 2 * place_of v.account main) where
-    here : (mark : Bool) × running v.sizes there v.actor (record p.operation { is_marked = mark })
-        × (action_of (state_of v.sizes there) (record p.operation { is_marked = mark }) ≡ action_of (state_of v.sizes v.account) p.operation)
-    here = waits v.sizes v.actor v.account there waited bounds_there p.operation p.runs
+  module _ (r : Ref) (h : There r) where
+    -- its words, where the seat knows them
+    stands : StandsAs account state (InTable m.table.words) (place_of v.account r) (slot_of r) h.slot h.slot.node
+    stands =
+        subst (λ p. StandsAs account state (InTable m.table.words) p (slot_of r) h.slot h.slot.node) (its_place v m.table m.kept m.id m.at r h)
+        (stands_there v m.table m.kept m.id m.at r h.slot h.lives h.used)
 
-    -- the main node was made when the seat looked last, so its place is as the seat has it
-    made : slot_of main < length v.account.names
-    made =
-        let seat = m.kept.seats m.id v m.at in
-        let births = subst (λ z. length v.account.names ≡ (state_of z v.account).heap.births) (sym m.same) seat.counts in
-        let low = prev_made v.sizes v.account (bounds_before v.sizes v.account there waited bounds_there) v.actor p.operation p.runs main p.acts in
-        omega (arith, births, low)
+    stands_so : (slot : Slot) → Stores state r slot → StandsAs account state (InTable m.table.words) (place_of v.account r) (slot_of r) slot slot.node
+    stands_so slot is = subst (λ x. StandsAs account state (InTable m.table.words) (place_of v.account r) (slot_of r) x x.node) (same_Some h.slot slot (sym h.used ∙ is)) stands
 
-    same_place : place_of there main ≡ place_of v.account main
-    same_place = ap (λ xs. get_or xs (slot_of main) 0) waited.more_names ∙ place_stays v.account.names waited.names (slot_of main) made
+    is_found : (at : ℕ) → word ≡ at → slice_index m.table.words at ≡ found
+    is_found at its = ap (slice_index m.table.words) (sym its) ∙ m.finds
 
-    pub header : HasHeader there (state_of v.sizes there) main found
-    header =
-        let finds = prev_stands v.sizes there bounds_there v.actor (record p.operation { is_marked = here.0 }) here.1 main (here.2 ∙ p.acts) in
-        let slot = finds.1.0 in
-        let nodes = subst (λ z. NodesStand z there m.kept.stands m.table.words) (sym m.same) m.kept.nodes in
-        let says = header_in there (state_of v.sizes there) m.table.words (place_of there main) (slot_of main) slot slot.node finds.1.2 (nodes.written (slot_of main) slot (nodes.live main finds.0, finds.1.1)) in
-        record {
-          slot = slot;
-          stands = finds.1.1;
-          says = subst (λ w. SaysHeader there (state_of v.sizes there) (slot_of main) slot w)
-              (ap (λ n. slice_index m.table.words (2 * n)) same_place ∙ ap (λ n. slice_index m.table.words n) (sym its) ∙ m.finds) says;
-        }
+    pub says_main : word ≡ 2 * place_of v.account r → SaysMain account state r (header_of found)
+    says_main its slot is main =
+        header_found v m.table m.kept r slot h.lives is found main
+        (subst (λ w. SaysHeader account state (slot_of r) slot w) (is_found (2 * place_of v.account r) its)
+        (header_in account state m.table.words (place_of v.account r) (slot_of r) slot slot.node main (stands_so slot is)))
 
--- the load is the step
-pub header_allowed : (sizes : Sizes) (size id : ℕ) (me : Me Call View) (word : ℕ) (main : Ref) → IsAt me.0 (act.ReadPrev main) →
-    Allows (IsKept sizes) size id me word (λ n. n) (has_gone (step size word 0 0 none) me)
-header_allowed sizes size id me word main p s kept length_is at low =
-    let v = me.0 in
-    let its = (kept.seats id v at).same in
-    let waited = (kept.seats id v at).waited in
-    let here = waits sizes v.actor v.account kept.account waited kept.bounds p.operation (subst (λ z. running z v.account v.actor p.operation) its p.runs) in
-    let o : Operation = record p.operation { is_marked = here.0 } in
-    let acts : action_of (state_of sizes kept.account) o ≡ act.ReadPrev main = here.2 ∙ subst (λ z. action_of (state_of z v.account) p.operation ≡ act.ReadPrev main) its p.acts in
-    let reads = reads_of sizes kept.account kept.bounds v.actor o here.1 (subst IsReading (sym acts) tt) in
-    let next = kept_then sizes s kept id v at o here.1 reads in (
-      record v { account = gone_on v.actor kept.account },
-      keeps,
-      tt,
-      subst (λ ws. IsKept sizes (record { words = ws; homes = s.homes; views = set s.views id (record v { account = gone_on v.actor kept.account }) })) (sym (set-get_or s.words word 0)) next,
-      ((record { table = s; sizes = sizes; same = its; kept = kept; id = id; at = at; finds = refl }, refl), refl),
-    )
+    pub says_link : word ≡ 2 * place_of v.account r → SaysLink account state r (link_of found)
+    says_link its slot generation main is node =
+        let h_link = subst (λ n. StandsAs account state (InTable m.table.words) (place_of v.account r) (slot_of r) slot n) node (stands_so slot is) in
+        link_found v m.table m.kept r slot h.lives is found generation main h_link.1.0 node h_link.0 h_link.1.1 (sym (is_found (2 * place_of v.account r) its) ∙ h_link.1.2)
 
-abbrev prev_in : Action → Ref
-prev_in (act.ReadPrev m) = m
-prev_in action = no_ref
+    pub says_key : word ≡ 2 * place_of v.account r → SaysKey state r found
+    says_key its slot key value is node =
+        let single = subst (λ n. StandsAs account state (InTable m.table.words) (place_of v.account r) (slot_of r) slot n) node (stands_so slot is) in sym (is_found (2 * place_of v.account r) its) ∙ single.0
 
-same_prev : (v : View) (main other : Ref) → IsAt v (act.ReadPrev main) → IsAt v (act.ReadPrev other) → main ≡ other
-same_prev v main other p q =
-    let same : p.operation ≡ q.operation = same_Some p.operation q.operation (sym p.runs ∙ q.runs) in
-    ap prev_in (sym p.acts ∙ ap (action_of (state_of v.sizes v.account)) same ∙ q.acts)
+    pub says_value : word ≡ 2 * place_of v.account r + 1 → SaysValue state r found
+    says_value its slot key value is node =
+        let single = subst (λ n. StandsAs account state (InTable m.table.words) (place_of v.account r) (slot_of r) slot n) node (stands_so slot is) in sym (is_found (2 * place_of v.account r + 1) its) ∙ single.1
 
--- what the seat is told
-pub told : (before : View) (name found : ℕ) (after : View) → IsAtHeader before name → HasGone before (2 * name) found after → HasLooked before found after
-told before name found after (main, p, place) (m, is) = record {
-  account = m.kept.account;
-  waited = waited before (2 * name) found m;
-  after_is = is;
-  says = λ other q. header before (2 * name) found m other q (ap (λ n. 2 * n) (sym place ∙ ap (place_of before.account) (same_prev before main other p q)));
-}
+    pub says_pair : (position : ℕ) → word ≡ 2 * place_of v.account r + 1 + position / 2 → SaysPair account state r position (pair_of found)
+    says_pair position its slot n e is kind same at =
+        subst (λ w. IsEntryOf account state.heap e (half_of w n)) (is_found (2 * place_of v.account r + 1 + position / 2) its)
+        (pair_in account state m.table.words (place_of v.account r) (slot_of r) slot position slot.node kind (stands_so slot is) n e same at)
+
+  -- what the operation's action names is there
+  module _ (does : Action) (p : IsAt v does) where
+    o_there : (mark : Bool) × running v.sizes account v.actor (record p.operation { is_marked = mark }) × (action_of state (record p.operation { is_marked = mark }) ≡ action_of (now v) p.operation)
+    o_there = (waited_so v m.table m.kept m.id m.at).stays p.operation p.runs
+
+    acts_there : action_of state (record p.operation { is_marked = o_there.0 }) ≡ does
+    acts_there = o_there.2 ∙ p.acts
+
+  pub look_there : (r : Ref) → IsAt v (act.Look r) → There r
+  look_there r p =
+      is_there v m.table m.kept m.id m.at r (looked_at_lives v.sizes v.account (before v m.table m.kept m.id m.at) v.actor p.operation p.runs r p.acts)
+      (looked_at_lives v.sizes account m.kept.bounds v.actor (record p.operation { is_marked = (o_there (act.Look r) p).0 }) (o_there (act.Look r) p).1 r (acts_there (act.Look r) p))
+
+  -- a main node or an indirection that it names
+  pub main_there : (does : Action) (r : Ref) → Contains (mains_of does) r → IsAt v does → (h : There r) × (is_main_node h.slot.node ≡ true)
+  main_there does r c p =
+      let first = main_stands v.sizes v.account (before v m.table m.kept m.id m.at) v.actor p.operation p.runs r (subst (λ a. Contains (mains_of a) r) (sym p.acts) c) in
+      let o = o_there does p in
+      let second = main_stands v.sizes account m.kept.bounds v.actor (record p.operation { is_marked = o.0 }) o.1 r (subst (λ a. Contains (mains_of a) r) (sym (acts_there does p)) c) in
+      (record { was = first.1.0; was_used = first.1.1; lives = second.0; slot = second.1.0; used = second.1.1 }, second.1.2)
+
+  pub link_there : (does : Action) (r : Ref) → Contains (links_of does) r → IsAt v does → (h : There r) × (generation : ℕ) × (main : Ref) × (h.slot.node ≡ Indirection generation main)
+  link_there does r c p =
+      let first = link_stands v.sizes v.account (before v m.table m.kept m.id m.at) v.actor p.operation p.runs r (subst (λ a. Contains (links_of a) r) (sym p.acts) c) in
+      let o = o_there does p in
+      let second = link_stands v.sizes account m.kept.bounds v.actor (record p.operation { is_marked = o.0 }) o.1 r (subst (λ a. Contains (links_of a) r) (sym (acts_there does p)) c) in
+      (record { was = first.1.0; was_used = first.1.3; lives = second.0; slot = second.1.0; used = second.1.3 }, second.1.1, second.1.2, second.1.4)
+
+-- ---- what the seat is told
+
+-- what its action is
+pub same_action : (v : View) (a b : Action) → IsAt v a → IsAt v b → a ≡ b
+same_action v a b p q = sym p.acts ∙ ap (action_of (now v)) (same_Some p.operation q.operation (sym p.runs ∙ q.runs)) ∙ q.acts
+
+-- the node that a load's action names
+abbrev read_by : Action → Ref
+read_by (act.ReadMain i) = i
+read_by (act.ReadPrev m) = m
+read_by (act.Look r) = r
+read_by action = no_ref
+
+-- by a step
+module _ (before : View) (name word found : ℕ) (after : View) (g : HasGone before word found after) where
+  abbrev pub went : Went before after
+  went = record { account = g.0.kept.account; waited = waited_so before g.0.table g.0.kept g.0.id g.0.at; after_is = g.1; took = g.2 }
+
+  -- where it was to do that to the node in this slot
+  module _ (does : Ref → Action) (names : (r : Ref) → read_by (does r) ≡ r) (is_at : IsAtSlot before does name) (r : Ref) (p : IsAt before (does r)) where
+    its_slot : name ≡ place_of before.account r
+    its_slot =
+        let same : is_at.0 ≡ r = sym (names is_at.0) ∙ ap read_by (same_action before (does is_at.0) (does r) is_at.1 p) ∙ names r in
+        sym is_at.2 ∙ ap (place_of before.account) same
+
+  module _ (is_at : IsAtSlot before act.Look name) where
+    abbrev looked_at : (Account → State → Ref → Type 0) → Type 0
+    looked_at Says = (r : Ref) (p : IsAt before (act.Look r)) → Says g.0.kept.account (state_of before.sizes g.0.kept.account) r
+
+    slot_is : (r : Ref) → IsAt before (act.Look r) → name ≡ place_of before.account r
+    slot_is r p = its_slot act.Look (λ q. refl) is_at r p
+
+    pub looked_main : word ≡ 2 * name → looked_at (λ account state r. SaysMain account state r (header_of found))
+    looked_main its r p = says_main before word found g.0 r (look_there before word found g.0 r p) (its ∙ ap (λ n. 2 * n) (slot_is r p))
+
+    pub looked_link : word ≡ 2 * name → looked_at (λ account state r. SaysLink account state r (link_of found))
+    looked_link its r p = says_link before word found g.0 r (look_there before word found g.0 r p) (its ∙ ap (λ n. 2 * n) (slot_is r p))
+
+    pub looked_key : word ≡ 2 * name → looked_at (λ account state r. SaysKey state r found)
+    looked_key its r p = says_key before word found g.0 r (look_there before word found g.0 r p) (its ∙ ap (λ n. 2 * n) (slot_is r p))
+
+    pub looked_value : word ≡ 2 * name + 1 → looked_at (λ account state r. SaysValue state r found)
+    looked_value its r p = says_value before word found g.0 r (look_there before word found g.0 r p) (its ∙ ap (λ n. 2 * n + 1) (slot_is r p))
+
+  pub header_read : IsAtSlot before act.ReadPrev name → word ≡ 2 * name → (r : Ref) → IsAt before (act.ReadPrev r) → HasHeader g.0.kept.account (state_of before.sizes g.0.kept.account) r (header_of found)
+  header_read is_at its r p =
+      let there = main_there before word found g.0 (act.ReadPrev r) r (one_named r) p in
+      says_main before word found g.0 r there.0 (its ∙ ap (λ n. 2 * n) (its_slot act.ReadPrev (λ q. refl) is_at r p)) there.0.slot there.0.used there.1
+
+  pub link_read : IsAtSlot before act.ReadMain name → word ≡ 2 * name → (r : Ref) → IsAt before (act.ReadMain r) → HasLink g.0.kept.account (state_of before.sizes g.0.kept.account) r (link_of found)
+  link_read is_at its r p =
+      let there = link_there before word found g.0 (act.ReadMain r) r (one_named r) p in
+      says_link before word found g.0 r there.0 (its ∙ ap (λ n. 2 * n) (its_slot act.ReadMain (λ q. refl) is_at r p)) there.0.slot there.1 there.2 there.0.used there.3
+
+-- by none
+module _ (before : View) (name word found : ℕ) (after : View) (h : HasSeen before word found after) where
+  abbrev pub saw : Saw before after
+  saw = record { account = h.0.kept.account; waited = waited_so before h.0.table h.0.kept h.0.id h.0.at; after_is = h.1 }
+
+  abbrev held_at : (Account → State → Ref → Type 0) → Type 0
+  held_at Says = (r : Ref) → Holds before r → place_of before.account r ≡ name → Says h.0.kept.account (state_of before.sizes h.0.kept.account) r
+
+  held : (r : Ref) → Holds before r → There before word found h.0 r
+  held r holds = held_there before h.0.table h.0.kept h.0.id h.0.at r holds
+
+  pub seen_main : word ≡ 2 * name → held_at (λ account state r. SaysMain account state r (header_of found))
+  seen_main its r holds place = says_main before word found h.0 r (held r holds) (its ∙ ap (λ n. 2 * n) (sym place))
+
+  pub seen_link : word ≡ 2 * name → held_at (λ account state r. SaysLink account state r (link_of found))
+  seen_link its r holds place = says_link before word found h.0 r (held r holds) (its ∙ ap (λ n. 2 * n) (sym place))
+
+  pub seen_key : word ≡ 2 * name → held_at (λ account state r. SaysKey state r found)
+  seen_key its r holds place = says_key before word found h.0 r (held r holds) (its ∙ ap (λ n. 2 * n) (sym place))
+
+  pub seen_value : word ≡ 2 * name + 1 → held_at (λ account state r. SaysValue state r found)
+  seen_value its r holds place = says_value before word found h.0 r (held r holds) (its ∙ ap (λ n. 2 * n + 1) (sym place))
+
+  pub seen_pair : (position : ℕ) → word ≡ 2 * name + 1 + position / 2 → held_at (λ account state r. SaysPair account state r position (pair_of found))
+  seen_pair position its r holds place = says_pair before word found h.0 r (held r holds) position (its ∙ ap (λ n. 2 * n + 1 + position / 2) (sym place))

@@ -27,7 +27,7 @@ use Rattle.lock_free.specs.declared.accounts.Known.{Known}
 use Rattle.lock_free.specs.declared.sizes.Sizes.{Sizes}
 use Rattle.lock_free.specs.Accounts.{state_of, place_at, place_of, OwnIs, first, later, IsOwn}
 use Rattle.lock_free.specs.Nodes.{Has, StandsAs, InTable, AreEntries, IsEntryOf, is_single, half_of, entry_word, IsAhead, IsOver, SaysPrevious, decided, ahead, pending, failed, SaysShape, of_branch, of_tomb, of_list, SaysHeader, class_of}
-use Rattle.lock_free.specs.Making.{over_of, Drafted, IsOverBy, DraftsHeader, DraftsNode, owned_with, made_at, refs_of_offer, NamesNot, Makes}
+use Rattle.lock_free.specs.Making.{over_of, Drafted, IsOverBy, shape_with, DraftsHeader, DraftsNode, owned_with, made_at, refs_of_offer, NamesNot, Makes}
 use Rattle.lock_free.specs.Rules.{Standing, Stands}
 
 -- ---- places
@@ -54,7 +54,7 @@ pub own_stays : (owned : List Owned) (k : ℕ) (own : Bool) (node : Node) (i m :
 own_stays owned k own (Indirection generation main) i m b h = later _ owned i m b h
 own_stays owned k own (Branch bitmap entries) i m b h = h
 own_stays owned k own (Single key value) i m b h = h
-own_stays owned k own (Tomb single) i m b h = h
+own_stays owned k own (Tomb single) i m b h = later _ owned i m b h
 own_stays owned k own (Listed singles) i m b h = h
 
 -- ---- which stand
@@ -94,6 +94,9 @@ module _ (sizes : Sizes) (account : Account) (actor : ℕ) (operation : Operatio
 
   pub same_place : (r : Ref) → slot_of r ≢ K → place_of after r ≡ place_of account r
   same_place r other = place_else account.names name (slot_of r) other
+
+  refs_apart : (r : Ref) → Contains (refs_of_node node) r → slot_of r ≢ K
+  refs_apart r c same = let low = makes.refs r c in absurd (omega (arith, low, same))
 
   pub same_node : (r : Ref) → slot_of r ≢ K → node_at next.heap r ≡ node_at now.heap r
   unfolding node_at stored
@@ -140,12 +143,12 @@ module _ (sizes : Sizes) (account : Account) (actor : ℕ) (operation : Operatio
       subst (λ n. SaysPrevious after next k (prev.Failed q) (previous.Failed (record { slot = n; own = b }))) (same_place q (refs q (Contains-get_or (q ∷ []) 0 q (omega arith))))
       (failed q b (over q b (is_failed q) h))
 
-  shape_kept : (n : Node) (says : Shape) → ((r : Ref) → Contains (refs_of_node n) r → slot_of r ≢ K) → SaysShape account now.heap n says → SaysShape after next.heap n says
-  shape_kept n says refs (of_branch bitmap entries) = of_branch bitmap entries
-  shape_kept n says refs (of_tomb single b) =
-      subst (λ p. SaysShape after next.heap (Tomb single) (shape.Tomb (record { slot = p; own = b; is_single = true }))) (same_place single (refs single (Contains-get_or (single ∷ []) 0 single (omega arith))))
-      (of_tomb single b)
-  shape_kept n says refs (of_list singles) = of_list singles
+  shape_kept : (k : ℕ) (n : Node) (says : Shape) → ((r : Ref) → Contains (refs_of_node n) r → slot_of r ≢ K) → SaysShape account k n says → SaysShape after k n says
+  shape_kept k n says refs (of_branch bitmap entries) = of_branch bitmap entries
+  shape_kept k n says refs (of_tomb single b is) =
+      subst (λ p. SaysShape after k (Tomb single) (shape.Tomb (record { slot = p; own = b; is_single = true }))) (same_place single (refs single (Contains-get_or (single ∷ []) 0 single (omega arith))))
+      (of_tomb single b (owns k (slot_of single) b is))
+  shape_kept k n says refs (of_list singles) = of_list singles
 
   node_refs : (k : ℕ) (slot : Slot) → get_or now.heap.slots k None ≡ Some slot → (r : Ref) → Contains (refs_of_node slot.node) r → slot_of r ≢ K
   node_refs k slot at r c = makes.names_not.nodes k slot at r (Contains-append_left (refs_of_node slot.node) (refs_of_prev slot.prev) r c)
@@ -158,7 +161,7 @@ module _ (sizes : Sizes) (account : Account) (actor : ℕ) (operation : Operatio
     previous = h.previous;
     is_previous = previous_by k other slot.prev h.previous (prev_refs k slot at) (λ q b undecided over. over_kept k slot q b at undecided over) h.is_previous;
     shape = h.shape;
-    is_shape = shape_kept slot.node h.shape (node_refs k slot at) h.is_shape;
+    is_shape = shape_kept k slot.node h.shape (node_refs k slot at) h.is_shape;
     code = h.code;
   }
 
@@ -193,12 +196,23 @@ module _ (sizes : Sizes) (account : Account) (actor : ℕ) (operation : Operatio
       (subst (λ p. SaysPrevious after next K prev.None (previous.Pending (record { slot = p; own = h.0 }))) (same_place over.1 n.0)
       (ahead over.0 over.1 n.1.0 h.0 n.1.2 n.1.1 (owns (slot_of over.0) (slot_of over.1) h.0 h.1)))
 
-  new_header : (n : Node) (word : ℕ) → n ≡ node → DraftsHeader account now.heap (over_of operation.line) n word → SaysHeader after next K makes.made word
+  new_shape : (n : Node) (says : Shape) → n ≡ node → shape_with account own n ≡ Some says → SaysShape after K n says
+  new_shape (Branch bitmap entries) says is h = subst (λ x. SaysShape after K (Branch bitmap entries) x) (same_Some (shape.Branch bitmap) says h) (of_branch bitmap entries)
+  new_shape (Tomb single) says is h =
+      subst (λ x. SaysShape after K (Tomb single) x) (same_Some (shape.Tomb (record { slot = place_of account single; own = own; is_single = true })) says h)
+      (subst (λ p. SaysShape after K (Tomb single) (shape.Tomb (record { slot = p; own = own; is_single = true })))
+      (same_place single (refs_apart single (subst (λ m. Contains (refs_of_node m) single) is (Contains-get_or (single ∷ []) 0 single (omega arith)))))
+      (of_tomb single own (subst (λ m. OwnIs (owned_with account.owned K own m) K (slot_of single) own) is (first _ account.owned))))
+  new_shape (Listed singles) says is h = subst (λ x. SaysShape after K (Listed singles) x) (same_Some (shape.List (length singles.items)) says h) (of_list singles)
+  new_shape (Indirection generation main) says is h = absurd (none-some says h)
+  new_shape (Single key value) says is h = absurd (none-some says h)
+
+  new_header : (n : Node) (word : ℕ) → n ≡ node → DraftsHeader account (over_of operation.line) own n word → SaysHeader after next K makes.made word
   new_header n word is h = record {
     previous = h.previous;
     is_previous = subst (λ p. SaysPrevious after next K p h.previous) (sym makes.prev_is) (new_previous (over_of operation.line) h.previous refl h.is_previous);
     shape = h.shape;
-    is_shape = subst (λ m. SaysShape after next.heap m h.shape) (is ∙ sym makes.node_is) (shape_kept n h.shape (λ r c. makes.refs r (subst (λ m. Contains (refs_of_node m) r) is c)) h.is_shape);
+    is_shape = subst (λ m. SaysShape after K m h.shape) (is ∙ sym makes.node_is) (new_shape n h.shape is h.is_shape);
     code = h.code;
   }
 
@@ -210,12 +224,12 @@ module _ (sizes : Sizes) (account : Account) (actor : ℕ) (operation : Operatio
       own,
       subst (λ m. OwnIs (owned_with account.owned K own m) K (slot_of main) own) is (first _ account.owned),
       subst (λ q. has (2 * name) (link_code (record { generation = generation; main = record { slot = q; own = own } })))
-          (sym (same_place main (makes.refs main (subst (λ m. Contains (refs_of_node m) main) is (Contains-get_or (main ∷ []) 0 main (omega arith)))))) h.1,
+          (sym (same_place main (refs_apart main (subst (λ m. Contains (refs_of_node m) main) is (Contains-get_or (main ∷ []) 0 main (omega arith)))))) h.1,
     ),
   )
   new_stands has (Single key value) is h = h
   new_stands has (Branch bitmap entries) is h =
-      ((h.0.0, h.0.1, new_header (Branch bitmap entries) h.0.0 is h.0.2), entries_kept has name entries.items (λ e c. makes.refs e (subst (λ m. Contains (refs_of_node m) e) is c)) h.1)
+      ((h.0.0, h.0.1, new_header (Branch bitmap entries) h.0.0 is h.0.2), entries_kept has name entries.items (λ e c. refs_apart e (subst (λ m. Contains (refs_of_node m) e) is c)) h.1)
   new_stands has (Tomb single) is h = (h.0, h.1, new_header (Tomb single) h.0 is h.2)
   new_stands has (Listed singles) is h =
-      ((h.0.0, h.0.1, new_header (Listed singles) h.0.0 is h.0.2), entries_kept has name singles.items (λ e c. makes.refs e (subst (λ m. Contains (refs_of_node m) e) is c)) h.1)
+      ((h.0.0, h.0.1, new_header (Listed singles) h.0.0 is h.0.2), entries_kept has name singles.items (λ e c. refs_apart e (subst (λ m. Contains (refs_of_node m) e) is c)) h.1)

@@ -23,13 +23,17 @@ use Rattle.lock_free.specs.declared.sizes.Sizes.{Sizes}
 use Rattle.lock_free.specs.Accounts.{state_of, place_at, place_of}
 use Rattle.lock_free.specs.Nodes.{Has, StandsAs, InTable, AreEntries, class_of}
 use Rattle.lock_free.specs.Making.{over_of, DraftsNode, made_at, refs_of_offer, Makes}
-use Rattle.lock_free.specs.Places.{IsTaken, root_word, words_of, HaveTaken, generation_word}
+use Rattle.lock_free.specs.Places.{IsTaken, words_in, root_word, words_of, HaveTaken, generation_word}
 use Rattle.lock_free.specs.Roots.{MeansRoot, IsWritten, second_of}
 use Rattle.lock_free.specs.Rules.{Standing, Stands, NodesStand, RootsStand, IsSpare}
 use Rattle.lock_free.specs.Trying.{as_before}
 use Rattle.lock_free.proofs.Meanings.{means_kept, marks_kept, stood_still}
 use Rattle.lock_free.proofs.Assembling.{AllStand}
+use Rattle.lock_free.proofs.Framing.{class_small}
+use Rattle.lock_free.proofs.Geometry.{end_inside}
+use Rattle.lock_free.proofs.Owners.{owners_made}
 use Rattle.lock_free.proofs.Made.{after, K, place_else, place_last, same_place, stands_too, stands_new, stands_else, stood_stands, new_stands}
+use Rattle.lock_free.proofs.Waiting.{quiet_more}
 
 module _ (sizes : Sizes) (account : Account) (actor : ℕ) (operation : Operation) (name : ℕ) (own : Bool) (node : Node) (more : ℕ) (makes : Makes sizes account (made_at actor name own node account) actor operation node more)
     (stands : Standing) (words : List ℕ) (all : AllStand sizes account stands words) (taken : IsTaken sizes words (class_of node) name) (spare : IsSpare sizes account stands name)
@@ -94,6 +98,14 @@ module _ (sizes : Sizes) (account : Account) (actor : ℕ) (operation : Operatio
           subst (λ p. StandsAs later (state_of sizes later) (InTable words) p k slot slot.node) (sym (place_old k o.0))
           (stood_stands sizes account actor operation name own node more makes (InTable words) (place_at account k) k slot slot.node o.0 o.1.1 refl (all.nodes.written k slot o.1))
     ];
+    inside = λ k slot e. elim (cases_eq k k0) [
+      | inl new ↦
+          (let is = same_Some makes.made slot (sym makes.stands ∙ ap (λ n. get_or (state_of sizes later).heap.slots n None) (sym new) ∙ e) in
+          subst (λ m. 2 * place_at later k + words_in (class_of m) ≤ words_of sizes) (new_node slot is)
+          (subst (λ p. 2 * p + words_in (class_of node) ≤ words_of sizes) (sym (place_new k new)) (end_inside sizes words all.taken (class_of node) name (class_small node) taken)))
+      | inr other ↦ subst (λ p. 2 * p + words_in (class_of slot.node) ≤ words_of sizes) (sym (place_old k other)) (all.nodes.inside k slot (sym (makes.nodes k other) ∙ e))
+    ];
+    owners = owners_made sizes account actor operation name own node more makes all.nodes.owners;
     live = λ r h. elim (makes.live r h) [
       | inl before ↦ stands_by r (all.nodes.live r before)
       | inr new ↦ stands_new k0 stands (slot_of r) new
@@ -152,6 +164,7 @@ module _ (sizes : Sizes) (account : Account) (actor : ℕ) (operation : Operatio
     all_then = record {
       bounds = makes.bounds;
       keys = All-append FitsKey account.steps (step.Go actor ∷ []) all.keys (All-cons FitsKey (step.Go actor) [] tt (All-nil FitsKey));
+      quiet = quiet_more account.steps (step.Go actor) all.quiet tt;
       counted = (let one = length-append account.names (name ∷ []) in omega (arith, one, all.counted, makes.births));
       size = size;
       taken = have;

@@ -41,7 +41,7 @@ use Rattle.lock_free.proofs.RootFound.{not_plain, slot_fits, offered_is, opening
 use Rattle.lock_free.proofs.RootSteps as root
 use Rattle.lock_free.proofs.Seats.{ran_so, Stays, StaysSpare, other_kept, own_kept}
 use Rattle.lock_free.proofs.Spending as spending
-use Rattle.lock_free.proofs.Waiting.{waited_more}
+use Rattle.lock_free.proofs.Waiting.{waited_more, quiet_more}
 
 module _ (sizes : Sizes) (s : Table.State Call View) (kept : IsKept sizes s) (id : ℕ) (v : View) (at : get_elem? s.views id ≡ some v) (operation : Operation)
     (runs : operation_of (state_of sizes kept.account) v.actor ≡ Some operation) (slot : ℕ) (offer : Descriptor) (offers : Offers sizes kept.account v.actor slot operation offer)
@@ -285,6 +285,7 @@ module _ (sizes : Sizes) (s : Table.State Call View) (kept : IsKept sizes s) (id
   all_then = record {
     bounds = offers.leaves.bounds;
     keys = All-append FitsKey kept.account.steps (step.Go v.actor ∷ []) kept.keys (All-cons FitsKey (step.Go v.actor) [] tt (All-nil FitsKey));
+    quiet = quiet_more kept.account.steps (step.Go v.actor) kept.quiet tt;
     counted = kept.counted ∙ sym offers.leaves.births;
     size = root.size_rooted sizes kept.account kept.stands s.words all handle low (root_code (word.Offered slot));
     taken = root.have_rooted sizes kept.account kept.stands s.words all handle low (root_code (word.Offered slot));

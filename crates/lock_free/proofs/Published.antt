@@ -88,10 +88,10 @@ module _ (sizes : Sizes) (account : Account) (actor : ℕ) (operation : Operatio
   entries_kept : (has : Has) (p : ℕ) (entries : List Ref) → AreEntries account now.heap has p entries → AreEntries after next.heap has p entries
   entries_kept has p entries h position e at = let x = h position e at in (x.0, x.1, entry_kept e (half_of x.0 position) x.2)
 
-  shape_kept : (n : Node) (says : Shape) → SaysShape account now.heap n says → SaysShape after next.heap n says
-  shape_kept n says (of_branch bitmap entries) = of_branch bitmap entries
-  shape_kept n says (of_tomb single b) = of_tomb single b
-  shape_kept n says (of_list singles) = of_list singles
+  shape_kept : (k : ℕ) (n : Node) (says : Shape) → SaysShape account k n says → SaysShape after k n says
+  shape_kept k n says (of_branch bitmap entries) = of_branch bitmap entries
+  shape_kept k n says (of_tomb single b is) = of_tomb single b (owns k (slot_of single) b is)
+  shape_kept k n says (of_list singles) = of_list singles
 
   over_kept : (k : ℕ) (q : Ref) (b : Bool) → k ≢ slot_of f → IsOver account now k q b → IsOver after next k q b
   over_kept k q b other h j e = elim (cases_eq (slot_of j) (slot_of i)) [
@@ -110,7 +110,7 @@ module _ (sizes : Sizes) (account : Account) (actor : ℕ) (operation : Operatio
     previous = h.previous;
     is_previous = previous_kept k slot.prev h.previous other h.is_previous;
     shape = h.shape;
-    is_shape = shape_kept slot.node h.shape h.is_shape;
+    is_shape = shape_kept k slot.node h.shape h.is_shape;
     code = h.code;
   }
 
@@ -139,7 +139,7 @@ module _ (sizes : Sizes) (account : Account) (actor : ℕ) (operation : Operatio
     previous = h.previous;
     is_previous = fresh_previous publishes.fresh.prev h.previous publishes.fresh_prev h.is_previous;
     shape = h.shape;
-    is_shape = shape_kept publishes.fresh.node h.shape h.is_shape;
+    is_shape = shape_kept (slot_of f) publishes.fresh.node h.shape h.is_shape;
     code = h.code;
   }
 

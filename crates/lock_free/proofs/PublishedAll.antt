@@ -21,16 +21,19 @@ use Rattle.lock_free.specs.declared.accounts.Known.{Known}
 use Rattle.lock_free.specs.declared.sizes.Sizes.{Sizes}
 use Rattle.lock_free.specs.Accounts.{state_of, place_at, place_of, first}
 use Rattle.lock_free.specs.Nodes.{StandsAs, InTable, class_of}
-use Rattle.lock_free.specs.Places.{first_slot_word, generation_word, root_word, IsTaken}
+use Rattle.lock_free.specs.Places.{first_slot_word, words_in, words_of, generation_word, root_word, IsTaken}
 use Rattle.lock_free.specs.Publishing.{swapped_in, with_main_of, over, Publishes}
 use Rattle.lock_free.specs.Roots.{MeansRoot, IsWritten, second_of}
 use Rattle.lock_free.specs.Rules.{Standing, Stands, NodesStand, RootsStand}
+use Rattle.lock_free.proofs.Asked.{in_use_made}
 use Rattle.lock_free.proofs.Assembling.{AllStand}
 use Rattle.lock_free.proofs.Framing.{changed, else_word, below_word, stands_over, still_taken, have_still, roots_still, class_small}
 use Rattle.lock_free.specs.Trying.{as_before}
 use Rattle.lock_free.proofs.Meanings.{means_kept, marks_kept, stood_still}
 use Rattle.lock_free.proofs.Geometry.{IsWordOf, slots_apart, above, inside}
+use Rattle.lock_free.proofs.Owners.{owners_published}
 use Rattle.lock_free.proofs.Published.{differ, else_stands, fresh_stands}
+use Rattle.lock_free.proofs.Waiting.{quiet_more}
 
 module _ (sizes : Sizes) (account : Account) (actor : ℕ) (operation : Operation) (i a f : Ref) (publishes : Publishes sizes account (swapped_in actor i f account) actor operation i a f)
     (stands : Standing) (words : List ℕ) (all : AllStand sizes account stands words) (here : stands (slot_of i) ≡ true) where
@@ -128,6 +131,9 @@ module _ (sizes : Sizes) (account : Account) (actor : ℕ) (operation : Operatio
       (stands_over account words its_word new_word (place_at account k) (state_of sizes account) k slot slot.node (all.nodes.small k slot stood) (not_of_node k slot other stood)
       (all.nodes.written k slot stood))
 
+  made_before : (k : ℕ) (slot : Slot) → get_or (state_of sizes account).heap.slots k None ≡ Some slot → k < length account.names
+  made_before k slot e = let low = in_use_made sizes account all.bounds k slot e in let counted = all.counted in omega (arith, low, counted)
+
   nodes_then : NodesStand sizes later stands words_then
   nodes_then = record {
     within = λ k slot h. (let b = before k slot (which k slot h.1) in
@@ -136,6 +142,8 @@ module _ (sizes : Sizes) (account : Account) (actor : ℕ) (operation : Operatio
     apart = λ j k x y p q same. (let b = before j x (which j x p.1) in let c = before k y (which k y q.1) in all.nodes.apart j k b.0 c.0 (p.0, b.1) (q.0, c.1) same);
     offers = λ x c k slot h. (let b = before k slot (which k slot h.1) in all.nodes.offers x c k b.0 (h.0, b.1));
     written = λ k slot h. written_by k slot h.0 (which k slot h.1);
+    inside = λ k slot e. (let b = before k slot (which k slot e) in subst (λ c. 2 * place_at account k + words_in c ≤ words_of sizes) (sym b.2) (all.nodes.inside k b.0 b.1));
+    owners = owners_published sizes account actor operation i a f publishes all.nodes.owners (made_before (slot_of i) publishes.link publishes.link_is) (made_before (slot_of f) publishes.fresh publishes.fresh_is);
     live = λ r h. all.nodes.live r (publishes.live r h);
   }
 
@@ -165,6 +173,7 @@ module _ (sizes : Sizes) (account : Account) (actor : ℕ) (operation : Operatio
   all_then = record {
     bounds = publishes.bounds;
     keys = All-append FitsKey account.steps (step.Go actor ∷ []) all.keys (All-cons FitsKey (step.Go actor) [] tt (All-nil FitsKey));
+    quiet = quiet_more account.steps (step.Go actor) all.quiet tt;
     counted = all.counted ∙ sym publishes.births;
     size = length-set words its_word new_word ∙ all.size;
     taken = have_still sizes account words all.taken its_word far new_word;

@@ -31,7 +31,7 @@ use Rattle.lock_free.specs.declared.rules.View.{View}
 use Rattle.lock_free.specs.declared.sizes.Sizes.{Sizes}
 use Rattle.lock_free.specs.Accounts.{state_of, place_at, place_of, gone_on, OwnIs}
 use Rattle.lock_free.specs.Nodes.{Has, StandsAs, InTable, AreEntries, IsEntryOf, is_single, half_of, IsOver, SaysPrevious, decided, ahead, pending, failed, SaysShape, of_branch, of_tomb, of_list, SaysHeader, class_of}
-use Rattle.lock_free.specs.Places.{first_slot_word, generation_word, root_word, IsTaken}
+use Rattle.lock_free.specs.Places.{first_slot_word, words_in, words_of, generation_word, root_word, IsTaken}
 use Rattle.lock_free.specs.Publishing.{with_main_of}
 use Rattle.lock_free.specs.Restoring.{Restores}
 use Rattle.lock_free.specs.Roots.{MeansRoot, IsWritten, second_of}
@@ -42,7 +42,9 @@ use Rattle.lock_free.specs.Trying.{as_before}
 use Rattle.lock_free.proofs.Meanings.{means_kept, marks_kept, stood_still}
 use Rattle.lock_free.proofs.Geometry.{IsWordOf}
 use Rattle.lock_free.proofs.Made.{is_pending, is_failed}
+use Rattle.lock_free.proofs.Owners.{owners_kept}
 use Rattle.lock_free.proofs.NodeWord.{node_word_kept}
+use Rattle.lock_free.proofs.Waiting.{quiet_more}
 
 module _ (sizes : Sizes) (account : Account) (actor : ℕ) (operation : Operation) (i main former : Ref) (restores : Restores sizes account actor operation i main former) (stands : Standing) (words : List ℕ)
     (all : AllStand sizes account stands words) (here : stands (slot_of i) ≡ true) (own : Bool) (owned : OwnIs account.owned (slot_of i) (slot_of former) own) where
@@ -103,10 +105,10 @@ module _ (sizes : Sizes) (account : Account) (actor : ℕ) (operation : Operatio
   entries_kept : (has : Has) (name : ℕ) (entries : List Ref) → AreEntries account now.heap has name entries → AreEntries account_then next.heap has name entries
   entries_kept has name entries h position e at = let x = h position e at in (x.0, x.1, entry_kept e (half_of x.0 position) x.2)
 
-  shape_kept : (n : Node) (says : Shape) → SaysShape account now.heap n says → SaysShape account_then next.heap n says
-  shape_kept n says (of_branch bitmap entries) = of_branch bitmap entries
-  shape_kept n says (of_tomb single b) = of_tomb single b
-  shape_kept n says (of_list singles) = of_list singles
+  shape_kept : (k : ℕ) (n : Node) (says : Shape) → SaysShape account k n says → SaysShape account_then k n says
+  shape_kept k n says (of_branch bitmap entries) = of_branch bitmap entries
+  shape_kept k n says (of_tomb single b is) = of_tomb single b is
+  shape_kept k n says (of_list singles) = of_list singles
 
   over_kept : (k : ℕ) (q : Ref) (b : Bool) → k ≢ slot_of former → IsOver account now k q b → IsOver account_then next k q b
   over_kept k q b other h j e = elim (main_kept j) [
@@ -129,7 +131,7 @@ module _ (sizes : Sizes) (account : Account) (actor : ℕ) (operation : Operatio
     previous = h.previous;
     is_previous = previous_kept k slot slot.prev h.previous at refl h.is_previous;
     shape = h.shape;
-    is_shape = shape_kept slot.node h.shape h.is_shape;
+    is_shape = shape_kept k slot.node h.shape h.is_shape;
     code = h.code;
   }
 
@@ -183,6 +185,8 @@ module _ (sizes : Sizes) (account : Account) (actor : ℕ) (operation : Operatio
     apart = λ j k x y a c e. (let b = before j x (which j x a.1) in let d = before k y (which k y c.1) in all.nodes.apart j k b.0 d.0 (a.0, b.1) (c.0, d.1) e);
     offers = λ o c k slot h. (let b = before k slot (which k slot h.1) in all.nodes.offers o c k b.0 (h.0, b.1));
     written = λ k slot h. written_by k slot h.0 (which k slot h.1);
+    inside = λ k slot e. (let b = before k slot (which k slot e) in subst (λ c. 2 * place_at account k + words_in c ≤ words_of sizes) (sym b.2) (all.nodes.inside k b.0 b.1));
+    owners = owners_kept account account_then now next refl refl restores.aheads all.nodes.owners;
     live = λ r h. all.nodes.live r (restores.live r h);
   }
 
@@ -212,6 +216,7 @@ module _ (sizes : Sizes) (account : Account) (actor : ℕ) (operation : Operatio
   all_then = record {
     bounds = restores.bounds;
     keys = All-append FitsKey account.steps (step.Go actor ∷ []) all.keys (All-cons FitsKey (step.Go actor) [] tt (All-nil FitsKey));
+    quiet = quiet_more account.steps (step.Go actor) all.quiet tt;
     counted = all.counted ∙ sym restores.births;
     size = length-set words (2 * p) value ∙ all.size;
     taken = have_still sizes account words all.taken (2 * p) far value;

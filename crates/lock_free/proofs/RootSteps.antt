@@ -21,6 +21,7 @@ use Rattle.lock_free.specs.Steps.{nothing}
 use Rattle.lock_free.proofs.Assembling.{AllStand}
 use Rattle.lock_free.proofs.Framing.{else_word, nodes_below, no_slot, meaning_below, written_below, first_of_offer, no_offer, marks_over}
 use Rattle.lock_free.proofs.Geometry.{IsWordOf, root_below, root_apart}
+use Rattle.lock_free.proofs.Owners.{owners_kept}
 use Rattle.lock_free.proofs.Keeping.{stands_kept, written_kept, same_nodes}
 
 -- ---- a step that changes no node
@@ -47,6 +48,8 @@ module _ (sizes : Sizes) (account : Account) (steps : List Step) (offers : List 
     written = λ k slot h.
         (let was = stood k slot h in
         stands_kept account steps offers nothing now next (same_nodes now next leaves.nodes) leaves.aheads (λ i a f e none. leaves.still i a f e) words (place_at account k) k slot slot.node refl (nodes.written k slot was));
+    inside = λ k slot e. nodes.inside k slot (sym (leaves.nodes k) ∙ e);
+    owners = owners_kept account later now next refl refl leaves.aheads nodes.owners;
     live = λ r h. nodes.live r (leaves.live r h);
   }
 
@@ -134,6 +137,7 @@ module _ (sizes : Sizes) (account : Account) (stands : Standing) (words : List �
     all_rooted = record {
       bounds = all.bounds;
       keys = all.keys;
+      quiet = all.quiet;
       counted = all.counted;
       size = size_rooted;
       taken = have_rooted;

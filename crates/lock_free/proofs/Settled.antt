@@ -37,7 +37,7 @@ use Rattle.lock_free.proofs.RootFound.{slot_fits, offered_is, opening_is, later_
 use Rattle.lock_free.proofs.RootSteps as root
 use Rattle.lock_free.proofs.Seats.{Stays, other_kept, own_kept, drafts_kept}
 use Rattle.lock_free.proofs.Tried.{is_or_not, ran_settled, reserved_settled, not_owner, marks_settled, marks_else, opener}
-use Rattle.lock_free.proofs.Waiting.{waited_more}
+use Rattle.lock_free.proofs.Waiting.{waited_more, quiet_more}
 
 module _ (sizes : Sizes) (s : Table.State Call View) (kept : IsKept sizes s) (id : ℕ) (v : View) (at : get_elem? s.views id ≡ some v) (operation : Operation)
     (runs : operation_of (state_of sizes kept.account) v.actor ≡ Some operation) (n : ℕ) (k : Known) (here : Contains kept.account.offers k) (settles : Settles sizes kept.account v.actor n operation k)
@@ -118,6 +118,8 @@ module _ (sizes : Sizes) (s : Table.State Call View) (kept : IsKept sizes s) (id
     written = λ m slot h.
         stands_over kept.account s.words i n (place_at kept.account m) now m slot slot.node (kept.nodes.small m slot h)
         (slot_apart (class_of slot.node) (place_at kept.account m) (class_small slot.node) (kept.nodes.within m slot h) (kept.nodes.offers k here m slot h)) (kept.nodes.written m slot h);
+    inside = kept.nodes.inside;
+    owners = kept.nodes.owners;
     live = kept.nodes.live;
   }
 
@@ -219,6 +221,7 @@ module _ (sizes : Sizes) (s : Table.State Call View) (kept : IsKept sizes s) (id
   all_then = record {
     bounds = settles.leaves.bounds;
     keys = All-append FitsKey kept.account.steps (step.Go v.actor ∷ []) kept.keys (All-cons FitsKey (step.Go v.actor) [] tt (All-nil FitsKey));
+    quiet = quiet_more kept.account.steps (step.Go v.actor) kept.quiet tt;
     counted = kept.counted ∙ sym settles.leaves.births;
     size = length-set s.words i n ∙ kept.size;
     taken = have_still sizes kept.account s.words kept.taken i far n;

@@ -102,6 +102,7 @@ module _ (sizes : Sizes) (s : Table.State Call View) (kept : IsKept sizes s) (id
   all_then = record {
     bounds = kept.bounds;
     keys = kept.keys;
+    quiet = kept.quiet;
     counted = kept.counted;
     size = length-set s.words (taken_word class) (number + 1) ∙ kept.size;
     taken = have_then;

@@ -12,6 +12,7 @@ use Rattle.machine_model.specs.declared.roots.RootWord.TheVariants.{Offer}
 use Rattle.machine_model.specs.Machine.{run}
 use Rattle.machine_model.specs.Records.{Record, record_of}
 use Rattle.machine_model.specs.States.{State, operation_of, word_at}
+pub use Rattle.proof_waiting.specs.Waiting.{IsOfOther}
 use Rattle.lock_free.specs.declared.accounts.Account.{Account}
 use Rattle.lock_free.specs.declared.accounts.Owned.{Owned}
 use Rattle.lock_free.specs.declared.accounts.Known.{Known}
@@ -33,22 +34,15 @@ place_at account k = slice_index_or account.names k 0
 abbrev pub place_of : Account → Ref → ℕ
 place_of account r = place_at account (slot_of r)
 
--- whether this main node was made in the generation of this indirection
+-- whether this main node is this indirection's own, or this single this tomb's
 pub data OwnIs : List Owned → ℕ → ℕ → Bool → Type 0 where
-  first : (x : Owned) (rest : List Owned) → OwnIs (x ∷ rest) x.indirection x.main x.is_own
+  first : (x : Owned) (rest : List Owned) → OwnIs (x ∷ rest) x.holder x.held x.is_own
   later : (x : Owned) (rest : List Owned) (i m : ℕ) (b : Bool) → OwnIs rest i m b → OwnIs (x ∷ rest) i m b
 
 abbrev pub IsOwn : Account → Ref → Ref → Bool → Type 0
-IsOwn account indirection main b = OwnIs account.owned (slot_of indirection) (slot_of main) b
+IsOwn account holder held b = OwnIs account.owned (slot_of holder) (slot_of held) b
 
 -- ---- how it goes on
-
--- a step of another actor, and no sweep: nothing is freed
-abbrev pub IsOfOther : ℕ → Step → Type 0
-IsOfOther actor (step.Begin other call) = other ≢ actor
-IsOfOther actor (step.Go other) = other ≢ actor
-IsOfOther actor (step.GiveUp other) = other ≢ actor
-IsOfOther actor step.Sweep = ⊥
 
 -- the one account goes on as the other, by others' steps alone
 pub record HasWaited (actor : ℕ) (before after : Account) : Type 0 where

@@ -5,6 +5,7 @@ use Rattle.trie_words.specs.Codes.{link_code, header_code}
 use Rattle.trie_words.specs.declared.headers.Previous.{Previous}
 use Rattle.trie_words.specs.declared.headers.Previous.TheVariants as previous
 use Rattle.trie_words.specs.declared.headers.Shape.{Shape}
+use Rattle.trie_words.specs.declared.headers.Shape.TheVariants as shape
 use Rattle.machine_model.specs.Beneath.slot_arena.specs.declared.refs.Ref.{Ref}
 use Rattle.machine_model.specs.Beneath.slot_arena.specs.declared.nodes.Node.{Node}
 use Rattle.machine_model.specs.Beneath.slot_arena.specs.declared.nodes.Node.TheVariants.{Indirection, Branch, Single, Tomb, List as Listed}
@@ -35,7 +36,7 @@ use Rattle.lock_free.specs.declared.sizes.Sizes.{Sizes}
 use Rattle.lock_free.specs.Accounts.{bounds_for, state_of, place_of, IsOwn}
 use Rattle.lock_free.specs.Live.{IsLive}
 use Rattle.lock_free.specs.Trying.{SameTries}
-use Rattle.lock_free.specs.Nodes.{Has, IsAhead, SaysShape, AreEntries, class_of}
+use Rattle.lock_free.specs.Nodes.{Has, IsAhead, AreEntries, class_of}
 use Rattle.lock_free.specs.Rules.{pool_of}
 
 -- where a main node that is made is swapped in next: in this indirection, over that main node
@@ -67,29 +68,37 @@ abbrev pub IsOverBy : Account → Option (Ref × Ref) → Previous → Type 0
 IsOverBy account None p = p ≡ previous.None
 IsOverBy account (Some over) p = (own : Bool) × IsOwn account over.0 over.1 own × (p ≡ previous.Pending (record { slot = place_of account over.1; own = own }))
 
-pub record DraftsHeader (account : Account) (heap : Heap) (over : Option (Ref × Ref)) (node : Node) (word : ℕ) : Type 0 where
+-- of a tomb it says whether the single was made with it
+abbrev pub shape_with : Account → Bool → Node → Option Shape
+shape_with account own (Branch bitmap entries) = Some (shape.Branch bitmap)
+shape_with account own (Tomb single) = Some (shape.Tomb (record { slot = place_of account single; own = own; is_single = true }))
+shape_with account own (Listed singles) = Some (shape.List (length singles.items))
+shape_with account own node = None
+
+pub record DraftsHeader (account : Account) (over : Option (Ref × Ref)) (own : Bool) (node : Node) (word : ℕ) : Type 0 where
   pub previous : Previous
   pub is_previous : IsOverBy account over previous
   pub shape : Shape
-  pub is_shape : SaysShape account heap node shape
+  pub is_shape : shape_with account own node ≡ Some shape
   pub code : word ≡ header_code (record { previous = previous; shape = shape })
 
--- the node is written there: of an indirection also whether the main node is its own
+-- the node is written there: of an indirection or a tomb also whether what it has is its own
 abbrev pub DraftsNode : Account → Heap → Option (Ref × Ref) → Has → ℕ → Bool → Node → Type 0
 DraftsNode account heap over has name own (Indirection generation main) =
     (generation < 2 ^ 36) × has (2 * name) (link_code (record { generation = generation; main = record { slot = place_of account main; own = own } }))
 DraftsNode account heap over has name own (Single key value) = has (2 * name) key × has (2 * name + 1) value
 DraftsNode account heap over has name own (Branch bitmap entries) =
-    ((word : ℕ) × has (2 * name) word × DraftsHeader account heap over (Branch bitmap entries) word) × AreEntries account heap has name entries.items
-DraftsNode account heap over has name own (Tomb single) = (word : ℕ) × has (2 * name) word × DraftsHeader account heap over (Tomb single) word
+    ((word : ℕ) × has (2 * name) word × DraftsHeader account over own (Branch bitmap entries) word) × AreEntries account heap has name entries.items
+DraftsNode account heap over has name own (Tomb single) = (word : ℕ) × has (2 * name) word × DraftsHeader account over own (Tomb single) word
 DraftsNode account heap over has name own (Listed singles) =
-    ((word : ℕ) × has (2 * name) word × DraftsHeader account heap over (Listed singles) word) × AreEntries account heap has name singles.items
+    ((word : ℕ) × has (2 * name) word × DraftsHeader account over own (Listed singles) word) × AreEntries account heap has name singles.items
 
 -- ---- what the definition's step leaves
 
 -- who owns what, with a new node of this number
 abbrev pub owned_with : List Owned → ℕ → Bool → Node → List Owned
-owned_with owned k own (Indirection generation main) = record { indirection = k; main = slot_of main; is_own = own } ∷ owned
+owned_with owned k own (Indirection generation main) = record { holder = k; held = slot_of main; is_own = own } ∷ owned
+owned_with owned k own (Tomb single) = record { holder = k; held = slot_of single; is_own = own } ∷ owned
 owned_with owned k own node = owned
 
 abbrev pub made_at : ℕ → ℕ → Bool → Node → Account → Account
@@ -112,7 +121,9 @@ pub record NamesNot (k : ℕ) (account : Account) (state : State) : Type 0 where
 pub record Makes (sizes : Sizes) (account after : Account) (actor : ℕ) (operation : Operation) (node : Node) (more : ℕ) : Type 0 where
   pub bounds : AreBounds (bounds_for sizes after.steps)
   pub names_not : NamesNot (length account.names) account (state_of sizes account)
-  pub refs : (r : Ref) → Contains (refs_of_node node) r → slot_of r ≢ length account.names
+  -- what it names was made, and isn't about to be swapped in
+  pub refs : (r : Ref) → Contains (refs_of_node node) r → slot_of r < length account.names
+  pub unmet : (r : Ref) → Contains (refs_of_node node) r → (i a f : Ref) → IsAhead (state_of sizes account) i a f → slot_of f ≢ slot_of r
   pub made : Slot
   pub stands : slice_index_or (state_of sizes after).heap.slots (length account.names) None ≡ Some made
   pub node_is : made.node ≡ node

@@ -1,6 +1,7 @@
 -- How nodes stand in words.
 use Rattle.std.specs.Prelude.{◌≡◌, ℕ, zero, suc, ◌+◌, ◌*◌, ◌/◌, ◌%◌, ◌^◌, ◌<◌, ◌≤◌, ◌==◌, ◌⊎◌, Bool, true, false, List, length, Option, Some, None, slice_get, slice_index, slice_index_or, if◌then◌else◌}
 use Rattle.trie_words.specs.Codes.{link_code, header_code, entry_code, pair_of}
+use Rattle.trie_words.specs.declared.entries.Pair.{Pair}
 use Rattle.trie_words.specs.declared.headers.Previous.{Previous}
 use Rattle.trie_words.specs.declared.headers.Previous.TheVariants as previous
 use Rattle.trie_words.specs.declared.headers.Shape.{Shape}
@@ -30,8 +31,11 @@ is_single (Single key value) = true
 is_single node = false
 
 -- the half of a word that has the entry of this position of a main node
+abbrev pub half_in : Pair → ℕ → ℕ
+half_in pair position = if position % 2 == 0 then pair.low else pair.high
+
 abbrev pub half_of : ℕ → ℕ → ℕ
-half_of word position = if position % 2 == 0 then (pair_of word).low else (pair_of word).high
+half_of word position = half_in (pair_of word) position
 
 abbrev pub entry_word : ℕ → ℕ → ℕ
 entry_word name position = 2 * name + 1 + position / 2
@@ -75,20 +79,26 @@ pub data SaysPrevious (account : Account) (state : State) (k : ℕ) : Prev → P
   failed : (p : Ref) (own : Bool) → IsOver account state k p own →
       SaysPrevious account state k (prev.Failed p) (previous.Failed (record { slot = place_of account p; own = own }))
 
+-- Whether a node is another one's own is said of nodes that were made, and once and for all; of one that is about to be swapped in it isn't said yet.
+pub record AreOwners (account : Account) (state : State) : Type 0 where
+  pub made : (i m : ℕ) (b : Bool) → OwnIs account.owned i m b → (i < length account.names) × (m < length account.names)
+  pub once : (i m : ℕ) (b c : Bool) → OwnIs account.owned i m b → OwnIs account.owned i m c → b ≡ c
+  pub fresh : (i a f : Ref) → IsAhead state i a f → (j : ℕ) (b : Bool) → OwnIs account.owned j (slot_of f) b → ⊥
+
 -- ---- nodes
 
--- what a main node is
-pub data SaysShape (account : Account) (heap : Heap) : Node → Shape → Type 0 where
-  of_branch : (bitmap : ℕ) (entries : _) → SaysShape account heap (Branch bitmap entries) (shape.Branch bitmap)
-  of_tomb : (single : Ref) (own : Bool) →
-      SaysShape account heap (Tomb single) (shape.Tomb (record { slot = place_of account single; own = own; is_single = true }))
-  of_list : (singles : _) → SaysShape account heap (Listed singles) (shape.List (length singles.items))
+-- what the main node of this number is
+pub data SaysShape (account : Account) (k : ℕ) : Node → Shape → Type 0 where
+  of_branch : (bitmap : ℕ) (entries : _) → SaysShape account k (Branch bitmap entries) (shape.Branch bitmap)
+  of_tomb : (single : Ref) (own : Bool) → OwnIs account.owned k (slot_of single) own →
+      SaysShape account k (Tomb single) (shape.Tomb (record { slot = place_of account single; own = own; is_single = true }))
+  of_list : (singles : _) → SaysShape account k (Listed singles) (shape.List (length singles.items))
 
 pub record SaysHeader (account : Account) (state : State) (k : ℕ) (slot : Slot) (word : ℕ) : Type 0 where
   pub previous : Previous
   pub is_previous : SaysPrevious account state k slot.prev previous
   pub shape : Shape
-  pub is_shape : SaysShape account state.heap slot.node shape
+  pub is_shape : SaysShape account k slot.node shape
   pub code : word ≡ header_code (record { previous = previous; shape = shape })
 
 -- this node stands in the words of this slot of the table

@@ -22,7 +22,7 @@ use Rattle.lock_free.specs.Trying.{SameTries}
 
 -- the fresh main node is the indirection's own
 abbrev pub owned_now : Ref → Ref → Owned
-owned_now indirection fresh = record { indirection = slot_of indirection; main = slot_of fresh; is_own = true }
+owned_now indirection fresh = record { holder = slot_of indirection; held = slot_of fresh; is_own = true }
 
 abbrev pub swapped_in : ℕ → Ref → Ref → Account → Account
 swapped_in actor indirection fresh account =

@@ -9,6 +9,7 @@ use Rattle.trie_words.specs.Codes.{pin_code, root_code, IsRootWord}
 use Rattle.trie_words.specs.declared.roots.RootWord.TheVariants as word
 use Rattle.lock_free.specs.declared.rules.Closing.{Closing}
 use Rattle.lock_free.specs.declared.rules.Pool.{Pool}
+use Rattle.proof_waiting.specs.Beneath.proof_slots.specs.Unswept.{HasNoSweeps}
 use Rattle.lock_free.specs.Live.{IsLive}
 use Rattle.trie_words.specs.declared.pins.Pin.{Pin}
 use Rattle.machine_model.specs.Beneath.slot_arena.specs.declared.refs.Ref.{Ref}
@@ -25,7 +26,7 @@ use Rattle.lock_free.specs.declared.accounts.Known.{Known}
 use Rattle.lock_free.specs.declared.rules.View.{View}
 use Rattle.lock_free.specs.declared.sizes.Sizes.{Sizes}
 use Rattle.lock_free.specs.Accounts.{bounds_for, state_of, place_at, HasWaited, HasStood}
-use Rattle.lock_free.specs.Nodes.{StandsAs, InTable, class_of}
+use Rattle.lock_free.specs.Nodes.{StandsAs, InTable, AreOwners, class_of}
 use Rattle.lock_free.specs.Places.{AreSizes, words_of, words_in, IsTaken, HaveTaken, generation_word, pin_word, root_word}
 use Rattle.lock_free.specs.Roots.{MeansRoot, IsWritten, NoOffer, AreMarked, IsPending, fate, undecided}
 
@@ -57,6 +58,9 @@ pub record NodesStand (sizes : Sizes) (account : Account) (stands : Standing) (w
   pub offers : (x : Known) → Contains account.offers x → (k : ℕ) (slot : Slot) → Stands stands (state_of sizes account) k slot → place_at account k ≢ x.slot
   pub written : (k : ℕ) (slot : Slot) → Stands stands (state_of sizes account) k slot →
       StandsAs account (state_of sizes account) (InTable words) (place_at account k) k slot slot.node
+  -- the slot of what is in use is one of the table, whether it stands there still or not
+  pub inside : (k : ℕ) (slot : Slot) → slice_index_or (state_of sizes account).heap.slots k None ≡ Some slot → 2 * place_at account k + words_in (class_of slot.node) ≤ words_of sizes
+  pub owners : AreOwners account (state_of sizes account)
   -- what a root or an operation leads to stands there
   pub live : (r : Ref) → IsLive (state_of sizes account) r → stands (slot_of r) ≡ true
 
@@ -179,6 +183,8 @@ pub record IsKept (sizes : Sizes) (s : Table.State Call View) : Type 0 where
   pub range : AreSizes sizes
   pub bounds : AreBounds (bounds_for sizes account.steps)
   pub keys : KeysFit account.steps
+  -- nothing is freed, so nodes are numbered as they are made
+  pub quiet : HasNoSweeps account.steps
   -- each node that was made has its place
   pub counted : length account.names ≡ (state_of sizes account).heap.births
   pub size : length s.words ≡ words_of sizes

@@ -3,10 +3,11 @@
 use machine_model::{Descriptor, Step};
 use std::collections::LinkedList;
 
-/// Whether a main node was made in the generation of the indirection where it stands: by numbers of the definition's slots.
+/// Whether a main node was made in the generation of the indirection where it stands, or a single with the tomb that has it: by
+/// numbers of the definition's slots.
 pub struct Owned {
-    pub indirection: u64,
-    pub main: u64,
+    pub holder: u64,
+    pub held: u64,
     pub is_own: bool,
 }
 

@@ -1,20 +1,22 @@
--- A header comes back: its three parts stand apart in the word, and each of them comes back.
+-- What was packed comes back. A header: its three parts stand apart in the word, and each of them comes back.
 use Rattle.std.proofs.Common.{◌≡◌, ℕ, ◌+◌, ◌*◌, ◌/◌, ◌%◌, ◌^◌, ◌<◌, Bool, true, false, refl, ap, arith, sym, ◌∙◌}
 use Rattle.std.proofs.lemmas.Grind.{common_steps}
 use Rattle.trie_words.specs.declared.names.Name.{Name}
 use Rattle.trie_words.specs.declared.entries.Entry.{Entry}
+use Rattle.trie_words.specs.declared.entries.Pair.{Pair}
+use Rattle.trie_words.specs.declared.links.Link.{Link}
 use Rattle.trie_words.specs.declared.headers.Previous.{Previous}
 use Rattle.trie_words.specs.declared.headers.Previous.TheVariants as previous
 use Rattle.trie_words.specs.declared.headers.Shape.{Shape}
 use Rattle.trie_words.specs.declared.headers.Shape.TheVariants.{Branch, Tomb, List as Listed}
 use Rattle.trie_words.specs.declared.headers.Header.{Header}
-use Rattle.trie_words.specs.Codes.{bit, IsName, name_code, name_of, IsEntry, entry_code, entry_of, IsPrevious, previous_code, previous_of, IsShape, low_code, kind_code, shape_of, IsHeader, header_code, header_of}
+use Rattle.trie_words.specs.Codes.{bit, IsName, name_code, name_of, IsEntry, entry_code, entry_of, IsPrevious, previous_code, previous_of, IsShape, low_code, kind_code, shape_of, IsHeader, header_code, header_of, IsLink, link_code, link_of, IsPair, pair_code, pair_of}
 
 bit_small : (b : Bool) → bit b < 2
 bit_small true = omega arith
 bit_small false = omega arith
 
-name_small : (name : Name) → IsName name → name_code name < 2 ^ 28
+pub name_small : (name : Name) → IsName name → name_code name < 2 ^ 28
 name_small name h = let b = bit_small name.own in omega (arith, b, h)
 
 entry_small : (entry : Entry) → IsEntry entry → entry_code entry < 2 ^ 32
@@ -46,7 +48,7 @@ previous_back (previous.Failed name) h =
     let tag : ((name_code name + 2 ^ 29) / 2 ^ 28) % 4 ≡ 2 = omega (arith, small) in
     rw tag (ap (λ x. previous.Failed x) back)
 
-entry_back : (entry : Entry) → IsEntry entry → entry_of (entry_code entry) ≡ entry
+pub entry_back : (entry : Entry) → IsEntry entry → entry_of (entry_code entry) ≡ entry
 entry_back entry h = grind (arith, common_steps, h)
 
 shape_back : (s : Shape) → IsShape s → shape_of (low_code s) (kind_code s) ≡ s
@@ -65,3 +67,9 @@ header_back header h =
     let shape : shape_of (header_code header % 2 ^ 32) (header_code header / 2 ^ 62) ≡ header.shape =
         ap (λ x. shape_of x (header_code header / 2 ^ 62)) parts.0 ∙ ap (λ x. shape_of (low_code header.shape) x) parts.2 ∙ shape_back header.shape h.1 in
     ap (λ x. record { previous = x; shape = shape_of (header_code header % 2 ^ 32) (header_code header / 2 ^ 62) }) before ∙ ap (λ x. record { previous = header.previous; shape = x }) shape
+
+pub link_back : (link : Link) → IsLink link → link_of (link_code link) ≡ link
+link_back link h = grind (arith, common_steps, h)
+
+pub pair_back : (pair : Pair) → IsPair pair → pair_of (pair_code pair) ≡ pair
+pair_back pair h = grind (arith, common_steps, h)

@@ -1,0 +1,67 @@
+-- What more is asked of the definition. (Open: to be shown in the crates of the proof.)
+use Rattle.std.proofs.Common.{◌≡◌, ◌<◌, ◌⊎◌, ℕ, Bool, true, List, [], ◌∷◌, Contains, Some, None, get_or}
+use Rattle.machine_model.specs.Beneath.slot_arena.specs.declared.refs.Ref.{Ref}
+use Rattle.machine_model.specs.Beneath.slot_arena.specs.declared.nodes.Node.{Node}
+use Rattle.machine_model.specs.Beneath.slot_arena.specs.declared.nodes.Node.TheVariants.{Indirection}
+use Rattle.machine_model.specs.Beneath.slot_arena.specs.declared.nodes.Slot.{Slot}
+use Rattle.machine_model.specs.Beneath.slot_arena.specs.Refs.{slot_of}
+use Rattle.machine_model.specs.declared.actions.Action.{Action}
+use Rattle.machine_model.specs.declared.actions.Action.TheVariants as act
+use Rattle.machine_model.specs.declared.operations.Operation.{Operation}
+use Rattle.machine_model.specs.Machine.{AreBounds}
+use Rattle.machine_model.specs.Operations.{action_of}
+use Rattle.proof_memory.specs.Laws.{SameNode}
+use Rattle.proof_memory.specs.Wants.{is_main_node, is_formed}
+use Rattle.lock_free.specs.declared.accounts.Account.{Account}
+use Rattle.lock_free.specs.declared.sizes.Sizes.{Sizes}
+use Rattle.lock_free.specs.Accounts.{bounds_for, state_of, HasWaited, running}
+use Rattle.lock_free.specs.Live.{IsLive}
+
+-- the indirections that an action names, and the main nodes
+abbrev pub links_of : Action → List Ref
+links_of (act.ReadMain i) = i ∷ []
+links_of (act.Publish i a f) = i ∷ []
+links_of (act.Restore i m p) = i ∷ []
+links_of (act.Decide i m p seen) = i ∷ []
+links_of action = []
+
+abbrev pub mains_of : Action → List Ref
+mains_of (act.ReadPrev m) = m ∷ []
+mains_of (act.Publish i a f) = a ∷ f ∷ []
+mains_of (act.Restore i m p) = m ∷ p ∷ []
+mains_of (act.Decide i m p seen) = m ∷ p ∷ []
+mains_of action = []
+
+module _ (sizes : Sizes) (account : Account) (bounds : AreBounds (bounds_for sizes account.steps)) where
+  -- what is in use was made
+  pub in_use_made : (k : ℕ) (slot : Slot) → get_or (state_of sizes account).heap.slots k None ≡ Some slot → k < (state_of sizes account).heap.births
+  in_use_made k slot is = ?
+
+  pub is_well_formed : (k : ℕ) (slot : Slot) → get_or (state_of sizes account).heap.slots k None ≡ Some slot → is_formed slot.node ≡ true
+  is_well_formed k slot is = ?
+
+  -- what is live is in use
+  pub live_in_use : (r : Ref) → IsLive (state_of sizes account) r → (slot : Slot) × (get_or (state_of sizes account).heap.slots (slot_of r) None ≡ Some slot)
+  live_in_use r live = ?
+
+  -- live references to one slot are one
+  pub slots_tell : (q r : Ref) → IsLive (state_of sizes account) q → IsLive (state_of sizes account) r → slot_of q ≡ slot_of r → q ≡ r
+  slots_tell q r first second same = ?
+
+  module _ (actor : ℕ) (operation : Operation) (runs : running sizes account actor operation) where
+    -- what an action names is live, and what it is taken for
+    pub link_stands : (i : Ref) → Contains (links_of (action_of (state_of sizes account) operation)) i →
+        IsLive (state_of sizes account) i × ((slot : Slot) × (generation : ℕ) × (main : Ref) × (get_or (state_of sizes account).heap.slots (slot_of i) None ≡ Some slot) × (slot.node ≡ Indirection generation main))
+    link_stands i c = ?
+
+    pub main_stands : (m : Ref) → Contains (mains_of (action_of (state_of sizes account) operation)) m →
+        IsLive (state_of sizes account) m × ((slot : Slot) × (get_or (state_of sizes account).heap.slots (slot_of m) None ≡ Some slot) × (is_main_node slot.node ≡ true))
+    main_stands m c = ?
+
+    pub looked_at_lives : (r : Ref) → action_of (state_of sizes account) operation ≡ act.Look r → IsLive (state_of sizes account) r
+    looked_at_lives r is = ?
+
+-- while others take steps a node stays, but for its main word
+pub nodes_stay : (sizes : Sizes) (actor : ℕ) (before after : Account) → HasWaited actor before after → AreBounds (bounds_for sizes after.steps) → (k : ℕ) (slot : Slot) → get_or (state_of sizes before).heap.slots k None ≡ Some slot →
+    (later : Slot) × (get_or (state_of sizes after).heap.slots k None ≡ Some later) × SameNode slot.node later.node
+nodes_stay sizes actor before after w bounds k slot is = ?

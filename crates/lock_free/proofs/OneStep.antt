@@ -1,0 +1,7 @@
+-- One step more of the definition: what it leaves, kind by kind. `Going` has it as a move, `Longer` and `Widened` that the bounds of a longer account change nothing.
+pub mod Longer
+pub mod Widened
+pub mod Going
+pub mod Aheads
+pub mod Doing
+pub mod Leading
