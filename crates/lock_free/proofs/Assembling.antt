@@ -58,7 +58,7 @@ module _ (sizes : Sizes) (s : Table.State Call View) (kept : IsKept sizes s) (id
   abbrev pub later_views : List View
   later_views = set s.views id later
 
-  here : get_elem? later_views id ≡ some later
+  pub here : get_elem? later_views id ≡ some later
   here = set_here s.views id later (within s.views id v at)
 
   -- another seat's actors aren't this one's
@@ -87,13 +87,13 @@ module _ (sizes : Sizes) (s : Table.State Call View) (kept : IsKept sizes s) (id
   -- ---- closers
 
   -- Where the seat doesn't enter the handle, and would close it still if it would before.
-  module _ (handle who : ℕ) (entered : later.entered ≡ Some handle → v.entered ≡ Some handle) (closing : (c : Closing) → v.closing ≡ Some c → c.handle ≡ handle → later.closing ≡ Some c) where
-    becomes : (other : ℕ) (u : View) (c : Closing) → get_elem? s.views other ≡ some u → u.closing ≡ Some c → c.handle ≡ handle →
+  module _ (handle who : ℕ) (entered : later.entered ≡ Some handle → v.entered ≡ Some handle) (closing : (c : Closing) → v.closing ≡ Some c → c.handle ≡ handle → v.actor ≡ who → later.closing ≡ Some c) where
+    becomes : (other : ℕ) (u : View) (c : Closing) → get_elem? s.views other ≡ some u → u.closing ≡ Some c → c.handle ≡ handle → u.actor ≡ who →
         (w : View) × (get_elem? later_views other ≡ some w) × (w.actor ≡ u.actor) × (w.closing ≡ Some c)
-    becomes other u c e is this = elim (cases_eq other id) [
+    becomes other u c e is this its = elim (cases_eq other id) [
       | inl same ↦
           (let mine : v ≡ u = some-injective v u (sym at ∙ ap (λ n. get_elem? s.views n) (sym same) ∙ e) in
-          (later, ap (λ n. get_elem? later_views n) same ∙ here, actor ∙ ap (λ (x : View). x.actor) mine, closing c (ap (λ (x : View). x.closing) mine ∙ is) this))
+          (later, ap (λ n. get_elem? later_views n) same ∙ here, actor ∙ ap (λ (x : View). x.actor) mine, closing c (ap (λ (x : View). x.closing) mine ∙ is) this (ap (λ (x : View). x.actor) mine ∙ its)))
       | inr apart ↦ (u, set_else s.views id other later apart ∙ e, refl, is)
     ]
 
@@ -105,7 +105,7 @@ module _ (sizes : Sizes) (s : Table.State Call View) (kept : IsKept sizes s) (id
 
     pub closing_at : IsClosing s.views handle who → IsClosing later_views handle who
     closing_at h =
-        let b = becomes h.id h.view h.closing h.at h.is h.this in
+        let b = becomes h.id h.view h.closing h.at h.is h.this h.its in
         record {
           id = h.id;
           view = b.0;
@@ -120,7 +120,7 @@ module _ (sizes : Sizes) (s : Table.State Call View) (kept : IsKept sizes s) (id
 
   -- where the seat enters no handle and would close none that it didn't before
   pub closing_stays : ((handle : ℕ) → later.entered ≡ Some handle → v.entered ≡ Some handle) → later.closing ≡ v.closing → (handle who : ℕ) → IsClosing s.views handle who → IsClosing later_views handle who
-  closing_stays entered closing handle who h = closing_at handle who (entered handle) (λ c is this. closing ∙ is) h
+  closing_stays entered closing handle who h = closing_at handle who (entered handle) (λ c is this its. closing ∙ is) h
 
   -- ---- reserved numbers, and who runs what
 

@@ -35,3 +35,4 @@ mod Offered
 mod Tried
 mod Settled
 mod Rewritten
+mod Entering
