@@ -36,3 +36,4 @@ mod Tried
 mod Settled
 mod Rewritten
 mod Entering
+mod Handles
