@@ -80,7 +80,7 @@ module _ (sizes : Sizes) (s : Table.State Call View) (kept : IsKept sizes s) (id
     pins = λ a some most apart. pin_same a most;
     named = λ handle slot low fits is none. root_same handle low;
     numbers = numbers_so sizes s kept kept.account words_then (no_tries kept.account.offers (state_of sizes kept.account)) refl root_same;
-    still_open = λ handle e. e;
+    still_open = λ other w at_w handle inside e. e;
     taken = taken_then;
     spare = λ other w b other_name e apart f.
         (let y = (kept.seats other w e).spare b other_name f in

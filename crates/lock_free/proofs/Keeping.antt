@@ -203,7 +203,7 @@ module _ (sizes : Sizes) (s : Table.State Call View) (kept : IsKept sizes s) (id
     pins = λ a some most apart. refl;
     named = λ handle slot low fits is none. refl;
     numbers = numbers_so sizes s kept account_then s.words leads.tries leads.roots (λ handle low. refl);
-    still_open = λ handle e. ap (λ rs. is_some (get_or rs handle None)) leads.roots ∙ e;
+    still_open = λ other w at_w handle inside e. ap (λ rs. is_some (get_or rs handle None)) leads.roots ∙ e;
     taken = λ b name small h. h;
     spare = λ other w b name e apart free. (spare_then name ((kept.seats other w e).spare b name free).1, λ j its_word. refl);
   }

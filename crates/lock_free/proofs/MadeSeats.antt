@@ -109,7 +109,7 @@ module _ (sizes : Sizes) (s : Table.State Call View) (kept : IsKept sizes s) (id
       pins = λ a some most apart. pin_same a most;
       named = λ handle slot low fits is none. root_same handle low;
       numbers = numbers_so sizes s kept account_then words_then (as_before makes.tries) makes.roots root_same;
-      still_open = λ handle e. ap is_some (same_root handle) ∙ e;
+      still_open = λ other w at_w handle inside e. ap is_some (same_root handle) ∙ e;
       taken = taken;
       spare = λ other w b free_name e apart free.
           (let x = (kept.seats other w e).spare b free_name free in

@@ -71,7 +71,7 @@ module _ (sizes : Sizes) (s : Table.State Call View) (kept : IsKept sizes s) (id
     pins = λ a some most apart. pin_beside sizes kept.account kept.stands s.words all k slot stood i its value a most;
     named = λ handle slot low fits is none. root_same handle low;
     numbers = numbers_so sizes s kept account_then words_then (as_before tries) roots root_same;
-    still_open = λ handle e. ap (λ rs. is_some (get_or rs handle None)) roots ∙ e;
+    still_open = λ other w at_w handle inside e. ap (λ rs. is_some (get_or rs handle None)) roots ∙ e;
     taken = still_taken sizes kept.account s.words kept.taken i (node_far sizes kept.account kept.stands s.words all k slot stood i its value) value;
     spare = λ other w b name e apart free. spare_stays other w b name e free;
   }

@@ -332,7 +332,7 @@ module _ (sizes : Sizes) (s : Table.State Call View) (kept : IsKept sizes s) (id
     pins = λ a positive most apart. pin_same a positive;
     named = λ g found_slot below in_range is nothing. root_beside g (not_open g (later_is sizes kept.account s.words kept.roots g below found_slot in_range is nothing));
     numbers = held;
-    still_open = open_still;
+    still_open = λ other w at_w g inside e. open_still g e;
     taken = still_taken;
     spare = λ other w b name e apart free.
         (let x = (kept.seats other w e).spare b name free in

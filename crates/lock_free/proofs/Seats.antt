@@ -67,7 +67,7 @@ module _ (sizes : Sizes) (s : Table.State Call View) (kept : IsKept sizes s) (id
     -- a word that names an offer that is written
     pub named : (handle slot : ℕ) → handle < handle_limit → IsRootWord (word.Opening slot) → slice_index s.words (root_word handle) ≡ root_code (word.Opening slot) → NoOffer kept.account slot →
         slice_index words (root_word handle) ≡ slice_index s.words (root_word handle)
-    pub still_open : (handle : ℕ) → is_some (root_at (state_of sizes kept.account) handle) ≡ true → is_some (root_at (state_of sizes account) handle) ≡ true
+    pub still_open : (other : ℕ) (w : View) → get_elem? s.views other ≡ some w → (handle : ℕ) → w.entered ≡ Some handle → is_some (root_at (state_of sizes kept.account) handle) ≡ true → is_some (root_at (state_of sizes account) handle) ≡ true
     pub taken : (b name : ℕ) → b < 3 → IsTaken sizes s.words b name → IsTaken sizes words b name
     pub spare : (other : ℕ) (w : View) (b name : ℕ) → get_elem? s.views other ≡ some w → (other ≡ id → ⊥) → IsFree w b name → StaysSpare b name
 
@@ -109,7 +109,7 @@ module _ (sizes : Sizes) (s : Table.State Call View) (kept : IsKept sizes s) (id
               let its = not_mine a (omega (arith, above), below) in
               (rests_so (state_of sizes kept.account) (state_of sizes account) a (stays.others a its) r.0, stays.pins a (omega (arith, above, h.low)) (omega (arith, below, h.most)) its ∙ r.1));
           pinned = stays.pins w.actor h.low (omega (arith, h.top, h.most)) differs ∙ h.pinned;
-          entered = λ handle f. (let x = h.entered handle f in (x.0, stays.still_open handle x.1, x.2));
+          entered = λ handle f. (let x = h.entered handle f in (x.0, stays.still_open other w e handle f x.1, x.2));
           calls = λ o f. (let p = stays.others w.actor differs o f in h.calls p.was p.runs ∙ ap (λ c. Some (handle_of c)) p.call);
           opens = stays.numbers other w e;
           opening = λ handle slot o n. (let x = h.opening handle slot o n in names_kept other w w e handle slot x x.free);
@@ -144,7 +144,7 @@ module _ (sizes : Sizes) (s : Table.State Call View) (kept : IsKept sizes s) (id
                 let its : a ≢ v.actor = λ is. absurd (omega (arith, above, is)) in
                 (rests_so (state_of sizes kept.account) (state_of sizes account) a (stays.others a its) r.0, stays.pins a (omega (arith, above, h.low)) (omega (arith, below, h.most)) its ∙ r.1));
             pinned = own_pin ∙ h.pinned;
-            entered = λ handle f. (let x = h.entered handle f in (x.0, stays.still_open handle x.1, x.2));
+            entered = λ handle f. (let x = h.entered handle f in (x.0, stays.still_open id v at handle f x.1, x.2));
             calls = λ o f. h.calls operation runs ∙ ap (λ c. Some (handle_of c)) (sym same_call ∙ ap (λ (x : Operation). x.call) (same_Some next o (sym goes_on ∙ f)));
             opens = stays.numbers id v at;
             opening = λ handle slot o n.

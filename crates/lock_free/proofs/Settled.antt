@@ -291,7 +291,7 @@ module _ (sizes : Sizes) (s : Table.State Call View) (kept : IsKept sizes s) (id
     pins = λ a positive most apart. before_slots (pin_word a) (omega (arith, most));
     named = λ g slot below fits is nothing. root_same g below;
     numbers = held;
-    still_open = open_still;
+    still_open = λ other w at_w g inside e. open_still g e;
     taken = taken_still;
     spare = λ other w b name e apart free. (let x = (kept.seats other w e).spare b name free in (spare_then name x.1, slot_same b name free.0 x.0 x.1));
   }
