@@ -41,6 +41,8 @@ use Rattle.lock_free.specs.Steps.{nothing}
 use Rattle.lock_free.proofs.Assembling.{AllStand, all_stand, closing_stays, assembled}
 use Rattle.lock_free.proofs.Framing.{below_word, else_word, entries_else, stands_over, still_taken, have_still, roots_still, class_small, node_far, node_inside, not_of_other, not_of_any_offer, not_of_spare, root_beside, pin_beside, first_word}
 use Rattle.lock_free.proofs.Geometry.{IsWordOf}
+use Rattle.lock_free.specs.Trying.{as_before}
+use Rattle.lock_free.proofs.Meanings.{marks_kept, stood_still}
 use Rattle.lock_free.proofs.Keeping.{SameNodes, stands_kept, entries_kept, shape_kept, over_kept, meaning_kept, written_kept}
 use Rattle.lock_free.proofs.Made.{is_pending, is_failed}
 use Rattle.lock_free.proofs.Owners.{owners_kept}
@@ -130,7 +132,7 @@ module _ (sizes : Sizes) (account : Account) (actor : ℕ) (operation : Operatio
   says_prev found header verdict is (inr fails) (ahead i a f own x at owned) = absurd (none_pending replaced is)
   says_prev found header verdict is (inr fails) (pending q own over) =
       subst (λ v. SaysPrevious account_then next (slot_of main) v (says_then v header)) (ap prev.Failed (same_pending q replaced is) ∙ sym fails)
-      (failed q own (over_kept account account_then.steps nothing now next same decides.aheads still words (slot_of main) q own over))
+      (failed q own (over_kept account account_then.steps account.offers nothing now next same decides.aheads still words (slot_of main) q own over))
   says_prev found header verdict is (inr fails) (failed q own over) = absurd (failed_pending q replaced is)
 
   header_then : (found : ℕ) → slice_index words (2 * p) ≡ found → SaysHeader account now (slot_of main) decides.slot found →
@@ -141,13 +143,13 @@ module _ (sizes : Sizes) (account : Account) (actor : ℕ) (operation : Operatio
         previous = says_then decides.verdict its_header.previous;
         is_previous = says_prev decides.slot.prev its_header.previous decides.verdict decides.pending decides.committed_or_failed its_header.is_previous;
         shape = its_header.shape;
-        is_shape = shape_kept account account_then.steps nothing now next same decides.aheads still words (slot_of main) decides.slot.node its_header.shape its_header.is_shape;
+        is_shape = shape_kept account account_then.steps account.offers nothing now next same decides.aheads still words (slot_of main) decides.slot.node its_header.shape its_header.is_shape;
         code = says its_header;
       })
 
   entries_then : (xs : List Ref) → AreEntries account now.heap (InTable words) p xs → AreEntries account_then next.heap (InTable words_then) p xs
   entries_then xs h =
-      entries_kept account account_then.steps nothing now next same decides.aheads still words_then p xs
+      entries_kept account account_then.steps account.offers nothing now next same decides.aheads still words_then p xs
       (entries_else account words (2 * p) value p now (slot_of main) decides.slot xs (λ position low e. absurd (omega (arith, e))) h)
 
   -- ---- what stands
@@ -174,7 +176,7 @@ module _ (sizes : Sizes) (account : Account) (actor : ℕ) (operation : Operatio
           (decided_stands account account_then now next words words_then p (slot_of main) decides.slot decides.verdict entries_then header_then decides.slot.node is_main
               (all.nodes.written (slot_of main) decides.slot stood)))
   written_by k slot h (is_else other e) =
-      stands_kept account account_then.steps nothing now next same decides.aheads still words_then (place_at account k) k slot slot.node refl
+      stands_kept account account_then.steps account.offers nothing now next same decides.aheads still words_then (place_at account k) k slot slot.node refl
       (stands_over account words (2 * p) value (place_at account k) now k slot slot.node (all.nodes.small k slot (h, e))
           (not_of_other sizes account stands words all (slot_of main) decides.slot stood (2 * p) its value k slot other (h, e)) (all.nodes.written k slot (h, e)))
 
@@ -199,11 +201,15 @@ module _ (sizes : Sizes) (account : Account) (actor : ℕ) (operation : Operatio
       let over = roots_still sizes account words all.taken (2 * p) far value (not_of_any_offer sizes account stands words all (slot_of main) decides.slot stood (2 * p) its value) all.roots in
       record {
         means = λ handle low.
-            meaning_kept account account_then.steps nothing now next same decides.aheads still words_then _ _
-            (subst (λ rs. MeansRoot account words_then (slice_index words_then (root_word handle)) (get_or rs handle None)) (sym decides.roots) (over.means handle low));
-        offers = λ k c. written_kept account account_then.steps nothing now next same decides.aheads still words_then k (over.offers k c);
+            meaning_kept account account_then.steps words_then handle _ _
+            (subst (λ rs. MeansRoot account words_then handle (slice_index words_then (root_word handle)) (get_or rs handle None)) (sym decides.roots) (over.means handle low));
+        offers = λ k c. written_kept account account_then.steps account.offers nothing now next same decides.aheads still words_then k (over.offers k c);
         blocks = over.blocks;
         single = over.single;
+        pending = over.pending;
+        tries = over.tries;
+        stood = λ k c. stood_still sizes account account_then (step.Go actor ∷ []) refl k.offer (over.stood k c);
+        marks = marks_kept account.offers now next (as_before decides.tries) words_then words_then (λ k c. refl) over.marks;
       }
 
   pub all_then : AllStand sizes account_then stands words_then

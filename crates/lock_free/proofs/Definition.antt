@@ -12,7 +12,7 @@ use Rattle.machine_model.specs.Operations.{action_of}
 use Rattle.machine_model.specs.Beneath.slot_arena.specs.Heaps.{Heap, stored, node_at}
 use Rattle.machine_model.specs.declared.lines.Line.{Line}
 use Rattle.machine_model.specs.declared.steps.Step.TheVariants as step
-use Rattle.machine_model.specs.Acting.{acted, gone, operation_after}
+use Rattle.machine_model.specs.Acting.{acted, gone, operation_after, attempt_after, mark_after}
 use Rattle.machine_model.specs.Calls.{handle_of}
 use Rattle.machine_model.specs.Grown.{standing}
 use Rattle.machine_model.specs.Machine.{AreBounds, run}
@@ -43,7 +43,9 @@ use Rattle.lock_free.specs.Nodes.{IsAhead}
 use Rattle.lock_free.specs.Steps.{Reads, nothing}
 use Rattle.lock_free.proofs.OneStep.Aheads.{ahead_of, over_makes, ahead_acts}
 use Rattle.lock_free.proofs.OneStep.Doing.{CompletesNone}
+use Rattle.lock_free.proofs.OneStep.Changing.{tries_stay}
 use Rattle.lock_free.proofs.OneStep.Leading.{leads}
+use Rattle.lock_free.specs.Trying.{as_before}
 use Rattle.lock_free.proofs.OneStep.Longer.{run_longer, bounds_less}
 
 -- the action changes no word
@@ -67,6 +69,10 @@ reading_goes (act.ReadMain i) h = (tt, tt)
 reading_goes (act.ReadPrev m) h = (tt, tt)
 reading_goes (act.Look r) h = (tt, tt)
 reading_goes action h = absurd h
+
+reading_tries : (attempt : ℕ) (mark : Bool) (action : Action) → IsReading action → (attempt_after attempt action ≡ attempt) × (mark_after mark action ≡ mark)
+reading_tries attempt mark (act.Offer offer) h = absurd h
+reading_tries attempt mark action h = (refl, refl)
 
 module _ (sizes : Sizes) (account : Account) (bounds : AreBounds (bounds_for sizes account.steps)) (actor : ℕ) (operation : Operation) (runs : running sizes account actor operation) where
   abbrev state : State
@@ -92,6 +98,8 @@ module _ (sizes : Sizes) (account : Account) (bounds : AreBounds (bounds_for siz
     reads_then =
         leads sizes account bounds actor operation runs g (reading_goes (action_of state operation) h).1 same nothing (λ r k. refl) (λ i a over. makes_none operation.line i a h over)
         (λ i a f ahead kept. publishes_none operation.line i a f h ahead)
+        (as_before (tries_stay sizes account bounds actor operation runs g (reading_goes (action_of state operation) h).1 (reading_tries operation.attempt operation.is_marked (action_of state operation) h).0
+            (reading_tries operation.attempt operation.is_marked (action_of state operation) h).1))
 
   pub reads_of : IsReading (action_of (state_of sizes account) operation) → Reads sizes account actor operation
   reads_of h = reads_then h

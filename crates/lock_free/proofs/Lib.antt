@@ -2,11 +2,15 @@ mod OneStep
 mod Definition
 mod Asked
 mod Geometry
+mod RootCodes
+mod Meanings
 mod Owners
 mod Assembling
 mod Waiting
 mod Seats
 mod Keeping
+mod RootFound
+mod RootSteps
 mod Moments
 mod Within
 mod Decoding
@@ -14,6 +18,7 @@ mod Looking
 mod Framing
 mod NodeWord
 mod Pools
+mod Spending
 mod Made
 mod MadeAll
 mod MadeSeats
@@ -26,3 +31,9 @@ mod DecidedKept
 mod Restored
 mod Drafting
 mod Taking
+mod Offered
+mod Tried
+mod Settled
+mod Rewritten
+mod Entering
+mod Handles

@@ -51,7 +51,9 @@ drafts_in account heap over has there name own (Listed singles) f h = ((h.0.0, f
 
 module _ (sizes : Sizes) (s : Table.State Call View) (kept : IsKept sizes s) (id : ℕ) (v : View) (at : get_elem? s.views id ≡ some v) (operation : Operation)
     (runs : operation_of (state_of sizes kept.account) v.actor ≡ Some operation) (name : ℕ) (own : Bool) (node : Node) (rest : List ℕ) (pool : pool_of v.pool (class_of node) ≡ rest ++ name ∷ [])
-    (small : length (entries_of node) ≤ 32) where
+    (small : length (entries_of node) ≤ 32)
+    -- who is to open a handle writes an offer, and no node of an offer's size
+    (unopened : (handle : ℕ) → v.opens ≡ Some handle → class_of node ≢ 1) where
   abbrev all : AllStand sizes kept.account kept.stands s.words
   all = all_stand sizes s kept
 
@@ -104,7 +106,7 @@ module _ (sizes : Sizes) (s : Table.State Call View) (kept : IsKept sizes s) (id
     pub make_kept : IsKept sizes (record { words = words_then; homes = s.homes; views = set s.views id (made_by v (class_of node) name rest own node kept.account) })
     make_kept =
         made_kept sizes s kept id v at operation runs name own node 0 makes rest pool words_then all_made (λ a most. low (pin_word a) (omega (arith, most)))
-        (λ handle below. (let where_it_is = root_below handle below in low (root_word handle) (omega (arith, where_it_is.1)))) still slot_same
+        (λ handle below. (let where_it_is = root_below handle below in low (root_word handle) (omega (arith, where_it_is.1)))) still slot_same unopened
 
   -- ---- by the exchange of the count of generations
 
@@ -153,4 +155,4 @@ module _ (sizes : Sizes) (s : Table.State Call View) (kept : IsKept sizes s) (id
     make_root_kept =
         made_kept sizes s kept id v at operation runs name own node 1 makes rest pool root_words root_made (λ a most. beside (pin_word a) (λ e. absurd (omega (arith, e))))
         (λ handle below. (let where_it_is = root_below handle below in beside (root_word handle) (λ e. absurd (omega (arith, e, where_it_is.0))))) root_taken
-        (λ b other low differs taken j its. beside j (no_slot sizes kept.account kept.stands s.words kept.taken kept.nodes kept.roots generation_word before_slots (given_out + 1) root_taken b other low taken j its))
+        (λ b other low differs taken j its. beside j (no_slot sizes kept.account kept.stands s.words kept.taken kept.nodes kept.roots generation_word before_slots (given_out + 1) root_taken b other low taken j its)) unopened

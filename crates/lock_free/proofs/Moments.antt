@@ -33,7 +33,8 @@ use Rattle.lock_free.specs.Places.{words_of}
 use Rattle.lock_free.specs.Rules.{IsSeat, IsKept}
 use Rattle.lock_free.specs.Steps.{Reads}
 use Rattle.lock_free.proofs.Asked.{in_use_made, live_in_use, nodes_stay}
-use Rattle.lock_free.proofs.Assembling.{all_stand, closing_stays, assembled}
+use Rattle.lock_free.proofs.Assembling.{all_stand, closing_stays, numbers_stay, assembled}
+use Rattle.lock_free.proofs.Meanings.{no_tries}
 use Rattle.lock_free.proofs.Definition.{IsReading, reads_of, waits, bounds_before}
 use Rattle.lock_free.proofs.Keeping.{kept_then}
 use Rattle.lock_free.proofs.Waiting.{waited_none}
@@ -171,6 +172,7 @@ module _ (v : View) (s : Table.State Call View) (kept : IsKept v.sizes s) (id : 
     entered = its.entered;
     calls = its.calls;
     opens = its.opens;
+    opening = λ handle slot o n. (let x = its.opening handle slot o n in record { low = x.low; fits = x.fits; is = x.is; free = x.free });
     reserves = its.reserves;
     spare = its.spare;
     once = its.once;
@@ -181,7 +183,8 @@ module _ (v : View) (s : Table.State Call View) (kept : IsKept v.sizes s) (id : 
   seen_kept =
       assembled v.sizes s kept id v at seen_view refl refl there kept.stands s.words (all_stand v.sizes s kept)
       (λ handle who low says. closing_stays v.sizes s kept id v at seen_view refl refl (λ h e. e) refl handle who (kept.closings handle who low says)) seen_seat
-      (λ other w e apart. kept.seats other w e) (λ b n f. inl f) (λ handle e. inl e)
+      (λ other w e apart. kept.seats other w e) (λ b n f. inl f)
+      (numbers_stay v.sizes s kept id v at seen_view refl refl there s.words (no_tries there.offers (state_of v.sizes there)) (λ slot none. none) (λ handle low. refl) refl (λ slot handle e free. free))
 
   -- ---- a load that is the operation's step
 

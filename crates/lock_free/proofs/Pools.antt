@@ -6,15 +6,28 @@ use Rattle.lock_free.specs.declared.rules.Pool.{Pool}
 use Rattle.lock_free.specs.Making.{with_slots, with_slot}
 use Rattle.lock_free.specs.Rules.{Once, pool_of}
 
-none_there : (n : ℕ) → Contains [] n → ⊥
+none_there : {X : Type 0} (n : X) → Contains [] n → ⊥
 none_there n c = absurd (omega (arith, c.1))
 
-pub one_there : (x n : ℕ) → Contains (x ∷ []) n → n ≡ x
+pub one_there : {X : Type 0} (x n : X) → Contains (x ∷ []) n → n ≡ x
 one_there x n c = by c.0 c.1 c.2
   where
     by : (k : ℕ) → k < 1 → get_or (x ∷ []) k n ≡ n → n ≡ x
     by zero low e = sym e
     by (suc k) low e = absurd (omega (arith, low))
+
+-- the first, or one of the others
+pub first_or_more : {X : Type 0} (x : X) (xs : List X) (n : X) → Contains (x ∷ xs) n → (n ≡ x) ⊎ Contains xs n
+first_or_more x xs n c = elim (Contains-append_cases (x ∷ []) xs n c) [
+  | inl first ↦ inl (one_there x n first)
+  | inr more ↦ inr more
+]
+
+pub first_there : {X : Type 0} (x : X) (xs : List X) → Contains (x ∷ xs) x
+first_there x xs = (0, omega arith, refl)
+
+pub more_there : {X : Type 0} (x : X) (xs : List X) (n : X) → Contains xs n → Contains (x ∷ xs) n
+more_there x xs n c = Contains-append_right (x ∷ []) xs n c
 
 -- no number stands twice in what is left of a pool, and the last one isn't among them
 pub once_rest : (xs : List ℕ) (n : ℕ) → Once (xs ++ n ∷ []) → Once xs × (Contains xs n → ⊥)

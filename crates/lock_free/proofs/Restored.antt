@@ -34,10 +34,12 @@ use Rattle.lock_free.specs.Nodes.{Has, StandsAs, InTable, AreEntries, IsEntryOf,
 use Rattle.lock_free.specs.Places.{first_slot_word, words_in, words_of, generation_word, root_word, IsTaken}
 use Rattle.lock_free.specs.Publishing.{with_main_of}
 use Rattle.lock_free.specs.Restoring.{Restores}
-use Rattle.lock_free.specs.Roots.{MeansRoot, closed, reserved, writable, read_only, closing_writable, closing_read_only, offered, opening, opens_later, IsWritten, second_of}
+use Rattle.lock_free.specs.Roots.{MeansRoot, IsWritten, second_of}
 use Rattle.lock_free.specs.Rules.{Standing, Stands, NodesStand, RootsStand, IsSpare, IsKept}
 use Rattle.lock_free.proofs.Assembling.{AllStand, all_stand}
 use Rattle.lock_free.proofs.Framing.{below_word, stands_over, still_taken, have_still, roots_still, class_small, first_word, node_far, node_inside, not_of_other, not_of_any_offer}
+use Rattle.lock_free.specs.Trying.{as_before}
+use Rattle.lock_free.proofs.Meanings.{means_kept, marks_kept, stood_still}
 use Rattle.lock_free.proofs.Geometry.{IsWordOf}
 use Rattle.lock_free.proofs.Made.{is_pending, is_failed}
 use Rattle.lock_free.proofs.Owners.{owners_kept}
@@ -188,16 +190,8 @@ module _ (sizes : Sizes) (account : Account) (actor : ℕ) (operation : Operatio
     live = λ r h. all.nodes.live r (restores.live r h);
   }
 
-  meaning_then : (found : ℕ) (r : Option Root) → MeansRoot account words_then found r → MeansRoot account_then words_then found r
-  meaning_then found r closed = closed
-  meaning_then found r reserved = reserved
-  meaning_then found r (writable q) = writable q
-  meaning_then found r (read_only q) = read_only q
-  meaning_then found r (closing_writable q seat) = closing_writable q seat
-  meaning_then found r (closing_read_only q seat) = closing_read_only q seat
-  meaning_then found r (offered k c) = offered k c
-  meaning_then found r (opening k c) = opening k c
-  meaning_then found r (opens_later slot none) = opens_later slot none
+  meaning_then : (handle found : ℕ) (r : Option Root) → MeansRoot account words_then handle found r → MeansRoot account_then words_then handle found r
+  meaning_then handle found r = means_kept account account_then words_then words_then handle r (λ access q is. refl) (λ k c. (c, refl)) (λ slot none. none) found
 
   second_then : (o : Option Ref) → second_of account o ≡ second_of account_then o
   second_then None = refl
@@ -208,10 +202,14 @@ module _ (sizes : Sizes) (account : Account) (actor : ℕ) (operation : Operatio
       let over = roots_still sizes account words all.taken (2 * p) far value (not_of_any_offer sizes account stands words all (slot_of i) restores.link stood (2 * p) its value) all.roots in
       record {
         means = λ handle low.
-            subst (λ rs. MeansRoot account_then words_then (slice_index words_then (root_word handle)) (get_or rs handle None)) (sym restores.roots) (meaning_then _ (root_at now handle) (over.means handle low));
+            subst (λ rs. MeansRoot account_then words_then handle (slice_index words_then (root_word handle)) (get_or rs handle None)) (sym restores.roots) (meaning_then handle _ (root_at now handle) (over.means handle low));
         offers = λ k c. (let h = over.offers k c in record { olds = h.olds; news = h.news ∙ ap (λ n. pair_code (record { low = place_of account k.offer.successor; high = n })) (second_then k.offer.second) });
         blocks = over.blocks;
         single = over.single;
+        pending = over.pending;
+        tries = over.tries;
+        stood = λ k c. stood_still sizes account account_then (step.Go actor ∷ []) refl k.offer (over.stood k c);
+        marks = marks_kept account.offers now next (as_before restores.tries) words_then words_then (λ k c. refl) over.marks;
       }
 
   pub all_then : AllStand sizes account_then stands words_then
@@ -246,4 +244,4 @@ module _ (sizes : Sizes) (s : Table.State Call View) (kept : IsKept sizes s) (id
       node_word_kept sizes s kept id v at operation runs (slot_of i) restores.link (here, restores.link_is) (2 * place_of kept.account i) (first_word restores.link.node (place_of kept.account i))
       (value sizes kept.account v.actor operation i main former restores kept.stands s.words kept_all here own owned) []
       (all_then sizes kept.account v.actor operation i main former restores kept.stands s.words kept_all here own owned)
-      (spare_then sizes kept.account v.actor operation i main former restores kept.stands s.words kept_all here own owned) restores.roots restores.others restores.own
+      (spare_then sizes kept.account v.actor operation i main former restores kept.stands s.words kept_all here own owned) restores.roots restores.others restores.own restores.tries

@@ -17,11 +17,13 @@ use Rattle.lock_free.specs.Nodes.{class_of}
 use Rattle.lock_free.specs.Places.{words_in, slots_in, part_of, first_slot_word, words_of, taken_word, generation_word, pin_word, root_word, IsTaken, HaveTaken}
 use Rattle.lock_free.specs.Roots.{MeansRoot}
 use Rattle.lock_free.specs.Rules.{Stands, NodesStand, RootsStand, IsClosing, SaysClosing, IsFree, IsSpare, AreDrafts, IsSeat, IsKept}
-use Rattle.lock_free.proofs.Assembling.{AllStand, closing_stays, assembled}
+use Rattle.lock_free.specs.Accounts.{state_of}
+use Rattle.lock_free.proofs.Meanings.{no_tries}
+use Rattle.lock_free.proofs.Assembling.{AllStand, closing_stays, numbers_stay, assembled}
 use Rattle.lock_free.proofs.Framing.{else_word, class_small, has_words, no_slot, nodes_below, roots_below}
 use Rattle.lock_free.proofs.Geometry.{IsWordOf, slots_apart, root_below}
 use Rattle.lock_free.proofs.Pools.{free_still, was_free, once_with}
-use Rattle.lock_free.proofs.Seats.{Stays, other_kept, own_still}
+use Rattle.lock_free.proofs.Seats.{ran_so, numbers_so, Stays, other_kept, own_still}
 
 same_class : (b c : ℕ) → taken_word b ≡ taken_word c → b ≡ c
 same_class b c e = omega (arith, e)
@@ -118,10 +120,11 @@ module _ (sizes : Sizes) (s : Table.State Call View) (kept : IsKept sizes s) (id
   stays : Stays sizes s kept id v at kept.account kept.stands words_then
   stays = record {
     waits = λ actor before differs h. h;
-    others = λ a apart. refl;
-    pins = λ a most apart. pin_same a;
-    taken_numbers = λ handle low none. sym (root_same handle low) ∙ none;
-    still_open = λ handle e. e;
+    others = λ a apart. ran_so (state_of sizes kept.account) (state_of sizes kept.account) a refl;
+    pins = λ a some most apart. pin_same a;
+    named = λ handle slot low fits is none. root_same handle low;
+    numbers = numbers_so sizes s kept kept.account words_then (no_tries kept.account.offers (state_of sizes kept.account)) refl root_same;
+    still_open = λ other w at_w handle inside e. e;
     taken = taken_then;
     spare = λ other w b n e apart free. (let x = (kept.seats other w e).spare b n free in (x.1, slot_words b n free.0 x.0));
   }
@@ -142,7 +145,7 @@ module _ (sizes : Sizes) (s : Table.State Call View) (kept : IsKept sizes s) (id
   own_then : IsSeat sizes kept.account kept.stands words_then view_then
   own_then =
       own_still sizes s kept id v at words_then stays (pin_same v.actor) view_then.pool v.drafts own_spare
-      (once_with v.pool class name small seat.once (λ c. not_taken class small (seat.spare class name (small, c)).0)) (λ d c. drafted d (seat.drafts d c))
+      (once_with v.pool class name small seat.once (λ c. not_taken class small (seat.spare class name (small, c)).0)) (λ d c. drafted d (seat.drafts d c)) (λ slot free. free_still v.pool class name small 1 slot free.0 free.1)
 
   free_then : (b other : ℕ) → IsFree view_then b other → IsFree v b other ⊎ ((n : ℕ) (w : View) (c : ℕ) → get_elem? s.views n ≡ some w → (n ≡ id → ⊥) → IsFree w c other → ⊥)
   free_then b other free = elim (was_free v.pool class name small b other free.0 free.1) [
@@ -158,4 +161,5 @@ module _ (sizes : Sizes) (s : Table.State Call View) (kept : IsKept sizes s) (id
   pub take_kept : IsKept sizes (record { words = words_then; homes = s.homes; views = set s.views id view_then })
   take_kept =
       assembled sizes s kept id v at view_then refl refl kept.account kept.stands words_then all_then closings_then own_then (other_kept sizes s kept id v at kept.account kept.stands words_then stays)
-      free_then (λ handle e. inl e)
+      free_then 
+      (numbers_stay sizes s kept id v at view_then refl refl kept.account words_then (no_tries kept.account.offers (state_of sizes kept.account)) (λ slot none. none) root_same refl (λ slot handle e free. (free.0, free_still v.pool class name small 1 slot free.0 free.1)))

@@ -7,9 +7,11 @@ use Rattle.machine_model.specs.declared.steps.Step.{Step}
 use Rattle.machine_model.specs.declared.steps.Step.TheVariants as step
 use Rattle.machine_model.specs.Beneath.slot_arena.specs.declared.refs.Ref.{Ref}
 use Rattle.machine_model.specs.Beneath.slot_arena.specs.Refs.{slot_of}
+use Rattle.machine_model.specs.declared.roots.Descriptor.{Descriptor}
+use Rattle.machine_model.specs.declared.roots.RootWord.TheVariants.{Offer}
 use Rattle.machine_model.specs.Machine.{run}
 use Rattle.machine_model.specs.Records.{Record, record_of}
-use Rattle.machine_model.specs.States.{State, operation_of}
+use Rattle.machine_model.specs.States.{State, operation_of, word_at}
 pub use Rattle.proof_waiting.specs.Waiting.{IsOfOther}
 use Rattle.lock_free.specs.declared.accounts.Account.{Account}
 use Rattle.lock_free.specs.declared.accounts.Owned.{Owned}
@@ -61,3 +63,13 @@ running sizes account actor operation = operation_of (state_of sizes account) ac
 -- one more step of this actor's operation, which makes nothing
 abbrev pub gone_on : ℕ → Account → Account
 gone_on actor account = record account { steps = account.steps ++ step.Go actor ∷ [] }
+
+-- ---- offers
+
+-- the offer stood in a root word once
+pub record HasStood (sizes : Sizes) (account : Account) (offer : Descriptor) : Type 0 where
+  pub steps : List Step
+  pub more : List Step
+  pub goes_on : account.steps ≡ steps ++ more
+  pub handle : ℕ
+  pub stood : word_at (run (bounds_for sizes steps) steps) handle ≡ Offer offer

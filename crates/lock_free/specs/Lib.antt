@@ -3,6 +3,7 @@ pub mod Accounts
 pub mod Live
 pub mod Nodes
 pub mod Roots
+pub mod Trying
 pub mod Rules
 pub mod Steps
 pub mod Loading
@@ -10,3 +11,5 @@ pub mod Making
 pub mod Publishing
 pub mod Deciding
 pub mod Restoring
+pub mod Offering
+pub mod Settling

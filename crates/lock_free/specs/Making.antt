@@ -35,6 +35,7 @@ use Rattle.lock_free.specs.declared.rules.View.{View}
 use Rattle.lock_free.specs.declared.sizes.Sizes.{Sizes}
 use Rattle.lock_free.specs.Accounts.{bounds_for, state_of, place_of, IsOwn}
 use Rattle.lock_free.specs.Live.{IsLive}
+use Rattle.lock_free.specs.Trying.{SameTries}
 use Rattle.lock_free.specs.Nodes.{Has, IsAhead, AreEntries, class_of}
 use Rattle.lock_free.specs.Rules.{pool_of}
 
@@ -137,6 +138,7 @@ pub record Makes (sizes : Sizes) (account after : Account) (actor : ℕ) (operat
   pub generations : (state_of sizes after).generations ≡ (state_of sizes account).generations + more
   pub others : (a : ℕ) → a ≢ actor → operation_of (state_of sizes after) a ≡ operation_of (state_of sizes account) a
   pub own : operation_of (state_of sizes after) actor ≡ Some (operation_after (state_of sizes account) operation)
+  pub tries : SameTries (state_of sizes account) (state_of sizes after)
   -- it is about to swap the node in, if it is a main node to be swapped in; nobody else is who wasn't
   pub aheads : (i a f : Ref) → IsAhead (state_of sizes after) i a f → IsAhead (state_of sizes account) i a f ⊎ ((over_of operation.line ≡ Some (i, a)) × (slot_of f ≡ length account.names))
   pub still : (i a f : Ref) → IsAhead (state_of sizes account) i a f → IsAhead (state_of sizes after) i a f

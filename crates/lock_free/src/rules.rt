@@ -42,6 +42,8 @@ pub struct View {
     pub closing: Option<Closing>,
     /// The number that it has reserved.
     pub opens: Option<u16>,
+    /// The slot of the offer that it writes, which the word of that number names already.
+    pub opening: Option<u32>,
     /// The slots that are free for it alone.
     pub pool: Pool,
     /// What it has written in these: the number of a word, and what it has.

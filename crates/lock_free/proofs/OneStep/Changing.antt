@@ -1,11 +1,13 @@
 -- What any step of an operation leaves that carries no offer out, by what it makes of the heap.
 use Rattle.std.proofs.Common.{◌≡◌, ◌≢◌, ◌⊎◌, ℕ, get_or, Some, None, refl, sym, ap, subst, ◌∙◌, inl, inr}
+use Rattle.std.specs.Prelude.{option_map}
+use Rattle.std.proofs.lemmas.Bool.{cases_eq}
 use Rattle.std.proofs.lemmas.Option.{none-some}
 use Rattle.machine_model.specs.Beneath.slot_arena.specs.declared.refs.Ref.{Ref}
 use Rattle.machine_model.specs.Beneath.slot_arena.specs.Heaps.{Heap}
 use Rattle.machine_model.specs.declared.operations.Operation.{Operation}
 use Rattle.machine_model.specs.declared.steps.Step.TheVariants as step
-use Rattle.machine_model.specs.Acting.{operation_after}
+use Rattle.machine_model.specs.Acting.{operation_after, attempt_after, mark_after}
 use Rattle.machine_model.specs.Grown.{standing}
 use Rattle.machine_model.specs.Machine.{AreBounds}
 use Rattle.machine_model.specs.Moves.{GoesOn}
@@ -24,6 +26,7 @@ use Rattle.lock_free.specs.Accounts.{bounds_for, state_of, running, gone_on}
 use Rattle.lock_free.specs.Live.{IsLive}
 use Rattle.lock_free.specs.Making.{over_of}
 use Rattle.lock_free.specs.Nodes.{IsAhead}
+use Rattle.lock_free.specs.Trying.{try_of, try_at, SameTries}
 use Rattle.lock_free.proofs.OneStep.Aheads.{ahead_of, ComesAhead}
 use Rattle.lock_free.proofs.OneStep.Doing.{CompletesNone, others, own, aheads, still}
 use Rattle.lock_free.proofs.OneStep.Going.{later, moves, more, after_is, bounds_after}
@@ -91,6 +94,20 @@ module _ (sizes : Sizes) (account : Account) (bounds : AreBounds (bounds_for siz
 
       pub own_then : operation_of after actor ≡ Some (operation_after state operation)
       own_then = ap (λ s. operation_of s actor) whole ∙ own state actor operation runs none
+
+      -- where it offers nothing
+      module _ (attempt : attempt_after operation.attempt (action_of state operation) ≡ operation.attempt) (mark : mark_after operation.is_marked (action_of state operation) ≡ operation.is_marked) where
+        same_try : try_of (operation_after state operation) ≡ try_of operation
+        same_try =
+            ap (λ n. record { id = operation.id; call = operation.call; opens = operation.opens; attempt = n; is_marked = mark_after operation.is_marked (action_of state operation) }) attempt
+            ∙ ap (λ b. record { id = operation.id; call = operation.call; opens = operation.opens; attempt = operation.attempt; is_marked = b }) mark
+
+        pub tries_stay : SameTries state after
+        tries_stay a = elim (cases_eq a actor) [
+          | inl its ↦
+              ap (λ n. try_at after n) its ∙ ap (λ o. option_map try_of o) own_then ∙ ap Some same_try ∙ ap (λ o. option_map try_of o) (sym runs) ∙ ap (λ n. try_at state n) (sym its)
+          | inr other ↦ ap (λ o. option_map try_of o) (others_then a other)
+        ]
 
       pub aheads_then : (i a f : Ref) → IsAhead after i a f → IsAhead state i a f ⊎ ComesAhead state operation operation.line (i, a, f)
       aheads_then i a f x = aheads state actor operation runs none i a f (ahead_in 1 steps then i a f (subst (λ s. IsAhead s i a f) whole x))

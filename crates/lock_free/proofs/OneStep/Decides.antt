@@ -14,7 +14,7 @@ use Rattle.machine_model.specs.declared.actions.Action.{Action}
 use Rattle.machine_model.specs.declared.actions.Action.TheVariants as act
 use Rattle.machine_model.specs.declared.lines.Line.TheVariants as line
 use Rattle.machine_model.specs.declared.operations.Operation.{Operation}
-use Rattle.machine_model.specs.Acting.{acted, gone, decided, operation_after}
+use Rattle.machine_model.specs.Acting.{acted, gone, decided, operation_after, attempt_after, mark_after}
 use Rattle.machine_model.specs.Calls.{handle_of}
 use Rattle.machine_model.specs.Grown.{standing}
 use Rattle.machine_model.specs.Machine.{AreBounds}
@@ -41,8 +41,9 @@ use Rattle.lock_free.specs.Making.{over_of}
 use Rattle.lock_free.specs.Nodes.{IsAhead}
 use Rattle.lock_free.specs.Deciding.{Decides}
 use Rattle.lock_free.specs.Steps.{Reads, nothing}
+use Rattle.lock_free.specs.Trying.{SameTries, as_before}
 use Rattle.lock_free.proofs.OneStep.Aheads.{ahead_of, over_makes, ahead_acts}
-use Rattle.lock_free.proofs.OneStep.Changing.{then, slot_then, births_then, live_then, roots_then, generations_then, others_then, own_then, no_more_then, still_then}
+use Rattle.lock_free.proofs.OneStep.Changing.{then, slot_then, births_then, live_then, roots_then, generations_then, others_then, own_then, tries_stay, no_more_then, still_then}
 use Rattle.lock_free.proofs.OneStep.Doing.{CompletesNone}
 use Rattle.lock_free.proofs.OneStep.Found.{slot_at, ahead_used}
 use Rattle.lock_free.proofs.OneStep.Going.{bounds_after}
@@ -110,6 +111,9 @@ module _ (sizes : Sizes) (account : Account) (bounds : AreBounds (bounds_for siz
   gone_is : (b : Bool) → is_pending (prev_at state.heap main) replaced ≡ b → gone state actor operation ≡ record put { heap = decided state.heap main replaced (verdict_by licensed b) }
   gone_is b e = ap (acted put (handle_of operation.call)) is ∙ ap (λ c. record put { heap = decided state.heap main replaced (verdict_by licensed c) }) e
 
+  tries : SameTries state (state_of sizes (gone_on actor account))
+  tries = tries_stay sizes account bounds actor operation runs g none (ap (attempt_after operation.attempt) is) (ap (mark_after operation.is_marked) is)
+
   claims : AllHold (IsInUse state.heap) state.heap (action_wants (act.Decide i main replaced told))
   claims = subst (λ action. AllHold (IsInUse state.heap) state.heap (action_wants action)) is (action_finds state (safe_along limits bounds account.steps) actor operation runs)
 
@@ -134,7 +138,7 @@ module _ (sizes : Sizes) (account : Account) (bounds : AreBounds (bounds_for siz
     same = gone_is false e ∙ ap (λ h. record put { heap = h }) (overtaken_is state.heap main replaced licensed)
 
     pub overtaken : Reads sizes account actor operation
-    overtaken = leads sizes account bounds actor operation runs g none same nothing (λ r k. refl) makes_none (λ j a f ahead standing. publishes_none j a f ahead)
+    overtaken = leads sizes account bounds actor operation runs g none same nothing (λ r k. refl) makes_none (λ j a f ahead standing. publishes_none j a f ahead) (as_before tries)
 
     pub not_pending : (p : Ref) → prev_at state.heap main ≡ prev.Pending p → ⊥
     not_pending p pending =
@@ -171,6 +175,7 @@ module _ (sizes : Sizes) (account : Account) (bounds : AreBounds (bounds_for siz
       generations = generations_then sizes account bounds actor operation runs g state.generations (ap (λ (s : State). s.generations) (gone_is true e));
       others = others_then sizes account bounds actor operation runs g none;
       own = own_then sizes account bounds actor operation runs g none;
+      tries = tries;
       aheads = no_more_then sizes account bounds actor operation runs g none makes_none;
       still = λ j a f x. elim (still_then sizes account bounds actor operation runs g none j a f x) [
         | inl is ↦ is

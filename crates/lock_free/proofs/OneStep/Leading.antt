@@ -14,6 +14,7 @@ use Rattle.lock_free.specs.Accounts.{bounds_for, state_of, running, gone_on}
 use Rattle.lock_free.specs.Live.{IsLive}
 use Rattle.lock_free.specs.Making.{over_of}
 use Rattle.lock_free.specs.Steps.{Dropped, Leads}
+use Rattle.lock_free.specs.Trying.{KeepsTries}
 use Rattle.lock_free.proofs.OneStep.Aheads.{ahead_of}
 use Rattle.lock_free.proofs.OneStep.Changing.{then, slot_then, births_then, live_less, live_then, roots_then, generations_then, others_then, own_then, no_more_then, still_then}
 use Rattle.lock_free.proofs.OneStep.Doing.{CompletesNone}
@@ -26,8 +27,9 @@ module _ (sizes : Sizes) (account : Account) (bounds : AreBounds (bounds_for siz
   state = state_of sizes account
 
   pub leads : (dropped : Dropped) → ((r : Ref) → IsLive (then sizes account bounds actor operation runs g) r → dropped (slot_of r) ≡ false) → ((i a : Ref) → over_of operation.line ≡ Some (i, a) → ⊥) →
-      ((i a f : Ref) → ahead_of operation.line ≡ Some (i, a, f) → dropped (slot_of f) ≡ false → ⊥) → Leads sizes account (gone_on actor account) actor dropped (operation_after state operation)
-  leads dropped kept makes_none publishes_none =
+      ((i a f : Ref) → ahead_of operation.line ≡ Some (i, a, f) → dropped (slot_of f) ≡ false → ⊥) → KeepsTries account.offers state (state_of sizes (gone_on actor account)) →
+      Leads sizes account (gone_on actor account) actor dropped (operation_after state operation)
+  leads dropped kept makes_none publishes_none tries =
       let same_heap = ap (λ (s : State). s.heap) same in
       record {
         bounds = bounds_after sizes account bounds actor operation runs g;
@@ -38,6 +40,7 @@ module _ (sizes : Sizes) (account : Account) (bounds : AreBounds (bounds_for siz
         generations = generations_then sizes account bounds actor operation runs g state.generations (ap (λ (s : State). s.generations) same);
         others = others_then sizes account bounds actor operation runs g none;
         own = own_then sizes account bounds actor operation runs g none;
+        tries = tries;
         aheads = no_more_then sizes account bounds actor operation runs g none makes_none;
         still = λ i a f x standing. elim (still_then sizes account bounds actor operation runs g none i a f x) [
           | inl is ↦ is

@@ -13,7 +13,7 @@ use Rattle.machine_model.specs.declared.actions.Action.{Action}
 use Rattle.machine_model.specs.declared.actions.Action.TheVariants as act
 use Rattle.machine_model.specs.declared.lines.Line.{Line}
 use Rattle.machine_model.specs.declared.operations.Operation.{Operation}
-use Rattle.machine_model.specs.Acting.{acted, gone, if_changed, operation_after}
+use Rattle.machine_model.specs.Acting.{acted, gone, if_changed, operation_after, attempt_after, mark_after}
 use Rattle.machine_model.specs.Calls.{handle_of}
 use Rattle.machine_model.specs.Grown.{standing}
 use Rattle.machine_model.specs.Machine.{AreBounds}
@@ -37,8 +37,9 @@ use Rattle.lock_free.specs.Accounts.{bounds_for, state_of, running, gone_on}
 use Rattle.lock_free.specs.Making.{over_of}
 use Rattle.lock_free.specs.Restoring.{Restores}
 use Rattle.lock_free.specs.Steps.{Reads, nothing}
+use Rattle.lock_free.specs.Trying.{SameTries, as_before}
 use Rattle.lock_free.proofs.OneStep.Aheads.{ahead_of, over_makes, ahead_acts}
-use Rattle.lock_free.proofs.OneStep.Changing.{then, slot_then, births_then, live_then, roots_then, generations_then, others_then, own_then, no_more_then, still_then}
+use Rattle.lock_free.proofs.OneStep.Changing.{then, slot_then, births_then, live_then, roots_then, generations_then, others_then, own_then, tries_stay, no_more_then, still_then}
 use Rattle.lock_free.proofs.OneStep.Doing.{CompletesNone}
 use Rattle.lock_free.proofs.OneStep.Found.{link_of, slot_at}
 use Rattle.lock_free.proofs.OneStep.Going.{bounds_after}
@@ -76,6 +77,9 @@ module _ (sizes : Sizes) (account : Account) (bounds : AreBounds (bounds_for siz
   gone_is : (b : Bool) → (main_at state.heap i == main) ≡ b → gone state actor operation ≡ record put { heap = if_changed b (with_main state.heap i former) state.heap }
   gone_is b e = ap (acted put (handle_of operation.call)) is ∙ ap (λ c. record put { heap = if_changed c (with_main state.heap i former) state.heap }) e
 
+  tries : SameTries state (state_of sizes (gone_on actor account))
+  tries = tries_stay sizes account bounds actor operation runs g none (ap (attempt_after operation.attempt) is) (ap (mark_after operation.is_marked) is)
+
   claims : AllHold (IsInUse state.heap) state.heap (action_wants (act.Restore i main former))
   claims = subst (λ action. AllHold (IsInUse state.heap) state.heap (action_wants action)) is (action_finds state (safe_along (bounds_for sizes account.steps) bounds account.steps) actor operation runs)
 
@@ -88,7 +92,7 @@ module _ (sizes : Sizes) (account : Account) (bounds : AreBounds (bounds_for siz
   -- it stands there no more
   module _ (e : (main_at state.heap i == main) ≡ false) where
     pub overtaken : Reads sizes account actor operation
-    overtaken = leads sizes account bounds actor operation runs g none (gone_is false e) nothing (λ r k. refl) makes_none (λ j a f ahead standing. publishes_none j a f ahead)
+    overtaken = leads sizes account bounds actor operation runs g none (gone_is false e) nothing (λ r k. refl) makes_none (λ j a f ahead standing. publishes_none j a f ahead) (as_before tries)
 
     pub another : main_at state.heap i ≢ main
     another = eqb-false (main_at state.heap i) main e
@@ -146,6 +150,7 @@ module _ (sizes : Sizes) (account : Account) (bounds : AreBounds (bounds_for siz
       generations = generations_then sizes account bounds actor operation runs g state.generations (ap (λ (s : State). s.generations) (gone_is true e));
       others = others_then sizes account bounds actor operation runs g none;
       own = own_then sizes account bounds actor operation runs g none;
+      tries = tries;
       aheads = no_more_then sizes account bounds actor operation runs g none makes_none;
       still = λ j a f x. elim (still_then sizes account bounds actor operation runs g none j a f x) [
         | inl is ↦ is
