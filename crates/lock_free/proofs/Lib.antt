@@ -10,6 +10,8 @@ mod Moments
 mod Within
 mod Decoding
 mod Looking
+mod Verdicts
+mod DecideStep
 mod Framing
 mod NodeWord
 mod Pools

@@ -10,3 +10,4 @@ pub mod Making
 pub mod Publishing
 pub mod Deciding
 pub mod Restoring
+pub mod Exchanging
