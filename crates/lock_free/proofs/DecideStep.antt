@@ -45,26 +45,11 @@ use Rattle.lock_free.proofs.Asked.{links_of, nodes_stay}
 use Rattle.lock_free.proofs.Assembling.{AllStand, all_stand}
 use Rattle.lock_free.proofs.Decided.{all_then}
 use Rattle.lock_free.proofs.DecidedKept.{decide_kept}
-use Rattle.lock_free.proofs.Keeping.{kept_then}
+use Rattle.lock_free.proofs.Exchanged.{AllowsExchange, Leaves, words_hit, missed, sound_by}
+use Rattle.lock_free.proofs.LinkWords.{same_generation}
 use Rattle.lock_free.proofs.Looking.{went, link_there, same_action}
-use Rattle.lock_free.proofs.Moments.{AllowsExchange, allowed, took_by, seat, its_place}
-use Rattle.lock_free.proofs.Verdicts.{either_hit, either_miss, o, runs, main_is, shape_now, previous_now, case_is, Case, was_pending, was_decided}
-
--- an account at which what stands is sound
-pub sound_by : (v : View) (account : Account) (stands : ℕ → Bool) (words : List ℕ) → words_of v.sizes ≤ 2 ^ 28 → AllStand v.sizes account stands words → IsSound (words_of v.sizes) (seen v account)
-sound_by v account stands words range all = record { size = refl; range = range; bounds = all.bounds; counted = all.counted; inside = all.nodes.inside }
-
--- the generation of an indirection stays
-same_generation : (before after : Node) → SameNode before after → generation_of after ≡ generation_of before
-same_generation (Indirection generation main) after same = ap generation_of same.1
-same_generation (Branch bitmap entries) after same = ap generation_of same.1
-same_generation (Single key value) after same = ap generation_of same.1
-same_generation (Tomb single) after same = ap generation_of same.1
-same_generation (Listed singles) after same = ap generation_of same.1
-
-generation_is : (state : State) (r : Ref) (slot : Slot) → get_or state.heap.slots (slot_of r) None ≡ Some slot → generation_at state.heap r ≡ generation_of slot.node
-unfolding node_at stored
-generation_is state r slot is = ap (λ x. generation_of (node_of x)) is
+use Rattle.lock_free.proofs.Moments.{allowed, took_by, seat, its_place}
+use Rattle.lock_free.proofs.Verdicts.{o, runs, main_is, shape_now, previous_now, case_is, Case, was_pending, was_decided}
 
 -- what an exchange writes over a header that is pending
 verdict_says : (licensed : Bool) (verdict : Prev) (says : Previous) (name : Name) (replaced : Ref) → says ≡ previous.Pending name → verdict ≡ (if licensed then prev.None else prev.Failed replaced) → decided_previous licensed says ≡ says_then verdict says
@@ -102,19 +87,14 @@ module _ (v : View) (i main replaced : Ref) (told : Option ℕ) (p : IsAt v (act
     pub same_license : is_licensed (state_of v.sizes there).heap i told ≡ is_licensed (now v).heap i told
     same_license =
         let link = (link_there v word found m (act.Decide i main replaced told) i (Contains-get_or (i ∷ []) 0 i (omega arith)) p).0 in
-        let later = nodes_stay v.sizes v.actor v.account there (seat v s kept id at).waited kept.bounds (slot_of i) link.was link.was_used in
-        let same = generation_is (state_of v.sizes there) i later.0 later.1 ∙ same_generation link.was.node later.0.node later.2 ∙ sym (generation_is (now v) i link.was link.was_used) in
+        let same = same_generation v s kept id at i link in
         ap (λ g. option_eq nat_eq told (Some g)) same
 
     case : Case v word found m i main replaced told p its_word header fits over
     case = case_is v word found m i main replaced told p its_word header fits over
 
-    -- the words after the exchange
-    abbrev words_then : List ℕ
-    words_then = set s.words word (either (found == old) new found)
-
-    abbrev Leaves : Type 0
-    Leaves = IsKept v.sizes (record { words = words_then; homes = s.homes; views = set s.views id after }) × (IsSound (words_of v.sizes) after × Took v there after)
+    abbrev Left : Type 0
+    Left = Leaves v s kept id at word old new
 
     module _ (d : Decides v.sizes there v.actor (o v word found m i main replaced told p its_word header fits over) main replaced)
         (verdict : d.verdict ≡ (if is_licensed (state_of v.sizes there).heap i told then prev.None else prev.Failed replaced)) (same : d.slot ≡ (main_is v word found m i main replaced told p its_word header fits over).0.slot)
@@ -143,9 +123,9 @@ module _ (v : View) (i main replaced : Ref) (told : Option ℕ) (p : IsAt v (act
       at_place : 2 * place_of there main ≡ word
       at_place = ap (λ n. 2 * n) (its_place v s kept id at main (main_is v word found m i main replaced told p its_word header fits over).0) ∙ sym its_word
 
-      decided_so : found ≡ old → Leaves
+      decided_so : found ≡ old → Left
       decided_so e = (
-        subst (λ ws. IsKept v.sizes (record { words = ws; homes = s.homes; views = set s.views id after })) (ap (λ n. set s.words n new) at_place ∙ ap (set s.words word) (sym (either_hit found old new e)))
+        subst (λ ws. IsKept v.sizes (record { words = ws; homes = s.homes; views = set s.views id after })) (words_hit v s kept id at word old new e (2 * place_of there main) at_place)
         (decide_kept v.sizes s kept id v at (o v word found m i main replaced told p its_word header fits over) (runs v word found m i main replaced told p its_word header fits over) main replaced d here is_main new says),
         (
           sound_by v (gone_on v.actor there) kept.stands _ kept.range.within
@@ -154,21 +134,12 @@ module _ (v : View) (i main replaced : Ref) (told : Option ℕ) (p : IsAt v (act
         ),
       )
 
-    overtaken : Reads v.sizes there v.actor (o v word found m i main replaced told p its_word header fits over) → found ≢ old → Leaves
-    overtaken reads differs = (
-      subst (λ ws. IsKept v.sizes (record { words = ws; homes = s.homes; views = set s.views id after })) (sym (ap (set s.words word) (either_miss found old new differs) ∙ set-get_or s.words word 0))
-      (kept_then v.sizes s kept id v at (o v word found m i main replaced told p its_word header fits over) (runs v word found m i main replaced told p its_word header fits over) reads),
-      (
-        record { size = refl; range = kept.range.within; bounds = reads.bounds; counted = kept.counted ∙ sym reads.births; inside = λ k slot e. kept.nodes.inside k slot (sym (reads.nodes k) ∙ e) },
-        took_by v s kept id at (o v word found m i main replaced told p its_word header fits over) (runs v word found m i main replaced told p its_word header fits over) (gone_on v.actor there) reads.own,
-      ),
-    )
-
-    by_case : Case v word found m i main replaced told p its_word header fits over → Leaves
+    by_case : Case v word found m i main replaced told p its_word header fits over → Left
     by_case (was_pending d verdict same stands e pending) = decided_so d verdict same stands e
-    by_case (was_decided reads differs pending) = overtaken reads differs
+    by_case (was_decided reads differs pending) =
+        missed v s kept id at word old new (o v word found m i main replaced told p its_word header fits over) (runs v word found m i main replaced told p its_word header fits over) reads differs
 
-    pub leaves : Leaves
+    pub leaves : Left
     leaves = by_case case
 
     -- it was found if the main node was pending still
@@ -180,7 +151,7 @@ module _ (v : View) (i main replaced : Ref) (told : Option ℕ) (p : IsAt v (act
         by (was_decided reads differs pending) = pending ∙ sym (ne_eqb found old differs)
 
 module _ (v : View) (name : ℕ) (header : Header) (fits : IsHeader header) (licensed : Bool) (is_at : IsAtDecide v name header licensed) where
-  abbrev it_leaves : (s : Table.State Call View) (kept : IsKept v.sizes s) (id : ℕ) (at : get_elem? s.views id ≡ some v) → Leaves v is_at.0 is_at.1 is_at.2 is_at.3 is_at.4 name is_at.5 header fits is_at.6 licensed is_at.7 s kept id at
+  abbrev it_leaves : (s : Table.State Call View) (kept : IsKept v.sizes s) (id : ℕ) (at : get_elem? s.views id ≡ some v) → Leaves v s kept id at (2 * name) (header_code header) (header_code (decided_header licensed header))
   it_leaves s kept id at = leaves v is_at.0 is_at.1 is_at.2 is_at.3 is_at.4 name is_at.5 header fits is_at.6 licensed is_at.7 s kept id at
 
 pub decide_allowed : (sizes : Sizes) (size id : ℕ) (me : Me Call View) (name : ℕ) (header : Header) (fits : IsHeader header) (licensed : Bool) (is_at : IsAtDecide me.0 name header licensed) →

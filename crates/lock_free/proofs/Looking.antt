@@ -1,5 +1,5 @@
 -- What loads of nodes find.
-use Rattle.std.proofs.Common.{◌≡◌, ◌+◌, ◌*◌, ◌/◌, ◌<◌, ◌≤◌, ℕ, Bool, true, false, List, [], ◌∷◌, Contains, get_or, slice_index, slice_get, length, Some, None, refl, sym, ap, subst, ◌∙◌, arith}
+use Rattle.std.proofs.Common.{◌≡◌, ◌+◌, ◌*◌, ◌/◌, ◌^◌, ◌<◌, ◌≤◌, ℕ, Bool, true, false, List, [], ◌∷◌, Contains, get_or, slice_index, slice_get, length, Some, None, refl, sym, ap, subst, ◌∙◌, arith}
 use Rattle.std.proofs.lemmas.Bool.{true≢false}
 use Rattle.std.proofs.lemmas.List.Elements.{Contains-get_or}
 use Rattle.std.proofs.lemmas.Option.{same_Some}
@@ -80,6 +80,11 @@ module _ (v : View) (word found : ℕ) (m : Moment v word found) where
     header_at main its =
         subst (λ w. SaysHeader account state (slot_of r) h.slot w) (is_found (2 * place_of v.account r) its)
         (header_in account state m.table.words (place_of v.account r) (slot_of r) h.slot h.slot.node main stands)
+
+    pub link_at : word ≡ 2 * place_of v.account r → (generation : ℕ) (main : Ref) → h.slot.node ≡ Indirection generation main →
+        (generation < 2 ^ 36) × ((own : Bool) × OwnIs account.owned (slot_of r) (slot_of main) own × (found ≡ link_code (record { generation = generation; main = record { slot = place_of account main; own = own } })))
+    link_at its generation main node =
+        let link = subst (λ n. StandsAs account state (InTable m.table.words) (place_of v.account r) (slot_of r) h.slot n) node stands in (link.0, (link.1.0, link.1.1, sym (is_found (2 * place_of v.account r) its) ∙ link.1.2))
 
     pub says_main : word ≡ 2 * place_of v.account r → SaysMain account state r (header_of found)
     says_main its slot is main =

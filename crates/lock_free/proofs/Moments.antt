@@ -1,12 +1,11 @@
 -- What the rule says at the moment of an access: of the seat's operation, of nodes, and what a load leaves.
 use Rattle.history.specs.declared.calls.Call.{Call}
-use Rattle.std.proofs.Common.{◌≡◌, ◌+◌, ◌*◌, ◌<◌, ◌≤◌, ◌⊎◌, ◌==◌, ℕ, suc, zero, inl, inr, Bool, List, [], ◌∷◌, ◌++◌, Contains, set, get_or, slice_index, length, Some, None, refl, sym, ap, subst, ◌∙◌, arith}
+use Rattle.std.proofs.Common.{◌≡◌, ◌+◌, ◌*◌, ◌<◌, ◌≤◌, ◌⊎◌, ℕ, suc, zero, inl, inr, Bool, List, [], ◌∷◌, ◌++◌, Contains, set, get_or, slice_index, length, Some, None, refl, sym, ap, subst, ◌∙◌, arith}
 use Rattle.std.proofs.lemmas.List.{set-get_or}
 use Rattle.std.proofs.lemmas.List.Elements.{Contains-append_left}
 use Rattle.std.proofs.lemmas.Option.{same_Some}
 use mathlib.Core.Option.{some, none}
 use lib.ListN.{get_elem?}
-use prog.Atomic.{either}
 use Rattle.atomic_table.specs.Table.{Me, Allows, step, keeps}
 use Rattle.atomic_table.specs.Table as Table
 use Rattle.proof_memory.specs.Vocabulary.{HashKind}
@@ -245,10 +244,3 @@ module _ (sizes : Sizes) (size id : ℕ) (me : Me Call View) (word : ℕ) where
       allowed sizes size id me word (λ n. n) (has_gone (step size word 0 0 none) me)
       (λ s kept at. (gone_view me.0 s kept id at o runs reading, unchanged s (gone_view me.0 s kept id at o runs reading) (gone_kept me.0 s kept id at o runs reading),
           ((record { table = s; kept = kept; id = id; at = at; finds = refl }, refl, gone_took me.0 s kept id at o runs reading), gone_sound me.0 s kept id at o runs reading, refl)))
-
--- an exchange that is the operation's step
-abbrev pub AllowsExchange : Sizes → ℕ → ℕ → Me Call View → ℕ → ℕ → ℕ → Type 0
-AllowsExchange sizes size id me word old new = Allows (IsKept sizes) size id me word (λ n. either (n == old) new n) (has_gone (step size word old new none) me)
-
-pub exchange_by : (sizes : Sizes) (size id : ℕ) (me : Me Call View) (word old new x y : ℕ) → x ≡ old → y ≡ new → AllowsExchange sizes size id me word old new → AllowsExchange sizes size id me word x y
-exchange_by sizes size id me word old new x y e f h = subst (λ n. AllowsExchange sizes size id me word n y) (sym e) (subst (λ n. AllowsExchange sizes size id me word old n) (sym f) h)

@@ -1,16 +1,8 @@
 -- The exchange of a header decides a main node that is pending still, and no other.
-use Rattle.history.specs.declared.calls.Call.{Call}
 use Rattle.std.proofs.Common.{◌≡◌, ◌≢◌, ◌+◌, ◌*◌, ◌^◌, ◌<◌, ◌⊎◌, ◌==◌, ℕ, inl, inr, Bool, true, false, List, [], ◌∷◌, Contains, set, get_or, slice_index, length, Option, Some, None, refl, sym, ap, subst, ◌∙◌, arith, if◌then◌else◌, eq-eqb, ne_eqb}
 use Rattle.std.proofs.lemmas.Bool.{true≢false}
-use Rattle.std.proofs.lemmas.List.{set-get_or}
 use Rattle.std.proofs.lemmas.List.Elements.{Contains-get_or, Contains-append_left}
 use Rattle.std.proofs.lemmas.Option.{same_Some}
-use mathlib.Core.Option.{some, none}
-use lib.ListN.{get_elem?}
-use prog.Atomic.{either}
-use Rattle.atomic_table.specs.Table.{Me, Allows, step}
-use Rattle.atomic_table.specs.Table as Table
-use Rattle.atomic_table.proofs.Lists.{exchanged}
 use Rattle.trie_words.specs.Codes.{IsHeader, IsName, IsPrevious, header_code, previous_code, name_code}
 use Rattle.trie_words.specs.declared.headers.Header.{Header}
 use Rattle.trie_words.specs.declared.headers.Previous.{Previous}
@@ -45,20 +37,9 @@ use Rattle.lock_free.specs.Places.{words_of}
 use Rattle.lock_free.specs.Rules.{IsKept}
 use Rattle.lock_free.specs.Steps.{Reads}
 use Rattle.lock_free.proofs.Asked.{mains_of, decides_or_not, nodes_stay}
-use Rattle.lock_free.proofs.Assembling.{all_stand}
-use Rattle.lock_free.proofs.Decided.{all_then, failed_pending, none_pending, same_pending}
-use Rattle.lock_free.proofs.DecidedKept.{decide_kept}
-use Rattle.lock_free.proofs.Keeping.{kept_then}
+use Rattle.lock_free.proofs.Decided.{failed_pending, none_pending, same_pending}
 use Rattle.lock_free.proofs.Looking.{main_there, link_there, header_at, same_action, o_there, acts_there}
 use Rattle.lock_free.proofs.Moments.{allowed, CanBe, IsThere, its_place, live_place, still_own, took_by, waited_so, before, seat}
-
--- ---- what an exchange writes
-
-pub either_hit : (n old new : ℕ) → n ≡ old → either (n == old) new n ≡ new
-either_hit n old new e = exchanged n old new (λ x. x ≡ new) (λ same. refl) (λ other. absurd (other e))
-
-pub either_miss : (n old new : ℕ) → n ≢ old → either (n == old) new n ≡ n
-either_miss n old new e = exchanged n old new (λ x. x ≡ n) (λ same. absurd (e same)) (λ other. refl)
 
 -- ---- what a main node is stays
 

@@ -5,7 +5,7 @@ use Rattle.lock_free.specs.Exchanging.{decided_header, HasDecided}
 use Rattle.lock_free.specs.Loading.{IsSound}
 use Rattle.lock_free.proofs.Asked.{mains_of, main_stands}
 use Rattle.lock_free.proofs.DecideStep.{decide_allowed, decide_told}
-use Rattle.lock_free.proofs.Moments.{exchange_by}
+use Rattle.lock_free.proofs.Exchanged.{exchange_by}
 use Rattle.lock_free.proofs.Within.{both_inside}
 use Rattle.lock_free.proofs.exchanges.decide.Goals as goal
 
