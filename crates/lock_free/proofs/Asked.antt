@@ -1,23 +1,32 @@
 -- What more is asked of the definition.
-use Rattle.std.proofs.Common.{◌≡◌, ◌<◌, ◌⊎◌, ℕ, Bool, true, List, [], ◌∷◌, Contains, Some, None, get_or}
+use Rattle.std.proofs.Common.{◌≡◌, ◌≢◌, ◌<◌, ◌⊎◌, ℕ, Bool, true, List, [], ◌∷◌, Contains, Option, Some, None, get_or, if◌then◌else◌}
 use Rattle.machine_model.specs.Beneath.slot_arena.specs.declared.refs.Ref.{Ref}
 use Rattle.machine_model.specs.Beneath.slot_arena.specs.declared.nodes.Node.{Node}
 use Rattle.machine_model.specs.Beneath.slot_arena.specs.declared.nodes.Node.TheVariants.{Indirection}
 use Rattle.machine_model.specs.Beneath.slot_arena.specs.declared.nodes.Slot.{Slot}
+use Rattle.machine_model.specs.Beneath.slot_arena.specs.declared.nodes.Prev.TheVariants as prev
+use Rattle.machine_model.specs.Beneath.slot_arena.specs.Heaps.{main_at, prev_at}
 use Rattle.machine_model.specs.Beneath.slot_arena.specs.Refs.{slot_of}
 use Rattle.machine_model.specs.declared.actions.Action.{Action}
 use Rattle.machine_model.specs.declared.actions.Action.TheVariants as act
 use Rattle.machine_model.specs.declared.operations.Operation.{Operation}
 use Rattle.machine_model.specs.Machine.{AreBounds}
 use Rattle.machine_model.specs.Operations.{action_of}
+use Rattle.machine_model.specs.Reading.{is_licensed}
 use Rattle.proof_memory.specs.Laws.{SameNode}
 use Rattle.proof_memory.specs.Wants.{is_main_node, is_formed}
 use Rattle.lock_free.specs.declared.accounts.Account.{Account}
 use Rattle.lock_free.specs.declared.sizes.Sizes.{Sizes}
 use Rattle.lock_free.specs.Accounts.{bounds_for, state_of, HasWaited, running}
+use Rattle.lock_free.specs.Deciding.{Decides}
 use Rattle.lock_free.specs.Live.{IsLive}
 use Rattle.lock_free.proofs.OneStep.Found as found
+use Rattle.lock_free.proofs.OneStep.Decides as decides
+use Rattle.lock_free.proofs.OneStep.Restores as restores
 pub use Rattle.lock_free.proofs.OneStep.Found.{links_of, mains_of}
+use Rattle.lock_free.specs.Nodes.{IsAhead}
+use Rattle.lock_free.specs.Restoring.{Restores}
+use Rattle.lock_free.specs.Steps.{Reads}
 
 module _ (sizes : Sizes) (account : Account) (bounds : AreBounds (bounds_for sizes account.steps)) where
   -- what is in use was made
@@ -44,6 +53,17 @@ module _ (sizes : Sizes) (account : Account) (bounds : AreBounds (bounds_for siz
     pub main_stands : (m : Ref) → Contains (mains_of (action_of (state_of sizes account) operation)) m →
         IsLive (state_of sizes account) m × ((slot : Slot) × (get_or (state_of sizes account).heap.slots (slot_of m) None ≡ Some slot) × (is_main_node slot.node ≡ true))
     main_stands = found.main_stands sizes account bounds actor operation runs
+
+    -- deciding a main node that is pending still, which stands in the indirection, or one that was decided since
+    pub decides_or_not : (i main replaced : Ref) (told : Option ℕ) → action_of (state_of sizes account) operation ≡ act.Decide i main replaced told →
+        ((d : Decides sizes account actor operation main replaced) × (d.verdict ≡ (if is_licensed (state_of sizes account).heap i told then prev.None else prev.Failed replaced)) × (main_at (state_of sizes account).heap i ≡ main))
+        ⊎ (Reads sizes account actor operation × ((p : Ref) → prev_at (state_of sizes account).heap main ≡ prev.Pending p → ⊥) × ((j a f : Ref) → IsAhead (state_of sizes account) j a f → slot_of f ≢ slot_of main))
+    decides_or_not = decides.decides_or_not sizes account bounds actor operation runs
+
+    -- putting a main node back in the place of one that stands there still, or doesn't
+    pub restores_or_not : (i main former : Ref) → action_of (state_of sizes account) operation ≡ act.Restore i main former →
+        (Restores sizes account actor operation i main former × (main_at (state_of sizes account).heap i ≡ main)) ⊎ (Reads sizes account actor operation × (main_at (state_of sizes account).heap i ≢ main))
+    restores_or_not = restores.restores_or_not sizes account bounds actor operation runs
 
     pub looked_at_lives : (r : Ref) → action_of (state_of sizes account) operation ≡ act.Look r → IsLive (state_of sizes account) r
     looked_at_lives = found.looked_at_lives sizes account bounds actor operation runs

@@ -15,6 +15,11 @@ mod Moments
 mod Within
 mod Decoding
 mod Looking
+mod Exchanged
+mod LinkWords
+mod Verdicts
+mod DecideStep
+mod RestoreStep
 mod Framing
 mod NodeWord
 mod Pools
