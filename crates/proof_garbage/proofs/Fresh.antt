@@ -85,7 +85,7 @@ module _ (limits : Bounds) (steps : List Step) (ok : AreBounds limits) where
   -- ---- a fresh main node
 
   module _ (actor : ℕ) (operation : Operation) (i a f : Ref) (why : Purpose) (runs : operation_of state actor ≡ Some operation) (on : operation.line ≡ line.Swap why (swapping i a f)) where
-    fresh : Private words end f
+    pub fresh : Private words end f
     fresh = (subst (λ l. Staged words end actor (stage_of l)) on (staged limits steps ok actor operation runs)).0
 
     pub its_stage : words.stage end actor ≡ Publishes i a f

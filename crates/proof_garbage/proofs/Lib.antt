@@ -8,3 +8,5 @@ pub mod Restoring
 pub mod Private
 pub mod Pending
 pub mod Fresh
+pub mod First
+pub mod Swaps
