@@ -10,3 +10,4 @@ pub mod Pending
 pub mod Fresh
 pub mod First
 pub mod Swaps
+pub mod GivenUp
