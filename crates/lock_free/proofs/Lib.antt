@@ -15,6 +15,8 @@ mod LinkWords
 mod Verdicts
 mod DecideStep
 mod RestoreStep
+mod GivenBack
+mod PublishStep
 mod Framing
 mod NodeWord
 mod Pools

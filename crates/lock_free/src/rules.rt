@@ -2,6 +2,7 @@
 
 ghost use Rattle.lock_free.specs.Rules.{IsKept, first_view};
 ghost use Rattle.lock_free.specs.Loading.{has_seen, has_gone};
+ghost use Rattle.lock_free.specs.Exchanging.{has_published};
 
 use crate::accounts::Account;
 use crate::sizes::Sizes;
@@ -63,9 +64,16 @@ impl Play<Call, View> for Sees {
     ghost then = { has_seen };
 }
 
-/// The operation's next step, which changes no word, is taken.
+/// The operation's next step is taken, which makes no node.
 pub struct Goes;
 
 impl Play<Call, View> for Goes {
     ghost then = { has_gone };
+}
+
+/// A fresh main node is swapped in, or isn't.
+pub struct Publishes;
+
+impl Play<Call, View> for Publishes {
+    ghost then = { has_published };
 }
