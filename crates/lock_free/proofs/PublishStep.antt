@@ -1,6 +1,6 @@
 -- The exchange of an indirection's word that swaps a fresh main node in is the operation's step, whether it finds the replaced one or not.
 use Rattle.history.specs.declared.calls.Call.{Call}
-use Rattle.std.proofs.Common.{◌≡◌, ◌≢◌, ◌+◌, ◌*◌, ◌⊎◌, ◌==◌, ℕ, inl, inr, Bool, true, false, List, [], ◌∷◌, Contains, map, set, get_or, slice_index, Some, None, refl, sym, ap, subst, ◌∙◌, arith, eq-eqb, ne_eqb}
+use Rattle.std.proofs.Common.{◌≡◌, ◌≢◌, ◌+◌, ◌*◌, ◌<◌, ◌≤◌, ◌⊎◌, ◌==◌, ℕ, inl, inr, Bool, true, false, List, [], ◌∷◌, Contains, map, set, get_or, slice_index, Some, None, refl, sym, ap, subst, ◌∙◌, arith, eq-eqb, ne_eqb}
 use Rattle.std.proofs.lemmas.Bool.{true≢false}
 use Rattle.std.proofs.lemmas.List.Elements.{Contains-get_or, Contains-append_right}
 use Rattle.std.proofs.lemmas.Option.{same_Some}
@@ -29,7 +29,8 @@ use Rattle.lock_free.specs.Accounts.{state_of, place_of, running, gone_on}
 use Rattle.lock_free.specs.Exchanging.{IsLinkTo, IsAtPublish, given_back, given_up, HasSwapped, HasPublished, has_published}
 use Rattle.lock_free.specs.Live.{refs_of_claims, line_claims, from_operation, IsLive}
 use Rattle.lock_free.specs.Loading.{Moment, now, seen, IsAt, IsSound, Took}
-use Rattle.lock_free.specs.Places.{words_of}
+use Rattle.lock_free.specs.Nodes.{class_of}
+use Rattle.lock_free.specs.Places.{words_in, words_of}
 use Rattle.lock_free.specs.Publishing.{swapped_in, Publishes}
 use Rattle.lock_free.specs.Rules.{Stands, pool_of, IsKept}
 use Rattle.lock_free.specs.Steps.{Leads}
@@ -40,7 +41,7 @@ use Rattle.lock_free.proofs.GivenBack.{WasOf, Fits, all_fit, one_of}
 use Rattle.lock_free.proofs.Keeping.{IsGivenUp, drop_kept}
 use Rattle.lock_free.proofs.LinkWords.{i_there, generation_now, hit, miss}
 use Rattle.lock_free.proofs.Looking.{main_there, o_there, acts_there, same_action}
-use Rattle.lock_free.proofs.Moments.{IsThere, allowed, took_by, waited_so, its_place}
+use Rattle.lock_free.proofs.Moments.{IsThere, free_inside, allowed, took_by, waited_so, its_place}
 use Rattle.lock_free.proofs.PublishedAll.{all_then}
 use Rattle.lock_free.proofs.PublishedKept.{publish_kept}
 
@@ -131,7 +132,7 @@ module _ (v : View) (i replaced made : Ref) (p : IsAt v (act.Publish i replaced 
         subst (λ ws. IsKept v.sizes (record { words = ws; homes = s.homes; views = set s.views id swapped })) (ap (set s.words (2 * place_of there i)) new_is ∙ words_hit v s kept id at word old new e (2 * place_of there i) at_place)
         (publish_kept v.sizes s kept id v at o runs i replaced made r here),
         (
-          sound_by v (swapped_in v.actor i made there) kept.stands _ kept.range.within (all_then v.sizes there v.actor o i replaced made r kept.stands s.words (all_stand v.sizes s kept) here),
+          sound_by v s kept id at (swapped_in v.actor i made there) kept.stands _ (all_then v.sizes there v.actor o i replaced made r kept.stands s.words (all_stand v.sizes s kept) here),
           took_by v s kept id at o runs (swapped_in v.actor i made there) r.own,
         ),
       )
@@ -150,6 +151,12 @@ module _ (v : View) (i replaced made : Ref) (p : IsAt v (act.Publish i replaced 
     fit : Fits v s kept id at (λ q. Contains o.private q) (given_back state there o.private v.pool)
     fit = all_fit v s kept id at o.private each (private_apart v.sizes there kept.bounds v.actor o runs)
 
+    -- what is free then is the table's
+    free_then : (b n : ℕ) → b < 3 → Contains (pool_of v.pool b) n ⊎ WasOf v s kept id at (λ q. Contains o.private q) b n → 2 * n + words_in b ≤ words_of v.sizes
+    free_then b n low (inl old) = free_inside v s kept id at b n (low, old)
+    free_then b n low (inr w) =
+        subst (λ c. 2 * n + words_in c ≤ words_of v.sizes) w.class (subst (λ x. 2 * x + words_in (class_of w.slot.node) ≤ words_of v.sizes) w.place (kept.nodes.inside (slot_of w.node) w.slot w.stood.1))
+
     module _ (leads : Leads v.sizes there (gone_on v.actor there) v.actor (is_one_of o.private) (operation_after state o)) where
       abbrev GivenUp : ℕ → ℕ → Type 0
       GivenUp b n =
@@ -165,7 +172,7 @@ module _ (v : View) (i replaced made : Ref) (p : IsAt v (act.Publish i replaced 
         (drop_kept v.sizes s kept id v at o (operation_after state o) runs (machine.Go v.actor) tt (λ a d e. d (sym e)) (is_one_of o.private) leads refl refl (given_back state there o.private v.pool) fit.once fit.more
         (λ b n low c. was_given b n (fit.which b n low c))),
         (
-          record { size = refl; range = kept.range.within; bounds = leads.bounds; counted = kept.counted ∙ sym leads.births; inside = λ k slot e. kept.nodes.inside k slot (sym (leads.nodes k) ∙ e) },
+          record { size = refl; range = kept.range.within; bounds = leads.bounds; counted = kept.counted ∙ sym leads.births; inside = λ k slot e. kept.nodes.inside k slot (sym (leads.nodes k) ∙ e); free = λ b n f. free_then b n f.0 (fit.which b n f.0 f.1) },
           λ q runs_q. leads.own ∙ ap (λ x. Some (operation_after state x)) (same_Some o q (sym runs ∙ runs_q)),
         ),
       )
