@@ -17,6 +17,8 @@ mod DecideStep
 mod RestoreStep
 mod GivenBack
 mod PublishStep
+mod OwnSlots
+mod MakeStep
 mod Framing
 mod NodeWord
 mod Pools

@@ -11,3 +11,4 @@ pub mod Publishing
 pub mod Deciding
 pub mod Restoring
 pub mod Exchanging
+pub mod Storing
