@@ -1,5 +1,6 @@
 -- What more is asked of the definition.
-use Rattle.std.proofs.Common.{◌≡◌, ◌≢◌, ◌<◌, ◌⊎◌, ℕ, Bool, true, List, [], ◌∷◌, Contains, Option, Some, None, get_or, if◌then◌else◌}
+use Rattle.std.proofs.Common.{◌≡◌, ◌≢◌, ◌<◌, ◌⊎◌, ◌==◌, ℕ, map, Bool, true, List, [], ◌∷◌, Contains, Option, Some, None, get_or, if◌then◌else◌}
+use Rattle.std.specs.List.{list_any}
 use Rattle.machine_model.specs.Beneath.slot_arena.specs.declared.refs.Ref.{Ref}
 use Rattle.machine_model.specs.Beneath.slot_arena.specs.declared.nodes.Node.{Node}
 use Rattle.machine_model.specs.Beneath.slot_arena.specs.declared.nodes.Node.TheVariants.{Indirection}
@@ -10,23 +11,31 @@ use Rattle.machine_model.specs.Beneath.slot_arena.specs.Refs.{slot_of}
 use Rattle.machine_model.specs.declared.actions.Action.{Action}
 use Rattle.machine_model.specs.declared.actions.Action.TheVariants as act
 use Rattle.machine_model.specs.declared.operations.Operation.{Operation}
+use Rattle.machine_model.specs.Acting.{operation_after}
 use Rattle.machine_model.specs.Machine.{AreBounds}
 use Rattle.machine_model.specs.Operations.{action_of}
 use Rattle.machine_model.specs.Reading.{is_licensed}
 use Rattle.proof_memory.specs.Laws.{SameNode}
 use Rattle.proof_memory.specs.Wants.{is_main_node, is_formed}
+use Rattle.proof_waiting.specs.Beneath.proof_slots.specs.Unswept.{HasNoSweeps}
 use Rattle.lock_free.specs.declared.accounts.Account.{Account}
 use Rattle.lock_free.specs.declared.sizes.Sizes.{Sizes}
-use Rattle.lock_free.specs.Accounts.{bounds_for, state_of, HasWaited, running}
+use Rattle.lock_free.specs.Accounts.{bounds_for, state_of, HasWaited, running, gone_on}
 use Rattle.lock_free.specs.Deciding.{Decides}
 use Rattle.lock_free.specs.Live.{IsLive}
 use Rattle.lock_free.proofs.OneStep.Found as found
 use Rattle.lock_free.proofs.OneStep.Decides as decides
+use Rattle.lock_free.proofs.OneStep.Publishes as publishes
 use Rattle.lock_free.proofs.OneStep.Restores as restores
 pub use Rattle.lock_free.proofs.OneStep.Found.{links_of, mains_of}
 use Rattle.lock_free.specs.Nodes.{IsAhead}
+use Rattle.lock_free.specs.Publishing.{swapped_in, Publishes}
 use Rattle.lock_free.specs.Restoring.{Restores}
-use Rattle.lock_free.specs.Steps.{Reads}
+use Rattle.lock_free.specs.Rules.{Once}
+use Rattle.lock_free.specs.Steps.{Dropped, Leads, Reads}
+
+
+pub use Rattle.lock_free.proofs.OneStep.Giving.{is_one_of}
 
 module _ (sizes : Sizes) (account : Account) (bounds : AreBounds (bounds_for sizes account.steps)) where
   -- what is in use was made
@@ -64,6 +73,16 @@ module _ (sizes : Sizes) (account : Account) (bounds : AreBounds (bounds_for siz
     pub restores_or_not : (i main former : Ref) → action_of (state_of sizes account) operation ≡ act.Restore i main former →
         (Restores sizes account actor operation i main former × (main_at (state_of sizes account).heap i ≡ main)) ⊎ (Reads sizes account actor operation × (main_at (state_of sizes account).heap i ≢ main))
     restores_or_not = restores.restores_or_not sizes account bounds actor operation runs
+
+    -- swapping a fresh main node in over one that stands there still, or doesn't
+    pub publishes_or_not : HasNoSweeps account.steps → (i replaced made : Ref) → action_of (state_of sizes account) operation ≡ act.Publish i replaced made →
+        (Publishes sizes account (swapped_in actor i made account) actor operation i replaced made × (main_at (state_of sizes account).heap i ≡ replaced))
+        ⊎ (Leads sizes account (gone_on actor account) actor (is_one_of operation.private) (operation_after (state_of sizes account) operation) × (main_at (state_of sizes account).heap i ≢ replaced))
+    publishes_or_not = publishes.publishes_or_not sizes account bounds actor operation runs
+
+    -- no two nodes of its own have one slot
+    pub private_apart : Once (map slot_of operation.private)
+    private_apart = ?
 
     pub looked_at_lives : (r : Ref) → action_of (state_of sizes account) operation ≡ act.Look r → IsLive (state_of sizes account) r
     looked_at_lives = found.looked_at_lives sizes account bounds actor operation runs

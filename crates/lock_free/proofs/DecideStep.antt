@@ -128,7 +128,7 @@ module _ (v : View) (i main replaced : Ref) (told : Option ℕ) (p : IsAt v (act
         subst (λ ws. IsKept v.sizes (record { words = ws; homes = s.homes; views = set s.views id after })) (words_hit v s kept id at word old new e (2 * place_of there main) at_place)
         (decide_kept v.sizes s kept id v at (o v word found m i main replaced told p its_word header fits over) (runs v word found m i main replaced told p its_word header fits over) main replaced d here is_main new says),
         (
-          sound_by v (gone_on v.actor there) kept.stands _ kept.range.within
+          sound_by v s kept id at (gone_on v.actor there) kept.stands _
           (all_then v.sizes there v.actor (o v word found m i main replaced told p its_word header fits over) main replaced d kept.stands s.words (all_stand v.sizes s kept) here is_main new says),
           took_by v s kept id at (o v word found m i main replaced told p its_word header fits over) (runs v word found m i main replaced told p its_word header fits over) (gone_on v.actor there) d.own,
         ),

@@ -1,6 +1,6 @@
 -- An exchange of a word that is the operation's step, whether it finds what it was to replace or not.
 use Rattle.history.specs.declared.calls.Call.{Call}
-use Rattle.std.proofs.Common.{◌≡◌, ◌≢◌, ◌^◌, ◌≤◌, ◌==◌, ℕ, Bool, List, set, slice_index, refl, sym, ap, subst, ◌∙◌}
+use Rattle.std.proofs.Common.{◌≡◌, ◌≢◌, ◌==◌, ℕ, Bool, List, set, slice_index, refl, sym, ap, subst, ◌∙◌}
 use Rattle.std.proofs.lemmas.List.{set-get_or}
 use mathlib.Core.Option.{some, none}
 use lib.ListN.{get_elem?}
@@ -19,7 +19,7 @@ use Rattle.lock_free.specs.Rules.{IsKept}
 use Rattle.lock_free.specs.Steps.{Reads}
 use Rattle.lock_free.proofs.Assembling.{AllStand}
 use Rattle.lock_free.proofs.Keeping.{kept_then}
-use Rattle.lock_free.proofs.Moments.{took_by}
+use Rattle.lock_free.proofs.Moments.{free_inside, took_by}
 
 -- ---- what an exchange writes
 
@@ -30,8 +30,10 @@ pub either_miss : (n old new : ℕ) → n ≢ old → either (n == old) new n �
 either_miss n old new e = exchanged n old new (λ x. x ≡ n) (λ same. absurd (e same)) (λ other. refl)
 
 -- an account at which what stands is sound
-pub sound_by : (v : View) (account : Account) (stands : ℕ → Bool) (words : List ℕ) → words_of v.sizes ≤ 2 ^ 28 → AllStand v.sizes account stands words → IsSound (words_of v.sizes) (seen v account)
-sound_by v account stands words range all = record { size = refl; range = range; bounds = all.bounds; counted = all.counted; inside = all.nodes.inside }
+pub sound_by : (v : View) (s : Table.State Call View) (kept : IsKept v.sizes s) (id : ℕ) (at : get_elem? s.views id ≡ some v) (account : Account) (stands : ℕ → Bool) (words : List ℕ) → AllStand v.sizes account stands words →
+    IsSound (words_of v.sizes) (seen v account)
+sound_by v s kept id at account stands words all =
+    record { size = refl; range = kept.range.within; bounds = all.bounds; counted = all.counted; inside = all.nodes.inside; free = free_inside v s kept id at }
 
 -- what it leaves of the words, and of the seat
 module _ (v : View) (s : Table.State Call View) (kept : IsKept v.sizes s) (id : ℕ) (at : get_elem? s.views id ≡ some v) (word old new : ℕ) where
@@ -54,7 +56,7 @@ module _ (v : View) (s : Table.State Call View) (kept : IsKept v.sizes s) (id : 
   missed o runs reads differs = (
     subst (λ ws. IsKept v.sizes (record { words = ws; homes = s.homes; views = set s.views id (seen v (gone_on v.actor kept.account)) })) (words_miss differs) (kept_then v.sizes s kept id v at o runs reads),
     (
-      record { size = refl; range = kept.range.within; bounds = reads.bounds; counted = kept.counted ∙ sym reads.births; inside = λ k slot e. kept.nodes.inside k slot (sym (reads.nodes k) ∙ e) },
+      record { size = refl; range = kept.range.within; bounds = reads.bounds; counted = kept.counted ∙ sym reads.births; inside = λ k slot e. kept.nodes.inside k slot (sym (reads.nodes k) ∙ e); free = free_inside v s kept id at },
       took_by v s kept id at o runs (gone_on v.actor kept.account) reads.own,
     ),
   )

@@ -31,13 +31,14 @@ use Rattle.lock_free.specs.Accounts.{bounds_for, state_of, place_at, place_of, H
 use Rattle.lock_free.specs.Live.{refs_of_claims, at_hand, IsKnown, from_root, from_operation, from_slot, IsLive}
 use Rattle.lock_free.specs.Loading.{now, Runs, IsUsed, IsSound, seen, Waited, Took, HasSeen, HasGone, has_seen, has_gone, Holds}
 use Rattle.lock_free.specs.Nodes.{StandsAs, InTable}
-use Rattle.lock_free.specs.Places.{words_of}
-use Rattle.lock_free.specs.Rules.{IsSeat, IsKept}
+use Rattle.lock_free.specs.Places.{words_in, words_of}
+use Rattle.lock_free.specs.Rules.{IsFree, IsSeat, IsKept}
 use Rattle.lock_free.specs.Steps.{Reads}
 use Rattle.lock_free.proofs.Asked.{in_use_made, live_in_use, nodes_stay}
 use Rattle.lock_free.proofs.Assembling.{all_stand, closing_stays, numbers_stay, assembled}
 use Rattle.lock_free.proofs.Meanings.{no_tries}
 use Rattle.lock_free.proofs.Definition.{IsReading, reads_of, waits, bounds_before}
+use Rattle.lock_free.proofs.Geometry.{end_inside}
 use Rattle.lock_free.proofs.Keeping.{kept_then}
 use Rattle.lock_free.proofs.Waiting.{waited_none}
 
@@ -112,10 +113,14 @@ module _ (v : View) (s : Table.State Call View) (kept : IsKept v.sizes s) (id : 
   pub same_place : (k : ℕ) (slot : Slot) → get_or (now v).heap.slots k None ≡ Some slot → place_at there k ≡ place_at v.account k
   same_place k slot is = ap (λ xs. get_or xs k 0) seat.waited.more_names ∙ place_stays v.account.names seat.waited.names k (made k slot is)
 
+  -- what is free for the seat is the table's
+  pub free_inside : (class name : ℕ) → IsFree v class name → 2 * name + words_in class ≤ words_of v.sizes
+  free_inside class name free = end_inside v.sizes s.words kept.taken class name free.0 (seat.spare class name free).0
+
   pub waited_so : Waited v there
   waited_so = record {
     waited = seat.waited;
-    sound = record { size = refl; range = kept.range.within; bounds = kept.bounds; counted = kept.counted; inside = kept.nodes.inside };
+    sound = record { size = refl; range = kept.range.within; bounds = kept.bounds; counted = kept.counted; inside = kept.nodes.inside; free = free_inside };
     stays = λ o runs. waits v.sizes v.actor v.account there seat.waited kept.bounds o runs;
   }
 
@@ -224,7 +229,7 @@ module _ (v : View) (s : Table.State Call View) (kept : IsKept v.sizes s) (id : 
     gone_kept = kept_then v.sizes s kept id v at o_there here.1 reads
 
     pub gone_sound : IsSound (words_of v.sizes) gone_view
-    gone_sound = record { size = refl; range = kept.range.within; bounds = reads.bounds; counted = kept.counted ∙ sym reads.births; inside = λ k slot e. kept.nodes.inside k slot (sym (reads.nodes k) ∙ e) }
+    gone_sound = record { size = refl; range = kept.range.within; bounds = reads.bounds; counted = kept.counted ∙ sym reads.births; inside = λ k slot e. kept.nodes.inside k slot (sym (reads.nodes k) ∙ e); free = free_inside }
 
     pub gone_took : Took v there gone_view
     gone_took = took_by o_there here.1 (gone_on v.actor there) reads.own

@@ -7,5 +7,7 @@ pub mod Doing
 pub mod Changing
 pub mod Leading
 pub mod Found
+pub mod Giving
 pub mod Restores
 pub mod Decides
+pub mod Publishes

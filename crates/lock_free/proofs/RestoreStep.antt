@@ -121,7 +121,7 @@ module _ (v : View) (i main former : Ref) (p : IsAt v (act.Restore i main former
         subst (λ ws. IsKept v.sizes (record { words = ws; homes = s.homes; views = set s.views id after })) (ap (set s.words (2 * place_of there i)) new_is ∙ words_hit v s kept id at word old new e (2 * place_of there i) at_place)
         (restore_kept v.sizes s kept id v at o runs i main former r here former_name.own owned),
         (
-          sound_by v (gone_on v.actor there) kept.stands _ kept.range.within (all_then v.sizes there v.actor o i main former r kept.stands s.words (all_stand v.sizes s kept) here former_name.own owned),
+          sound_by v s kept id at (gone_on v.actor there) kept.stands _ (all_then v.sizes there v.actor o i main former r kept.stands s.words (all_stand v.sizes s kept) here former_name.own owned),
           took_by v s kept id at o runs (gone_on v.actor there) r.own,
         ),
       )

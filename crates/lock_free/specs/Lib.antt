@@ -14,3 +14,4 @@ pub mod Restoring
 pub mod Offering
 pub mod Settling
 pub mod Exchanging
+pub mod Storing

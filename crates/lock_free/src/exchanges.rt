@@ -3,10 +3,10 @@
 ghost use Rattle.std.specs.Prelude.{◌≡◌};
 ghost use Rattle.trie_words.specs.Codes.{IsHeader, IsLink, IsName};
 ghost use Rattle.lock_free.specs.Loading.{IsSound};
-ghost use Rattle.lock_free.specs.Exchanging.{decided_header, IsAtDecide, HasDecided, IsAtRestore, HasRestored};
+ghost use Rattle.lock_free.specs.Exchanging.{decided_header, IsAtDecide, HasDecided, IsAtRestore, HasRestored, IsAtPublish, HasPublished};
 
 use crate::loads::{Actor, Words};
-use crate::rules::Goes;
+use crate::rules::{Goes, Publishes};
 use trie_words::{Header, Link, Name, Previous};
 
 /// The header of a pending main node, decided.
@@ -52,4 +52,20 @@ pub fn restore(words: &Words, actor: &mut Actor, indirection: u32, link: Link, f
     let failed = link.to_word();
     let restored = Link { generation: link.generation, main: former }.to_word();
     words.compare_exchange::<Goes>(actor, 2 * indirection as usize, failed, restored) == failed
+}
+
+/// Swaps the fresh main node in this slot in, in the place of the one to which this link of the indirection leads, if that one
+/// stands there still: else the operation gives up all that it has made. Returns whether it stood there.
+pub fn publish(words: &Words, actor: &mut Actor, indirection: u32, link: Link, fresh: u32) -> bool
+    requires table { actor.old.table_id ≡ words.now.table_id }
+    requires sound { IsSound words.now.table_id.words actor.old.me.0 }
+    requires fits { IsLink link }
+    requires publishing { IsAtPublish actor.old.me.0 indirection link fresh }
+    ensures table { actor.new.table_id ≡ actor.old.table_id }
+    ensures sound { IsSound words.now.table_id.words actor.new.me.0 }
+    ensures published { HasPublished actor.old.me.0 result actor.new.me.0 }
+{
+    let before = link.to_word();
+    let swapped = Link { generation: link.generation, main: Name { slot: fresh, own: true } }.to_word();
+    words.compare_exchange::<Publishes>(actor, 2 * indirection as usize, before, swapped) == before
 }

@@ -50,7 +50,7 @@ pub main_elsewhere : (heap : Heap) (i m : Ref) (k : ℕ) → k ≢ slot_of i →
 unfolding with_main
 main_elsewhere heap i m k apart = found_elsewhere heap.slots (slot_of i) k _ apart
 
-main_births : (heap : Heap) (i m : Ref) → (with_main heap i m).births ≡ heap.births
+pub main_births : (heap : Heap) (i m : Ref) → (with_main heap i m).births ≡ heap.births
 unfolding with_main
 main_births heap i m = refl
 
