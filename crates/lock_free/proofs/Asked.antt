@@ -25,6 +25,7 @@ use Rattle.lock_free.specs.Deciding.{Decides}
 use Rattle.lock_free.specs.Live.{IsLive}
 use Rattle.lock_free.proofs.OneStep.Found as found
 use Rattle.lock_free.proofs.OneStep.Decides as decides
+use Rattle.lock_free.proofs.OneStep.Giving as giving
 use Rattle.lock_free.proofs.OneStep.Publishes as publishes
 use Rattle.lock_free.proofs.OneStep.Restores as restores
 pub use Rattle.lock_free.proofs.OneStep.Found.{links_of, mains_of}
@@ -82,7 +83,7 @@ module _ (sizes : Sizes) (account : Account) (bounds : AreBounds (bounds_for siz
 
     -- no two nodes of its own have one slot
     pub private_apart : Once (map slot_of operation.private)
-    private_apart = ?
+    private_apart = giving.private_apart sizes account bounds actor operation runs
 
     pub looked_at_lives : (r : Ref) → action_of (state_of sizes account) operation ≡ act.Look r → IsLive (state_of sizes account) r
     looked_at_lives = found.looked_at_lives sizes account bounds actor operation runs
