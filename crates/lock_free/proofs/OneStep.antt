@@ -11,3 +11,4 @@ pub mod Giving
 pub mod Restores
 pub mod Decides
 pub mod Publishes
+pub mod Taking
