@@ -12,3 +12,4 @@ pub mod Restores
 pub mod Decides
 pub mod Publishes
 pub mod Taking
+pub mod MadeMains

@@ -1,5 +1,5 @@
 -- One step more of an actor's operation, seen as a step of the definition.
-use Rattle.std.proofs.Common.{◌≡◌, ◌≢◌, ◌+◌, ◌-◌, ◌<◌, ◌≤◌, ◌++◌, ℕ, zero, suc, Bool, true, false, not, List, [], ◌∷◌, get_or, set, length, Some, None, is_some, refl, sym, ap, subst, ◌∙◌, arith, length-append}
+use Rattle.std.proofs.Common.{◌≡◌, ◌≢◌, ◌+◌, ◌-◌, ◌<◌, ◌≤◌, ◌++◌, ℕ, zero, suc, Bool, true, false, not, List, [], ◌∷◌, get_or, set, length, Some, None, Ok, is_some, refl, sym, ap, subst, ◌∙◌, arith, length-append}
 use Rattle.std.proofs.lemmas.Bool.{lt-leb}
 use Rattle.std.proofs.lemmas.List.{get_or-set_same}
 use Rattle.std.proofs.lemmas.Option.{none-some, same_Some}
@@ -56,6 +56,10 @@ going : (state : State) (actor : ℕ) (operation : Operation) (action : Action) 
 going state actor operation (act.End answer) g = absurd g
 going state actor operation action g = refl
 
+going_ok : (state : State) (actor : ℕ) (operation : Operation) (action : Action) → GoesOn action → step_by state actor operation action ≡ Ok (outcome.Went (kind_of action), settled state (gone state actor operation))
+going_ok state actor operation (act.End answer) g = absurd g
+going_ok state actor operation action g = refl
+
 module _ (sizes : Sizes) (account : Account) (bounds : AreBounds (bounds_for sizes account.steps)) (actor : ℕ) (operation : Operation) (runs : running sizes account actor operation) where
   abbrev pub now : State
   now = state_of sizes account
@@ -85,6 +89,9 @@ module _ (sizes : Sizes) (account : Account) (bounds : AreBounds (bounds_for siz
   module _ (g : GoesOn (action_of now operation)) where
     pub moves : Moves now (step.Go actor) (outcome.Went (kind_of (action_of now operation))) later
     moves = Goes allowed runs refl g
+
+    pub next_ok : next now (step.Go actor) ≡ Ok (outcome.Went (kind_of (action_of now operation)), later)
+    next_ok = goes_by now actor operation allowed runs ∙ going_ok now actor operation (action_of now operation) g
 
     next_is : next_state now (step.Go actor) ≡ later
     next_is = ap (state_after now) (goes_by now actor operation allowed runs) ∙ going now actor operation (action_of now operation) g
