@@ -13,3 +13,5 @@ pub mod Decides
 pub mod Publishes
 pub mod Taking
 pub mod MadeMains
+pub mod Offers
+pub mod Makes

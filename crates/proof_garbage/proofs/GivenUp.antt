@@ -58,14 +58,14 @@ module _ (limits : Bounds) (steps : List Step) (ok : AreBounds limits) (actor : 
     pub bounds : after.limits ≡ state.limits
     pub others : (a : ℕ) → (a ≡ actor → ⊥) → operation_of after a ≡ operation_of state a
 
-  other_id : (a : ℕ) (o : Operation) → (a ≡ actor → ⊥) → operation_of state a ≡ Some o → Others operation.id o.id
+  pub other_id : (a : ℕ) (o : Operation) → (a ≡ actor → ⊥) → operation_of state a ≡ Some o → Others operation.id o.id
   other_id a o apart is same =
       let (j, its, at_j) = place_of_actor state a o is in
       let (k, own, at_k) = place_of_actor state actor operation runs in
       apart (its ∙ ap suc ((has_handles_along limits steps).0.ids.distinct j k o operation at_j at_k same) ∙ sym own)
 
   -- what is private to it is known to no one else
-  private_known : (x : Ref) → Contains operation.private x → IsKnown state (Others operation.id) x → ⊥
+  pub private_known : (x : Ref) → Contains operation.private x → IsKnown state (Others operation.id) x → ⊥
   private_known x c known = let (k, own, at_k) = place_of_actor state actor operation runs in private_along limits ok steps k operation at_k x c known
 
   module _ (after : State) (same : SameElsewhere after) where
