@@ -1,12 +1,12 @@
 -- What more is asked of the definition. (Open: to be shown in the crates of the proof.)
-use Rattle.std.proofs.Common.{◌≡◌, ◌≢◌, ◌<◌, ◌⊎◌, ◌==◌, ℕ, map, Bool, true, List, [], ◌∷◌, Contains, Option, Some, None, get_or, if◌then◌else◌}
+use Rattle.std.proofs.Common.{◌≡◌, ◌≢◌, ◌<◌, ◌⊎◌, ◌==◌, ℕ, map, Bool, true, List, [], ◌∷◌, Contains, length, Option, Some, None, get_or, if◌then◌else◌}
 use Rattle.std.specs.List.{list_any}
 use Rattle.machine_model.specs.Beneath.slot_arena.specs.declared.refs.Ref.{Ref}
 use Rattle.machine_model.specs.Beneath.slot_arena.specs.declared.nodes.Node.{Node}
 use Rattle.machine_model.specs.Beneath.slot_arena.specs.declared.nodes.Node.TheVariants.{Indirection}
 use Rattle.machine_model.specs.Beneath.slot_arena.specs.declared.nodes.Slot.{Slot}
 use Rattle.machine_model.specs.Beneath.slot_arena.specs.declared.nodes.Prev.TheVariants as prev
-use Rattle.machine_model.specs.Beneath.slot_arena.specs.Heaps.{main_at, prev_at}
+use Rattle.machine_model.specs.Beneath.slot_arena.specs.Heaps.{main_at, prev_at, refs_of_node}
 use Rattle.machine_model.specs.Beneath.slot_arena.specs.Refs.{slot_of}
 use Rattle.machine_model.specs.declared.actions.Action.{Action}
 use Rattle.machine_model.specs.declared.actions.Action.TheVariants as act
@@ -22,6 +22,7 @@ use Rattle.lock_free.specs.declared.sizes.Sizes.{Sizes}
 use Rattle.lock_free.specs.Accounts.{bounds_for, state_of, HasWaited, running, gone_on}
 use Rattle.lock_free.specs.Deciding.{Decides}
 use Rattle.lock_free.specs.Live.{IsLive}
+use Rattle.lock_free.specs.Making.{over_of, made_at, Makes}
 use Rattle.lock_free.specs.Nodes.{IsAhead}
 use Rattle.lock_free.specs.Publishing.{swapped_in, Publishes}
 use Rattle.lock_free.specs.Restoring.{Restores}
@@ -89,6 +90,18 @@ module _ (sizes : Sizes) (account : Account) (bounds : AreBounds (bounds_for siz
         (Publishes sizes account (swapped_in actor i made account) actor operation i replaced made × (main_at (state_of sizes account).heap i ≡ replaced))
         ⊎ (Leads sizes account (gone_on actor account) actor (is_one_of operation.private) (operation_after (state_of sizes account) operation) × (main_at (state_of sizes account).heap i ≢ replaced))
     publishes_or_not i replaced made is = ?
+
+    -- making a node, wherever it is written
+    pub makes_of : (node : Node) → action_of (state_of sizes account) operation ≡ act.Make node → length account.names ≡ (state_of sizes account).heap.births → (name : ℕ) (own : Bool) →
+        Makes sizes account (made_at actor name own node account) actor operation node 0
+    makes_of node is counted name own = ?
+
+    -- what the node names is live, and so is the main node over which it is to be swapped in
+    pub made_names_live : (node : Node) → action_of (state_of sizes account) operation ≡ act.Make node → (r : Ref) → Contains (refs_of_node node) r → IsLive (state_of sizes account) r
+    made_names_live node is r c = ?
+
+    pub over_lives : (i main : Ref) → over_of operation.line ≡ Some (i, main) → IsLive (state_of sizes account) main
+    over_lives i main is = ?
 
     -- no two nodes of its own have one slot
     pub private_apart : Once (map slot_of operation.private)
