@@ -19,6 +19,7 @@ mod GivenBack
 mod PublishStep
 mod OwnSlots
 mod MakeStep
+mod ReadSteps
 mod Framing
 mod NodeWord
 mod Pools

@@ -12,3 +12,4 @@ pub mod Deciding
 pub mod Restoring
 pub mod Exchanging
 pub mod Storing
+pub mod OfReads
