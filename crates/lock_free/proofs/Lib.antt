@@ -20,6 +20,7 @@ mod PublishStep
 mod OwnSlots
 mod MakeStep
 mod ReadSteps
+mod ReadAgain
 mod Framing
 mod NodeWord
 mod Pools
