@@ -13,7 +13,8 @@ use Rattle.machine_model.specs.declared.actions.Action.TheVariants as act
 use Rattle.machine_model.specs.declared.operations.Operation.{Operation}
 use Rattle.machine_model.specs.Acting.{operation_after}
 use Rattle.machine_model.specs.Machine.{AreBounds}
-use Rattle.machine_model.specs.Operations.{action_of}
+use Rattle.machine_model.specs.declared.reading.ReadLine.TheVariants as read
+use Rattle.machine_model.specs.Operations.{action_of, read_of}
 use Rattle.machine_model.specs.Reading.{is_licensed}
 use Rattle.proof_memory.specs.Laws.{SameNode}
 use Rattle.proof_memory.specs.Wants.{is_main_node, is_formed}
@@ -114,3 +115,18 @@ module _ (sizes : Sizes) (account : Account) (bounds : AreBounds (bounds_for siz
 pub nodes_stay : (sizes : Sizes) (actor : ℕ) (before after : Account) → HasWaited actor before after → AreBounds (bounds_for sizes after.steps) → (k : ℕ) (slot : Slot) → get_or (state_of sizes before).heap.slots k None ≡ Some slot →
     (later : Slot) × (get_or (state_of sizes after).heap.slots k None ≡ Some later) × SameNode slot.node later.node
 nodes_stay sizes actor before after w bounds k slot is = ?
+
+-- a failed main node that stands there no more doesn't come back
+pub gone_stays : (sizes : Sizes) (actor : ℕ) (before after : Account) → HasWaited actor before after → AreBounds (bounds_for sizes after.steps) → (operation : Operation) → running sizes before actor operation →
+    (i main former : Ref) → action_of (state_of sizes before) operation ≡ act.Restore i main former → main_at (state_of sizes before).heap i ≢ main → main_at (state_of sizes after).heap i ≢ main
+gone_stays sizes actor before after w bounds operation runs i main former is gone = ?
+
+-- so does its own step: nothing is freed
+pub nodes_go : (sizes : Sizes) (actor : ℕ) (account : Account) → AreBounds (bounds_for sizes (gone_on actor account).steps) → (k : ℕ) (slot : Slot) → get_or (state_of sizes account).heap.slots k None ≡ Some slot →
+    (later : Slot) × (get_or (state_of sizes (gone_on actor account)).heap.slots k None ≡ Some later) × SameNode slot.node later.node
+nodes_go sizes actor account bounds k slot is = ?
+
+-- a pending main node that is read stands in the indirection
+pub pending_stands : (sizes : Sizes) (account : Account) → AreBounds (bounds_for sizes account.steps) → (actor : ℕ) (operation : Operation) → running sizes account actor operation → (i main replaced : Ref) →
+    read_of operation.line ≡ Some (record { indirection = i; line = read.Prev main }) → prev_at (state_of sizes account).heap main ≡ prev.Pending replaced → main_at (state_of sizes account).heap i ≡ main
+pending_stands sizes account bounds actor operation runs i main replaced is pending = ?
