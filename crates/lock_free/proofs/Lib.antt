@@ -24,6 +24,8 @@ mod GivenBack
 mod PublishStep
 mod OwnSlots
 mod MakeStep
+mod ReadSteps
+mod ReadAgain
 mod Framing
 mod NodeWord
 mod Pools

@@ -15,3 +15,4 @@ pub mod Taking
 pub mod MadeMains
 pub mod Offers
 pub mod Makes
+pub mod Openers

@@ -15,3 +15,4 @@ pub mod Offering
 pub mod Settling
 pub mod Exchanging
 pub mod Storing
+pub mod OfReads

@@ -8,6 +8,7 @@ pub mod Restoring
 pub mod Private
 pub mod Pending
 pub mod Fresh
+pub mod Gone
 pub mod First
 pub mod Swaps
 pub mod GivenUp

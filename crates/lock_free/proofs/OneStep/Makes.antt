@@ -45,7 +45,7 @@ use Rattle.proof_memory.proofs.Safety.Steps.{made_heap}
 use Rattle.proof_garbage.proofs.Claims.{Are, none_in, one_in, refs_held}
 use Rattle.proof_garbage.proofs.First.{first_decided}
 use Rattle.proof_garbage.proofs.GivenUp.{other_id, private_known, fresh_private}
-use Rattle.proof_garbage.proofs.Known.{action_known, known_used}
+use Rattle.proof_garbage.proofs.Known.{action_known, known_used, line_known}
 use Rattle.proof_garbage.proofs.Private.{Others}
 use Rattle.proof_waiting.specs.Beneath.proof_slots.specs.Unswept.{HasNoSweeps}
 use Rattle.proof_waiting.specs.Beneath.proof_slots.proofs.Unswept.Kept.{one_ref}
@@ -308,3 +308,17 @@ module _ (sizes : Sizes) (account : Account) (bounds : AreBounds (bounds_for siz
       let taken = ap (acted next_state (handle_of operation.call)) is ∙ ap (new_root_taken next_state main) drawn in
       makes sizes account bounds actor operation runs quiet counted stood (Indirection before.generations main) (ap (made_node before) is) 1 (ap (λ (s : State). s.roots) taken) (ap (λ (s : State). s.generations) taken)
       name own
+
+module _ (sizes : Sizes) (account : Account) (bounds : AreBounds (bounds_for sizes account.steps)) (actor : ℕ) (operation : Operation) (runs : running sizes account actor operation) where
+  -- what the node names is live, and so is the main node over which it is to be swapped in
+  pub made_names_live : (node : Node) → action_of (state_of sizes account) operation ≡ act.Make node → (r : Ref) → Contains (refs_of_node node) r → IsLive (state_of sizes account) r
+  made_names_live node is r c =
+      let state = state_of sizes account in
+      let safe = safe_along (bounds_for sizes account.steps) bounds account.steps in
+      let claims = action_known state safe (λ id. Unit {0}) actor operation runs tt in
+      refs_claimed (IsLive state) node (refs_held (IsLive state) state.heap (node_wants node) (node_claims state (IsLive state) state.heap (action_of state operation) node (ap (made_node state) is) claims)) r c
+
+  pub over_lives : (i main : Ref) → over_of operation.line ≡ Some (i, main) → IsLive (state_of sizes account) main
+  over_lives i main over =
+      let state = state_of sizes account in
+      over_used (IsLive state) state.heap state operation operation.line i main over (line_known state (safe_along (bounds_for sizes account.steps) bounds account.steps) (λ id. Unit {0}) actor operation runs tt)
