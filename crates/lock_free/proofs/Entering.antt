@@ -44,7 +44,7 @@ module _ (sizes : Sizes) (s : Table.State Call View) (kept : IsKept sizes s) (id
       others = λ a differs. ran_so now now a refl;
       pins = λ a positive most apart. refl;
       named = λ g slot below in_range found nothing. refl;
-      numbers = λ other x e. (kept.seats other x e).opens;
+      numbers = λ other x e apart. (kept.seats other x e).opens;
       still_open = λ other w at_w g inside e. e;
       taken = λ b n small h. h;
       spare = λ other x b name e apart free. (((kept.seats other x e).spare b name free).1, λ j its. refl);

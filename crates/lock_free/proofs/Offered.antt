@@ -331,7 +331,7 @@ module _ (sizes : Sizes) (s : Table.State Call View) (kept : IsKept sizes s) (id
     others = λ a differs. ran_so now next a (offers.others a differs);
     pins = λ a positive most apart. pin_same a positive;
     named = λ g found_slot below in_range is nothing. root_beside g (not_open g (later_is sizes kept.account s.words kept.roots g below found_slot in_range is nothing));
-    numbers = held;
+    numbers = λ other w e apart. held other w e;
     still_open = λ other w at_w g inside e. open_still g e;
     taken = still_taken;
     spare = λ other w b name e apart free.
@@ -342,7 +342,7 @@ module _ (sizes : Sizes) (s : Table.State Call View) (kept : IsKept sizes s) (id
 
   own_then : IsSeat sizes account_then kept.stands words_then view_then
   own_then =
-      own_kept sizes s kept id v at account_then kept.stands words_then stays operation (operation_after now operation) runs offers.own refl refl all_then.counted (pin_same v.actor seat.low) view_then.pool None (λ g n o e. absurd (none-some n e)) []
+      own_kept sizes s kept id v at account_then kept.stands words_then stays operation (operation_after now operation) runs offers.own refl refl (held id v at) all_then.counted (pin_same v.actor seat.low) view_then.pool None (λ g n o e. absurd (none-some n e)) []
       (λ b name f. (let before = spending.was_free sizes s kept id v at 1 medium slot rest pool b name f.0 f.1 in
       let x = seat.spare b name before.0 in (still_taken b name f.0 x.0, spare_then name before.1 x.1)))
       (spending.once_then sizes s kept id v at 1 medium slot rest pool) (λ d c. absurd (omega (arith, c.1)))

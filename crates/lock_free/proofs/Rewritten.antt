@@ -107,7 +107,7 @@ module _ (sizes : Sizes) (s : Table.State Call View) (kept : IsKept sizes s) (id
     others = λ a differs. ran_so now now a refl;
     pins = λ a positive most apart. pin_same a positive;
     named = λ g slot below in_range found nothing. root_beside g (not_closed g (later_is sizes kept.account s.words kept.roots g below slot in_range found nothing));
-    numbers = held;
+    numbers = λ other w e apart. held other w e;
     still_open = λ other w at_w g inside e. e;
     taken = root.taken_rooted sizes kept.account kept.stands s.words all handle low (root_code w);
     spare = λ other x b name e apart free. stays_spare other x b name e free;
