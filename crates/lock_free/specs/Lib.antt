@@ -13,3 +13,4 @@ pub mod Deciding
 pub mod Restoring
 pub mod Offering
 pub mod Settling
+pub mod Beginning
