@@ -37,3 +37,5 @@ mod Settled
 mod Rewritten
 mod Entering
 mod Handles
+mod Pinning
+mod Ended

@@ -102,6 +102,9 @@ module _ (before after : State) (a : ℕ) (same : try_at after a ≡ try_at befo
   pub unmarked_at : ((o : Operation) → operation_of after a ≡ Some o → o.is_marked ≡ false) → (o : Operation) → operation_of before a ≡ Some o → o.is_marked ≡ false
   unmarked_at h o e = let p = runs_at o e in ap (λ (t : Try). t.is_marked) (sym p.2) ∙ h p.0 p.1
 
+  pub unmarked_then : ((o : Operation) → operation_of before a ≡ Some o → o.is_marked ≡ false) → (o : Operation) → operation_of after a ≡ Some o → o.is_marked ≡ false
+  unmarked_then h o e = let p = ran_at o e in ap (λ (t : Try). t.is_marked) (sym p.2) ∙ h p.0 p.1
+
   pub marked_at : (k : Known) (fate_then fate_now : ℕ) → fate_then ≡ fate_now → ((p : Operation) → operation_of before a ≡ Some p → IsItsTry p k.offer → p.is_marked ≡ (fate_now == carried_out)) →
       (o : Operation) → operation_of after a ≡ Some o → IsItsTry o k.offer → o.is_marked ≡ (fate_then == carried_out)
   marked_at k fate_then fate_now fates h o e its =
@@ -123,6 +126,14 @@ module _ (offers : List Known) (before after : State) where
   reserved (anew actor h) v handle r = (r.0, elim (cases_eq v.actor actor) [
     | inl own ↦ (λ o e. ap (λ (x : Operation). x.is_marked) (same_Some o h.was (sym e ∙ ap (operation_of before) own ∙ h.ran)) ∙ h.unmarked)
     | inr other ↦ unmarked_at before after v.actor (h.others v.actor other) r.1
+  ])
+
+  -- who has reserved a number has it still
+  pub reserves_on : KeepsTries offers before after → (v : View) (handle : ℕ) → Reserves before v handle → Reserves after v handle
+  reserves_on (as_before tries) v handle h = (h.0, unmarked_then before after v.actor (tries v.actor) h.1)
+  reserves_on (anew actor h) v handle r = (r.0, elim (cases_eq v.actor actor) [
+    | inl own ↦ (λ o e. ap (λ (x : Operation). x.is_marked) (same_Some o h.now (sym e ∙ ap (operation_of after) own ∙ h.runs)) ∙ h.still_unmarked)
+    | inr other ↦ unmarked_then before after v.actor (h.others v.actor other) r.1
   ])
 
   pub marks_kept : KeepsTries offers before after → (words later : List ℕ) → ((k : Known) → Contains offers k → fate later k ≡ fate words k) → AreMarked before words offers → AreMarked after later offers

@@ -34,7 +34,7 @@ use Rattle.lock_free.specs.Rules.{Standing, Stands, NodesStand, RootsStand, IsCl
 use Rattle.lock_free.specs.Trying.{try_of, KeepsTries, anew}
 use Rattle.lock_free.proofs.Assembling.{AllStand, all_stand, closing_stays, opening_stays, Numbers, assembled}
 use Rattle.lock_free.proofs.Geometry.{IsWordOf}
-use Rattle.lock_free.proofs.Meanings.{means_then, stood_still, ran, reserved, marks_kept}
+use Rattle.lock_free.proofs.Meanings.{means_then, stood_still, ran, reserved, reserves_on, marks_kept}
 use Rattle.lock_free.proofs.Pools.{first_or_more, first_there, more_there}
 use Rattle.lock_free.proofs.RootCodes.{same_kind}
 use Rattle.lock_free.proofs.RootFound.{not_plain, slot_fits, offered_is, opening_is, later_is}
@@ -125,7 +125,7 @@ module _ (sizes : Sizes) (s : Table.State Call View) (kept : IsKept sizes s) (id
       let o = kept.openings g found_slot below in_range is nothing in
       let mine : o.id ≡ id = kept.pools o.id id o.view v 1 1 slot o.at at (subst (λ n. IsFree o.view 1 n) same o.free) its_own in
       let view_is : o.view ≡ v = some-injective o.view v (sym o.at ∙ ap (λ n. get_elem? s.views n) mine ∙ at) in
-      offers.opens ∙ sym (seat.reserves operation runs) ∙ ap (λ (x : View). x.opens) (sym view_is) ∙ o.opens
+      offers.opens ∙ sym (seat.reserves operation runs) ∙ ap (λ (x : View). x.opens) (sym view_is) ∙ o.reserves.0
 
   names : (g found_slot : ℕ) → g < handle_limit → slice_index s.words (root_word g) ≡ root_code (word.Opening found_slot) → IsRootWord (word.Opening found_slot) → NoOffer kept.account found_slot → root_at now g ≡ None →
       SaysOpening account_then words_then g found_slot (root_at now g) ⊎ NoOffer account_then found_slot
@@ -358,13 +358,13 @@ module _ (sizes : Sizes) (s : Table.State Call View) (kept : IsKept sizes s) (id
       not_closing (inr h) = let wrong = same_kind (word.Offered slot) (word.ClosingReadOnly h.0 who) fits h.1 h.2 in omega (arith, wrong)
 
   openings_then : (g found_slot : ℕ) → g < handle_limit → IsRootWord (word.Opening found_slot) → slice_index words_then (root_word g) ≡ root_code (word.Opening found_slot) → NoOffer account_then found_slot →
-      IsOpening (set s.views id view_then) g found_slot
+      IsOpening next (set s.views id view_then) g found_slot
   openings_then g found_slot below in_range is nothing = elim (cases_eq g handle) [
     | inl same ↦
         (let wrong = same_kind (word.Offered slot) (word.Opening found_slot) fits in_range (sym root_here ∙ ap (λ n. slice_index words_then (root_word n)) (sym same) ∙ is) in absurd (omega (arith, wrong)))
     | inr differs ↦
-        opening_stays sizes s kept id v at view_then refl refl g found_slot
-        (λ e f. (e, (medium, spending.still_free sizes s kept id v at 1 medium slot rest pool 1 found_slot (λ same. nothing new (first_there new kept.account.offers) (sym same)) f)))
+        opening_stays sizes s kept id v at view_then refl refl next g found_slot
+        (λ r f. (reserves_on kept.account.offers now next keeps v g r, (medium, spending.still_free sizes s kept id v at 1 medium slot rest pool 1 found_slot (λ same. nothing new (first_there new kept.account.offers) (sym same)) f))) (λ other w e apart f r. reserves_on kept.account.offers now next keeps w g r)
         (kept.openings g found_slot below in_range (sym (root_beside g differs) ∙ is) (λ k c. nothing k (more_there new kept.account.offers k c)))
   ]
 

@@ -126,10 +126,10 @@ module _ (sizes : Sizes) (s : Table.State Call View) (kept : IsKept sizes s) (id
         seat.reserves (λ g slot o n. (let x = seat.opening g slot o n in names_kept sizes s kept id v at kept.account kept.stands words_then stays id v view_then at g slot x x.free))
         (λ b name free. stays_spare id v b name at free)
 
-    openings_then : (g slot : ℕ) → g < handle_limit → IsRootWord (word.Opening slot) → slice_index words_then (root_word g) ≡ root_code (word.Opening slot) → NoOffer kept.account slot → IsOpening (set s.views id view_then) g slot
+    openings_then : (g slot : ℕ) → g < handle_limit → IsRootWord (word.Opening slot) → slice_index words_then (root_word g) ≡ root_code (word.Opening slot) → NoOffer kept.account slot → IsOpening now (set s.views id view_then) g slot
     openings_then g slot below in_range found nothing = elim (cases_eq g handle) [
       | inl same ↦ absurd (not_opening w is (same_kind w (word.Opening slot) fits in_range (sym root_here ∙ ap (λ n. slice_index words_then (root_word n)) (sym same) ∙ found)))
-      | inr differs ↦ opening_stays sizes s kept id v at view_then refl refl g slot (λ e f. (e, f)) (kept.openings g slot below in_range (sym (root_beside g differs) ∙ found) nothing)
+      | inr differs ↦ opening_stays sizes s kept id v at view_then refl refl now g slot (λ r f. (r, f)) (λ other x e apart f r. r) (kept.openings g slot below in_range (sym (root_beside g differs) ∙ found) nothing)
     ]
 
     numbers_then : Numbers sizes s kept id v at view_then refl refl kept.account words_then

@@ -9,6 +9,7 @@ use mathlib.Core.Option.{some}
 use lib.ListN.{get_elem?}
 use Rattle.atomic_table.specs.Table as Table
 use Rattle.trie_words.specs.Codes.{root_code, IsRootWord}
+use Rattle.trie_words.specs.declared.roots.RootWord.{RootWord as HandleWord}
 use Rattle.trie_words.specs.declared.roots.RootWord.TheVariants as word
 use Rattle.history.specs.declared.calls.Access.TheVariants.{Writable}
 use Rattle.machine_model.specs.declared.roots.Descriptor.{Descriptor}
@@ -28,11 +29,12 @@ use Rattle.lock_free.specs.Nodes.{class_of}
 use Rattle.lock_free.specs.Places.{first_slot_word, generation_word, words_of, pin_word, root_word, IsTaken}
 use Rattle.lock_free.specs.Roots.{MeansRoot, NoOffer, IsWritten, IsItsTry, AreMarked, IsPending, fate, undecided, meant, opened_by, open_with, carried_out, taken_back}
 use Rattle.lock_free.specs.Rules.{Standing, Stands, NodesStand, RootsStand, IsClosing, SaysClosing, IsFree, IsSpare, IsHeld, Reserves, IsSeat, IsKept}
-use Rattle.lock_free.specs.Settling.{Settles, IsSettled, is_carried_out, is_taken_back}
+use Rattle.lock_free.specs.Settling.{Settles, IsSettled, IsMarkedThen, is_carried_out, is_taken_back}
 use Rattle.lock_free.proofs.Assembling.{AllStand, all_stand, closing_stays, opening_stays, Numbers, assembled}
 use Rattle.lock_free.proofs.Framing.{else_word, below_word, still_taken, have_still, stands_over, class_small}
 use Rattle.lock_free.proofs.Geometry.{IsWordOf, slots_apart, above, inside, root_below}
-use Rattle.lock_free.proofs.Meanings.{means_then, stood_still, pending_kept}
+use Rattle.lock_free.proofs.Meanings.{means_then, stood_still, pending_kept, unmarked_then}
+use Rattle.lock_free.proofs.RootCodes.{same_word}
 use Rattle.lock_free.proofs.RootFound.{slot_fits, offered_is, opening_is, later_is}
 use Rattle.lock_free.proofs.RootSteps as root
 use Rattle.lock_free.proofs.Seats.{Stays, other_kept, own_kept, drafts_kept}
@@ -308,9 +310,32 @@ module _ (sizes : Sizes) (s : Table.State Call View) (kept : IsKept sizes s) (id
   closings_then g who below says =
       closing_stays sizes s kept id v at view_then refl refl (λ h e. e) refl g who (kept.closings g who below (subst (λ m. SaysClosing m who) (root_same g below) says))
 
+  -- a number whose word names no offer isn't the one that is opened
+  not_its : (g slot : ℕ) → g < handle_limit → IsRootWord (word.Opening slot) → slice_index words_then (root_word g) ≡ root_code (word.Opening slot) → NoOffer account_then slot → k.offer.opens ≡ Some g → ⊥
+  not_its g slot below fits is nothing opens =
+      nothing k here
+      (opening_slot k.slot slot (same_word (word.Opening k.slot) (word.Opening slot) k_fits fits (sym (pending.opens g opens).1 ∙ sym (root_same g below) ∙ is)))
+    where
+      slot_in : HandleWord → ℕ
+      slot_in (word.Opening x) = x
+      slot_in w = 0
+
+      opening_slot : (x y : ℕ) → word.Opening x ≡ word.Opening y → x ≡ y
+      opening_slot x y e = ap slot_in e
+
+  reserves_then : IsSettled n k.offer now next → (other : ℕ) (w : View) → get_elem? s.views other ≡ some w → (g : ℕ) → Reserves now w g → (k.offer.opens ≡ Some g → ⊥) → Reserves next w g
+  reserves_then (is_carried_out is h) other w e g r unopened = (r.0, unmarked_then now next w.actor (h.others w.actor (λ its. unopened (owner_opens h its))) r.1)
+    where
+      owner_opens : (h : IsMarkedThen k.offer now next) → w.actor ≡ h.owner → k.offer.opens ≡ Some g
+      owner_opens h its = sym h.opens ∙ sym ((kept.seats other w e).reserves h.was (ap (operation_of now) its ∙ h.ran)) ∙ r.0
+  reserves_then (is_taken_back is same) other w e g r unopened = (r.0, unmarked_then now next w.actor (same w.actor) r.1)
+
   numbers_then : Numbers sizes s kept id v at view_then refl refl account_then words_then
   numbers_then = record {
-    openings = λ g slot below fits is nothing. opening_stays sizes s kept id v at view_then refl refl g slot (λ e f. (e, f)) (kept.openings g slot below fits (sym (root_same g below) ∙ is) nothing);
+    openings = λ g slot below fits is nothing.
+        (let unopened : k.offer.opens ≡ Some g → ⊥ = not_its g slot below fits is nothing in
+        opening_stays sizes s kept id v at view_then refl refl next g slot (λ r f. (reserves_then settles.tries id v at g r unopened, f)) (λ other w e apart f r. reserves_then settles.tries other w e g r unopened)
+        (kept.openings g slot below fits (sym (root_same g below) ∙ is) nothing));
     number = λ g h. inl (reserved_settled n k.offer now next settles.tries v g h);
     others = λ other w e apart g h. reserved_settled n k.offer now next settles.tries w g h;
     runners = λ a o e. (let p = ran_settled n k.offer now next settles.tries a o e in inr (p.was, p.runs));
