@@ -39,3 +39,4 @@ mod Entering
 mod Handles
 mod Pinning
 mod Ended
+mod Begun
