@@ -112,7 +112,7 @@ module _ (sizes : Sizes) (s : Table.State Call View) (kept : IsKept sizes s) (id
       waits = waits;
       others = λ a differs. ran_so now next a (begins.others a differs);
       pins = λ a positive most_a differs. refl;
-      named = λ g slot below in_range found nothing. refl;
+      named = λ other w e apart g slot p x. refl;
       numbers = λ other w e apart g r.
           (let h = (kept.seats other w e).opens g (reserved_else w g (others_actor other w e apart) r) in record { low = h.low; taken = h.taken; closed = root_then g ∙ h.closed });
       still_open = λ other w at_w g inside e. ap is_some (root_then g) ∙ e;
@@ -207,7 +207,7 @@ module _ (sizes : Sizes) (s : Table.State Call View) (kept : IsKept sizes s) (id
       waits = waits;
       others = λ a differs. ran_so now next a (begins.others a differs);
       pins = λ a positive most_a differs. pin_same a positive;
-      named = λ g slot below in_range is nothing. root_beside g (not_named g slot in_range is);
+      named = λ other w e apart g slot p x. root_beside g (not_named g slot x.fits x.is);
       numbers = λ other w e apart g r. held_by other w e g (reserved_else w g (others_actor other w e apart) r);
       still_open = λ other w at_w g in_it e. ap is_some (root_then g) ∙ e;
       taken = root.taken_rooted sizes kept.account kept.stands s.words all o below_o (root_code word.Reserved);

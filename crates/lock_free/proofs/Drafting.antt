@@ -78,7 +78,7 @@ module _ (sizes : Sizes) (s : Table.State Call View) (kept : IsKept sizes s) (id
     waits = λ actor first differs h. h;
     others = λ a apart. ran_so (state_of sizes kept.account) (state_of sizes kept.account) a refl;
     pins = λ a some most apart. pin_same a most;
-    named = λ handle slot low fits is none. root_same handle low;
+    named = λ other w e apart handle slot o x. root_same handle x.low;
     numbers = λ other w e apart. numbers_so sizes s kept kept.account words_then (no_tries kept.account.offers (state_of sizes kept.account)) refl root_same other w e;
     still_open = λ other w at_w handle inside e. e;
     taken = taken_then;
@@ -98,7 +98,7 @@ module _ (sizes : Sizes) (s : Table.State Call View) (kept : IsKept sizes s) (id
   own_then : IsSeat sizes kept.account kept.stands words_then view_then
   own_then =
       own_still sizes s kept id v at words_then stays (numbers_so sizes s kept kept.account words_then (no_tries kept.account.offers (state_of sizes kept.account)) refl root_same id v at) (pin_same v.actor (omega (arith, seat.top, seat.most))) v.pool view_then.drafts
-      (λ b other f. (let y = seat.spare b other f in (taken_then b other f.0 y.0, y.1))) seat.once (λ d c. drafted d (which j x v.drafts d c)) (λ slot free. free.1)
+      (λ b other f. (let y = seat.spare b other f in (taken_then b other f.0 y.0, y.1))) seat.once (λ d c. drafted d (which j x v.drafts d c)) (λ handle slot y. (root_same handle y.low, y.free.1))
 
   closings_then : (handle who : ℕ) → handle < handle_limit → SaysClosing (slice_index words_then (root_word handle)) who → IsClosing (set s.views id view_then) handle who
   closings_then handle who low says =

@@ -107,7 +107,7 @@ module _ (sizes : Sizes) (s : Table.State Call View) (kept : IsKept sizes s) (id
     waits = waits;
     others = λ a differs. ran_so now next a (ends.others a differs);
     pins = λ a positive most_a differs. root.else_pinned sizes kept.account kept.stands s.words all v.actor seat.low most 0 a differs;
-    named = λ g slot below in_range found nothing. root_same g below;
+    named = λ other w e apart handle slot o x. root_same handle x.low;
     numbers = λ other w e apart g r. still_held g ((kept.seats other w e).opens g (reserved_else w g (others_actor other w e apart) r));
     still_open = λ other w at_w g inside e. ap is_some (root_then g) ∙ e;
     taken = root.taken_pinned sizes kept.account kept.stands s.words all v.actor seat.low most 0;

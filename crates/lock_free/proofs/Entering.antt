@@ -43,7 +43,7 @@ module _ (sizes : Sizes) (s : Table.State Call View) (kept : IsKept sizes s) (id
       waits = λ actor first differs h. h;
       others = λ a differs. ran_so now now a refl;
       pins = λ a positive most apart. refl;
-      named = λ g slot below in_range found nothing. refl;
+      named = λ other w e apart handle slot o x. refl;
       numbers = λ other x e apart. (kept.seats other x e).opens;
       still_open = λ other w at_w g inside e. e;
       taken = λ b n small h. h;
@@ -53,7 +53,7 @@ module _ (sizes : Sizes) (s : Table.State Call View) (kept : IsKept sizes s) (id
     own_then : IsSeat sizes kept.account kept.stands s.words view_then
     own_then =
         own_else sizes s kept id v at kept.account kept.stands s.words stays v.account seat.waited seat.counts v.pin entered closing v.opens v.opening seat.pinned inside calls seat.opens seat.reserves
-        (λ g slot o n. (let x = seat.opening g slot o n in names_kept sizes s kept id v at kept.account kept.stands s.words stays id v view_then at g slot x x.free))
+        (λ g slot o n. (let x = seat.opening g slot o n in names_kept sizes s kept id v at kept.account kept.stands s.words stays v view_then g slot x refl x.free))
         (λ b name free. ((seat.spare b name free).1, λ j its. refl))
 
     -- the rule holds, where it holds of who would close what

@@ -201,7 +201,7 @@ module _ (sizes : Sizes) (s : Table.State Call View) (kept : IsKept sizes s) (id
     waits = waits;
     others = λ a differs. ran_so now next_state a (leads.others a differs);
     pins = λ a some most apart. refl;
-    named = λ handle slot low fits is none. refl;
+    named = λ other w e apart handle slot o x. refl;
     numbers = λ other w e apart. numbers_so sizes s kept account_then s.words leads.tries leads.roots (λ handle low. refl) other w e;
     still_open = λ other w at_w handle inside e. ap (λ rs. is_some (get_or rs handle None)) leads.roots ∙ e;
     taken = λ b name small h. h;
@@ -249,7 +249,7 @@ module _ (sizes : Sizes) (s : Table.State Call View) (kept : IsKept sizes s) (id
 
     own_then : IsSeat sizes account_then stands_then s.words view_then
     own_then =
-        own_kept sizes s kept id v at account_then stands_then s.words stays operation next runs leads.own same_call same_opens (numbers_so sizes s kept account_then s.words leads.tries leads.roots (λ handle low. refl) id v at) all_then.counted refl pool v.opening (λ handle slot o n. (n, λ free. more 1 slot free.0 free.1)) v.drafts spare_own once
+        own_kept sizes s kept id v at account_then stands_then s.words stays operation next runs leads.own same_call same_opens (numbers_so sizes s kept account_then s.words leads.tries leads.roots (λ handle low. refl) id v at) all_then.counted refl pool v.opening (λ handle slot o n. (n, λ x. (refl, more 1 slot x.free.0 x.free.1))) v.drafts spare_own once
         (λ d c. drafts_kept sizes s kept id v at account_then stands_then s.words stays view_then d (seat.drafts d c) (λ b name free. ((free.0, more b name free.0 free.1), λ j its_word. refl)))
 
     -- the rule holds

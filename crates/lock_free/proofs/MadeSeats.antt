@@ -107,7 +107,7 @@ module _ (sizes : Sizes) (s : Table.State Call View) (kept : IsKept sizes s) (id
       waits = waits;
       others = λ a differs. ran_so (state_of sizes kept.account) (state_of sizes account_then) a (makes.others a differs);
       pins = λ a some most apart. pin_same a most;
-      named = λ handle slot low fits is none. root_same handle low;
+      named = λ other w e apart handle slot o x. root_same handle x.low;
       numbers = λ other w e apart. numbers_so sizes s kept account_then words_then (as_before makes.tries) makes.roots root_same other w e;
       still_open = λ other w at_w handle inside e. ap is_some (same_root handle) ∙ e;
       taken = taken;
@@ -124,7 +124,7 @@ module _ (sizes : Sizes) (s : Table.State Call View) (kept : IsKept sizes s) (id
     own_then =
         own_kept sizes s kept id v at account_then stands_then words_then stays operation (operation_after (state_of sizes kept.account) operation) runs makes.own refl refl
         (numbers_so sizes s kept account_then words_then (as_before makes.tries) makes.roots root_same id v at) made_all.counted
-        (pin_same v.actor (omega (arith, seat.top, seat.most))) view_then.pool v.opening (λ handle slot o n. (n, pool_still handle o slot)) []
+        (pin_same v.actor (omega (arith, seat.top, seat.most))) view_then.pool v.opening (λ handle slot o n. (n, λ x. (root_same handle x.low, pool_still handle o slot x.free))) []
         (λ b other f. (let before = was_free b other f in let x = seat.spare b other before.0 in (taken b other f.0 x.0, spare_then other before.1 x.1))) once_then
         (λ d c. absurd (omega (arith, c.1)))
 

@@ -69,7 +69,7 @@ module _ (sizes : Sizes) (s : Table.State Call View) (kept : IsKept sizes s) (id
     waits = waits;
     others = λ a differs. ran_so (state_of sizes kept.account) (state_of sizes account_then) a (others a differs);
     pins = λ a some most apart. pin_beside sizes kept.account kept.stands s.words all k slot stood i its value a most;
-    named = λ handle slot low fits is none. root_same handle low;
+    named = λ other w e apart handle slot o x. root_same handle x.low;
     numbers = λ other w e apart. numbers_so sizes s kept account_then words_then (as_before tries) roots root_same other w e;
     still_open = λ other w at_w handle inside e. ap (λ rs. is_some (get_or rs handle None)) roots ∙ e;
     taken = still_taken sizes kept.account s.words kept.taken i (node_far sizes kept.account kept.stands s.words all k slot stood i its value) value;
@@ -84,7 +84,7 @@ module _ (sizes : Sizes) (s : Table.State Call View) (kept : IsKept sizes s) (id
   own_then =
       let seat = kept.seats id v at in
       own_kept sizes s kept id v at account_then kept.stands words_then stays operation (operation_after (state_of sizes kept.account) operation) runs own refl refl (numbers_so sizes s kept account_then words_then (as_before tries) roots root_same id v at) all_then.counted
-      (pin_beside sizes kept.account kept.stands s.words all k slot stood i its value v.actor (omega (arith, seat.top, seat.most))) v.pool v.opening (λ handle slot o n. (n, λ free. free.1)) v.drafts
+      (pin_beside sizes kept.account kept.stands s.words all k slot stood i its value v.actor (omega (arith, seat.top, seat.most))) v.pool v.opening (λ handle slot o n. (n, λ x. (root_same handle x.low, x.free.1))) v.drafts
       (λ b name free. (let x = seat.spare b name free in (stays.taken b name free.0 x.0, (spare_stays id v b name at free).0))) seat.once
       (λ d c. drafts_kept sizes s kept id v at account_then kept.stands words_then stays view_then d (seat.drafts d c) (λ b name free. (free, (spare_stays id v b name at free).1)))
 

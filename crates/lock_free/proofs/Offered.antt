@@ -330,7 +330,7 @@ module _ (sizes : Sizes) (s : Table.State Call View) (kept : IsKept sizes s) (id
     waits = waits;
     others = λ a differs. ran_so now next a (offers.others a differs);
     pins = λ a positive most apart. pin_same a positive;
-    named = λ g found_slot below in_range is nothing. root_beside g (not_open g (later_is sizes kept.account s.words kept.roots g below found_slot in_range is nothing));
+    named = λ other w e apart g found_slot o x. root_beside g (not_open g (later_is sizes kept.account s.words kept.roots g x.low found_slot x.fits x.is ((kept.seats other w e).spare 1 found_slot x.free).1.1));
     numbers = λ other w e apart. held other w e;
     still_open = λ other w at_w g inside e. open_still g e;
     taken = still_taken;

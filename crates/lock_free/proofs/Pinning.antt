@@ -51,7 +51,7 @@ module _ (sizes : Sizes) (s : Table.State Call View) (kept : IsKept sizes s) (id
     waits = λ actor first differs h. h;
     others = λ a differs. ran_so now now a refl;
     pins = λ a positive most_a differs. root.else_pinned sizes kept.account kept.stands s.words all v.actor seat.low most (pin_word_of pin) a differs;
-    named = λ g slot below in_range found nothing. root_same g below;
+    named = λ other w e apart handle slot o x. root_same handle x.low;
     numbers = λ other w e apart. held other w e;
     still_open = λ other w at_w g inside e. e;
     taken = root.taken_pinned sizes kept.account kept.stands s.words all v.actor seat.low most (pin_word_of pin);
@@ -62,7 +62,7 @@ module _ (sizes : Sizes) (s : Table.State Call View) (kept : IsKept sizes s) (id
   own_then =
       own_else sizes s kept id v at kept.account kept.stands words_then stays v.account seat.waited seat.counts pin None v.closing v.opens v.opening
       (root.at_p sizes kept.account kept.stands s.words all v.actor seat.low most (pin_word_of pin)) (λ g e. absurd (none-some g e)) (λ o e. absurd (none-some o (sym idle ∙ e))) (held id v at) seat.reserves
-      (λ g slot o n. (let x = seat.opening g slot o n in names_kept sizes s kept id v at kept.account kept.stands words_then stays id v view_then at g slot x x.free))
+      (λ g slot o n. (let x = seat.opening g slot o n in names_kept sizes s kept id v at kept.account kept.stands words_then stays v view_then g slot x (root_same g x.low) x.free))
       (λ b name free. stays_spare id v b name at free)
 
   -- the rule holds

@@ -101,12 +101,16 @@ module _ (sizes : Sizes) (s : Table.State Call View) (kept : IsKept sizes s) (id
   stays_spare other x b name e free =
       let h = (kept.seats other x e).spare b name free in (h.1, root.slot_rooted sizes kept.account kept.stands s.words all handle low (root_code w) b name free.0 h.0)
 
+  -- the seat's number is another handle
+  stays_named : (g slot : ℕ) → Names s.words v g slot → slice_index words_then (root_word g) ≡ slice_index s.words (root_word g)
+  stays_named g slot x = root_beside g (not_closed g (later_is sizes kept.account s.words kept.roots g x.low slot x.fits x.is (seat.spare 1 slot x.free).1.1))
+
   stays : Stays sizes s kept id v at kept.account kept.stands words_then
   stays = record {
     waits = λ actor first differs h. h;
     others = λ a differs. ran_so now now a refl;
     pins = λ a positive most apart. pin_same a positive;
-    named = λ g slot below in_range found nothing. root_beside g (not_closed g (later_is sizes kept.account s.words kept.roots g below slot in_range found nothing));
+    named = λ other u e apart handle_of_it found_slot o x. root_beside handle_of_it (not_closed handle_of_it (later_is sizes kept.account s.words kept.roots handle_of_it x.low found_slot x.fits x.is ((kept.seats other u e).spare 1 found_slot x.free).1.1));
     numbers = λ other w e apart. held other w e;
     still_open = λ other w at_w g inside e. e;
     taken = root.taken_rooted sizes kept.account kept.stands s.words all handle low (root_code w);
@@ -123,7 +127,7 @@ module _ (sizes : Sizes) (s : Table.State Call View) (kept : IsKept sizes s) (id
     own_then : IsSeat sizes kept.account kept.stands words_then view_then
     own_then =
         own_else sizes s kept id v at kept.account kept.stands words_then stays v.account seat.waited seat.counts v.pin entered closing v.opens v.opening (pin_same v.actor seat.low ∙ seat.pinned) inside calls (held id v at)
-        seat.reserves (λ g slot o n. (let x = seat.opening g slot o n in names_kept sizes s kept id v at kept.account kept.stands words_then stays id v view_then at g slot x x.free))
+        seat.reserves (λ g slot o n. (let x = seat.opening g slot o n in names_kept sizes s kept id v at kept.account kept.stands words_then stays v view_then g slot x (stays_named g slot x) x.free))
         (λ b name free. stays_spare id v b name at free)
 
     openings_then : (g slot : ℕ) → g < handle_limit → IsRootWord (word.Opening slot) → slice_index words_then (root_word g) ≡ root_code (word.Opening slot) → NoOffer kept.account slot → IsOpening now (set s.views id view_then) g slot

@@ -291,7 +291,7 @@ module _ (sizes : Sizes) (s : Table.State Call View) (kept : IsKept sizes s) (id
     waits = waits;
     others = λ a differs o e. ran_settled n k.offer now next settles.tries a o e;
     pins = λ a positive most apart. before_slots (pin_word a) (omega (arith, most));
-    named = λ g slot below fits is nothing. root_same g below;
+    named = λ other w e apart handle slot o x. root_same handle x.low;
     numbers = λ other w e apart. held other w e;
     still_open = λ other w at_w g inside e. open_still g e;
     taken = taken_still;
@@ -301,7 +301,7 @@ module _ (sizes : Sizes) (s : Table.State Call View) (kept : IsKept sizes s) (id
   own_then : IsSeat sizes account_then kept.stands words_then view_then
   own_then =
       own_kept sizes s kept id v at account_then kept.stands words_then stays operation settles.next runs settles.own settles.same_call settles.same_opens (held id v at) all_then.counted
-      (before_slots (pin_word v.actor) (let top = seat.top in let most = seat.most in omega (arith, top, most))) v.pool v.opening (λ g slot o m. (m, λ free. free.1)) v.drafts
+      (before_slots (pin_word v.actor) (let top = seat.top in let most = seat.most in omega (arith, top, most))) v.pool v.opening (λ g slot o m. (m, λ x. (root_same g x.low, x.free.1))) v.drafts
       (λ b name f. (let x = seat.spare b name f in (taken_still b name f.0 x.0, spare_then name x.1))) seat.once
       (λ d c. drafts_kept sizes s kept id v at account_then kept.stands words_then stays view_then d (seat.drafts d c)
       (λ b name f. (f, (let x = seat.spare b name f in slot_same b name f.0 x.0 x.1))))

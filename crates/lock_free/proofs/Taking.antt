@@ -122,7 +122,7 @@ module _ (sizes : Sizes) (s : Table.State Call View) (kept : IsKept sizes s) (id
     waits = λ actor before differs h. h;
     others = λ a apart. ran_so (state_of sizes kept.account) (state_of sizes kept.account) a refl;
     pins = λ a some most apart. pin_same a;
-    named = λ handle slot low fits is none. root_same handle low;
+    named = λ other w e apart handle slot o x. root_same handle x.low;
     numbers = λ other w e apart. numbers_so sizes s kept kept.account words_then (no_tries kept.account.offers (state_of sizes kept.account)) refl root_same other w e;
     still_open = λ other w at_w handle inside e. e;
     taken = taken_then;
@@ -145,7 +145,7 @@ module _ (sizes : Sizes) (s : Table.State Call View) (kept : IsKept sizes s) (id
   own_then : IsSeat sizes kept.account kept.stands words_then view_then
   own_then =
       own_still sizes s kept id v at words_then stays (numbers_so sizes s kept kept.account words_then (no_tries kept.account.offers (state_of sizes kept.account)) refl root_same id v at) (pin_same v.actor) view_then.pool v.drafts own_spare
-      (once_with v.pool class name small seat.once (λ c. not_taken class small (seat.spare class name (small, c)).0)) (λ d c. drafted d (seat.drafts d c)) (λ slot free. free_still v.pool class name small 1 slot free.0 free.1)
+      (once_with v.pool class name small seat.once (λ c. not_taken class small (seat.spare class name (small, c)).0)) (λ d c. drafted d (seat.drafts d c)) (λ handle slot y. (root_same handle y.low, free_still v.pool class name small 1 slot y.free.0 y.free.1))
 
   free_then : (b other : ℕ) → IsFree view_then b other → IsFree v b other ⊎ ((n : ℕ) (w : View) (c : ℕ) → get_elem? s.views n ≡ some w → (n ≡ id → ⊥) → IsFree w c other → ⊥)
   free_then b other free = elim (was_free v.pool class name small b other free.0 free.1) [
