@@ -40,3 +40,4 @@ mod Handles
 mod Pinning
 mod Ended
 mod Begun
+mod Reserved

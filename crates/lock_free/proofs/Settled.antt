@@ -9,7 +9,6 @@ use mathlib.Core.Option.{some}
 use lib.ListN.{get_elem?}
 use Rattle.atomic_table.specs.Table as Table
 use Rattle.trie_words.specs.Codes.{root_code, IsRootWord}
-use Rattle.trie_words.specs.declared.roots.RootWord.{RootWord as HandleWord}
 use Rattle.trie_words.specs.declared.roots.RootWord.TheVariants as word
 use Rattle.history.specs.declared.calls.Access.TheVariants.{Writable}
 use Rattle.machine_model.specs.declared.roots.Descriptor.{Descriptor}
@@ -34,7 +33,6 @@ use Rattle.lock_free.proofs.Assembling.{AllStand, all_stand, closing_stays, open
 use Rattle.lock_free.proofs.Framing.{else_word, below_word, still_taken, have_still, stands_over, class_small}
 use Rattle.lock_free.proofs.Geometry.{IsWordOf, slots_apart, above, inside, root_below}
 use Rattle.lock_free.proofs.Meanings.{means_then, stood_still, pending_kept, unmarked_then}
-use Rattle.lock_free.proofs.RootCodes.{same_word}
 use Rattle.lock_free.proofs.RootFound.{slot_fits, offered_is, opening_is, later_is}
 use Rattle.lock_free.proofs.RootSteps as root
 use Rattle.lock_free.proofs.Seats.{Stays, other_kept, own_kept, drafts_kept}
@@ -313,15 +311,7 @@ module _ (sizes : Sizes) (s : Table.State Call View) (kept : IsKept sizes s) (id
   -- a number whose word names no offer isn't the one that is opened
   not_its : (g slot : ℕ) → g < handle_limit → IsRootWord (word.Opening slot) → slice_index words_then (root_word g) ≡ root_code (word.Opening slot) → NoOffer account_then slot → k.offer.opens ≡ Some g → ⊥
   not_its g slot below fits is nothing opens =
-      nothing k here
-      (opening_slot k.slot slot (same_word (word.Opening k.slot) (word.Opening slot) k_fits fits (sym (pending.opens g opens).1 ∙ sym (root_same g below) ∙ is)))
-    where
-      slot_in : HandleWord → ℕ
-      slot_in (word.Opening x) = x
-      slot_in w = 0
-
-      opening_slot : (x y : ℕ) → word.Opening x ≡ word.Opening y → x ≡ y
-      opening_slot x y e = ap slot_in e
+      let code = sym (pending.opens g opens).1 ∙ sym (root_same g below) ∙ is in nothing k here (omega (arith, code))
 
   reserves_then : IsSettled n k.offer now next → (other : ℕ) (w : View) → get_elem? s.views other ≡ some w → (g : ℕ) → Reserves now w g → (k.offer.opens ≡ Some g → ⊥) → Reserves next w g
   reserves_then (is_carried_out is h) other w e g r unopened = (r.0, unmarked_then now next w.actor (h.others w.actor (λ its. unopened (owner_opens h its))) r.1)
