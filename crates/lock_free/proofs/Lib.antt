@@ -41,3 +41,4 @@ mod Pinning
 mod Ended
 mod Begun
 mod Reserved
+mod Closed

@@ -6,6 +6,7 @@ use Rattle.trie_words.specs.Codes.{root_code}
 use Rattle.trie_words.specs.declared.roots.RootWord.TheVariants as word
 use Rattle.machine_model.specs.Beneath.slot_arena.specs.declared.refs.Ref.{Ref}
 use Rattle.machine_model.specs.Beneath.slot_arena.specs.declared.nodes.Slot.{Slot}
+use Rattle.machine_model.specs.declared.roots.Root.{Root}
 use Rattle.machine_model.specs.declared.steps.Step.{Step}
 use Rattle.machine_model.specs.Keys.{KeysFit}
 use Rattle.proof_waiting.specs.Beneath.proof_slots.specs.Unswept.{HasNoSweeps}
@@ -141,6 +142,9 @@ module _ (sizes : Sizes) (account : Account) (stands : Standing) (words : List �
   pub fate_rooted : (k : Known) → Contains account.offers k → fate rooted k ≡ fate words k
   fate_rooted = first_of_offer account words i x not_its
 
+  pub meaning_rooted : (g found : ℕ) (r : Option Root) → MeansRoot account words g found r → MeansRoot account rooted g found r
+  meaning_rooted = meaning_below sizes account stands words all.taken all.nodes all.roots i before_slots x taken_rooted
+
   -- where the word named none of a pending offer
   pub pending_rooted : (k : Known) → (slice_index words i ≡ root_code (word.Offered k.slot) → ⊥) → (slice_index words i ≡ root_code (word.Opening k.slot) → ⊥) → IsPending words k → IsPending rooted k
   pending_rooted k not_offered not_opening h = record {
@@ -161,7 +165,7 @@ module _ (sizes : Sizes) (account : Account) (stands : Standing) (words : List �
           (subst (λ n. MeansRoot account rooted handle n (root_at (state_of sizes account) handle)) (sym at_it) means)
       | inr differs ↦
           subst (λ n. MeansRoot account rooted g n (root_at (state_of sizes account) g)) (sym (else_root g differs))
-          (meaning_below sizes account stands words all.taken all.nodes all.roots i before_slots x taken_rooted g (slice_index words (root_word g)) (root_at (state_of sizes account) g) (all.roots.means g low_g))
+          (meaning_rooted g (slice_index words (root_word g)) (root_at (state_of sizes account) g) (all.roots.means g low_g))
     ]
 
     pub all_rooted : AllStand sizes account stands rooted
