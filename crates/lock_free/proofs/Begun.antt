@@ -1,11 +1,11 @@
 -- An operation begins: at the load that finds its handle open, or, if it is to open another handle, at the exchange that reserves that one's number.
 use Rattle.history.specs.declared.calls.Call.{Call}
-use Rattle.std.proofs.Common.{◌≡◌, ◌≢◌, ◌+◌, ◌*◌, ◌⊎◌, ◌==◌, ◌^◌, ℕ, ◌<◌, ◌≤◌, inl, inr, Bool, true, false, List, [], ◌∷◌, ◌++◌, Contains, get_or, is_some, set, slice_index, Option, Some, None, refl, sym, ap, subst, ◌∙◌, arith, append-nil}
+use Rattle.std.proofs.Common.{◌≡◌, ◌≢◌, ◌+◌, ◌⊎◌, ℕ, ◌<◌, ◌≤◌, inl, inr, true, List, [], ◌∷◌, Contains, get_or, is_some, set, slice_index, Option, Some, None, refl, sym, ap, subst, ◌∙◌, arith, append-nil}
 use Rattle.std.specs.Prelude.{option_map}
-use Rattle.std.proofs.lemmas.Bool.{cases_eq, true≢false}
+use Rattle.std.proofs.lemmas.Bool.{cases_eq}
 use Rattle.std.proofs.lemmas.Option.{none-some, same_Some}
 use Rattle.std.proofs.lemmas.List.Elements.{All-cons, All-nil, All-append}
-use mathlib.Core.Option.{some, some-injective}
+use mathlib.Core.Option.{some}
 use lib.ListN.{get_elem?}
 use Rattle.atomic_table.specs.Table as Table
 use Rattle.trie_words.specs.Codes.{root_code, IsRootWord}
@@ -18,19 +18,18 @@ use Rattle.machine_model.specs.Keys.{FitsKey}
 use Rattle.machine_model.specs.States.{State, operation_of, handle_limit, root_at}
 use Rattle.lock_free.specs.declared.accounts.Account.{Account}
 use Rattle.lock_free.specs.declared.accounts.Known.{Known}
-use Rattle.lock_free.specs.declared.rules.Closing.{Closing}
 use Rattle.lock_free.specs.declared.rules.View.{View}
 use Rattle.lock_free.specs.declared.sizes.Sizes.{Sizes}
 use Rattle.lock_free.specs.Accounts.{state_of, HasWaited, IsOfOther}
 use Rattle.lock_free.specs.Beginning.{Begins, taking}
-use Rattle.lock_free.specs.Places.{pin_word, root_word, IsTaken}
-use Rattle.lock_free.specs.Roots.{AreMarked, IsItsTry, NoOffer, fate, carried_out, undecided}
-use Rattle.lock_free.specs.Rules.{IsClosing, SaysClosing, IsFree, IsSpare, IsHeld, Reserves, Names, IsOpening, IsSeat, IsKept}
+use Rattle.lock_free.specs.Places.{pin_word, root_word}
+use Rattle.lock_free.specs.Roots.{AreMarked, IsItsTry, NoOffer, fate}
+use Rattle.lock_free.specs.Rules.{SaysClosing, IsFree, IsSpare, IsHeld, Reserves, IsOpening, IsSeat, IsKept}
 use Rattle.lock_free.specs.Trying.{try_of, try_at}
 use Rattle.lock_free.proofs.Assembling.{AllStand, all_stand, closing_stays, closing_at, opening_stays, Numbers, assembled, other_actor}
 use Rattle.lock_free.proofs.Meanings.{unmarked_at, unmarked_then, marked_at}
 use Rattle.lock_free.proofs.RootCodes.{same_kind}
-use Rattle.lock_free.proofs.RootFound.{said, slot_fits}
+use Rattle.lock_free.proofs.RootFound.{said}
 use Rattle.lock_free.proofs.RootSteps as root
 use Rattle.lock_free.proofs.Seats.{ran_so, Stays, StaysSpare, other_kept, own_else}
 use Rattle.lock_free.proofs.Waiting.{waited_none, waited_more, quiet_more, other_quiet}
@@ -180,7 +179,7 @@ module _ (sizes : Sizes) (s : Table.State Call View) (kept : IsKept sizes s) (id
     all_reserved =
         all_by reserved_words (root.fate_rooted sizes kept.account kept.stands s.words all o below_o (root_code word.Reserved))
         (root.all_rooted sizes kept.account kept.stands s.words all o below_o (root_code word.Reserved) (record { what = word.Reserved; fits = tt; code = refl; says = closed })
-            (λ k c stands. (λ is. omega (arith, found, is), λ is. omega (arith, found, is))))
+        (λ k c stands. (λ is. omega (arith, found, is), λ is. omega (arith, found, is))))
 
     held_by : (other : ℕ) (w : View) → get_elem? s.views other ≡ some w → (g : ℕ) → Reserves now w g → IsHeld next reserved_words g
     held_by other w e g r =

@@ -1,7 +1,7 @@
 -- The exchange that takes a closer's mark for 0 closes the handle, once the closer has found all other seats in no call on it.
 use Rattle.history.specs.declared.calls.Call.{Call}
 use Rattle.history.specs.declared.calls.Call.TheVariants.{Close}
-use Rattle.std.proofs.Common.{◌≡◌, ◌≢◌, ◌+◌, ◌*◌, ◌⊎◌, ◌^◌, ℕ, ◌<◌, ◌≤◌, inl, inr, Bool, true, false, List, [], ◌∷◌, ◌++◌, Contains, get_or, is_some, set, slice_index, Option, Some, None, refl, sym, ap, subst, ◌∙◌, arith, append-nil, append_assoc}
+use Rattle.std.proofs.Common.{◌≡◌, ◌≢◌, ◌+◌, ◌^◌, ℕ, ◌<◌, ◌≤◌, inl, inr, true, false, List, [], ◌∷◌, ◌++◌, Contains, is_some, set, slice_index, Some, None, refl, sym, ap, subst, ◌∙◌, arith, append-nil, append_assoc}
 use Rattle.std.specs.Prelude.{option_map}
 use Rattle.std.proofs.lemmas.Bool.{cases_eq, true≢false}
 use Rattle.std.proofs.lemmas.Option.{none-some, same_Some}
@@ -26,12 +26,11 @@ use Rattle.lock_free.specs.declared.rules.View.{View}
 use Rattle.lock_free.specs.declared.sizes.Sizes.{Sizes}
 use Rattle.lock_free.specs.Accounts.{state_of, HasWaited, IsOfOther}
 use Rattle.lock_free.specs.Beginning.{Closes, closed_by}
-use Rattle.lock_free.specs.Places.{pin_word, root_word, IsTaken}
-use Rattle.lock_free.specs.Roots.{MeansRoot, SaysPlain, IsPending, AreMarked, NoOffer, fate, undecided}
-use Rattle.lock_free.specs.Rules.{IsClosing, SaysClosing, IsFree, IsSpare, IsHeld, Reserves, Names, IsOpening, IsSeat, IsKept}
+use Rattle.lock_free.specs.Places.{pin_word, root_word}
+use Rattle.lock_free.specs.Roots.{MeansRoot, IsPending, NoOffer, fate, undecided}
+use Rattle.lock_free.specs.Rules.{IsClosing, SaysClosing, IsFree, IsHeld, Reserves, Names, IsOpening, IsSeat, IsKept}
 use Rattle.lock_free.specs.Trying.{try_of, KeepsTries, as_before}
-use Rattle.lock_free.proofs.Assembling.{AllStand, all_stand, closing_at, opening_stays, Numbers, assembled}
-use Rattle.lock_free.proofs.Framing.{meaning_below}
+use Rattle.lock_free.proofs.Assembling.{AllStand, all_stand, closing_at, opening_stays, assembled}
 use Rattle.lock_free.proofs.Keeping.{meaning_kept}
 use Rattle.lock_free.proofs.Meanings.{ran, reserved, reserves_on, marks_kept, stood_still}
 use Rattle.lock_free.proofs.RootCodes.{kind, same_kind}

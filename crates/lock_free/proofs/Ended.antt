@@ -1,11 +1,11 @@
 -- The store of 0 to a seat's own word ends its operation.
 use Rattle.history.specs.declared.calls.Call.{Call}
-use Rattle.std.proofs.Common.{◌≡◌, ◌≢◌, ◌+◌, ◌*◌, ◌⊎◌, ◌==◌, ℕ, ◌<◌, ◌≤◌, inl, inr, Bool, true, false, List, [], ◌∷◌, ◌++◌, Contains, get_or, is_some, set, slice_index, Option, Some, None, refl, sym, ap, subst, ◌∙◌, arith, append-nil}
+use Rattle.std.proofs.Common.{◌≡◌, ◌≢◌, ◌⊎◌, ℕ, ◌<◌, ◌≤◌, inl, inr, true, false, List, [], ◌∷◌, get_or, is_some, set, slice_index, Option, Some, None, refl, sym, ap, subst, ◌∙◌, arith, append-nil}
 use Rattle.std.specs.Prelude.{option_map}
 use Rattle.std.proofs.lemmas.Bool.{cases_eq, true≢false}
 use Rattle.std.proofs.lemmas.Option.{none-some, same_Some}
 use Rattle.std.proofs.lemmas.List.Elements.{All-cons, All-nil, All-append}
-use mathlib.Core.Option.{some, some-injective}
+use mathlib.Core.Option.{some}
 use lib.ListN.{get_elem?}
 use Rattle.atomic_table.specs.Table as Table
 use Rattle.machine_model.specs.declared.operations.Operation.{Operation}
@@ -13,14 +13,13 @@ use Rattle.machine_model.specs.declared.steps.Step.TheVariants as step
 use Rattle.machine_model.specs.Keys.{FitsKey}
 use Rattle.machine_model.specs.States.{State, operation_of, handle_limit, root_at}
 use Rattle.lock_free.specs.declared.accounts.Account.{Account}
-use Rattle.lock_free.specs.declared.accounts.Known.{Known}
 use Rattle.lock_free.specs.declared.rules.View.{View}
 use Rattle.lock_free.specs.declared.sizes.Sizes.{Sizes}
 use Rattle.lock_free.specs.Accounts.{state_of, gone_on, HasWaited, IsOfOther}
 use Rattle.lock_free.specs.Beginning.{Ends}
-use Rattle.lock_free.specs.Places.{pin_word, root_word, IsTaken}
-use Rattle.lock_free.specs.Roots.{AreMarked, IsItsTry, fate, carried_out}
-use Rattle.lock_free.specs.Rules.{IsClosing, SaysClosing, IsFree, IsSpare, IsHeld, Reserves, IsSeat, IsKept}
+use Rattle.lock_free.specs.Places.{pin_word, root_word}
+use Rattle.lock_free.specs.Roots.{AreMarked, fate}
+use Rattle.lock_free.specs.Rules.{SaysClosing, IsFree, IsSpare, IsHeld, Reserves, IsSeat, IsKept}
 use Rattle.lock_free.specs.Trying.{try_of, try_at}
 use Rattle.lock_free.proofs.Assembling.{AllStand, all_stand, closing_stays, opening_stays, Numbers, assembled, other_actor}
 use Rattle.lock_free.proofs.Meanings.{unmarked_at, unmarked_then, marked_at}

@@ -1,5 +1,5 @@
 -- What handles' words mean stays.
-use Rattle.std.proofs.Common.{◌≡◌, ◌≢◌, ◌*◌, ◌<◌, ◌==◌, ◌⊎◌, ℕ, inl, inr, Bool, false, List, ◌++◌, Contains, slice_index, Option, Some, None, refl, sym, ap, subst, ◌∙◌, append_assoc}
+use Rattle.std.proofs.Common.{◌≡◌, ◌<◌, ◌==◌, ◌⊎◌, ℕ, inl, inr, false, List, ◌++◌, Contains, slice_index, Option, Some, None, refl, sym, ap, subst, ◌∙◌, append_assoc}
 use Rattle.std.proofs.lemmas.Bool.{cases_eq}
 use Rattle.std.proofs.lemmas.Option.{none-some, same_Some}
 use Rattle.std.specs.Prelude.{option_map}
@@ -20,7 +20,7 @@ use Rattle.lock_free.specs.declared.accounts.Known.{Known}
 use Rattle.lock_free.specs.declared.rules.View.{View}
 use Rattle.lock_free.specs.declared.sizes.Sizes.{Sizes}
 use Rattle.lock_free.specs.Accounts.{place_of, HasStood}
-use Rattle.lock_free.specs.Roots.{MeansRoot, SaysRoot, SaysPlain, SaysOffered, SaysOpening, NoOffer, IsItsTry, AreMarked, IsPending, fate, meant, opened_by, open_with, carried_out}
+use Rattle.lock_free.specs.Roots.{MeansRoot, SaysRoot, SaysPlain, SaysOpening, NoOffer, IsItsTry, AreMarked, IsPending, fate, meant, opened_by, open_with, carried_out}
 use Rattle.lock_free.specs.Places.{root_word}
 use Rattle.lock_free.specs.Rules.{Reserves}
 use Rattle.lock_free.specs.Trying.{Try, try_of, try_at, KeepsTries, as_before, anew}
@@ -123,18 +123,24 @@ module _ (offers : List Known) (before after : State) where
 
   pub reserved : KeepsTries offers before after → (v : View) (handle : ℕ) → Reserves after v handle → Reserves before v handle
   reserved (as_before tries) v handle h = (h.0, unmarked_at before after v.actor (tries v.actor) h.1)
-  reserved (anew actor h) v handle r = (r.0, elim (cases_eq v.actor actor) [
-    | inl own ↦ (λ o e. ap (λ (x : Operation). x.is_marked) (same_Some o h.was (sym e ∙ ap (operation_of before) own ∙ h.ran)) ∙ h.unmarked)
-    | inr other ↦ unmarked_at before after v.actor (h.others v.actor other) r.1
-  ])
+  reserved (anew actor h) v handle r = (
+    r.0,
+    elim (cases_eq v.actor actor) [
+      | inl own ↦ (λ o e. ap (λ (x : Operation). x.is_marked) (same_Some o h.was (sym e ∙ ap (operation_of before) own ∙ h.ran)) ∙ h.unmarked)
+      | inr other ↦ unmarked_at before after v.actor (h.others v.actor other) r.1
+    ],
+  )
 
   -- who has reserved a number has it still
   pub reserves_on : KeepsTries offers before after → (v : View) (handle : ℕ) → Reserves before v handle → Reserves after v handle
   reserves_on (as_before tries) v handle h = (h.0, unmarked_then before after v.actor (tries v.actor) h.1)
-  reserves_on (anew actor h) v handle r = (r.0, elim (cases_eq v.actor actor) [
-    | inl own ↦ (λ o e. ap (λ (x : Operation). x.is_marked) (same_Some o h.now (sym e ∙ ap (operation_of after) own ∙ h.runs)) ∙ h.still_unmarked)
-    | inr other ↦ unmarked_then before after v.actor (h.others v.actor other) r.1
-  ])
+  reserves_on (anew actor h) v handle r = (
+    r.0,
+    elim (cases_eq v.actor actor) [
+      | inl own ↦ (λ o e. ap (λ (x : Operation). x.is_marked) (same_Some o h.now (sym e ∙ ap (operation_of after) own ∙ h.runs)) ∙ h.still_unmarked)
+      | inr other ↦ unmarked_then before after v.actor (h.others v.actor other) r.1
+    ],
+  )
 
   pub marks_kept : KeepsTries offers before after → (words later : List ℕ) → ((k : Known) → Contains offers k → fate later k ≡ fate words k) → AreMarked before words offers → AreMarked after later offers
   marks_kept (as_before tries) words later fates h k c a o e its = marked_at before after a (tries a) k (fate later k) (fate words k) (fates k c) (h k c a) o e its

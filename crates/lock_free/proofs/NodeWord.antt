@@ -1,6 +1,6 @@
 -- A step of a seat's operation changes a word of a node that stands: the rule for all seats, from what stands in words then.
 use Rattle.history.specs.declared.calls.Call.{Call}
-use Rattle.std.proofs.Common.{◌≡◌, ◌≢◌, ℕ, ◌<◌, ◌≤◌, inl, List, [], ◌∷◌, ◌++◌, set, get_or, slice_index, is_some, Some, None, refl, sym, ap, subst, ◌∙◌, arith, append-nil}
+use Rattle.std.proofs.Common.{◌≡◌, ◌≢◌, ℕ, ◌<◌, inl, List, [], ◌∷◌, ◌++◌, set, get_or, slice_index, is_some, Some, None, refl, sym, ap, subst, ◌∙◌, arith, append-nil}
 use Rattle.std.proofs.lemmas.List.Elements.{All-cons, All-nil}
 use mathlib.Core.Option.{some}
 use lib.ListN.{get_elem?}
@@ -16,7 +16,7 @@ use Rattle.lock_free.specs.declared.rules.View.{View}
 use Rattle.lock_free.specs.declared.sizes.Sizes.{Sizes}
 use Rattle.lock_free.specs.Accounts.{state_of, place_at, HasWaited, IsOfOther}
 use Rattle.lock_free.specs.Nodes.{class_of}
-use Rattle.lock_free.specs.Places.{pin_word, root_word}
+use Rattle.lock_free.specs.Places.{root_word}
 use Rattle.lock_free.specs.Rules.{Stands, IsClosing, SaysClosing, IsFree, IsSpare, IsSeat, IsKept}
 use Rattle.lock_free.specs.Trying.{SameTries, as_before}
 use Rattle.lock_free.proofs.Assembling.{AllStand, all_stand, closing_stays, numbers_stay, assembled}
@@ -56,10 +56,12 @@ module _ (sizes : Sizes) (s : Table.State Call View) (kept : IsKept sizes s) (id
 
   spare_stays : (other : ℕ) (w : View) (b name : ℕ) → get_elem? s.views other ≡ some w → IsFree w b name → StaysSpare sizes s kept id v at account_then kept.stands words_then b name
   spare_stays other w b name e free =
-      let x = (kept.seats other w e).spare b name free in
-      (spare_then name x.1, λ j its_word.
-          else_word kept.account s.words i value j
-          (not_of_spare sizes kept.account kept.stands s.words all k slot stood i its value b name free.0 x.0 x.1 j its_word))
+      let x = (kept.seats other w e).spare b name free in (
+        spare_then name x.1,
+        λ j its_word.
+            else_word kept.account s.words i value j
+            (not_of_spare sizes kept.account kept.stands s.words all k slot stood i its value b name free.0 x.0 x.1 j its_word),
+      )
 
   root_same : (handle : ℕ) → handle < handle_limit → slice_index words_then (root_word handle) ≡ slice_index s.words (root_word handle)
   root_same = root_beside sizes kept.account kept.stands s.words all k slot stood i its value

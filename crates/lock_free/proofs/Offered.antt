@@ -1,8 +1,8 @@
 -- An exchange of a handle's word brings an offer to stand.
 use Rattle.history.specs.declared.calls.Call.{Call}
-use Rattle.std.proofs.Common.{◌≡◌, ◌≢◌, ◌+◌, ◌*◌, ◌⊎◌, ◌^◌, ℕ, zero, suc, ◌<◌, ◌≤◌, inl, inr, Bool, true, false, List, [], ◌∷◌, ◌++◌, Contains, All, length, set, get_or, slice_index, is_some, Option, Some, None, refl, sym, ap, subst, ◌∙◌, arith, append-nil}
+use Rattle.std.proofs.Common.{◌≡◌, ◌≢◌, ◌+◌, ◌*◌, ◌⊎◌, ◌^◌, ℕ, ◌<◌, ◌≤◌, inl, inr, true, List, [], ◌∷◌, ◌++◌, Contains, set, slice_index, is_some, Some, None, refl, sym, ap, subst, ◌∙◌, arith, append-nil}
 use Rattle.std.specs.Prelude.{option_map, ◌==◌}
-use Rattle.std.proofs.lemmas.Bool.{cases_eq, true≢false}
+use Rattle.std.proofs.lemmas.Bool.{cases_eq}
 use Rattle.std.proofs.lemmas.Option.{same_Some, none-some}
 use Rattle.std.proofs.lemmas.List.Elements.{All-cons, All-nil, All-append}
 use mathlib.Core.Option.{some, some-injective}
@@ -12,25 +12,22 @@ use Rattle.trie_words.specs.Codes.{root_code, IsRootWord}
 use Rattle.trie_words.specs.declared.roots.RootWord.TheVariants as word
 use Rattle.history.specs.declared.calls.Access.TheVariants.{Writable}
 use Rattle.machine_model.specs.declared.roots.Descriptor.{Descriptor}
-use Rattle.machine_model.specs.declared.roots.Root.{Root}
-use Rattle.machine_model.specs.declared.roots.RootWord.TheVariants.{Plain, Offer}
 use Rattle.machine_model.specs.Beneath.slot_arena.specs.declared.nodes.Slot.{Slot}
 use Rattle.machine_model.specs.declared.steps.Step.TheVariants as step
 use Rattle.machine_model.specs.declared.operations.Operation.{Operation}
 use Rattle.machine_model.specs.Acting.{operation_after}
 use Rattle.machine_model.specs.Calls.{handle_of}
-use Rattle.machine_model.specs.Keys.{KeysFit, FitsKey}
+use Rattle.machine_model.specs.Keys.{FitsKey}
 use Rattle.machine_model.specs.States.{State, operation_of, root_at, word_of, handle_limit}
 use Rattle.lock_free.specs.declared.accounts.Account.{Account}
 use Rattle.lock_free.specs.declared.accounts.Known.{Known}
-use Rattle.lock_free.specs.declared.rules.Pool.{Pool}
 use Rattle.lock_free.specs.declared.rules.View.{View}
 use Rattle.lock_free.specs.declared.sizes.Sizes.{Sizes}
 use Rattle.lock_free.specs.Accounts.{state_of, place_at, HasWaited, IsOfOther, HasStood}
-use Rattle.lock_free.specs.Offering.{LeavesNodes, DraftsOffer, Offers, known_at, offered_at, offered_by}
-use Rattle.lock_free.specs.Places.{words_of, pin_word, root_word, IsTaken}
+use Rattle.lock_free.specs.Offering.{DraftsOffer, Offers, known_at, offered_at, offered_by}
+use Rattle.lock_free.specs.Places.{pin_word, root_word, IsTaken}
 use Rattle.lock_free.specs.Roots.{MeansRoot, SaysOpening, NoOffer, IsWritten, IsItsTry, AreMarked, IsPending, fate, undecided, meant, opened_by, open_with, carried_out}
-use Rattle.lock_free.specs.Rules.{Standing, Stands, NodesStand, RootsStand, IsClosing, SaysClosing, IsFree, IsSpare, IsOpening, IsHeld, Reserves, IsSeat, IsKept, pool_of}
+use Rattle.lock_free.specs.Rules.{Stands, IsClosing, SaysClosing, IsFree, IsSpare, IsOpening, IsHeld, Reserves, IsSeat, IsKept, pool_of}
 use Rattle.lock_free.specs.Trying.{try_of, KeepsTries, anew}
 use Rattle.lock_free.proofs.Assembling.{AllStand, all_stand, closing_stays, opening_stays, Numbers, assembled}
 use Rattle.lock_free.proofs.Geometry.{IsWordOf}
@@ -39,7 +36,7 @@ use Rattle.lock_free.proofs.Pools.{first_or_more, first_there, more_there}
 use Rattle.lock_free.proofs.RootCodes.{same_kind}
 use Rattle.lock_free.proofs.RootFound.{not_plain, slot_fits, offered_is, opening_is, later_is}
 use Rattle.lock_free.proofs.RootSteps as root
-use Rattle.lock_free.proofs.Seats.{ran_so, Stays, StaysSpare, other_kept, own_kept}
+use Rattle.lock_free.proofs.Seats.{ran_so, Stays, other_kept, own_kept}
 use Rattle.lock_free.proofs.Spending as spending
 use Rattle.lock_free.proofs.Waiting.{waited_more, quiet_more}
 
@@ -316,11 +313,13 @@ module _ (sizes : Sizes) (s : Table.State Call View) (kept : IsKept sizes s) (id
 
   -- a slot that is another one is spare still
   spare_then : (other : ℕ) → other ≢ slot → IsSpare sizes kept.account kept.stands other → IsSpare sizes account_then kept.stands other
-  spare_then other differs h =
-      (λ k n e. h.0 k n (e.0, sym (offers.leaves.nodes k) ∙ e.1), λ k c. elim (first_or_more new kept.account.offers k c) [
-        | inl is_new ↦ (λ e. differs (sym e ∙ ap (λ (x : Known). x.slot) is_new))
-        | inr old ↦ h.1 k old
-      ])
+  spare_then other differs h = (
+    λ k n e. h.0 k n (e.0, sym (offers.leaves.nodes k) ∙ e.1),
+    λ k c. elim (first_or_more new kept.account.offers k c) [
+      | inl is_new ↦ (λ e. differs (sym e ∙ ap (λ (x : Known). x.slot) is_new))
+      | inr old ↦ h.1 k old
+    ],
+  )
 
   pin_same : (a : ℕ) → 1 ≤ a → slice_index words_then (pin_word a) ≡ slice_index s.words (pin_word a)
   pin_same = root.pin_rooted sizes kept.account kept.stands s.words all handle low (root_code (word.Offered slot))

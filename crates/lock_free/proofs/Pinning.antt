@@ -1,6 +1,6 @@
 -- A seat that runs nothing stores its own word: it pins itself, or goes out of a call that it hasn't begun.
 use Rattle.history.specs.declared.calls.Call.{Call}
-use Rattle.std.proofs.Common.{◌≡◌, ◌≢◌, ◌+◌, ◌*◌, ◌⊎◌, ℕ, ◌<◌, ◌≤◌, inl, inr, List, Contains, set, slice_index, Option, Some, None, refl, sym, ap, subst, ◌∙◌, arith}
+use Rattle.std.proofs.Common.{◌≡◌, ℕ, ◌<◌, ◌≤◌, inl, List, set, slice_index, Option, None, refl, sym, subst, ◌∙◌, arith}
 use Rattle.std.proofs.lemmas.Option.{none-some}
 use mathlib.Core.Option.{some}
 use lib.ListN.{get_elem?}
@@ -10,8 +10,8 @@ use Rattle.machine_model.specs.States.{State, operation_of, handle_limit}
 use Rattle.lock_free.specs.declared.rules.View.{View}
 use Rattle.lock_free.specs.declared.sizes.Sizes.{Sizes}
 use Rattle.lock_free.specs.Accounts.{state_of}
-use Rattle.lock_free.specs.Places.{pin_word, root_word, IsTaken}
-use Rattle.lock_free.specs.Rules.{IsClosing, SaysClosing, IsFree, IsHeld, Reserves, IsSeat, IsKept, pin_word_of}
+use Rattle.lock_free.specs.Places.{pin_word, root_word}
+use Rattle.lock_free.specs.Rules.{SaysClosing, IsFree, IsHeld, Reserves, IsSeat, IsKept, pin_word_of}
 use Rattle.lock_free.proofs.Assembling.{AllStand, all_stand, closing_stays, numbers_stay, assembled}
 use Rattle.lock_free.proofs.Meanings.{no_tries}
 use Rattle.lock_free.proofs.RootSteps as root

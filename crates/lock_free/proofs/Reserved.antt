@@ -1,6 +1,6 @@
 -- A seat stores the word of the number that it has reserved: it names the offer that is to open the handle, or gives the number back.
 use Rattle.history.specs.declared.calls.Call.{Call}
-use Rattle.std.proofs.Common.{◌≡◌, ◌≢◌, ◌+◌, ◌*◌, ◌⊎◌, ◌^◌, ℕ, ◌<◌, ◌≤◌, inl, inr, Bool, false, List, Contains, set, slice_index, is_some, Option, Some, None, refl, sym, ap, subst, ◌∙◌, arith}
+use Rattle.std.proofs.Common.{◌≡◌, ◌≢◌, ◌^◌, ℕ, ◌<◌, ◌≤◌, inl, inr, false, List, Contains, set, slice_index, Option, Some, None, refl, sym, ap, subst, ◌∙◌, arith}
 use Rattle.std.proofs.lemmas.Bool.{cases_eq}
 use Rattle.std.proofs.lemmas.Option.{none-some, same_Some}
 use mathlib.Core.Option.{some, some-injective}
@@ -19,9 +19,9 @@ use Rattle.lock_free.specs.declared.rules.View.{View}
 use Rattle.lock_free.specs.declared.sizes.Sizes.{Sizes}
 use Rattle.lock_free.specs.Accounts.{state_of}
 use Rattle.lock_free.specs.Places.{pin_word, root_word}
-use Rattle.lock_free.specs.Roots.{SaysRoot, SaysOffered, NoOffer, fate, undecided, meant, open_with}
+use Rattle.lock_free.specs.Roots.{NoOffer, fate, undecided, meant, open_with}
 use Rattle.lock_free.specs.Rules.{IsClosing, SaysClosing, IsFree, IsHeld, Reserves, Names, IsOpening, IsSeat, IsKept}
-use Rattle.lock_free.proofs.Assembling.{AllStand, all_stand, here, closing_stays, opening_stays, Numbers, assembled}
+use Rattle.lock_free.proofs.Assembling.{AllStand, all_stand, here, closing_stays, opening_stays, assembled}
 use Rattle.lock_free.proofs.RootCodes.{kind, same_kind}
 use Rattle.lock_free.proofs.RootFound.{slot_fits, offered_is, opening_is}
 use Rattle.lock_free.proofs.RootSteps as root

@@ -1,9 +1,9 @@
 -- A store to the word of an open handle whose root doesn't stand by an offer any more: it says the same root in other words. So an offer that is settled is taken out
 -- of it, and a seat's mark that it would close the handle is made or taken away.
 use Rattle.history.specs.declared.calls.Call.{Call}
-use Rattle.std.proofs.Common.{◌≡◌, ◌≢◌, ◌+◌, ◌*◌, ◌⊎◌, ◌^◌, ℕ, ◌<◌, ◌≤◌, inl, inr, Bool, true, false, List, Contains, set, slice_index, is_some, Option, Some, None, refl, sym, ap, subst, ◌∙◌, arith}
-use Rattle.std.proofs.lemmas.Bool.{cases_eq, true≢false}
-use Rattle.std.proofs.lemmas.Option.{same_Some, none-some}
+use Rattle.std.proofs.Common.{◌≡◌, ◌≢◌, ◌^◌, ℕ, ◌<◌, ◌≤◌, inl, inr, true, List, Contains, set, slice_index, is_some, Option, Some, None, refl, sym, ap, ◌∙◌, arith}
+use Rattle.std.proofs.lemmas.Bool.{cases_eq}
+use Rattle.std.proofs.lemmas.Option.{none-some}
 use mathlib.Core.Option.{some}
 use lib.ListN.{get_elem?}
 use Rattle.atomic_table.specs.Table as Table
@@ -18,21 +18,19 @@ use Rattle.machine_model.specs.declared.operations.Operation.{Operation}
 use Rattle.machine_model.specs.declared.roots.RootWord.TheVariants.{Plain}
 use Rattle.machine_model.specs.Calls.{handle_of}
 use Rattle.machine_model.specs.States.{State, operation_of, root_at, handle_limit}
-use Rattle.lock_free.specs.declared.accounts.Account.{Account}
 use Rattle.lock_free.specs.declared.accounts.Known.{Known}
 use Rattle.lock_free.specs.declared.rules.Closing.{Closing}
 use Rattle.lock_free.specs.declared.rules.View.{View}
 use Rattle.lock_free.specs.declared.sizes.Sizes.{Sizes}
 use Rattle.lock_free.specs.Accounts.{state_of, place_of}
-use Rattle.lock_free.specs.Places.{pin_word, root_word, IsTaken}
-use Rattle.lock_free.specs.Roots.{MeansRoot, SaysRoot, NoOffer, fate, undecided, meant, opened_by, open_with}
-use Rattle.lock_free.specs.Rules.{IsClosing, SaysClosing, IsFree, IsSpare, IsHeld, Reserves, Names, IsOpening, IsSeat, IsKept}
-use Rattle.lock_free.proofs.Assembling.{AllStand, all_stand, opening_stays, numbers_stay, Numbers, assembled}
-use Rattle.lock_free.proofs.Meanings.{no_tries}
+use Rattle.lock_free.specs.Places.{pin_word, root_word}
+use Rattle.lock_free.specs.Roots.{SaysRoot, NoOffer, fate, undecided, meant, opened_by, open_with}
+use Rattle.lock_free.specs.Rules.{IsClosing, SaysClosing, IsFree, IsHeld, Reserves, Names, IsOpening, IsSeat, IsKept}
+use Rattle.lock_free.proofs.Assembling.{AllStand, all_stand, opening_stays, Numbers, assembled}
 use Rattle.lock_free.proofs.RootCodes.{kind, same_kind}
 use Rattle.lock_free.proofs.RootFound.{not_plain, slot_fits, offered_is, opening_is, later_is}
 use Rattle.lock_free.proofs.RootSteps as root
-use Rattle.lock_free.proofs.Seats.{ran_so, Stays, StaysSpare, other_kept, names_kept, seat_else, own_else}
+use Rattle.lock_free.proofs.Seats.{ran_so, Stays, StaysSpare, other_kept, names_kept, own_else}
 
 -- the word says that this is the root of an open handle, which a seat may be about to close
 pub data IsPlainWord (access : Access) (place : ℕ) : HandleWord → Type 0 where
@@ -81,8 +79,10 @@ module _ (sizes : Sizes) (s : Table.State Call View) (kept : IsKept sizes s) (id
   all_then : AllStand sizes kept.account kept.stands words_then
   all_then =
       root.all_rooted sizes kept.account kept.stands s.words all handle low (root_code w) (record { what = w; fits = fits; code = refl; says = says_by w is })
-      (λ k c stands. (offer_no_more k c stands,
-      λ found. not_closed handle ((opening_is sizes kept.account s.words kept.roots handle low k c (k_fits k c) found).1 ∙ ap (λ n. opened_by n k.offer) stands) refl))
+      (λ k c stands. (
+        offer_no_more k c stands,
+        λ found. not_closed handle ((opening_is sizes kept.account s.words kept.roots handle low k c (k_fits k c) found).1 ∙ ap (λ n. opened_by n k.offer) stands) refl,
+      ))
 
   root_beside : (g : ℕ) → g ≢ handle → slice_index words_then (root_word g) ≡ slice_index s.words (root_word g)
   root_beside = root.else_root sizes kept.account kept.stands s.words all handle low (root_code w)

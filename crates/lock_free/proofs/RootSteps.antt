@@ -1,10 +1,9 @@
 -- Steps that change no node, and stores to words of handles.
-use Rattle.std.proofs.Common.{◌≡◌, ◌≢◌, ◌+◌, ◌*◌, ℕ, ◌<◌, ◌≤◌, inl, inr, List, ◌++◌, Contains, length, set, get_or, slice_index, Option, Some, None, refl, sym, ap, subst, ◌∙◌, arith, length-set}
+use Rattle.std.proofs.Common.{◌≡◌, ◌≢◌, ◌+◌, ℕ, ◌<◌, ◌≤◌, inl, inr, List, ◌++◌, Contains, length, set, get_or, slice_index, Option, None, refl, sym, ap, subst, ◌∙◌, arith, length-set}
 use Rattle.std.proofs.lemmas.Bool.{cases_eq}
 use Rattle.std.proofs.lemmas.List.{get_or-set_same}
 use Rattle.trie_words.specs.Codes.{root_code}
 use Rattle.trie_words.specs.declared.roots.RootWord.TheVariants as word
-use Rattle.machine_model.specs.Beneath.slot_arena.specs.declared.refs.Ref.{Ref}
 use Rattle.machine_model.specs.Beneath.slot_arena.specs.declared.nodes.Slot.{Slot}
 use Rattle.machine_model.specs.declared.roots.Root.{Root}
 use Rattle.machine_model.specs.declared.steps.Step.{Step}
@@ -15,11 +14,10 @@ use Rattle.lock_free.specs.declared.accounts.Account.{Account}
 use Rattle.lock_free.specs.declared.accounts.Known.{Known}
 use Rattle.lock_free.specs.declared.sizes.Sizes.{Sizes}
 use Rattle.lock_free.specs.Accounts.{state_of, place_at}
-use Rattle.lock_free.specs.Nodes.{class_of}
 use Rattle.lock_free.specs.Offering.{LeavesNodes}
 use Rattle.lock_free.specs.Places.{first_slot_word, slots_in, IsTaken, HaveTaken, taken_word, generation_word, root_word, pin_word, words_of}
 use Rattle.lock_free.specs.Roots.{MeansRoot, IsWritten, IsPending, AreMarked, fate, undecided}
-use Rattle.lock_free.specs.Rules.{Standing, Stands, NodesStand, RootsStand}
+use Rattle.lock_free.specs.Rules.{Standing, Stands, NodesStand}
 use Rattle.lock_free.specs.Steps.{nothing}
 use Rattle.lock_free.proofs.Assembling.{AllStand}
 use Rattle.lock_free.proofs.Framing.{else_word, nodes_below, roots_below, no_slot, meaning_below, written_below, first_of_offer, no_offer, marks_over}

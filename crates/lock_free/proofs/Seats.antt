@@ -1,12 +1,10 @@
 -- What an access of one seat leaves of the seats.
 use Rattle.history.specs.declared.calls.Call.{Call}
-use Rattle.std.proofs.Common.{◌≡◌, ◌≢◌, ◌+◌, ◌*◌, ℕ, ◌<◌, ◌≤◌, Bool, true, Option, List, [], ◌∷◌, Contains, get_or, slice_index, is_some, length, Some, None, refl, sym, ap, subst, ◌∙◌, arith}
+use Rattle.std.proofs.Common.{◌≡◌, ◌≢◌, ℕ, ◌<◌, ◌≤◌, true, Option, List, Contains, get_or, slice_index, is_some, length, Some, None, refl, sym, ap, ◌∙◌, arith}
 use Rattle.std.proofs.lemmas.Option.{none-some, same_Some}
 use mathlib.Core.Option.{some}
 use lib.ListN.{get_elem?}
 use Rattle.atomic_table.specs.Table as Table
-use Rattle.trie_words.specs.Codes.{root_code, IsRootWord}
-use Rattle.trie_words.specs.declared.roots.RootWord.TheVariants as word
 use Rattle.machine_model.specs.Calls.{handle_of}
 use Rattle.machine_model.specs.declared.operations.Operation.{Operation}
 use Rattle.machine_model.specs.States.{State, operation_of, root_at, handle_limit}
@@ -19,7 +17,6 @@ use Rattle.lock_free.specs.declared.sizes.Sizes.{Sizes}
 use Rattle.lock_free.specs.Accounts.{state_of, HasWaited}
 use Rattle.lock_free.specs.Places.{pin_word, root_word, IsTaken}
 use Rattle.lock_free.specs.Rules.{Standing, AreDrafts, Once, pool_of, IsFree, IsSpare, IsSeat, IsKept, Reserves, IsHeld, Names, pin_word_of}
-use Rattle.lock_free.specs.Roots.{NoOffer}
 use Rattle.lock_free.proofs.Assembling.{not_its, other_actor}
 use Rattle.lock_free.specs.Trying.{KeepsTries}
 use Rattle.lock_free.proofs.Geometry.{IsWordOf}

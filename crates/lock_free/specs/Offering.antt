@@ -10,7 +10,7 @@ use Rattle.machine_model.specs.declared.steps.Step.TheVariants as step
 use Rattle.machine_model.specs.Acting.{operation_after}
 use Rattle.machine_model.specs.Calls.{handle_of}
 use Rattle.machine_model.specs.Machine.{AreBounds}
-use Rattle.machine_model.specs.States.{State, operation_of, root_at}
+use Rattle.machine_model.specs.States.{operation_of, root_at}
 use Rattle.lock_free.specs.declared.accounts.Account.{Account}
 use Rattle.lock_free.specs.declared.accounts.Known.{Known}
 use Rattle.lock_free.specs.declared.rules.View.{View}
