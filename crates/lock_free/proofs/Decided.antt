@@ -49,7 +49,7 @@ module _ (account later : Account) (before after : State) (words changed : List 
   decided_stands (Tomb single) is h = header h.0 h.1 h.2
   decided_stands (Listed singles) is h = (header h.0.0 h.0.1 h.0.2, entries singles.items h.1)
 
-failed_pending : (p q : Ref) → prev.Failed p ≡ prev.Pending q → ⊥
+pub failed_pending : (p q : Ref) → prev.Failed p ≡ prev.Pending q → ⊥
 failed_pending p q e = true≢false (ap is_pending_prev (sym e))
   where
     is_pending_prev : Prev → Bool
@@ -57,10 +57,10 @@ failed_pending p q e = true≢false (ap is_pending_prev (sym e))
     is_pending_prev (prev.Failed r) = false
     is_pending_prev prev.None = false
 
-none_pending : (q : Ref) → prev.None ≡ prev.Pending q → ⊥
+pub none_pending : (q : Ref) → prev.None ≡ prev.Pending q → ⊥
 none_pending q e = is_pending q (sym e)
 
-same_pending : (p q : Ref) → prev.Pending p ≡ prev.Pending q → p ≡ q
+pub same_pending : (p q : Ref) → prev.Pending p ≡ prev.Pending q → p ≡ q
 same_pending p q e = ap over e
   where
     over : Prev → Ref

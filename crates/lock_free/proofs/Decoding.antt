@@ -54,7 +54,7 @@ module _ (v : View) (s : Table.State Call View) (kept : IsKept v.sizes s) where
 
   -- ---- what stands in a live node is live
 
-  node_lives : (r q : Ref) (slot : Slot) → IsLive state r → get_or state.heap.slots (slot_of r) None ≡ Some slot → Contains (refs_of_slot (Some slot)) q → IsLive state q
+  pub node_lives : (r q : Ref) (slot : Slot) → IsLive state r → get_or state.heap.slots (slot_of r) None ≡ Some slot → Contains (refs_of_slot (Some slot)) q → IsLive state q
   unfolding stored
   node_lives r q slot live is c = from_slot r q live (subst (λ o. Contains (refs_of_slot o) q) (sym is) c)
 

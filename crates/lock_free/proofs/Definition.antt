@@ -43,7 +43,8 @@ use Rattle.lock_free.specs.Nodes.{IsAhead}
 use Rattle.lock_free.specs.Steps.{Reads, nothing}
 use Rattle.lock_free.proofs.OneStep.Aheads.{ahead_of, over_makes, ahead_acts}
 use Rattle.lock_free.proofs.OneStep.Doing.{CompletesNone}
-use Rattle.lock_free.proofs.OneStep.Leading.{leads, tries_stay}
+use Rattle.lock_free.proofs.OneStep.Changing.{tries_stay}
+use Rattle.lock_free.proofs.OneStep.Leading.{leads}
 use Rattle.lock_free.specs.Trying.{as_before}
 use Rattle.lock_free.proofs.OneStep.Longer.{run_longer, bounds_less}
 
@@ -97,8 +98,8 @@ module _ (sizes : Sizes) (account : Account) (bounds : AreBounds (bounds_for siz
     reads_then =
         leads sizes account bounds actor operation runs g (reading_goes (action_of state operation) h).1 same nothing (λ r k. refl) (λ i a over. makes_none operation.line i a h over)
         (λ i a f ahead kept. publishes_none operation.line i a f h ahead)
-        (as_before (tries_stay sizes account bounds actor operation runs g (reading_goes (action_of state operation) h).1 same (reading_tries operation.attempt operation.is_marked (action_of state operation) h).0
-        (reading_tries operation.attempt operation.is_marked (action_of state operation) h).1))
+        (as_before (tries_stay sizes account bounds actor operation runs g (reading_goes (action_of state operation) h).1 (reading_tries operation.attempt operation.is_marked (action_of state operation) h).0
+            (reading_tries operation.attempt operation.is_marked (action_of state operation) h).1))
 
   pub reads_of : IsReading (action_of (state_of sizes account) operation) → Reads sizes account actor operation
   reads_of h = reads_then h

@@ -15,6 +15,15 @@ mod Moments
 mod Within
 mod Decoding
 mod Looking
+mod Exchanged
+mod LinkWords
+mod Verdicts
+mod DecideStep
+mod RestoreStep
+mod GivenBack
+mod PublishStep
+mod OwnSlots
+mod MakeStep
 mod Framing
 mod NodeWord
 mod Pools
@@ -32,7 +41,7 @@ mod Restored
 mod Drafting
 mod Taking
 mod Offered
-mod Tried
+mod Tries
 mod Settled
 mod Rewritten
 mod Entering

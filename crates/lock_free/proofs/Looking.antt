@@ -1,5 +1,5 @@
 -- What loads of nodes find.
-use Rattle.std.proofs.Common.{◌≡◌, ◌+◌, ◌*◌, ◌/◌, ◌<◌, ◌≤◌, ℕ, Bool, true, false, List, [], ◌∷◌, Contains, get_or, slice_index, slice_get, length, Some, None, refl, sym, ap, subst, ◌∙◌, arith}
+use Rattle.std.proofs.Common.{◌≡◌, ◌+◌, ◌*◌, ◌/◌, ◌^◌, ◌<◌, ◌≤◌, ℕ, Bool, true, false, List, [], ◌∷◌, Contains, get_or, slice_index, slice_get, length, Some, None, refl, sym, ap, subst, ◌∙◌, arith}
 use Rattle.std.proofs.lemmas.Bool.{true≢false}
 use Rattle.std.proofs.lemmas.List.Elements.{Contains-get_or}
 use Rattle.std.proofs.lemmas.Option.{same_Some}
@@ -76,6 +76,16 @@ module _ (v : View) (word found : ℕ) (m : Moment v word found) where
     is_found : (at : ℕ) → word ≡ at → slice_index m.table.words at ≡ found
     is_found at its = ap (slice_index m.table.words) (sym its) ∙ m.finds
 
+    pub header_at : is_main_node h.slot.node ≡ true → word ≡ 2 * place_of v.account r → SaysHeader account state (slot_of r) h.slot found
+    header_at main its =
+        subst (λ w. SaysHeader account state (slot_of r) h.slot w) (is_found (2 * place_of v.account r) its)
+        (header_in account state m.table.words (place_of v.account r) (slot_of r) h.slot h.slot.node main stands)
+
+    pub link_at : word ≡ 2 * place_of v.account r → (generation : ℕ) (main : Ref) → h.slot.node ≡ Indirection generation main →
+        (generation < 2 ^ 36) × ((own : Bool) × OwnIs account.owned (slot_of r) (slot_of main) own × (found ≡ link_code (record { generation = generation; main = record { slot = place_of account main; own = own } })))
+    link_at its generation main node =
+        let link = subst (λ n. StandsAs account state (InTable m.table.words) (place_of v.account r) (slot_of r) h.slot n) node stands in (link.0, (link.1.0, link.1.1, sym (is_found (2 * place_of v.account r) its) ∙ link.1.2))
+
     pub says_main : word ≡ 2 * place_of v.account r → SaysMain account state r (header_of found)
     says_main its slot is main =
         header_found v m.table m.kept r slot h.lives is found main
@@ -102,10 +112,10 @@ module _ (v : View) (word found : ℕ) (m : Moment v word found) where
 
   -- what the operation's action names is there
   module _ (does : Action) (p : IsAt v does) where
-    o_there : (mark : Bool) × running v.sizes account v.actor (record p.operation { is_marked = mark }) × (action_of state (record p.operation { is_marked = mark }) ≡ action_of (now v) p.operation)
+    pub o_there : (mark : Bool) × running v.sizes account v.actor (record p.operation { is_marked = mark }) × (action_of state (record p.operation { is_marked = mark }) ≡ action_of (now v) p.operation)
     o_there = (waited_so v m.table m.kept m.id m.at).stays p.operation p.runs
 
-    acts_there : action_of state (record p.operation { is_marked = o_there.0 }) ≡ does
+    pub acts_there : action_of state (record p.operation { is_marked = o_there.0 }) ≡ does
     acts_there = o_there.2 ∙ p.acts
 
   pub look_there : (r : Ref) → IsAt v (act.Look r) → There r
@@ -119,14 +129,14 @@ module _ (v : View) (word found : ℕ) (m : Moment v word found) where
       let first = main_stands v.sizes v.account (before v m.table m.kept m.id m.at) v.actor p.operation p.runs r (subst (λ a. Contains (mains_of a) r) (sym p.acts) c) in
       let o = o_there does p in
       let second = main_stands v.sizes account m.kept.bounds v.actor (record p.operation { is_marked = o.0 }) o.1 r (subst (λ a. Contains (mains_of a) r) (sym (acts_there does p)) c) in
-      (record { was = first.1.0; was_used = first.1.1; lives = second.0; slot = second.1.0; used = second.1.1 }, second.1.2)
+      (record { was = first.1.0; was_used = first.1.1; was_live = first.0; lives = second.0; slot = second.1.0; used = second.1.1 }, second.1.2)
 
   pub link_there : (does : Action) (r : Ref) → Contains (links_of does) r → IsAt v does → (h : There r) × (generation : ℕ) × (main : Ref) × (h.slot.node ≡ Indirection generation main)
   link_there does r c p =
       let first = link_stands v.sizes v.account (before v m.table m.kept m.id m.at) v.actor p.operation p.runs r (subst (λ a. Contains (links_of a) r) (sym p.acts) c) in
       let o = o_there does p in
       let second = link_stands v.sizes account m.kept.bounds v.actor (record p.operation { is_marked = o.0 }) o.1 r (subst (λ a. Contains (links_of a) r) (sym (acts_there does p)) c) in
-      (record { was = first.1.0; was_used = first.1.3; lives = second.0; slot = second.1.0; used = second.1.3 }, second.1.1, second.1.2, second.1.4)
+      (record { was = first.1.0; was_used = first.1.3; was_live = first.0; lives = second.0; slot = second.1.0; used = second.1.3 }, second.1.1, second.1.2, second.1.4)
 
 -- ---- what the seat is told
 

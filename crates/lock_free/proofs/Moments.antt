@@ -1,6 +1,6 @@
 -- What the rule says at the moment of an access: of the seat's operation, of nodes, and what a load leaves.
 use Rattle.history.specs.declared.calls.Call.{Call}
-use Rattle.std.proofs.Common.{◌≡◌, ◌+◌, ◌<◌, ℕ, suc, zero, inl, inr, Bool, List, [], ◌∷◌, ◌++◌, Contains, set, get_or, slice_index, length, Some, None, refl, sym, ap, subst, ◌∙◌, arith}
+use Rattle.std.proofs.Common.{◌≡◌, ◌+◌, ◌*◌, ◌<◌, ◌≤◌, ◌⊎◌, ℕ, suc, zero, inl, inr, Bool, List, [], ◌∷◌, ◌++◌, Contains, set, get_or, slice_index, length, Some, None, refl, sym, ap, subst, ◌∙◌, arith}
 use Rattle.std.proofs.lemmas.List.{set-get_or}
 use Rattle.std.proofs.lemmas.List.Elements.{Contains-append_left}
 use Rattle.std.proofs.lemmas.Option.{same_Some}
@@ -14,28 +14,31 @@ use Rattle.machine_model.specs.Beneath.slot_arena.specs.declared.nodes.Node.{Nod
 use Rattle.machine_model.specs.Beneath.slot_arena.specs.declared.nodes.Node.TheVariants.{Indirection, Branch, Single, Tomb, List as Listed}
 use Rattle.machine_model.specs.Beneath.slot_arena.specs.declared.nodes.Slot.{Slot}
 use Rattle.machine_model.specs.Beneath.slot_arena.specs.Refs.{slot_of}
-use Rattle.machine_model.specs.Beneath.slot_arena.specs.Heaps.{stored, refs_of_node, refs_of_slot, refs_of_prev, entries_of}
+use Rattle.machine_model.specs.Beneath.slot_arena.specs.Heaps.{stored, refs_of_node, refs_of_slot, refs_of_prev, entries_of, with_main_word}
 use Rattle.machine_model.specs.declared.operations.Operation.{Operation}
 use Rattle.machine_model.specs.Acting.{operation_after}
 use Rattle.machine_model.specs.Machine.{AreBounds}
 use Rattle.machine_model.specs.Operations.{action_of}
+use Rattle.machine_model.specs.States.{operation_of}
 use Rattle.machine_model.proofs.Along.{limits_along}
 use Rattle.proof_memory.specs.Laws.{SameNode}
 use Rattle.proof_memory.specs.Wants.{line_wants}
 use Rattle.lock_free.specs.declared.accounts.Account.{Account}
+use Rattle.lock_free.specs.declared.accounts.Owned.{Owned}
 use Rattle.lock_free.specs.declared.rules.View.{View}
 use Rattle.lock_free.specs.declared.sizes.Sizes.{Sizes}
-use Rattle.lock_free.specs.Accounts.{bounds_for, state_of, place_at, place_of, running, gone_on}
-use Rattle.lock_free.specs.Live.{refs_of_claims, at_hand, from_operation, from_slot, IsLive}
-use Rattle.lock_free.specs.Loading.{now, IsUsed, IsSound, seen, Waited, Took, has_seen, has_gone, Holds}
+use Rattle.lock_free.specs.Accounts.{bounds_for, state_of, place_at, place_of, HasWaited, running, gone_on, OwnIs, later}
+use Rattle.lock_free.specs.Live.{refs_of_claims, at_hand, IsKnown, from_root, from_operation, from_slot, IsLive}
+use Rattle.lock_free.specs.Loading.{now, Runs, IsUsed, IsSound, seen, Waited, Took, HasSeen, HasGone, has_seen, has_gone, Holds}
 use Rattle.lock_free.specs.Nodes.{StandsAs, InTable}
-use Rattle.lock_free.specs.Places.{words_of}
-use Rattle.lock_free.specs.Rules.{IsSeat, IsKept}
+use Rattle.lock_free.specs.Places.{words_in, words_of}
+use Rattle.lock_free.specs.Rules.{IsFree, IsSeat, IsKept}
 use Rattle.lock_free.specs.Steps.{Reads}
 use Rattle.lock_free.proofs.Asked.{in_use_made, live_in_use, nodes_stay}
 use Rattle.lock_free.proofs.Assembling.{all_stand, closing_stays, numbers_stay, assembled}
 use Rattle.lock_free.proofs.Meanings.{no_tries}
 use Rattle.lock_free.proofs.Definition.{IsReading, reads_of, waits, bounds_before}
+use Rattle.lock_free.proofs.Geometry.{end_inside}
 use Rattle.lock_free.proofs.Keeping.{kept_then}
 use Rattle.lock_free.proofs.Waiting.{waited_none}
 
@@ -58,6 +61,10 @@ pub place_stays : (names more : List ℕ) (k : ℕ) → k < length names → get
 place_stays [] more k h = absurd (omega (arith, h))
 place_stays (x ∷ xs) more zero h = refl
 place_stays (x ∷ xs) more (suc k) h = place_stays xs more k (omega (arith, h))
+
+owns_in_front : (more owned : List Owned) (k m : ℕ) (b : Bool) → OwnIs owned k m b → OwnIs (more ++ owned) k m b
+owns_in_front [] owned k m b h = h
+owns_in_front (x ∷ xs) owned k m b h = later x (xs ++ owned) k m b (owns_in_front xs owned k m b h)
 
 -- the entries of a main node stay
 same_entries : (before after : Node) → SameNode before after → entries_of after ≡ entries_of before
@@ -92,25 +99,29 @@ module _ (v : View) (s : Table.State Call View) (kept : IsKept v.sizes s) (id : 
   abbrev pub there : Account
   there = kept.account
 
-  its : IsSeat v.sizes there kept.stands s.words v
-  its = kept.seats id v at
+  pub seat : IsSeat v.sizes there kept.stands s.words v
+  seat = kept.seats id v at
 
   -- ---- the seat's account, and the present one
 
   pub before : AreBounds (bounds_for v.sizes v.account.steps)
-  before = bounds_before v.sizes v.account there its.waited kept.bounds
+  before = bounds_before v.sizes v.account there seat.waited kept.bounds
 
   pub made : (k : ℕ) (slot : Slot) → get_or (now v).heap.slots k None ≡ Some slot → k < length v.account.names
-  made k slot is = let low = in_use_made v.sizes v.account before k slot is in let counts = its.counts in omega (arith, low, counts)
+  made k slot is = let low = in_use_made v.sizes v.account before k slot is in let counts = seat.counts in omega (arith, low, counts)
 
   pub same_place : (k : ℕ) (slot : Slot) → get_or (now v).heap.slots k None ≡ Some slot → place_at there k ≡ place_at v.account k
-  same_place k slot is = ap (λ xs. get_or xs k 0) its.waited.more_names ∙ place_stays v.account.names its.waited.names k (made k slot is)
+  same_place k slot is = ap (λ xs. get_or xs k 0) seat.waited.more_names ∙ place_stays v.account.names seat.waited.names k (made k slot is)
+
+  -- what is free for the seat is the table's
+  pub free_inside : (class name : ℕ) → IsFree v class name → 2 * name + words_in class ≤ words_of v.sizes
+  free_inside class name free = end_inside v.sizes s.words kept.taken class name free.0 (seat.spare class name free).0
 
   pub waited_so : Waited v there
   waited_so = record {
-    waited = its.waited;
-    sound = record { size = refl; range = kept.range.within; bounds = kept.bounds; counted = kept.counted; inside = kept.nodes.inside };
-    stays = λ o runs. waits v.sizes v.actor v.account there its.waited kept.bounds o runs;
+    waited = seat.waited;
+    sound = record { size = refl; range = kept.range.within; bounds = kept.bounds; counted = kept.counted; inside = kept.nodes.inside; free = free_inside };
+    stays = λ o runs. waits v.sizes v.actor v.account there seat.waited kept.bounds o runs;
   }
 
   -- ---- nodes
@@ -123,6 +134,7 @@ module _ (v : View) (s : Table.State Call View) (kept : IsKept v.sizes s) (id : 
   pub record IsThere (r : Ref) : Type 0 where
     pub was : Slot
     pub was_used : IsUsed v r was
+    pub was_live : IsLive (now v) r
     pub lives : IsLive (state_of v.sizes there) r
     pub slot : Slot
     pub used : get_or (state_of v.sizes there).heap.slots (slot_of r) None ≡ Some slot
@@ -131,16 +143,25 @@ module _ (v : View) (s : Table.State Call View) (kept : IsKept v.sizes s) (id : 
   is_there r first second =
       let was = live_in_use v.sizes v.account before r first in
       let is = live_in_use v.sizes there kept.bounds r second in
-      record { was = was.0; was_used = was.1; lives = second; slot = is.0; used = is.1 }
+      record { was = was.0; was_used = was.1; was_live = first; lives = second; slot = is.0; used = is.1 }
 
   -- its place is the one that the seat knows
   pub its_place : (r : Ref) → IsThere r → place_of there r ≡ place_of v.account r
   its_place r h = same_place (slot_of r) h.was h.was_used
 
+  -- so is that of each node that was live
+  pub live_place : (r : Ref) → IsLive (now v) r → place_of there r ≡ place_of v.account r
+  live_place r live = let is = live_in_use v.sizes v.account before r live in same_place (slot_of r) is.0 is.1
+
+  -- whose own a node was it is
+  pub still_own : (k m : ℕ) (b : Bool) → OwnIs v.account.owned k m b → OwnIs there.owned k m b
+  still_own k m b h = subst (λ xs. OwnIs xs k m b) (sym seat.waited.more_owned) (owns_in_front seat.waited.owned v.account.owned k m b h)
+
   module _ (o : Operation) (runs : running v.sizes v.account v.actor o) where
     hand_lives : (r : Ref) → Contains (at_hand (now v) o) r → IsLive (now v) r × IsLive (state_of v.sizes there) r
     hand_lives r c =
-        let here = waited_so.stays o runs in (
+        let here = waited_so.stays o runs in
+        (
           from_operation v.actor o r runs tt c,
           from_operation v.actor (record o { is_marked = here.0 }) r here.1 tt (subst (λ h. Contains (hand_by h o) r) (same_hash v.sizes v.account there) c),
         )
@@ -149,9 +170,13 @@ module _ (v : View) (s : Table.State Call View) (kept : IsKept v.sizes s) (id : 
   held_there r (o, runs, inl c) = let x = hand_lives o runs r c in is_there r x.0 x.1
   held_there r (o, runs, inr (main, slot, c, is, e)) =
       let x = hand_lives o runs main c in
-      let later = nodes_stay v.sizes v.actor v.account there its.waited kept.bounds (slot_of main) slot is in
+      let now_is = nodes_stay v.sizes v.actor v.account there seat.waited kept.bounds (slot_of main) slot is in
       is_there r (entry_lives v.sizes v.account main r slot x.0 is e)
-      (entry_lives v.sizes there main r later.0 x.1 later.1 (subst (λ xs. Contains xs r) (sym (same_entries slot.node later.0.node later.2)) e))
+      (entry_lives v.sizes there main r now_is.0 x.1 now_is.1 (subst (λ xs. Contains xs r) (sym (same_entries slot.node now_is.0.node now_is.2)) e))
+
+  -- its operation's step was taken where it then is on the next line
+  pub took_by : (o : Operation) → running v.sizes there v.actor o → (account : Account) → operation_of (state_of v.sizes account) v.actor ≡ Some (operation_after (state_of v.sizes there) o) → Took v there (seen v account)
+  took_by o runs account own q runs_q = own ∙ ap (λ x. Some (operation_after (state_of v.sizes there) x)) (same_Some o q (sym runs ∙ runs_q))
 
   -- ---- a load that is no step
 
@@ -161,21 +186,21 @@ module _ (v : View) (s : Table.State Call View) (kept : IsKept v.sizes s) (id : 
   seen_seat : IsSeat v.sizes there kept.stands s.words seen_view
   seen_seat = record {
     same = refl;
-    low = its.low;
-    top = its.top;
-    most = its.most;
+    low = seat.low;
+    top = seat.top;
+    most = seat.most;
     waited = waited_none v.actor there;
     counts = kept.counted;
-    rests = its.rests;
-    pinned = its.pinned;
-    entered = its.entered;
-    calls = its.calls;
-    opens = its.opens;
-    opening = λ handle slot o n. (let x = its.opening handle slot o n in record { low = x.low; fits = x.fits; is = x.is; free = x.free });
-    reserves = its.reserves;
-    spare = its.spare;
-    once = its.once;
-    drafts = its.drafts;
+    rests = seat.rests;
+    pinned = seat.pinned;
+    entered = seat.entered;
+    calls = seat.calls;
+    opens = seat.opens;
+    opening = λ handle slot o n. (let x = seat.opening handle slot o n in record { low = x.low; fits = x.fits; is = x.is; free = x.free });
+    reserves = seat.reserves;
+    spare = seat.spare;
+    once = seat.once;
+    drafts = seat.drafts;
   }
 
   pub seen_kept : IsKept v.sizes (record { words = s.words; homes = s.homes; views = set s.views id seen_view })
@@ -204,10 +229,10 @@ module _ (v : View) (s : Table.State Call View) (kept : IsKept v.sizes s) (id : 
     gone_kept = kept_then v.sizes s kept id v at o_there here.1 reads
 
     pub gone_sound : IsSound (words_of v.sizes) gone_view
-    gone_sound = record { size = refl; range = kept.range.within; bounds = reads.bounds; counted = kept.counted ∙ sym reads.births; inside = λ k slot e. kept.nodes.inside k slot (sym (reads.nodes k) ∙ e) }
+    gone_sound = record { size = refl; range = kept.range.within; bounds = reads.bounds; counted = kept.counted ∙ sym reads.births; inside = λ k slot e. kept.nodes.inside k slot (sym (reads.nodes k) ∙ e); free = free_inside }
 
     pub gone_took : Took v there gone_view
-    gone_took q runs_q = reads.own ∙ ap (λ x. Some (operation_after (state_of v.sizes there) x)) (same_Some o_there q (sym here.1 ∙ runs_q))
+    gone_took = took_by o_there here.1 (gone_on v.actor there) reads.own
 
 -- ---- loads are allowed
 
@@ -219,17 +244,11 @@ module _ (sizes : Sizes) (size id : ℕ) (me : Me Call View) (word : ℕ) where
   pub load_allowed : Allows (IsKept sizes) size id me word (λ n. n) (has_seen (step size word 0 0 none) me)
   load_allowed =
       allowed sizes size id me word (λ n. n) (has_seen (step size word 0 0 none) me)
-      (λ s kept at. (
-        seen_view me.0 s kept id at,
-        unchanged s (seen_view me.0 s kept id at) (seen_kept me.0 s kept id at),
-        ((record { table = s; kept = kept; id = id; at = at; finds = refl }, refl), (waited_so me.0 s kept id at).sound, refl),
-      ))
+      (λ s kept at. (seen_view me.0 s kept id at, unchanged s (seen_view me.0 s kept id at) (seen_kept me.0 s kept id at),
+          ((record { table = s; kept = kept; id = id; at = at; finds = refl }, refl), (waited_so me.0 s kept id at).sound, refl)))
 
   pub go_allowed : (o : Operation) → running me.0.sizes me.0.account me.0.actor o → IsReading (action_of (now me.0) o) → Allows (IsKept sizes) size id me word (λ n. n) (has_gone (step size word 0 0 none) me)
   go_allowed o runs reading =
       allowed sizes size id me word (λ n. n) (has_gone (step size word 0 0 none) me)
-      (λ s kept at. (
-        gone_view me.0 s kept id at o runs reading,
-        unchanged s (gone_view me.0 s kept id at o runs reading) (gone_kept me.0 s kept id at o runs reading),
-        ((record { table = s; kept = kept; id = id; at = at; finds = refl }, refl, gone_took me.0 s kept id at o runs reading), gone_sound me.0 s kept id at o runs reading, refl),
-      ))
+      (λ s kept at. (gone_view me.0 s kept id at o runs reading, unchanged s (gone_view me.0 s kept id at o runs reading) (gone_kept me.0 s kept id at o runs reading),
+          ((record { table = s; kept = kept; id = id; at = at; finds = refl }, refl, gone_took me.0 s kept id at o runs reading), gone_sound me.0 s kept id at o runs reading, refl)))

@@ -4,4 +4,10 @@ pub mod Widened
 pub mod Going
 pub mod Aheads
 pub mod Doing
+pub mod Changing
 pub mod Leading
+pub mod Found
+pub mod Giving
+pub mod Restores
+pub mod Decides
+pub mod Publishes

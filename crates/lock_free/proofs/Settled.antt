@@ -33,7 +33,7 @@ use Rattle.lock_free.proofs.Meanings.{means_then, stood_still, pending_kept, unm
 use Rattle.lock_free.proofs.RootFound.{slot_fits, offered_is, opening_is}
 use Rattle.lock_free.proofs.RootSteps as root
 use Rattle.lock_free.proofs.Seats.{Stays, other_kept, own_kept, drafts_kept}
-use Rattle.lock_free.proofs.Tried.{is_or_not, ran_settled, reserved_settled, not_owner, marks_settled, marks_else, opener}
+use Rattle.lock_free.proofs.Tries.{is_or_not, ran_settled, reserved_settled, not_owner, marks_settled, marks_else, opener}
 use Rattle.lock_free.proofs.Waiting.{waited_more, quiet_more}
 
 module _ (sizes : Sizes) (s : Table.State Call View) (kept : IsKept sizes s) (id : ℕ) (v : View) (at : get_elem? s.views id ≡ some v) (operation : Operation)

@@ -22,7 +22,7 @@ use Rattle.lock_free.proofs.Geometry.{IsWordOf, slots_apart, root_below}
 use Rattle.lock_free.proofs.Pools.{free_still, was_free, once_with}
 use Rattle.lock_free.proofs.Seats.{ran_so, numbers_so, Stays, other_kept, own_still}
 
-same_class : (b c : ℕ) → taken_word b ≡ taken_word c → b ≡ c
+pub same_class : (b c : ℕ) → taken_word b ≡ taken_word c → b ≡ c
 same_class b c e = omega (arith, e)
 
 module _ (sizes : Sizes) (s : Table.State Call View) (kept : IsKept sizes s) (id : ℕ) (v : View) (at : get_elem? s.views id ≡ some v) (class : ℕ) (small : class < 3)

@@ -14,3 +14,5 @@ pub mod Restoring
 pub mod Offering
 pub mod Settling
 pub mod Beginning
+pub mod Exchanging
+pub mod Storing

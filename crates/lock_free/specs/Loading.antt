@@ -29,7 +29,7 @@ use Rattle.lock_free.specs.Accounts.{bounds_for, HasWaited, running, state_of, p
 use Rattle.lock_free.specs.Live.{at_hand}
 use Rattle.lock_free.specs.Nodes.{SaysPrevious, SaysShape, IsEntryOf, half_in, class_of}
 use Rattle.lock_free.specs.Places.{words_in, words_of}
-use Rattle.lock_free.specs.Rules.{IsKept}
+use Rattle.lock_free.specs.Rules.{IsFree, IsKept}
 
 -- All words, views and steps at the access, by which this was found in that word; the view is the seat's before it.
 pub record Moment (v : View) (word found : ℕ) : Type 0 where
@@ -65,6 +65,8 @@ pub record IsSound (words : ℕ) (v : View) : Type 0 where
   pub bounds : AreBounds (bounds_for v.sizes v.account.steps)
   pub counted : length v.account.names ≡ (now v).heap.births
   pub inside : (k : ℕ) (slot : Slot) → slice_index_or (now v).heap.slots k None ≡ Some slot → 2 * place_at v.account k + words_in (class_of slot.node) ≤ words_of v.sizes
+  -- and so are those that are free for the seat
+  pub free : (class name : ℕ) → IsFree v class name → 2 * name + words_in class ≤ words_of v.sizes
 
 -- ---- what an access leaves of it
 

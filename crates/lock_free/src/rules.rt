@@ -2,6 +2,8 @@
 
 ghost use Rattle.lock_free.specs.Rules.{IsKept, first_view};
 ghost use Rattle.lock_free.specs.Loading.{has_seen, has_gone};
+ghost use Rattle.lock_free.specs.Exchanging.{has_published};
+ghost use Rattle.lock_free.specs.Storing.{has_drafted, has_made, has_taken};
 
 use crate::accounts::Account;
 use crate::sizes::Sizes;
@@ -65,9 +67,37 @@ impl Play<Call, View> for Sees {
     ghost then = { has_seen };
 }
 
-/// The operation's next step, which changes no word, is taken.
+/// The operation's next step is taken, which makes no node.
 pub struct Goes;
 
 impl Play<Call, View> for Goes {
     ghost then = { has_gone };
+}
+
+/// A fresh main node is swapped in, or isn't.
+pub struct Publishes;
+
+impl Play<Call, View> for Publishes {
+    ghost then = { has_published };
+}
+
+/// A word of a free slot is written.
+pub struct Drafts;
+
+impl Play<Call, View> for Drafts {
+    ghost then = { has_drafted };
+}
+
+/// A slot is taken, or isn't.
+pub struct Takes;
+
+impl Play<Call, View> for Takes {
+    ghost then = { has_taken };
+}
+
+/// The node that was written becomes one of the machine's.
+pub struct Makes;
+
+impl Play<Call, View> for Makes {
+    ghost then = { has_made };
 }

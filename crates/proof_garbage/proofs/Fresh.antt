@@ -1,13 +1,22 @@
 -- What is known of a main node that is about to be swapped in, and of those over which others stand.
-use Rattle.std.proofs.Common.{◌≡◌, ℕ, List, Some, None, refl, sym, ap, subst, ◌∙◌, arith}
+use Rattle.std.proofs.Common.{◌≡◌, ℕ, List, Option, Some, None, refl, sym, ap, subst, ◌∙◌, arith}
+use Rattle.std.proofs.lemmas.Option.{none-some, same_Some}
 use Rattle.proof_garbage.specs.Beneath.slot_arena.specs.declared.refs.Ref.{Ref}
 use Rattle.proof_garbage.specs.Beneath.slot_arena.specs.declared.nodes.Node.{Node}
 use Rattle.proof_garbage.specs.Beneath.slot_arena.specs.declared.nodes.Node.TheVariants.{Indirection}
 use Rattle.proof_garbage.specs.Beneath.slot_arena.specs.declared.nodes.Prev.{Prev}
 use Rattle.proof_garbage.specs.Beneath.slot_arena.specs.declared.nodes.Prev.TheVariants as prev
 use Rattle.proof_garbage.specs.Beneath.slot_arena.specs.declared.nodes.Slot.{Slot}
-use Rattle.proof_garbage.specs.Beneath.slot_arena.specs.Heaps.{prev_at, node_at, main_of}
+use Rattle.proof_garbage.specs.Beneath.slot_arena.specs.Heaps.{prev_at, node_at, main_at, main_of}
+use Rattle.proof_garbage.specs.Beneath.machine_model.specs.declared.actions.Action.TheVariants as act
+use Rattle.proof_garbage.specs.Beneath.machine_model.specs.declared.lines.Line.{Line}
 use Rattle.proof_garbage.specs.Beneath.machine_model.specs.declared.lines.Purpose.{Purpose}
+use Rattle.proof_garbage.specs.Beneath.machine_model.specs.declared.reading.Read.{Read}
+use Rattle.proof_garbage.specs.Beneath.machine_model.specs.declared.reading.ReadLine.TheVariants as read
+use Rattle.proof_garbage.specs.Beneath.machine_model.specs.declared.reading.SwapLine.{SwapLine}
+use Rattle.proof_garbage.specs.Beneath.machine_model.specs.declared.reading.SwapLine.TheVariants as swap
+use Rattle.proof_garbage.specs.Beneath.machine_model.specs.Operations.{action_of, read_of, swapping_read}
+use Rattle.proof_garbage.specs.Beneath.proof_commits.proofs.Lines.Swap.{reads_stage}
 use Rattle.proof_garbage.specs.Beneath.machine_model.specs.declared.lines.Line.TheVariants as line
 use Rattle.proof_garbage.specs.Beneath.machine_model.specs.declared.operations.Operation.{Operation}
 use Rattle.proof_garbage.specs.Beneath.machine_model.specs.declared.steps.Bounds.{Bounds}
@@ -20,13 +29,27 @@ use Rattle.proof_garbage.specs.Beneath.machine_model.proofs.Grown.{node_grown, n
 use Rattle.proof_garbage.specs.Beneath.machine_model.proofs.Times.{run_ends}
 use Rattle.proof_garbage.specs.Beneath.proof_memory.specs.Laws.{IsInUse}
 use Rattle.proof_garbage.specs.Beneath.proof_memory.specs.Wants.{is_indirection}
-use Rattle.proof_garbage.specs.Beneath.proof_commits.specs.Protocol.{Publishes, Words}
-use Rattle.proof_garbage.specs.Beneath.proof_commits.specs.Stages.{stage_of, stage_of_actor}
+use Rattle.proof_garbage.specs.Beneath.proof_commits.specs.Protocol.{Publishes, Reads, Words}
+use Rattle.proof_garbage.specs.Beneath.proof_commits.specs.Stages.{stage_of, stage_of_swap, stage_of_actor}
 use Rattle.proof_garbage.specs.Beneath.proof_commits.proofs.Known.Owners.{HasFresh, IsSound, Staged}
 use Rattle.proof_garbage.specs.Beneath.proof_commits.proofs.Known.Sounds.{sound_at}
 use Rattle.proof_garbage.specs.Beneath.proof_commits.proofs.Words.Along.{protocol}
-use Rattle.proof_garbage.specs.Beneath.proof_commits.proofs.Words.Stood.{IsOver, Private, stands_now}
-use Rattle.proof_garbage.proofs.Restoring.{states, last, known, w, staged}
+use Rattle.proof_garbage.specs.Beneath.proof_commits.proofs.Words.Stood.{IsOver, Private, Stood, none≢pending, stands_now}
+use Rattle.proof_garbage.proofs.Restoring.{states, last, known, w, staged, deciding, stood_deciding}
+use Rattle.proof_garbage.proofs.Pending.{StageNames, LineNames, names_at}
+
+-- what the READ of a line names
+names_swap : (w : Words) (t : ℕ) (i a f : Ref) (l : SwapLine) (r : Read) → swapping_read i l ≡ Some r → StageNames w t (stage_of_swap i a f l) → LineNames w t r.line
+names_swap w t i a f (swap.Deciding x) r is h = subst (λ (q : Read). LineNames w t q.line) (same_Some (record { indirection = i; line = x }) r is) h
+names_swap w t i a f swap.Publish r is h = absurd (none-some r is)
+names_swap w t i a f swap.Check r is h = absurd (none-some r is)
+
+names_stage : (w : Words) (t : ℕ) (l : Line) (r : Read) → stage_of l ≡ Reads r.indirection r.line → StageNames w t (stage_of l) → LineNames w t r.line
+names_stage w t l r e h = subst (StageNames w t) e h
+
+names_line : (w : Words) (t : ℕ) (l : Line) (r : Read) → read_of l ≡ Some r → StageNames w t (stage_of l) → LineNames w t r.line
+names_line w t (line.Swap why s) r is h = names_swap w t s.indirection s.replaced s.fresh s.line r is h
+names_line w t l r is h = names_stage w t l r (reads_stage l r tt is) h
 
 module _ (limits : Bounds) (steps : List Step) (ok : AreBounds limits) where
   abbrev state : State
@@ -62,7 +85,7 @@ module _ (limits : Bounds) (steps : List Step) (ok : AreBounds limits) where
   -- ---- a fresh main node
 
   module _ (actor : ℕ) (operation : Operation) (i a f : Ref) (why : Purpose) (runs : operation_of state actor ≡ Some operation) (on : operation.line ≡ line.Swap why (swapping i a f)) where
-    fresh : Private words end f
+    pub fresh : Private words end f
     fresh = (subst (λ l. Staged words end actor (stage_of l)) on (staged limits steps ok actor operation runs)).0
 
     pub its_stage : words.stage end actor ≡ Publishes i a f
@@ -83,3 +106,31 @@ module _ (limits : Bounds) (steps : List Step) (ok : AreBounds limits) where
       o.line ≡ line.Swap why (swapping i a f) → p.line ≡ line.Swap because (swapping j b f) → (actor ≡ other → ⊥) → ⊥
   fresh_apart actor other o p i a j b f why because is_o is_p on_o on_p apart =
       sound.apart actor other f apart (subst (λ s. HasFresh s f) (sym (its_stage actor o i a f why is_o on_o)) refl) (subst (λ s. HasFresh s f) (sym (its_stage other p j b f because is_p on_p)) refl)
+
+  -- ---- a main node that is about to be decided
+
+  module _ (actor : ℕ) (operation : Operation) (i main previous : Ref) (told : Option ℕ) (runs : operation_of state actor ≡ Some operation) (is : action_of state operation ≡ act.Decide i main previous told) where
+    stood : Stood words end i main
+    stood = stood_deciding limits steps ok actor operation i main previous told runs is
+
+    names : StageNames words end (stage_of operation.line)
+    names =
+        subst (λ x. StageNames words end (stage_of_actor x)) (ap (λ (s : State). operation_of s actor) (run_ends limits steps) ∙ runs)
+        (names_at (protocol limits (states limits steps ok) end (known limits steps ok)) end (omega arith) actor)
+
+    -- while it is pending it is so over the one that is named
+    pub deciding_over : IsInUse state.heap main → (q : Ref) → prev_at state.heap main ≡ prev.Pending q → q ≡ previous
+    deciding_over used q pending =
+        names_line words end operation.line (record { indirection = i; line = read.Decide main previous told }) (deciding limits steps ok actor operation i main previous told runs is) names q (prev_word_of main used ∙ pending)
+
+    -- and stands in that indirection
+    pub deciding_stands : IsInUse state.heap i → IsInUse state.heap main → (q : Ref) → prev_at state.heap main ≡ prev.Pending q → main_at state.heap i ≡ main
+    deciding_stands (slot, stands) used q pending =
+        let pends = prev_word_of main used ∙ pending in
+        let owner = sound.owned main q pends in
+        let same = sound.words.one_word main owner.link i (λ none. none≢pending none pends) (stands_now owner.is_link owner.stands) stood in
+        ap main_of (node_standing state.heap i slot stands ∙ sym (node_word_of i slot stands)) ∙ subst (λ j. words.main end j ≡ main) same owner.stands
+
+    -- nobody is about to swap it in
+    pub deciding_met : (other : ℕ) (p : Operation) (j a : Ref) (why : Purpose) → operation_of state other ≡ Some p → p.line ≡ line.Swap why (swapping j a main) → ⊥
+    deciding_met other p j a why is_p on = (fresh other p j a main why is_p on).apart i stood

@@ -6,4 +6,8 @@ pub mod Stays
 pub mod Unknown
 pub mod Restoring
 pub mod Private
+pub mod Pending
 pub mod Fresh
+pub mod First
+pub mod Swaps
+pub mod GivenUp

@@ -1,5 +1,6 @@
--- Who puts a node back does so in the place of one that failed over it.
-use Rattle.std.proofs.Common.{◌≡◌, ℕ, List, Option, Some, None, refl, sym, ap, subst, ◌∙◌, arith}
+-- Who puts a node back does so in the place of one that failed over it; who decides one, one that stood in the indirection's word.
+use Rattle.std.proofs.Common.{◌≡◌, ℕ, Bool, true, false, List, Option, Some, None, refl, sym, ap, subst, ◌∙◌, arith}
+use Rattle.std.proofs.lemmas.Bool.{false≢true}
 use Rattle.std.proofs.lemmas.Option.{none-some, same_Some}
 use Rattle.proof_garbage.specs.Beneath.slot_arena.specs.declared.refs.Ref.{Ref}
 use Rattle.proof_garbage.specs.Beneath.machine_model.specs.declared.reading.Read.{Read}
@@ -25,6 +26,7 @@ use Rattle.proof_garbage.specs.Beneath.proof_commits.specs.Protocol.{Words, Read
 use Rattle.proof_garbage.specs.Beneath.proof_commits.specs.Stages.{stage_of, stage_of_swap, stage_of_actor}
 use Rattle.proof_garbage.specs.Beneath.proof_commits.specs.Words.{words_of}
 use Rattle.proof_garbage.specs.Beneath.proof_commits.proofs.Words.Along.{protocol}
+use Rattle.proof_garbage.specs.Beneath.proof_commits.proofs.Words.Stood.{Stood}
 use Rattle.proof_garbage.specs.Beneath.proof_commits.proofs.Known.Owners.{OnLine, Staged}
 use Rattle.proof_garbage.specs.Beneath.proof_commits.proofs.Known.Sounds.{sound_at}
 use Rattle.proof_garbage.specs.Beneath.proof_commits.proofs.Known.Given.{Known}
@@ -62,82 +64,97 @@ use Rattle.proof_garbage.specs.Beneath.machine_model.specs.Climbing.{climb_actio
 use Rattle.proof_garbage.specs.Beneath.machine_model.specs.Copying.{copy_action}
 use Rattle.proof_garbage.specs.Beneath.machine_model.specs.Walking.{walk_action}
 
--- the node that an action puts back, and the one in whose place
-abbrev put_back : Action → Option (Ref × Ref)
-put_back (act.Restore i main previous) = Some (main, previous)
-put_back action = None
+-- the action is a READ's alone
+abbrev of_read : Action → Bool
+of_read (act.ReadMain i) = true
+of_read (act.Abort offer) = true
+of_read (act.Decide i main previous told) = true
+of_read (act.Restore i main previous) = true
+of_read action = false
 
--- the READ that stands on its last line
-abbrev Restoring : Option Read → Ref × Ref → Type 0
-Restoring o x = (r : Read) × (o ≡ Some r) × (r.line ≡ read.Restore x.0 x.1)
+-- it is that of the READ in which the operation is
+abbrev ReadsIt : Option Read → Action → Type 0
+ReadsIt o action = (r : Read) × (o ≡ Some r) × (action ≡ read_action r.indirection r.line)
 
-read_restores : (j : Ref) (l : ReadLine) (x : Ref × Ref) → put_back (read_action j l) ≡ Some x → l ≡ read.Restore x.0 x.1
-read_restores j (read.Restore main previous) x e = ap (λ (y : Ref × Ref). read.Restore y.0 y.1) (same_Some _ _ e)
-read_restores j read.Main x e = absurd (none-some x e)
-read_restores j (read.Prev main) x e = absurd (none-some x e)
-read_restores j (read.AskRoot main previous) x e = absurd (none-some x e)
-read_restores j (read.Abort main previous offer) x e = absurd (none-some x e)
-read_restores j (read.Decide main previous told) x e = absurd (none-some x e)
+this_read : (r : Read) → ReadsIt (Some r) (read_action r.indirection r.line)
+this_read r = (r, refl, refl)
 
-this_read : (r : Read) (x : Ref × Ref) → put_back (read_action r.indirection r.line) ≡ Some x → Restoring (Some r) x
-this_read r x e = (r, refl, read_restores r.indirection r.line x e)
+complete_reads : (offer : Descriptor) (l : CompleteLine) → of_read (complete_action_at offer l) ≡ true → ReadsIt (completing_read offer l) (complete_action_at offer l)
+complete_reads offer (complete.Reading l) e = this_read (record { indirection = offer.root; line = l })
+complete_reads offer (complete.Swap main) e = absurd (false≢true e)
 
-complete_restores : (offer : Descriptor) (l : CompleteLine) (x : Ref × Ref) → put_back (complete_action_at offer l) ≡ Some x → Restoring (completing_read offer l) x
-complete_restores offer (complete.Reading l) x e = this_read (record { indirection = offer.root; line = l }) x e
-complete_restores offer (complete.Swap main) x e = absurd (none-some x e)
+root_reads : (l : RootLine) → of_read (root_action l) ≡ true → ReadsIt (rooting_read l) (root_action l)
+root_reads root.Read e = absurd (false≢true e)
+root_reads (root.Completing c) e = complete_reads c.offer c.line e
 
-root_restores : (l : RootLine) (x : Ref × Ref) → put_back (root_action l) ≡ Some x → Restoring (rooting_read l) x
-root_restores root.Read x e = absurd (none-some x e)
-root_restores (root.Completing c) x e = complete_restores c.offer c.line x e
+swap_reads : (i a f : Ref) (l : SwapLine) → of_read (action_at i a f l) ≡ true → ReadsIt (swapping_read i l) (action_at i a f l)
+swap_reads i a f swap.Publish e = absurd (false≢true e)
+swap_reads i a f (swap.Deciding l) e = this_read (record { indirection = i; line = l })
+swap_reads i a f swap.Check e = absurd (false≢true e)
 
-swap_restores : (i a f : Ref) (l : SwapLine) (x : Ref × Ref) → put_back (action_at i a f l) ≡ Some x → Restoring (swapping_read i l) x
-swap_restores i a f swap.Publish x e = absurd (none-some x e)
-swap_restores i a f (swap.Deciding l) x e = this_read (record { indirection = i; line = l }) x e
-swap_restores i a f swap.Check x e = absurd (none-some x e)
+key_reads : (state : State) (l : KeyLine) → of_read (key_action state l) ≡ true → ReadsIt (keying_read l) (key_action state l)
+key_reads state (key.Read path r) e = this_read r
+key_reads state l e = absurd (false≢true e)
 
-key_restores : (state : State) (l : KeyLine) (x : Ref × Ref) → put_back (key_action state l) ≡ Some x → Restoring (keying_read l) x
-key_restores state (key.Read path r) x e = this_read r x e
-key_restores state l x e = absurd (none-some x e)
+build_reads : (state : State) (operation : Operation) (l : BuildLine) → of_read (build_action state operation l) ≡ true → ⊥
+build_reads state operation (build.Single path main s former) e = false≢true e
+build_reads state operation l e = false≢true e
 
-build_restores : (state : State) (operation : Operation) (l : BuildLine) (x : Ref × Ref) → put_back (build_action state operation l) ≡ Some x → ⊥
-build_restores state operation (build.Single path main s former) x e = none-some x e
-build_restores state operation l x e = none-some x e
+renew_reads : (state : State) (operation : Operation) (l : RenewLine) → of_read (renew_action state operation l) ≡ true → ReadsIt (renewing_read l) (renew_action state operation l)
+renew_reads state operation (renew.Read path main done r) e = this_read r
+renew_reads state operation l e = absurd (false≢true e)
 
-renew_restores : (state : State) (operation : Operation) (l : RenewLine) (x : Ref × Ref) → put_back (renew_action state operation l) ≡ Some x → Restoring (renewing_read l) x
-renew_restores state operation (renew.Read path main done r) x e = this_read r x e
-renew_restores state operation l x e = absurd (none-some x e)
+clean_reads : (state : State) (l : CleanLine) → of_read (clean_action state l) ≡ true → ReadsIt (cleaning_read l) (clean_action state l)
+clean_reads state (clean.Read path r) e = this_read r
+clean_reads state (clean.Child path main done r) e = this_read r
+clean_reads state l e = absurd (false≢true e)
 
-clean_restores : (state : State) (l : CleanLine) (x : Ref × Ref) → put_back (clean_action state l) ≡ Some x → Restoring (cleaning_read l) x
-clean_restores state (clean.Read path r) x e = this_read r x e
-clean_restores state (clean.Child path main done r) x e = this_read r x e
-clean_restores state l x e = absurd (none-some x e)
+climb_reads : (state : State) (operation : Operation) (l : ClimbLine) → of_read (climb_action state operation l) ≡ true → ReadsIt (climbing_read l) (climb_action state operation l)
+climb_reads state operation (climb.Read c r) e = this_read r
+climb_reads state operation (climb.Root c l) e = root_reads l e
+climb_reads state operation l e = absurd (false≢true e)
 
-climb_restores : (state : State) (operation : Operation) (l : ClimbLine) (x : Ref × Ref) → put_back (climb_action state operation l) ≡ Some x → Restoring (climbing_read l) x
-climb_restores state operation (climb.Read c r) x e = this_read r x e
-climb_restores state operation (climb.Root c l) x e = root_restores l x e
-climb_restores state operation l x e = absurd (none-some x e)
+copy_reads : (l : CopyLine) → of_read (copy_action l) ≡ true → ReadsIt (copying_read l) (copy_action l)
+copy_reads (copy.Read r read) e = this_read read
+copy_reads (copy.Complete c) e = complete_reads c.offer c.line e
+copy_reads l e = absurd (false≢true e)
 
-copy_restores : (l : CopyLine) (x : Ref × Ref) → put_back (copy_action l) ≡ Some x → Restoring (copying_read l) x
-copy_restores (copy.Read r read) x e = this_read read x e
-copy_restores (copy.Complete c) x e = complete_restores c.offer c.line x e
-copy_restores l x e = absurd (none-some x e)
+walk_reads : (l : WalkLine) → of_read (walk_action l) ≡ true → ReadsIt (walking_read l) (walk_action l)
+walk_reads (walk.Read r todo taken) e = this_read r
+walk_reads l e = absurd (false≢true e)
 
-walk_restores : (l : WalkLine) (x : Ref × Ref) → put_back (walk_action l) ≡ Some x → Restoring (walking_read l) x
-walk_restores (walk.Read r todo taken) x e = this_read r x e
-walk_restores l x e = absurd (none-some x e)
+line_reads : (state : State) (operation : Operation) (l : Line) → of_read (line_action state operation l) ≡ true → ReadsIt (read_of l) (line_action state operation l)
+line_reads state operation (line.Root l) e = root_reads l e
+line_reads state operation (line.Key l) e = key_reads state l e
+line_reads state operation (line.Build l) e = absurd (build_reads state operation l e)
+line_reads state operation (line.Swap why s) e = swap_reads s.indirection s.replaced s.fresh s.line e
+line_reads state operation (line.Renew l) e = renew_reads state operation l e
+line_reads state operation (line.Clean l) e = clean_reads state l e
+line_reads state operation (line.Climb l) e = climb_reads state operation l e
+line_reads state operation (line.Copy l) e = copy_reads l e
+line_reads state operation (line.Walk l) e = walk_reads l e
+line_reads state operation (line.End answer) e = absurd (false≢true e)
+line_reads state operation line.Impossible e = absurd (false≢true e)
 
-line_restores : (state : State) (operation : Operation) (l : Line) (x : Ref × Ref) → put_back (line_action state operation l) ≡ Some x → Restoring (read_of l) x
-line_restores state operation (line.Root l) x e = root_restores l x e
-line_restores state operation (line.Key l) x e = key_restores state l x e
-line_restores state operation (line.Build l) x e = absurd (build_restores state operation l x e)
-line_restores state operation (line.Swap why s) x e = swap_restores s.indirection s.replaced s.fresh s.line x e
-line_restores state operation (line.Renew l) x e = renew_restores state operation l x e
-line_restores state operation (line.Clean l) x e = clean_restores state l x e
-line_restores state operation (line.Climb l) x e = climb_restores state operation l x e
-line_restores state operation (line.Copy l) x e = copy_restores l x e
-line_restores state operation (line.Walk l) x e = walk_restores l x e
-line_restores state operation (line.End answer) x e = absurd (none-some x e)
-line_restores state operation line.Impossible x e = absurd (none-some x e)
+-- which READ, and on which line
+restores_by : (j : Ref) (l : ReadLine) (i main previous : Ref) → read_action j l ≡ act.Restore i main previous → (j ≡ i) × (l ≡ read.Restore main previous)
+restores_by j (read.Restore m p) i main previous e = (cc e, cc e)
+restores_by j read.Main i main previous e = let wrong : ⊥ = cc e in absurd wrong
+restores_by j (read.Prev m) i main previous e = let wrong : ⊥ = cc e in absurd wrong
+restores_by j (read.AskRoot m p) i main previous e = let wrong : ⊥ = cc e in absurd wrong
+restores_by j (read.Abort m p offer) i main previous e = let wrong : ⊥ = cc e in absurd wrong
+restores_by j (read.Decide m p told) i main previous e = let wrong : ⊥ = cc e in absurd wrong
+
+decides_by : (j : Ref) (l : ReadLine) (i main previous : Ref) (told : Option ℕ) → read_action j l ≡ act.Decide i main previous told → (j ≡ i) × (l ≡ read.Decide main previous told)
+decides_by j (read.Decide m p t) i main previous told e = (cc e, cc e)
+decides_by j read.Main i main previous told e = let wrong : ⊥ = cc e in absurd wrong
+decides_by j (read.Prev m) i main previous told e = let wrong : ⊥ = cc e in absurd wrong
+decides_by j (read.AskRoot m p) i main previous told e = let wrong : ⊥ = cc e in absurd wrong
+decides_by j (read.Abort m p offer) i main previous told e = let wrong : ⊥ = cc e in absurd wrong
+decides_by j (read.Restore m p) i main previous told e = let wrong : ⊥ = cc e in absurd wrong
+
+same_read : (r : Read) (i : Ref) (l : ReadLine) → r.indirection ≡ i → r.line ≡ l → r ≡ record { indirection = i; line = l }
+same_read r i l at on = ap (λ j. record { indirection = j; line = r.line }) at ∙ ap (λ m. record { indirection = i; line = m }) on
 
 -- what is known of a stage on which an operation reads
 module _ (w : Words) (t k : ℕ) where
@@ -172,10 +189,29 @@ module _ (limits : Bounds) (steps : List Step) (ok : AreBounds limits) where
       subst (λ x. Staged w last actor (stage_of_actor x)) (ap (λ (s : State). operation_of s actor) (run_ends limits steps) ∙ is)
       ((sound_at (protocol limits states last known) last (omega arith)).staged actor)
 
+  -- what is known of the READ whose action this is
+  reading : (actor : ℕ) (operation : Operation) → operation_of (run limits steps) actor ≡ Some operation → of_read (action_of (run limits steps) operation) ≡ true →
+      (r : Read) × (read_of operation.line ≡ Some r) × (action_of (run limits steps) operation ≡ read_action r.indirection r.line) × OnLine w last r.indirection r.line
+  reading actor operation is e =
+      let (r, reads, acts) = line_reads (run limits steps) operation operation.line e in (r, reads, acts, on_line w last actor operation.line r reads (staged actor operation is))
+
   pub failed_over : (actor : ℕ) (operation : Operation) (i main previous : Ref) → operation_of (run limits steps) actor ≡ Some operation → action_of (run limits steps) operation ≡ act.Restore i main previous →
       IsInUse (run limits steps).heap main → prev_at (run limits steps).heap main ≡ prev.Failed previous
   failed_over actor operation i main previous is a used =
-      let (r, reads, on) = line_restores (run limits steps) operation operation.line (main, previous) (ap put_back a) in
+      let (r, reads, acts, known) = reading actor operation is (ap of_read a) in
+      let (at, on) = restores_by r.indirection r.line i main previous (sym acts ∙ a) in
       let there : IsInUse (states last).heap main = subst (λ (s : State). IsInUse s.heap main) (sym (run_ends limits steps)) used in
-      let so = subst (λ l. OnLine w last r.indirection l) on (on_line w last actor operation.line r reads (staged actor operation is)) in
+      let so = subst (λ l. OnLine w last r.indirection l) on known in
       ap (λ (s : State). prev_at s.heap main) (sym (run_ends limits steps)) ∙ prev_grown states last main there.0 there.1 ∙ so.1
+
+  -- the READ on whose line a node is decided
+  pub deciding : (actor : ℕ) (operation : Operation) (i main previous : Ref) (told : Option ℕ) → operation_of (run limits steps) actor ≡ Some operation →
+      action_of (run limits steps) operation ≡ act.Decide i main previous told → read_of operation.line ≡ Some (record { indirection = i; line = read.Decide main previous told })
+  deciding actor operation i main previous told is a =
+      let (r, reads, acts, known) = reading actor operation is (ap of_read a) in
+      let (at, on) = decides_by r.indirection r.line i main previous told (sym acts ∙ a) in
+      reads ∙ ap Some (same_read r i (read.Decide main previous told) at on)
+
+  pub stood_deciding : (actor : ℕ) (operation : Operation) (i main previous : Ref) (told : Option ℕ) → operation_of (run limits steps) actor ≡ Some operation →
+      action_of (run limits steps) operation ≡ act.Decide i main previous told → Stood w last i main
+  stood_deciding actor operation i main previous told is a = on_line w last actor operation.line _ (deciding actor operation i main previous told is a) (staged actor operation is)

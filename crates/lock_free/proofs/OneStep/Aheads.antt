@@ -44,7 +44,7 @@ use Rattle.machine_model.specs.declared.lines.Purpose.TheVariants as purpose
 use Rattle.lock_free.specs.Making.{over_of}
 
 -- the SWAP that stands at its first line: its indirection, the node that it is to replace, and the fresh one
-abbrev ahead_at : Ref → Ref → Ref → SwapLine → Option (Ref × Ref × Ref)
+abbrev pub ahead_at : Ref → Ref → Ref → SwapLine → Option (Ref × Ref × Ref)
 ahead_at i a f swap.Publish = Some (i, a, f)
 ahead_at i a f l = None
 
