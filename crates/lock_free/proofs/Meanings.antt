@@ -30,7 +30,7 @@ use Rattle.lock_free.specs.Trying.{Try, try_of, try_at, KeepsTries, as_before, a
 -- Roots stand where they stood, of each offer there is said what was said, and a word that names an offer that didn't stand yet names none, or it opens the handle.
 module _ (account later : Account) (before after : List ℕ) (handle found : ℕ) (r : Option Root)
     (places : (access : Access) (q : Ref) → r ≡ open_with access (Plain q) → place_of later q ≡ place_of account q)
-    (offered : (k : Known) → Contains account.offers k → found ≡ root_code (word.Offered k.slot) → r ≡ open_with Writable (meant (fate before k) k.offer) → Contains later.offers k × (fate after k ≡ fate before k))
+    (offered : (k : Known) → Contains account.offers k → k.handle ≡ handle → r ≡ open_with Writable (meant (fate before k) k.offer) → Contains later.offers k × (fate after k ≡ fate before k))
     (opening : (k : Known) → Contains account.offers k → k.offer.opens ≡ Some handle → Contains later.offers k × (fate after k ≡ fate before k))
     (none : (slot : ℕ) → found ≡ root_code (word.Opening slot) → IsRootWord (word.Opening slot) → NoOffer account slot → r ≡ None → SaysOpening later after handle slot r ⊎ NoOffer later slot) where
   plain_then : (access : Access) (slot : ℕ) → SaysPlain account access slot r → SaysPlain later access slot r
@@ -48,8 +48,8 @@ module _ (account later : Account) (before after : List ℕ) (handle found : ℕ
   says_then (word.ClosingWritable slot seat) fits is h = plain_then _ slot h
   says_then (word.ClosingReadOnly slot seat) fits is h = plain_then _ slot h
   says_then (word.Offered slot) fits is h =
-      let still = offered h.its h.here (is ∙ ap (λ n. root_code (word.Offered n)) h.place) h.is in
-      record { its = h.its; here = still.0; place = h.place; is = h.is ∙ ap (λ n. open_with Writable (meant n h.its.offer)) (sym still.1) }
+      let still = offered h.its h.here h.on h.is in
+      record { its = h.its; here = still.0; on = h.on; place = h.place; is = h.is ∙ ap (λ n. open_with Writable (meant n h.its.offer)) (sym still.1) }
   says_then (word.Opening slot) fits is (inl h) =
       let still = opening h.its h.here h.opens in
       inl (record { its = h.its; here = still.0; place = h.place; opens = h.opens; is = h.is ∙ ap (λ n. opened_by n h.its.offer) (sym still.1) })
@@ -80,9 +80,8 @@ stood_still sizes account later steps goes_on offer h = record {
 -- where no word of a handle changes
 pub pending_kept : (before after : List ℕ) (k : Known) → ((handle : ℕ) → handle < handle_limit → slice_index after (root_word handle) ≡ slice_index before (root_word handle)) → IsPending before k → IsPending after k
 pending_kept before after k same h = record {
-  handle = h.handle;
   low = h.low;
-  stands = same h.handle h.low ∙ h.stands;
+  stands = same k.handle h.low ∙ h.stands;
   opens = λ opened e. (let x = h.opens opened e in (x.0, same opened x.0 ∙ x.1));
 }
 

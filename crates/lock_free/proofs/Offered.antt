@@ -50,7 +50,7 @@ module _ (sizes : Sizes) (s : Table.State Call View) (kept : IsKept sizes s) (id
   now = state_of sizes kept.account
 
   abbrev pub account_then : Account
-  account_then = offered_at v.actor slot offer kept.account
+  account_then = offered_at v.actor slot (handle_of operation.call) offer kept.account
 
   abbrev next : State
   next = state_of sizes account_then
@@ -62,10 +62,10 @@ module _ (sizes : Sizes) (s : Table.State Call View) (kept : IsKept sizes s) (id
   words_then = set s.words (root_word handle) (root_code (word.Offered slot))
 
   abbrev pub view_then : View
-  view_then = offered_by v slot rest offer kept.account
+  view_then = offered_by v slot (handle_of operation.call) rest offer kept.account
 
   abbrev new : Known
-  new = known_at slot offer
+  new = known_at slot (handle_of operation.call) offer
 
   seat : IsSeat sizes kept.account kept.stands s.words v
   seat = kept.seats id v at
@@ -150,7 +150,7 @@ module _ (sizes : Sizes) (s : Table.State Call View) (kept : IsKept sizes s) (id
     what = word.Offered slot;
     fits = fits;
     code = refl;
-    says = record { its = new; here = first_there new kept.account.offers; place = refl; is = offers.stands ∙ ap (λ n. open_with Writable (meant n offer)) (sym fate_new) };
+    says = record { its = new; here = first_there new kept.account.offers; on = refl; place = refl; is = offers.stands ∙ ap (λ n. open_with Writable (meant n offer)) (sym fate_new) };
   }
 
   root_beside : (g : ℕ) → g ≢ handle → slice_index words_then (root_word g) ≡ slice_index s.words (root_word g)
@@ -252,7 +252,6 @@ module _ (sizes : Sizes) (s : Table.State Call View) (kept : IsKept sizes s) (id
 
   pending_new : IsPending words_then new
   pending_new = record {
-    handle = handle;
     low = low;
     stands = root_here;
     opens = λ g e.

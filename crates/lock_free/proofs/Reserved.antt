@@ -18,6 +18,7 @@ use Rattle.lock_free.specs.declared.accounts.Known.{Known}
 use Rattle.lock_free.specs.declared.rules.View.{View}
 use Rattle.lock_free.specs.declared.sizes.Sizes.{Sizes}
 use Rattle.lock_free.specs.Accounts.{state_of}
+use Rattle.lock_free.specs.Offering.{HasOwner}
 use Rattle.lock_free.specs.Places.{pin_word, root_word}
 use Rattle.lock_free.specs.Roots.{NoOffer, fate, undecided, meant, open_with}
 use Rattle.lock_free.specs.Rules.{IsClosing, SaysClosing, IsFree, IsHeld, Reserves, Names, IsOpening, IsSeat, IsKept}
@@ -29,21 +30,13 @@ use Rattle.lock_free.proofs.Seats.{ran_so, Stays, StaysSpare, other_kept, own_el
 
 -- ---- no offer stands that opens the seat's number, but its own operation's
 
--- the operation of an offer that stands runs, unmarked, and has reserved what the offer opens
-pub record HasOwner (state : State) (offer : Descriptor) : Type 0 where
-  pub actor : ℕ
-  pub operation : Operation
-  pub runs : operation_of state actor ≡ Some operation
-  pub opens : operation.opens ≡ offer.opens
-  pub unmarked : operation.is_marked ≡ false
-
 module _ (sizes : Sizes) (s : Table.State Call View) (kept : IsKept sizes s) (owners : (h : ℕ) (offer : Descriptor) → root_at (state_of sizes kept.account) h ≡ open_with Writable (Offer offer) → HasOwner (state_of sizes kept.account) offer) where
   pub own_pending : (id : ℕ) (v : View) → get_elem? s.views id ≡ some v → (o : ℕ) → Reserves (state_of sizes kept.account) v o → (k : Known) → Contains kept.account.offers k → fate s.words k ≡ undecided →
       k.offer.opens ≡ Some o → (operation : Operation) × (operation_of (state_of sizes kept.account) v.actor ≡ Some operation)
   own_pending id v at o r k c stands opens =
       let p = kept.roots.pending k c stands in
       let fits = slot_fits sizes s.words kept.range kept.taken k.slot (kept.roots.blocks k c) in
-      let owner = owners p.handle k.offer (offered_is sizes kept.account s.words kept.roots p.handle p.low k c fits p.stands ∙ ap (λ n. open_with Writable (meant n k.offer)) stands) in
+      let owner = owners k.handle k.offer (offered_is sizes kept.account s.words kept.roots k.handle p.low k c fits p.stands ∙ ap (λ n. open_with Writable (meant n k.offer)) stands) in
       let seat = kept.runners owner.actor owner.operation owner.runs in
       let runs : operation_of (state_of sizes kept.account) seat.view.actor ≡ Some owner.operation = ap (operation_of (state_of sizes kept.account)) seat.its ∙ owner.runs in
       let reserves : Reserves (state_of sizes kept.account) seat.view o =

@@ -146,9 +146,8 @@ module _ (sizes : Sizes) (account : Account) (stands : Standing) (words : List �
   -- where the word named none of a pending offer
   pub pending_rooted : (k : Known) → (slice_index words i ≡ root_code (word.Offered k.slot) → ⊥) → (slice_index words i ≡ root_code (word.Opening k.slot) → ⊥) → IsPending words k → IsPending rooted k
   pending_rooted k not_offered not_opening h = record {
-    handle = h.handle;
     low = h.low;
-    stands = else_root h.handle (λ same. not_offered (ap (λ n. slice_index words (root_word n)) (sym same) ∙ h.stands)) ∙ h.stands;
+    stands = else_root k.handle (λ same. not_offered (ap (λ n. slice_index words (root_word n)) (sym same) ∙ h.stands)) ∙ h.stands;
     opens = λ opened e.
         (let y = h.opens opened e in (y.0, else_root opened (λ same. not_opening (ap (λ n. slice_index words (root_word n)) (sym same) ∙ y.1)) ∙ y.1));
   }

@@ -38,7 +38,7 @@ use Rattle.lock_free.proofs.Waiting.{waited_more, quiet_more}
 
 module _ (sizes : Sizes) (s : Table.State Call View) (kept : IsKept sizes s) (id : ℕ) (v : View) (at : get_elem? s.views id ≡ some v) (operation : Operation)
     (runs : operation_of (state_of sizes kept.account) v.actor ≡ Some operation) (n : ℕ) (k : Known) (here : Contains kept.account.offers k) (settles : Settles sizes kept.account v.actor n operation k)
-    (stands_yet : fate s.words k ≡ undecided) where
+    (on : k.handle ≡ handle_of operation.call) (stands_yet : fate s.words k ≡ undecided) where
   abbrev all : AllStand sizes kept.account kept.stands s.words
   all = all_stand sizes s kept
 
@@ -131,17 +131,12 @@ module _ (sizes : Sizes) (s : Table.State Call View) (kept : IsKept sizes s) (id
   pending : IsPending s.words k
   pending = kept.roots.pending k here stands_yet
 
-  its_handle : pending.handle ≡ handle
-  its_handle =
-      settles.only pending.handle
-      (offered_is sizes kept.account s.words kept.roots pending.handle pending.low k here k_fits pending.stands ∙ ap (λ m. open_with Writable (meant m k.offer)) stands_yet)
-
   means_here : MeansRoot account_then words_then handle (slice_index words_then (root_word handle)) (root_at next handle)
   means_here = record {
     what = word.Offered k.slot;
     fits = k_fits;
-    code = root_same handle low ∙ ap (λ g. slice_index s.words (root_word g)) (sym its_handle) ∙ pending.stands;
-    says = record { its = k; here = here; place = refl; is = settles.settled ∙ ap (λ m. open_with Writable (meant m k.offer)) (sym at_it) };
+    code = root_same handle low ∙ ap (λ g. slice_index s.words (root_word g)) (sym on) ∙ pending.stands;
+    says = record { its = k; here = here; on = on; place = refl; is = settles.settled ∙ ap (λ m. open_with Writable (meant m k.offer)) (sym at_it) };
   }
 
   means_opened : (g : ℕ) → g < handle_limit → k.offer.opens ≡ Some g → MeansRoot account_then words_then g (slice_index words_then (root_word g)) (root_at next g)
@@ -149,15 +144,12 @@ module _ (sizes : Sizes) (s : Table.State Call View) (kept : IsKept sizes s) (id
     what = word.Opening k.slot;
     fits = k_fits;
     code = root_same g below ∙ (pending.opens g opens).1;
-    says = inl (record { its = k; here = here; place = refl; opens = opens; is = settles.opened g opens ∙ ap (λ m. opened_by m k.offer) (sym at_it) });
+    says = inl (record { its = k; here = here; place = refl; opens = opens; is = settles.opened g below opens ∙ ap (λ m. opened_by m k.offer) (sym at_it) });
   }
 
   -- another handle's word names no offer, or another
-  other_offered : (g : ℕ) → g ≢ handle → (l : Known) → Contains kept.account.offers l → root_at now g ≡ open_with Writable (meant (fate s.words l) l.offer) → l.slot ≢ k.slot
-  other_offered g differs l c is same =
-      differs
-      (settles.only g
-      (is ∙ ap (λ (x : Known). open_with Writable (meant (fate s.words x) x.offer)) (same_offer l c same) ∙ ap (λ m. open_with Writable (meant m k.offer)) stands_yet))
+  other_offered : (g : ℕ) → g ≢ handle → (l : Known) → Contains kept.account.offers l → l.handle ≡ g → l.slot ≢ k.slot
+  other_offered g differs l c its same = differs (sym its ∙ ap (λ (x : Known). x.handle) (same_offer l c same) ∙ on)
 
   other_opening : (g : ℕ) → (k.offer.opens ≡ Some g → ⊥) → (l : Known) → Contains kept.account.offers l → l.offer.opens ≡ Some g → l.slot ≢ k.slot
   other_opening g unopened l c opens same = unopened (ap (λ (x : Known). x.offer.opens) (sym (same_offer l c same)) ∙ opens)
@@ -167,7 +159,7 @@ module _ (sizes : Sizes) (s : Table.State Call View) (kept : IsKept sizes s) (id
       subst (λ m. MeansRoot account_then words_then g m (root_at next g)) (sym (root_same g below))
       (subst (λ r. MeansRoot account_then words_then g (slice_index s.words (root_word g)) r) (sym (settles.roots g differs unopened))
       (means_then kept.account account_then s.words words_then g (slice_index s.words (root_word g)) (root_at now g) (λ access q is. refl)
-      (λ l c is says. (c, fate_else l (other_offered g differs l c says))) (λ l c opens. (c, fate_else l (other_opening g unopened l c opens))) (λ slot is fits nothing closed. inr nothing)
+      (λ l c its says. (c, fate_else l (other_offered g differs l c its))) (λ l c opens. (c, fate_else l (other_opening g unopened l c opens))) (λ slot is fits nothing closed. inr nothing)
       (kept.roots.means g below)))
 
   means_all : (g : ℕ) → g < handle_limit → MeansRoot account_then words_then g (slice_index words_then (root_word g)) (root_at next g)
@@ -249,7 +241,7 @@ module _ (sizes : Sizes) (s : Table.State Call View) (kept : IsKept sizes s) (id
   -- the handle that is opened is nobody's any more
   closed_by : IsSettled n k.offer now next → (other : ℕ) (w : View) → get_elem? s.views other ≡ some w → (g : ℕ) → Reserves next w g → Reserves now w g → k.offer.opens ≡ Some g → root_at next g ≡ None
   closed_by (is_carried_out is h) other w e g after before opens = absurd (not_owner n k.offer now next h w g after (opener sizes s kept k.offer next h other w e g before opens))
-  closed_by (is_taken_back is h) other w e g after before opens = settles.opened g opens ∙ ap (λ m. opened_by m k.offer) is
+  closed_by (is_taken_back is h) other w e g after before opens = settles.opened g ((kept.seats other w e).opens g before).low opens ∙ ap (λ m. opened_by m k.offer) is
 
   held : (other : ℕ) (w : View) → get_elem? s.views other ≡ some w → (g : ℕ) → Reserves next w g → IsHeld next words_then g
   held other w e g h =
