@@ -51,3 +51,4 @@ mod Ended
 mod Begun
 mod Reserved
 mod Closed
+mod Stood
