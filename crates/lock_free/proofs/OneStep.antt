@@ -9,6 +9,8 @@ pub mod Leading
 pub mod Found
 pub mod Giving
 pub mod Standing
+pub mod Marking
+pub mod Settles
 pub mod Restores
 pub mod Decides
 pub mod Publishes
