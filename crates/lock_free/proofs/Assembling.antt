@@ -1,6 +1,6 @@
 -- The rule after an access: put together from what it leaves of each part.
 use Rattle.history.specs.declared.calls.Call.{Call}
-use Rattle.std.proofs.Common.{◌≡◌, ◌≢◌, ◌+◌, ◌*◌, ◌⊎◌, ℕ, zero, suc, ◌<◌, ◌≤◌, inl, inr, List, [], ◌∷◌, Contains, length, set, get_or, slice_index, Some, None, refl, sym, ap, subst, ◌∙◌, arith}
+use Rattle.std.proofs.Common.{◌≡◌, ◌≢◌, ◌⊎◌, ℕ, zero, suc, ◌<◌, ◌≤◌, inl, inr, List, [], ◌∷◌, length, set, slice_index, Some, refl, sym, ap, subst, ◌∙◌, arith}
 use mathlib.Core.Option.{some, some-injective, some-ne-none}
 use lib.ListN.{get_elem?}
 use Rattle.atomic_table.specs.Table as Table
@@ -22,7 +22,7 @@ use Rattle.lock_free.specs.Places.{HaveTaken, words_of, generation_word, root_wo
 use Rattle.lock_free.specs.Rules.{Standing, NodesStand, RootsStand, IsClosing, SaysClosing, IsFree, IsOpening, Reserves, HasSeat, IsSeat, HasActor, IsKept}
 use Rattle.lock_free.specs.Roots.{NoOffer}
 use Rattle.lock_free.specs.Trying.{KeepsTries}
-use Rattle.lock_free.proofs.Meanings.{ran, reserved}
+use Rattle.lock_free.proofs.Meanings.{ran, reserved, reserves_on}
 
 within : {A : Type 0} (xs : List A) (n : ℕ) (x : A) → get_elem? xs n ≡ some x → n < length xs
 within [] n x e = absurd (some-ne-none x (sym e))
@@ -133,18 +133,21 @@ module _ (sizes : Sizes) (s : Table.State Call View) (kept : IsKept sizes s) (id
   ]
 
   -- who has reserved a number for an offer that it writes has still
-  pub opening_stays : (handle slot : ℕ) → (v.opens ≡ Some handle → IsFree v 1 slot → (later.opens ≡ Some handle) × IsFree later 1 slot) → IsOpening s.views handle slot → IsOpening later_views handle slot
-  opening_stays handle slot still h = elim (cases_eq h.id id) [
+  pub opening_stays : (state : State) (handle slot : ℕ) → (Reserves (state_of sizes kept.account) v handle → IsFree v 1 slot → Reserves state later handle × IsFree later 1 slot) →
+      ((other : ℕ) (w : View) → get_elem? s.views other ≡ some w → (other ≡ id → ⊥) → IsFree w 1 slot → Reserves (state_of sizes kept.account) w handle → Reserves state w handle) →
+      IsOpening (state_of sizes kept.account) s.views handle slot → IsOpening state later_views handle slot
+  opening_stays state handle slot still others h = elim (cases_eq h.id id) [
     | inl same ↦
         (let mine : h.view ≡ v = some-injective h.view v (sym h.at ∙ ap (λ n. get_elem? s.views n) same ∙ at) in
-        let both = still (ap (λ (x : View). x.opens) (sym mine) ∙ h.opens) (subst (λ x. IsFree x 1 slot) mine h.free) in
-        record { id = id; view = later; at = here; opens = both.0; free = both.1 })
-    | inr apart ↦ record { id = h.id; view = h.view; at = set_else s.views id h.id later apart ∙ h.at; opens = h.opens; free = h.free }
+        let both = still (subst (λ x. Reserves (state_of sizes kept.account) x handle) mine h.reserves) (subst (λ x. IsFree x 1 slot) mine h.free) in
+        record { id = id; view = later; at = here; reserves = both.0; free = both.1 })
+    | inr apart ↦
+        record { id = h.id; view = h.view; at = set_else s.views id h.id later apart ∙ h.at; reserves = others h.id h.view h.at apart h.free h.reserves; free = h.free }
   ]
 
   pub record Numbers (account : Account) (words : List ℕ) : Type 0 where
     pub openings : (handle slot : ℕ) → handle < handle_limit → IsRootWord (word.Opening slot) → slice_index words (root_word handle) ≡ root_code (word.Opening slot) → NoOffer account slot →
-        IsOpening later_views handle slot
+        IsOpening (state_of sizes account) later_views handle slot
     -- the seat's number is what it was, or nobody else's
     pub number : (handle : ℕ) → Reserves (state_of sizes account) later handle →
         Reserves (state_of sizes kept.account) v handle ⊎ ((other : ℕ) (w : View) → get_elem? s.views other ≡ some w → (other ≡ id → ⊥) → Reserves (state_of sizes account) w handle → ⊥)
@@ -158,7 +161,11 @@ module _ (sizes : Sizes) (s : Table.State Call View) (kept : IsKept sizes s) (id
       ((slot handle : ℕ) → v.opens ≡ Some handle → IsFree v 1 slot → IsFree later 1 slot) → Numbers account words
   numbers_stay account words tries none same opens still = record {
     openings = λ handle slot low fits is new.
-        opening_stays handle slot (λ e f. (opens ∙ e, still slot handle e f)) (kept.openings handle slot low fits (sym (same handle low) ∙ is) (none slot new));
+        opening_stays (state_of sizes account) handle slot
+        (λ r f. (let after = reserves_on kept.account.offers (state_of sizes kept.account) (state_of sizes account) tries v handle r in
+        ((opens ∙ after.0, λ o e. after.1 o (ap (operation_of (state_of sizes account)) (sym actor) ∙ e)), still slot handle r.0 f)))
+        (λ other w e apart f r. reserves_on kept.account.offers (state_of sizes kept.account) (state_of sizes account) tries w handle r)
+        (kept.openings handle slot low fits (sym (same handle low) ∙ is) (none slot new));
     number = λ handle h. inl (reserved kept.account.offers (state_of sizes kept.account) (state_of sizes account) tries v handle (sym opens ∙ h.0, λ o e. h.1 o (ap (operation_of (state_of sizes account)) actor ∙ e)));
     others = λ other w e apart handle h. reserved kept.account.offers (state_of sizes kept.account) (state_of sizes account) tries w handle h;
     runners = λ a o e. inr (ran kept.account.offers (state_of sizes kept.account) (state_of sizes account) tries a o e);

@@ -1,25 +1,23 @@
 -- A seat enters a handle that it finds open, or goes on towards closing one, or gives that up: no word changes.
 use Rattle.history.specs.declared.calls.Call.{Call}
-use Rattle.std.proofs.Common.{◌≡◌, ◌≢◌, ◌+◌, ◌*◌, ◌⊎◌, ℕ, ◌<◌, ◌≤◌, inl, inr, Bool, true, false, List, Contains, set, slice_index, is_some, Option, Some, None, refl, sym, ap, subst, ◌∙◌, arith}
+use Rattle.std.proofs.Common.{◌≡◌, ◌≢◌, ◌+◌, ℕ, ◌<◌, inl, inr, true, set, slice_index, is_some, Option, Some, None, refl, sym, ap, subst, ◌∙◌, arith}
 use Rattle.std.proofs.lemmas.Bool.{cases_eq}
 use Rattle.std.proofs.lemmas.Option.{same_Some, none-some}
 use mathlib.Core.Option.{some, some-injective}
 use lib.ListN.{get_elem?}
 use Rattle.atomic_table.specs.Table as Table
 use Rattle.atomic_table.proofs.Lists.{at_set}
-use Rattle.trie_words.specs.Codes.{pin_code, root_code, IsRootWord}
+use Rattle.trie_words.specs.Codes.{pin_code}
 use Rattle.trie_words.specs.declared.pins.Pin.{Pin}
-use Rattle.trie_words.specs.declared.roots.RootWord.TheVariants as word
 use Rattle.machine_model.specs.declared.operations.Operation.{Operation}
 use Rattle.machine_model.specs.Calls.{handle_of}
 use Rattle.machine_model.specs.States.{State, operation_of, root_at, handle_limit}
-use Rattle.lock_free.specs.declared.accounts.Account.{Account}
 use Rattle.lock_free.specs.declared.rules.Closing.{Closing}
 use Rattle.lock_free.specs.declared.rules.View.{View}
 use Rattle.lock_free.specs.declared.sizes.Sizes.{Sizes}
 use Rattle.lock_free.specs.Accounts.{state_of}
 use Rattle.lock_free.specs.Places.{pin_word, root_word}
-use Rattle.lock_free.specs.Rules.{IsClosing, SaysClosing, IsFree, Names, IsSeat, IsKept, pin_word_of}
+use Rattle.lock_free.specs.Rules.{IsClosing, SaysClosing, IsSeat, IsKept, pin_word_of}
 use Rattle.lock_free.proofs.Assembling.{all_stand, here, closing_at, numbers_stay, assembled}
 use Rattle.lock_free.proofs.Meanings.{no_tries}
 use Rattle.lock_free.proofs.Seats.{ran_so, Stays, other_kept, names_kept, own_else}
@@ -43,8 +41,8 @@ module _ (sizes : Sizes) (s : Table.State Call View) (kept : IsKept sizes s) (id
       waits = λ actor first differs h. h;
       others = λ a differs. ran_so now now a refl;
       pins = λ a positive most apart. refl;
-      named = λ g slot below in_range found nothing. refl;
-      numbers = λ other x e. (kept.seats other x e).opens;
+      named = λ other w e apart handle slot o x. refl;
+      numbers = λ other x e apart. (kept.seats other x e).opens;
       still_open = λ other w at_w g inside e. e;
       taken = λ b n small h. h;
       spare = λ other x b name e apart free. (((kept.seats other x e).spare b name free).1, λ j its. refl);
@@ -53,7 +51,7 @@ module _ (sizes : Sizes) (s : Table.State Call View) (kept : IsKept sizes s) (id
     own_then : IsSeat sizes kept.account kept.stands s.words view_then
     own_then =
         own_else sizes s kept id v at kept.account kept.stands s.words stays v.account seat.waited seat.counts v.pin entered closing v.opens v.opening seat.pinned inside calls seat.opens seat.reserves
-        (λ g slot o n. (let x = seat.opening g slot o n in names_kept sizes s kept id v at kept.account kept.stands s.words stays id v view_then at g slot x x.free))
+        (λ g slot o n. (let x = seat.opening g slot o n in names_kept sizes s kept id v at kept.account kept.stands s.words stays v view_then g slot x refl x.free))
         (λ b name free. ((seat.spare b name free).1, λ j its. refl))
 
     -- the rule holds, where it holds of who would close what
@@ -148,4 +146,4 @@ module _ (sizes : Sizes) (s : Table.State Call View) (kept : IsKept sizes s) (id
           (λ g who below says.
           closing_at sizes s kept id v at (record v { closing = None }) refl refl g who (λ e. e)
           (λ c is this its. absurd (gone (subst (λ n. SaysClosing (slice_index s.words (root_word n)) v.actor) (sym this ∙ ap (λ (x : Closing). x.handle) (same_Some c (record { handle = handle; looked = looked }) (sym is ∙ closes)))
-              (subst (λ n. SaysClosing (slice_index s.words (root_word g)) n) (sym its) says)))) (kept.closings g who below says))
+          (subst (λ n. SaysClosing (slice_index s.words (root_word g)) n) (sym its) says)))) (kept.closings g who below says))

@@ -1,6 +1,5 @@
 -- A store to a word of a slot that nothing stands in changes nothing that the rule says of words, but what a seat has written there itself.
-use Rattle.history.specs.declared.calls.Call.{Call}
-use Rattle.std.proofs.Common.{◌≡◌, ◌≢◌, ◌+◌, ◌*◌, ◌/◌, ℕ, zero, suc, ◌<◌, ◌≤◌, List, [], ◌∷◌, Contains, length, set, get_or, slice_index, Option, Some, None, refl, sym, ap, subst, ◌∙◌, arith, nat_le, Bool, true, false, cond, if◌then◌else◌, length-set, slice_get}
+use Rattle.std.proofs.Common.{◌≡◌, ◌≢◌, ◌+◌, ◌*◌, ◌/◌, ℕ, zero, suc, ◌<◌, ◌≤◌, List, [], ◌∷◌, Contains, length, set, slice_index, Option, Some, refl, sym, subst, ◌∙◌, arith, nat_le, Bool, true, false, if◌then◌else◌, length-set, slice_get}
 use Rattle.std.proofs.lemmas.List.{get_or-set_other}
 use Rattle.std.proofs.lemmas.Option.{none-some}
 use Rattle.machine_model.specs.Beneath.slot_arena.specs.declared.refs.Ref.{Ref}
@@ -12,10 +11,9 @@ use Rattle.machine_model.specs.States.{State, handle_limit, root_at}
 use Rattle.machine_model.specs.declared.roots.Root.{Root}
 use Rattle.lock_free.specs.declared.accounts.Account.{Account}
 use Rattle.lock_free.specs.declared.accounts.Known.{Known}
-use Rattle.lock_free.specs.declared.rules.View.{View}
 use Rattle.lock_free.specs.declared.sizes.Sizes.{Sizes}
 use Rattle.lock_free.specs.Accounts.{state_of, place_at}
-use Rattle.lock_free.specs.Nodes.{Has, StandsAs, AreEntries, InTable, entry_word, class_of}
+use Rattle.lock_free.specs.Nodes.{StandsAs, AreEntries, InTable, entry_word, class_of}
 use Rattle.lock_free.specs.Places.{first_slot_word, words_in, slots_in, class_for, IsTaken, HaveTaken, taken_word, generation_word, root_word, pin_word}
 use Rattle.lock_free.specs.Roots.{MeansRoot, IsWritten, AreMarked, fate}
 use Rattle.lock_free.specs.Rules.{Standing, Stands, NodesStand, RootsStand, IsSpare}
@@ -225,14 +223,14 @@ module _ (sizes : Sizes) (account : Account) (stands : Standing) (words : List �
   not_of_other j another differs h n w same =
       differs
       (all.nodes.apart j k another slot h stood
-          (slots_apart sizes words all.taken (class_of another.node) (class_of slot.node) (place_at account j) (place_at account k) i (class_small another.node) (class_small slot.node) (all.nodes.within j another h)
-              (all.nodes.within k slot stood) (subst (λ m. IsWordOf (class_of another.node) (place_at account j) m) same w) its).1)
+      (slots_apart sizes words all.taken (class_of another.node) (class_of slot.node) (place_at account j) (place_at account k) i (class_small another.node) (class_small slot.node) (all.nodes.within j another h)
+      (all.nodes.within k slot stood) (subst (λ m. IsWordOf (class_of another.node) (place_at account j) m) same w) its).1)
 
   pub not_of_any_offer : (o : Known) → Contains account.offers o → (n : ℕ) → IsWordOf 1 o.slot n → n ≢ i
   not_of_any_offer o c n w same =
       all.nodes.offers o c k slot stood
       (sym (slots_apart sizes words all.taken 1 (class_of slot.node) o.slot (place_at account k) i (omega arith) (class_small slot.node) (all.roots.blocks o c) (all.nodes.within k slot stood)
-          (subst (λ m. IsWordOf 1 o.slot m) same w) its).1)
+      (subst (λ m. IsWordOf 1 o.slot m) same w) its).1)
 
   pub not_of_spare : (b name : ℕ) → b < 3 → IsTaken sizes words b name → IsSpare sizes account stands name → (n : ℕ) → IsWordOf b name n → n ≢ i
   not_of_spare b name small taken spare n w same =

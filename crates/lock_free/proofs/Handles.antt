@@ -1,6 +1,6 @@
 -- Exchanges of the word of an open handle: an offer that is settled is taken out of it, and a mark that a seat would close the handle is made or taken away.
 use Rattle.history.specs.declared.calls.Call.{Call}
-use Rattle.std.proofs.Common.{◌≡◌, ◌≢◌, ◌+◌, ◌*◌, ◌⊎◌, ◌^◌, ◌==◌, ℕ, ◌<◌, ◌≤◌, inl, inr, Bool, true, false, List, ◌∷◌, [], Contains, set, slice_index, get_or, is_some, Option, Some, None, refl, sym, ap, subst, ◌∙◌, arith, if◌then◌else◌}
+use Rattle.std.proofs.Common.{◌≡◌, ◌≢◌, ◌^◌, ◌==◌, ℕ, ◌<◌, inl, inr, Bool, true, false, List, ◌∷◌, [], Contains, set, slice_index, is_some, Option, Some, None, refl, sym, ap, subst, ◌∙◌, arith, if◌then◌else◌}
 use Rattle.std.proofs.lemmas.Bool.{cases_eq, ne_eqb}
 use Rattle.std.proofs.lemmas.Option.{same_Some, none-some}
 use Rattle.std.proofs.lemmas.List.Elements.{Contains-get_or}
@@ -18,13 +18,9 @@ use Rattle.machine_model.specs.Beneath.slot_arena.specs.declared.refs.Ref.{Ref}
 use Rattle.machine_model.specs.Beneath.slot_arena.specs.Refs.{slot_of}
 use Rattle.machine_model.specs.Acting.{opened_root}
 use Rattle.machine_model.specs.Counting.{refs_of_root}
-use Rattle.machine_model.specs.declared.operations.Operation.{Operation}
 use Rattle.machine_model.specs.declared.roots.Descriptor.{Descriptor}
-use Rattle.machine_model.specs.declared.roots.Root.{Root}
-use Rattle.machine_model.specs.declared.roots.RootWord.{RootWord}
 use Rattle.machine_model.specs.declared.roots.RootWord.TheVariants.{Plain, Offer}
 use Rattle.machine_model.specs.States.{State, operation_of, root_at, handle_limit}
-use Rattle.lock_free.specs.declared.accounts.Account.{Account}
 use Rattle.lock_free.specs.declared.accounts.Known.{Known}
 use Rattle.lock_free.specs.declared.rules.Closing.{Closing}
 use Rattle.lock_free.specs.declared.rules.View.{View}
@@ -32,16 +28,16 @@ use Rattle.lock_free.specs.declared.sizes.Sizes.{Sizes}
 use Rattle.lock_free.specs.Accounts.{state_of, place_of}
 use Rattle.lock_free.specs.Live.{from_root}
 use Rattle.lock_free.specs.Nodes.{class_of}
-use Rattle.lock_free.specs.Places.{root_word, words_in}
+use Rattle.lock_free.specs.Places.{root_word}
 use Rattle.lock_free.specs.Roots.{fate, undecided, carried_out, meant, opened_by, open_with}
 use Rattle.lock_free.specs.Rules.{IsClosing, SaysClosing, IsSeat, IsKept}
 use Rattle.lock_free.proofs.Asked.{live_in_use}
-use Rattle.lock_free.proofs.Assembling.{AllStand, all_stand, here, closing_at}
+use Rattle.lock_free.proofs.Assembling.{all_stand, here, closing_at}
 use Rattle.lock_free.proofs.Framing.{has_words, class_small}
-use Rattle.lock_free.proofs.RootCodes.{kind, same_kind, same_word}
+use Rattle.lock_free.proofs.RootCodes.{kind, same_kind}
 use Rattle.lock_free.proofs.RootFound.{slot_fits, offered_is, opening_is}
 use Rattle.lock_free.proofs.RootSteps as root
-use Rattle.lock_free.proofs.Rewritten.{IsPlainWord, is_writable, is_read_only, is_closing_writable, is_closing_read_only, rewrite_kept}
+use Rattle.lock_free.proofs.Rewritten.{IsPlainWord, rewrite_kept}
 
 -- ---- which root a settled offer leaves
 

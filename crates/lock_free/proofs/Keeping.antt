@@ -1,36 +1,29 @@
 -- A step that changes no word keeps the rule: one that reads, whatever the seat knows of what it read, and one that gives nodes of its own up.
 use Rattle.history.specs.declared.calls.Call.{Call}
-use Rattle.std.proofs.Common.{if◌then◌else◌, Option, append_assoc, append-nil, ◌≡◌, ◌≢◌, ◌+◌, ◌*◌, ◌⊎◌, ℕ, zero, suc, ◌<◌, ◌≤◌, inl, inr, Bool, true, false, List, [], ◌∷◌, ◌++◌, Contains, All, length, set, get_or, slice_index, is_some, Some, None, refl, sym, ap, subst, ◌∙◌, arith}
-use Rattle.std.proofs.lemmas.Option.{same_Some}
+use Rattle.std.proofs.Common.{if◌then◌else◌, Option, append-nil, ◌≡◌, ◌≢◌, ◌+◌, ◌⊎◌, ℕ, suc, ◌<◌, inl, inr, Bool, true, false, List, [], ◌∷◌, ◌++◌, Contains, set, get_or, slice_index, is_some, Some, None, refl, sym, ap, subst, ◌∙◌, arith}
 use Rattle.std.proofs.lemmas.List.Elements.{All-append, All-cons, All-nil}
-use mathlib.Core.Option.{some, some-injective, some-ne-none}
+use mathlib.Core.Option.{some}
 use lib.ListN.{get_elem?}
 use Rattle.atomic_table.specs.Table as Table
-use Rattle.atomic_table.proofs.Lists.{at_set, set_else, set_here}
 use Rattle.std.proofs.lemmas.Bool.{true≢false}
 use Rattle.machine_model.specs.Beneath.slot_arena.specs.declared.refs.Ref.{Ref}
 use Rattle.machine_model.specs.Beneath.slot_arena.specs.declared.nodes.Slot.{Slot}
 use Rattle.machine_model.specs.Beneath.slot_arena.specs.declared.nodes.Node.{Node}
 use Rattle.machine_model.specs.Beneath.slot_arena.specs.declared.nodes.Node.TheVariants.{Indirection, Branch, Single, Tomb, List as Listed}
 use Rattle.machine_model.specs.Beneath.slot_arena.specs.declared.nodes.Prev.{Prev}
-use Rattle.machine_model.specs.Beneath.slot_arena.specs.declared.nodes.Prev.TheVariants as prev
 use Rattle.machine_model.specs.Beneath.slot_arena.specs.Refs.{slot_of}
 use Rattle.machine_model.specs.Beneath.slot_arena.specs.Heaps.{node_at, stored, node_of, main_of, main_at}
-use Rattle.machine_model.specs.declared.lines.Line.TheVariants as line
-use Rattle.machine_model.specs.declared.lines.Purpose.{Purpose}
 use Rattle.machine_model.specs.declared.operations.Operation.{Operation}
 use Rattle.machine_model.specs.declared.steps.Step.{Step}
 use Rattle.machine_model.specs.declared.steps.Step.TheVariants as step
 use Rattle.machine_model.specs.Acting.{operation_after}
 use Rattle.machine_model.specs.Keys.{FitsKey}
-use Rattle.machine_model.specs.Calls.{handle_of}
 use Rattle.machine_model.specs.declared.roots.Root.{Root}
 use Rattle.trie_words.specs.Codes.{entry_code, pair_code}
 use Rattle.trie_words.specs.declared.headers.Previous.{Previous}
 use Rattle.trie_words.specs.declared.headers.Shape.{Shape}
 use Rattle.lock_free.specs.Places.{root_word, IsTaken}
-use Rattle.machine_model.specs.Swapping.{swapping}
-use Rattle.machine_model.specs.States.{State, operation_of, root_at}
+use Rattle.machine_model.specs.States.{State, operation_of}
 use Rattle.lock_free.specs.declared.accounts.Account.{Account}
 use Rattle.lock_free.specs.declared.accounts.Known.{Known}
 use Rattle.lock_free.specs.declared.rules.Pool.{Pool}
@@ -201,8 +194,8 @@ module _ (sizes : Sizes) (s : Table.State Call View) (kept : IsKept sizes s) (id
     waits = waits;
     others = λ a differs. ran_so now next_state a (leads.others a differs);
     pins = λ a some most apart. refl;
-    named = λ handle slot low fits is none. refl;
-    numbers = numbers_so sizes s kept account_then s.words leads.tries leads.roots (λ handle low. refl);
+    named = λ other w e apart handle slot o x. refl;
+    numbers = λ other w e apart. numbers_so sizes s kept account_then s.words leads.tries leads.roots (λ handle low. refl) other w e;
     still_open = λ other w at_w handle inside e. ap (λ rs. is_some (get_or rs handle None)) leads.roots ∙ e;
     taken = λ b name small h. h;
     spare = λ other w b name e apart free. (spare_then name ((kept.seats other w e).spare b name free).1, λ j its_word. refl);
@@ -249,7 +242,7 @@ module _ (sizes : Sizes) (s : Table.State Call View) (kept : IsKept sizes s) (id
 
     own_then : IsSeat sizes account_then stands_then s.words view_then
     own_then =
-        own_kept sizes s kept id v at account_then stands_then s.words stays operation next runs leads.own same_call same_opens all_then.counted refl pool v.opening (λ handle slot o n. (n, λ free. more 1 slot free.0 free.1)) v.drafts spare_own once
+        own_kept sizes s kept id v at account_then stands_then s.words stays operation next runs leads.own same_call same_opens (numbers_so sizes s kept account_then s.words leads.tries leads.roots (λ handle low. refl) id v at) all_then.counted refl pool v.opening (λ handle slot o n. (n, λ x. (refl, more 1 slot x.free.0 x.free.1))) v.drafts spare_own once
         (λ d c. drafts_kept sizes s kept id v at account_then stands_then s.words stays view_then d (seat.drafts d c) (λ b name free. ((free.0, more b name free.0 free.1), λ j its_word. refl)))
 
     -- the rule holds

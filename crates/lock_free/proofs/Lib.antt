@@ -48,3 +48,9 @@ mod Settled
 mod Rewritten
 mod Entering
 mod Handles
+mod Pinning
+mod Ended
+mod Begun
+mod Reserved
+mod Closed
+mod Stood

@@ -1,11 +1,10 @@
 -- Words, steps and nodes once a node is made in a spare slot whose words have it.
-use Rattle.std.proofs.Common.{◌≡◌, ◌≢◌, ◌+◌, ◌*◌, ◌⊎◌, ℕ, zero, suc, ◌<◌, ◌≤◌, inl, inr, Bool, true, false, List, [], ◌∷◌, ◌++◌, Contains, All, length, get_or, slice_index, Option, Some, None, refl, sym, ap, subst, ◌∙◌, arith, length-append}
+use Rattle.std.proofs.Common.{◌≡◌, ◌≢◌, ◌+◌, ◌*◌, ◌⊎◌, ℕ, ◌≤◌, inl, inr, Bool, true, List, [], ◌∷◌, ◌++◌, Contains, length, get_or, slice_index, Option, Some, None, refl, sym, ap, subst, ◌∙◌, arith, length-append}
 use Rattle.std.proofs.lemmas.Bool.{cases_eq}
 use Rattle.std.proofs.lemmas.Option.{same_Some}
 use Rattle.std.proofs.lemmas.List.Elements.{All-append, All-cons, All-nil, Contains-get_or, Contains-append_right}
 use Rattle.machine_model.specs.Beneath.slot_arena.specs.declared.refs.Ref.{Ref}
 use Rattle.machine_model.specs.Beneath.slot_arena.specs.declared.nodes.Node.{Node}
-use Rattle.machine_model.specs.Beneath.slot_arena.specs.declared.nodes.Node.TheVariants.{Indirection, Branch, Single, Tomb, List as Listed}
 use Rattle.machine_model.specs.Beneath.slot_arena.specs.declared.nodes.Slot.{Slot}
 use Rattle.machine_model.specs.Beneath.slot_arena.specs.Refs.{slot_of}
 use Rattle.machine_model.specs.Beneath.slot_arena.specs.Heaps.{entries_of, refs_of_option}
@@ -13,15 +12,13 @@ use Rattle.machine_model.specs.Counting.{refs_of_root}
 use Rattle.machine_model.specs.Keys.{FitsKey}
 use Rattle.machine_model.specs.declared.steps.Step.TheVariants as step
 use Rattle.machine_model.specs.declared.operations.Operation.{Operation}
-use Rattle.machine_model.specs.declared.roots.Root.{Root}
-use Rattle.machine_model.specs.States.{State, handle_limit, root_at}
-use Rattle.trie_words.specs.Codes.{pair_code, root_code}
-use Rattle.trie_words.specs.declared.roots.RootWord.TheVariants as word
+use Rattle.machine_model.specs.States.{root_at}
+use Rattle.trie_words.specs.Codes.{pair_code}
 use Rattle.lock_free.specs.declared.accounts.Account.{Account}
 use Rattle.lock_free.specs.declared.accounts.Known.{Known}
 use Rattle.lock_free.specs.declared.sizes.Sizes.{Sizes}
 use Rattle.lock_free.specs.Accounts.{state_of, place_at, place_of}
-use Rattle.lock_free.specs.Nodes.{Has, StandsAs, InTable, AreEntries, class_of}
+use Rattle.lock_free.specs.Nodes.{StandsAs, InTable, class_of}
 use Rattle.lock_free.specs.Making.{over_of, DraftsNode, made_at, refs_of_offer, Makes}
 use Rattle.lock_free.specs.Places.{IsTaken, words_in, root_word, words_of, HaveTaken, generation_word}
 use Rattle.lock_free.specs.Roots.{MeansRoot, IsWritten, second_of}
@@ -32,7 +29,7 @@ use Rattle.lock_free.proofs.Assembling.{AllStand}
 use Rattle.lock_free.proofs.Framing.{class_small}
 use Rattle.lock_free.proofs.Geometry.{end_inside}
 use Rattle.lock_free.proofs.Owners.{owners_made}
-use Rattle.lock_free.proofs.Made.{after, K, place_else, place_last, same_place, stands_too, stands_new, stands_else, stood_stands, new_stands}
+use Rattle.lock_free.proofs.Made.{place_else, place_last, same_place, stands_too, stands_new, stands_else, stood_stands, new_stands}
 use Rattle.lock_free.proofs.Waiting.{quiet_more}
 
 module _ (sizes : Sizes) (account : Account) (actor : ℕ) (operation : Operation) (name : ℕ) (own : Bool) (node : Node) (more : ℕ) (makes : Makes sizes account (made_at actor name own node account) actor operation node more)

@@ -1,44 +1,31 @@
 -- The last store to a free slot of a seat makes the node that is written there, and the exchange of the count of generations makes the root of a copy that is.
 use Rattle.history.specs.declared.calls.Call.{Call}
-use Rattle.std.proofs.Common.{length-set, ◌≡◌, ◌≢◌, ◌+◌, ◌*◌, ◌⊎◌, ℕ, zero, suc, ◌<◌, ◌≤◌, inl, inr, Bool, true, false, List, [], ◌∷◌, ◌++◌, Contains, All, length, set, get_or, slice_index, is_some, Option, Some, None, refl, sym, ap, subst, ◌∙◌, arith}
+use Rattle.std.proofs.Common.{length-set, ◌≡◌, ◌≢◌, ◌+◌, ◌*◌, ℕ, ◌<◌, ◌≤◌, inl, inr, Bool, List, [], ◌∷◌, ◌++◌, length, set, slice_index, Option, Some, sym, ap, subst, ◌∙◌, arith}
 use Rattle.std.proofs.lemmas.Bool.{cases_eq}
-use Rattle.std.proofs.lemmas.Option.{same_Some}
 use Rattle.std.proofs.lemmas.List.{get_or-set_same}
-use Rattle.std.proofs.lemmas.List.Elements.{All-cons, All-nil, Contains-append_left, Contains-append_right, Contains-append_cases, Contains-push, Contains-get_or}
 use mathlib.Core.Option.{some}
 use lib.ListN.{get_elem?}
 use Rattle.atomic_table.specs.Table as Table
 use Rattle.machine_model.specs.Beneath.slot_arena.specs.declared.refs.Ref.{Ref}
 use Rattle.machine_model.specs.Beneath.slot_arena.specs.declared.nodes.Node.{Node}
 use Rattle.machine_model.specs.Beneath.slot_arena.specs.declared.nodes.Node.TheVariants.{Indirection, Branch, Single, Tomb, List as Listed}
-use Rattle.machine_model.specs.Beneath.slot_arena.specs.declared.nodes.Slot.{Slot}
 use Rattle.machine_model.specs.Beneath.slot_arena.specs.Heaps.{Heap, entries_of}
-use Rattle.machine_model.specs.Calls.{handle_of}
-use Rattle.machine_model.specs.declared.steps.Step.TheVariants as step
 use Rattle.machine_model.specs.declared.operations.Operation.{Operation}
-use Rattle.machine_model.specs.Acting.{operation_after}
-use Rattle.machine_model.specs.States.{State, operation_of, root_at, handle_limit}
+use Rattle.machine_model.specs.States.{State, operation_of}
 use Rattle.lock_free.specs.declared.accounts.Account.{Account}
-use Rattle.lock_free.specs.declared.accounts.Known.{Known}
-use Rattle.lock_free.specs.declared.accounts.Owned.{Owned}
-use Rattle.lock_free.specs.declared.rules.Pool.{Pool}
 use Rattle.lock_free.specs.declared.rules.View.{View}
 use Rattle.lock_free.specs.declared.sizes.Sizes.{Sizes}
-use Rattle.lock_free.specs.Accounts.{state_of, place_at, HasWaited, IsOfOther}
-use Rattle.lock_free.specs.Nodes.{Has, InTable, AreEntries, class_of}
-use Rattle.lock_free.specs.Making.{over_of, Drafted, AreDrafted, DraftsNode, owned_with, made_at, Makes, with_slots, made_by}
-use Rattle.lock_free.specs.Places.{words_in, slots_in, first_slot_word, generation_word, taken_word, pin_word, root_word, IsTaken}
-use Rattle.lock_free.specs.Rules.{Standing, Stands, NodesStand, RootsStand, IsClosing, SaysClosing, IsFree, IsSpare, IsSeat, HasActor, IsKept, Once, pool_of, pin_word_of}
-use Rattle.lock_free.proofs.Assembling.{AllStand, all_stand, not_its, other_actor, closing_stays, assembled}
-use Rattle.lock_free.proofs.Framing.{else_word, no_slot, nodes_below, roots_below, stored, other_word, low_word, taken_over, all_over, class_small}
+use Rattle.lock_free.specs.Accounts.{state_of}
+use Rattle.lock_free.specs.Nodes.{Has, InTable, class_of}
+use Rattle.lock_free.specs.Making.{over_of, Drafted, AreDrafted, DraftsNode, made_at, Makes, made_by}
+use Rattle.lock_free.specs.Places.{slots_in, first_slot_word, generation_word, taken_word, pin_word, root_word, IsTaken}
+use Rattle.lock_free.specs.Rules.{NodesStand, RootsStand, IsSpare, IsKept, pool_of}
+use Rattle.lock_free.proofs.Assembling.{AllStand, all_stand}
+use Rattle.lock_free.proofs.Framing.{else_word, no_slot, nodes_below, roots_below, other_word, low_word, taken_over, all_over, class_small}
 use Rattle.lock_free.proofs.Geometry.{IsWordOf, slots_apart, inside, root_below}
-use Rattle.lock_free.proofs.Made.{stands_too, stands_else, place_else, place_last}
+use Rattle.lock_free.proofs.Made.{stands_too}
 use Rattle.lock_free.proofs.MadeAll.{all_then, nodes_then, roots_then}
-use Rattle.lock_free.proofs.Pools.{once_rest, pool_same, pool_else}
-use Rattle.lock_free.proofs.Seats.{Stays, StaysSpare, other_kept, own_kept}
-use Rattle.lock_free.proofs.Waiting.{waited_none, waited_more}
-
-use Rattle.lock_free.proofs.MadeSeats.{its_own, its_spare, made_kept}
+use Rattle.lock_free.proofs.MadeSeats.{its_spare, made_kept}
 
 -- what is written in the words that are meant is written in those that are there
 drafts_in : (account : Account) (heap : Heap) (over : Option (Ref × Ref)) (has there : Has) (name : ℕ) (own : Bool) (node : Node) → ((j w : ℕ) → has j w → there j w) → DraftsNode account heap over has name own node →
@@ -148,7 +135,7 @@ module _ (sizes : Sizes) (s : Table.State Call View) (kept : IsKept sizes s) (id
         (let size = kept.size in let same = get_or-set_same s.words generation_word (given_out + 1) 0 (omega (arith, size)) in let before = kept.generations in let one = makes.generations in omega (arith, same, before, one))
         (nodes_below sizes (made_at v.actor name own node kept.account) (stands_too (length kept.account.names) kept.stands) s.words kept.taken root_nodes root_roots generation_word before_slots (given_out + 1) root_taken)
         (roots_below sizes (made_at v.actor name own node kept.account) (stands_too (length kept.account.names) kept.stands) s.words kept.taken root_nodes root_roots generation_word before_slots (given_out + 1) root_taken
-            (λ handle low e. (let where_it_is = root_below handle low in absurd (omega (arith, e, where_it_is.0)))))
+        (λ handle low e. (let where_it_is = root_below handle low in absurd (omega (arith, e, where_it_is.0)))))
 
     -- the rule holds
     pub make_root_kept : IsKept sizes (record { words = root_words; homes = s.homes; views = set s.views id (made_by v (class_of node) name rest own node kept.account) })

@@ -1,44 +1,35 @@
 -- A seat's operation makes a node in a free slot of its own: the rule for all seats, from what stands in words then.
 use Rattle.history.specs.declared.calls.Call.{Call}
-use Rattle.std.proofs.Common.{◌≡◌, ◌≢◌, ◌+◌, ◌*◌, ◌⊎◌, ℕ, zero, suc, ◌<◌, ◌≤◌, inl, inr, Bool, true, false, List, [], ◌∷◌, ◌++◌, Contains, All, length, set, get_or, slice_index, is_some, Option, Some, None, refl, sym, ap, subst, ◌∙◌, arith}
+use Rattle.std.proofs.Common.{◌≡◌, ◌≢◌, ◌+◌, ℕ, ◌<◌, ◌≤◌, inl, inr, Bool, List, [], ◌∷◌, ◌++◌, Contains, length, set, get_or, slice_index, is_some, Some, None, refl, sym, ap, subst, ◌∙◌, arith}
 use Rattle.std.proofs.lemmas.Bool.{cases_eq}
-use Rattle.std.proofs.lemmas.Option.{same_Some}
-use Rattle.std.proofs.lemmas.List.{get_or-set_same}
-use Rattle.std.proofs.lemmas.List.Elements.{All-cons, All-nil, Contains-append_left, Contains-append_right, Contains-append_cases, Contains-push, Contains-get_or}
+use Rattle.std.proofs.lemmas.List.Elements.{All-cons, All-nil}
 use mathlib.Core.Option.{some}
 use lib.ListN.{get_elem?}
 use Rattle.atomic_table.specs.Table as Table
-use Rattle.machine_model.specs.Beneath.slot_arena.specs.declared.refs.Ref.{Ref}
 use Rattle.machine_model.specs.Beneath.slot_arena.specs.declared.nodes.Node.{Node}
 use Rattle.machine_model.specs.Beneath.slot_arena.specs.declared.nodes.Node.TheVariants.{Indirection, Branch, Single, Tomb, List as Listed}
-use Rattle.machine_model.specs.Beneath.slot_arena.specs.declared.nodes.Slot.{Slot}
-use Rattle.machine_model.specs.Beneath.slot_arena.specs.Heaps.{Heap, entries_of}
-use Rattle.machine_model.specs.Calls.{handle_of}
 use Rattle.machine_model.specs.declared.steps.Step.TheVariants as step
 use Rattle.machine_model.specs.declared.operations.Operation.{Operation}
 use Rattle.machine_model.specs.Acting.{operation_after}
 use Rattle.machine_model.specs.States.{State, operation_of, root_at, handle_limit}
 use Rattle.lock_free.specs.declared.accounts.Account.{Account}
-use Rattle.lock_free.specs.declared.accounts.Known.{Known}
 use Rattle.lock_free.specs.declared.accounts.Owned.{Owned}
-use Rattle.lock_free.specs.declared.rules.Pool.{Pool}
 use Rattle.lock_free.specs.declared.rules.View.{View}
 use Rattle.lock_free.specs.declared.sizes.Sizes.{Sizes}
-use Rattle.lock_free.specs.Accounts.{state_of, place_at, HasWaited, IsOfOther}
-use Rattle.lock_free.specs.Nodes.{Has, InTable, AreEntries, class_of}
-use Rattle.lock_free.specs.Making.{over_of, Drafted, DraftsNode, owned_with, made_at, Makes, with_slots, made_by}
-use Rattle.lock_free.specs.Places.{words_in, first_slot_word, pin_word, root_word, IsTaken}
-use Rattle.lock_free.specs.Rules.{Standing, Stands, IsClosing, SaysClosing, IsFree, IsSpare, IsSeat, HasActor, IsKept, Once, pool_of, pin_word_of}
+use Rattle.lock_free.specs.Accounts.{state_of, HasWaited, IsOfOther}
+use Rattle.lock_free.specs.Nodes.{class_of}
+use Rattle.lock_free.specs.Making.{owned_with, made_at, Makes, made_by}
+use Rattle.lock_free.specs.Places.{pin_word, root_word, IsTaken}
+use Rattle.lock_free.specs.Rules.{Standing, IsClosing, SaysClosing, IsFree, IsSpare, IsSeat, IsKept, Once, pool_of}
 use Rattle.lock_free.specs.Trying.{as_before}
-use Rattle.lock_free.proofs.Assembling.{AllStand, all_stand, not_its, other_actor, closing_stays, numbers_stay, assembled}
-use Rattle.lock_free.proofs.Framing.{has_words, stored, other_word, low_word, taken_over, all_over, class_small}
-use Rattle.lock_free.proofs.Geometry.{IsWordOf, slots_apart, inside, root_below}
+use Rattle.lock_free.proofs.Assembling.{AllStand, closing_stays, numbers_stay, assembled}
+use Rattle.lock_free.proofs.Framing.{class_small}
+use Rattle.lock_free.proofs.Geometry.{IsWordOf, inside}
 use Rattle.lock_free.proofs.Made.{stands_too, stands_else, place_else, place_last}
 use Rattle.lock_free.proofs.Pools.{pool_else}
 use Rattle.lock_free.proofs.Spending as spending
-use Rattle.lock_free.proofs.Seats.{ran_so, numbers_so, Stays, StaysSpare, other_kept, own_kept}
-use Rattle.lock_free.proofs.Waiting.{waited_none, waited_more}
-
+use Rattle.lock_free.proofs.Seats.{ran_so, numbers_so, Stays, other_kept, own_kept}
+use Rattle.lock_free.proofs.Waiting.{waited_more}
 
 module _ (sizes : Sizes) (s : Table.State Call View) (kept : IsKept sizes s) (id : ℕ) (v : View) (at : get_elem? s.views id ≡ some v) (operation : Operation)
     (runs : operation_of (state_of sizes kept.account) v.actor ≡ Some operation) (name : ℕ) (own : Bool) (node : Node) (more : ℕ)
@@ -107,8 +98,8 @@ module _ (sizes : Sizes) (s : Table.State Call View) (kept : IsKept sizes s) (id
       waits = waits;
       others = λ a differs. ran_so (state_of sizes kept.account) (state_of sizes account_then) a (makes.others a differs);
       pins = λ a some most apart. pin_same a most;
-      named = λ handle slot low fits is none. root_same handle low;
-      numbers = numbers_so sizes s kept account_then words_then (as_before makes.tries) makes.roots root_same;
+      named = λ other w e apart handle slot o x. root_same handle x.low;
+      numbers = λ other w e apart. numbers_so sizes s kept account_then words_then (as_before makes.tries) makes.roots root_same other w e;
       still_open = λ other w at_w handle inside e. ap is_some (same_root handle) ∙ e;
       taken = taken;
       spare = λ other w b free_name e apart free.
@@ -122,8 +113,9 @@ module _ (sizes : Sizes) (s : Table.State Call View) (kept : IsKept sizes s) (id
 
     own_then : IsSeat sizes account_then stands_then words_then view_then
     own_then =
-        own_kept sizes s kept id v at account_then stands_then words_then stays operation (operation_after (state_of sizes kept.account) operation) runs makes.own refl refl made_all.counted
-        (pin_same v.actor (omega (arith, seat.top, seat.most))) view_then.pool v.opening (λ handle slot o n. (n, pool_still handle o slot)) []
+        own_kept sizes s kept id v at account_then stands_then words_then stays operation (operation_after (state_of sizes kept.account) operation) runs makes.own refl refl
+        (numbers_so sizes s kept account_then words_then (as_before makes.tries) makes.roots root_same id v at) made_all.counted
+        (pin_same v.actor (omega (arith, seat.top, seat.most))) view_then.pool v.opening (λ handle slot o n. (n, λ x. (root_same handle x.low, pool_still handle o slot x.free))) []
         (λ b other f. (let before = was_free b other f in let x = seat.spare b other before.0 in (taken b other f.0 x.0, spare_then other before.1 x.1))) once_then
         (λ d c. absurd (omega (arith, c.1)))
 
@@ -137,4 +129,4 @@ module _ (sizes : Sizes) (s : Table.State Call View) (kept : IsKept sizes s) (id
         assembled sizes s kept id v at view_then refl refl account_then stands_then words_then made_all closings_then own_then (other_kept sizes s kept id v at account_then stands_then words_then stays)
         (λ b other f. inl (was_free b other f).0)
         (numbers_stay sizes s kept id v at view_then refl refl account_then words_then (as_before makes.tries) (λ slot none. none) root_same refl
-            (λ slot handle e free. (free.0, pool_still handle e slot free)))
+        (λ slot handle e free. (free.0, pool_still handle e slot free)))

@@ -1,5 +1,5 @@
 -- What handles' words mean stays.
-use Rattle.std.proofs.Common.{◌≡◌, ◌≢◌, ◌*◌, ◌<◌, ◌==◌, ◌⊎◌, ℕ, inl, inr, Bool, false, List, ◌++◌, Contains, slice_index, Option, Some, None, refl, sym, ap, subst, ◌∙◌, append_assoc}
+use Rattle.std.proofs.Common.{◌≡◌, ◌<◌, ◌==◌, ◌⊎◌, ℕ, inl, inr, false, List, ◌++◌, Contains, slice_index, Option, Some, None, refl, sym, ap, subst, ◌∙◌, append_assoc}
 use Rattle.std.proofs.lemmas.Bool.{cases_eq}
 use Rattle.std.proofs.lemmas.Option.{none-some, same_Some}
 use Rattle.std.specs.Prelude.{option_map}
@@ -20,7 +20,7 @@ use Rattle.lock_free.specs.declared.accounts.Known.{Known}
 use Rattle.lock_free.specs.declared.rules.View.{View}
 use Rattle.lock_free.specs.declared.sizes.Sizes.{Sizes}
 use Rattle.lock_free.specs.Accounts.{place_of, HasStood}
-use Rattle.lock_free.specs.Roots.{MeansRoot, SaysRoot, SaysPlain, SaysOffered, SaysOpening, NoOffer, IsItsTry, AreMarked, IsPending, fate, meant, opened_by, open_with, carried_out}
+use Rattle.lock_free.specs.Roots.{MeansRoot, SaysRoot, SaysPlain, SaysOpening, NoOffer, IsItsTry, AreMarked, IsPending, fate, meant, opened_by, open_with, carried_out}
 use Rattle.lock_free.specs.Places.{root_word}
 use Rattle.lock_free.specs.Rules.{Reserves}
 use Rattle.lock_free.specs.Trying.{Try, try_of, try_at, KeepsTries, as_before, anew}
@@ -30,7 +30,7 @@ use Rattle.lock_free.specs.Trying.{Try, try_of, try_at, KeepsTries, as_before, a
 -- Roots stand where they stood, of each offer there is said what was said, and a word that names an offer that didn't stand yet names none, or it opens the handle.
 module _ (account later : Account) (before after : List ℕ) (handle found : ℕ) (r : Option Root)
     (places : (access : Access) (q : Ref) → r ≡ open_with access (Plain q) → place_of later q ≡ place_of account q)
-    (offered : (k : Known) → Contains account.offers k → found ≡ root_code (word.Offered k.slot) → r ≡ open_with Writable (meant (fate before k) k.offer) → Contains later.offers k × (fate after k ≡ fate before k))
+    (offered : (k : Known) → Contains account.offers k → k.handle ≡ handle → r ≡ open_with Writable (meant (fate before k) k.offer) → Contains later.offers k × (fate after k ≡ fate before k))
     (opening : (k : Known) → Contains account.offers k → k.offer.opens ≡ Some handle → Contains later.offers k × (fate after k ≡ fate before k))
     (none : (slot : ℕ) → found ≡ root_code (word.Opening slot) → IsRootWord (word.Opening slot) → NoOffer account slot → r ≡ None → SaysOpening later after handle slot r ⊎ NoOffer later slot) where
   plain_then : (access : Access) (slot : ℕ) → SaysPlain account access slot r → SaysPlain later access slot r
@@ -48,8 +48,8 @@ module _ (account later : Account) (before after : List ℕ) (handle found : ℕ
   says_then (word.ClosingWritable slot seat) fits is h = plain_then _ slot h
   says_then (word.ClosingReadOnly slot seat) fits is h = plain_then _ slot h
   says_then (word.Offered slot) fits is h =
-      let still = offered h.its h.here (is ∙ ap (λ n. root_code (word.Offered n)) h.place) h.is in
-      record { its = h.its; here = still.0; place = h.place; is = h.is ∙ ap (λ n. open_with Writable (meant n h.its.offer)) (sym still.1) }
+      let still = offered h.its h.here h.on h.is in
+      record { its = h.its; here = still.0; on = h.on; place = h.place; is = h.is ∙ ap (λ n. open_with Writable (meant n h.its.offer)) (sym still.1) }
   says_then (word.Opening slot) fits is (inl h) =
       let still = opening h.its h.here h.opens in
       inl (record { its = h.its; here = still.0; place = h.place; opens = h.opens; is = h.is ∙ ap (λ n. opened_by n h.its.offer) (sym still.1) })
@@ -80,9 +80,8 @@ stood_still sizes account later steps goes_on offer h = record {
 -- where no word of a handle changes
 pub pending_kept : (before after : List ℕ) (k : Known) → ((handle : ℕ) → handle < handle_limit → slice_index after (root_word handle) ≡ slice_index before (root_word handle)) → IsPending before k → IsPending after k
 pending_kept before after k same h = record {
-  handle = h.handle;
   low = h.low;
-  stands = same h.handle h.low ∙ h.stands;
+  stands = same k.handle h.low ∙ h.stands;
   opens = λ opened e. (let x = h.opens opened e in (x.0, same opened x.0 ∙ x.1));
 }
 
@@ -102,6 +101,9 @@ module _ (before after : State) (a : ℕ) (same : try_at after a ≡ try_at befo
   pub unmarked_at : ((o : Operation) → operation_of after a ≡ Some o → o.is_marked ≡ false) → (o : Operation) → operation_of before a ≡ Some o → o.is_marked ≡ false
   unmarked_at h o e = let p = runs_at o e in ap (λ (t : Try). t.is_marked) (sym p.2) ∙ h p.0 p.1
 
+  pub unmarked_then : ((o : Operation) → operation_of before a ≡ Some o → o.is_marked ≡ false) → (o : Operation) → operation_of after a ≡ Some o → o.is_marked ≡ false
+  unmarked_then h o e = let p = ran_at o e in ap (λ (t : Try). t.is_marked) (sym p.2) ∙ h p.0 p.1
+
   pub marked_at : (k : Known) (fate_then fate_now : ℕ) → fate_then ≡ fate_now → ((p : Operation) → operation_of before a ≡ Some p → IsItsTry p k.offer → p.is_marked ≡ (fate_now == carried_out)) →
       (o : Operation) → operation_of after a ≡ Some o → IsItsTry o k.offer → o.is_marked ≡ (fate_then == carried_out)
   marked_at k fate_then fate_now fates h o e its =
@@ -120,10 +122,24 @@ module _ (offers : List Known) (before after : State) where
 
   pub reserved : KeepsTries offers before after → (v : View) (handle : ℕ) → Reserves after v handle → Reserves before v handle
   reserved (as_before tries) v handle h = (h.0, unmarked_at before after v.actor (tries v.actor) h.1)
-  reserved (anew actor h) v handle r = (r.0, elim (cases_eq v.actor actor) [
-    | inl own ↦ (λ o e. ap (λ (x : Operation). x.is_marked) (same_Some o h.was (sym e ∙ ap (operation_of before) own ∙ h.ran)) ∙ h.unmarked)
-    | inr other ↦ unmarked_at before after v.actor (h.others v.actor other) r.1
-  ])
+  reserved (anew actor h) v handle r = (
+    r.0,
+    elim (cases_eq v.actor actor) [
+      | inl own ↦ (λ o e. ap (λ (x : Operation). x.is_marked) (same_Some o h.was (sym e ∙ ap (operation_of before) own ∙ h.ran)) ∙ h.unmarked)
+      | inr other ↦ unmarked_at before after v.actor (h.others v.actor other) r.1
+    ],
+  )
+
+  -- who has reserved a number has it still
+  pub reserves_on : KeepsTries offers before after → (v : View) (handle : ℕ) → Reserves before v handle → Reserves after v handle
+  reserves_on (as_before tries) v handle h = (h.0, unmarked_then before after v.actor (tries v.actor) h.1)
+  reserves_on (anew actor h) v handle r = (
+    r.0,
+    elim (cases_eq v.actor actor) [
+      | inl own ↦ (λ o e. ap (λ (x : Operation). x.is_marked) (same_Some o h.now (sym e ∙ ap (operation_of after) own ∙ h.runs)) ∙ h.still_unmarked)
+      | inr other ↦ unmarked_then before after v.actor (h.others v.actor other) r.1
+    ],
+  )
 
   pub marks_kept : KeepsTries offers before after → (words later : List ℕ) → ((k : Known) → Contains offers k → fate later k ≡ fate words k) → AreMarked before words offers → AreMarked after later offers
   marks_kept (as_before tries) words later fates h k c a o e its = marked_at before after a (tries a) k (fate later k) (fate words k) (fates k c) (h k c a) o e its

@@ -1,6 +1,6 @@
 -- A step of a seat's operation changes a word of a node that stands: the rule for all seats, from what stands in words then.
 use Rattle.history.specs.declared.calls.Call.{Call}
-use Rattle.std.proofs.Common.{◌≡◌, ◌≢◌, ℕ, ◌<◌, ◌≤◌, inl, List, [], ◌∷◌, ◌++◌, set, get_or, slice_index, is_some, Some, None, refl, sym, ap, subst, ◌∙◌, arith, append-nil}
+use Rattle.std.proofs.Common.{◌≡◌, ◌≢◌, ℕ, ◌<◌, inl, List, [], ◌∷◌, ◌++◌, set, get_or, slice_index, is_some, Some, None, refl, sym, ap, subst, ◌∙◌, arith, append-nil}
 use Rattle.std.proofs.lemmas.List.Elements.{All-cons, All-nil}
 use mathlib.Core.Option.{some}
 use lib.ListN.{get_elem?}
@@ -16,7 +16,7 @@ use Rattle.lock_free.specs.declared.rules.View.{View}
 use Rattle.lock_free.specs.declared.sizes.Sizes.{Sizes}
 use Rattle.lock_free.specs.Accounts.{state_of, place_at, HasWaited, IsOfOther}
 use Rattle.lock_free.specs.Nodes.{class_of}
-use Rattle.lock_free.specs.Places.{pin_word, root_word}
+use Rattle.lock_free.specs.Places.{root_word}
 use Rattle.lock_free.specs.Rules.{Stands, IsClosing, SaysClosing, IsFree, IsSpare, IsSeat, IsKept}
 use Rattle.lock_free.specs.Trying.{SameTries, as_before}
 use Rattle.lock_free.proofs.Assembling.{AllStand, all_stand, closing_stays, numbers_stay, assembled}
@@ -56,10 +56,12 @@ module _ (sizes : Sizes) (s : Table.State Call View) (kept : IsKept sizes s) (id
 
   spare_stays : (other : ℕ) (w : View) (b name : ℕ) → get_elem? s.views other ≡ some w → IsFree w b name → StaysSpare sizes s kept id v at account_then kept.stands words_then b name
   spare_stays other w b name e free =
-      let x = (kept.seats other w e).spare b name free in
-      (spare_then name x.1, λ j its_word.
-          else_word kept.account s.words i value j
-          (not_of_spare sizes kept.account kept.stands s.words all k slot stood i its value b name free.0 x.0 x.1 j its_word))
+      let x = (kept.seats other w e).spare b name free in (
+        spare_then name x.1,
+        λ j its_word.
+            else_word kept.account s.words i value j
+            (not_of_spare sizes kept.account kept.stands s.words all k slot stood i its value b name free.0 x.0 x.1 j its_word),
+      )
 
   root_same : (handle : ℕ) → handle < handle_limit → slice_index words_then (root_word handle) ≡ slice_index s.words (root_word handle)
   root_same = root_beside sizes kept.account kept.stands s.words all k slot stood i its value
@@ -69,8 +71,8 @@ module _ (sizes : Sizes) (s : Table.State Call View) (kept : IsKept sizes s) (id
     waits = waits;
     others = λ a differs. ran_so (state_of sizes kept.account) (state_of sizes account_then) a (others a differs);
     pins = λ a some most apart. pin_beside sizes kept.account kept.stands s.words all k slot stood i its value a most;
-    named = λ handle slot low fits is none. root_same handle low;
-    numbers = numbers_so sizes s kept account_then words_then (as_before tries) roots root_same;
+    named = λ other w e apart handle slot o x. root_same handle x.low;
+    numbers = λ other w e apart. numbers_so sizes s kept account_then words_then (as_before tries) roots root_same other w e;
     still_open = λ other w at_w handle inside e. ap (λ rs. is_some (get_or rs handle None)) roots ∙ e;
     taken = still_taken sizes kept.account s.words kept.taken i (node_far sizes kept.account kept.stands s.words all k slot stood i its value) value;
     spare = λ other w b name e apart free. spare_stays other w b name e free;
@@ -83,8 +85,8 @@ module _ (sizes : Sizes) (s : Table.State Call View) (kept : IsKept sizes s) (id
   own_then : IsSeat sizes account_then kept.stands words_then view_then
   own_then =
       let seat = kept.seats id v at in
-      own_kept sizes s kept id v at account_then kept.stands words_then stays operation (operation_after (state_of sizes kept.account) operation) runs own refl refl all_then.counted
-      (pin_beside sizes kept.account kept.stands s.words all k slot stood i its value v.actor (omega (arith, seat.top, seat.most))) v.pool v.opening (λ handle slot o n. (n, λ free. free.1)) v.drafts
+      own_kept sizes s kept id v at account_then kept.stands words_then stays operation (operation_after (state_of sizes kept.account) operation) runs own refl refl (numbers_so sizes s kept account_then words_then (as_before tries) roots root_same id v at) all_then.counted
+      (pin_beside sizes kept.account kept.stands s.words all k slot stood i its value v.actor (omega (arith, seat.top, seat.most))) v.pool v.opening (λ handle slot o n. (n, λ x. (root_same handle x.low, x.free.1))) v.drafts
       (λ b name free. (let x = seat.spare b name free in (stays.taken b name free.0 x.0, (spare_stays id v b name at free).0))) seat.once
       (λ d c. drafts_kept sizes s kept id v at account_then kept.stands words_then stays view_then d (seat.drafts d c) (λ b name free. (free, (spare_stays id v b name at free).1)))
 

@@ -1,8 +1,8 @@
 -- An exchange of a handle's word brings an offer to stand.
 use Rattle.history.specs.declared.calls.Call.{Call}
-use Rattle.std.proofs.Common.{◌≡◌, ◌≢◌, ◌+◌, ◌*◌, ◌⊎◌, ◌^◌, ℕ, zero, suc, ◌<◌, ◌≤◌, inl, inr, Bool, true, false, List, [], ◌∷◌, ◌++◌, Contains, All, length, set, get_or, slice_index, is_some, Option, Some, None, refl, sym, ap, subst, ◌∙◌, arith, append-nil}
+use Rattle.std.proofs.Common.{◌≡◌, ◌≢◌, ◌+◌, ◌*◌, ◌⊎◌, ◌^◌, ℕ, ◌<◌, ◌≤◌, inl, inr, true, List, [], ◌∷◌, ◌++◌, Contains, set, slice_index, is_some, Some, None, refl, sym, ap, subst, ◌∙◌, arith, append-nil}
 use Rattle.std.specs.Prelude.{option_map, ◌==◌}
-use Rattle.std.proofs.lemmas.Bool.{cases_eq, true≢false}
+use Rattle.std.proofs.lemmas.Bool.{cases_eq}
 use Rattle.std.proofs.lemmas.Option.{same_Some, none-some}
 use Rattle.std.proofs.lemmas.List.Elements.{All-cons, All-nil, All-append}
 use mathlib.Core.Option.{some, some-injective}
@@ -12,34 +12,31 @@ use Rattle.trie_words.specs.Codes.{root_code, IsRootWord}
 use Rattle.trie_words.specs.declared.roots.RootWord.TheVariants as word
 use Rattle.history.specs.declared.calls.Access.TheVariants.{Writable}
 use Rattle.machine_model.specs.declared.roots.Descriptor.{Descriptor}
-use Rattle.machine_model.specs.declared.roots.Root.{Root}
-use Rattle.machine_model.specs.declared.roots.RootWord.TheVariants.{Plain, Offer}
 use Rattle.machine_model.specs.Beneath.slot_arena.specs.declared.nodes.Slot.{Slot}
 use Rattle.machine_model.specs.declared.steps.Step.TheVariants as step
 use Rattle.machine_model.specs.declared.operations.Operation.{Operation}
 use Rattle.machine_model.specs.Acting.{operation_after}
 use Rattle.machine_model.specs.Calls.{handle_of}
-use Rattle.machine_model.specs.Keys.{KeysFit, FitsKey}
+use Rattle.machine_model.specs.Keys.{FitsKey}
 use Rattle.machine_model.specs.States.{State, operation_of, root_at, word_of, handle_limit}
 use Rattle.lock_free.specs.declared.accounts.Account.{Account}
 use Rattle.lock_free.specs.declared.accounts.Known.{Known}
-use Rattle.lock_free.specs.declared.rules.Pool.{Pool}
 use Rattle.lock_free.specs.declared.rules.View.{View}
 use Rattle.lock_free.specs.declared.sizes.Sizes.{Sizes}
 use Rattle.lock_free.specs.Accounts.{state_of, place_at, HasWaited, IsOfOther, HasStood}
-use Rattle.lock_free.specs.Offering.{LeavesNodes, DraftsOffer, Offers, known_at, offered_at, offered_by}
-use Rattle.lock_free.specs.Places.{words_of, pin_word, root_word, IsTaken}
+use Rattle.lock_free.specs.Offering.{DraftsOffer, Offers, known_at, offered_at, offered_by}
+use Rattle.lock_free.specs.Places.{pin_word, root_word, IsTaken}
 use Rattle.lock_free.specs.Roots.{MeansRoot, SaysOpening, NoOffer, IsWritten, IsItsTry, AreMarked, IsPending, fate, undecided, meant, opened_by, open_with, carried_out}
-use Rattle.lock_free.specs.Rules.{Standing, Stands, NodesStand, RootsStand, IsClosing, SaysClosing, IsFree, IsSpare, IsOpening, IsHeld, Reserves, IsSeat, IsKept, pool_of}
+use Rattle.lock_free.specs.Rules.{Stands, IsClosing, SaysClosing, IsFree, IsSpare, IsOpening, IsHeld, Reserves, IsSeat, IsKept, pool_of}
 use Rattle.lock_free.specs.Trying.{try_of, KeepsTries, anew}
 use Rattle.lock_free.proofs.Assembling.{AllStand, all_stand, closing_stays, opening_stays, Numbers, assembled}
 use Rattle.lock_free.proofs.Geometry.{IsWordOf}
-use Rattle.lock_free.proofs.Meanings.{means_then, stood_still, ran, reserved, marks_kept}
+use Rattle.lock_free.proofs.Meanings.{means_then, stood_still, ran, reserved, reserves_on, marks_kept}
 use Rattle.lock_free.proofs.Pools.{first_or_more, first_there, more_there}
 use Rattle.lock_free.proofs.RootCodes.{same_kind}
 use Rattle.lock_free.proofs.RootFound.{not_plain, slot_fits, offered_is, opening_is, later_is}
 use Rattle.lock_free.proofs.RootSteps as root
-use Rattle.lock_free.proofs.Seats.{ran_so, Stays, StaysSpare, other_kept, own_kept}
+use Rattle.lock_free.proofs.Seats.{ran_so, Stays, other_kept, own_kept}
 use Rattle.lock_free.proofs.Spending as spending
 use Rattle.lock_free.proofs.Waiting.{waited_more, quiet_more}
 
@@ -53,7 +50,7 @@ module _ (sizes : Sizes) (s : Table.State Call View) (kept : IsKept sizes s) (id
   now = state_of sizes kept.account
 
   abbrev pub account_then : Account
-  account_then = offered_at v.actor slot offer kept.account
+  account_then = offered_at v.actor slot (handle_of operation.call) offer kept.account
 
   abbrev next : State
   next = state_of sizes account_then
@@ -65,10 +62,10 @@ module _ (sizes : Sizes) (s : Table.State Call View) (kept : IsKept sizes s) (id
   words_then = set s.words (root_word handle) (root_code (word.Offered slot))
 
   abbrev pub view_then : View
-  view_then = offered_by v slot rest offer kept.account
+  view_then = offered_by v slot (handle_of operation.call) rest offer kept.account
 
   abbrev new : Known
-  new = known_at slot offer
+  new = known_at slot (handle_of operation.call) offer
 
   seat : IsSeat sizes kept.account kept.stands s.words v
   seat = kept.seats id v at
@@ -125,7 +122,7 @@ module _ (sizes : Sizes) (s : Table.State Call View) (kept : IsKept sizes s) (id
       let o = kept.openings g found_slot below in_range is nothing in
       let mine : o.id ≡ id = kept.pools o.id id o.view v 1 1 slot o.at at (subst (λ n. IsFree o.view 1 n) same o.free) its_own in
       let view_is : o.view ≡ v = some-injective o.view v (sym o.at ∙ ap (λ n. get_elem? s.views n) mine ∙ at) in
-      offers.opens ∙ sym (seat.reserves operation runs) ∙ ap (λ (x : View). x.opens) (sym view_is) ∙ o.opens
+      offers.opens ∙ sym (seat.reserves operation runs) ∙ ap (λ (x : View). x.opens) (sym view_is) ∙ o.reserves.0
 
   names : (g found_slot : ℕ) → g < handle_limit → slice_index s.words (root_word g) ≡ root_code (word.Opening found_slot) → IsRootWord (word.Opening found_slot) → NoOffer kept.account found_slot → root_at now g ≡ None →
       SaysOpening account_then words_then g found_slot (root_at now g) ⊎ NoOffer account_then found_slot
@@ -153,7 +150,7 @@ module _ (sizes : Sizes) (s : Table.State Call View) (kept : IsKept sizes s) (id
     what = word.Offered slot;
     fits = fits;
     code = refl;
-    says = record { its = new; here = first_there new kept.account.offers; place = refl; is = offers.stands ∙ ap (λ n. open_with Writable (meant n offer)) (sym fate_new) };
+    says = record { its = new; here = first_there new kept.account.offers; on = refl; place = refl; is = offers.stands ∙ ap (λ n. open_with Writable (meant n offer)) (sym fate_new) };
   }
 
   root_beside : (g : ℕ) → g ≢ handle → slice_index words_then (root_word g) ≡ slice_index s.words (root_word g)
@@ -255,7 +252,6 @@ module _ (sizes : Sizes) (s : Table.State Call View) (kept : IsKept sizes s) (id
 
   pending_new : IsPending words_then new
   pending_new = record {
-    handle = handle;
     low = low;
     stands = root_here;
     opens = λ g e.
@@ -316,11 +312,13 @@ module _ (sizes : Sizes) (s : Table.State Call View) (kept : IsKept sizes s) (id
 
   -- a slot that is another one is spare still
   spare_then : (other : ℕ) → other ≢ slot → IsSpare sizes kept.account kept.stands other → IsSpare sizes account_then kept.stands other
-  spare_then other differs h =
-      (λ k n e. h.0 k n (e.0, sym (offers.leaves.nodes k) ∙ e.1), λ k c. elim (first_or_more new kept.account.offers k c) [
-        | inl is_new ↦ (λ e. differs (sym e ∙ ap (λ (x : Known). x.slot) is_new))
-        | inr old ↦ h.1 k old
-      ])
+  spare_then other differs h = (
+    λ k n e. h.0 k n (e.0, sym (offers.leaves.nodes k) ∙ e.1),
+    λ k c. elim (first_or_more new kept.account.offers k c) [
+      | inl is_new ↦ (λ e. differs (sym e ∙ ap (λ (x : Known). x.slot) is_new))
+      | inr old ↦ h.1 k old
+    ],
+  )
 
   pin_same : (a : ℕ) → 1 ≤ a → slice_index words_then (pin_word a) ≡ slice_index s.words (pin_word a)
   pin_same = root.pin_rooted sizes kept.account kept.stands s.words all handle low (root_code (word.Offered slot))
@@ -330,8 +328,8 @@ module _ (sizes : Sizes) (s : Table.State Call View) (kept : IsKept sizes s) (id
     waits = waits;
     others = λ a differs. ran_so now next a (offers.others a differs);
     pins = λ a positive most apart. pin_same a positive;
-    named = λ g found_slot below in_range is nothing. root_beside g (not_open g (later_is sizes kept.account s.words kept.roots g below found_slot in_range is nothing));
-    numbers = held;
+    named = λ other w e apart g found_slot o x. root_beside g (not_open g (later_is sizes kept.account s.words kept.roots g x.low found_slot x.fits x.is ((kept.seats other w e).spare 1 found_slot x.free).1.1));
+    numbers = λ other w e apart. held other w e;
     still_open = λ other w at_w g inside e. open_still g e;
     taken = still_taken;
     spare = λ other w b name e apart free.
@@ -342,7 +340,7 @@ module _ (sizes : Sizes) (s : Table.State Call View) (kept : IsKept sizes s) (id
 
   own_then : IsSeat sizes account_then kept.stands words_then view_then
   own_then =
-      own_kept sizes s kept id v at account_then kept.stands words_then stays operation (operation_after now operation) runs offers.own refl refl all_then.counted (pin_same v.actor seat.low) view_then.pool None (λ g n o e. absurd (none-some n e)) []
+      own_kept sizes s kept id v at account_then kept.stands words_then stays operation (operation_after now operation) runs offers.own refl refl (held id v at) all_then.counted (pin_same v.actor seat.low) view_then.pool None (λ g n o e. absurd (none-some n e)) []
       (λ b name f. (let before = spending.was_free sizes s kept id v at 1 medium slot rest pool b name f.0 f.1 in
       let x = seat.spare b name before.0 in (still_taken b name f.0 x.0, spare_then name before.1 x.1)))
       (spending.once_then sizes s kept id v at 1 medium slot rest pool) (λ d c. absurd (omega (arith, c.1)))
@@ -358,13 +356,13 @@ module _ (sizes : Sizes) (s : Table.State Call View) (kept : IsKept sizes s) (id
       not_closing (inr h) = let wrong = same_kind (word.Offered slot) (word.ClosingReadOnly h.0 who) fits h.1 h.2 in omega (arith, wrong)
 
   openings_then : (g found_slot : ℕ) → g < handle_limit → IsRootWord (word.Opening found_slot) → slice_index words_then (root_word g) ≡ root_code (word.Opening found_slot) → NoOffer account_then found_slot →
-      IsOpening (set s.views id view_then) g found_slot
+      IsOpening next (set s.views id view_then) g found_slot
   openings_then g found_slot below in_range is nothing = elim (cases_eq g handle) [
     | inl same ↦
         (let wrong = same_kind (word.Offered slot) (word.Opening found_slot) fits in_range (sym root_here ∙ ap (λ n. slice_index words_then (root_word n)) (sym same) ∙ is) in absurd (omega (arith, wrong)))
     | inr differs ↦
-        opening_stays sizes s kept id v at view_then refl refl g found_slot
-        (λ e f. (e, (medium, spending.still_free sizes s kept id v at 1 medium slot rest pool 1 found_slot (λ same. nothing new (first_there new kept.account.offers) (sym same)) f)))
+        opening_stays sizes s kept id v at view_then refl refl next g found_slot
+        (λ r f. (reserves_on kept.account.offers now next keeps v g r, (medium, spending.still_free sizes s kept id v at 1 medium slot rest pool 1 found_slot (λ same. nothing new (first_there new kept.account.offers) (sym same)) f))) (λ other w e apart f r. reserves_on kept.account.offers now next keeps w g r)
         (kept.openings g found_slot below in_range (sym (root_beside g differs) ∙ is) (λ k c. nothing k (more_there new kept.account.offers k c)))
   ]
 

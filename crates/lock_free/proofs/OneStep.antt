@@ -8,6 +8,9 @@ pub mod Changing
 pub mod Leading
 pub mod Found
 pub mod Giving
+pub mod Standing
+pub mod Marking
+pub mod Settles
 pub mod Restores
 pub mod Decides
 pub mod Publishes

@@ -44,11 +44,13 @@ once_rest (x ∷ xs) n h =
 -- one more that isn't among them
 pub once_more : (xs : List ℕ) (n : ℕ) → Once xs → (Contains xs n → ⊥) → Once (xs ++ n ∷ [])
 once_more [] n h new = (none_there n, tt)
-once_more (x ∷ xs) n h new =
-    ((λ c. elim (Contains-push_cases xs n x c) [
-      | inl more ↦ h.0 more
-      | inr same ↦ new (subst (λ y. Contains (x ∷ xs) y) (sym same) (0, omega arith, refl))
-    ]), once_more xs n h.1 (λ c. new (Contains-append_right (x ∷ []) xs n c)))
+once_more (x ∷ xs) n h new = (
+  (λ c. elim (Contains-push_cases xs n x c) [
+    | inl more ↦ h.0 more
+    | inr same ↦ new (subst (λ y. Contains (x ∷ xs) y) (sym same) (0, omega arith, refl))
+  ]),
+  once_more xs n h.1 (λ c. new (Contains-append_right (x ∷ []) xs n c)),
+)
 
 pub pool_same : (pool : Pool) (class : ℕ) (rest : List ℕ) → class < 3 → pool_of (with_slots pool class rest) class ≡ rest
 pool_same pool zero rest low = refl
@@ -69,7 +71,6 @@ pool_else pool (suc (suc zero)) (suc (suc zero)) rest low small differs = absurd
 pool_else pool (suc (suc (suc class))) b rest low small differs = absurd (omega (arith, low))
 pool_else pool class (suc (suc (suc b))) rest low small differs = absurd (omega (arith, small))
 
-
 -- with one more slot in one class
 module _ (pool : Pool) (class name : ℕ) (small : class < 3) where
   pub free_still : (b other : ℕ) → b < 3 → Contains (pool_of pool b) other → Contains (pool_of (with_slot pool class name) b) other
@@ -83,9 +84,9 @@ module _ (pool : Pool) (class name : ℕ) (small : class < 3) where
   was_free b other low c = elim (cases_eq b class) [
     | inl same ↦ elim (Contains-push_cases (pool_of pool class) name other
         (subst (λ xs. Contains xs other) (ap (pool_of (with_slot pool class name)) same ∙ pool_same pool class (pool_of pool class ++ name ∷ []) small) c)) [
-      | inl old ↦ inl (subst (λ n. Contains (pool_of pool n) other) (sym same) old)
-      | inr new ↦ inr (same, new)
-    ]
+          | inl old ↦ inl (subst (λ n. Contains (pool_of pool n) other) (sym same) old)
+          | inr new ↦ inr (same, new)
+        ]
     | inr differs ↦ inl (subst (λ xs. Contains xs other) (pool_else pool class b (pool_of pool class ++ name ∷ []) small low differs) c)
   ]
 

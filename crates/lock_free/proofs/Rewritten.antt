@@ -1,9 +1,9 @@
 -- A store to the word of an open handle whose root doesn't stand by an offer any more: it says the same root in other words. So an offer that is settled is taken out
 -- of it, and a seat's mark that it would close the handle is made or taken away.
 use Rattle.history.specs.declared.calls.Call.{Call}
-use Rattle.std.proofs.Common.{◌≡◌, ◌≢◌, ◌+◌, ◌*◌, ◌⊎◌, ◌^◌, ℕ, ◌<◌, ◌≤◌, inl, inr, Bool, true, false, List, Contains, set, slice_index, is_some, Option, Some, None, refl, sym, ap, subst, ◌∙◌, arith}
-use Rattle.std.proofs.lemmas.Bool.{cases_eq, true≢false}
-use Rattle.std.proofs.lemmas.Option.{same_Some, none-some}
+use Rattle.std.proofs.Common.{◌≡◌, ◌≢◌, ◌^◌, ℕ, ◌<◌, ◌≤◌, inl, inr, true, List, Contains, set, slice_index, is_some, Option, Some, None, refl, sym, ap, ◌∙◌, arith}
+use Rattle.std.proofs.lemmas.Bool.{cases_eq}
+use Rattle.std.proofs.lemmas.Option.{none-some}
 use mathlib.Core.Option.{some}
 use lib.ListN.{get_elem?}
 use Rattle.atomic_table.specs.Table as Table
@@ -18,21 +18,19 @@ use Rattle.machine_model.specs.declared.operations.Operation.{Operation}
 use Rattle.machine_model.specs.declared.roots.RootWord.TheVariants.{Plain}
 use Rattle.machine_model.specs.Calls.{handle_of}
 use Rattle.machine_model.specs.States.{State, operation_of, root_at, handle_limit}
-use Rattle.lock_free.specs.declared.accounts.Account.{Account}
 use Rattle.lock_free.specs.declared.accounts.Known.{Known}
 use Rattle.lock_free.specs.declared.rules.Closing.{Closing}
 use Rattle.lock_free.specs.declared.rules.View.{View}
 use Rattle.lock_free.specs.declared.sizes.Sizes.{Sizes}
 use Rattle.lock_free.specs.Accounts.{state_of, place_of}
-use Rattle.lock_free.specs.Places.{pin_word, root_word, IsTaken}
-use Rattle.lock_free.specs.Roots.{MeansRoot, SaysRoot, NoOffer, fate, undecided, meant, opened_by, open_with}
-use Rattle.lock_free.specs.Rules.{IsClosing, SaysClosing, IsFree, IsSpare, IsHeld, Reserves, Names, IsOpening, IsSeat, IsKept}
-use Rattle.lock_free.proofs.Assembling.{AllStand, all_stand, opening_stays, numbers_stay, Numbers, assembled}
-use Rattle.lock_free.proofs.Meanings.{no_tries}
+use Rattle.lock_free.specs.Places.{pin_word, root_word}
+use Rattle.lock_free.specs.Roots.{SaysRoot, NoOffer, fate, undecided, meant, opened_by, open_with}
+use Rattle.lock_free.specs.Rules.{IsClosing, SaysClosing, IsFree, IsHeld, Reserves, Names, IsOpening, IsSeat, IsKept}
+use Rattle.lock_free.proofs.Assembling.{AllStand, all_stand, opening_stays, Numbers, assembled}
 use Rattle.lock_free.proofs.RootCodes.{kind, same_kind}
 use Rattle.lock_free.proofs.RootFound.{not_plain, slot_fits, offered_is, opening_is, later_is}
 use Rattle.lock_free.proofs.RootSteps as root
-use Rattle.lock_free.proofs.Seats.{ran_so, Stays, StaysSpare, other_kept, names_kept, seat_else, own_else}
+use Rattle.lock_free.proofs.Seats.{ran_so, Stays, StaysSpare, other_kept, names_kept, own_else}
 
 -- the word says that this is the root of an open handle, which a seat may be about to close
 pub data IsPlainWord (access : Access) (place : ℕ) : HandleWord → Type 0 where
@@ -81,8 +79,10 @@ module _ (sizes : Sizes) (s : Table.State Call View) (kept : IsKept sizes s) (id
   all_then : AllStand sizes kept.account kept.stands words_then
   all_then =
       root.all_rooted sizes kept.account kept.stands s.words all handle low (root_code w) (record { what = w; fits = fits; code = refl; says = says_by w is })
-      (λ k c stands. (offer_no_more k c stands,
-      λ found. not_closed handle ((opening_is sizes kept.account s.words kept.roots handle low k c (k_fits k c) found).1 ∙ ap (λ n. opened_by n k.offer) stands) refl))
+      (λ k c stands. (
+        offer_no_more k c stands,
+        λ found. not_closed handle ((opening_is sizes kept.account s.words kept.roots handle low k c (k_fits k c) found).1 ∙ ap (λ n. opened_by n k.offer) stands) refl,
+      ))
 
   root_beside : (g : ℕ) → g ≢ handle → slice_index words_then (root_word g) ≡ slice_index s.words (root_word g)
   root_beside = root.else_root sizes kept.account kept.stands s.words all handle low (root_code w)
@@ -101,13 +101,17 @@ module _ (sizes : Sizes) (s : Table.State Call View) (kept : IsKept sizes s) (id
   stays_spare other x b name e free =
       let h = (kept.seats other x e).spare b name free in (h.1, root.slot_rooted sizes kept.account kept.stands s.words all handle low (root_code w) b name free.0 h.0)
 
+  -- the seat's number is another handle
+  stays_named : (g slot : ℕ) → Names s.words v g slot → slice_index words_then (root_word g) ≡ slice_index s.words (root_word g)
+  stays_named g slot x = root_beside g (not_closed g (later_is sizes kept.account s.words kept.roots g x.low slot x.fits x.is (seat.spare 1 slot x.free).1.1))
+
   stays : Stays sizes s kept id v at kept.account kept.stands words_then
   stays = record {
     waits = λ actor first differs h. h;
     others = λ a differs. ran_so now now a refl;
     pins = λ a positive most apart. pin_same a positive;
-    named = λ g slot below in_range found nothing. root_beside g (not_closed g (later_is sizes kept.account s.words kept.roots g below slot in_range found nothing));
-    numbers = held;
+    named = λ other u e apart handle_of_it found_slot o x. root_beside handle_of_it (not_closed handle_of_it (later_is sizes kept.account s.words kept.roots handle_of_it x.low found_slot x.fits x.is ((kept.seats other u e).spare 1 found_slot x.free).1.1));
+    numbers = λ other w e apart. held other w e;
     still_open = λ other w at_w g inside e. e;
     taken = root.taken_rooted sizes kept.account kept.stands s.words all handle low (root_code w);
     spare = λ other x b name e apart free. stays_spare other x b name e free;
@@ -123,13 +127,13 @@ module _ (sizes : Sizes) (s : Table.State Call View) (kept : IsKept sizes s) (id
     own_then : IsSeat sizes kept.account kept.stands words_then view_then
     own_then =
         own_else sizes s kept id v at kept.account kept.stands words_then stays v.account seat.waited seat.counts v.pin entered closing v.opens v.opening (pin_same v.actor seat.low ∙ seat.pinned) inside calls (held id v at)
-        seat.reserves (λ g slot o n. (let x = seat.opening g slot o n in names_kept sizes s kept id v at kept.account kept.stands words_then stays id v view_then at g slot x x.free))
+        seat.reserves (λ g slot o n. (let x = seat.opening g slot o n in names_kept sizes s kept id v at kept.account kept.stands words_then stays v view_then g slot x (stays_named g slot x) x.free))
         (λ b name free. stays_spare id v b name at free)
 
-    openings_then : (g slot : ℕ) → g < handle_limit → IsRootWord (word.Opening slot) → slice_index words_then (root_word g) ≡ root_code (word.Opening slot) → NoOffer kept.account slot → IsOpening (set s.views id view_then) g slot
+    openings_then : (g slot : ℕ) → g < handle_limit → IsRootWord (word.Opening slot) → slice_index words_then (root_word g) ≡ root_code (word.Opening slot) → NoOffer kept.account slot → IsOpening now (set s.views id view_then) g slot
     openings_then g slot below in_range found nothing = elim (cases_eq g handle) [
       | inl same ↦ absurd (not_opening w is (same_kind w (word.Opening slot) fits in_range (sym root_here ∙ ap (λ n. slice_index words_then (root_word n)) (sym same) ∙ found)))
-      | inr differs ↦ opening_stays sizes s kept id v at view_then refl refl g slot (λ e f. (e, f)) (kept.openings g slot below in_range (sym (root_beside g differs) ∙ found) nothing)
+      | inr differs ↦ opening_stays sizes s kept id v at view_then refl refl now g slot (λ r f. (r, f)) (λ other x e apart f r. r) (kept.openings g slot below in_range (sym (root_beside g differs) ∙ found) nothing)
     ]
 
     numbers_then : Numbers sizes s kept id v at view_then refl refl kept.account words_then

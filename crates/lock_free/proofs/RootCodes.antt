@@ -1,6 +1,5 @@
 -- A handle's word says one thing.
-use Rattle.std.proofs.Common.{◌≡◌, ℕ, ◌+◌, ◌*◌, ◌/◌, ◌%◌, ◌^◌, ◌<◌, refl, sym, ap, ◌∙◌, subst, arith}
-use Rattle.std.proofs.lemmas.Grind.{common_steps}
+use Rattle.std.proofs.Common.{◌≡◌, ℕ, ◌+◌, ◌*◌, ◌/◌, ◌%◌, ◌^◌, ◌<◌, refl, sym, ap, ◌∙◌, arith}
 use Rattle.trie_words.specs.Codes.{root_code, root_of, root_by, IsRootWord}
 use Rattle.trie_words.specs.declared.roots.RootWord.{RootWord}
 use Rattle.trie_words.specs.declared.roots.RootWord.TheVariants as word

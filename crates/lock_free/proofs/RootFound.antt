@@ -1,5 +1,5 @@
 -- What a handle's root is where its word says this.
-use Rattle.std.proofs.Common.{◌≡◌, ◌≢◌, ◌+◌, ◌*◌, ◌⊎◌, ◌^◌, ℕ, ◌<◌, ◌≤◌, inl, inr, Bool, true, false, List, Contains, slice_index, Option, Some, None, refl, sym, ap, subst, ◌∙◌, arith}
+use Rattle.std.proofs.Common.{◌≡◌, ◌≢◌, ◌*◌, ◌⊎◌, ◌^◌, ℕ, ◌<◌, inl, inr, Bool, true, false, List, Contains, slice_index, Option, Some, None, refl, sym, ap, subst, ◌∙◌, arith}
 use Rattle.trie_words.specs.Codes.{root_code, IsRootWord}
 use Rattle.trie_words.specs.declared.roots.RootWord.{RootWord as HandleWord}
 use Rattle.trie_words.specs.declared.roots.RootWord.TheVariants as word
@@ -17,7 +17,7 @@ use Rattle.lock_free.specs.declared.accounts.Known.{Known}
 use Rattle.lock_free.specs.declared.sizes.Sizes.{Sizes}
 use Rattle.lock_free.specs.Accounts.{state_of}
 use Rattle.lock_free.specs.Places.{AreSizes, HaveTaken, IsTaken, root_word}
-use Rattle.lock_free.specs.Roots.{MeansRoot, SaysRoot, SaysOffered, SaysOpening, NoOffer, fate, meant, opened_by, open_with}
+use Rattle.lock_free.specs.Roots.{MeansRoot, SaysRoot, SaysOpening, NoOffer, fate, meant, opened_by, open_with}
 use Rattle.lock_free.specs.Rules.{RootsStand}
 use Rattle.lock_free.proofs.Geometry.{inside}
 use Rattle.lock_free.proofs.RootCodes.{same_word}

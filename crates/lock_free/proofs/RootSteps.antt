@@ -1,28 +1,30 @@
 -- Steps that change no node, and stores to words of handles.
-use Rattle.std.proofs.Common.{◌≡◌, ◌≢◌, ◌+◌, ◌*◌, ℕ, ◌<◌, ◌≤◌, inl, inr, List, Contains, length, set, get_or, slice_index, Option, Some, None, refl, sym, ap, subst, ◌∙◌, arith, length-set}
+use Rattle.std.proofs.Common.{◌≡◌, ◌≢◌, ◌+◌, ℕ, ◌<◌, ◌≤◌, inl, inr, List, ◌++◌, Contains, length, set, get_or, slice_index, Option, None, refl, sym, ap, subst, ◌∙◌, arith, length-set}
 use Rattle.std.proofs.lemmas.Bool.{cases_eq}
 use Rattle.std.proofs.lemmas.List.{get_or-set_same}
 use Rattle.trie_words.specs.Codes.{root_code}
 use Rattle.trie_words.specs.declared.roots.RootWord.TheVariants as word
-use Rattle.machine_model.specs.Beneath.slot_arena.specs.declared.refs.Ref.{Ref}
 use Rattle.machine_model.specs.Beneath.slot_arena.specs.declared.nodes.Slot.{Slot}
+use Rattle.machine_model.specs.declared.roots.Root.{Root}
 use Rattle.machine_model.specs.declared.steps.Step.{Step}
+use Rattle.machine_model.specs.Keys.{KeysFit}
+use Rattle.proof_waiting.specs.Beneath.proof_slots.specs.Unswept.{HasNoSweeps}
 use Rattle.machine_model.specs.States.{State, root_at, handle_limit}
 use Rattle.lock_free.specs.declared.accounts.Account.{Account}
 use Rattle.lock_free.specs.declared.accounts.Known.{Known}
 use Rattle.lock_free.specs.declared.sizes.Sizes.{Sizes}
 use Rattle.lock_free.specs.Accounts.{state_of, place_at}
-use Rattle.lock_free.specs.Nodes.{class_of}
 use Rattle.lock_free.specs.Offering.{LeavesNodes}
 use Rattle.lock_free.specs.Places.{first_slot_word, slots_in, IsTaken, HaveTaken, taken_word, generation_word, root_word, pin_word, words_of}
-use Rattle.lock_free.specs.Roots.{MeansRoot, IsWritten, IsPending, fate, undecided}
-use Rattle.lock_free.specs.Rules.{Standing, Stands, NodesStand, RootsStand}
+use Rattle.lock_free.specs.Roots.{MeansRoot, IsWritten, IsPending, AreMarked, fate, undecided}
+use Rattle.lock_free.specs.Rules.{Standing, Stands, NodesStand}
 use Rattle.lock_free.specs.Steps.{nothing}
 use Rattle.lock_free.proofs.Assembling.{AllStand}
-use Rattle.lock_free.proofs.Framing.{else_word, nodes_below, no_slot, meaning_below, written_below, first_of_offer, no_offer, marks_over}
+use Rattle.lock_free.proofs.Framing.{else_word, nodes_below, roots_below, no_slot, meaning_below, written_below, first_of_offer, no_offer, marks_over}
 use Rattle.lock_free.proofs.Geometry.{IsWordOf, root_below, root_apart}
 use Rattle.lock_free.proofs.Owners.{owners_kept}
-use Rattle.lock_free.proofs.Keeping.{stands_kept, written_kept, same_nodes}
+use Rattle.lock_free.proofs.Keeping.{stands_kept, written_kept, meaning_kept, same_nodes}
+use Rattle.lock_free.proofs.Meanings.{stood_still}
 
 -- ---- a step that changes no node
 
@@ -55,6 +57,34 @@ module _ (sizes : Sizes) (account : Account) (steps : List Step) (offers : List 
 
   pub written_left : (k : Known) → IsWritten account words k → IsWritten later words k
   written_left = written_kept account steps offers nothing now next (same_nodes now next leaves.nodes) leaves.aheads (λ i a f e none. leaves.still i a f e) words
+
+-- where no root changes either, with the marks of operations as they are then
+module _ (sizes : Sizes) (account : Account) (more : List Step) (leaves : LeavesNodes sizes account (record account { steps = account.steps ++ more })) (stands : Standing) (words : List ℕ)
+    (fits : KeysFit (account.steps ++ more)) (quiet : HasNoSweeps (account.steps ++ more)) (roots : (state_of sizes (record account { steps = account.steps ++ more })).roots ≡ (state_of sizes account).roots)
+    (marks : AreMarked (state_of sizes (record account { steps = account.steps ++ more })) words account.offers) where
+  pub all_left : AllStand sizes account stands words → AllStand sizes (record account { steps = account.steps ++ more }) stands words
+  all_left all = record {
+    bounds = leaves.bounds;
+    keys = fits;
+    quiet = quiet;
+    counted = all.counted ∙ sym leaves.births;
+    size = all.size;
+    taken = all.taken;
+    generations = all.generations ∙ sym leaves.generations;
+    nodes = nodes_left sizes account (account.steps ++ more) account.offers leaves stands words all.nodes.offers all.nodes;
+    roots = record {
+      means = λ handle low.
+          meaning_kept account (account.steps ++ more) words handle _ _
+          (subst (λ rs. MeansRoot account words handle (slice_index words (root_word handle)) (get_or rs handle None)) (sym roots) (all.roots.means handle low));
+      offers = λ k c. written_left sizes account (account.steps ++ more) account.offers leaves stands words k (all.roots.offers k c);
+      blocks = all.roots.blocks;
+      single = all.roots.single;
+      tries = all.roots.tries;
+      stood = λ k c. stood_still sizes account (record account { steps = account.steps ++ more }) more refl k.offer (all.roots.stood k c);
+      marks = marks;
+      pending = all.roots.pending;
+    };
+  }
 
 -- ---- a store to the word of a handle
 
@@ -110,12 +140,14 @@ module _ (sizes : Sizes) (account : Account) (stands : Standing) (words : List �
   pub fate_rooted : (k : Known) → Contains account.offers k → fate rooted k ≡ fate words k
   fate_rooted = first_of_offer account words i x not_its
 
+  pub meaning_rooted : (g found : ℕ) (r : Option Root) → MeansRoot account words g found r → MeansRoot account rooted g found r
+  meaning_rooted = meaning_below sizes account stands words all.taken all.nodes all.roots i before_slots x taken_rooted
+
   -- where the word named none of a pending offer
   pub pending_rooted : (k : Known) → (slice_index words i ≡ root_code (word.Offered k.slot) → ⊥) → (slice_index words i ≡ root_code (word.Opening k.slot) → ⊥) → IsPending words k → IsPending rooted k
   pending_rooted k not_offered not_opening h = record {
-    handle = h.handle;
     low = h.low;
-    stands = else_root h.handle (λ same. not_offered (ap (λ n. slice_index words (root_word n)) (sym same) ∙ h.stands)) ∙ h.stands;
+    stands = else_root k.handle (λ same. not_offered (ap (λ n. slice_index words (root_word n)) (sym same) ∙ h.stands)) ∙ h.stands;
     opens = λ opened e.
         (let y = h.opens opened e in (y.0, else_root opened (λ same. not_opening (ap (λ n. slice_index words (root_word n)) (sym same) ∙ y.1)) ∙ y.1));
   }
@@ -130,7 +162,7 @@ module _ (sizes : Sizes) (account : Account) (stands : Standing) (words : List �
           (subst (λ n. MeansRoot account rooted handle n (root_at (state_of sizes account) handle)) (sym at_it) means)
       | inr differs ↦
           subst (λ n. MeansRoot account rooted g n (root_at (state_of sizes account) g)) (sym (else_root g differs))
-          (meaning_below sizes account stands words all.taken all.nodes all.roots i before_slots x taken_rooted g (slice_index words (root_word g)) (root_at (state_of sizes account) g) (all.roots.means g low_g))
+          (meaning_rooted g (slice_index words (root_word g)) (root_at (state_of sizes account) g) (all.roots.means g low_g))
     ]
 
     pub all_rooted : AllStand sizes account stands rooted
@@ -155,3 +187,53 @@ module _ (sizes : Sizes) (account : Account) (stands : Standing) (words : List �
             (let before = sym (fate_rooted k c) ∙ stands in let none = unnamed k c before in pending_rooted k none.0 none.1 (all.roots.pending k c before));
       };
     }
+
+-- ---- a store to the word of a seat
+
+module _ (sizes : Sizes) (account : Account) (stands : Standing) (words : List ℕ) (all : AllStand sizes account stands words) (actor : ℕ) (positive : 1 ≤ actor) (most : actor ≤ sizes.seats) (x : ℕ) where
+  abbrev p : ℕ
+  p = pin_word actor
+
+  abbrev pub pinned : List ℕ
+  pinned = set words p x
+
+  inside_p : p < first_slot_word sizes
+  inside_p = omega (arith, most)
+
+  beside_p : (j : ℕ) → j ≢ p → slice_index pinned j ≡ slice_index words j
+  beside_p = else_word account words p x
+
+  pub at_p : slice_index pinned p ≡ x
+  at_p = let size = all.size in let before = inside_p in get_or-set_same words p x 0 (omega (arith, size, before))
+
+  pub root_pinned : (g : ℕ) → g < handle_limit → slice_index pinned (root_word g) ≡ slice_index words (root_word g)
+  root_pinned g low = let where_it_is = root_below g low in beside_p (root_word g) (λ same. absurd (omega (arith, same, positive, where_it_is.1)))
+
+  pub else_pinned : (a : ℕ) → a ≢ actor → slice_index pinned (pin_word a) ≡ slice_index words (pin_word a)
+  else_pinned a differs = beside_p (pin_word a) (λ same. differs (omega (arith, same)))
+
+  count_pinned : (b : ℕ) → b < 3 → slice_index pinned (taken_word b) ≡ slice_index words (taken_word b)
+  count_pinned b small = beside_p (taken_word b) (λ same. absurd (omega (arith, same, small)))
+
+  pub taken_pinned : (b n : ℕ) → b < 3 → IsTaken sizes words b n → IsTaken sizes pinned b n
+  taken_pinned b n small h = record { number = h.number; few = subst (λ m. h.number < m) (sym (count_pinned b small)) h.few; first = h.first }
+
+  pub slot_pinned : (b name : ℕ) → b < 3 → IsTaken sizes words b name → (j : ℕ) → IsWordOf b name j → slice_index pinned j ≡ slice_index words j
+  slot_pinned b name small is j its = beside_p j (no_slot sizes account stands words all.taken all.nodes all.roots p inside_p x taken_pinned b name small is j its)
+
+  pub fate_pinned : (k : Known) → Contains account.offers k → fate pinned k ≡ fate words k
+  fate_pinned = first_of_offer account words p x (no_offer sizes account stands words all.taken all.nodes all.roots p inside_p x taken_pinned)
+
+  pub all_pinned : AllStand sizes account stands pinned
+  all_pinned = record {
+    bounds = all.bounds;
+    keys = all.keys;
+    quiet = all.quiet;
+    counted = all.counted;
+    size = length-set words p x ∙ all.size;
+    taken = λ b small. subst (λ n. n ≤ slots_in sizes b) (sym (count_pinned b small)) (all.taken b small);
+    generations = beside_p generation_word (λ same. absurd (omega (arith, same))) ∙ all.generations;
+    nodes = nodes_below sizes account stands words all.taken all.nodes all.roots p inside_p x taken_pinned;
+    roots = roots_below sizes account stands words all.taken all.nodes all.roots p inside_p x taken_pinned
+        (λ handle low e. (let where_it_is = root_below handle low in absurd (omega (arith, e, positive, where_it_is.1))));
+  }

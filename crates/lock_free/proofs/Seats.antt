@@ -1,12 +1,10 @@
 -- What an access of one seat leaves of the seats.
 use Rattle.history.specs.declared.calls.Call.{Call}
-use Rattle.std.proofs.Common.{◌≡◌, ◌≢◌, ◌+◌, ◌*◌, ℕ, ◌<◌, ◌≤◌, Bool, true, Option, List, [], ◌∷◌, Contains, get_or, slice_index, is_some, length, Some, None, refl, sym, ap, subst, ◌∙◌, arith}
+use Rattle.std.proofs.Common.{◌≡◌, ◌≢◌, ℕ, ◌<◌, ◌≤◌, true, Option, List, Contains, get_or, slice_index, is_some, length, Some, None, refl, sym, ap, ◌∙◌, arith}
 use Rattle.std.proofs.lemmas.Option.{none-some, same_Some}
 use mathlib.Core.Option.{some}
 use lib.ListN.{get_elem?}
 use Rattle.atomic_table.specs.Table as Table
-use Rattle.trie_words.specs.Codes.{root_code, IsRootWord}
-use Rattle.trie_words.specs.declared.roots.RootWord.TheVariants as word
 use Rattle.machine_model.specs.Calls.{handle_of}
 use Rattle.machine_model.specs.declared.operations.Operation.{Operation}
 use Rattle.machine_model.specs.States.{State, operation_of, root_at, handle_limit}
@@ -19,7 +17,6 @@ use Rattle.lock_free.specs.declared.sizes.Sizes.{Sizes}
 use Rattle.lock_free.specs.Accounts.{state_of, HasWaited}
 use Rattle.lock_free.specs.Places.{pin_word, root_word, IsTaken}
 use Rattle.lock_free.specs.Rules.{Standing, AreDrafts, Once, pool_of, IsFree, IsSpare, IsSeat, IsKept, Reserves, IsHeld, Names, pin_word_of}
-use Rattle.lock_free.specs.Roots.{NoOffer}
 use Rattle.lock_free.proofs.Assembling.{not_its, other_actor}
 use Rattle.lock_free.specs.Trying.{KeepsTries}
 use Rattle.lock_free.proofs.Geometry.{IsWordOf}
@@ -63,9 +60,9 @@ module _ (sizes : Sizes) (s : Table.State Call View) (kept : IsKept sizes s) (id
     pub waits : (actor : ℕ) (first : Account) → actor ≢ v.actor → HasWaited actor first kept.account → HasWaited actor first account
     pub others : (a : ℕ) → a ≢ v.actor → (o : Operation) → operation_of (state_of sizes account) a ≡ Some o → Ran (state_of sizes kept.account) a o
     pub pins : (a : ℕ) → 1 ≤ a → a ≤ sizes.seats → a ≢ v.actor → slice_index words (pin_word a) ≡ slice_index s.words (pin_word a)
-    pub numbers : (other : ℕ) (w : View) → get_elem? s.views other ≡ some w → (handle : ℕ) → Reserves (state_of sizes account) w handle → IsHeld (state_of sizes account) words handle
-    -- a word that names an offer that is written
-    pub named : (handle slot : ℕ) → handle < handle_limit → IsRootWord (word.Opening slot) → slice_index s.words (root_word handle) ≡ root_code (word.Opening slot) → NoOffer kept.account slot →
+    pub numbers : (other : ℕ) (w : View) → get_elem? s.views other ≡ some w → (other ≡ id → ⊥) → (handle : ℕ) → Reserves (state_of sizes account) w handle → IsHeld (state_of sizes account) words handle
+    -- a word that names an offer that another seat writes
+    pub named : (other : ℕ) (w : View) → get_elem? s.views other ≡ some w → (other ≡ id → ⊥) → (handle slot : ℕ) → w.opens ≡ Some handle → Names s.words w handle slot →
         slice_index words (root_word handle) ≡ slice_index s.words (root_word handle)
     pub still_open : (other : ℕ) (w : View) → get_elem? s.views other ≡ some w → (handle : ℕ) → w.entered ≡ Some handle → is_some (root_at (state_of sizes kept.account) handle) ≡ true → is_some (root_at (state_of sizes account) handle) ≡ true
     pub taken : (b name : ℕ) → b < 3 → IsTaken sizes s.words b name → IsTaken sizes words b name
@@ -77,13 +74,8 @@ module _ (sizes : Sizes) (s : Table.State Call View) (kept : IsKept sizes s) (id
 
   module _ (stays : Stays) where
     -- a word names the seat's offer still
-    pub names_kept : (other : ℕ) (w later : View) → get_elem? s.views other ≡ some w → (handle slot : ℕ) → Names s.words w handle slot → IsFree later 1 slot → Names words later handle slot
-    names_kept other w later e handle slot n free = record {
-      low = n.low;
-      fits = n.fits;
-      is = stays.named handle slot n.low n.fits n.is ((kept.seats other w e).spare 1 slot n.free).1.1 ∙ n.is;
-      free = free;
-    }
+    pub names_kept : (w later : View) (handle slot : ℕ) → Names s.words w handle slot → slice_index words (root_word handle) ≡ slice_index s.words (root_word handle) → IsFree later 1 slot → Names words later handle slot
+    names_kept w later handle slot n same free = record { low = n.low; fits = n.fits; is = same ∙ n.is; free = free }
 
     -- what is free and written stays so
     pub drafts_kept : (w : View) (d : ℕ × ℕ) → AreDrafts s.words v d → ((b name : ℕ) → IsFree v b name → IsFree w b name × ((j : ℕ) → IsWordOf b name j → slice_index words j ≡ slice_index s.words j)) → AreDrafts words w d
@@ -111,8 +103,8 @@ module _ (sizes : Sizes) (s : Table.State Call View) (kept : IsKept sizes s) (id
           pinned = stays.pins w.actor h.low (omega (arith, h.top, h.most)) differs ∙ h.pinned;
           entered = λ handle f. (let x = h.entered handle f in (x.0, stays.still_open other w e handle f x.1, x.2));
           calls = λ o f. (let p = stays.others w.actor differs o f in h.calls p.was p.runs ∙ ap (λ c. Some (handle_of c)) p.call);
-          opens = stays.numbers other w e;
-          opening = λ handle slot o n. (let x = h.opening handle slot o n in names_kept other w w e handle slot x x.free);
+          opens = stays.numbers other w e apart;
+          opening = λ handle slot o n. (let x = h.opening handle slot o n in names_kept w w handle slot x (stays.named other w e apart handle slot o x) x.free);
           reserves = λ o f. (let p = stays.others w.actor differs o f in h.reserves p.was p.runs ∙ p.opens);
           spare = λ b name f. (let x = h.spare b name f in (stays.taken b name f.0 x.0, (stays.spare other w b name e apart f).0));
           once = h.once;
@@ -124,9 +116,10 @@ module _ (sizes : Sizes) (s : Table.State Call View) (kept : IsKept sizes s) (id
 
     -- and the seat itself, where the access is its operation's step, with what is free for it then and what it has written there
     module _ (operation next : Operation) (runs : operation_of (state_of sizes kept.account) v.actor ≡ Some operation) (goes_on : operation_of (state_of sizes account) v.actor ≡ Some next)
-        (same_call : next.call ≡ operation.call) (same_opens : next.opens ≡ operation.opens) (counted : length account.names ≡ (state_of sizes account).heap.births)
+        (same_call : next.call ≡ operation.call) (same_opens : next.opens ≡ operation.opens)
+        (held : (handle : ℕ) → Reserves (state_of sizes account) v handle → IsHeld (state_of sizes account) words handle) (counted : length account.names ≡ (state_of sizes account).heap.births)
         (own_pin : slice_index words (pin_word v.actor) ≡ slice_index s.words (pin_word v.actor)) (pool : Pool) (opening : Option ℕ)
-        (names : (handle slot : ℕ) → v.opens ≡ Some handle → opening ≡ Some slot → (v.opening ≡ Some slot) × (IsFree v 1 slot → Contains (pool_of pool 1) slot)) (drafts : List (ℕ × ℕ))
+        (names : (handle slot : ℕ) → v.opens ≡ Some handle → opening ≡ Some slot → (v.opening ≡ Some slot) × (Names s.words v handle slot → (slice_index words (root_word handle) ≡ slice_index s.words (root_word handle)) × Contains (pool_of pool 1) slot)) (drafts : List (ℕ × ℕ))
         (spare : (b name : ℕ) → IsFree (seat_then pool opening drafts) b name → IsTaken sizes words b name × IsSpare sizes account stands name) (once : (b : ℕ) → b < 3 → Once (pool_of pool b))
         (written : (d : ℕ × ℕ) → Contains drafts d → AreDrafts words (seat_then pool opening drafts) d) where
       pub own_kept : IsSeat sizes account stands words (seat_then pool opening drafts)
@@ -146,9 +139,9 @@ module _ (sizes : Sizes) (s : Table.State Call View) (kept : IsKept sizes s) (id
             pinned = own_pin ∙ h.pinned;
             entered = λ handle f. (let x = h.entered handle f in (x.0, stays.still_open id v at handle f x.1, x.2));
             calls = λ o f. h.calls operation runs ∙ ap (λ c. Some (handle_of c)) (sym same_call ∙ ap (λ (x : Operation). x.call) (same_Some next o (sym goes_on ∙ f)));
-            opens = stays.numbers id v at;
+            opens = held;
             opening = λ handle slot o n.
-                (let was = names handle slot o n in let x = h.opening handle slot o was.0 in names_kept id v (seat_then pool opening drafts) at handle slot x (x.free.0, was.1 x.free));
+                (let was = names handle slot o n in let x = h.opening handle slot o was.0 in let y = was.1 x in names_kept v (seat_then pool opening drafts) handle slot x y.0 (x.free.0, y.1));
             reserves = λ o f. h.reserves operation runs ∙ sym same_opens ∙ ap (λ (x : Operation). x.opens) (same_Some next o (sym goes_on ∙ f));
             spare = spare;
             once = once;
@@ -196,9 +189,10 @@ module _ (sizes : Sizes) (s : Table.State Call View) (kept : IsKept sizes s) (id
 -- ---- an access that is no step
 
 module _ (sizes : Sizes) (s : Table.State Call View) (kept : IsKept sizes s) (id : ℕ) (v : View) (at : get_elem? s.views id ≡ some v) (words : List ℕ) (stays : Stays sizes s kept id v at kept.account kept.stands words)
+    (held : (handle : ℕ) → Reserves (state_of sizes kept.account) v handle → IsHeld (state_of sizes kept.account) words handle)
     (own_pin : slice_index words (pin_word v.actor) ≡ slice_index s.words (pin_word v.actor)) (pool : Pool) (drafts : List (ℕ × ℕ))
     (spare : (b name : ℕ) → IsFree (record v { pool = pool; drafts = drafts }) b name → IsTaken sizes words b name × IsSpare sizes kept.account kept.stands name) (once : (b : ℕ) → b < 3 → Once (pool_of pool b))
-    (written : (d : ℕ × ℕ) → Contains drafts d → AreDrafts words (record v { pool = pool; drafts = drafts }) d) (still : (slot : ℕ) → IsFree v 1 slot → Contains (pool_of pool 1) slot) where
+    (written : (d : ℕ × ℕ) → Contains drafts d → AreDrafts words (record v { pool = pool; drafts = drafts }) d) (still : (handle slot : ℕ) → Names s.words v handle slot → (slice_index words (root_word handle) ≡ slice_index s.words (root_word handle)) × Contains (pool_of pool 1) slot) where
   pub own_still : IsSeat sizes kept.account kept.stands words (record v { pool = pool; drafts = drafts })
   own_still =
       let h = kept.seats id v at in
@@ -213,10 +207,10 @@ module _ (sizes : Sizes) (s : Table.State Call View) (kept : IsKept sizes s) (id
         pinned = own_pin ∙ h.pinned;
         entered = h.entered;
         calls = h.calls;
-        opens = stays.numbers id v at;
+        opens = held;
         opening = λ handle slot o n.
             (let x = h.opening handle slot o n in
-            names_kept sizes s kept id v at kept.account kept.stands words stays id v (record v { pool = pool; drafts = drafts }) at handle slot x (x.free.0, still slot x.free));
+            let y = still handle slot x in names_kept sizes s kept id v at kept.account kept.stands words stays v (record v { pool = pool; drafts = drafts }) handle slot x y.0 (x.free.0, y.1));
         reserves = h.reserves;
         spare = spare;
         once = once;

@@ -1,8 +1,8 @@
 -- An exchange of an offer's first word carries it out or takes it back.
 use Rattle.history.specs.declared.calls.Call.{Call}
-use Rattle.std.proofs.Common.{◌≡◌, ◌≢◌, ◌+◌, ◌*◌, ◌⊎◌, ◌^◌, ◌==◌, ℕ, zero, suc, ◌<◌, ◌≤◌, inl, inr, Bool, true, false, List, [], ◌∷◌, ◌++◌, Contains, All, length, set, get_or, slice_index, is_some, Option, Some, None, refl, sym, ap, subst, ◌∙◌, arith, append-nil, length-set}
+use Rattle.std.proofs.Common.{◌≡◌, ◌≢◌, ◌+◌, ◌*◌, ◌^◌, ◌==◌, ℕ, ◌<◌, ◌≤◌, inl, inr, true, false, List, [], ◌∷◌, Contains, set, slice_index, is_some, Some, None, refl, sym, ap, subst, ◌∙◌, arith, append-nil, length-set}
 use Rattle.std.proofs.lemmas.Bool.{cases_eq, true≢false}
-use Rattle.std.proofs.lemmas.Option.{same_Some, none-some}
+use Rattle.std.proofs.lemmas.Option.{none-some}
 use Rattle.std.proofs.lemmas.List.{get_or-set_same}
 use Rattle.std.proofs.lemmas.List.Elements.{All-cons, All-nil, All-append}
 use mathlib.Core.Option.{some}
@@ -11,9 +11,6 @@ use Rattle.atomic_table.specs.Table as Table
 use Rattle.trie_words.specs.Codes.{root_code, IsRootWord}
 use Rattle.trie_words.specs.declared.roots.RootWord.TheVariants as word
 use Rattle.history.specs.declared.calls.Access.TheVariants.{Writable}
-use Rattle.machine_model.specs.declared.roots.Descriptor.{Descriptor}
-use Rattle.machine_model.specs.declared.roots.RootWord.TheVariants.{Offer}
-use Rattle.machine_model.specs.Beneath.slot_arena.specs.declared.nodes.Slot.{Slot}
 use Rattle.machine_model.specs.declared.steps.Step.TheVariants as step
 use Rattle.machine_model.specs.declared.operations.Operation.{Operation}
 use Rattle.machine_model.specs.Calls.{handle_of}
@@ -25,15 +22,15 @@ use Rattle.lock_free.specs.declared.rules.View.{View}
 use Rattle.lock_free.specs.declared.sizes.Sizes.{Sizes}
 use Rattle.lock_free.specs.Accounts.{state_of, place_at, HasWaited, IsOfOther, gone_on}
 use Rattle.lock_free.specs.Nodes.{class_of}
-use Rattle.lock_free.specs.Places.{first_slot_word, generation_word, words_of, pin_word, root_word, IsTaken}
-use Rattle.lock_free.specs.Roots.{MeansRoot, NoOffer, IsWritten, IsItsTry, AreMarked, IsPending, fate, undecided, meant, opened_by, open_with, carried_out, taken_back}
-use Rattle.lock_free.specs.Rules.{Standing, Stands, NodesStand, RootsStand, IsClosing, SaysClosing, IsFree, IsSpare, IsHeld, Reserves, IsSeat, IsKept}
-use Rattle.lock_free.specs.Settling.{Settles, IsSettled, is_carried_out, is_taken_back}
+use Rattle.lock_free.specs.Places.{first_slot_word, generation_word, pin_word, root_word, IsTaken}
+use Rattle.lock_free.specs.Roots.{MeansRoot, NoOffer, IsWritten, AreMarked, IsPending, fate, undecided, meant, opened_by, open_with, carried_out}
+use Rattle.lock_free.specs.Rules.{NodesStand, IsClosing, SaysClosing, IsSpare, IsHeld, Reserves, IsSeat, IsKept}
+use Rattle.lock_free.specs.Settling.{Settles, IsSettled, IsMarkedThen, is_carried_out, is_taken_back}
 use Rattle.lock_free.proofs.Assembling.{AllStand, all_stand, closing_stays, opening_stays, Numbers, assembled}
 use Rattle.lock_free.proofs.Framing.{else_word, below_word, still_taken, have_still, stands_over, class_small}
 use Rattle.lock_free.proofs.Geometry.{IsWordOf, slots_apart, above, inside, root_below}
-use Rattle.lock_free.proofs.Meanings.{means_then, stood_still, pending_kept}
-use Rattle.lock_free.proofs.RootFound.{slot_fits, offered_is, opening_is, later_is}
+use Rattle.lock_free.proofs.Meanings.{means_then, stood_still, pending_kept, unmarked_then}
+use Rattle.lock_free.proofs.RootFound.{slot_fits, offered_is, opening_is}
 use Rattle.lock_free.proofs.RootSteps as root
 use Rattle.lock_free.proofs.Seats.{Stays, other_kept, own_kept, drafts_kept}
 use Rattle.lock_free.proofs.Tries.{is_or_not, ran_settled, reserved_settled, not_owner, marks_settled, marks_else, opener}
@@ -41,7 +38,7 @@ use Rattle.lock_free.proofs.Waiting.{waited_more, quiet_more}
 
 module _ (sizes : Sizes) (s : Table.State Call View) (kept : IsKept sizes s) (id : ℕ) (v : View) (at : get_elem? s.views id ≡ some v) (operation : Operation)
     (runs : operation_of (state_of sizes kept.account) v.actor ≡ Some operation) (n : ℕ) (k : Known) (here : Contains kept.account.offers k) (settles : Settles sizes kept.account v.actor n operation k)
-    (stands_yet : fate s.words k ≡ undecided) where
+    (on : k.handle ≡ handle_of operation.call) (stands_yet : fate s.words k ≡ undecided) where
   abbrev all : AllStand sizes kept.account kept.stands s.words
   all = all_stand sizes s kept
 
@@ -134,17 +131,12 @@ module _ (sizes : Sizes) (s : Table.State Call View) (kept : IsKept sizes s) (id
   pending : IsPending s.words k
   pending = kept.roots.pending k here stands_yet
 
-  its_handle : pending.handle ≡ handle
-  its_handle =
-      settles.only pending.handle
-      (offered_is sizes kept.account s.words kept.roots pending.handle pending.low k here k_fits pending.stands ∙ ap (λ m. open_with Writable (meant m k.offer)) stands_yet)
-
   means_here : MeansRoot account_then words_then handle (slice_index words_then (root_word handle)) (root_at next handle)
   means_here = record {
     what = word.Offered k.slot;
     fits = k_fits;
-    code = root_same handle low ∙ ap (λ g. slice_index s.words (root_word g)) (sym its_handle) ∙ pending.stands;
-    says = record { its = k; here = here; place = refl; is = settles.settled ∙ ap (λ m. open_with Writable (meant m k.offer)) (sym at_it) };
+    code = root_same handle low ∙ ap (λ g. slice_index s.words (root_word g)) (sym on) ∙ pending.stands;
+    says = record { its = k; here = here; on = on; place = refl; is = settles.settled ∙ ap (λ m. open_with Writable (meant m k.offer)) (sym at_it) };
   }
 
   means_opened : (g : ℕ) → g < handle_limit → k.offer.opens ≡ Some g → MeansRoot account_then words_then g (slice_index words_then (root_word g)) (root_at next g)
@@ -152,15 +144,12 @@ module _ (sizes : Sizes) (s : Table.State Call View) (kept : IsKept sizes s) (id
     what = word.Opening k.slot;
     fits = k_fits;
     code = root_same g below ∙ (pending.opens g opens).1;
-    says = inl (record { its = k; here = here; place = refl; opens = opens; is = settles.opened g opens ∙ ap (λ m. opened_by m k.offer) (sym at_it) });
+    says = inl (record { its = k; here = here; place = refl; opens = opens; is = settles.opened g below opens ∙ ap (λ m. opened_by m k.offer) (sym at_it) });
   }
 
   -- another handle's word names no offer, or another
-  other_offered : (g : ℕ) → g ≢ handle → (l : Known) → Contains kept.account.offers l → root_at now g ≡ open_with Writable (meant (fate s.words l) l.offer) → l.slot ≢ k.slot
-  other_offered g differs l c is same =
-      differs
-      (settles.only g
-      (is ∙ ap (λ (x : Known). open_with Writable (meant (fate s.words x) x.offer)) (same_offer l c same) ∙ ap (λ m. open_with Writable (meant m k.offer)) stands_yet))
+  other_offered : (g : ℕ) → g ≢ handle → (l : Known) → Contains kept.account.offers l → l.handle ≡ g → l.slot ≢ k.slot
+  other_offered g differs l c its same = differs (sym its ∙ ap (λ (x : Known). x.handle) (same_offer l c same) ∙ on)
 
   other_opening : (g : ℕ) → (k.offer.opens ≡ Some g → ⊥) → (l : Known) → Contains kept.account.offers l → l.offer.opens ≡ Some g → l.slot ≢ k.slot
   other_opening g unopened l c opens same = unopened (ap (λ (x : Known). x.offer.opens) (sym (same_offer l c same)) ∙ opens)
@@ -170,7 +159,7 @@ module _ (sizes : Sizes) (s : Table.State Call View) (kept : IsKept sizes s) (id
       subst (λ m. MeansRoot account_then words_then g m (root_at next g)) (sym (root_same g below))
       (subst (λ r. MeansRoot account_then words_then g (slice_index s.words (root_word g)) r) (sym (settles.roots g differs unopened))
       (means_then kept.account account_then s.words words_then g (slice_index s.words (root_word g)) (root_at now g) (λ access q is. refl)
-      (λ l c is says. (c, fate_else l (other_offered g differs l c says))) (λ l c opens. (c, fate_else l (other_opening g unopened l c opens))) (λ slot is fits nothing closed. inr nothing)
+      (λ l c its says. (c, fate_else l (other_offered g differs l c its))) (λ l c opens. (c, fate_else l (other_opening g unopened l c opens))) (λ slot is fits nothing closed. inr nothing)
       (kept.roots.means g below)))
 
   means_all : (g : ℕ) → g < handle_limit → MeansRoot account_then words_then g (slice_index words_then (root_word g)) (root_at next g)
@@ -252,7 +241,7 @@ module _ (sizes : Sizes) (s : Table.State Call View) (kept : IsKept sizes s) (id
   -- the handle that is opened is nobody's any more
   closed_by : IsSettled n k.offer now next → (other : ℕ) (w : View) → get_elem? s.views other ≡ some w → (g : ℕ) → Reserves next w g → Reserves now w g → k.offer.opens ≡ Some g → root_at next g ≡ None
   closed_by (is_carried_out is h) other w e g after before opens = absurd (not_owner n k.offer now next h w g after (opener sizes s kept k.offer next h other w e g before opens))
-  closed_by (is_taken_back is h) other w e g after before opens = settles.opened g opens ∙ ap (λ m. opened_by m k.offer) is
+  closed_by (is_taken_back is h) other w e g after before opens = settles.opened g ((kept.seats other w e).opens g before).low opens ∙ ap (λ m. opened_by m k.offer) is
 
   held : (other : ℕ) (w : View) → get_elem? s.views other ≡ some w → (g : ℕ) → Reserves next w g → IsHeld next words_then g
   held other w e g h =
@@ -289,8 +278,8 @@ module _ (sizes : Sizes) (s : Table.State Call View) (kept : IsKept sizes s) (id
     waits = waits;
     others = λ a differs o e. ran_settled n k.offer now next settles.tries a o e;
     pins = λ a positive most apart. before_slots (pin_word a) (omega (arith, most));
-    named = λ g slot below fits is nothing. root_same g below;
-    numbers = held;
+    named = λ other w e apart handle slot o x. root_same handle x.low;
+    numbers = λ other w e apart. held other w e;
     still_open = λ other w at_w g inside e. open_still g e;
     taken = taken_still;
     spare = λ other w b name e apart free. (let x = (kept.seats other w e).spare b name free in (spare_then name x.1, slot_same b name free.0 x.0 x.1));
@@ -298,8 +287,8 @@ module _ (sizes : Sizes) (s : Table.State Call View) (kept : IsKept sizes s) (id
 
   own_then : IsSeat sizes account_then kept.stands words_then view_then
   own_then =
-      own_kept sizes s kept id v at account_then kept.stands words_then stays operation settles.next runs settles.own settles.same_call settles.same_opens all_then.counted
-      (before_slots (pin_word v.actor) (let top = seat.top in let most = seat.most in omega (arith, top, most))) v.pool v.opening (λ g slot o m. (m, λ free. free.1)) v.drafts
+      own_kept sizes s kept id v at account_then kept.stands words_then stays operation settles.next runs settles.own settles.same_call settles.same_opens (held id v at) all_then.counted
+      (before_slots (pin_word v.actor) (let top = seat.top in let most = seat.most in omega (arith, top, most))) v.pool v.opening (λ g slot o m. (m, λ x. (root_same g x.low, x.free.1))) v.drafts
       (λ b name f. (let x = seat.spare b name f in (taken_still b name f.0 x.0, spare_then name x.1))) seat.once
       (λ d c. drafts_kept sizes s kept id v at account_then kept.stands words_then stays view_then d (seat.drafts d c)
       (λ b name f. (f, (let x = seat.spare b name f in slot_same b name f.0 x.0 x.1))))
@@ -308,9 +297,24 @@ module _ (sizes : Sizes) (s : Table.State Call View) (kept : IsKept sizes s) (id
   closings_then g who below says =
       closing_stays sizes s kept id v at view_then refl refl (λ h e. e) refl g who (kept.closings g who below (subst (λ m. SaysClosing m who) (root_same g below) says))
 
+  -- a number whose word names no offer isn't the one that is opened
+  not_its : (g slot : ℕ) → g < handle_limit → IsRootWord (word.Opening slot) → slice_index words_then (root_word g) ≡ root_code (word.Opening slot) → NoOffer account_then slot → k.offer.opens ≡ Some g → ⊥
+  not_its g slot below fits is nothing opens =
+      let code = sym (pending.opens g opens).1 ∙ sym (root_same g below) ∙ is in nothing k here (omega (arith, code))
+
+  reserves_then : IsSettled n k.offer now next → (other : ℕ) (w : View) → get_elem? s.views other ≡ some w → (g : ℕ) → Reserves now w g → (k.offer.opens ≡ Some g → ⊥) → Reserves next w g
+  reserves_then (is_carried_out is h) other w e g r unopened = (r.0, unmarked_then now next w.actor (h.others w.actor (λ its. unopened (owner_opens h its))) r.1)
+    where
+      owner_opens : (h : IsMarkedThen k.offer now next) → w.actor ≡ h.owner → k.offer.opens ≡ Some g
+      owner_opens h its = sym h.opens ∙ sym ((kept.seats other w e).reserves h.was (ap (operation_of now) its ∙ h.ran)) ∙ r.0
+  reserves_then (is_taken_back is same) other w e g r unopened = (r.0, unmarked_then now next w.actor (same w.actor) r.1)
+
   numbers_then : Numbers sizes s kept id v at view_then refl refl account_then words_then
   numbers_then = record {
-    openings = λ g slot below fits is nothing. opening_stays sizes s kept id v at view_then refl refl g slot (λ e f. (e, f)) (kept.openings g slot below fits (sym (root_same g below) ∙ is) nothing);
+    openings = λ g slot below fits is nothing.
+        (let unopened : k.offer.opens ≡ Some g → ⊥ = not_its g slot below fits is nothing in
+        opening_stays sizes s kept id v at view_then refl refl next g slot (λ r f. (reserves_then settles.tries id v at g r unopened, f)) (λ other w e apart f r. reserves_then settles.tries other w e g r unopened)
+        (kept.openings g slot below fits (sym (root_same g below) ∙ is) nothing));
     number = λ g h. inl (reserved_settled n k.offer now next settles.tries v g h);
     others = λ other w e apart g h. reserved_settled n k.offer now next settles.tries w g h;
     runners = λ a o e. (let p = ran_settled n k.offer now next settles.tries a o e in inr (p.was, p.runs));

@@ -1,6 +1,6 @@
 -- An offer is settled: whose tries and reserved numbers are what they were.
 use Rattle.history.specs.declared.calls.Call.{Call}
-use Rattle.std.proofs.Common.{◌≡◌, ◌≢◌, ◌==◌, ◌⊎◌, ℕ, inl, inr, Bool, true, false, List, Contains, Option, Some, None, refl, sym, ap, subst, ◌∙◌}
+use Rattle.std.proofs.Common.{◌≡◌, ◌≢◌, ◌==◌, ◌⊎◌, ℕ, inl, inr, true, false, Option, Some, None, refl, sym, ap, ◌∙◌}
 use Rattle.std.proofs.lemmas.Bool.{cases_eq, true≢false}
 use Rattle.std.proofs.lemmas.Option.{same_Some, none-some}
 use mathlib.Core.Option.{some, some-injective}
@@ -13,7 +13,7 @@ use Rattle.lock_free.specs.declared.accounts.Known.{Known}
 use Rattle.lock_free.specs.declared.rules.View.{View}
 use Rattle.lock_free.specs.declared.sizes.Sizes.{Sizes}
 use Rattle.lock_free.specs.Accounts.{state_of}
-use Rattle.lock_free.specs.Roots.{IsItsTry, carried_out, opened_by}
+use Rattle.lock_free.specs.Roots.{IsItsTry, carried_out}
 use Rattle.lock_free.specs.Rules.{Reserves, IsKept}
 use Rattle.lock_free.specs.Settling.{IsMarkedThen, IsSettled, is_carried_out, is_taken_back}
 use Rattle.lock_free.specs.Trying.{Try, try_of, try_at}

@@ -13,6 +13,7 @@ pub mod Deciding
 pub mod Restoring
 pub mod Offering
 pub mod Settling
+pub mod Beginning
 pub mod Exchanging
 pub mod Storing
 pub mod OfReads

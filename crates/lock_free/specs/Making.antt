@@ -1,6 +1,5 @@
 -- A node is made: what a seat has written in a free slot of its own, what the definition's step leaves, and what the seat knows then.
-use Rattle.history.specs.declared.calls.Call.{Call}
-use Rattle.std.specs.Prelude.{◌≡◌, ◌≢◌, ℕ, ◌+◌, ◌*◌, ◌^◌, ◌<◌, ◌⊎◌, Bool, true, false, List, [], ◌∷◌, ◌++◌, Contains, filter, not, length, Option, Some, None, slice_get, slice_index_or, if◌then◌else◌, ◌==◌}
+use Rattle.std.specs.Prelude.{◌≡◌, ◌≢◌, ℕ, ◌+◌, ◌*◌, ◌^◌, ◌<◌, ◌⊎◌, Bool, true, List, [], ◌∷◌, ◌++◌, Contains, filter, not, length, Option, Some, None, slice_index_or, if◌then◌else◌, ◌==◌}
 use Rattle.trie_words.specs.Codes.{link_code, header_code}
 use Rattle.trie_words.specs.declared.headers.Previous.{Previous}
 use Rattle.trie_words.specs.declared.headers.Previous.TheVariants as previous
@@ -36,7 +35,7 @@ use Rattle.lock_free.specs.declared.sizes.Sizes.{Sizes}
 use Rattle.lock_free.specs.Accounts.{bounds_for, state_of, place_of, IsOwn}
 use Rattle.lock_free.specs.Live.{IsLive}
 use Rattle.lock_free.specs.Trying.{SameTries}
-use Rattle.lock_free.specs.Nodes.{Has, IsAhead, AreEntries, class_of}
+use Rattle.lock_free.specs.Nodes.{Has, IsAhead, AreEntries}
 use Rattle.lock_free.specs.Rules.{pool_of}
 
 -- where a main node that is made is swapped in next: in this indirection, over that main node

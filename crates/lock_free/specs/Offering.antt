@@ -40,21 +40,21 @@ pub record DraftsOffer (account : Account) (drafts : List (ℕ × ℕ)) (slot : 
 
 -- ---- what the definition's step leaves
 
-abbrev pub known_at : ℕ → Descriptor → Known
-known_at slot offer = record { slot = slot; offer = offer }
+abbrev pub known_at : ℕ → ℕ → Descriptor → Known
+known_at slot handle offer = record { slot = slot; handle = handle; offer = offer }
 
-abbrev pub offered_at : ℕ → ℕ → Descriptor → Account → Account
-offered_at actor slot offer account =
-    record { steps = account.steps ++ step.Go actor ∷ []; names = account.names; owned = account.owned; offers = known_at slot offer ∷ account.offers }
+abbrev pub offered_at : ℕ → ℕ → ℕ → Descriptor → Account → Account
+offered_at actor slot handle offer account =
+    record { steps = account.steps ++ step.Go actor ∷ []; names = account.names; owned = account.owned; offers = known_at slot handle offer ∷ account.offers }
 
 -- the actor's operation offers this, where its root still stands
 pub record Offers (sizes : Sizes) (account : Account) (actor slot : ℕ) (operation : Operation) (offer : Descriptor) : Type 0 where
-  pub leaves : LeavesNodes sizes account (offered_at actor slot offer account)
+  pub leaves : LeavesNodes sizes account (offered_at actor slot (handle_of operation.call) offer account)
   pub stood : root_at (state_of sizes account) (handle_of operation.call) ≡ open_with Writable (Plain offer.root)
-  pub stands : root_at (state_of sizes (offered_at actor slot offer account)) (handle_of operation.call) ≡ open_with Writable (Offer offer)
-  pub roots : (handle : ℕ) → handle ≢ handle_of operation.call → root_at (state_of sizes (offered_at actor slot offer account)) handle ≡ root_at (state_of sizes account) handle
-  pub others : (a : ℕ) → a ≢ actor → operation_of (state_of sizes (offered_at actor slot offer account)) a ≡ operation_of (state_of sizes account) a
-  pub own : operation_of (state_of sizes (offered_at actor slot offer account)) actor ≡ Some (operation_after (state_of sizes account) operation)
+  pub stands : root_at (state_of sizes (offered_at actor slot (handle_of operation.call) offer account)) (handle_of operation.call) ≡ open_with Writable (Offer offer)
+  pub roots : (handle : ℕ) → handle ≢ handle_of operation.call → root_at (state_of sizes (offered_at actor slot (handle_of operation.call) offer account)) handle ≡ root_at (state_of sizes account) handle
+  pub others : (a : ℕ) → a ≢ actor → operation_of (state_of sizes (offered_at actor slot (handle_of operation.call) offer account)) a ≡ operation_of (state_of sizes account) a
+  pub own : operation_of (state_of sizes (offered_at actor slot (handle_of operation.call) offer account)) actor ≡ Some (operation_after (state_of sizes account) operation)
   -- for the handle that the operation has reserved
   pub opens : offer.opens ≡ operation.opens
   -- by a new try of this operation alone, none of which was carried out
@@ -64,7 +64,17 @@ pub record Offers (sizes : Sizes) (account : Account) (actor slot : ℕ) (operat
   pub unmarked : operation.is_marked ≡ false
   pub still_unmarked : (operation_after (state_of sizes account) operation).is_marked ≡ false
 
+-- ---- who has offered what stands
+
+-- the operation of an offer that stands runs, unmarked, and has reserved what the offer opens
+pub record HasOwner (state : State) (offer : Descriptor) : Type 0 where
+  pub actor : ℕ
+  pub operation : Operation
+  pub runs : operation_of state actor ≡ Some operation
+  pub opens : operation.opens ≡ offer.opens
+  pub unmarked : operation.is_marked ≡ false
+
 -- ---- the seat then
 
-abbrev pub offered_by : View → ℕ → List ℕ → Descriptor → Account → View
-offered_by v slot rest offer account = record v { account = offered_at v.actor slot offer account; pool = with_slots v.pool 1 rest; opening = None; drafts = [] }
+abbrev pub offered_by : View → ℕ → ℕ → List ℕ → Descriptor → Account → View
+offered_by v slot handle rest offer account = record v { account = offered_at v.actor slot handle offer account; pool = with_slots v.pool 1 rest; opening = None; drafts = [] }

@@ -1,5 +1,5 @@
 -- What the words of handles mean, with the first words of the offers in them.
-use Rattle.std.specs.Prelude.{◌≡◌, ◌≢◌, ℕ, ◌+◌, ◌*◌, ◌<◌, ◌==◌, ◌⊎◌, Bool, true, false, List, Contains, Option, Some, None, slice_index, if◌then◌else◌}
+use Rattle.std.specs.Prelude.{◌≡◌, ◌≢◌, ℕ, ◌+◌, ◌*◌, ◌<◌, ◌==◌, ◌⊎◌, List, Contains, Option, Some, None, slice_index, if◌then◌else◌}
 use Rattle.trie_words.specs.Codes.{root_code, pair_code, IsRootWord}
 use Rattle.trie_words.specs.declared.roots.RootWord.{RootWord as HandleWord}
 use Rattle.trie_words.specs.declared.roots.RootWord.TheVariants as word
@@ -65,9 +65,10 @@ pub record SaysPlain (account : Account) (access : Access) (slot : ℕ) (r : Opt
   pub is : r ≡ open_with access (Plain root)
 
 -- the offer in this slot says what its root is
-pub record SaysOffered (account : Account) (words : List ℕ) (slot : ℕ) (r : Option Root) : Type 0 where
+pub record SaysOffered (account : Account) (words : List ℕ) (handle slot : ℕ) (r : Option Root) : Type 0 where
   pub its : Known
   pub here : Contains account.offers its
+  pub on : its.handle ≡ handle
   pub place : slot ≡ its.slot
   pub is : r ≡ open_with Writable (meant (fate words its) its.offer)
 
@@ -86,7 +87,7 @@ SaysRoot account words handle (word.Writable slot) r = SaysPlain account Writabl
 SaysRoot account words handle (word.ReadOnly slot) r = SaysPlain account ReadOnly slot r
 SaysRoot account words handle (word.ClosingWritable slot seat) r = SaysPlain account Writable slot r
 SaysRoot account words handle (word.ClosingReadOnly slot seat) r = SaysPlain account ReadOnly slot r
-SaysRoot account words handle (word.Offered slot) r = SaysOffered account words slot r
+SaysRoot account words handle (word.Offered slot) r = SaysOffered account words handle slot r
 SaysRoot account words handle (word.Opening slot) r = SaysOpening account words handle slot r ⊎ (NoOffer account slot × (r ≡ None))
 
 pub record MeansRoot (account : Account) (words : List ℕ) (handle found : ℕ) (r : Option Root) : Type 0 where
@@ -99,9 +100,8 @@ pub record MeansRoot (account : Account) (words : List ℕ) (handle found : ℕ)
 
 -- An undecided offer's handle names it, and so does the one that it is to open.
 pub record IsPending (words : List ℕ) (k : Known) : Type 0 where
-  pub handle : ℕ
-  pub low : handle < handle_limit
-  pub stands : slice_index words (root_word handle) ≡ root_code (word.Offered k.slot)
+  pub low : k.handle < handle_limit
+  pub stands : slice_index words (root_word k.handle) ≡ root_code (word.Offered k.slot)
   pub opens : (opened : ℕ) → k.offer.opens ≡ Some opened → (opened < handle_limit) × (slice_index words (root_word opened) ≡ root_code (word.Opening k.slot))
 
 -- ---- whose offer was carried out

@@ -1,7 +1,7 @@
 -- The rule: the words say what the definition's machine comes to by a list of its steps, and each seat knows how this list was at its last access, since when its
 -- actor has taken no step.
 use Rattle.history.specs.declared.calls.Call.{Call}
-use Rattle.std.specs.Prelude.{◌≡◌, ℕ, ◌+◌, ◌*◌, ◌^◌, ◌<◌, ◌≤◌, ◌≢◌, ◌⊎◌, ◌==◌, Bool, true, false, is_some, if◌then◌else◌, List, [], ◌∷◌, length, Option, Some, None, slice_index, slice_index_or, Contains}
+use Rattle.std.specs.Prelude.{◌≡◌, ℕ, ◌+◌, ◌*◌, ◌<◌, ◌≤◌, ◌≢◌, ◌⊎◌, ◌==◌, Bool, true, false, is_some, if◌then◌else◌, List, [], ◌∷◌, length, Option, Some, None, slice_index, slice_index_or, Contains}
 use mathlib.Core.Option.{some}
 use lib.ListN.{get_elem?}
 use Rattle.atomic_table.specs.Table as Table
@@ -161,11 +161,11 @@ HasActor v a = (v.actor ≤ a) × (a ≤ v.last)
 -- ---- what seats have
 
 -- A seat has reserved the handle for the offer that it writes in this slot.
-pub record IsOpening (views : List View) (handle slot : ℕ) : Type 0 where
+pub record IsOpening (state : State) (views : List View) (handle slot : ℕ) : Type 0 where
   pub id : ℕ
   pub view : View
   pub at : get_elem? views id ≡ some view
-  pub opens : view.opens ≡ Some handle
+  pub reserves : Reserves state view handle
   pub free : IsFree view 1 slot
 
 -- the actor is a seat's
@@ -195,7 +195,7 @@ pub record IsKept (sizes : Sizes) (s : Table.State Call View) : Type 0 where
   pub closings : (handle seat : ℕ) → handle < handle_limit → SaysClosing (slice_index s.words (root_word handle)) seat → IsClosing s.views handle seat
   -- a word that names an offer that doesn't stand yet
   pub openings : (handle slot : ℕ) → handle < handle_limit → IsRootWord (word.Opening slot) → slice_index s.words (root_word handle) ≡ root_code (word.Opening slot) → NoOffer account slot →
-      IsOpening s.views handle slot
+      IsOpening (state_of sizes account) s.views handle slot
   pub seats : (id : ℕ) (v : View) → get_elem? s.views id ≡ some v → IsSeat sizes account stands s.words v
   pub runners : (a : ℕ) (operation : Operation) → operation_of (state_of sizes account) a ≡ Some operation → HasSeat s.views a
   -- no two seats have the same actor, the same free slot or the same reserved number

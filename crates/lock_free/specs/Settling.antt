@@ -1,11 +1,11 @@
 -- An offer is carried out or taken back: what the definition's step leaves.
-use Rattle.std.specs.Prelude.{◌≡◌, ◌≢◌, ℕ, Bool, true, false, Some}
+use Rattle.std.specs.Prelude.{◌≡◌, ◌≢◌, ◌<◌, ℕ, true, false, Some}
 use Rattle.history.specs.declared.calls.Access.TheVariants.{Writable}
 use Rattle.machine_model.specs.declared.operations.Operation.{Operation}
 use Rattle.machine_model.specs.declared.roots.Descriptor.{Descriptor}
 use Rattle.machine_model.specs.declared.roots.RootWord.TheVariants.{Offer}
 use Rattle.machine_model.specs.Calls.{handle_of}
-use Rattle.machine_model.specs.States.{State, operation_of, root_at}
+use Rattle.machine_model.specs.States.{State, operation_of, root_at, handle_limit}
 use Rattle.lock_free.specs.declared.accounts.Account.{Account}
 use Rattle.lock_free.specs.declared.accounts.Known.{Known}
 use Rattle.lock_free.specs.declared.sizes.Sizes.{Sizes}
@@ -36,10 +36,8 @@ pub data IsSettled (n : ℕ) (offer : Descriptor) (before after : State) : Type 
 pub record Settles (sizes : Sizes) (account : Account) (actor n : ℕ) (operation : Operation) (k : Known) : Type 0 where
   pub leaves : LeavesNodes sizes account (gone_on actor account)
   pub stood : root_at (state_of sizes account) (handle_of operation.call) ≡ open_with Writable (Offer k.offer)
-  -- on no other handle
-  pub only : (handle : ℕ) → root_at (state_of sizes account) handle ≡ open_with Writable (Offer k.offer) → handle ≡ handle_of operation.call
   pub settled : root_at (state_of sizes (gone_on actor account)) (handle_of operation.call) ≡ open_with Writable (meant n k.offer)
-  pub opened : (handle : ℕ) → k.offer.opens ≡ Some handle → root_at (state_of sizes (gone_on actor account)) handle ≡ opened_by n k.offer
+  pub opened : (handle : ℕ) → handle < handle_limit → k.offer.opens ≡ Some handle → root_at (state_of sizes (gone_on actor account)) handle ≡ opened_by n k.offer
   pub roots : (handle : ℕ) → handle ≢ handle_of operation.call → (k.offer.opens ≡ Some handle → ⊥) → root_at (state_of sizes (gone_on actor account)) handle ≡ root_at (state_of sizes account) handle
   pub tries : IsSettled n k.offer (state_of sizes account) (state_of sizes (gone_on actor account))
   pub next : Operation
