@@ -19,3 +19,4 @@ pub mod MadeMains
 pub mod Offers
 pub mod Makes
 pub mod Openers
+pub mod GivesUp
