@@ -61,7 +61,8 @@ module _ (sizes : Sizes) (account : Account) (bounds : AreBounds (bounds_for siz
   module _ (actor : ℕ) (operation : Operation) (runs : running sizes account actor operation) where
     -- what an action names is live, and what it is taken for
     pub link_stands : (i : Ref) → Contains (links_of (action_of (state_of sizes account) operation)) i →
-        IsLive (state_of sizes account) i × ((slot : Slot) × (generation : ℕ) × (main : Ref) × (get_or (state_of sizes account).heap.slots (slot_of i) None ≡ Some slot) × (slot.node ≡ Indirection generation main))
+        IsLive (state_of sizes account) i × ((slot : Slot) × (generation : ℕ) × (main : Ref) × (get_or (state_of sizes account).heap.slots (slot_of i) None ≡ Some slot)
+            × (slot.node ≡ Indirection generation main))
     link_stands = found.link_stands sizes account bounds actor operation runs
 
     pub main_stands : (m : Ref) → Contains (mains_of (action_of (state_of sizes account) operation)) m →
@@ -70,13 +71,16 @@ module _ (sizes : Sizes) (account : Account) (bounds : AreBounds (bounds_for siz
 
     -- deciding a main node that is pending still, which stands in the indirection, or one that was decided since
     pub decides_or_not : (i main replaced : Ref) (told : Option ℕ) → action_of (state_of sizes account) operation ≡ act.Decide i main replaced told →
-        ((d : Decides sizes account actor operation main replaced) × (d.verdict ≡ (if is_licensed (state_of sizes account).heap i told then prev.None else prev.Failed replaced)) × (main_at (state_of sizes account).heap i ≡ main))
-        ⊎ (Reads sizes account actor operation × ((p : Ref) → prev_at (state_of sizes account).heap main ≡ prev.Pending p → ⊥) × ((j a f : Ref) → IsAhead (state_of sizes account) j a f → slot_of f ≢ slot_of main))
+        ((d : Decides sizes account actor operation main replaced) × (d.verdict ≡ (if is_licensed (state_of sizes account).heap i told then prev.None else prev.Failed replaced))
+            × (main_at (state_of sizes account).heap i ≡ main))
+        ⊎ (Reads sizes account actor operation × ((p : Ref) → prev_at (state_of sizes account).heap main ≡ prev.Pending p → ⊥) × ((j a f : Ref) → IsAhead (state_of sizes account) j a f →
+            slot_of f ≢ slot_of main))
     decides_or_not = decides.decides_or_not sizes account bounds actor operation runs
 
     -- putting a main node back in the place of one that stands there still, or doesn't
     pub restores_or_not : (i main former : Ref) → action_of (state_of sizes account) operation ≡ act.Restore i main former →
-        (Restores sizes account actor operation i main former × (main_at (state_of sizes account).heap i ≡ main)) ⊎ (Reads sizes account actor operation × (main_at (state_of sizes account).heap i ≢ main))
+        (Restores sizes account actor operation i main former × (main_at (state_of sizes account).heap i ≡ main)) ⊎ (Reads sizes account actor operation
+            × (main_at (state_of sizes account).heap i ≢ main))
     restores_or_not = restores.restores_or_not sizes account bounds actor operation runs
 
     -- swapping a fresh main node in over one that stands there still, or doesn't
@@ -86,7 +90,8 @@ module _ (sizes : Sizes) (account : Account) (bounds : AreBounds (bounds_for siz
     publishes_or_not = publishes.publishes_or_not sizes account bounds actor operation runs
 
     -- making a node, wherever it is written
-    pub makes_of : HasNoSweeps account.steps → ((x : Known) → Contains account.offers x → HasStood sizes account x.offer) → (node : Node) → action_of (state_of sizes account) operation ≡ act.Make node → length account.names ≡ (state_of sizes account).heap.births → (name : ℕ) (own : Bool) →
+    pub makes_of : HasNoSweeps account.steps → ((x : Known) → Contains account.offers x → HasStood sizes account x.offer) → (node : Node) →
+        action_of (state_of sizes account) operation ≡ act.Make node → length account.names ≡ (state_of sizes account).heap.births → (name : ℕ) (own : Bool) →
         Makes sizes account (made_at actor name own node account) actor operation node 0
     makes_of quiet stood node is counted name own = making.node_makes sizes account bounds actor operation runs quiet counted stood name own node is
 
@@ -105,21 +110,25 @@ module _ (sizes : Sizes) (account : Account) (bounds : AreBounds (bounds_for siz
     looked_at_lives = found.looked_at_lives sizes account bounds actor operation runs
 
 -- while others take steps a node stays, but for its main word
-pub nodes_stay : (sizes : Sizes) (actor : ℕ) (before after : Account) → HasWaited actor before after → AreBounds (bounds_for sizes after.steps) → (k : ℕ) (slot : Slot) → get_or (state_of sizes before).heap.slots k None ≡ Some slot →
+pub nodes_stay : (sizes : Sizes) (actor : ℕ) (before after : Account) → HasWaited actor before after → AreBounds (bounds_for sizes after.steps) → (k : ℕ) (slot : Slot) →
+    get_or (state_of sizes before).heap.slots k None ≡ Some slot →
     (later : Slot) × (get_or (state_of sizes after).heap.slots k None ≡ Some later) × SameNode slot.node later.node
 nodes_stay = found.nodes_stay
 
 -- a failed main node that stands there no more doesn't come back
-pub gone_stays : (sizes : Sizes) (actor : ℕ) (before after : Account) → HasWaited actor before after → AreBounds (bounds_for sizes after.steps) → (operation : Operation) → running sizes before actor operation →
+pub gone_stays : (sizes : Sizes) (actor : ℕ) (before after : Account) → HasWaited actor before after → AreBounds (bounds_for sizes after.steps) → (operation : Operation) →
+    running sizes before actor operation →
     (i main former : Ref) → action_of (state_of sizes before) operation ≡ act.Restore i main former → main_at (state_of sizes before).heap i ≢ main → main_at (state_of sizes after).heap i ≢ main
 gone_stays = found.gone_stays
 
 -- so does its own step: nothing is freed
-pub nodes_go : (sizes : Sizes) (actor : ℕ) (account : Account) → AreBounds (bounds_for sizes (gone_on actor account).steps) → (k : ℕ) (slot : Slot) → get_or (state_of sizes account).heap.slots k None ≡ Some slot →
+pub nodes_go : (sizes : Sizes) (actor : ℕ) (account : Account) → AreBounds (bounds_for sizes (gone_on actor account).steps) → (k : ℕ) (slot : Slot) →
+    get_or (state_of sizes account).heap.slots k None ≡ Some slot →
     (later : Slot) × (get_or (state_of sizes (gone_on actor account)).heap.slots k None ≡ Some later) × SameNode slot.node later.node
 nodes_go = found.nodes_go
 
 -- a pending main node that is read stands in the indirection
-pub pending_stands : (sizes : Sizes) (account : Account) → AreBounds (bounds_for sizes account.steps) → (actor : ℕ) (operation : Operation) → running sizes account actor operation → (i main replaced : Ref) →
+pub pending_stands : (sizes : Sizes) (account : Account) → AreBounds (bounds_for sizes account.steps) → (actor : ℕ) (operation : Operation) → running sizes account actor operation →
+    (i main replaced : Ref) →
     read_of operation.line ≡ Some (record { indirection = i; line = read.Prev main }) → prev_at (state_of sizes account).heap main ≡ prev.Pending replaced → main_at (state_of sizes account).heap i ≡ main
 pending_stands = found.pending_stands

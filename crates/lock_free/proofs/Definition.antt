@@ -129,7 +129,8 @@ module _ (sizes : Sizes) (account : Account) (bounds : AreBounds (bounds_for siz
   prev_made m h = slots_are_below_births (bounds_for sizes account.steps) account.steps m bounds (found m h).0
 
 -- while others take steps the operation stays, but for its mark, and so does what it is to do
-pub waits : (sizes : Sizes) (actor : ℕ) (before after : Account) → HasWaited actor before after → AreBounds (bounds_for sizes after.steps) → (operation : Operation) → running sizes before actor operation →
+pub waits : (sizes : Sizes) (actor : ℕ) (before after : Account) → HasWaited actor before after → AreBounds (bounds_for sizes after.steps) → (operation : Operation) →
+    running sizes before actor operation →
     (mark : Bool) × running sizes after actor (record operation { is_marked = mark })
     × (action_of (state_of sizes after) (record operation { is_marked = mark }) ≡ action_of (state_of sizes before) operation)
 waits sizes actor before after w bounds operation runs =

@@ -1,10 +1,8 @@
 -- What is known of a main node that is about to be swapped in, and of those over which others stand.
-use Rattle.std.proofs.Common.{◌≡◌, ℕ, List, Option, Some, None, refl, sym, ap, subst, ◌∙◌, arith}
+use Rattle.std.proofs.Common.{◌≡◌, ℕ, List, Option, Some, refl, sym, ap, subst, ◌∙◌, arith}
 use Rattle.std.proofs.lemmas.Option.{none-some, same_Some}
 use Rattle.proof_garbage.specs.Beneath.slot_arena.specs.declared.refs.Ref.{Ref}
-use Rattle.proof_garbage.specs.Beneath.slot_arena.specs.declared.nodes.Node.{Node}
 use Rattle.proof_garbage.specs.Beneath.slot_arena.specs.declared.nodes.Node.TheVariants.{Indirection}
-use Rattle.proof_garbage.specs.Beneath.slot_arena.specs.declared.nodes.Prev.{Prev}
 use Rattle.proof_garbage.specs.Beneath.slot_arena.specs.declared.nodes.Prev.TheVariants as prev
 use Rattle.proof_garbage.specs.Beneath.slot_arena.specs.declared.nodes.Slot.{Slot}
 use Rattle.proof_garbage.specs.Beneath.slot_arena.specs.Heaps.{prev_at, node_at, main_at, main_of}
@@ -122,15 +120,19 @@ module _ (limits : Bounds) (steps : List Step) (ok : AreBounds limits) where
       ap main_of (node_standing state.heap i slot stands ∙ sym (node_word_of i slot stands)) ∙ subst (λ j. words.main end j ≡ main) same owner.stands
 
   -- so does one whose prev word is read next
-  pub reading_stands : (actor : ℕ) (operation : Operation) (i main : Ref) → operation_of state actor ≡ Some operation → read_of operation.line ≡ Some (record { indirection = i; line = read.Prev main }) →
+  pub reading_stands : (actor : ℕ) (operation : Operation) (i main : Ref) → operation_of state actor ≡ Some operation →
+      read_of operation.line ≡ Some (record { indirection = i; line = read.Prev main }) →
       (q : Ref) → prev_at state.heap main ≡ prev.Pending q → main_at state.heap i ≡ main
   reading_stands actor operation i main runs reads q pending =
-      let claims = read_claims (IsInUse state.heap) state.heap (record { indirection = i; line = read.Prev main }) state.limits.hash operation.call operation.access operation.line reads (line_finds state (safe_along limits ok steps) actor operation runs) in
+      let its_read : Read = record { indirection = i; line = read.Prev main } in
+      let found = line_finds state (safe_along limits ok steps) actor operation runs in
+      let claims = read_claims (IsInUse state.heap) state.heap its_read state.limits.hash operation.call operation.access operation.line reads found in
       stood_stands i main (on_line words end actor operation.line _ reads (staged limits steps ok actor operation runs)) (safe_of claims.0) (safe_of claims.1.0) q pending
 
   -- ---- a main node that is about to be decided
 
-  module _ (actor : ℕ) (operation : Operation) (i main previous : Ref) (told : Option ℕ) (runs : operation_of state actor ≡ Some operation) (is : action_of state operation ≡ act.Decide i main previous told) where
+  module _ (actor : ℕ) (operation : Operation) (i main previous : Ref) (told : Option ℕ) (runs : operation_of state actor ≡ Some operation)
+      (is : action_of state operation ≡ act.Decide i main previous told) where
     stood : Stood words end i main
     stood = stood_deciding limits steps ok actor operation i main previous told runs is
 
@@ -142,7 +144,8 @@ module _ (limits : Bounds) (steps : List Step) (ok : AreBounds limits) where
     -- while it is pending it is so over the one that is named
     pub deciding_over : IsInUse state.heap main → (q : Ref) → prev_at state.heap main ≡ prev.Pending q → q ≡ previous
     deciding_over used q pending =
-        names_line words end operation.line (record { indirection = i; line = read.Decide main previous told }) (deciding limits steps ok actor operation i main previous told runs is) names q (prev_word_of main used ∙ pending)
+        let its_read : Read = record { indirection = i; line = read.Decide main previous told } in
+        names_line words end operation.line its_read (deciding limits steps ok actor operation i main previous told runs is) names q (prev_word_of main used ∙ pending)
 
     -- and stands in that indirection
     pub deciding_stands : IsInUse state.heap i → IsInUse state.heap main → (q : Ref) → prev_at state.heap main ≡ prev.Pending q → main_at state.heap i ≡ main

@@ -96,7 +96,8 @@ module _ (sizes : Sizes) (account : Account) (bounds : AreBounds (bounds_for siz
       own_then = ap (λ s. operation_of s actor) whole ∙ own state actor operation runs none
 
       -- where it offers nothing
-      module _ (attempt : attempt_after operation.attempt (action_of state operation) ≡ operation.attempt) (mark : mark_after operation.is_marked (action_of state operation) ≡ operation.is_marked) where
+      module _ (attempt : attempt_after operation.attempt (action_of state operation) ≡ operation.attempt)
+          (mark : mark_after operation.is_marked (action_of state operation) ≡ operation.is_marked) where
         same_try : try_of (operation_after state operation) ≡ try_of operation
         same_try =
             ap (λ n. record { id = operation.id; call = operation.call; opens = operation.opens; attempt = n; is_marked = mark_after operation.is_marked (action_of state operation) }) attempt

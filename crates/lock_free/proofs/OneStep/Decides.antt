@@ -88,7 +88,8 @@ either : (licensed : Bool) (previous : Ref) → (decided_so licensed previous �
 either true previous = inl refl
 either false previous = inr refl
 
-module _ (sizes : Sizes) (account : Account) (bounds : AreBounds (bounds_for sizes account.steps)) (actor : ℕ) (operation : Operation) (runs : running sizes account actor operation) (i main replaced : Ref) (told : Option ℕ)
+module _ (sizes : Sizes) (account : Account) (bounds : AreBounds (bounds_for sizes account.steps)) (actor : ℕ) (operation : Operation) (runs : running sizes account actor operation)
+    (i main replaced : Ref) (told : Option ℕ)
     (is : action_of (state_of sizes account) operation ≡ act.Decide i main replaced told) where
   abbrev state : State
   state = state_of sizes account

@@ -105,10 +105,12 @@ module _ (S : Ref → Type 0) (heap : Heap) where
   mains_found action h r c = none_in r c
 
 -- the same of a run of these bounds
-gone_along : (limits : Bounds) (steps more : List Step) → AreBounds limits → HasNoSweeps more → (actor : ℕ) (operation : Operation) (i main former : Ref) → operation_of (run limits steps) actor ≡ Some operation →
+gone_along : (limits : Bounds) (steps more : List Step) → AreBounds limits → HasNoSweeps more → (actor : ℕ) (operation : Operation) (i main former : Ref) →
+    operation_of (run limits steps) actor ≡ Some operation →
     action_of (run limits steps) operation ≡ act.Restore i main former → main_at (run limits steps).heap i ≢ main → main_at (run limits (steps ++ more)).heap i ≢ main
 gone_along limits steps more ok quiet actor operation i main former runs is gone stands =
-    let claims = subst (λ action. AllHold (IsInUse (run limits steps).heap) (run limits steps).heap (action_wants action)) is (action_finds (run limits steps) (safe_along limits ok steps) actor operation runs) in
+    let claims = subst (λ action. AllHold (IsInUse (run limits steps).heap) (run limits steps).heap (action_wants action)) is (action_finds (run limits steps)
+        (safe_along limits ok steps) actor operation runs) in
     let (slot, used) = safe_of claims.0 in
     let (slot_main, used_main) = safe_of claims.1.0 in
     let (now, used_now, same) = nothing_is_freed limits steps more i slot ok quiet used in
@@ -193,7 +195,8 @@ module _ (sizes : Sizes) (account : Account) (bounds : AreBounds (bounds_for siz
     looked_at_lives r is = safe_of (subst (λ action. AllHold (IsLive state) state.heap (action_wants action)) is claims).0
 
 -- a node that stands stays, but for its main word, while the sweep takes no step
-slots_stay : (sizes : Sizes) (steps more : List Step) → AreBounds (bounds_for sizes (steps ++ more)) → HasNoSweeps more → (k : ℕ) (slot : Slot) → get_or (run (bounds_for sizes steps) steps).heap.slots k None ≡ Some slot →
+slots_stay : (sizes : Sizes) (steps more : List Step) → AreBounds (bounds_for sizes (steps ++ more)) → HasNoSweeps more → (k : ℕ) (slot : Slot) →
+    get_or (run (bounds_for sizes steps) steps).heap.slots k None ≡ Some slot →
     (later : Slot) × (get_or (run (bounds_for sizes (steps ++ more)) (steps ++ more)).heap.slots k None ≡ Some later) × SameNode slot.node later.node
 slots_stay sizes steps more ok quiet k slot at =
     let long = bounds_for sizes (steps ++ more) in
@@ -204,24 +207,30 @@ slots_stay sizes steps more ok quiet k slot at =
     (later, ap (λ j. get_or (run long (steps ++ more)).heap.slots j None) (sym place) ∙ slot_at _ r later stands_then, same)
 
 -- so while others take steps
-pub nodes_stay : (sizes : Sizes) (actor : ℕ) (before after : Account) → HasWaited actor before after → AreBounds (bounds_for sizes after.steps) → (k : ℕ) (slot : Slot) → get_or (state_of sizes before).heap.slots k None ≡ Some slot →
+pub nodes_stay : (sizes : Sizes) (actor : ℕ) (before after : Account) → HasWaited actor before after → AreBounds (bounds_for sizes after.steps) → (k : ℕ) (slot : Slot) →
+    get_or (state_of sizes before).heap.slots k None ≡ Some slot →
     (later : Slot) × (get_or (state_of sizes after).heap.slots k None ≡ Some later) × SameNode slot.node later.node
 nodes_stay sizes actor before after w bounds k slot at =
     subst (λ l. (later : Slot) × (get_or (run (bounds_for sizes l) l).heap.slots k None ≡ Some later) × SameNode slot.node later.node) (sym w.goes_on)
     (slots_stay sizes before.steps w.steps (subst (λ l. AreBounds (bounds_for sizes l)) w.goes_on bounds) (no_sweeps actor w.steps w.others) k slot at)
 
 -- and in the actor's own step
-pub nodes_go : (sizes : Sizes) (actor : ℕ) (account : Account) → AreBounds (bounds_for sizes (gone_on actor account).steps) → (k : ℕ) (slot : Slot) → get_or (state_of sizes account).heap.slots k None ≡ Some slot →
+pub nodes_go : (sizes : Sizes) (actor : ℕ) (account : Account) → AreBounds (bounds_for sizes (gone_on actor account).steps) → (k : ℕ) (slot : Slot) →
+    get_or (state_of sizes account).heap.slots k None ≡ Some slot →
     (later : Slot) × (get_or (state_of sizes (gone_on actor account)).heap.slots k None ≡ Some later) × SameNode slot.node later.node
 nodes_go sizes actor account bounds k slot at = slots_stay sizes account.steps (step.Go actor ∷ []) bounds (tt, tt) k slot at
 
 -- a pending main node that is read stands in the indirection
-pub pending_stands : (sizes : Sizes) (account : Account) → AreBounds (bounds_for sizes account.steps) → (actor : ℕ) (operation : Operation) → running sizes account actor operation → (i main replaced : Ref) →
-    read_of operation.line ≡ Some (record { indirection = i; line = read.Prev main }) → prev_at (state_of sizes account).heap main ≡ prev.Pending replaced → main_at (state_of sizes account).heap i ≡ main
-pending_stands sizes account bounds actor operation runs i main replaced is pending = reading_stands (bounds_for sizes account.steps) account.steps bounds actor operation i main runs is replaced pending
+pub pending_stands : (sizes : Sizes) (account : Account) → AreBounds (bounds_for sizes account.steps) → (actor : ℕ) (operation : Operation) → running sizes account actor operation →
+    (i main replaced : Ref) →
+    read_of operation.line ≡ Some (record { indirection =
+        i; line = read.Prev main }) → prev_at (state_of sizes account).heap main ≡ prev.Pending replaced → main_at (state_of sizes account).heap i ≡ main
+pending_stands sizes account bounds actor operation runs i main replaced is pending =
+    reading_stands (bounds_for sizes account.steps) account.steps bounds actor operation i main runs is replaced pending
 
 -- a failed main node that stands there no more doesn't come back
-pub gone_stays : (sizes : Sizes) (actor : ℕ) (before after : Account) → HasWaited actor before after → AreBounds (bounds_for sizes after.steps) → (operation : Operation) → running sizes before actor operation →
+pub gone_stays : (sizes : Sizes) (actor : ℕ) (before after : Account) → HasWaited actor before after → AreBounds (bounds_for sizes after.steps) → (operation : Operation) →
+    running sizes before actor operation →
     (i main former : Ref) → action_of (state_of sizes before) operation ≡ act.Restore i main former → main_at (state_of sizes before).heap i ≢ main → main_at (state_of sizes after).heap i ≢ main
 gone_stays sizes actor before after w bounds operation runs i main former is gone stands =
     let steps = before.steps in

@@ -60,7 +60,8 @@ apart_by heap (r ∷ rs) used few = (
   apart_by heap rs (All-tail (IsInUse heap) r rs used) (λ q. let all = few q in omega (arith, all, times-cons q r rs)),
 )
 
-pub private_apart : (sizes : Sizes) (account : Account) → AreBounds (bounds_for sizes account.steps) → (actor : ℕ) (operation : Operation) → running sizes account actor operation → Once (map slot_of operation.private)
+pub private_apart : (sizes : Sizes) (account : Account) → AreBounds (bounds_for sizes account.steps) → (actor : ℕ) (operation : Operation) → running sizes account actor operation →
+    Once (map slot_of operation.private)
 private_apart sizes account bounds actor operation runs =
     let (k, own, at_k) = place_of_actor (state_of sizes account) actor operation runs in
     apart_by (state_of sizes account).heap operation.private ((safe_along (bounds_for sizes account.steps) bounds account.steps).privates k operation at_k)

@@ -1,5 +1,6 @@
 -- One step more of an actor's operation, seen as a step of the definition.
-use Rattle.std.proofs.Common.{◌≡◌, ◌≢◌, ◌+◌, ◌-◌, ◌<◌, ◌≤◌, ◌++◌, ℕ, zero, suc, Bool, true, false, not, List, [], ◌∷◌, get_or, set, length, Some, None, Ok, is_some, refl, sym, ap, subst, ◌∙◌, arith, length-append}
+use Rattle.std.proofs.Common.{◌≡◌, ◌≢◌, ◌+◌, ◌-◌, ◌<◌, ◌≤◌, ◌++◌, ℕ, zero, suc, Bool, true, false, not, List, [], ◌∷◌, get_or, set, length, Some, None, Ok, is_some, refl, sym, ap, subst, ◌∙◌, arith}
+use Rattle.std.proofs.Common.{length-append}
 use Rattle.std.proofs.lemmas.Bool.{lt-leb}
 use Rattle.std.proofs.lemmas.List.{get_or-set_same}
 use Rattle.std.proofs.lemmas.Option.{none-some, same_Some}
@@ -56,7 +57,8 @@ going : (state : State) (actor : ℕ) (operation : Operation) (action : Action) 
 going state actor operation (act.End answer) g = absurd g
 going state actor operation action g = refl
 
-going_ok : (state : State) (actor : ℕ) (operation : Operation) (action : Action) → GoesOn action → step_by state actor operation action ≡ Ok (outcome.Went (kind_of action), settled state (gone state actor operation))
+going_ok : (state : State) (actor : ℕ) (operation : Operation) (action : Action) → GoesOn action →
+    step_by state actor operation action ≡ Ok (outcome.Went (kind_of action), settled state (gone state actor operation))
 going_ok state actor operation (act.End answer) g = absurd g
 going_ok state actor operation action g = refl
 

@@ -55,10 +55,12 @@ module _ (limits : Bounds) (steps : List Step) (ok : AreBounds limits) (s : Step
   effect : Effect words t
   effect = effect_at words t (sound_at p t (omega (arith, last_is))) (p.turn t (omega (arith, last_is)))
 
-  module _ (n m : Ref) (new : Slot) (generation : ℕ) (drawn : next_ref (run limits steps).heap ≡ Some n) (stands : standing (run limits longer).heap n ≡ Some new) (is : new.node ≡ Indirection generation m)
+  module _ (n m : Ref) (new : Slot) (generation : ℕ) (drawn : next_ref (run limits steps).heap ≡ Some n) (stands : standing (run limits longer).heap n ≡ Some new)
+      (is : new.node ≡ Indirection generation m)
       (used : IsInUse (run limits steps).heap m) where
     unmade : words.made t n ≡ false
-    unmade = ap is_some (not_yet_drawn limits (states_of limits longer) (last_of limits longer) (run_is limits longer ok) t (omega (arith, last_is)) n (ap (λ (x : State). next_ref x.heap) before_is ∙ drawn))
+    unmade = ap is_some (not_yet_drawn limits (states_of limits longer) (last_of limits longer) (run_is limits longer ok) t (omega (arith, last_is)) n (ap
+        (λ (x : State). next_ref x.heap) before_is ∙ drawn))
 
     grown_then : grown (states_of limits longer) (suc t) n ≡ Some new
     grown_then = grown_in_use (states_of limits longer) (suc t) n new (ap (λ (x : State). standing x.heap n) after_is ∙ stands)

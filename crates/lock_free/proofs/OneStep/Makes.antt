@@ -59,7 +59,8 @@ use Rattle.lock_free.specs.Making.{over_of, made_at, NamesNot, Makes}
 use Rattle.lock_free.specs.Nodes.{IsAhead}
 use Rattle.lock_free.specs.Trying.{SameTries}
 use Rattle.lock_free.proofs.OneStep.Aheads.{ahead_of, ahead_acts, goes_ahead}
-use Rattle.lock_free.proofs.OneStep.Changing.{then, after, live_used, was_live, live_less, slot_then, births_then, roots_then, generations_then, others_then, own_then, tries_stay, aheads_then, still_then}
+use Rattle.lock_free.proofs.OneStep.Changing.{then, after, live_used, was_live, live_less, slot_then, births_then, roots_then, generations_then, others_then, own_then, tries_stay, aheads_then}
+use Rattle.lock_free.proofs.OneStep.Changing.{still_then}
 use Rattle.lock_free.proofs.OneStep.Doing.{CompletesNone}
 use Rattle.lock_free.proofs.OneStep.Found.{ref_at, slot_at, used_made, in_use_made, ahead_used}
 use Rattle.lock_free.proofs.OneStep.Going.{bounds_after, next_ok}
@@ -76,7 +77,8 @@ refs_claimed K (Tomb single) h r c = h r c
 refs_claimed K (Listed singles) h r c = h r (Contains-append_left singles.items [] r c)
 
 -- the claims of an action that makes this node are the node's
-node_claims : (state : State) (S : Ref → Type 0) (heap : Heap) (action : Action) (node : Node) → made_node state action ≡ Some node → AllHold S heap (action_wants action) → AllHold S heap (node_wants node)
+node_claims : (state : State) (S : Ref → Type 0) (heap : Heap) (action : Action) (node : Node) → made_node state action ≡ Some node → AllHold S heap (action_wants action) →
+    AllHold S heap (node_wants node)
 node_claims state S heap (act.Make made) node is h = subst (λ n. AllHold S heap (node_wants n)) (same_Some made node is) h.1
 node_claims state S heap (act.MakeRoot main) node is h = subst (λ n. AllHold S heap (node_wants n)) (same_Some (Indirection state.generations main) node is) h
 node_claims state S heap action node is h = absurd (none-some node is)
@@ -86,7 +88,8 @@ makes_goes state (act.Make made) node is = (tt, tt)
 makes_goes state (act.MakeRoot main) node is = (tt, tt)
 makes_goes state action node is = absurd (none-some node is)
 
-makes_tries : (state : State) (action : Action) (node : Node) → made_node state action ≡ Some node → (attempt : ℕ) (mark : Bool) → (attempt_after attempt action ≡ attempt) × (mark_after mark action ≡ mark)
+makes_tries : (state : State) (action : Action) (node : Node) → made_node state action ≡ Some node → (attempt : ℕ) (mark : Bool) →
+    (attempt_after attempt action ≡ attempt) × (mark_after mark action ≡ mark)
 makes_tries state (act.Make made) node is attempt mark = (refl, refl)
 makes_tries state (act.MakeRoot main) node is attempt mark = (refl, refl)
 makes_tries state action node is attempt mark = absurd (none-some node is)
@@ -100,7 +103,8 @@ over_used S heap state operation (line.Clean (clean.Contracted path main done)) 
 over_used S heap state operation (line.Climb (climb.Contracted c main)) i a e h = subst S (ap (λ (x : Ref × Ref). x.1) (same_Some _ (i, a) e)) (safe_of h.1.1.1.0)
 over_used S heap state operation l i a e h = absurd (none-some (i, a) e)
 
-module _ (sizes : Sizes) (account : Account) (bounds : AreBounds (bounds_for sizes account.steps)) (actor : ℕ) (operation : Operation) (runs : running sizes account actor operation) (quiet : HasNoSweeps account.steps)
+module _ (sizes : Sizes) (account : Account) (bounds : AreBounds (bounds_for sizes account.steps)) (actor : ℕ) (operation : Operation) (runs : running sizes account actor operation)
+    (quiet : HasNoSweeps account.steps)
     (counted : length account.names ≡ (state_of sizes account).heap.births) (stood : (x : Known) → Contains account.offers x → HasStood sizes account x.offer)
     (node : Node) (made_is : made_node (state_of sizes account) (action_of (state_of sizes account) operation) ≡ Some node) where
   abbrev state : State
@@ -220,7 +224,8 @@ module _ (sizes : Sizes) (account : Account) (bounds : AreBounds (bounds_for siz
   main_by (Tomb single) is k slot at same = first_branch k slot at same
   main_by (Listed singles) is k slot at same = first_branch k slot at same
 
-  decided : (i : Ref) → slot_of i ≡ number → (k : ℕ) (slot : Slot) → get_or state.heap.slots k None ≡ Some slot → slot_of (main_at (after sizes account bounds actor operation runs g).heap i) ≡ k → slot.prev ≡ prev.None
+  decided : (i : Ref) → slot_of i ≡ number → (k : ℕ) (slot : Slot) → get_or state.heap.slots k None ≡ Some slot → slot_of (main_at (after sizes account bounds actor operation runs g).heap i) ≡ k →
+      slot.prev ≡ prev.None
   unfolding node_at stored
   decided i its k slot at same =
       let found = ap (λ j. get_or (after sizes account bounds actor operation runs g).heap.slots j None) its ∙ stands_then in
@@ -285,7 +290,8 @@ module _ (sizes : Sizes) (account : Account) (bounds : AreBounds (bounds_for siz
           next = next;
         }
 
-module _ (sizes : Sizes) (account : Account) (bounds : AreBounds (bounds_for sizes account.steps)) (actor : ℕ) (operation : Operation) (runs : running sizes account actor operation) (quiet : HasNoSweeps account.steps)
+module _ (sizes : Sizes) (account : Account) (bounds : AreBounds (bounds_for sizes account.steps)) (actor : ℕ) (operation : Operation) (runs : running sizes account actor operation)
+    (quiet : HasNoSweeps account.steps)
     (counted : length account.names ≡ (state_of sizes account).heap.births) (stood : (x : Known) → Contains account.offers x → HasStood sizes account x.offer) (name : ℕ) (own : Bool) where
   abbrev before : State
   before = state_of sizes account
@@ -306,7 +312,8 @@ module _ (sizes : Sizes) (account : Account) (bounds : AreBounds (bounds_for siz
   root_makes main is =
       let drawn = taking.made_next sizes account.steps bounds quiet (step.Go actor) in
       let taken = ap (acted next_state (handle_of operation.call)) is ∙ ap (new_root_taken next_state main) drawn in
-      makes sizes account bounds actor operation runs quiet counted stood (Indirection before.generations main) (ap (made_node before) is) 1 (ap (λ (s : State). s.roots) taken) (ap (λ (s : State). s.generations) taken)
+      makes sizes account bounds actor operation runs quiet counted stood (Indirection before.generations main) (ap (made_node before) is) 1 (ap (λ (s : State). s.roots) taken) (ap
+          (λ (s : State). s.generations) taken)
       name own
 
 module _ (sizes : Sizes) (account : Account) (bounds : AreBounds (bounds_for sizes account.steps)) (actor : ℕ) (operation : Operation) (runs : running sizes account actor operation) where
@@ -316,9 +323,11 @@ module _ (sizes : Sizes) (account : Account) (bounds : AreBounds (bounds_for siz
       let state = state_of sizes account in
       let safe = safe_along (bounds_for sizes account.steps) bounds account.steps in
       let claims = action_known state safe (λ id. Unit {0}) actor operation runs tt in
-      refs_claimed (IsLive state) node (refs_held (IsLive state) state.heap (node_wants node) (node_claims state (IsLive state) state.heap (action_of state operation) node (ap (made_node state) is) claims)) r c
+      refs_claimed (IsLive state) node (refs_held (IsLive state) state.heap (node_wants node)
+          (node_claims state (IsLive state) state.heap (action_of state operation) node (ap (made_node state) is) claims)) r c
 
   pub over_lives : (i main : Ref) → over_of operation.line ≡ Some (i, main) → IsLive (state_of sizes account) main
   over_lives i main over =
       let state = state_of sizes account in
-      over_used (IsLive state) state.heap state operation operation.line i main over (line_known state (safe_along (bounds_for sizes account.steps) bounds account.steps) (λ id. Unit {0}) actor operation runs tt)
+      over_used (IsLive state) state.heap state operation operation.line i main over (line_known state (safe_along (bounds_for sizes account.steps) bounds account.steps)
+          (λ id. Unit {0}) actor operation runs tt)

@@ -160,7 +160,8 @@ line_none state operation (line.End answer) h = refl
 line_none state operation line.Impossible h = refl
 line_none state operation l h = absurd h
 
-pub openers_make_roots : (sizes : Sizes) (account : Account) (actor : ℕ) (operation : Operation) → running sizes account actor operation → (handle : ℕ) → operation.opens ≡ Some handle → (node : Node) →
+pub openers_make_roots : (sizes : Sizes) (account : Account) (actor : ℕ) (operation : Operation) → running sizes account actor operation → (handle : ℕ) → operation.opens ≡ Some handle →
+    (node : Node) →
     action_of (state_of sizes account) operation ≡ act.Make node → ⊥
 openers_make_roots sizes account actor operation runs handle opens node is =
     let state = state_of sizes account in

@@ -60,7 +60,8 @@ main_used heap i m (was, stands) r (slot, now) = elim (cases_eq r i) [
   | inr apart ↦ (slot, sym (main_other heap i m was stands r apart) ∙ now)
 ]
 
-module _ (sizes : Sizes) (account : Account) (bounds : AreBounds (bounds_for sizes account.steps)) (actor : ℕ) (operation : Operation) (runs : running sizes account actor operation) (i main former : Ref)
+module _ (sizes : Sizes) (account : Account) (bounds : AreBounds (bounds_for sizes account.steps)) (actor : ℕ) (operation : Operation) (runs : running sizes account actor operation)
+    (i main former : Ref)
     (is : action_of (state_of sizes account) operation ≡ act.Restore i main former) where
   abbrev state : State
   state = state_of sizes account
@@ -81,7 +82,8 @@ module _ (sizes : Sizes) (account : Account) (bounds : AreBounds (bounds_for siz
   tries = tries_stay sizes account bounds actor operation runs g none (ap (attempt_after operation.attempt) is) (ap (mark_after operation.is_marked) is)
 
   claims : AllHold (IsInUse state.heap) state.heap (action_wants (act.Restore i main former))
-  claims = subst (λ action. AllHold (IsInUse state.heap) state.heap (action_wants action)) is (action_finds state (safe_along (bounds_for sizes account.steps) bounds account.steps) actor operation runs)
+  claims =
+      subst (λ action. AllHold (IsInUse state.heap) state.heap (action_wants action)) is (action_finds state (safe_along (bounds_for sizes account.steps) bounds account.steps) actor operation runs)
 
   makes_none : (j a : Ref) → over_of operation.line ≡ Some (j, a) → ⊥
   makes_none j a over = let (node, made) = over_makes state operation operation.line (j, a) over in let both = sym made ∙ is in cc
