@@ -21,6 +21,7 @@ mod OwnSlots
 mod MakeStep
 mod ReadSteps
 mod ReadAgain
+mod Laters
 mod Framing
 mod NodeWord
 mod Pools

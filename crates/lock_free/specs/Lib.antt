@@ -13,3 +13,4 @@ pub mod Restoring
 pub mod Exchanging
 pub mod Storing
 pub mod OfReads
+pub mod Passing
