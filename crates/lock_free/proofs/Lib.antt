@@ -22,6 +22,7 @@ mod MakeStep
 mod ReadSteps
 mod ReadAgain
 mod Laters
+mod Comings
 mod Framing
 mod NodeWord
 mod Pools
