@@ -23,6 +23,7 @@ mod ReadSteps
 mod ReadAgain
 mod Laters
 mod Comings
+mod Passes
 mod Framing
 mod NodeWord
 mod Pools
