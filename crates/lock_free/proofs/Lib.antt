@@ -24,6 +24,9 @@ mod ReadAgain
 mod Laters
 mod Comings
 mod Passes
+mod ReadHolds
+mod Settles
+mod OnePass
 mod Framing
 mod NodeWord
 mod Pools
