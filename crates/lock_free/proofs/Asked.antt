@@ -102,6 +102,10 @@ module _ (sizes : Sizes) (account : Account) (bounds : AreBounds (bounds_for siz
     pub over_lives : (i main : Ref) → over_of operation.line ≡ Some (i, main) → IsLive (state_of sizes account) main
     over_lives = making.over_lives sizes account bounds actor operation runs
 
+    -- what it reads isn't about to be swapped in
+    pub read_is_met : (main : Ref) → action_of (state_of sizes account) operation ≡ act.ReadPrev main → (j a f : Ref) → IsAhead (state_of sizes account) j a f → slot_of f ≢ slot_of main
+    read_is_met main is j a f ahead = ?
+
     -- no two nodes of its own have one slot
     pub private_apart : Once (map slot_of operation.private)
     private_apart = giving.private_apart sizes account bounds actor operation runs

@@ -17,3 +17,4 @@ pub mod Beginning
 pub mod Exchanging
 pub mod Storing
 pub mod OfReads
+pub mod Passing
