@@ -11,6 +11,7 @@ pub mod Giving
 pub mod Standing
 pub mod Marking
 pub mod Settles
+pub mod Settling
 pub mod Restores
 pub mod Decides
 pub mod Publishes
