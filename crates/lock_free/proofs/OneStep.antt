@@ -12,6 +12,7 @@ pub mod Standing
 pub mod Marking
 pub mod Settles
 pub mod Settling
+pub mod Offering
 pub mod Restores
 pub mod Decides
 pub mod Publishes
