@@ -14,6 +14,7 @@ pub mod Settles
 pub mod Settling
 pub mod Offering
 pub mod Sitting
+pub mod Beginning
 pub mod Restores
 pub mod Decides
 pub mod Publishes
