@@ -52,3 +52,4 @@ mod Begun
 mod Reserved
 mod Closed
 mod Stood
+mod Allowed
