@@ -60,3 +60,4 @@ mod Begun
 mod Reserved
 mod Closed
 mod Stood
+mod Allowed

@@ -11,6 +11,10 @@ pub mod Giving
 pub mod Standing
 pub mod Marking
 pub mod Settles
+pub mod Settling
+pub mod Offering
+pub mod Sitting
+pub mod Beginning
 pub mod Restores
 pub mod Decides
 pub mod Publishes

@@ -35,12 +35,12 @@ use Rattle.lock_free.proofs.OneStep.Longer.{run_next, bounds_more}
 steps_grow : (state : State) (s : Step) → (next_state state s).steps ≤ state.steps + 1
 steps_grow state s = kept_by_moves (λ after. after.steps ≤ state.steps + 1) state s (omega arith) (λ o after m. omega (arith, steps_counted state s o after m))
 
-steps_from : (steps : List Step) (state : State) → (run_from state steps).steps ≤ state.steps + length steps
+pub steps_from : (steps : List Step) (state : State) → (run_from state steps).steps ≤ state.steps + length steps
 unfolding run_from
 steps_from [] state = omega arith
 steps_from (s ∷ steps) state = omega (arith, steps_grow state s, steps_from steps (next_state state s))
 
-first_none : (limits : Bounds) → (first_state limits).steps ≡ 0
+pub first_none : (limits : Bounds) → (first_state limits).steps ≡ 0
 unfolding first_state
 first_none limits = refl
 
