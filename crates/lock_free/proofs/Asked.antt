@@ -29,6 +29,7 @@ use Rattle.lock_free.proofs.OneStep.Found as found
 use Rattle.lock_free.proofs.OneStep.Decides as decides
 use Rattle.lock_free.proofs.OneStep.Giving as giving
 use Rattle.lock_free.proofs.OneStep.Makes as making
+use Rattle.lock_free.proofs.OneStep.Met as met
 use Rattle.lock_free.proofs.OneStep.Publishes as publishes
 use Rattle.lock_free.proofs.OneStep.Restores as restores
 pub use Rattle.lock_free.proofs.OneStep.Found.{links_of, mains_of}
@@ -104,7 +105,7 @@ module _ (sizes : Sizes) (account : Account) (bounds : AreBounds (bounds_for siz
 
     -- what it reads isn't about to be swapped in
     pub read_is_met : (main : Ref) → action_of (state_of sizes account) operation ≡ act.ReadPrev main → (j a f : Ref) → IsAhead (state_of sizes account) j a f → slot_of f ≢ slot_of main
-    read_is_met main is j a f ahead = ?
+    read_is_met = met.read_is_met sizes account bounds actor operation runs
 
     -- no two nodes of its own have one slot
     pub private_apart : Once (map slot_of operation.private)

@@ -21,6 +21,7 @@ pub mod Publishes
 pub mod Taking
 pub mod MadeMains
 pub mod Offers
+pub mod Met
 pub mod Makes
 pub mod Openers
 pub mod GivesUp

@@ -44,9 +44,7 @@ use Rattle.proof_memory.proofs.Safety.Standing.{in_root, in_any_slot}
 use Rattle.proof_memory.proofs.Safety.Steps.{made_heap}
 use Rattle.proof_garbage.proofs.Claims.{Are, none_in, one_in, refs_held}
 use Rattle.proof_garbage.proofs.First.{first_decided}
-use Rattle.proof_garbage.proofs.GivenUp.{other_id, private_known, fresh_private}
 use Rattle.proof_garbage.proofs.Known.{action_known, known_used, line_known}
-use Rattle.proof_garbage.proofs.Private.{Others}
 use Rattle.proof_waiting.specs.Beneath.proof_slots.specs.Unswept.{HasNoSweeps}
 use Rattle.proof_waiting.specs.Beneath.proof_slots.proofs.Unswept.Kept.{one_ref}
 use Rattle.proof_waiting.specs.Beneath.proof_slots.proofs.Unswept.Orders.{slots_are_taken_in_order}
@@ -65,6 +63,7 @@ use Rattle.lock_free.proofs.OneStep.Doing.{CompletesNone}
 use Rattle.lock_free.proofs.OneStep.Found.{ref_at, slot_at, used_made, in_use_made, ahead_used}
 use Rattle.lock_free.proofs.OneStep.Going.{bounds_after, next_ok}
 use Rattle.lock_free.proofs.OneStep.MadeMains.{made_main_decided}
+use Rattle.lock_free.proofs.OneStep.Met.{known_met}
 use Rattle.lock_free.proofs.OneStep.Offers.{stood_used}
 use Rattle.lock_free.proofs.OneStep.Taking as taking
 
@@ -165,16 +164,7 @@ module _ (sizes : Sizes) (account : Account) (bounds : AreBounds (bounds_for siz
   not_ahead x e = none-some node (sym (ap (made_node state) (ahead_acts state operation operation.line x e)) ∙ made_is)
 
   unmet : (r : Ref) → Contains (refs_of_node node) r → (i a f : Ref) → IsAhead state i a f → slot_of f ≢ slot_of r
-  unmet r c i a f h same = elim (cases_eq h.actor actor) [
-    | inl its ↦
-        let one = same_Some _ _ (sym h.runs ∙ ap (operation_of state) its ∙ runs) in
-        not_ahead (i, a, f) (ap (λ (o : Operation). ahead_of o.line) (sym one) ∙ ap ahead_of h.on)
-    | inr apart ↦
-        let is = one_ref state.heap f r (ahead_used sizes account bounds i a f h).2 (live_named r c) same in
-        let differ = other_id limits account.steps bounds h.actor h.operation h.runs actor operation (λ e. apart (sym e)) runs in
-        private_known limits account.steps bounds h.actor h.operation h.runs f (fresh_private limits account.steps bounds h.actor h.operation h.runs i a f h.why h.on)
-        (subst (IsKnown state (Others h.operation.id)) (sym is) (named (Others h.operation.id) differ r c))
-  ]
+  unmet r c = known_met sizes account bounds actor operation runs not_ahead r (λ P own. named P own r c)
 
   -- ---- nothing names what isn't made yet
 
