@@ -1,0 +1,254 @@
+-- What the rule says at the moment of an access: of the seat's operation, of nodes, and what a load leaves.
+use Rattle.history.specs.declared.calls.Call.{Call}
+use Rattle.std.proofs.Common.{◌≡◌, ◌+◌, ◌*◌, ◌<◌, ◌≤◌, ◌⊎◌, ℕ, suc, zero, inl, inr, Bool, List, [], ◌∷◌, ◌++◌, Contains, set, get_or, slice_index, length, Some, None, refl, sym, ap, subst, ◌∙◌, arith}
+use Rattle.std.proofs.lemmas.List.{set-get_or}
+use Rattle.std.proofs.lemmas.List.Elements.{Contains-append_left}
+use Rattle.std.proofs.lemmas.Option.{same_Some}
+use mathlib.Core.Option.{some, none}
+use lib.ListN.{get_elem?}
+use Rattle.atomic_table.specs.Table.{Me, Allows, step, keeps}
+use Rattle.atomic_table.specs.Table as Table
+use Rattle.proof_memory.specs.Vocabulary.{HashKind}
+use Rattle.machine_model.specs.Beneath.slot_arena.specs.declared.refs.Ref.{Ref}
+use Rattle.machine_model.specs.Beneath.slot_arena.specs.declared.nodes.Node.{Node}
+use Rattle.machine_model.specs.Beneath.slot_arena.specs.declared.nodes.Node.TheVariants.{Indirection, Branch, Single, Tomb, List as Listed}
+use Rattle.machine_model.specs.Beneath.slot_arena.specs.declared.nodes.Slot.{Slot}
+use Rattle.machine_model.specs.Beneath.slot_arena.specs.Refs.{slot_of}
+use Rattle.machine_model.specs.Beneath.slot_arena.specs.Heaps.{stored, refs_of_node, refs_of_slot, refs_of_prev, entries_of, with_main_word}
+use Rattle.machine_model.specs.declared.operations.Operation.{Operation}
+use Rattle.machine_model.specs.Acting.{operation_after}
+use Rattle.machine_model.specs.Machine.{AreBounds}
+use Rattle.machine_model.specs.Operations.{action_of}
+use Rattle.machine_model.specs.States.{operation_of}
+use Rattle.machine_model.proofs.Along.{limits_along}
+use Rattle.proof_memory.specs.Laws.{SameNode}
+use Rattle.proof_memory.specs.Wants.{line_wants}
+use Rattle.lock_free.specs.declared.accounts.Account.{Account}
+use Rattle.lock_free.specs.declared.accounts.Owned.{Owned}
+use Rattle.lock_free.specs.declared.rules.View.{View}
+use Rattle.lock_free.specs.declared.sizes.Sizes.{Sizes}
+use Rattle.lock_free.specs.Accounts.{bounds_for, state_of, place_at, place_of, HasWaited, running, gone_on, OwnIs, later}
+use Rattle.lock_free.specs.Live.{refs_of_claims, at_hand, IsKnown, from_root, from_operation, from_slot, IsLive}
+use Rattle.lock_free.specs.Loading.{now, Runs, IsUsed, IsSound, seen, Waited, Took, HasSeen, HasGone, has_seen, has_gone, Holds}
+use Rattle.lock_free.specs.Nodes.{StandsAs, InTable}
+use Rattle.lock_free.specs.Places.{words_in, words_of}
+use Rattle.lock_free.specs.Rules.{IsFree, IsSeat, IsKept}
+use Rattle.lock_free.specs.Steps.{Reads}
+use Rattle.lock_free.proofs.Asked.{in_use_made, live_in_use, nodes_stay}
+use Rattle.lock_free.proofs.Assembling.{all_stand, closing_stays, numbers_stay, assembled}
+use Rattle.lock_free.proofs.Meanings.{no_tries}
+use Rattle.lock_free.proofs.Definition.{IsReading, reads_of, waits, bounds_before}
+use Rattle.lock_free.proofs.Geometry.{end_inside}
+use Rattle.lock_free.proofs.Keeping.{kept_then}
+use Rattle.lock_free.proofs.Waiting.{waited_none}
+
+-- An access is allowed where the rule holds after it, by the sizes that the seat knows.
+module _ (sizes : Sizes) (size id : ℕ) (me : Me Call View) (word : ℕ) (f : ℕ → ℕ) (then : ℕ → Me Call View → Type 0) where
+  abbrev pub after_it : Table.State Call View → View → Table.State Call View
+  after_it s w = record { words = set s.words word (f (slice_index s.words word)); homes = s.homes; views = set s.views id w }
+
+  abbrev pub CanBe : Type 0
+  CanBe = (s : Table.State Call View) → IsKept me.0.sizes s → get_elem? s.views id ≡ some me.0 → (w : View) × IsKept me.0.sizes (after_it s w) × then (slice_index s.words word) (w, me.1)
+
+  pub allowed : CanBe → Allows (IsKept sizes) size id me word f then
+  allowed h s kept length_is at low =
+      let its = (kept.seats id me.0 at).same in
+      let x = h s (subst (λ z. IsKept z s) (sym its) kept) at in
+      (x.0, keeps, tt, subst (λ z. IsKept z (after_it s x.0)) its x.1, x.2)
+
+-- places stay where they are
+pub place_stays : (names more : List ℕ) (k : ℕ) → k < length names → get_or (names ++ more) k 0 ≡ get_or names k 0
+place_stays [] more k h = absurd (omega (arith, h))
+place_stays (x ∷ xs) more zero h = refl
+place_stays (x ∷ xs) more (suc k) h = place_stays xs more k (omega (arith, h))
+
+pub owns_in_front : (more owned : List Owned) (k m : ℕ) (b : Bool) → OwnIs owned k m b → OwnIs (more ++ owned) k m b
+owns_in_front [] owned k m b h = h
+owns_in_front (x ∷ xs) owned k m b h = later x (xs ++ owned) k m b (owns_in_front xs owned k m b h)
+
+-- the entries of a main node stay
+same_entries : (before after : Node) → SameNode before after → entries_of after ≡ entries_of before
+same_entries (Indirection generation main) after same = ap entries_of same.1
+same_entries (Branch bitmap entries) after same = ap entries_of same.1
+same_entries (Single key value) after same = ap entries_of same.1
+same_entries (Tomb single) after same = ap entries_of same.1
+same_entries (Listed singles) after same = ap entries_of same.1
+
+entry_named : (node : Node) (r : Ref) → Contains (entries_of node) r → Contains (refs_of_node node) r
+entry_named (Indirection generation main) r c = let low = c.1 in absurd (omega (arith, low))
+entry_named (Branch bitmap entries) r c = c
+entry_named (Single key value) r c = c
+entry_named (Tomb single) r c = c
+entry_named (Listed singles) r c = c
+
+-- what is an entry of a live main node is live
+pub entry_lives : (sizes : Sizes) (account : Account) (main r : Ref) (slot : Slot) → IsLive (state_of sizes account) main → get_or (state_of sizes account).heap.slots (slot_of main) None ≡ Some slot → Contains (entries_of slot.node) r →
+    IsLive (state_of sizes account) r
+unfolding stored
+entry_lives sizes account main r slot live is c =
+    from_slot main r live (subst (λ o. Contains (refs_of_slot o) r) (sym is) (Contains-append_left (refs_of_node slot.node) (refs_of_prev slot.prev) r (entry_named slot.node r c)))
+
+-- what an operation has at hand, by the hash
+abbrev hand_by : HashKind → Operation → List Ref
+hand_by hash operation = refs_of_claims (line_wants hash operation.call operation.access operation.line) ++ operation.private
+
+same_hash : (sizes : Sizes) (a b : Account) → (state_of sizes a).limits.hash ≡ (state_of sizes b).limits.hash
+same_hash sizes a b = ap (λ l. l.hash) (limits_along (bounds_for sizes a.steps) a.steps) ∙ sym (ap (λ l. l.hash) (limits_along (bounds_for sizes b.steps) b.steps))
+
+module _ (v : View) (s : Table.State Call View) (kept : IsKept v.sizes s) (id : ℕ) (at : get_elem? s.views id ≡ some v) where
+  abbrev pub there : Account
+  there = kept.account
+
+  pub seat : IsSeat v.sizes there kept.stands s.words v
+  seat = kept.seats id v at
+
+  -- ---- the seat's account, and the present one
+
+  pub before : AreBounds (bounds_for v.sizes v.account.steps)
+  before = bounds_before v.sizes v.account there seat.waited kept.bounds
+
+  pub made : (k : ℕ) (slot : Slot) → get_or (now v).heap.slots k None ≡ Some slot → k < length v.account.names
+  made k slot is = let low = in_use_made v.sizes v.account before k slot is in let counts = seat.counts in omega (arith, low, counts)
+
+  pub same_place : (k : ℕ) (slot : Slot) → get_or (now v).heap.slots k None ≡ Some slot → place_at there k ≡ place_at v.account k
+  same_place k slot is = ap (λ xs. get_or xs k 0) seat.waited.more_names ∙ place_stays v.account.names seat.waited.names k (made k slot is)
+
+  -- what is free for the seat is the table's
+  pub free_inside : (class name : ℕ) → IsFree v class name → 2 * name + words_in class ≤ words_of v.sizes
+  free_inside class name free = end_inside v.sizes s.words kept.taken class name free.0 (seat.spare class name free).0
+
+  pub waited_so : Waited v there
+  waited_so = record {
+    waited = seat.waited;
+    sound = record { size = refl; range = kept.range.within; bounds = kept.bounds; counted = kept.counted; inside = kept.nodes.inside; free = free_inside };
+    stays = λ o runs. waits v.sizes v.actor v.account there seat.waited kept.bounds o runs;
+  }
+
+  -- ---- nodes
+
+  pub stands_there : (r : Ref) (slot : Slot) → IsLive (state_of v.sizes there) r → get_or (state_of v.sizes there).heap.slots (slot_of r) None ≡ Some slot →
+      StandsAs there (state_of v.sizes there) (InTable s.words) (place_of there r) (slot_of r) slot slot.node
+  stands_there r slot live is = kept.nodes.written (slot_of r) slot (kept.nodes.live r live, is)
+
+  -- a node that was in use, and is live there
+  pub record IsThere (r : Ref) : Type 0 where
+    pub was : Slot
+    pub was_used : IsUsed v r was
+    pub was_live : IsLive (now v) r
+    pub lives : IsLive (state_of v.sizes there) r
+    pub slot : Slot
+    pub used : get_or (state_of v.sizes there).heap.slots (slot_of r) None ≡ Some slot
+
+  pub is_there : (r : Ref) → IsLive (now v) r → IsLive (state_of v.sizes there) r → IsThere r
+  is_there r first second =
+      let was = live_in_use v.sizes v.account before r first in
+      let is = live_in_use v.sizes there kept.bounds r second in
+      record { was = was.0; was_used = was.1; was_live = first; lives = second; slot = is.0; used = is.1 }
+
+  -- its place is the one that the seat knows
+  pub its_place : (r : Ref) → IsThere r → place_of there r ≡ place_of v.account r
+  its_place r h = same_place (slot_of r) h.was h.was_used
+
+  -- so is that of each node that was live
+  pub live_place : (r : Ref) → IsLive (now v) r → place_of there r ≡ place_of v.account r
+  live_place r live = let is = live_in_use v.sizes v.account before r live in same_place (slot_of r) is.0 is.1
+
+  -- whose own a node was it is
+  pub still_own : (k m : ℕ) (b : Bool) → OwnIs v.account.owned k m b → OwnIs there.owned k m b
+  still_own k m b h = subst (λ xs. OwnIs xs k m b) (sym seat.waited.more_owned) (owns_in_front seat.waited.owned v.account.owned k m b h)
+
+  module _ (o : Operation) (runs : running v.sizes v.account v.actor o) where
+    hand_lives : (r : Ref) → Contains (at_hand (now v) o) r → IsLive (now v) r × IsLive (state_of v.sizes there) r
+    hand_lives r c =
+        let here = waited_so.stays o runs in
+        (
+          from_operation v.actor o r runs tt c,
+          from_operation v.actor (record o { is_marked = here.0 }) r here.1 tt (subst (λ h. Contains (hand_by h o) r) (same_hash v.sizes v.account there) c),
+        )
+
+  pub held_there : (r : Ref) → Holds v r → IsThere r
+  held_there r (o, runs, inl c) = let x = hand_lives o runs r c in is_there r x.0 x.1
+  held_there r (o, runs, inr (main, slot, c, is, e)) =
+      let x = hand_lives o runs main c in
+      let now_is = nodes_stay v.sizes v.actor v.account there seat.waited kept.bounds (slot_of main) slot is in
+      is_there r (entry_lives v.sizes v.account main r slot x.0 is e)
+      (entry_lives v.sizes there main r now_is.0 x.1 now_is.1 (subst (λ xs. Contains xs r) (sym (same_entries slot.node now_is.0.node now_is.2)) e))
+
+  -- its operation's step was taken where it then is on the next line
+  pub took_by : (o : Operation) → running v.sizes there v.actor o → (account : Account) → operation_of (state_of v.sizes account) v.actor ≡ Some (operation_after (state_of v.sizes there) o) → Took v there (seen v account)
+  took_by o runs account own q runs_q = own ∙ ap (λ x. Some (operation_after (state_of v.sizes there) x)) (same_Some o q (sym runs ∙ runs_q))
+
+  -- ---- a load that is no step
+
+  abbrev pub seen_view : View
+  seen_view = seen v there
+
+  seen_seat : IsSeat v.sizes there kept.stands s.words seen_view
+  seen_seat = record {
+    same = refl;
+    low = seat.low;
+    top = seat.top;
+    most = seat.most;
+    waited = waited_none v.actor there;
+    counts = kept.counted;
+    rests = seat.rests;
+    pinned = seat.pinned;
+    entered = seat.entered;
+    calls = seat.calls;
+    opens = seat.opens;
+    opening = λ handle slot o n. (let x = seat.opening handle slot o n in record { low = x.low; fits = x.fits; is = x.is; free = x.free });
+    reserves = seat.reserves;
+    spare = seat.spare;
+    once = seat.once;
+    drafts = seat.drafts;
+  }
+
+  pub seen_kept : IsKept v.sizes (record { words = s.words; homes = s.homes; views = set s.views id seen_view })
+  seen_kept =
+      assembled v.sizes s kept id v at seen_view refl refl there kept.stands s.words (all_stand v.sizes s kept)
+      (λ handle who low says. closing_stays v.sizes s kept id v at seen_view refl refl (λ h e. e) refl handle who (kept.closings handle who low says)) seen_seat
+      (λ other w e apart. kept.seats other w e) (λ b n f. inl f)
+      (numbers_stay v.sizes s kept id v at seen_view refl refl there s.words (no_tries there.offers (state_of v.sizes there)) (λ slot none. none) (λ handle low. refl) refl (λ slot handle e free. free))
+
+  -- ---- a load that is the operation's step
+
+  module _ (o : Operation) (runs : running v.sizes v.account v.actor o) (reading : IsReading (action_of (now v) o)) where
+    here : (mark : Bool) × running v.sizes there v.actor (record o { is_marked = mark }) × (action_of (state_of v.sizes there) (record o { is_marked = mark }) ≡ action_of (now v) o)
+    here = waited_so.stays o runs
+
+    abbrev o_there : Operation
+    o_there = record o { is_marked = here.0 }
+
+    reads : Reads v.sizes there v.actor o_there
+    reads = reads_of v.sizes there kept.bounds v.actor o_there here.1 (subst IsReading (sym here.2) reading)
+
+    abbrev pub gone_view : View
+    gone_view = seen v (gone_on v.actor there)
+
+    pub gone_kept : IsKept v.sizes (record { words = s.words; homes = s.homes; views = set s.views id gone_view })
+    gone_kept = kept_then v.sizes s kept id v at o_there here.1 reads
+
+    pub gone_sound : IsSound (words_of v.sizes) gone_view
+    gone_sound = record { size = refl; range = kept.range.within; bounds = reads.bounds; counted = kept.counted ∙ sym reads.births; inside = λ k slot e. kept.nodes.inside k slot (sym (reads.nodes k) ∙ e); free = free_inside }
+
+    pub gone_took : Took v there gone_view
+    gone_took = took_by o_there here.1 (gone_on v.actor there) reads.own
+
+-- ---- loads are allowed
+
+module _ (sizes : Sizes) (size id : ℕ) (me : Me Call View) (word : ℕ) where
+  unchanged : (s : Table.State Call View) (w : View) → IsKept me.0.sizes (record { words = s.words; homes = s.homes; views = set s.views id w }) →
+      IsKept me.0.sizes (record { words = set s.words word (slice_index s.words word); homes = s.homes; views = set s.views id w })
+  unchanged s w h = subst (λ ws. IsKept me.0.sizes (record { words = ws; homes = s.homes; views = set s.views id w })) (sym (set-get_or s.words word 0)) h
+
+  pub load_allowed : Allows (IsKept sizes) size id me word (λ n. n) (has_seen (step size word 0 0 none) me)
+  load_allowed =
+      allowed sizes size id me word (λ n. n) (has_seen (step size word 0 0 none) me)
+      (λ s kept at. (seen_view me.0 s kept id at, unchanged s (seen_view me.0 s kept id at) (seen_kept me.0 s kept id at),
+          ((record { table = s; kept = kept; id = id; at = at; finds = refl }, refl), (waited_so me.0 s kept id at).sound, refl)))
+
+  pub go_allowed : (o : Operation) → running me.0.sizes me.0.account me.0.actor o → IsReading (action_of (now me.0) o) → Allows (IsKept sizes) size id me word (λ n. n) (has_gone (step size word 0 0 none) me)
+  go_allowed o runs reading =
+      allowed sizes size id me word (λ n. n) (has_gone (step size word 0 0 none) me)
+      (λ s kept at. (gone_view me.0 s kept id at o runs reading, unchanged s (gone_view me.0 s kept id at o runs reading) (gone_kept me.0 s kept id at o runs reading),
+          ((record { table = s; kept = kept; id = id; at = at; finds = refl }, refl, gone_took me.0 s kept id at o runs reading), gone_sound me.0 s kept id at o runs reading, refl)))

@@ -1,0 +1,229 @@
+-- The exchange of an indirection's word that swaps a fresh main node in is the operation's step, whether it finds the replaced one or not.
+use Rattle.history.specs.declared.calls.Call.{Call}
+use Rattle.std.proofs.Common.{◌≡◌, ◌≢◌, ◌+◌, ◌*◌, ◌<◌, ◌≤◌, ◌⊎◌, ◌==◌, ℕ, inl, inr, Bool, true, false, List, [], ◌∷◌, Contains, map, set, get_or, slice_index, Some, None, refl, sym, ap, subst, ◌∙◌, arith, eq-eqb, ne_eqb}
+use Rattle.std.proofs.lemmas.Bool.{true≢false}
+use Rattle.std.proofs.lemmas.List.Elements.{Contains-get_or, Contains-append_right}
+use Rattle.std.proofs.lemmas.Option.{same_Some}
+use mathlib.Core.Option.{some, none}
+use lib.ListN.{get_elem?}
+use prog.Atomic.{either}
+use Rattle.atomic_table.specs.Table.{Me, Allows, step}
+use Rattle.atomic_table.specs.Table as Table
+use Rattle.trie_words.specs.Codes.{IsLink, link_code}
+use Rattle.trie_words.specs.declared.links.Link.{Link}
+use Rattle.machine_model.specs.Beneath.slot_arena.specs.declared.refs.Ref.{Ref}
+use Rattle.machine_model.specs.Beneath.slot_arena.specs.declared.nodes.Node.TheVariants.{Indirection}
+use Rattle.machine_model.specs.Beneath.slot_arena.specs.declared.nodes.Slot.{Slot}
+use Rattle.machine_model.specs.Beneath.slot_arena.specs.Heaps.{no_ref, main_at, generation_of}
+use Rattle.machine_model.specs.Beneath.slot_arena.specs.Refs.{slot_of}
+use Rattle.machine_model.specs.declared.actions.Action.{Action}
+use Rattle.machine_model.specs.declared.actions.Action.TheVariants as act
+use Rattle.machine_model.specs.declared.operations.Operation.{Operation}
+use Rattle.machine_model.specs.declared.steps.Step.TheVariants as machine
+use Rattle.machine_model.specs.Acting.{operation_after}
+use Rattle.machine_model.specs.States.{State}
+use Rattle.lock_free.specs.declared.accounts.Account.{Account}
+use Rattle.lock_free.specs.declared.rules.View.{View}
+use Rattle.lock_free.specs.declared.sizes.Sizes.{Sizes}
+use Rattle.lock_free.specs.Accounts.{state_of, place_of, running, gone_on}
+use Rattle.lock_free.specs.Exchanging.{IsLinkTo, IsAtPublish, given_back, given_up, HasSwapped, HasPublished, has_published}
+use Rattle.lock_free.specs.Live.{refs_of_claims, line_claims, from_operation, IsLive}
+use Rattle.lock_free.specs.Loading.{Moment, now, seen, IsAt, IsSound, Took}
+use Rattle.lock_free.specs.Nodes.{class_of}
+use Rattle.lock_free.specs.Places.{words_in, words_of}
+use Rattle.lock_free.specs.Publishing.{swapped_in, Publishes}
+use Rattle.lock_free.specs.Rules.{Stands, pool_of, IsKept}
+use Rattle.lock_free.specs.Steps.{Leads}
+use Rattle.lock_free.proofs.Asked.{links_of, mains_of, is_one_of, publishes_or_not, private_apart, live_in_use}
+use Rattle.lock_free.proofs.Assembling.{all_stand}
+use Rattle.lock_free.proofs.Exchanged.{LeavesAt, words_hit, words_miss, sound_by}
+use Rattle.lock_free.proofs.GivenBack.{WasOf, Fits, all_fit, one_of}
+use Rattle.lock_free.proofs.Keeping.{IsGivenUp, drop_kept}
+use Rattle.lock_free.proofs.LinkWords.{i_there, generation_now, hit, miss}
+use Rattle.lock_free.proofs.Looking.{main_there, o_there, acts_there, same_action}
+use Rattle.lock_free.proofs.Moments.{IsThere, free_inside, allowed, took_by, waited_so, its_place}
+use Rattle.lock_free.proofs.PublishedAll.{all_then}
+use Rattle.lock_free.proofs.PublishedKept.{publish_kept}
+
+module _ (v : View) (i replaced made : Ref) (p : IsAt v (act.Publish i replaced made)) (name : ℕ) (place : place_of v.account i ≡ name) (link : Link) (fits : IsLink link) (is : IsLinkTo v i replaced link)
+    (fresh : ℕ) (fresh_place : place_of v.account made ≡ fresh) where
+  abbrev does : Action
+  does = act.Publish i replaced made
+
+  abbrev word : ℕ
+  word = 2 * name
+
+  abbrev old : ℕ
+  old = link_code link
+
+  abbrev new : ℕ
+  new = link_code (record { generation = link.generation; main = record { slot = fresh; own = true } })
+
+  link_in : Contains (links_of does) i
+  link_in = Contains-get_or (i ∷ []) 0 i (omega arith)
+
+  replaced_in : Contains (mains_of does) replaced
+  replaced_in = Contains-get_or (replaced ∷ made ∷ []) 0 i (omega arith)
+
+  made_in : Contains (mains_of does) made
+  made_in = Contains-get_or (replaced ∷ made ∷ []) 1 i (omega arith)
+
+  module _ (s : Table.State Call View) (kept : IsKept v.sizes s) (id : ℕ) (at : get_elem? s.views id ≡ some v) where
+    abbrev found : ℕ
+    found = slice_index s.words word
+
+    abbrev m : Moment v word found
+    m = record { table = s; kept = kept; id = id; at = at; finds = refl }
+
+    abbrev there : Account
+    there = kept.account
+
+    abbrev state : State
+    state = state_of v.sizes there
+
+    its_word : word ≡ 2 * place_of v.account i
+    its_word = ap (λ n. 2 * n) (sym place)
+
+    abbrev o : Operation
+    o = record p.operation { is_marked = (o_there v word found m does p).0 }
+
+    runs : running v.sizes there v.actor o
+    runs = (o_there v word found m does p).1
+
+    abbrev link_is : (h : IsThere v s kept id at i) × (generation : ℕ) × (current : Ref) × (h.slot.node ≡ Indirection generation current)
+    link_is = i_there v word found m does p i replaced link_in replaced_in its_word link fits is
+
+    found_old : main_at state.heap i ≡ replaced → found ≡ old
+    found_old = hit v word found m does p i replaced link_in replaced_in its_word link fits is
+
+    found_other : main_at state.heap i ≢ replaced → found ≢ old
+    found_other = miss v word found m does p i replaced link_in replaced_in its_word link fits is
+
+    here : kept.stands (slot_of i) ≡ true
+    here = kept.nodes.live i link_is.0.lives
+
+    abbrev Left : View → Type 0
+    Left after = LeavesAt v s kept id at word old new after
+
+    -- ---- it is swapped in
+
+    abbrev swapped : View
+    swapped = seen v (swapped_in v.actor i made there)
+
+    module _ (r : Publishes v.sizes there (swapped_in v.actor i made there) v.actor o i replaced made) where
+      same_generation : r.generation ≡ link.generation
+      same_generation =
+          sym (ap generation_of (ap (λ (x : Slot). x.node) (same_Some link_is.0.slot r.link (sym link_is.0.used ∙ r.link_is)) ∙ r.link_node))
+          ∙ ap generation_of link_is.3 ∙ generation_now v word found m does p i replaced link_in replaced_in its_word link fits is
+
+      same_name : place_of there made ≡ fresh
+      same_name = its_place v s kept id at made (main_there v word found m does made made_in p).0 ∙ fresh_place
+
+      new_is : link_code (record { generation = r.generation; main = record { slot = place_of there made; own = true } }) ≡ new
+      new_is =
+          ap (λ g. link_code (record { generation = g; main = record { slot = place_of there made; own = true } })) same_generation
+          ∙ ap (λ n. link_code (record { generation = link.generation; main = record { slot = n; own = true } })) same_name
+
+      at_place : 2 * place_of there i ≡ word
+      at_place = ap (λ n. 2 * n) (its_place v s kept id at i link_is.0 ∙ place)
+
+      swaps : found ≡ old → Left swapped
+      swaps e = (
+        subst (λ ws. IsKept v.sizes (record { words = ws; homes = s.homes; views = set s.views id swapped })) (ap (set s.words (2 * place_of there i)) new_is ∙ words_hit v s kept id at word old new e (2 * place_of there i) at_place)
+        (publish_kept v.sizes s kept id v at o runs i replaced made r here),
+        (
+          sound_by v s kept id at (swapped_in v.actor i made there) kept.stands _ (all_then v.sizes there v.actor o i replaced made r kept.stands s.words (all_stand v.sizes s kept) here),
+          took_by v s kept id at o runs (swapped_in v.actor i made there) r.own,
+        ),
+      )
+
+    -- ---- all that was made for it is given up
+
+    abbrev dropped : View
+    dropped = given_up v there p.operation.private
+
+    private_lives : (q : Ref) → Contains o.private q → IsLive state q
+    private_lives q c = from_operation v.actor o q runs tt (Contains-append_right (refs_of_claims (line_claims state o)) o.private q c)
+
+    each : (q : Ref) → Contains o.private q → (slot : Slot) × Stands kept.stands state (slot_of q) slot
+    each q c = let used = live_in_use v.sizes there kept.bounds q (private_lives q c) in (used.0, (kept.nodes.live q (private_lives q c), used.1))
+
+    fit : Fits v s kept id at (λ q. Contains o.private q) (given_back state there o.private v.pool)
+    fit = all_fit v s kept id at o.private each (private_apart v.sizes there kept.bounds v.actor o runs)
+
+    -- what is free then is the table's
+    free_then : (b n : ℕ) → b < 3 → Contains (pool_of v.pool b) n ⊎ WasOf v s kept id at (λ q. Contains o.private q) b n → 2 * n + words_in b ≤ words_of v.sizes
+    free_then b n low (inl old) = free_inside v s kept id at b n (low, old)
+    free_then b n low (inr w) =
+        subst (λ c. 2 * n + words_in c ≤ words_of v.sizes) w.class (subst (λ x. 2 * x + words_in (class_of w.slot.node) ≤ words_of v.sizes) w.place (kept.nodes.inside (slot_of w.node) w.slot w.stood.1))
+
+    module _ (leads : Leads v.sizes there (gone_on v.actor there) v.actor (is_one_of o.private) (operation_after state o)) where
+      abbrev GivenUp : ℕ → ℕ → Type 0
+      GivenUp b n =
+          IsGivenUp v.sizes s kept id v at o (operation_after state o) runs (machine.Go v.actor) tt (λ a differs e. differs (sym e)) (is_one_of o.private) leads refl refl b n
+
+      was_given : (b n : ℕ) → Contains (pool_of v.pool b) n ⊎ WasOf v s kept id at (λ q. Contains o.private q) b n → Contains (pool_of v.pool b) n ⊎ GivenUp b n
+      was_given b n (inl old) = inl old
+      was_given b n (inr w) = inr (record { number = slot_of w.node; is = one_of o.private w.node w.one; slot = w.slot; stands = w.stood; class = w.class; place = w.place })
+
+      drops : found ≢ old → Left dropped
+      drops differs = (
+        subst (λ ws. IsKept v.sizes (record { words = ws; homes = s.homes; views = set s.views id dropped })) (words_miss v s kept id at word old new differs)
+        (drop_kept v.sizes s kept id v at o (operation_after state o) runs (machine.Go v.actor) tt (λ a d e. d (sym e)) (is_one_of o.private) leads refl refl (given_back state there o.private v.pool) fit.once fit.more
+        (λ b n low c. was_given b n (fit.which b n low c))),
+        (
+          record { size = refl; range = kept.range.within; bounds = leads.bounds; counted = kept.counted ∙ sym leads.births; inside = λ k slot e. kept.nodes.inside k slot (sym (leads.nodes k) ∙ e); free = λ b n f. free_then b n f.0 (fit.which b n f.0 f.1) },
+          λ q runs_q. leads.own ∙ ap (λ x. Some (operation_after state x)) (same_Some o q (sym runs ∙ runs_q)),
+        ),
+      )
+
+    -- ---- either
+
+    abbrev Either : Type 0
+    Either = (after : View) × Left after × ((main_at state.heap i == replaced) ≡ (found == old)) × ((found == old) ≡ true → after ≡ swapped) × ((found == old) ≡ false → after ≡ dropped)
+
+    pub leaves : Either
+    leaves = elim (publishes_or_not v.sizes there kept.bounds v.actor o runs kept.quiet i replaced made (acts_there v word found m does p)) [
+      | inl x ↦
+          (let e = found_old x.1 in
+          (swapped, swaps x.0 e, eq-eqb (main_at state.heap i) replaced x.1 ∙ sym (eq-eqb found old e), λ h. refl, λ h. absurd (true≢false (sym (eq-eqb found old e) ∙ h))))
+      | inr x ↦
+          (let d = found_other x.1 in
+          (dropped, drops x.0 d, ne_eqb (main_at state.heap i) replaced x.1 ∙ sym (ne_eqb found old d), λ h. absurd (true≢false (sym h ∙ ne_eqb found old d)), λ h. refl))
+    ]
+
+-- the three nodes that it names
+abbrev published_in : Action → Ref × (Ref × Ref)
+published_in (act.Publish i replaced made) = (i, (replaced, made))
+published_in action = (no_ref, (no_ref, no_ref))
+
+swapped_so : (before : View) (account : Account) (stood : Bool) (after : View) (i replaced made : Ref) (p : IsAt before (act.Publish i replaced made)) →
+    (main_at (now (seen before account)).heap i == replaced) ≡ stood → (stood ≡ true → after ≡ seen before (swapped_in before.actor i made account)) → (stood ≡ false → after ≡ given_up before account p.operation.private) →
+    HasSwapped before account stood after
+swapped_so before account stood after i replaced made p first hit_is miss_is j other g q =
+    let same = ap published_in (same_action before (act.Publish i replaced made) (act.Publish j other g) p q) in
+    (
+      subst (λ (x : Ref × (Ref × Ref)). (main_at (now (seen before account)).heap x.0 == x.1.0) ≡ stood) same first,
+      λ h. subst (λ (x : Ref × (Ref × Ref)). after ≡ seen before (swapped_in before.actor x.0 x.1.1 account)) same (hit_is h),
+      λ h. miss_is h ∙ ap (λ (x : Operation). given_up before account x.private) (same_Some p.operation q.operation (sym p.runs ∙ q.runs)),
+    )
+
+abbrev pub AllowsPublish : Sizes → ℕ → ℕ → Me Call View → ℕ → ℕ → ℕ → Type 0
+AllowsPublish sizes size id me word old new = Allows (IsKept sizes) size id me word (λ n. either (n == old) new n) (has_published (step size word old new none) me)
+
+pub publish_by : (sizes : Sizes) (size id : ℕ) (me : Me Call View) (word old new x y : ℕ) → x ≡ old → y ≡ new → AllowsPublish sizes size id me word old new → AllowsPublish sizes size id me word x y
+publish_by sizes size id me at before after x y e f h = subst (λ n. AllowsPublish sizes size id me at n y) (sym e) (subst (λ n. AllowsPublish sizes size id me at before n) (sym f) h)
+
+pub publish_allowed : (sizes : Sizes) (size id : ℕ) (me : Me Call View) (name : ℕ) (link : Link) (fits : IsLink link) (fresh : ℕ) → IsAtPublish me.0 name link fresh →
+    AllowsPublish sizes size id me (2 * name) (link_code link) (link_code (record { generation = link.generation; main = record { slot = fresh; own = true } }))
+publish_allowed sizes size id me name link fits fresh (i, replaced, made, p, place, is, fresh_place) =
+    let old = link_code link in
+    let new = link_code (record { generation = link.generation; main = record { slot = fresh; own = true } }) in
+    allowed sizes size id me (2 * name) (λ n. either (n == old) new n) (has_published (step size (2 * name) old new none) me)
+    (λ s kept at. (let x = leaves me.0 i replaced made p name place link fits is fresh fresh_place s kept id at in
+    (x.0, x.1.0, ((record { table = s; kept = kept; id = id; at = at; finds = refl }, x.1.1.1,
+        swapped_so me.0 kept.account (slice_index s.words (2 * name) == old) x.0 i replaced made p x.2 x.3 x.4), x.1.1.0, refl))))
+
+-- what the seat is told
+pub publish_told : (before : View) (word found : ℕ) (old : ℕ) (after : View) → (m : Moment before word found) × Took before m.kept.account after × HasSwapped before m.kept.account (found == old) after → HasPublished before (found == old) after
+publish_told before at says expected after (m, took, swapped_or_not) = (m.kept.account, waited_so before m.table m.kept m.id m.at, took, swapped_or_not)

@@ -1,0 +1,54 @@
+-- How accounts go on.
+use Rattle.std.proofs.Common.{◌≡◌, ◌≢◌, ◌++◌, ℕ, List, [], ◌∷◌, All, refl, sym, ap, ◌∙◌, append_assoc, append-nil}
+use Rattle.std.proofs.lemmas.List.Elements.{All-append, All-nil}
+use Rattle.machine_model.specs.declared.steps.Step.{Step}
+use Rattle.machine_model.specs.declared.steps.Step.TheVariants as step
+use Rattle.proof_waiting.specs.Beneath.proof_slots.specs.Unswept.{HasNoSweeps, IsNoSweep}
+use Rattle.lock_free.specs.declared.accounts.Account.{Account}
+use Rattle.lock_free.specs.declared.accounts.Owned.{Owned}
+use Rattle.lock_free.specs.declared.accounts.Known.{Known}
+use Rattle.lock_free.specs.Accounts.{IsOfOther, HasWaited}
+
+-- one step more that isn't the sweep's
+pub quiet_more : (steps : List Step) (s : Step) → HasNoSweeps steps → IsNoSweep s → HasNoSweeps (steps ++ s ∷ [])
+quiet_more [] s quiet own = (own, tt)
+quiet_more (x ∷ steps) s quiet own = (quiet.0, quiet_more steps s quiet.1 own)
+
+pub other_quiet : (actor : ℕ) (s : Step) → IsOfOther actor s → IsNoSweep s
+other_quiet actor (step.Begin other call) h = tt
+other_quiet actor (step.Go other) h = tt
+other_quiet actor (step.GiveUp other) h = tt
+other_quiet actor step.Sweep h = absurd h
+
+-- nothing has happened
+pub waited_none : (actor : ℕ) (account : Account) → HasWaited actor account account
+waited_none actor account = record {
+  steps = [];
+  goes_on = sym (append-nil account.steps);
+  others = All-nil (IsOfOther actor);
+  names = [];
+  more_names = sym (append-nil account.names);
+  owned = [];
+  more_owned = refl;
+  offers = [];
+  more_offers = refl;
+}
+
+-- the account with these steps, names, owners and offers more
+abbrev pub more : Account → List Step → List ℕ → List Owned → List Known → Account
+more account steps names owned offers =
+    record { steps = account.steps ++ steps; names = account.names ++ names; owned = owned ++ account.owned; offers = offers ++ account.offers }
+
+pub waited_more : (actor : ℕ) (first account : Account) (steps : List Step) (names : List ℕ) (owned : List Owned) (offers : List Known) → All (IsOfOther actor) steps → HasWaited actor first account →
+    HasWaited actor first (more account steps names owned offers)
+waited_more actor first account steps names owned offers others h = record {
+  steps = h.steps ++ steps;
+  goes_on = ap (λ xs. xs ++ steps) h.goes_on ∙ append_assoc first.steps h.steps steps;
+  others = All-append (IsOfOther actor) h.steps steps h.others others;
+  names = h.names ++ names;
+  more_names = ap (λ xs. xs ++ names) h.more_names ∙ append_assoc first.names h.names names;
+  owned = owned ++ h.owned;
+  more_owned = ap (λ xs. owned ++ xs) h.more_owned ∙ sym (append_assoc owned h.owned first.owned);
+  offers = offers ++ h.offers;
+  more_offers = ap (λ xs. offers ++ xs) h.more_offers ∙ sym (append_assoc offers h.offers first.offers);
+}

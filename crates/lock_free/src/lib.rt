@@ -1,0 +1,19 @@
+//! The map on words that threads change in single steps, with no lock. What the words say is what the definition's machine comes to by
+//! some list of its steps.
+#![tactic(auto)]
+
+mod accounts;
+mod exchanges;
+mod loads;
+mod reading;
+mod rules;
+mod sizes;
+mod stores;
+
+pub use accounts::{Account, Known, Owned};
+pub use exchanges::{decide, publish, restore};
+pub use loads::{Actor, Words, look_at_key, look_at_link, look_at_main, look_at_value, read_header, read_link, see_key, see_link, see_main, see_pair, see_value};
+pub use reading::{AsksRoot, Given, Passed, Way};
+pub use rules::{Closing, Drafts, Goes, Makes, Pool, Publishes, Rule, Sees, Takes, View};
+pub use sizes::Sizes;
+pub use stores::{Tried, draft, make, try_take};

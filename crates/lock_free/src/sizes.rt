@@ -1,0 +1,61 @@
+//! How many words there are, and for what.
+
+ghost use Rattle.std.specs.Prelude.{◌≡◌, ◌+◌, ◌*◌, ◌<◌, ◌≤◌, ◌^◌};
+ghost use Rattle.lock_free.specs.Places.{part_of, slots_in, words_in, words_of};
+
+use nodes::HashKind;
+
+/// How many of everything a map has.
+#[derive(Clone, Copy)]
+pub struct Sizes {
+    /// How many seats, 1 to 255.
+    pub seats: u8,
+    /// The hash of keys.
+    pub hash: HashKind,
+    /// How many slots of two words.
+    pub small: u32,
+    /// How many of eight.
+    pub medium: u32,
+    /// How many of 24.
+    pub wide: u32,
+}
+
+impl Sizes {
+    /// How many slots there are of this class.
+    pub fn slots(&self, class: u32) -> u32
+        ensures { result ≡ slots_in self.now class }
+    {
+        match class {
+            0 => self.small,
+            1 => self.medium,
+            _ => self.wide,
+        }
+    }
+
+    /// The first of the words of this class.
+    fn part(&self, class: u32) -> u64
+        ensures { result ≡ part_of self.now class }
+    {
+        let first = 352 + 16 * u64::from(self.seats);
+        match class {
+            0 => first,
+            1 => first + 2 * u64::from(self.small),
+            _ => first + 2 * u64::from(self.small) + 8 * u64::from(self.medium),
+        }
+    }
+
+    /// The slot of this number in the class.
+    pub fn slot(&self, class: u32, number: u32) -> u32
+        requires range { words_of self.now ≤ 2 ^ 28 }
+        requires class { class < 3 }
+        requires number { number < slots_in self.now class }
+        ensures { 2 * result ≡ part_of self.now class + words_in class * number }
+    {
+        let words = match class {
+            0 => 2,
+            1 => 8,
+            _ => 24,
+        };
+        ((self.part(class) + words * u64::from(number)) / 2) as u32
+    }
+}

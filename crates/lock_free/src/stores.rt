@@ -1,0 +1,74 @@
+//! Slots of a seat's own: they are taken, written, and become nodes.
+
+ghost use Rattle.std.specs.Prelude.{◌≡◌, ◌<◌};
+ghost use Rattle.lock_free.specs.Loading.{IsSound};
+ghost use Rattle.lock_free.specs.Places.{part_of, slots_in, taken_word, words_in, AreSizes};
+ghost use Rattle.lock_free.specs.Storing.{drafted, HasMade, HasTaken, IsAtMake, IsOwnWord};
+
+use crate::loads::{Actor, Words};
+use crate::rules::{Drafts, Makes, Takes};
+use crate::sizes::Sizes;
+
+/// What came of trying to take a slot.
+#[derive(Clone, Copy, Drop)]
+pub enum Tried {
+    /// This slot is free for the seat alone.
+    Slot(u32),
+    /// All slots of the class were handed out.
+    Full,
+    /// Another seat took one at this time.
+    Lost,
+}
+
+/// How many slots of a class were handed out stands in this word.
+fn taken_word_of(class: u32) -> usize
+    requires { class < 3 }
+    ensures { result ≡ taken_word class }
+{
+    32 + 16 * class as usize
+}
+
+/// Tries to take a slot of this class, which no seat had before.
+pub fn try_take(words: &Words, actor: &mut Actor, sizes: &Sizes, class: u32) -> Tried
+    requires table { actor.old.table_id ≡ words.now.table_id }
+    requires sound { IsSound words.now.table_id.words actor.old.me.0 }
+    requires sizes { actor.old.me.0.sizes ≡ sizes.now }
+    requires class { class < 3 }
+    ensures table { actor.new.table_id ≡ actor.old.table_id }
+    ensures sound { IsSound words.now.table_id.words actor.new.me.0 }
+    ensures taken { HasTaken actor.old.me.0 class result actor.new.me.0 }
+{
+    let word = taken_word_of(class);
+    let count = words.peek(word);
+    if count >= u64::from(sizes.slots(class)) {
+        return Tried::Full;
+    }
+    if words.compare_exchange::<Takes>(actor, word, count, count + 1) != count {
+        return Tried::Lost;
+    }
+    Tried::Slot(sizes.slot(class, count as u32))
+}
+
+/// Writes a word of a slot that is free for the seat.
+pub fn draft(words: &Words, actor: &mut Actor, word: usize, value: u64)
+    requires table { actor.old.table_id ≡ words.now.table_id }
+    requires sound { IsSound words.now.table_id.words actor.old.me.0 }
+    requires own { IsOwnWord actor.old.me.0 word }
+    ensures table { actor.new.table_id ≡ actor.old.table_id }
+    ensures sound { IsSound words.now.table_id.words actor.new.me.0 }
+    ensures drafted { actor.new.me ≡ (drafted actor.old.me.0 word value, actor.old.me.1) }
+{
+    words.store::<Drafts>(actor, word, value);
+}
+
+/// Makes the node that the seat has written in the last of its free slots, by writing the word of it that is left.
+pub fn make(words: &Words, actor: &mut Actor, word: usize, value: u64)
+    requires table { actor.old.table_id ≡ words.now.table_id }
+    requires sound { IsSound words.now.table_id.words actor.old.me.0 }
+    requires making { IsAtMake actor.old.me.0 word value }
+    ensures table { actor.new.table_id ≡ actor.old.table_id }
+    ensures sound { IsSound words.now.table_id.words actor.new.me.0 }
+    ensures made { HasMade actor.old.me.0 word value actor.new.me.0 }
+{
+    words.store::<Makes>(actor, word, value);
+}
