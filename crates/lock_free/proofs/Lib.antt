@@ -53,3 +53,4 @@ mod Reserved
 mod Closed
 mod Stood
 mod Allowed
+mod AbortStep

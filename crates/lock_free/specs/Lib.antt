@@ -16,3 +16,4 @@ pub mod Settling
 pub mod Beginning
 pub mod Exchanging
 pub mod Storing
+pub mod OfferWords

@@ -87,6 +87,9 @@ module _ (sizes : Sizes) (account : Account) (bounds : AreBounds (bounds_for siz
     abort_by : (b : Bool) → stands_in (word_at state h) k.offer ≡ b → gone state actor operation ≡ if_changed b (with_word put h (Plain k.offer.root)) put
     abort_by b e = ap (acted put h) is ∙ ap (λ c. if_changed c (with_word put h (Plain k.offer.root)) put) e
 
+    pub abort_own : operation_of (state_of sizes (gone_on actor account)) actor ≡ Some (operation_after state operation)
+    abort_own = own_marked sizes account bounds actor operation runs abort_goes ∙ ap (λ m. Some (mark_one m (operation_after state operation))) (ap (marks_of state h) is)
+
     -- it stands, and is taken back
     pub abort_settles : root_at state h ≡ open_with Writable (Offer k.offer) → Settles sizes account actor taken_back operation k
     abort_settles stood =
