@@ -54,3 +54,4 @@ mod Closed
 mod Stood
 mod Allowed
 mod AbortStep
+mod CompleteStep
