@@ -66,7 +66,7 @@ module _ (sizes : Sizes) (s : Table.State Call View) (kept : IsKept sizes s) (id
   -- a call that fits its handle's access, and opens and closes none
   module _ (call : Call) (root : Root) (is_open : root_at state (handle_of call) ≡ Some root) (write : (needs_writable call && is_access ReadOnly (Some root.access)) ≡ false)
       (read : (needs_read_only call && is_access Writable (Some root.access)) ≡ false) (opens_none : opens_handle call ≡ false) where
-    pub begin_allowed : (is_close call && runs_on state (handle_of call)) ≡ false → begin_denial state v.actor call ≡ None
+    pub begin_allowed : (is_close call && runs_on state (handle_of call)) ≡ false → begin_denial state v.actor call None ≡ None
     begin_allowed free =
         none_by (is_actor state v.actor) (is_running state v.actor) (is_some (access_of (root_at state (handle_of call)))) (needs_writable call && is_access ReadOnly (access_of (root_at state (handle_of call))))
         (needs_read_only call && is_access Writable (access_of (root_at state (handle_of call)))) (is_close call && runs_on state (handle_of call)) (opens_handle call && nat_le handle_limit (handles_taken state)) (is_spent state) its_actor (ap is_some idle)
@@ -74,6 +74,6 @@ module _ (sizes : Sizes) (s : Table.State Call View) (kept : IsKept sizes s) (id
         (ap (λ a. needs_read_only call && is_access Writable a) (access_is (handle_of call) root is_open) ∙ read) free (ap (λ b. b && nat_le handle_limit (handles_taken state)) opens_none) unspent
 
   -- closing a handle on which nobody runs anything
-  pub close_allowed : (h : ℕ) (root : Root) → root_at state h ≡ Some root → ((a : ℕ) (o : Operation) → operation_of state a ≡ Some o → handle_of o.call ≢ h) → begin_denial state v.actor (Close h) ≡ None
+  pub close_allowed : (h : ℕ) (root : Root) → root_at state h ≡ Some root → ((a : ℕ) (o : Operation) → operation_of state a ≡ Some o → handle_of o.call ≢ h) → begin_denial state v.actor (Close h) None ≡ None
   close_allowed h root is_open nobody =
       begin_allowed (Close h) root is_open refl refl refl (none_on h state.actors (λ k o e. nobody (suc k) o e))

@@ -106,7 +106,7 @@ module _ (sizes : Sizes) (s : Table.State Call View) (kept : IsKept sizes s) (id
     next = state_of sizes account_then
 
     abbrev both : List Step
-    both = step.Begin v.actor (Close handle) ∷ step.Go v.actor ∷ []
+    both = step.Begin v.actor (Close handle) None ∷ step.Go v.actor ∷ []
 
     abbrev pub words_then : List ℕ
     words_then = set s.words (root_word handle) (root_code word.Closed)
@@ -153,14 +153,14 @@ module _ (sizes : Sizes) (s : Table.State Call View) (kept : IsKept sizes s) (id
 
     quiet : HasNoSweeps (kept.account.steps ++ both)
     quiet =
-        subst HasNoSweeps (append_assoc kept.account.steps (step.Begin v.actor (Close handle) ∷ []) (step.Go v.actor ∷ []))
-        (quiet_more (kept.account.steps ++ step.Begin v.actor (Close handle) ∷ []) (step.Go v.actor) (quiet_more kept.account.steps (step.Begin v.actor (Close handle)) kept.quiet tt) tt)
+        subst HasNoSweeps (append_assoc kept.account.steps (step.Begin v.actor (Close handle) None ∷ []) (step.Go v.actor ∷ []))
+        (quiet_more (kept.account.steps ++ step.Begin v.actor (Close handle) None ∷ []) (step.Go v.actor) (quiet_more kept.account.steps (step.Begin v.actor (Close handle) None) kept.quiet tt) tt)
 
     all_then : AllStand sizes account_then kept.stands words_then
     all_then = record {
       bounds = closes.leaves.bounds;
       keys = All-append FitsKey kept.account.steps both kept.keys
-          (All-cons FitsKey (step.Begin v.actor (Close handle)) (step.Go v.actor ∷ []) (omega arith) (All-cons FitsKey (step.Go v.actor) [] tt (All-nil FitsKey)));
+          (All-cons FitsKey (step.Begin v.actor (Close handle) None) (step.Go v.actor ∷ []) (omega arith) (All-cons FitsKey (step.Go v.actor) [] tt (All-nil FitsKey)));
       quiet = quiet;
       counted = kept.counted ∙ sym closes.leaves.births;
       size = root.size_rooted sizes kept.account kept.stands s.words all handle low (root_code word.Closed);
@@ -186,7 +186,7 @@ module _ (sizes : Sizes) (s : Table.State Call View) (kept : IsKept sizes s) (id
     waits actor first differs h =
         subst (λ names. HasWaited actor first (record account_then { names = names })) (append-nil kept.account.names)
         (waited_more actor first kept.account both [] [] []
-        (All-cons (IsOfOther actor) (step.Begin v.actor (Close handle)) (step.Go v.actor ∷ []) (λ e. differs (sym e)) (All-cons (IsOfOther actor) (step.Go v.actor) [] (λ e. differs (sym e)) (All-nil (IsOfOther actor)))) h)
+        (All-cons (IsOfOther actor) (step.Begin v.actor (Close handle) None) (step.Go v.actor ∷ []) (λ e. differs (sym e)) (All-cons (IsOfOther actor) (step.Go v.actor) [] (λ e. differs (sym e)) (All-nil (IsOfOther actor)))) h)
 
     held : (other : ℕ) (w : View) → get_elem? s.views other ≡ some w → (g : ℕ) → Reserves next w g → IsHeld next words_then g
     held other w e g r =

@@ -15,7 +15,7 @@ quiet_more [] s quiet own = (own, tt)
 quiet_more (x ∷ steps) s quiet own = (quiet.0, quiet_more steps s quiet.1 own)
 
 pub other_quiet : (actor : ℕ) (s : Step) → IsOfOther actor s → IsNoSweep s
-other_quiet actor (step.Begin other call) h = tt
+other_quiet actor (step.Begin other call number) h = tt
 other_quiet actor (step.Go other) h = tt
 other_quiet actor (step.GiveUp other) h = tt
 other_quiet actor step.Sweep h = absurd h

@@ -42,7 +42,7 @@ pub record Ends (sizes : Sizes) (account : Account) (actor : ℕ) : Type 0 where
 
 -- an operation that closes the handle begins and ends at once
 abbrev pub closed_by : ℕ → ℕ → Account → Account
-closed_by actor handle account = record account { steps = account.steps ++ step.Begin actor (Close handle) ∷ step.Go actor ∷ [] }
+closed_by actor handle account = record account { steps = account.steps ++ step.Begin actor (Close handle) None ∷ step.Go actor ∷ [] }
 
 pub record Closes (sizes : Sizes) (account : Account) (actor handle : ℕ) : Type 0 where
   pub leaves : LeavesNodes sizes account (closed_by actor handle account)

@@ -103,7 +103,7 @@ module _ (limits : Bounds) (ok : AreBounds limits) (steps : List Step) where
     place (suc j) operation is = (j, refl, is)
 
     counts : (s : Step) (k : ℕ) (was : Operation) → get_or state.actors k None ≡ Some was → (IsOf (suc k) s → ⊥) → Counts state I (Others was.id) s
-    counts (step.Begin actor call) k was at_k other = tt
+    counts (step.Begin actor call number) k was at_k other = tt
     counts (step.Go actor) k was at_k other = λ operation is g same.
         let (j, own, at_j) = place actor operation is in
         other (own ∙ ap suc ((has_handles_along limits steps).0.ids.distinct j k operation was at_j at_k same))
@@ -121,8 +121,8 @@ module _ (limits : Bounds) (ok : AreBounds limits) (steps : List Step) where
         by : {was : Operation} → Contains was.private x → WasKnown state I (Others was.id) x → get_or state.actors k None ≡ Some was → ⊥
         by {was} c' (inl before) at_was = h k was at_was x c' before
         by {was} c' (inr none) at_was = let used = All-contains (IsInUse state.heap) was.private x (I.privates k was at_was) c' in none-some used.0 (sym none ∙ used.1)
-    by_owner s o after (Begins {actor} {call} d) k (yes own) found at_k x c known =
-        none_in x (subst (λ (y : Operation). Contains y.private x) (of_begin state actor call (begun_operation state call) k own found at_k) c)
+    by_owner s o after (Begins {actor} {call} {number} d) k (yes own) found at_k x c known =
+        none_in x (subst (λ (y : Operation). Contains y.private x) (of_begin state actor call (begun_operation state call number) k own found at_k) c)
     by_owner s o after (Goes {actor} {operation} d is a g) k (yes own) found at_k x c known =
         let only = of_itself state actor operation k own found at_k ∙ mark_only (marks_by state (Some operation)) (operation_after state operation) in
         as_was actor k operation is own o (Goes d is a g) x

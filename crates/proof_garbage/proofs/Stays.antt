@@ -28,7 +28,7 @@ next_known state I P s counts r used h = by_answer (next state s) (moves state s
     by_answer (Err why) m h = h
 
 pub all_count : (state : State) (I : IsSafe state) (s : Step) → Counts state I (λ id. Unit {0}) s
-all_count state I (step.Begin actor call) = tt
+all_count state I (step.Begin actor call number) = tt
 all_count state I (step.Go actor) = λ operation e g. tt
 all_count state I step.Sweep = tt
 all_count state I (step.GiveUp actor) = tt

@@ -216,22 +216,22 @@ module _ (state : State) (I : IsSafe state) (P : ℕ → Type 0) where
   abbrev HandAfter : State → ℕ → Operation → Type 0
   HandAfter after k operation = P operation.id → Are WasKnown (at_hand after operation)
 
-  first_refs : (call : Call) → Are WasKnown (refs_of_claims (line_claims state (begun_operation state call)))
-  first_refs call r c = none_in r (subst (λ rs. Contains rs r) (first_none call) c)
+  first_refs : (call : Call) (number : Option ℕ) → Are WasKnown (refs_of_claims (line_claims state (begun_operation state call number)))
+  first_refs call number r c = none_in r (subst (λ rs. Contains rs r) (first_none call number) c)
     where
-      first_none : (call : Call) → refs_of_claims (line_claims state (begun_operation state call)) ≡ []
-      first_none (Close h) = refl
-      first_none (Entries h) = refl
-      first_none (Count h) = refl
-      first_none call = refl
+      first_none : (call : Call) (number : Option ℕ) → refs_of_claims (line_claims state (begun_operation state call number)) ≡ []
+      first_none (Close h) number = refl
+      first_none (Entries h) number = refl
+      first_none (Count h) number = refl
+      first_none call number = refl
 
-  begun_hand : (actor : ℕ) (call : Call) (k : ℕ) → actor ≡ suc k → begin_denial state actor call ≡ None →
-      HandAfter (settled state (with_begin state actor call (begun_operation state call))) k (begun_operation state call)
-  begun_hand actor call k own d p =
-      rw (limits_begun actor call) (both_in WasKnown (refs_of_claims (line_claims state (begun_operation state call))) [] (first_refs call) (λ r c. none_in r c))
+  begun_hand : (actor : ℕ) (call : Call) (number : Option ℕ) (k : ℕ) → actor ≡ suc k → begin_denial state actor call number ≡ None →
+      HandAfter (settled state (with_begin state actor call (begun_operation state call number))) k (begun_operation state call number)
+  begun_hand actor call number k own d p =
+      rw (limits_begun actor call number) (both_in WasKnown (refs_of_claims (line_claims state (begun_operation state call number))) [] (first_refs call number) (λ r c. none_in r c))
     where
-      limits_begun : (actor : ℕ) (call : Call) → (with_begin state actor call (begun_operation state call)).limits ≡ state.limits
-      limits_begun actor call = grind arith
+      limits_begun : (actor : ℕ) (call : Call) (number : Option ℕ) → (with_begin state actor call (begun_operation state call number)).limits ≡ state.limits
+      limits_begun actor call number = grind arith
 
   own_hand : (actor : ℕ) (operation : Operation) (k : ℕ) → actor ≡ suc k →
       operation_of state actor ≡ Some operation → GoesOn (action_of state operation) → get_or state.actors k None ≡ Some operation →
@@ -282,11 +282,11 @@ module _ (state : State) (I : IsSafe state) (P : ℕ → Type 0) where
   Counts s = Unit {0}
 
   pub step_known : (s : Step) (o : Outcome) (after : State) (m : Moves state s o after) → Counts s → {r : Ref} → IsKnown after P r → WasKnown r
-  step_known s o after (Begins {actor} {call} d) counts =
+  step_known s o after (Begins {actor} {call} {number} d) counts =
       known_after after (safe_after state I s o after (Begins d))
       (word_refs_known after (begun_words K state.heap state call (words_known state I P)))
       (actors_hands s o after (Begins d))
-      (λ q slot t e. old_slots q slot t (sym (ap (λ h. standing h q) (begin_heap state actor call (begun_operation state call))) ∙ e))
+      (λ q slot t e. old_slots q slot t (sym (ap (λ h. standing h q) (begin_heap state actor call (begun_operation state call number))) ∙ e))
   step_known s o after (Goes {actor} {operation} d is a g) counts =
       let (k, found) = of_actor state (λ k operation. get_or state.actors k None ≡ Some operation) (λ k operation e. e) actor operation is in
       known_after after (safe_after state I s o after (Goes d is a g))

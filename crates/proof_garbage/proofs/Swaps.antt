@@ -211,11 +211,11 @@ module _ (state : State) (operation : Operation) where
 abbrev pub Owns : Operation → Type 0
 Owns operation = LineOwns operation.line operation.private
 
-first_owns : (state : State) (call : Call) → Owns (begun_operation state call)
-first_owns state (Close h) = tt
-first_owns state (Entries h) = tt
-first_owns state (Count h) = tt
-first_owns state call = tt
+first_owns : (state : State) (call : Call) (number : Option ℕ) → Owns (begun_operation state call number)
+first_owns state (Close h) number = tt
+first_owns state (Entries h) number = tt
+first_owns state (Count h) number = tt
+first_owns state call number = tt
 
 abbrev AllOwn : State → Type 0
 AllOwn state = (k : ℕ) (operation : Operation) → get_or state.actors k None ≡ Some operation → Owns operation
@@ -223,7 +223,7 @@ AllOwn state = (k : ℕ) (operation : Operation) → get_or state.actors k None 
 owns_after : (state : State) → AllOwn state → (s : Step) (o : Outcome) (after : State) → Moves state s o after → AllOwn after
 owns_after state h s o after m k operation at_k =
     each_after state (λ k operation. Owns operation) (λ after k operation. Owns operation) h
-    (λ actor call k own d. first_owns state call)
+    (λ actor call number k own d. first_owns state call number)
     (λ actor operation k own is g p.
     subst Owns (sym (mark_only (marks_by state (Some operation)) (operation_after state operation)))
     (owns_by state operation operation.private operation.line (line_after state operation operation.line) (edge state operation operation.line) p))

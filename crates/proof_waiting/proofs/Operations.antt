@@ -23,7 +23,7 @@ use Rattle.proof_waiting.proofs.Actions.{action_waits}
 
 pub no_sweeps : (actor : ℕ) (more : List Step) → All (IsOfOther actor) more → HasNoSweeps more
 no_sweeps actor [] h = tt
-no_sweeps actor (step.Begin other call ∷ more) h = (tt, no_sweeps actor more (All-tail (IsOfOther actor) _ more h))
+no_sweeps actor (step.Begin other call number ∷ more) h = (tt, no_sweeps actor more (All-tail (IsOfOther actor) _ more h))
 no_sweeps actor (step.Go other ∷ more) h = (tt, no_sweeps actor more (All-tail (IsOfOther actor) _ more h))
 no_sweeps actor (step.GiveUp other ∷ more) h = (tt, no_sweeps actor more (All-tail (IsOfOther actor) _ more h))
 no_sweeps actor (step.Sweep ∷ more) h = absurd (All-head (IsOfOther actor) step.Sweep more h)

@@ -10,7 +10,7 @@ use Rattle.machine_model.specs.States.{State, operation_of}
 
 -- a step of another actor, and none of the sweep's
 abbrev pub IsOfOther : ℕ → Step → Type 0
-IsOfOther actor (step.Begin other call) = other ≢ actor
+IsOfOther actor (step.Begin other call number) = other ≢ actor
 IsOfOther actor (step.Go other) = other ≢ actor
 IsOfOther actor (step.GiveUp other) = other ≢ actor
 IsOfOther actor step.Sweep = ⊥

@@ -15,7 +15,7 @@ use Rattle.machine_model.specs.declared.steps.Step.TheVariants as step
 use Rattle.machine_model.specs.Calls.{handle_of, is_close, opens_handle}
 use Rattle.machine_model.specs.Counting.{settled}
 use Rattle.machine_model.specs.Keys.{FitsKey}
-use Rattle.machine_model.specs.Machine.{AreBounds, next, next_state, state_after, begin_denial, begin_unless, begun_operation, with_begin, handle_closed, least_free}
+use Rattle.machine_model.specs.Machine.{AreBounds, next, next_state, state_after, begin_denial, begin_unless, begun_operation, with_begin, handle_closed, number_for}
 use Rattle.machine_model.specs.Moves.{Moves, Begins as Begun}
 use Rattle.machine_model.specs.Operations.{first_line, action_of}
 use Rattle.machine_model.specs.States.{State, operation_of, root_at, with_root}
@@ -45,23 +45,23 @@ first_ahead (Count h) = refl
 first_ahead (Close h) = refl
 first_ahead call = refl
 
-module _ (sizes : Sizes) (account : Account) (bounds : AreBounds (bounds_for sizes account.steps)) (actor : ℕ) (call : Call) (most : actor ≤ sizes.seats) (idle : operation_of (state_of sizes account) actor ≡ None)
-    (allowed : begin_denial (state_of sizes account) actor call ≡ None) where
+module _ (sizes : Sizes) (account : Account) (bounds : AreBounds (bounds_for sizes account.steps)) (actor : ℕ) (call : Call) (number : Option ℕ) (most : actor ≤ sizes.seats) (idle : operation_of (state_of sizes account) actor ≡ None)
+    (allowed : begin_denial (state_of sizes account) actor call number ≡ None) where
   abbrev now : State
   now = state_of sizes account
 
   abbrev operation : Operation
-  operation = begun_operation now call
+  operation = begun_operation now call number
 
   abbrev begin_state : State
   begin_state = settled now (with_begin now actor call operation)
 
-  begin_move : Moves now (step.Begin actor call) (outcome.Began operation.id) begin_state
+  begin_move : Moves now (step.Begin actor call number) (outcome.Began operation.id) begin_state
   begin_move = Begun allowed
 
-  begin_next : next_state now (step.Begin actor call) ≡ begin_state
+  begin_next : next_state now (step.Begin actor call number) ≡ begin_state
   unfolding next
-  begin_next = ap (λ d. state_after now (begin_unless now actor call d)) allowed
+  begin_next = ap (λ d. state_after now (begin_unless now actor call number d)) allowed
 
   positive : 0 < actor
   positive = begin_counts now actor call allowed
@@ -87,28 +87,28 @@ module _ (sizes : Sizes) (account : Account) (bounds : AreBounds (bounds_for siz
       by true = refl
       by false = refl
 
-  begin_whole : state_of sizes (taking (step.Begin actor call) account) ≡ widened 1 (length (account.steps ++ step.Begin actor call ∷ []) + 1) begin_state
-  begin_whole = whole sizes account bounds (step.Begin actor call) (outcome.Began operation.id) begin_state begin_move begin_next
+  begin_whole : state_of sizes (taking (step.Begin actor call number) account) ≡ widened 1 (length (account.steps ++ step.Begin actor call number ∷ []) + 1) begin_state
+  begin_whole = whole sizes account bounds (step.Begin actor call number) (outcome.Began operation.id) begin_state begin_move begin_next
 
-  pub begin_leaves : LeavesNodes sizes account (taking (step.Begin actor call) account)
+  pub begin_leaves : LeavesNodes sizes account (taking (step.Begin actor call number) account)
   begin_leaves =
-      leaves_nodes sizes account bounds (step.Begin actor call) (outcome.Began operation.id) begin_state begin_move begin_next (begin_heap now actor call operation) generations_are
-      (λ r k. step_known now (safe_along (bounds_for sizes account.steps) bounds account.steps) (λ id. Unit {0}) (step.Begin actor call) _ begin_state begin_move tt k) actor begun_others
+      leaves_nodes sizes account bounds (step.Begin actor call number) (outcome.Began operation.id) begin_state begin_move begin_next (begin_heap now actor call operation) generations_are
+      (λ r k. step_known now (safe_along (bounds_for sizes account.steps) bounds account.steps) (λ id. Unit {0}) (step.Begin actor call number) _ begin_state begin_move tt k) actor begun_others
       (λ x e. absurd (none-some x (sym idle ∙ e)))
       (λ x e. ap (λ (o : Operation). ahead_of o.line) (same_Some x operation (sym e ∙ begun_own)) ∙ first_ahead call)
 
-  pub begin_own : operation_of (state_of sizes (taking (step.Begin actor call) account)) actor ≡ Some operation
+  pub begin_own : operation_of (state_of sizes (taking (step.Begin actor call number) account)) actor ≡ Some operation
   begin_own = ap (λ s. operation_of s actor) begin_whole ∙ begun_own
 
-  pub begin_other : (a : ℕ) → a ≢ actor → operation_of (state_of sizes (taking (step.Begin actor call) account)) a ≡ operation_of now a
+  pub begin_other : (a : ℕ) → a ≢ actor → operation_of (state_of sizes (taking (step.Begin actor call number) account)) a ≡ operation_of now a
   begin_other a differs = ap (λ s. operation_of s a) begin_whole ∙ begun_others a differs
 
-  pub begin_roots : (state_of sizes (taking (step.Begin actor call) account)).roots ≡ (handle_closed now call).roots
+  pub begin_roots : (state_of sizes (taking (step.Begin actor call number) account)).roots ≡ (handle_closed now call).roots
   begin_roots = ap (λ (s : State). s.roots) begin_whole
 
   -- a call that neither opens nor closes a handle
-  pub begins_of : (opens_none : opens_handle call ≡ false) → (closes_none : is_close call ≡ false) → FitsKey (step.Begin actor call) → ((k : Known) → Contains account.offers k → HasStood sizes account k.offer) →
-      Begins sizes account actor (step.Begin actor call) call None
+  pub begins_of : (opens_none : opens_handle call ≡ false) → (closes_none : is_close call ≡ false) → FitsKey (step.Begin actor call number) → ((k : Known) → Contains account.offers k → HasStood sizes account k.offer) →
+      Begins sizes account actor (step.Begin actor call number) call None
   begins_of opens_none closes_none fits stood = record {
     leaves = begin_leaves;
     fits = fits;
@@ -118,7 +118,7 @@ module _ (sizes : Sizes) (account : Account) (bounds : AreBounds (bounds_for siz
     operation = operation;
     own = begin_own;
     its_call = refl;
-    its_opens = ap (λ b. if b then Some (least_free now) else None) opens_none;
+    its_opens = ap (λ b. if b then Some (number_for now number) else None) opens_none;
     unmarked = refl;
     fresh = λ k c its. (let known = known_once sizes account bounds k.offer (stood k c) in let begun = known.has_begun in let same = its.its in omega (arith, begun, same));
   }
@@ -144,40 +144,40 @@ record Shuts (sizes : Sizes) (account last : Account) (handle : ℕ) : Type 0 wh
   operations : (n : ℕ) → operation_of (state_of sizes last) n ≡ operation_of (state_of sizes account) n
 
 module _ (sizes : Sizes) (account : Account) (bounds : AreBounds (bounds_for sizes account.steps)) (actor handle : ℕ) (most : actor ≤ sizes.seats) (low : handle < 256) (idle : operation_of (state_of sizes account) actor ≡ None)
-    (allowed : begin_denial (state_of sizes account) actor (Close handle) ≡ None) where
+    (allowed : begin_denial (state_of sizes account) actor (Close handle) None ≡ None) where
   abbrev state : State
   state = state_of sizes account
 
   abbrev middle : Account
-  middle = taking (step.Begin actor (Close handle)) account
+  middle = taking (step.Begin actor (Close handle) None) account
 
   abbrev last : Account
   last = gone_on actor middle
 
   middle_bounds : AreBounds (bounds_for sizes middle.steps)
-  middle_bounds = bounds_more sizes account.steps (step.Begin actor (Close handle) ∷ []) bounds
+  middle_bounds = bounds_more sizes account.steps (step.Begin actor (Close handle) None ∷ []) bounds
 
-  runs : operation_of (state_of sizes middle) actor ≡ Some (begun_operation state (Close handle))
-  runs = begin_own sizes account bounds actor (Close handle) most idle allowed
+  runs : operation_of (state_of sizes middle) actor ≡ Some (begun_operation state (Close handle) None)
+  runs = begin_own sizes account bounds actor (Close handle) None most idle allowed
 
   same_steps : closed_by actor handle account ≡ last
-  same_steps = ap (λ l. record account { steps = l }) (sym (append_assoc account.steps (step.Begin actor (Close handle) ∷ []) (step.Go actor ∷ [])))
+  same_steps = ap (λ l. record account { steps = l }) (sym (append_assoc account.steps (step.Begin actor (Close handle) None ∷ []) (step.Go actor ∷ [])))
 
   middle_roots : (state_of sizes middle).roots ≡ set state.roots handle None
-  middle_roots = begin_roots sizes account bounds actor (Close handle) most idle allowed
+  middle_roots = begin_roots sizes account bounds actor (Close handle) None most idle allowed
 
   ends : Ends sizes middle actor
-  ends = ends_of sizes middle middle_bounds actor (begun_operation state (Close handle)) runs reply.Closed refl
+  ends = ends_of sizes middle middle_bounds actor (begun_operation state (Close handle) None) runs reply.Closed refl
 
   shuts : Shuts sizes account last handle
   shuts = record {
-    leaves = both_leave sizes account middle last (begin_leaves sizes account bounds actor (Close handle) most idle allowed) ends.leaves;
+    leaves = both_leave sizes account middle last (begin_leaves sizes account bounds actor (Close handle) None most idle allowed) ends.leaves;
     closed = ap (λ rs. get_or rs handle None) (ends.roots ∙ middle_roots)
         ∙ get_or-set_same state.roots handle None None (let long = (sizes_stay (bounds_for sizes account.steps) account.steps).0 in omega (arith, long, low));
     roots = λ g differs. ap (λ rs. get_or rs g None) (ends.roots ∙ middle_roots) ∙ found_elsewhere state.roots handle g None differs;
     operations = λ n. elim (cases_eq n actor) [
       | inl own ↦ ap (operation_of (state_of sizes last)) own ∙ ends.own ∙ sym idle ∙ ap (operation_of state) (sym own)
-      | inr other ↦ ends.others n other ∙ begin_other sizes account bounds actor (Close handle) most idle allowed n other
+      | inr other ↦ ends.others n other ∙ begin_other sizes account bounds actor (Close handle) None most idle allowed n other
     ];
   }
 

@@ -99,13 +99,13 @@ module _ (state : State) (operation : Operation) (opens : opens_handle operation
 
 -- ---- along a run
 
-begun_opener : (state : State) (call : Call) → IsOpener (begun_operation state call)
-begun_opener state (Snapshot h) handle e = (refl, tt)
-begun_opener state (Freeze h) handle e = (refl, tt)
-begun_opener state (Close h) handle e = absurd (none-some handle e)
-begun_opener state (Entries h) handle e = absurd (none-some handle e)
-begun_opener state (Count h) handle e = absurd (none-some handle e)
-begun_opener state call handle e = absurd (none-some handle e)
+begun_opener : (state : State) (call : Call) (number : Option ℕ) → IsOpener (begun_operation state call number)
+begun_opener state (Snapshot h) number handle e = (refl, tt)
+begun_opener state (Freeze h) number handle e = (refl, tt)
+begun_opener state (Close h) number handle e = absurd (none-some handle e)
+begun_opener state (Entries h) number handle e = absurd (none-some handle e)
+begun_opener state (Count h) number handle e = absurd (none-some handle e)
+begun_opener state call number handle e = absurd (none-some handle e)
 
 abbrev AllOpeners : State → Type 0
 AllOpeners state = (k : ℕ) (operation : Operation) → get_or state.actors k None ≡ Some operation → IsOpener operation
@@ -113,7 +113,7 @@ AllOpeners state = (k : ℕ) (operation : Operation) → get_or state.actors k N
 openers_after : (state : State) → AllOpeners state → (s : Step) (o : Outcome) (after : State) → Moves state s o after → AllOpeners after
 openers_after state h s o after m k operation at_k =
     each_after state (λ k operation. IsOpener operation) (λ after k operation. IsOpener operation) h
-    (λ actor call k own d. begun_opener state call)
+    (λ actor call number k own d. begun_opener state call number)
     (λ actor operation k own is g p.
     subst IsOpener (sym (mark_only (marks_by state (Some operation)) (operation_after state operation)))
     (λ handle e. let was = p handle e in (was.0, only_by state operation was.0 operation.line (line_after state operation operation.line) (edge state operation operation.line) was.1)))
