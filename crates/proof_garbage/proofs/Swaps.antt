@@ -1,5 +1,5 @@
 -- What an operation has private in a SWAP and in a CLIMB: the fresh node until it is swapped in, and then nothing.
-use Rattle.std.proofs.Common.{◌≡◌, ℕ, Bool, true, false, List, [], ◌∷◌, ◌++◌, Contains, Some, None, get_or, refl, sym, ap, subst, ◌∙◌, arith}
+use Rattle.std.proofs.Common.{Option, ◌≡◌, ℕ, Bool, true, false, List, [], ◌∷◌, ◌++◌, Contains, Some, None, get_or, refl, sym, ap, subst, ◌∙◌, arith}
 use Rattle.std.proofs.lemmas.List.Elements.{Contains-append_right, Contains-get_or}
 use Rattle.proof_garbage.specs.Beneath.history.specs.declared.calls.Call.{Call}
 use Rattle.proof_garbage.specs.Beneath.history.specs.declared.calls.Call.TheVariants.{Close, Entries, Count}
