@@ -64,7 +64,7 @@ module _ (sizes : Sizes) (account : Account) (bounds : AreBounds (bounds_for siz
   begin_next = ap (λ d. state_after now (begin_unless now actor call number d)) allowed
 
   positive : 0 < actor
-  positive = begin_counts now actor call allowed
+  positive = begin_counts now actor call number allowed
 
   begun_own : operation_of begin_state actor ≡ Some operation
   begun_own = by actor refl positive

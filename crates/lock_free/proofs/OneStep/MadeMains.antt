@@ -59,7 +59,7 @@ module _ (limits : Bounds) (steps : List Step) (ok : AreBounds limits) (s : Step
       (is : new.node ≡ Indirection generation m)
       (used : IsInUse (run limits steps).heap m) where
     unmade : words.made t n ≡ false
-    unmade = ap is_some (not_yet_drawn limits (states_of limits longer) (last_of limits longer) (run_is limits longer ok) t (omega (arith, last_is)) n (ap
+    unmade = ap is_some (not_yet_drawn (run_is limits longer ok) t (omega (arith, last_is)) n (ap
         (λ (x : State). next_ref x.heap) before_is ∙ drawn))
 
     grown_then : grown (states_of limits longer) (suc t) n ≡ Some new
