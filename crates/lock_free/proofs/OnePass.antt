@@ -16,8 +16,8 @@ use Rattle.lock_free.specs.declared.reading.Way.{Way}
 use Rattle.lock_free.specs.declared.rules.View.{View}
 use Rattle.lock_free.specs.Exchanging.{IsNamedOrGone}
 use Rattle.lock_free.specs.Loading.{IsSound, IsAtSlot, HasReadHeader}
-use Rattle.lock_free.specs.Passing.{HasCome, IsReading, IsOnWay, KnowsLink, IsPlaced, KnowsMain, KnowsPending, IsFrom, IsPassing, HasGiven, GoesFrom, PassedBy, HasPassed, HasReached, pending_line, IsPending, IsFailed}
-use Rattle.lock_free.proofs.Comings.{at_read, come_on, reading_one, reading_then, way_then}
+use Rattle.lock_free.specs.Passing.{HasCome, IsReading, IsOnWay, KnowsLink, IsPlaced, KnowsMain, KnowsPending, IsFrom, IsPassing, HasGiven, GoesFrom, PassedBy, HasPassed, HasPassedSome, HasReached, pending_line, IsPending, IsFailed}
+use Rattle.lock_free.proofs.Comings.{at_read, come_on, reading_one, reading_then, way_then, stays_there}
 use Rattle.lock_free.proofs.Laters.{placed_later, link_later}
 use Rattle.lock_free.proofs.Passes.{main_known, none_come, failed_come, pending_come}
 
@@ -116,3 +116,54 @@ module _ (before middle : View) (name : ℕ) (from : Option Link) (passing : IsP
           let same = (reading_one before i j first.0 y first.1 is).0 in
           subst (λ z. PassedBy before z result last) same
           (passes_on before after last i (pending_line way.access main pends.0) result (comes (pending_line way.access main pends.0) pends.1) (h i (pending_line way.access main pends.0) is_settling))
+
+-- ---- many passes
+
+-- a READ that goes on from a line
+line_from : (v w : View) (i : Ref) (from : Option Link) → GoesFrom v i from w → (y : ReadLine) × HasCome (Goes y) v w
+line_from v w i None h = (read.Main, h)
+line_from v w i (Some link) h = (read.Prev h.0, h.1)
+
+stays_from : (v : View) (i : Ref) (from : Option Link) → IsFrom v i from → GoesFrom v i from v
+stays_from v i None h = stays_there v i read.Main h
+stays_from v i (Some link) h = (h.0, stays_there v i (read.Prev h.0) h.1, h.2)
+
+from_then : (v w : View) (i : Ref) (x : ReadLine) (from : Option Link) → IsReading v i x → GoesFrom v i from w → IsFrom w i from
+from_then v w i x None is h = reading_then v w i x read.Main is h
+from_then v w i x (Some link) is h = (h.0, reading_then v w i x (read.Prev h.0) is h.1, h.2)
+
+pub none_yet : (words : ℕ) (way : Way) (name : ℕ) (v : View) (from : Option Link) → IsSound words v → IsOnWay v way → IsPassing v name from → HasPassedSome words way name v v from
+none_yet words way name v from sound on passing = record {
+  sound = sound;
+  on = on;
+  passing = passing;
+  passed = λ j y is.
+      (let x = from_reading v passing.0 from passing.2 in
+      subst (λ z. GoesFrom v z from v) (reading_one v passing.0 j x.0 y x.1 is).0 (stays_from v passing.0 from passing.2));
+}
+
+module _ (words : ℕ) (way : Way) (name : ℕ) (start now : View) (next : Option Link) (h : HasPassedSome words way name start now next) (after : View) where
+  abbrev its_link : Ref
+  its_link = h.passing.0
+
+  now_reading : (x : ReadLine) × IsReading now its_link x
+  now_reading = from_reading now its_link next h.passing.2
+
+  -- what a pass from there comes to the READ comes to
+  pub more : (result : Passed) → HasPassed now result after → HasPassed start result after
+  more result p j y is =
+      let goes = h.passed j y is in
+      let line = line_from start now j next goes in
+      let reading = reading_then start now j y line.0 is line.1 in
+      passes_on start now after j line.0 result line.1 (p j line.0 reading)
+
+  pub one_more : (from : Option Link) → IsSound words after → HasPassed now (passed.Again from) after → HasPassedSome words way name start after from
+  one_more from sound p =
+      let goes = p its_link now_reading.0 now_reading.1 in
+      let line = line_from now after its_link from goes in
+      record {
+        sound = sound;
+        on = way_then now after its_link now_reading.0 (Goes line.0) way now_reading.1 line.1 h.on;
+        passing = (its_link, placed_later now after line.1.later its_link name h.passing.1, from_then now after its_link now_reading.0 from now_reading.1 goes);
+        passed = more (passed.Again from) p;
+      }

@@ -28,7 +28,7 @@ use Rattle.lock_free.specs.declared.reading.Way.{Way}
 use Rattle.lock_free.specs.declared.rules.View.{View}
 use Rattle.lock_free.specs.Accounts.{place_of, IsOwn}
 use Rattle.lock_free.specs.Exchanging.{IsNamed, IsNamedOrGone, IsPendingOver, IsLinkTo}
-use Rattle.lock_free.specs.Loading.{now, seen, Runs, IsUsed}
+use Rattle.lock_free.specs.Loading.{now, seen, Runs, IsUsed, IsSound}
 use Rattle.lock_free.specs.Nodes.{SaysShape}
 use Rattle.lock_free.specs.OfReads.{read_to}
 
@@ -116,6 +116,13 @@ HasPassed before result after = (i : Ref) (x : ReadLine) → IsReading before i 
 
 abbrev pub HasReached : View → Link → View → Type 0
 HasReached before link after = (i : Ref) (x : ReadLine) → IsReading before i x → GoesFrom before i (Some link) after
+
+-- after some passes, from which the READ goes on
+pub record HasPassedSome (words : ℕ) (way : Way) (name : ℕ) (before after : View) (next : Option Link) : Type 0 where
+  pub sound : IsSound words after
+  pub on : IsOnWay after way
+  pub passing : IsPassing after name next
+  pub passed : HasPassed before (passed.Again next) after
 
 -- ---- between
 

@@ -1,6 +1,6 @@
 //! READ: gives the decided main node of an indirection, in passes of single accesses.
 
-ghost use Rattle.std.specs.Prelude.{◌≡◌, IfSome};
+ghost use Rattle.std.specs.Prelude.{◌≡◌};
 ghost use Rattle.lock_free.specs.Loading.{IsSound};
 ghost use Rattle.lock_free.specs.Passing.{HasAsked, HasLicense, HasPassed, HasReached, IsAsking, IsFailed, IsOnWay, IsPassing, IsPending};
 
@@ -132,4 +132,25 @@ fn pass<A: AsksRoot>(asker: &A, words: &Words, actor: &mut Actor, way: Way, indi
         Previous::Failed(former) => put_back(words, actor, indirection, link, former),
         Previous::Pending(_) => settle(asker, words, actor, way, link, header),
     }
+}
+
+/// The READ of the indirection in this slot, of which so many passes are made at most. Where it gives nothing it goes on from what
+/// is returned.
+pub fn read_within<A: AsksRoot>(asker: &A, words: &Words, actor: &mut Actor, way: Way, indirection: u32, from: Option<Link>, passes: u32) -> Passed
+    requires table { actor.old.table_id ≡ words.now.table_id }
+    requires sound { IsSound words.now.table_id.words actor.old.me.0 }
+    requires way { IsOnWay actor.old.me.0 way }
+    requires passing { IsPassing actor.old.me.0 indirection from }
+    ensures table { actor.new.table_id ≡ actor.old.table_id }
+    ensures sound { IsSound words.now.table_id.words actor.new.me.0 }
+    ensures passed { HasPassed actor.old.me.0 result actor.new.me.0 }
+{
+    let mut next = from;
+    for _ in 0..passes {
+        match pass(asker, words, actor, way, indirection, next) {
+            Passed::Gives(given) => return Passed::Gives(given),
+            Passed::Again(from) => next = from,
+        }
+    }
+    Passed::Again(next)
 }
