@@ -61,3 +61,5 @@ mod Reserved
 mod Closed
 mod Stood
 mod Allowed
+mod AbortStep
+mod CompleteStep

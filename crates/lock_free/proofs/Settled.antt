@@ -206,7 +206,7 @@ module _ (sizes : Sizes) (s : Table.State Call View) (kept : IsKept sizes s) (id
     | inr differs ↦ pending_kept s.words words_then l root_same (kept.roots.pending l c (sym (fate_else l differs) ∙ none))
   ]
 
-  all_then : AllStand sizes account_then kept.stands words_then
+  pub all_then : AllStand sizes account_then kept.stands words_then
   all_then = record {
     bounds = settles.leaves.bounds;
     keys = All-append FitsKey kept.account.steps (step.Go v.actor ∷ []) kept.keys (All-cons FitsKey (step.Go v.actor) [] tt (All-nil FitsKey));

@@ -18,3 +18,4 @@ pub mod Exchanging
 pub mod Storing
 pub mod OfReads
 pub mod Passing
+pub mod OfferWords

@@ -15,13 +15,14 @@ use Rattle.machine_model.specs.Moves.{GoesOn}
 use Rattle.machine_model.specs.Operations.{action_of}
 use Rattle.machine_model.specs.States.{State, operation_of, root_at, word_at, with_word, with_operation}
 use Rattle.machine_model.specs.Swapping.{stands_in}
-use Rattle.machine_model.proofs.Actors.{marks_by, marks_of, mark_one}
+use Rattle.machine_model.proofs.Actors.{marks_by, marks_of, mark_one, mark_only}
 use Rattle.proof_commits.proofs.Known.StepsAt.{after_mark}
 use Rattle.lock_free.specs.declared.accounts.Account.{Account}
 use Rattle.lock_free.specs.declared.accounts.Known.{Known}
 use Rattle.lock_free.specs.declared.sizes.Sizes.{Sizes}
 use Rattle.lock_free.specs.Accounts.{bounds_for, state_of, running, gone_on}
 use Rattle.lock_free.specs.Making.{over_of}
+use Rattle.lock_free.specs.OfferWords.{outcome_by}
 use Rattle.lock_free.specs.Roots.{open_with, carried_out, taken_back}
 use Rattle.lock_free.specs.Settling.{Settles}
 use Rattle.lock_free.specs.Steps.{Reads}
@@ -30,12 +31,6 @@ use Rattle.lock_free.proofs.OneStep.Aheads.{ahead_of, over_makes, ahead_acts}
 use Rattle.lock_free.proofs.OneStep.Changing.{roots_then}
 use Rattle.lock_free.proofs.OneStep.Marking.{other_marked, own_marked, leaves_by, try_else}
 use Rattle.lock_free.proofs.OneStep.Settles.{stands, back_settles, out_settles}
-
--- ---- what it settles to
-
--- with the expected main node the offer is carried out
-abbrev pub outcome_by : Bool → ℕ
-outcome_by b = if b then carried_out else taken_back
 
 module _ (sizes : Sizes) (account : Account) (bounds : AreBounds (bounds_for sizes account.steps)) (actor : ℕ) (operation : Operation) (runs : running sizes account actor operation) where
   abbrev state : State
@@ -87,6 +82,9 @@ module _ (sizes : Sizes) (account : Account) (bounds : AreBounds (bounds_for siz
     abort_by : (b : Bool) → stands_in (word_at state h) k.offer ≡ b → gone state actor operation ≡ if_changed b (with_word put h (Plain k.offer.root)) put
     abort_by b e = ap (acted put h) is ∙ ap (λ c. if_changed c (with_word put h (Plain k.offer.root)) put) e
 
+    pub abort_own : operation_of (state_of sizes (gone_on actor account)) actor ≡ Some (operation_after state operation)
+    abort_own = own_marked sizes account bounds actor operation runs abort_goes ∙ ap (λ m. Some (mark_one m (operation_after state operation))) (ap (marks_of state h) is)
+
     -- it stands, and is taken back
     pub abort_settles : root_at state h ≡ open_with Writable (Offer k.offer) → Settles sizes account actor taken_back operation k
     abort_settles stood =
@@ -118,6 +116,12 @@ module _ (sizes : Sizes) (account : Account) (bounds : AreBounds (bounds_for siz
 
     marks_are : (b c : Bool) → stands_in (word_at state h) k.offer ≡ b → (main == k.offer.expected) ≡ c → marks_by state (Some operation) ≡ (if b && c then Some k.offer.operation else None)
     marks_are b c e f = ap (marks_of state h) is ∙ ap (λ x. if x && (main == k.offer.expected) then Some k.offer.operation else None) e ∙ ap (λ x. if b && x then Some k.offer.operation else None) f
+
+    -- the operation then, but for its mark
+    pub complete_own : (mark : Bool) × (operation_of (state_of sizes (gone_on actor account)) actor ≡ Some (record (operation_after state operation) { is_marked = mark }))
+    complete_own =
+        let m = marks_by state (Some operation) in
+        ((mark_one m (operation_after state operation)).is_marked, own_marked sizes account bounds actor operation runs complete_goes ∙ ap Some (mark_only m (operation_after state operation)))
 
     pub complete_settles : root_at state h ≡ open_with Writable (Offer k.offer) → (c : Bool) → (main == k.offer.expected) ≡ c → Settles sizes account actor (outcome_by c) operation k
     complete_settles stood true f =
