@@ -53,6 +53,12 @@ MayMakeKnown (act.Publish indirection replaced fresh) = Unit {0}
 MayMakeKnown (act.Offer offer) = Unit {0}
 MayMakeKnown action = ⊥
 
+-- what a test finds pending is so
+pub pending_is : (p : Prev) (previous : Ref) → is_pending p previous ≡ true → p ≡ prev.Pending previous
+pending_is prev.None previous e = absurd (false≢true e)
+pending_is (prev.Failed x) previous e = absurd (false≢true e)
+pending_is (prev.Pending x) previous e = ap prev.Pending (eqb-true x previous e)
+
 module _ (state : State) (I : IsSafe state) (P : ℕ → Type 0) (actor k : ℕ) (operation : Operation) (is : operation_of state actor ≡ Some operation)
     (found : get_or state.actors k None ≡ Some operation) (old : P operation.id → ⊥)
     (offers : (offer : Descriptor) → settles (action_of state operation) ≡ Some offer → stands_in (word_at state (handle_of operation.call)) offer ≡ true →
@@ -141,11 +147,6 @@ module _ (state : State) (I : IsSafe state) (P : ℕ → Type 0) (actor k : ℕ)
             (main_slot K state.heap (standing state.heap) (standing state.heap) 0 0 slots_before previous was (slots_before i was known_i at_i) known_previous)
         | inr other ↦ slots_before q slot k (sym (main_other state.heap i previous was at_i q other) ∙ stands)
       ]
-
-  pending_is : (p : Prev) (previous : Ref) → is_pending p previous ≡ true → p ≡ prev.Pending previous
-  pending_is prev.None previous e = absurd (false≢true e)
-  pending_is (prev.Failed x) previous e = absurd (false≢true e)
-  pending_is (prev.Pending x) previous e = ap prev.Pending (eqb-true x previous e)
 
   verdict_fails : (a b : Bool) → verdict_by a b ≡ Fails → b ≡ true
   verdict_fails true true e = refl
