@@ -35,11 +35,12 @@ use Rattle.proof_garbage.specs.Beneath.proof_memory.proofs.Safety.States.{IsSafe
 use Rattle.proof_garbage.specs.Beneath.proof_memory.proofs.Safety.Steps.{step_claims}
 use Rattle.proof_garbage.specs.Beneath.proof_generations.proofs.Roots.OfLists.{has_handles_along}
 use Rattle.proof_garbage.specs.Beneath.proof_generations.proofs.Offers.Same.{same_offer}
+use Rattle.proof_garbage.specs.Grace.{MayMakeKnown}
 use Rattle.proof_garbage.specs.Live.{IsKnown}
 use Rattle.proof_garbage.proofs.Claims.{none_in}
 use Rattle.proof_garbage.proofs.Known.{known_used}
 use Rattle.proof_garbage.proofs.Step.{WasKnown, Counts, step_known}
-use Rattle.proof_garbage.proofs.Unknown.{MayMakeKnown, old_known}
+use Rattle.proof_garbage.proofs.Unknown.{old_known}
 use Rattle.proof_garbage.proofs.Restoring.{failed_over}
 
 -- the other operations
