@@ -1,6 +1,5 @@
 -- What more is asked of the definition.
-use Rattle.std.proofs.Common.{◌≡◌, ◌≢◌, ◌<◌, ◌⊎◌, ◌==◌, ℕ, map, Bool, true, List, [], ◌∷◌, Contains, length, Option, Some, None, get_or, if◌then◌else◌}
-use Rattle.std.specs.List.{list_any}
+use Rattle.std.proofs.Common.{◌≡◌, ◌≢◌, ◌<◌, ◌⊎◌, ℕ, map, Bool, true, Contains, length, Option, Some, None, get_or, if◌then◌else◌}
 use Rattle.machine_model.specs.Beneath.slot_arena.specs.declared.refs.Ref.{Ref}
 use Rattle.machine_model.specs.Beneath.slot_arena.specs.declared.nodes.Node.{Node}
 use Rattle.machine_model.specs.Beneath.slot_arena.specs.declared.nodes.Node.TheVariants.{Indirection}
@@ -8,7 +7,6 @@ use Rattle.machine_model.specs.Beneath.slot_arena.specs.declared.nodes.Slot.{Slo
 use Rattle.machine_model.specs.Beneath.slot_arena.specs.declared.nodes.Prev.TheVariants as prev
 use Rattle.machine_model.specs.Beneath.slot_arena.specs.Heaps.{main_at, prev_at, refs_of_node}
 use Rattle.machine_model.specs.Beneath.slot_arena.specs.Refs.{slot_of}
-use Rattle.machine_model.specs.declared.actions.Action.{Action}
 use Rattle.machine_model.specs.declared.actions.Action.TheVariants as act
 use Rattle.machine_model.specs.declared.operations.Operation.{Operation}
 use Rattle.machine_model.specs.Acting.{operation_after}
@@ -38,9 +36,7 @@ use Rattle.lock_free.specs.Nodes.{IsAhead}
 use Rattle.lock_free.specs.Publishing.{swapped_in, Publishes}
 use Rattle.lock_free.specs.Restoring.{Restores}
 use Rattle.lock_free.specs.Rules.{Once}
-use Rattle.lock_free.specs.Steps.{Dropped, Leads, Reads}
-
-
+use Rattle.lock_free.specs.Steps.{Leads, Reads}
 pub use Rattle.lock_free.proofs.OneStep.Giving.{is_one_of}
 
 module _ (sizes : Sizes) (account : Account) (bounds : AreBounds (bounds_for sizes account.steps)) where
@@ -63,7 +59,7 @@ module _ (sizes : Sizes) (account : Account) (bounds : AreBounds (bounds_for siz
     -- what an action names is live, and what it is taken for
     pub link_stands : (i : Ref) → Contains (links_of (action_of (state_of sizes account) operation)) i →
         IsLive (state_of sizes account) i × ((slot : Slot) × (generation : ℕ) × (main : Ref) × (get_or (state_of sizes account).heap.slots (slot_of i) None ≡ Some slot)
-            × (slot.node ≡ Indirection generation main))
+        × (slot.node ≡ Indirection generation main))
     link_stands = found.link_stands sizes account bounds actor operation runs
 
     pub main_stands : (m : Ref) → Contains (mains_of (action_of (state_of sizes account) operation)) m →
@@ -73,15 +69,15 @@ module _ (sizes : Sizes) (account : Account) (bounds : AreBounds (bounds_for siz
     -- deciding a main node that is pending still, which stands in the indirection, or one that was decided since
     pub decides_or_not : (i main replaced : Ref) (told : Option ℕ) → action_of (state_of sizes account) operation ≡ act.Decide i main replaced told →
         ((d : Decides sizes account actor operation main replaced) × (d.verdict ≡ (if is_licensed (state_of sizes account).heap i told then prev.None else prev.Failed replaced))
-            × (main_at (state_of sizes account).heap i ≡ main))
+        × (main_at (state_of sizes account).heap i ≡ main))
         ⊎ (Reads sizes account actor operation × ((p : Ref) → prev_at (state_of sizes account).heap main ≡ prev.Pending p → ⊥) × ((j a f : Ref) → IsAhead (state_of sizes account) j a f →
-            slot_of f ≢ slot_of main))
+        slot_of f ≢ slot_of main))
     decides_or_not = decides.decides_or_not sizes account bounds actor operation runs
 
     -- putting a main node back in the place of one that stands there still, or doesn't
     pub restores_or_not : (i main former : Ref) → action_of (state_of sizes account) operation ≡ act.Restore i main former →
         (Restores sizes account actor operation i main former × (main_at (state_of sizes account).heap i ≡ main)) ⊎ (Reads sizes account actor operation
-            × (main_at (state_of sizes account).heap i ≢ main))
+        × (main_at (state_of sizes account).heap i ≢ main))
     restores_or_not = restores.restores_or_not sizes account bounds actor operation runs
 
     -- swapping a fresh main node in over one that stands there still, or doesn't
@@ -135,5 +131,6 @@ nodes_go = found.nodes_go
 -- a pending main node that is read stands in the indirection
 pub pending_stands : (sizes : Sizes) (account : Account) → AreBounds (bounds_for sizes account.steps) → (actor : ℕ) (operation : Operation) → running sizes account actor operation →
     (i main replaced : Ref) →
-    read_of operation.line ≡ Some (record { indirection = i; line = read.Prev main }) → prev_at (state_of sizes account).heap main ≡ prev.Pending replaced → main_at (state_of sizes account).heap i ≡ main
+    read_of operation.line ≡ Some (record { indirection = i; line = read.Prev main }) → prev_at (state_of sizes account).heap main ≡ prev.Pending replaced →
+    main_at (state_of sizes account).heap i ≡ main
 pending_stands = found.pending_stands

@@ -1,5 +1,6 @@
 //! Laws of what is live, for every list of steps.
 
+ghost use Rattle.proof_garbage.specs.Grace.{DeadAfterGrace, TwoEpochsAreGrace};
 ghost use Rattle.proof_garbage.specs.Laws.{FreshIsAlone, GarbageStays, LiveInUse, NamedAreHeld, PrivateUnknown};
 
 /// A law: what is live is in use.
@@ -26,4 +27,15 @@ pub fn private_unknown()
 /// A law: a main node that is about to be swapped in is private and decided, and stands in no slot.
 pub fn fresh_is_alone()
     ensures { FreshIsAlone }
+{}
+
+/// A law: what no root reaches is unknown to all who begin later, unless one who ran then puts it back; so it is dead when
+/// these have ended.
+pub fn dead_after_grace()
+    ensures { DeadAfterGrace }
+{}
+
+/// A law: where the epoch has grown twice, all who ran before have ended.
+pub fn two_epochs_are_grace()
+    ensures { TwoEpochsAreGrace }
 {}

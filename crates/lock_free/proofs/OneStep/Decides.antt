@@ -1,38 +1,33 @@
 -- What is left by the step that decides a pending main node, or finds that it was decided.
-use Rattle.std.proofs.Common.{◌≡◌, ◌≢◌, ◌⊎◌, ◌==◌, ℕ, Bool, true, false, Option, Some, None, get_or, refl, sym, ap, subst, ◌∙◌, inl, inr, eqb-true, if◌then◌else◌}
+use Rattle.std.proofs.Common.{◌≡◌, ◌≢◌, ◌⊎◌, ℕ, Bool, true, false, Option, Some, None, get_or, refl, sym, ap, subst, ◌∙◌, inl, inr, eqb-true, if◌then◌else◌}
 use Rattle.std.proofs.lemmas.Bool.{cases_eq, eqb-false, false≢true}
-use Rattle.std.proofs.lemmas.Option.{same_Some}
 use Rattle.machine_model.specs.Beneath.slot_arena.specs.declared.refs.Ref.{Ref}
-use Rattle.machine_model.specs.Beneath.slot_arena.specs.declared.nodes.Node.{Node}
-use Rattle.machine_model.specs.Beneath.slot_arena.specs.declared.nodes.Node.TheVariants.{Indirection}
 use Rattle.machine_model.specs.Beneath.slot_arena.specs.declared.nodes.Prev.{Prev}
 use Rattle.machine_model.specs.Beneath.slot_arena.specs.declared.nodes.Prev.TheVariants as prev
-use Rattle.machine_model.specs.Beneath.slot_arena.specs.declared.nodes.Slot.{Slot}
-use Rattle.machine_model.specs.Beneath.slot_arena.specs.Heaps.{Heap, stored, node_at, main_at, main_of, prev_at, with_prev}
+use Rattle.machine_model.specs.Beneath.slot_arena.specs.Heaps.{Heap, main_at, prev_at, with_prev}
 use Rattle.machine_model.specs.Beneath.slot_arena.specs.Refs.{slot_of}
-use Rattle.machine_model.specs.declared.actions.Action.{Action}
 use Rattle.machine_model.specs.declared.actions.Action.TheVariants as act
 use Rattle.machine_model.specs.declared.lines.Line.TheVariants as line
 use Rattle.machine_model.specs.declared.operations.Operation.{Operation}
 use Rattle.machine_model.specs.Acting.{acted, gone, decided, operation_after, attempt_after, mark_after}
 use Rattle.machine_model.specs.Calls.{handle_of}
-use Rattle.machine_model.specs.Grown.{standing}
 use Rattle.machine_model.specs.Machine.{AreBounds}
 use Rattle.machine_model.specs.Moves.{GoesOn}
 use Rattle.machine_model.specs.Operations.{action_of}
-use Rattle.machine_model.specs.Reading.{Verdict, Commits, Fails, Overtaken, verdict, verdict_by, is_licensed, is_pending}
+use Rattle.machine_model.specs.Reading.{verdict_by, is_licensed, is_pending}
 use Rattle.machine_model.specs.States.{State, with_operation}
 use Rattle.machine_model.specs.Swapping.{swapping}
 use Rattle.machine_model.specs.declared.steps.Bounds.{Bounds}
 use Rattle.machine_model.proofs.Found.{found_elsewhere}
-use Rattle.machine_model.proofs.Grown.{node_standing, prev_standing}
+use Rattle.machine_model.proofs.Grown.{prev_standing}
 use Rattle.proof_memory.specs.Laws.{IsInUse}
 use Rattle.proof_memory.specs.Wants.{AllHold, action_wants}
-use Rattle.proof_memory.proofs.Claims.Uses.{safe_of, meets_of}
+use Rattle.proof_memory.proofs.Claims.Uses.{safe_of}
 use Rattle.proof_memory.proofs.Heap.Under.{prev_here, prev_other}
 use Rattle.proof_memory.proofs.Safety.AtEachTime.{safe_along}
 use Rattle.proof_memory.proofs.Safety.AtTimes.{action_finds}
 use Rattle.proof_waiting.specs.Beneath.proof_slots.proofs.Unswept.Kept.{one_ref}
+use Rattle.proof_garbage.proofs.Unknown.{pending_is}
 use Rattle.proof_garbage.proofs.Fresh.{deciding_over, deciding_stands, deciding_met}
 use Rattle.lock_free.specs.declared.accounts.Account.{Account}
 use Rattle.lock_free.specs.declared.sizes.Sizes.{Sizes}
@@ -63,11 +58,6 @@ prev_used heap m p (was, stands) r (slot, now) = elim (cases_eq r m) [
   | inl same ↦ subst (IsInUse heap) (sym same) (was, stands)
   | inr apart ↦ (slot, sym (prev_other heap m p was stands r apart) ∙ now)
 ]
-
-pending_is : (p : Prev) (previous : Ref) → is_pending p previous ≡ true → p ≡ prev.Pending previous
-pending_is prev.None previous e = absurd (false≢true e)
-pending_is (prev.Failed x) previous e = absurd (false≢true e)
-pending_is (prev.Pending x) previous e = ap prev.Pending (eqb-true x previous e)
 
 pending_so : (p : Prev) (q previous : Ref) → p ≡ prev.Pending q → q ≡ previous → is_pending p previous ≡ false → ⊥
 pending_so p q previous pending same e = eqb-false q previous (sym (ap (λ x. is_pending x previous) pending) ∙ e) same

@@ -1,6 +1,5 @@
 -- What stands in the definition's slots, and what the next action of an operation finds there.
 use Rattle.std.proofs.Common.{◌≡◌, ◌≢◌, ◌+◌, ◌<◌, ◌≤◌, ◌++◌, ℕ, length, length-append, true, List, [], ◌∷◌, Contains, Some, None, get_or, refl, sym, ap, subst, ◌∙◌, arith, append-nil}
-use Rattle.std.proofs.lemmas.List.Elements.{Contains-get_or}
 use Rattle.machine_model.specs.Beneath.slot_arena.specs.declared.refs.Ref.{Ref}
 use Rattle.machine_model.specs.Beneath.slot_arena.specs.declared.nodes.Node.{Node}
 use Rattle.machine_model.specs.Beneath.slot_arena.specs.declared.nodes.Node.TheVariants.{Indirection, Branch, Single, Tomb, List as Listed}
@@ -110,7 +109,7 @@ gone_along : (limits : Bounds) (steps more : List Step) → AreBounds limits →
     action_of (run limits steps) operation ≡ act.Restore i main former → main_at (run limits steps).heap i ≢ main → main_at (run limits (steps ++ more)).heap i ≢ main
 gone_along limits steps more ok quiet actor operation i main former runs is gone stands =
     let claims = subst (λ action. AllHold (IsInUse (run limits steps).heap) (run limits steps).heap (action_wants action)) is (action_finds (run limits steps)
-        (safe_along limits ok steps) actor operation runs) in
+    (safe_along limits ok steps) actor operation runs) in
     let (slot, used) = safe_of claims.0 in
     let (slot_main, used_main) = safe_of claims.1.0 in
     let (now, used_now, same) = nothing_is_freed limits steps more i slot ok quiet used in
@@ -223,8 +222,11 @@ nodes_go sizes actor account bounds k slot at = slots_stay sizes account.steps (
 -- a pending main node that is read stands in the indirection
 pub pending_stands : (sizes : Sizes) (account : Account) → AreBounds (bounds_for sizes account.steps) → (actor : ℕ) (operation : Operation) → running sizes account actor operation →
     (i main replaced : Ref) →
-    read_of operation.line ≡ Some (record { indirection =
-        i; line = read.Prev main }) → prev_at (state_of sizes account).heap main ≡ prev.Pending replaced → main_at (state_of sizes account).heap i ≡ main
+    read_of operation.line ≡ Some (record {
+      indirection =
+          i;
+      line = read.Prev main;
+    }) → prev_at (state_of sizes account).heap main ≡ prev.Pending replaced → main_at (state_of sizes account).heap i ≡ main
 pending_stands sizes account bounds actor operation runs i main replaced is pending =
     reading_stands (bounds_for sizes account.steps) account.steps bounds actor operation i main runs is replaced pending
 

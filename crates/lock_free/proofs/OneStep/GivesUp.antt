@@ -1,5 +1,5 @@
 -- What is left where an operation gives up: all that it made and nobody met is given up with it.
-use Rattle.std.proofs.Common.{◌≡◌, ◌≢◌, ◌⊎◌, ◌-◌, ◌++◌, ◌+◌, ℕ, zero, suc, Bool, true, false, List, [], ◌∷◌, All, Contains, length, get_or, set, Option, Some, None, refl, sym, ap, subst, ◌∙◌, inl}
+use Rattle.std.proofs.Common.{◌≡◌, ◌≢◌, ◌⊎◌, ◌-◌, ◌++◌, ◌+◌, ℕ, zero, suc, false, [], ◌∷◌, Contains, length, get_or, set, Some, None, refl, sym, ap, subst, ◌∙◌, inl}
 use Rattle.std.proofs.Common.{inr, arith}
 use Rattle.std.specs.Prelude.{option_map}
 use Rattle.std.proofs.lemmas.Bool.{cases_eq, true≢false}
@@ -38,11 +38,10 @@ use Rattle.lock_free.specs.Live.{IsLive, at_hand}
 use Rattle.lock_free.specs.Nodes.{IsAhead}
 use Rattle.lock_free.specs.Steps.{Leads}
 use Rattle.lock_free.specs.Trying.{try_of, try_at, SameTries, as_before}
-use Rattle.lock_free.proofs.OneStep.Aheads.{ahead_of}
 use Rattle.lock_free.proofs.OneStep.Giving.{is_one_of, one_of_them, none_of_them}
 use Rattle.lock_free.proofs.OneStep.Going.{allowed}
 use Rattle.lock_free.proofs.OneStep.Longer.{run_next, bounds_more}
-use Rattle.lock_free.proofs.OneStep.Widened.{slot_in, live_in, ahead_in, ahead_wide}
+use Rattle.lock_free.proofs.OneStep.Widened.{slot_in, live_in}
 
 module _ (sizes : Sizes) (account : Account) (bounds : AreBounds (bounds_for sizes account.steps)) (actor : ℕ) (operation : Operation) (runs : running sizes account actor operation) (answer : Reply)
     (may : given_up operation.call operation.line ≡ Some answer) where

@@ -1,28 +1,24 @@
 -- One step more of an actor's operation, seen as a step of the definition.
-use Rattle.std.proofs.Common.{◌≡◌, ◌≢◌, ◌+◌, ◌-◌, ◌<◌, ◌≤◌, ◌++◌, ℕ, zero, suc, Bool, true, false, not, List, [], ◌∷◌, get_or, set, length, Some, None, Ok, is_some, refl, sym, ap, subst, ◌∙◌, arith}
-use Rattle.std.proofs.Common.{length-append}
+use Rattle.std.proofs.Common.{◌≡◌, ◌+◌, ◌<◌, ◌≤◌, ◌++◌, ℕ, suc, Bool, true, false, not, List, [], ◌∷◌, get_or, length, Some, None, Ok, is_some, refl, ap, ◌∙◌, arith}
 use Rattle.std.proofs.lemmas.Bool.{lt-leb}
-use Rattle.std.proofs.lemmas.List.{get_or-set_same}
-use Rattle.std.proofs.lemmas.Option.{none-some, same_Some}
 use Rattle.machine_model.specs.Beneath.ctrie_base.specs.declared.refusals.Refusal.TheVariants as refuse
 use Rattle.machine_model.specs.declared.actions.Action.{Action}
 use Rattle.machine_model.specs.declared.actions.Action.TheVariants as act
 use Rattle.machine_model.specs.declared.operations.Operation.{Operation}
 use Rattle.machine_model.specs.declared.steps.Bounds.{Bounds}
-use Rattle.machine_model.specs.declared.steps.Outcome.{Outcome}
 use Rattle.machine_model.specs.declared.steps.Outcome.TheVariants as outcome
 use Rattle.machine_model.specs.declared.steps.Step.{Step}
 use Rattle.machine_model.specs.declared.steps.Step.TheVariants as step
-use Rattle.machine_model.specs.Acting.{gone, operation_after}
+use Rattle.machine_model.specs.Acting.{gone}
 use Rattle.machine_model.specs.Counting.{settled}
-use Rattle.machine_model.specs.Machine.{AreBounds, run, run_from, next, next_state, state_after, first_reason, go_denial, go_unless, go_on, step_by, is_actor, is_running, is_spent}
+use Rattle.machine_model.specs.Machine.{AreBounds, run_from, next, next_state, state_after, first_reason, go_denial, go_unless, go_on, step_by, is_actor, is_running, is_spent}
 use Rattle.machine_model.specs.Moves.{Moves, GoesOn, Goes}
 use Rattle.machine_model.specs.Operations.{action_of, kind_of}
 use Rattle.machine_model.specs.States.{State, first_state, operation_of}
-use Rattle.machine_model.proofs.Actors.{actor_by, marks_by, after_marks, gone_actors}
+use Rattle.machine_model.proofs.Actors.{actor_by}
 use Rattle.machine_model.proofs.Along.{limits_along, kept_by_moves}
 use Rattle.machine_model.proofs.Fates.{place_of_actor}
-use Rattle.machine_model.proofs.Found.{found_within, found_elsewhere}
+use Rattle.machine_model.proofs.Found.{found_within}
 use Rattle.machine_model.proofs.Frames.{steps_counted}
 use Rattle.proof_memory.proofs.Holding.Sizes.{sizes_stay}
 use Rattle.proof_waiting.specs.Beneath.proof_slots.specs.Lasting.{widened}

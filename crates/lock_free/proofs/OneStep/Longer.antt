@@ -1,9 +1,8 @@
 -- The same steps under the bounds of a longer account lead to the same, but for slots that are free and steps that are left.
-use Rattle.std.proofs.Common.{◌≡◌, ◌≤◌, ◌++◌, ◌+◌, ℕ, List, [], ◌∷◌, get_or, length, Some, None, refl, sym, ap, ◌∙◌, subst, arith, length-append}
-use Rattle.machine_model.specs.declared.steps.Bounds.{Bounds}
+use Rattle.std.proofs.Common.{◌≡◌, ◌≤◌, ◌++◌, ◌+◌, List, [], ◌∷◌, length, ap, ◌∙◌, arith, length-append}
 use Rattle.machine_model.specs.declared.steps.Step.{Step}
-use Rattle.machine_model.specs.Machine.{AreBounds, run, run_from, next_state}
-use Rattle.machine_model.specs.States.{State, first_state}
+use Rattle.machine_model.specs.Machine.{AreBounds, run, next_state}
+use Rattle.machine_model.specs.States.{first_state}
 use Rattle.machine_model.proofs.Along.{run_push}
 use Rattle.proof_waiting.specs.Beneath.proof_slots.specs.Lasting.{wider, widened}
 use Rattle.proof_waiting.specs.Beneath.proof_slots.proofs.Wider.{wider_alike}
@@ -33,7 +32,7 @@ module _ (sizes : Sizes) (steps : List Step) where
         let left : length done ≤ (bounds_for sizes steps).steps = omega (arith, few) in
         let also : length done ≤ length (steps ++ more) + 1 = omega (arith, few, length-append steps more) in
         ap (λ b. run b done) (longer_bounds more)
-            ∙ (wider_alike (length more) (length (steps ++ more) + 1) (bounds_for sizes steps) done ok (few_steps_have_slots (bounds_for sizes steps) done enough) left also).0
+        ∙ (wider_alike (length more) (length (steps ++ more) + 1) (bounds_for sizes steps) done ok (few_steps_have_slots (bounds_for sizes steps) done enough) left also).0
 
     -- one step more
     pub run_next : (s : Step) → run (bounds_for sizes (steps ++ s ∷ [])) (steps ++ s ∷ []) ≡ widened 1 (length (steps ++ s ∷ []) + 1) (next_state (run (bounds_for sizes steps) steps) s)

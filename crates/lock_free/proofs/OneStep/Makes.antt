@@ -1,6 +1,5 @@
 -- What is left by a step that makes a node.
-use Rattle.std.proofs.Common.{◌≡◌, ◌≢◌, ◌⊎◌, ◌+◌, ◌<◌, ◌++◌, ℕ, suc, Bool, List, [], ◌∷◌, Contains, length, get_or, Option, Some, None, refl, sym, ap, subst, ◌∙◌, inl, inr, arith}
-use Rattle.std.proofs.lemmas.Bool.{cases_eq}
+use Rattle.std.proofs.Common.{◌≡◌, ◌≢◌, ◌⊎◌, ◌+◌, ◌<◌, ℕ, Bool, [], ◌∷◌, Contains, length, get_or, Option, Some, None, refl, sym, ap, subst, ◌∙◌, inl, inr, arith}
 use Rattle.std.proofs.lemmas.List.Elements.{Contains-append_left, Contains-get_or}
 use Rattle.std.proofs.lemmas.Option.{none-some, same_Some}
 use Rattle.machine_model.specs.Beneath.slot_arena.specs.declared.refs.Ref.{Ref}
@@ -9,7 +8,7 @@ use Rattle.machine_model.specs.Beneath.slot_arena.specs.declared.nodes.Node.TheV
 use Rattle.machine_model.specs.Beneath.slot_arena.specs.declared.nodes.Prev.TheVariants as prev
 use Rattle.machine_model.specs.Beneath.slot_arena.specs.declared.nodes.Slot.{Slot}
 use Rattle.machine_model.specs.Beneath.slot_arena.specs.Heaps.{Heap, no_ref, stored, node_at, node_of, main_at, main_of, next_ref, prev_at, taken, refs_of_node, refs_of_slot}
-use Rattle.machine_model.specs.Beneath.slot_arena.specs.Refs.{slot_of, birth_of, ref_to}
+use Rattle.machine_model.specs.Beneath.slot_arena.specs.Refs.{slot_of, ref_to}
 use Rattle.machine_model.specs.Beneath.slot_arena.proofs.Live.{same_ref, slot_of_ref}
 use Rattle.machine_model.specs.declared.actions.Action.{Action}
 use Rattle.machine_model.specs.declared.actions.Action.TheVariants as act
@@ -28,8 +27,7 @@ use Rattle.machine_model.specs.Grown.{standing}
 use Rattle.machine_model.specs.Machine.{AreBounds, state_after}
 use Rattle.machine_model.specs.Moves.{GoesOn}
 use Rattle.machine_model.specs.Operations.{action_of}
-use Rattle.machine_model.specs.States.{State, first_state, operation_of, with_operation}
-use Rattle.machine_model.specs.Swapping.{swapping}
+use Rattle.machine_model.specs.States.{State, first_state, with_operation}
 use Rattle.machine_model.proofs.Along.{run_push}
 use Rattle.machine_model.proofs.Grown.{prev_standing}
 use Rattle.proof_memory.specs.Laws.{IsInUse}
@@ -42,20 +40,18 @@ use Rattle.proof_memory.proofs.Safety.AtTimes.{line_finds}
 use Rattle.proof_memory.proofs.Safety.States.{IsSafe}
 use Rattle.proof_memory.proofs.Safety.Standing.{in_root, in_any_slot}
 use Rattle.proof_memory.proofs.Safety.Steps.{made_heap}
-use Rattle.proof_garbage.proofs.Claims.{Are, none_in, one_in, refs_held}
+use Rattle.proof_garbage.proofs.Claims.{Are, refs_claimed, refs_held}
 use Rattle.proof_garbage.proofs.First.{first_decided}
 use Rattle.proof_garbage.proofs.Known.{action_known, known_used, line_known}
 use Rattle.proof_waiting.specs.Beneath.proof_slots.specs.Unswept.{HasNoSweeps}
-use Rattle.proof_waiting.specs.Beneath.proof_slots.proofs.Unswept.Kept.{one_ref}
 use Rattle.proof_waiting.specs.Beneath.proof_slots.proofs.Unswept.Orders.{slots_are_taken_in_order}
 use Rattle.lock_free.specs.declared.accounts.Account.{Account}
 use Rattle.lock_free.specs.declared.accounts.Known.{Known}
 use Rattle.lock_free.specs.declared.sizes.Sizes.{Sizes}
-use Rattle.lock_free.specs.Accounts.{bounds_for, state_of, running, gone_on, HasStood}
+use Rattle.lock_free.specs.Accounts.{bounds_for, state_of, running, HasStood}
 use Rattle.lock_free.specs.Live.{IsLive, IsKnown, refs_of_claims}
 use Rattle.lock_free.specs.Making.{over_of, made_at, NamesNot, Makes}
 use Rattle.lock_free.specs.Nodes.{IsAhead}
-use Rattle.lock_free.specs.Trying.{SameTries}
 use Rattle.lock_free.proofs.OneStep.Aheads.{ahead_of, ahead_acts, goes_ahead}
 use Rattle.lock_free.proofs.OneStep.Changing.{then, after, live_used, was_live, live_less, slot_then, births_then, roots_then, generations_then, others_then, own_then, tries_stay, aheads_then}
 use Rattle.lock_free.proofs.OneStep.Changing.{still_then}
@@ -66,14 +62,6 @@ use Rattle.lock_free.proofs.OneStep.MadeMains.{made_main_decided}
 use Rattle.lock_free.proofs.OneStep.Met.{known_met}
 use Rattle.lock_free.proofs.OneStep.Offers.{stood_used}
 use Rattle.lock_free.proofs.OneStep.Taking as taking
-
--- what a node names is what it claims
-refs_claimed : (K : Ref → Type 0) (node : Node) → Are K (refs_of_claims (node_wants node)) → Are K (refs_of_node node)
-refs_claimed K (Indirection generation main) h r c = h r c
-refs_claimed K (Branch bitmap entries) h r c = h r (Contains-append_left entries.items [] r c)
-refs_claimed K (Single key value) h r c = h r c
-refs_claimed K (Tomb single) h r c = h r c
-refs_claimed K (Listed singles) h r c = h r (Contains-append_left singles.items [] r c)
 
 -- the claims of an action that makes this node are the node's
 node_claims : (state : State) (S : Ref → Type 0) (heap : Heap) (action : Action) (node : Node) → made_node state action ≡ Some node → AllHold S heap (action_wants action) →
@@ -303,7 +291,7 @@ module _ (sizes : Sizes) (account : Account) (bounds : AreBounds (bounds_for siz
       let drawn = taking.made_next sizes account.steps bounds quiet (step.Go actor) in
       let taken = ap (acted next_state (handle_of operation.call)) is ∙ ap (new_root_taken next_state main) drawn in
       makes sizes account bounds actor operation runs quiet counted stood (Indirection before.generations main) (ap (made_node before) is) 1 (ap (λ (s : State). s.roots) taken) (ap
-          (λ (s : State). s.generations) taken)
+      (λ (s : State). s.generations) taken)
       name own
 
 module _ (sizes : Sizes) (account : Account) (bounds : AreBounds (bounds_for sizes account.steps)) (actor : ℕ) (operation : Operation) (runs : running sizes account actor operation) where
@@ -314,10 +302,10 @@ module _ (sizes : Sizes) (account : Account) (bounds : AreBounds (bounds_for siz
       let safe = safe_along (bounds_for sizes account.steps) bounds account.steps in
       let claims = action_known state safe (λ id. Unit {0}) actor operation runs tt in
       refs_claimed (IsLive state) node (refs_held (IsLive state) state.heap (node_wants node)
-          (node_claims state (IsLive state) state.heap (action_of state operation) node (ap (made_node state) is) claims)) r c
+      (node_claims state (IsLive state) state.heap (action_of state operation) node (ap (made_node state) is) claims)) r c
 
   pub over_lives : (i main : Ref) → over_of operation.line ≡ Some (i, main) → IsLive (state_of sizes account) main
   over_lives i main over =
       let state = state_of sizes account in
       over_used (IsLive state) state.heap state operation operation.line i main over (line_known state (safe_along (bounds_for sizes account.steps) bounds account.steps)
-          (λ id. Unit {0}) actor operation runs tt)
+      (λ id. Unit {0}) actor operation runs tt)

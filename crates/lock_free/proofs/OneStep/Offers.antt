@@ -1,11 +1,9 @@
 -- The references of an offer that stood in a root word were made.
-use Rattle.std.proofs.Common.{◌≡◌, ◌++◌, ◌<◌, ℕ, List, [], ◌∷◌, Contains, get_or, length, Option, Some, None, refl, sym, ap, subst, ◌∙◌, arith, append-nil}
+use Rattle.std.proofs.Common.{◌≡◌, ◌++◌, [], Contains, Option, Some, None, sym, ap, subst, ◌∙◌, append-nil}
 use Rattle.machine_model.specs.Beneath.slot_arena.specs.declared.refs.Ref.{Ref}
-use Rattle.machine_model.specs.Beneath.slot_arena.specs.Refs.{slot_of}
 use Rattle.machine_model.specs.declared.roots.Descriptor.{Descriptor}
 use Rattle.machine_model.specs.declared.roots.Root.{Root}
 use Rattle.machine_model.specs.declared.roots.RootWord.TheVariants.{Offer}
-use Rattle.machine_model.specs.declared.steps.Bounds.{Bounds}
 use Rattle.machine_model.specs.Counting.{refs_of_root, refs_of_word}
 use Rattle.machine_model.specs.Machine.{AreBounds, run}
 use Rattle.machine_model.specs.States.{State, root_at, word_at, word_of}

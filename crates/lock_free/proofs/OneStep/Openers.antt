@@ -1,5 +1,5 @@
 -- An operation that is to open a handle makes roots alone.
-use Rattle.std.proofs.Common.{◌≡◌, ℕ, Bool, true, false, Option, Some, None, get_or, refl, sym, ap, subst, ◌∙◌, if◌then◌else◌}
+use Rattle.std.proofs.Common.{◌≡◌, ℕ, true, Option, Some, None, get_or, refl, sym, ap, subst, ◌∙◌}
 use Rattle.std.proofs.lemmas.Bool.{true≢false}
 use Rattle.std.proofs.lemmas.Option.{none-some}
 use Rattle.machine_model.specs.Beneath.history.specs.declared.calls.Call.{Call}
@@ -32,7 +32,7 @@ use Rattle.machine_model.specs.Machine.{run}
 use Rattle.machine_model.specs.Moves.{Moves, begun_operation}
 use Rattle.machine_model.specs.Operations.{action_of, line_action, line_after}
 use Rattle.machine_model.specs.Reading.{read_action}
-use Rattle.machine_model.specs.States.{State, first_state, operation_of}
+use Rattle.machine_model.specs.States.{State, first_state}
 use Rattle.machine_model.specs.Swapping.{complete_action_at, root_action}
 use Rattle.machine_model.proofs.Actors.{mark_only, marks_by, marks_in}
 use Rattle.machine_model.proofs.Along.{along}

@@ -1,18 +1,16 @@
 -- What is left by the step that swaps a fresh main node in, or finds another one than it is to replace.
-use Rattle.std.proofs.Common.{◌≡◌, ◌≢◌, ◌⊎◌, ◌==◌, ℕ, Bool, true, false, List, [], ◌∷◌, ◌++◌, All, Contains, Option, Some, None, get_or, arith, refl, sym, ap, subst, ◌∙◌, inl, inr, eqb-true}
-use Rattle.std.proofs.Common.{if◌then◌else◌}
+use Rattle.std.proofs.Common.{◌≡◌, ◌≢◌, ◌⊎◌, ◌==◌, ℕ, Bool, true, false, ◌∷◌, ◌++◌, All, Contains, Option, Some, None, get_or, arith, refl, sym, ap, subst, ◌∙◌, inl, inr, eqb-true}
 use Rattle.std.proofs.lemmas.Bool.{cases_eq, eqb-false, true≢false}
 use Rattle.std.proofs.lemmas.Option.{none-some, same_Some}
 use Rattle.std.proofs.lemmas.List.Elements.{Contains-get_or}
 use Rattle.machine_model.specs.Beneath.slot_arena.specs.declared.refs.Ref.{Ref}
 use Rattle.machine_model.specs.Beneath.slot_arena.specs.declared.nodes.Node.{Node}
 use Rattle.machine_model.specs.Beneath.slot_arena.specs.declared.nodes.Node.TheVariants.{Indirection, Branch, Single, Tomb, List as Listed}
-use Rattle.machine_model.specs.Beneath.slot_arena.specs.declared.nodes.Prev.{Prev}
 use Rattle.machine_model.specs.Beneath.slot_arena.specs.declared.nodes.Prev.TheVariants as prev
 use Rattle.machine_model.specs.Beneath.slot_arena.specs.declared.nodes.Slot.{Slot}
 use Rattle.machine_model.specs.Beneath.slot_arena.specs.Heaps.{Heap, no_ref, stored, node_at, node_of, main_at, main_of, prev_at, with_main, with_main_word, with_prev, refs_of_slot, refs_of_node}
 use Rattle.machine_model.specs.Beneath.slot_arena.specs.Heaps.{refs_of_prev}
-use Rattle.machine_model.specs.Beneath.slot_arena.specs.Refs.{slot_of, birth_of, ref_to}
+use Rattle.machine_model.specs.Beneath.slot_arena.specs.Refs.{slot_of, ref_to}
 use Rattle.machine_model.specs.Beneath.slot_arena.proofs.Live.{same_ref}
 use Rattle.machine_model.specs.declared.actions.Action.{Action}
 use Rattle.machine_model.specs.declared.actions.Action.TheVariants as act

@@ -1,12 +1,10 @@
 -- A step that makes a node takes the slot whose number is that of the nodes made before.
-use Rattle.std.proofs.Common.{◌≡◌, ◌≢◌, ◌⊎◌, ◌+◌, ◌≤◌, ◌<◌, ◌++◌, ℕ, suc, List, [], ◌∷◌, drop, length, get_or, set, Option, Some, None, refl, sym, ap, subst, ◌∙◌, inl, inr, arith, length-append}
+use Rattle.std.proofs.Common.{◌≡◌, ◌≢◌, ◌⊎◌, ◌+◌, ◌≤◌, ◌++◌, ℕ, suc, List, [], ◌∷◌, length, get_or, Some, None, refl, sym, ap, ◌∙◌, inl, inr, arith, length-append}
 use Rattle.std.specs.List.{range_with_len}
 use Rattle.std.proofs.lemmas.Bool.{cases_eq}
-use Rattle.std.proofs.lemmas.Option.{none-some}
 use Rattle.machine_model.specs.Beneath.slot_arena.specs.declared.refs.Ref.{Ref}
 use Rattle.machine_model.specs.Beneath.slot_arena.specs.declared.nodes.Node.{Node}
-use Rattle.machine_model.specs.Beneath.slot_arena.specs.declared.nodes.Slot.{Slot}
-use Rattle.machine_model.specs.Beneath.slot_arena.specs.Heaps.{Heap, stored, next_ref, ref_in, taken, take_from}
+use Rattle.machine_model.specs.Beneath.slot_arena.specs.Heaps.{next_ref, ref_in, taken, take_from}
 use Rattle.machine_model.specs.Beneath.slot_arena.specs.Refs.{slot_of, ref_to}
 use Rattle.machine_model.specs.Beneath.slot_arena.proofs.Live.{slot_of_ref}
 use Rattle.machine_model.specs.declared.steps.Bounds.{Bounds}
