@@ -45,7 +45,7 @@ mod Tries
 mod Settled
 mod Rewritten
 mod Entering
-mod Handles
+mod OpenHandles
 mod Pinning
 mod Ended
 mod Begun
@@ -55,3 +55,4 @@ mod Stood
 mod Allowed
 mod AbortStep
 mod CompleteStep
+mod SeenRoots

@@ -17,3 +17,4 @@ pub mod Beginning
 pub mod Exchanging
 pub mod Storing
 pub mod OfferWords
+pub mod HandleWords
