@@ -88,7 +88,7 @@ module _ (v : View) (s : Table.State Call View) (kept : IsKept v.sizes s) where
         let header : Header = record { previous = h.previous; shape = h.shape } in
         let fits : IsHeader header = (previous_fits slot.prev h.previous refl h.is_previous, shape_fits slot.node h.shape refl h.is_shape) in
         subst (λ x. HasHeader there state r x) (sym (ap header_of h.code ∙ header_back header fits))
-        (record { slot = slot; stores = is; is_main = main; is_previous = h.is_previous; is_shape = h.is_shape; fits = fits })
+        (record { slot = slot; stores = is; is_main = main; is_previous = h.is_previous; is_shape = h.is_shape; fits = fits; used = λ q c. live_in_use v.sizes there kept.bounds q (node_lives r q slot live is c) })
 
     -- and so does the link
     pub link_found : (found generation : ℕ) (main : Ref) (own : Bool) → slot.node ≡ Indirection generation main → generation < 2 ^ 36 → OwnIs there.owned (slot_of r) (slot_of main) own →
@@ -96,6 +96,7 @@ module _ (v : View) (s : Table.State Call View) (kept : IsKept v.sizes s) where
     link_found found generation main own node small owned code =
         let link : Link = record { generation = generation; main = record { slot = place_of there main; own = own } } in
         let named : Contains (refs_of_node slot.node) main = subst (λ x. Contains (refs_of_node x) main) (sym node) (Contains-get_or (main ∷ []) 0 main (omega arith)) in
-        let fits : IsLink link = (small, place_small main (node_lives r main slot live is (Contains-append_left (refs_of_node slot.node) (refs_of_prev slot.prev) main named))) in
+        let main_lives : IsLive state main = node_lives r main slot live is (Contains-append_left (refs_of_node slot.node) (refs_of_prev slot.prev) main named) in
+        let fits : IsLink link = (small, place_small main main_lives) in
         subst (λ x. HasLink there state r x) (sym (ap link_of code ∙ link_back link fits))
-        (record { slot = slot; stores = is; main = main; is_link = node; place = refl; is_own = owned; fits = fits })
+        (record { slot = slot; stores = is; main = main; is_link = node; place = refl; is_own = owned; fits = fits; used = live_in_use v.sizes there kept.bounds main main_lives })

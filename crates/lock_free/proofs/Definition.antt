@@ -1,7 +1,6 @@
 -- What the proof on words asks of the definition: what a step that only reads leaves, and what stays while others take steps.
-use Rattle.std.proofs.Common.{◌≡◌, ◌+◌, ◌<◌, ◌++◌, ◌⊎◌, ℕ, Bool, true, List, [], ◌∷◌, Contains, Option, Some, None, refl, sym, ap, ◌∙◌, subst, inl, inr, length, get_or, append-nil, arith}
+use Rattle.std.proofs.Common.{◌≡◌, ◌<◌, ◌++◌, ℕ, Bool, true, [], ◌∷◌, Contains, Some, None, refl, sym, ap, ◌∙◌, subst, length, get_or, append-nil, arith}
 use Rattle.std.proofs.lemmas.List.Elements.{Contains-get_or}
-use Rattle.std.proofs.lemmas.Option.{none-some}
 use Rattle.machine_model.specs.Beneath.slot_arena.specs.declared.refs.Ref.{Ref}
 use Rattle.machine_model.specs.Beneath.slot_arena.specs.declared.nodes.Slot.{Slot}
 use Rattle.machine_model.specs.Beneath.slot_arena.specs.Refs.{slot_of}
@@ -9,12 +8,10 @@ use Rattle.machine_model.specs.declared.actions.Action.{Action}
 use Rattle.machine_model.specs.declared.actions.Action.TheVariants as act
 use Rattle.machine_model.specs.declared.operations.Operation.{Operation}
 use Rattle.machine_model.specs.Operations.{action_of}
-use Rattle.machine_model.specs.Beneath.slot_arena.specs.Heaps.{Heap, stored, node_at}
+use Rattle.machine_model.specs.Beneath.slot_arena.specs.Heaps.{stored, node_at}
 use Rattle.machine_model.specs.declared.lines.Line.{Line}
-use Rattle.machine_model.specs.declared.steps.Step.TheVariants as step
 use Rattle.machine_model.specs.Acting.{acted, gone, operation_after, attempt_after, mark_after}
 use Rattle.machine_model.specs.Calls.{handle_of}
-use Rattle.machine_model.specs.Grown.{standing}
 use Rattle.machine_model.specs.Machine.{AreBounds, run}
 use Rattle.machine_model.specs.Moves.{GoesOn}
 use Rattle.machine_model.specs.Operations.{line_action}
@@ -26,20 +23,16 @@ use Rattle.proof_memory.proofs.Claims.Uses.{safe_of, meets_of}
 use Rattle.proof_memory.proofs.Safety.AtEachTime.{safe_along}
 use Rattle.proof_memory.proofs.Safety.AtTimes.{action_finds}
 use Rattle.proof_memory.proofs.Safety.States.{IsSafe}
-use Rattle.proof_memory.proofs.Safety.Steps.{safe_after}
-use Rattle.proof_garbage.proofs.Known.{known_used, named_known}
-use Rattle.proof_garbage.proofs.Step.{step_known}
-use Rattle.proof_waiting.specs.Beneath.proof_slots.specs.Lasting.{widened}
+use Rattle.proof_garbage.proofs.Known.{named_known}
 use Rattle.proof_waiting.specs.Beneath.proof_slots.proofs.Below.{slots_are_below_births}
 use Rattle.proof_waiting.specs.Beneath.proof_slots.proofs.Padded.Lines.{acts_wide}
 use Rattle.proof_waiting.proofs.Operations.{operations_wait}
 use Rattle.proof_memory.specs.Wants.{is_main_node}
 use Rattle.lock_free.specs.declared.accounts.Account.{Account}
 use Rattle.lock_free.specs.declared.sizes.Sizes.{Sizes}
-use Rattle.lock_free.specs.Accounts.{bounds_for, state_of, HasWaited, running, gone_on}
+use Rattle.lock_free.specs.Accounts.{bounds_for, state_of, HasWaited, running}
 use Rattle.lock_free.specs.Live.{IsLive, refs_of_claims}
 use Rattle.lock_free.specs.Making.{over_of}
-use Rattle.lock_free.specs.Nodes.{IsAhead}
 use Rattle.lock_free.specs.Steps.{Reads, nothing}
 use Rattle.lock_free.proofs.OneStep.Aheads.{ahead_of, over_makes, ahead_acts}
 use Rattle.lock_free.proofs.OneStep.Doing.{CompletesNone}
@@ -99,7 +92,7 @@ module _ (sizes : Sizes) (account : Account) (bounds : AreBounds (bounds_for siz
         leads sizes account bounds actor operation runs g (reading_goes (action_of state operation) h).1 same nothing (λ r k. refl) (λ i a over. makes_none operation.line i a h over)
         (λ i a f ahead kept. publishes_none operation.line i a f h ahead)
         (as_before (tries_stay sizes account bounds actor operation runs g (reading_goes (action_of state operation) h).1 (reading_tries operation.attempt operation.is_marked (action_of state operation) h).0
-            (reading_tries operation.attempt operation.is_marked (action_of state operation) h).1))
+        (reading_tries operation.attempt operation.is_marked (action_of state operation) h).1))
 
   pub reads_of : IsReading (action_of (state_of sizes account) operation) → Reads sizes account actor operation
   reads_of h = reads_then h
@@ -129,7 +122,8 @@ module _ (sizes : Sizes) (account : Account) (bounds : AreBounds (bounds_for siz
   prev_made m h = slots_are_below_births (bounds_for sizes account.steps) account.steps m bounds (found m h).0
 
 -- while others take steps the operation stays, but for its mark, and so does what it is to do
-pub waits : (sizes : Sizes) (actor : ℕ) (before after : Account) → HasWaited actor before after → AreBounds (bounds_for sizes after.steps) → (operation : Operation) → running sizes before actor operation →
+pub waits : (sizes : Sizes) (actor : ℕ) (before after : Account) → HasWaited actor before after → AreBounds (bounds_for sizes after.steps) → (operation : Operation) →
+    running sizes before actor operation →
     (mark : Bool) × running sizes after actor (record operation { is_marked = mark })
     × (action_of (state_of sizes after) (record operation { is_marked = mark }) ≡ action_of (state_of sizes before) operation)
 waits sizes actor before after w bounds operation runs =

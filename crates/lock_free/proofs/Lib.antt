@@ -24,6 +24,14 @@ mod GivenBack
 mod PublishStep
 mod OwnSlots
 mod MakeStep
+mod ReadSteps
+mod ReadAgain
+mod Laters
+mod Comings
+mod Passes
+mod ReadHolds
+mod Settles
+mod OnePass
 mod Framing
 mod NodeWord
 mod Pools

@@ -31,7 +31,7 @@ use Rattle.lock_free.proofs.Moments.{IsThere, its_place, still_own, seat}
 
 -- ---- its generation stays
 
-generations : (before after : Node) → SameNode before after → generation_of after ≡ generation_of before
+pub generations : (before after : Node) → SameNode before after → generation_of after ≡ generation_of before
 generations (Indirection generation main) after same = ap generation_of same.1
 generations (Branch bitmap entries) after same = ap generation_of same.1
 generations (Single key value) after same = ap generation_of same.1

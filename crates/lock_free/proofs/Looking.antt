@@ -21,10 +21,11 @@ use Rattle.proof_memory.specs.Wants.{is_main_node, is_branch_or_list}
 use Rattle.lock_free.specs.declared.accounts.Account.{Account}
 use Rattle.lock_free.specs.declared.rules.View.{View}
 use Rattle.lock_free.specs.Accounts.{state_of, place_of, running, OwnIs}
-use Rattle.lock_free.specs.Loading.{Moment, now, IsAt, seen, HasSeen, HasGone, Holds, Stores, HasHeader, HasLink, SaysMain, SaysLink, SaysKey, SaysValue, SaysPair, IsAtSlot, Went, Saw, SawOf, HasRead}
+use Rattle.lock_free.specs.Loading.{Moment, now, IsAt, seen, HasSeen, HasGone, Holds, Stores, HasHeader, HasLink, SaysMain, SaysLink, SaysKey, SaysValue, SaysPair, IsAtSlot, Went, Saw, SawOf, SameSlots, HasRead}
 use Rattle.lock_free.specs.Live.{IsLive}
 use Rattle.lock_free.specs.Nodes.{StandsAs, InTable, SaysHeader, IsEntryOf, half_of}
 use Rattle.lock_free.proofs.Asked.{links_of, mains_of, link_stands, main_stands, looked_at_lives}
+use Rattle.lock_free.proofs.Definition.{IsReading, reads_of}
 use Rattle.lock_free.proofs.Decoding.{header_found, link_found}
 use Rattle.lock_free.proofs.Moments.{IsThere, is_there, its_place, held_there, stands_there, waited_so, before}
 
@@ -156,6 +157,13 @@ module _ (before : View) (name word found : ℕ) (after : View) (g : HasGone bef
   abbrev pub went : Went before after
   went = record { account = g.0.kept.account; waited = waited_so before g.0.table g.0.kept g.0.id g.0.at; after_is = g.1; took = g.2 }
 
+  -- it changed no node
+  pub same_slots : (does : Action) → IsReading does → IsAt before does → SameSlots (state_of before.sizes g.0.kept.account) (now after)
+  same_slots does reading p =
+      let o = o_there before word found g.0 does p in
+      let reads = reads_of before.sizes g.0.kept.account g.0.kept.bounds before.actor (record p.operation { is_marked = o.0 }) o.1 (subst IsReading (sym (acts_there before word found g.0 does p)) reading) in
+      subst (λ (x : View). SameSlots (state_of before.sizes g.0.kept.account) (now x)) (sym g.1) reads.nodes
+
   -- where it was to do that to the node in this slot
   module _ (does : Ref → Action) (names : (r : Ref) → read_by (does r) ≡ r) (is_at : IsAtSlot before does name) (r : Ref) (p : IsAt before (does r)) where
     its_slot : name ≡ place_of before.account r
@@ -165,32 +173,34 @@ module _ (before : View) (name word found : ℕ) (after : View) (g : HasGone bef
 
   module _ (is_at : IsAtSlot before act.Look name) where
     abbrev looked_at : (Account → State → Ref → Type 0) → Type 0
-    looked_at Says = (r : Ref) (p : IsAt before (act.Look r)) → Says g.0.kept.account (state_of before.sizes g.0.kept.account) r
+    looked_at Says = (r : Ref) (p : IsAt before (act.Look r)) → Says g.0.kept.account (state_of before.sizes g.0.kept.account) r × SameSlots (state_of before.sizes g.0.kept.account) (now after)
 
     slot_is : (r : Ref) → IsAt before (act.Look r) → name ≡ place_of before.account r
     slot_is r p = its_slot act.Look (λ q. refl) is_at r p
 
     pub looked_main : word ≡ 2 * name → looked_at (λ account state r. SaysMain account state r (header_of found))
-    looked_main its r p = says_main before word found g.0 r (look_there before word found g.0 r p) (its ∙ ap (λ n. 2 * n) (slot_is r p))
+    looked_main its r p = (says_main before word found g.0 r (look_there before word found g.0 r p) (its ∙ ap (λ n. 2 * n) (slot_is r p)), same_slots (act.Look r) tt p)
 
     pub looked_link : word ≡ 2 * name → looked_at (λ account state r. SaysLink account state r (link_of found))
-    looked_link its r p = says_link before word found g.0 r (look_there before word found g.0 r p) (its ∙ ap (λ n. 2 * n) (slot_is r p))
+    looked_link its r p = (says_link before word found g.0 r (look_there before word found g.0 r p) (its ∙ ap (λ n. 2 * n) (slot_is r p)), same_slots (act.Look r) tt p)
 
     pub looked_key : word ≡ 2 * name → looked_at (λ account state r. SaysKey state r found)
-    looked_key its r p = says_key before word found g.0 r (look_there before word found g.0 r p) (its ∙ ap (λ n. 2 * n) (slot_is r p))
+    looked_key its r p = (says_key before word found g.0 r (look_there before word found g.0 r p) (its ∙ ap (λ n. 2 * n) (slot_is r p)), same_slots (act.Look r) tt p)
 
     pub looked_value : word ≡ 2 * name + 1 → looked_at (λ account state r. SaysValue state r found)
-    looked_value its r p = says_value before word found g.0 r (look_there before word found g.0 r p) (its ∙ ap (λ n. 2 * n + 1) (slot_is r p))
+    looked_value its r p = (says_value before word found g.0 r (look_there before word found g.0 r p) (its ∙ ap (λ n. 2 * n + 1) (slot_is r p)), same_slots (act.Look r) tt p)
 
-  pub header_read : IsAtSlot before act.ReadPrev name → word ≡ 2 * name → (r : Ref) → IsAt before (act.ReadPrev r) → HasHeader g.0.kept.account (state_of before.sizes g.0.kept.account) r (header_of found)
+  pub header_read : IsAtSlot before act.ReadPrev name → word ≡ 2 * name → (r : Ref) → IsAt before (act.ReadPrev r) →
+      HasHeader g.0.kept.account (state_of before.sizes g.0.kept.account) r (header_of found) × SameSlots (state_of before.sizes g.0.kept.account) (now after)
   header_read is_at its r p =
       let there = main_there before word found g.0 (act.ReadPrev r) r (one_named r) p in
-      says_main before word found g.0 r there.0 (its ∙ ap (λ n. 2 * n) (its_slot act.ReadPrev (λ q. refl) is_at r p)) there.0.slot there.0.used there.1
+      (says_main before word found g.0 r there.0 (its ∙ ap (λ n. 2 * n) (its_slot act.ReadPrev (λ q. refl) is_at r p)) there.0.slot there.0.used there.1, same_slots (act.ReadPrev r) tt p)
 
-  pub link_read : IsAtSlot before act.ReadMain name → word ≡ 2 * name → (r : Ref) → IsAt before (act.ReadMain r) → HasLink g.0.kept.account (state_of before.sizes g.0.kept.account) r (link_of found)
+  pub link_read : IsAtSlot before act.ReadMain name → word ≡ 2 * name → (r : Ref) → IsAt before (act.ReadMain r) →
+      HasLink g.0.kept.account (state_of before.sizes g.0.kept.account) r (link_of found) × SameSlots (state_of before.sizes g.0.kept.account) (now after)
   link_read is_at its r p =
       let there = link_there before word found g.0 (act.ReadMain r) r (one_named r) p in
-      says_link before word found g.0 r there.0 (its ∙ ap (λ n. 2 * n) (its_slot act.ReadMain (λ q. refl) is_at r p)) there.0.slot there.1 there.2 there.0.used there.3
+      (says_link before word found g.0 r there.0 (its ∙ ap (λ n. 2 * n) (its_slot act.ReadMain (λ q. refl) is_at r p)) there.0.slot there.1 there.2 there.0.used there.3, same_slots (act.ReadMain r) tt p)
 
 -- by none
 module _ (before : View) (name word found : ℕ) (after : View) (h : HasSeen before word found after) where

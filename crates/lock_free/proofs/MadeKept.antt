@@ -78,7 +78,7 @@ module _ (sizes : Sizes) (s : Table.State Call View) (kept : IsKept sizes s) (id
     taken_then : IsTaken sizes words_then (class_of node) name
     taken_then = still (class_of node) name (class_small node) is_spare.0
 
-    all_made : AllStand sizes (made_at v.actor name own node kept.account) (stands_too (length kept.account.names) kept.stands) words_then
+    pub all_made : AllStand sizes (made_at v.actor name own node kept.account) (stands_too (length kept.account.names) kept.stands) words_then
     all_made =
         all_then sizes kept.account v.actor operation name own node 0 makes kept.stands words_then stored_all taken_then is_spare.1 small in_words words_then stored_all.size stored_all.taken
         (let before = stored_all.generations in let no_more = makes.generations in omega (arith, before, no_more))

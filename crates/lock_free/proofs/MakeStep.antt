@@ -1,7 +1,9 @@
 -- The last store in a free slot makes the node that is written there: the operation's step.
 use Rattle.history.specs.declared.calls.Call.{Call}
-use Rattle.std.proofs.Common.{◌≡◌, ◌≢◌, ◌+◌, ◌*◌, ◌<◌, ◌≤◌, ℕ, Bool, true, false, List, [], ◌∷◌, ◌++◌, Contains, length, set, get_or, slice_get, slice_index, Option, Some, None, refl, sym, ap, subst, ◌∙◌, arith}
-use Rattle.std.proofs.lemmas.List.Elements.{Contains-get_or}
+use Rattle.std.proofs.Common.{◌≡◌, ◌≢◌, ◌+◌, ◌*◌, ◌<◌, ◌≤◌, ℕ, inl, inr, Bool, true, false, List, [], ◌∷◌, ◌++◌, Contains, length, set, get_or, slice_get, slice_index, Option, Some, None, refl, sym, ap, subst, ◌∙◌, arith}
+use Rattle.std.proofs.lemmas.List.Elements.{Contains-get_or, Contains-append_left, Contains-push}
+use Rattle.std.proofs.lemmas.Bool.{cases_eq}
+use Rattle.std.proofs.lemmas.Option.{same_Some}
 use mathlib.Core.Option.{some, none}
 use lib.ListN.{get_elem?}
 use Rattle.atomic_table.specs.Table.{Me, Allows, step}
@@ -10,7 +12,19 @@ use Rattle.trie_words.specs.Codes.{link_code, entry_code}
 use Rattle.trie_words.specs.declared.headers.Previous.{Previous}
 use Rattle.trie_words.specs.declared.headers.Previous.TheVariants as previous
 use Rattle.trie_words.specs.declared.headers.Shape.TheVariants as shape
+use Rattle.machine_model.specs.Acting.{operation_after}
+use Rattle.machine_model.specs.Operations.{action_of}
+use Rattle.machine_model.specs.Beneath.slot_arena.specs.Refs.{slot_of}
+use Rattle.proof_memory.specs.Laws.{SameNode}
+use Rattle.lock_free.proofs.Asked.{makes_of, made_names_live, over_lives, live_in_use, nodes_stay}
+use Rattle.lock_free.proofs.Framing.{class_small}
+use Rattle.lock_free.proofs.Geometry.{IsWordOf}
+use Rattle.lock_free.proofs.GivenBack.{node_is}
 use Rattle.lock_free.proofs.Made.{got_in}
+use Rattle.lock_free.proofs.MadeKept.{all_made, make_kept}
+use Rattle.lock_free.proofs.Moments.{allowed, waited_so, before, seat, live_place, still_own, free_inside}
+use Rattle.lock_free.proofs.Pools.{pool_same, pool_else}
+use Rattle.lock_free.proofs.OneStep.Openers.{openers_make_roots}
 use Rattle.machine_model.specs.Beneath.slot_arena.specs.declared.refs.Ref.{Ref}
 use Rattle.machine_model.specs.Beneath.slot_arena.specs.declared.nodes.Node.{Node}
 use Rattle.machine_model.specs.Beneath.slot_arena.specs.declared.nodes.Node.TheVariants.{Indirection, Branch, Single, Tomb, List as Listed}
@@ -28,7 +42,7 @@ use Rattle.lock_free.specs.Making.{over_of, Drafted, IsOverBy, shape_with, Draft
 use Rattle.lock_free.specs.Nodes.{Has, is_single, IsEntryOf, AreEntries, half_of, class_of}
 use Rattle.lock_free.specs.Places.{words_in, words_of}
 use Rattle.lock_free.specs.Rules.{pool_of, IsFree, IsKept}
-use Rattle.lock_free.specs.Storing.{Writes, IsAtMake, HasMade, has_made}
+use Rattle.lock_free.specs.Storing.{IsOwnWord, Writes, IsAtMake, HasMade, has_made}
 
 -- what is written is written so later too, where places stay, whose own nodes are, and which entries are singles
 module _ (before after : Account) (first later : Heap) (has : Has) (name : ℕ) (own : Bool) (over : Option (Ref × Ref))
@@ -66,3 +80,86 @@ module _ (before after : Account) (first later : Heap) (has : Has) (name : ℕ) 
     drafts_stay (Branch bitmap entries) same h = ((h.0.0, h.0.1, header_stays (Branch bitmap entries) h.0.0 (λ r c. (same r c).0) h.0.2), entries_stay entries.items same h.1)
     drafts_stay (Tomb single) same h = (h.0, h.1, header_stays (Tomb single) h.0 (λ r c. (same r c).0) h.2)
     drafts_stay (Listed singles) same h = ((h.0.0, h.0.1, header_stays (Listed singles) h.0.0 (λ r c. (same r c).0) h.0.2), entries_stay singles.items same h.1)
+
+single_stays : (before after : Node) → SameNode before after → is_single after ≡ is_single before
+single_stays (Indirection generation main) after same = ap is_single same.1
+single_stays (Branch bitmap entries) after same = ap is_single same.1
+single_stays (Single key value) after same = ap is_single same.1
+single_stays (Tomb single) after same = ap is_single same.1
+single_stays (Listed singles) after same = ap is_single same.1
+
+module _ (v : View) (word value : ℕ) (node : Node) (rest : List ℕ) (name : ℕ) (own : Bool) (p : IsAt v (act.Make node)) (w : Writes v p.operation.line word value node rest name own)
+    (s : Table.State Call View) (kept : IsKept v.sizes s) (id : ℕ) (at : get_elem? s.views id ≡ some v) where
+  abbrev there : Account
+  there = kept.account
+
+  abbrev state : State
+  state = state_of v.sizes there
+
+  stays : (mark : Bool) × running v.sizes there v.actor (record p.operation { is_marked = mark }) × (action_of state (record p.operation { is_marked = mark }) ≡ action_of (now v) p.operation)
+  stays = (waited_so v s kept id at).stays p.operation p.runs
+
+  abbrev o : Operation
+  o = record p.operation { is_marked = stays.0 }
+
+  acts : action_of state o ≡ act.Make node
+  acts = stays.2 ∙ p.acts
+
+  abbrev after : View
+  after = made_by v (class_of node) name rest own node there
+
+  makes : Makes v.sizes there (made_at v.actor name own node there) v.actor o node 0
+  makes = makes_of v.sizes there kept.bounds v.actor o stays.1 kept.quiet kept.roots.stood node acts kept.counted name own
+
+  -- what the node names is as it was when it was written
+  same_names : (r : Ref) → Contains (refs_of_node node) r → (place_of there r ≡ place_of v.account r) × (is_single (node_at state.heap r) ≡ is_single (node_at (now v).heap r))
+  same_names r c =
+      let live = made_names_live v.sizes v.account (before v s kept id at) v.actor p.operation p.runs node p.acts r c in
+      let was = live_in_use v.sizes v.account (before v s kept id at) r live in
+      let later = nodes_stay v.sizes v.actor v.account there (seat v s kept id at).waited kept.bounds (slot_of r) was.0 was.1 in
+      (
+        live_place v s kept id at r live,
+        ap is_single (node_is state r later.0 later.1) ∙ single_stays was.0.node later.0.node later.2 ∙ sym (ap is_single (node_is (now v) r was.0 was.1)),
+      )
+
+  drafts_there : DraftsNode there state.heap (over_of p.operation.line) (Drafted v.drafts word value) name own node
+  drafts_there =
+      drafts_stay v.account there (now v).heap state.heap (Drafted v.drafts word value) name own (over_of p.operation.line) (λ a b c x. still_own v s kept id at (slot_of a) (slot_of b) c x)
+      (λ x is. live_place v s kept id at x.1 (over_lives v.sizes v.account (before v s kept id at) v.actor p.operation p.runs x.0 x.1 is)) node same_names w.drafts
+
+  inside_it : IsWordOf (class_of node) name word
+  inside_it = record { low = w.low; high = w.high }
+
+  -- who is to open a handle makes roots alone
+  unopened : (handle : ℕ) → v.opens ≡ Some handle → class_of node ≢ 1
+  unopened handle opens is = openers_make_roots v.sizes there v.actor o stays.1 handle (sym ((kept.seats id v at).reserves o stays.1) ∙ opens) node acts
+
+  pub kept_after : IsKept v.sizes (record { words = set s.words word value; homes = s.homes; views = set s.views id after })
+  kept_after = make_kept v.sizes s kept id v at o stays.1 name own node rest w.last w.small unopened makes word value inside_it drafts_there
+
+  was_free : (b n : ℕ) → IsFree after b n → IsFree v b n
+  was_free b n free = elim (cases_eq b (class_of node)) [
+    | inl same ↦
+        (let there_is = subst (λ xs. Contains xs n) (ap (pool_of after.pool) same ∙ pool_same v.pool (class_of node) rest (class_small node)) free.1 in
+        (free.0, subst (λ c. Contains (pool_of v.pool c) n) (sym same) (subst (λ xs. Contains xs n) (sym w.last) (Contains-append_left rest (name ∷ []) n there_is))))
+    | inr other ↦ (free.0, subst (λ xs. Contains xs n) (pool_else v.pool (class_of node) b rest (class_small node) free.0 other) free.1)
+  ]
+
+  pub sound_after : IsSound (words_of v.sizes) after
+  sound_after =
+      let all = all_made v.sizes s kept id v at o stays.1 name own node rest w.last w.small unopened makes word value inside_it drafts_there in
+      record { size = refl; range = kept.range.within; bounds = all.bounds; counted = all.counted; inside = all.nodes.inside; free = λ b n f. (let g = was_free b n f in free_inside v s kept id at b n g) }
+
+  pub took_after : Took v there after
+  took_after q runs = makes.own ∙ ap (λ x. Some (operation_after state x)) (same_Some o q (sym stays.1 ∙ runs))
+
+pub make_allowed : (sizes : Sizes) (size id : ℕ) (me : Me Call View) (word value : ℕ) → IsAtMake me.0 word value → Allows (IsKept sizes) size id me word (λ n. value) (λ n. has_made (step size word value 0 none) me value)
+make_allowed sizes size id me word value (node, rest, name, own, p, w) =
+    allowed sizes size id me word (λ n. value) (λ n. has_made (step size word value 0 none) me value)
+    (λ s kept at. (made_by me.0 (class_of node) name rest own node kept.account, kept_after me.0 word value node rest name own p w s kept id at,
+        ((kept.account, waited_so me.0 s kept id at, took_after me.0 word value node rest name own p w s kept id at, (node, rest, name, own, p, w, refl)), sound_after me.0 word value node rest name own p w s kept id at, refl)))
+
+-- its last word is free for the seat till then
+pub is_own_word : (v : View) (word value : ℕ) → IsAtMake v word value → IsOwnWord v word
+is_own_word v word value (node, rest, name, own, p, w) =
+    (class_of node, name, (class_small node, subst (λ xs. Contains xs name) (sym w.last) (Contains-push rest name)), w.low, w.high)

@@ -62,7 +62,7 @@ place_stays [] more k h = absurd (omega (arith, h))
 place_stays (x ∷ xs) more zero h = refl
 place_stays (x ∷ xs) more (suc k) h = place_stays xs more k (omega (arith, h))
 
-owns_in_front : (more owned : List Owned) (k m : ℕ) (b : Bool) → OwnIs owned k m b → OwnIs (more ++ owned) k m b
+pub owns_in_front : (more owned : List Owned) (k m : ℕ) (b : Bool) → OwnIs owned k m b → OwnIs (more ++ owned) k m b
 owns_in_front [] owned k m b h = h
 owns_in_front (x ∷ xs) owned k m b h = later x (xs ++ owned) k m b (owns_in_front xs owned k m b h)
 

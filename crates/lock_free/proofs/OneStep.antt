@@ -18,3 +18,10 @@ pub mod Beginning
 pub mod Restores
 pub mod Decides
 pub mod Publishes
+pub mod Taking
+pub mod MadeMains
+pub mod Offers
+pub mod Met
+pub mod Makes
+pub mod Openers
+pub mod GivesUp

@@ -24,20 +24,20 @@ use Rattle.lock_free.specs.declared.accounts.Account.{Account}
 use Rattle.lock_free.specs.declared.rules.View.{View}
 use Rattle.lock_free.specs.declared.sizes.Sizes.{Sizes}
 use Rattle.lock_free.specs.Accounts.{state_of, place_of, OwnIs, running, gone_on}
-use Rattle.lock_free.specs.Exchanging.{IsNamed, IsLinkTo, IsAtRestore, HasRestored}
+use Rattle.lock_free.specs.Exchanging.{IsNamed, IsNamedOrGone, IsLinkTo, IsAtRestore, HasRestored}
 use Rattle.lock_free.specs.Loading.{Moment, seen, IsAt, HasGone, has_gone}
 use Rattle.lock_free.specs.Restoring.{Restores}
 use Rattle.lock_free.specs.Rules.{IsKept}
-use Rattle.lock_free.proofs.Asked.{links_of, mains_of, restores_or_not}
+use Rattle.lock_free.proofs.Asked.{links_of, mains_of, restores_or_not, gone_stays}
 use Rattle.lock_free.proofs.Assembling.{all_stand}
 use Rattle.lock_free.proofs.Exchanged.{AllowsExchange, Leaves, words_then, words_hit, missed, sound_by}
 use Rattle.lock_free.proofs.LinkWords.{i_there, generation_now, hit, miss}
 use Rattle.lock_free.proofs.Looking.{went, main_there, o_there, acts_there, same_action}
-use Rattle.lock_free.proofs.Moments.{IsThere, allowed, took_by, its_place, still_own}
+use Rattle.lock_free.proofs.Moments.{IsThere, seat, allowed, took_by, its_place, still_own}
 use Rattle.lock_free.proofs.Restored.{all_then, restore_kept}
 
 module _ (v : View) (i main former : Ref) (p : IsAt v (act.Restore i main former)) (name : ℕ) (place : place_of v.account i ≡ name) (link : Link) (fits : IsLink link) (is : IsLinkTo v i main link)
-    (former_name : Name) (names : IsNamed v i former former_name) where
+    (former_name : Name) where
   abbrev does : Action
   does = act.Restore i main former
 
@@ -93,7 +93,7 @@ module _ (v : View) (i main former : Ref) (p : IsAt v (act.Restore i main former
     abbrev after : View
     after = seen v (gone_on v.actor there)
 
-    module _ (r : Restores v.sizes there v.actor o i main former) where
+    module _ (names : IsNamed v i former former_name) (r : Restores v.sizes there v.actor o i main former) where
       here : kept.stands (slot_of i) ≡ true
       here = kept.nodes.live i link_is.0.lives
 
@@ -126,9 +126,12 @@ module _ (v : View) (i main former : Ref) (p : IsAt v (act.Restore i main former
         ),
       )
 
-    pub leaves : Leaves v s kept id at word old new
-    leaves = elim (restores_or_not v.sizes there kept.bounds v.actor o runs i main former (acts_there v word found m does p)) [
-      | inl x ↦ put_back x.0 (found_old x.1)
+    pub leaves : IsNamedOrGone v i main former former_name → Leaves v s kept id at word old new
+    leaves named = elim (restores_or_not v.sizes there kept.bounds v.actor o runs i main former (acts_there v word found m does p)) [
+      | inl x ↦ elim named [
+        | inl names ↦ put_back names x.0 (found_old x.1)
+        | inr gone ↦ absurd (gone_stays v.sizes v.actor v.account there (seat v s kept id at).waited kept.bounds p.operation p.runs i main former p.acts gone x.1)
+      ]
       | inr x ↦ missed v s kept id at word old new o runs x.0 (found_other x.1)
     ]
 
@@ -145,7 +148,7 @@ restore_allowed sizes size id me name link fits former (i, main, replaced, p, pl
     let old = link_code link in
     let new = link_code (record { generation = link.generation; main = former }) in
     allowed sizes size id me (2 * name) (λ n. either (n == old) new n) (has_gone (step size (2 * name) old new none) me)
-    (λ s kept at. (let x = leaves me.0 i main replaced p name place link fits is former names s kept id at in
+    (λ s kept at. (let x = leaves me.0 i main replaced p name place link fits is former s kept id at names in
     (seen me.0 (gone_on me.0.actor kept.account), x.0, ((record { table = s; kept = kept; id = id; at = at; finds = refl }, refl, x.1.1), x.1.0, refl))))
 
 -- the indirection and the main node that failed
@@ -160,4 +163,4 @@ restore_told before name link fits former (i, main, replaced, p, place, is, name
     (went before name (2 * name) found after g, λ j other q a.
     subst (λ (x : Ref × Ref). (main_at (state_of before.sizes g.0.kept.account).heap x.0 == x.1) ≡ (found == link_code link))
     (ap restored_in (same_action before (act.Restore i main replaced) (act.Restore j other q) p a))
-    (stood_by before i main replaced p name place link fits is former names g.0.table g.0.kept g.0.id g.0.at ∙ ap (λ n. n == link_code link) g.0.finds))
+    (stood_by before i main replaced p name place link fits is former g.0.table g.0.kept g.0.id g.0.at ∙ ap (λ n. n == link_code link) g.0.finds))

@@ -1,6 +1,6 @@
 -- What exchanges of nodes' words ask and tell.
 use Rattle.history.specs.declared.calls.Call.{Call}
-use Rattle.std.specs.Prelude.{◌≡◌, ℕ, ◌==◌, Bool, true, false, List, [], ◌∷◌, Option, Some}
+use Rattle.std.specs.Prelude.{◌≡◌, ◌≢◌, ◌⊎◌, ℕ, ◌==◌, Bool, true, false, List, [], ◌∷◌, Option, Some}
 use Rattle.atomic_table.specs.Table.{Me, Step}
 use Rattle.trie_words.specs.declared.headers.Header.{Header}
 use Rattle.trie_words.specs.declared.headers.Previous.{Previous}
@@ -69,9 +69,13 @@ HasDecided before stood after =
 
 -- ---- the main node before a failed one is put back
 
+-- this is the name of the node before, or the failed one stands there no more
+abbrev pub IsNamedOrGone : View → Ref → Ref → Ref → Name → Type 0
+IsNamedOrGone v i main former name = IsNamed v i former name ⊎ (main_at (now v).heap i ≢ main)
+
 abbrev pub IsAtRestore : View → ℕ → Link → Name → Type 0
 IsAtRestore v name link former =
-    (i : Ref) × (main : Ref) × (replaced : Ref) × IsAt v (act.Restore i main replaced) × (place_of v.account i ≡ name) × IsLinkTo v i main link × IsNamed v i replaced former
+    (i : Ref) × (main : Ref) × (replaced : Ref) × IsAt v (act.Restore i main replaced) × (place_of v.account i ≡ name) × IsLinkTo v i main link × IsNamedOrGone v i main replaced former
 
 -- whether the failed one stood there still
 abbrev pub HasRestored : View → Bool → View → Type 0

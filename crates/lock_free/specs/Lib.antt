@@ -18,3 +18,5 @@ pub mod Exchanging
 pub mod Storing
 pub mod OfferWords
 pub mod HandleWords
+pub mod OfReads
+pub mod Passing

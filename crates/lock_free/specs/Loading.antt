@@ -12,7 +12,7 @@ use Rattle.trie_words.specs.declared.links.Link.{Link}
 use Rattle.machine_model.specs.Beneath.slot_arena.specs.declared.refs.Ref.{Ref}
 use Rattle.machine_model.specs.Beneath.slot_arena.specs.declared.nodes.Node.TheVariants.{Indirection, Single}
 use Rattle.machine_model.specs.Beneath.slot_arena.specs.declared.nodes.Slot.{Slot}
-use Rattle.machine_model.specs.Beneath.slot_arena.specs.Heaps.{entries_of}
+use Rattle.machine_model.specs.Beneath.slot_arena.specs.Heaps.{entries_of, refs_of_slot}
 use Rattle.machine_model.specs.Beneath.slot_arena.specs.Refs.{slot_of}
 use Rattle.machine_model.specs.declared.actions.Action.{Action}
 use Rattle.machine_model.specs.declared.actions.Action.TheVariants as act
@@ -115,6 +115,8 @@ pub record HasHeader (account : Account) (state : State) (main : Ref) (header : 
   pub is_previous : SaysPrevious account state (slot_of main) slot.prev header.previous
   pub is_shape : SaysShape account (slot_of main) slot.node header.shape
   pub fits : IsHeader header
+  -- what stands in its words is in use
+  pub used : (r : Ref) → Contains (refs_of_slot (Some slot)) r → (other : Slot) × Stores state r other
 
 -- it is this indirection's word
 pub record HasLink (account : Account) (state : State) (indirection : Ref) (link : Link) : Type 0 where
@@ -125,6 +127,7 @@ pub record HasLink (account : Account) (state : State) (indirection : Ref) (link
   pub place : place_of account main ≡ link.main.slot
   pub is_own : IsOwn account indirection main link.main.own
   pub fits : IsLink link
+  pub used : (other : Slot) × Stores state main other
 
 -- where it is a main node, an indirection, a single, a branch or a list
 abbrev pub SaysMain : Account → State → Ref → Header → Type 0
@@ -177,10 +180,14 @@ pub record Saw (before after : View) : Type 0 where
   pub waited : Waited before account
   pub after_is : after ≡ seen before account
 
+-- each slot has what it had
+abbrev pub SameSlots : State → State → Type 0
+SameSlots before after = (k : ℕ) → slice_index_or after.heap.slots k None ≡ slice_index_or before.heap.slots k None
+
 -- by reading a word, of which this was so at that moment, with the node to which its action does that
 abbrev pub HasRead : (Ref → Action) → (Account → State → Ref → Type 0) → View → View → Type 0
 HasRead does Says before after =
-    (w : Went before after) × ((r : Ref) → IsAt before (does r) → Says w.account (now (seen before w.account)) r)
+    (w : Went before after) × ((r : Ref) → IsAt before (does r) → Says w.account (now (seen before w.account)) r × SameSlots (now (seen before w.account)) (now after))
 
 abbrev pub HasReadHeader : View → Header → View → Type 0
 HasReadHeader before header after = HasRead act.ReadPrev (λ account state main. HasHeader account state main header) before after

@@ -10,7 +10,7 @@ use crate::rules::{Drafts, Makes, Takes};
 use crate::sizes::Sizes;
 
 /// What came of trying to take a slot.
-#[derive(Clone, Copy, Debug, PartialEq, Eq, Drop)]
+#[derive(Clone, Copy, Drop)]
 pub enum Tried {
     /// This slot is free for the seat alone.
     Slot(u32),

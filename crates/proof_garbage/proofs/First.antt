@@ -1,5 +1,5 @@
 -- The first branch stood in a word from the first on, and stays decided.
-use Rattle.std.proofs.Common.{◌≡◌, ℕ, List, [], Some, None, refl, sym, ap, subst, ◌∙◌, arith}
+use Rattle.std.proofs.Common.{◌≡◌, ℕ, List, Some, refl, sym, ap, subst, ◌∙◌, arith}
 use Rattle.proof_garbage.specs.Beneath.slot_arena.specs.declared.refs.Ref.{Ref}
 use Rattle.proof_garbage.specs.Beneath.slot_arena.specs.declared.nodes.Node.TheVariants.{Indirection}
 use Rattle.proof_garbage.specs.Beneath.slot_arena.specs.declared.nodes.Prev.TheVariants as prev
@@ -51,11 +51,13 @@ module _ (limits : Bounds) (steps : List Step) (ok : AreBounds limits) where
       let node = ap node_of root_first ∙ root_node root_used.0 root_used.1 in
       stands_now {t = 0} (ap is_indirection node) (ap main_of node)
 
-  pub fresh_not_first : (actor : ℕ) (operation : Operation) (i a f : Ref) (why : Purpose) → operation_of (run limits steps) actor ≡ Some operation → operation.line ≡ line.Swap why (swapping i a f) → f ≡ ref_to 1 0 → ⊥
+  pub fresh_not_first : (actor : ℕ) (operation : Operation) (i a f : Ref) (why : Purpose) → operation_of (run limits steps) actor ≡ Some operation →
+      operation.line ≡ line.Swap why (swapping i a f) → f ≡ ref_to 1 0 → ⊥
   fresh_not_first actor operation i a f why runs on same =
       (fresh limits steps ok actor operation i a f why runs on).apart (ref_to 2 1) (subst (Stood words end (ref_to 2 1)) (sym same) (stood_still (omega arith) stood_first))
 
   pub first_decided : IsInUse (run limits steps).heap (ref_to 1 0) → prev_at (run limits steps).heap (ref_to 1 0) ≡ prev.None
   first_decided used =
       sym (prev_word_of limits steps ok (ref_to 1 0) used)
-      ∙ none_final (protocol limits (states limits steps ok) end (known limits steps ok)) (ref_to 2 1) (ref_to 1 0) 0 end (omega arith) (omega arith) stood_first ((protocol limits (states limits steps ok) end (known limits steps ok)).first_decided (ref_to 1 0))
+      ∙ none_final (protocol limits (states limits steps ok) end (known limits steps ok)) (ref_to 2 1) (ref_to 1 0) 0 end (omega arith)
+      (omega arith) stood_first ((protocol limits (states limits steps ok) end (known limits steps ok)).first_decided (ref_to 1 0))

@@ -1,10 +1,8 @@
 -- What is known of a main node that is about to be swapped in, and of those over which others stand.
-use Rattle.std.proofs.Common.{◌≡◌, ℕ, List, Option, Some, None, refl, sym, ap, subst, ◌∙◌, arith}
+use Rattle.std.proofs.Common.{◌≡◌, ℕ, List, Option, Some, refl, sym, ap, subst, ◌∙◌, arith}
 use Rattle.std.proofs.lemmas.Option.{none-some, same_Some}
 use Rattle.proof_garbage.specs.Beneath.slot_arena.specs.declared.refs.Ref.{Ref}
-use Rattle.proof_garbage.specs.Beneath.slot_arena.specs.declared.nodes.Node.{Node}
 use Rattle.proof_garbage.specs.Beneath.slot_arena.specs.declared.nodes.Node.TheVariants.{Indirection}
-use Rattle.proof_garbage.specs.Beneath.slot_arena.specs.declared.nodes.Prev.{Prev}
 use Rattle.proof_garbage.specs.Beneath.slot_arena.specs.declared.nodes.Prev.TheVariants as prev
 use Rattle.proof_garbage.specs.Beneath.slot_arena.specs.declared.nodes.Slot.{Slot}
 use Rattle.proof_garbage.specs.Beneath.slot_arena.specs.Heaps.{prev_at, node_at, main_at, main_of}
@@ -28,6 +26,10 @@ use Rattle.proof_garbage.specs.Beneath.machine_model.specs.Swapping.{swapping}
 use Rattle.proof_garbage.specs.Beneath.machine_model.proofs.Grown.{node_grown, node_standing, prev_grown}
 use Rattle.proof_garbage.specs.Beneath.machine_model.proofs.Times.{run_ends}
 use Rattle.proof_garbage.specs.Beneath.proof_memory.specs.Laws.{IsInUse}
+use Rattle.proof_garbage.specs.Beneath.proof_memory.proofs.Claims.Reads.{read_claims}
+use Rattle.proof_garbage.specs.Beneath.proof_memory.proofs.Claims.Uses.{safe_of}
+use Rattle.proof_garbage.specs.Beneath.proof_memory.proofs.Safety.AtEachTime.{safe_along}
+use Rattle.proof_garbage.specs.Beneath.proof_memory.proofs.Safety.AtTimes.{line_finds}
 use Rattle.proof_garbage.specs.Beneath.proof_memory.specs.Wants.{is_indirection}
 use Rattle.proof_garbage.specs.Beneath.proof_commits.specs.Protocol.{Publishes, Reads, Words}
 use Rattle.proof_garbage.specs.Beneath.proof_commits.specs.Stages.{stage_of, stage_of_swap, stage_of_actor}
@@ -35,7 +37,7 @@ use Rattle.proof_garbage.specs.Beneath.proof_commits.proofs.Known.Owners.{HasFre
 use Rattle.proof_garbage.specs.Beneath.proof_commits.proofs.Known.Sounds.{sound_at}
 use Rattle.proof_garbage.specs.Beneath.proof_commits.proofs.Words.Along.{protocol}
 use Rattle.proof_garbage.specs.Beneath.proof_commits.proofs.Words.Stood.{IsOver, Private, Stood, none≢pending, stands_now}
-use Rattle.proof_garbage.proofs.Restoring.{states, last, known, w, staged, deciding, stood_deciding}
+use Rattle.proof_garbage.proofs.Restoring.{states, last, known, w, staged, on_line, deciding, stood_deciding}
 use Rattle.proof_garbage.proofs.Pending.{StageNames, LineNames, names_at}
 
 -- what the READ of a line names
@@ -107,9 +109,30 @@ module _ (limits : Bounds) (steps : List Step) (ok : AreBounds limits) where
   fresh_apart actor other o p i a j b f why because is_o is_p on_o on_p apart =
       sound.apart actor other f apart (subst (λ s. HasFresh s f) (sym (its_stage actor o i a f why is_o on_o)) refl) (subst (λ s. HasFresh s f) (sym (its_stage other p j b f because is_p on_p)) refl)
 
+  -- ---- a pending main node
+
+  -- it stands in the one indirection in which it stood
+  stood_stands : (i main : Ref) → Stood words end i main → IsInUse state.heap i → IsInUse state.heap main → (q : Ref) → prev_at state.heap main ≡ prev.Pending q → main_at state.heap i ≡ main
+  stood_stands i main stood (slot, stands) used q pending =
+      let pends = prev_word_of main used ∙ pending in
+      let owner = sound.owned main q pends in
+      let same = sound.words.one_word main owner.link i (λ none. none≢pending none pends) (stands_now owner.is_link owner.stands) stood in
+      ap main_of (node_standing state.heap i slot stands ∙ sym (node_word_of i slot stands)) ∙ subst (λ j. words.main end j ≡ main) same owner.stands
+
+  -- so does one whose prev word is read next
+  pub reading_stands : (actor : ℕ) (operation : Operation) (i main : Ref) → operation_of state actor ≡ Some operation →
+      read_of operation.line ≡ Some (record { indirection = i; line = read.Prev main }) →
+      (q : Ref) → prev_at state.heap main ≡ prev.Pending q → main_at state.heap i ≡ main
+  reading_stands actor operation i main runs reads q pending =
+      let its_read : Read = record { indirection = i; line = read.Prev main } in
+      let found = line_finds state (safe_along limits ok steps) actor operation runs in
+      let claims = read_claims (IsInUse state.heap) state.heap its_read state.limits.hash operation.call operation.access operation.line reads found in
+      stood_stands i main (on_line words end actor operation.line _ reads (staged limits steps ok actor operation runs)) (safe_of claims.0) (safe_of claims.1.0) q pending
+
   -- ---- a main node that is about to be decided
 
-  module _ (actor : ℕ) (operation : Operation) (i main previous : Ref) (told : Option ℕ) (runs : operation_of state actor ≡ Some operation) (is : action_of state operation ≡ act.Decide i main previous told) where
+  module _ (actor : ℕ) (operation : Operation) (i main previous : Ref) (told : Option ℕ) (runs : operation_of state actor ≡ Some operation)
+      (is : action_of state operation ≡ act.Decide i main previous told) where
     stood : Stood words end i main
     stood = stood_deciding limits steps ok actor operation i main previous told runs is
 
@@ -121,15 +144,12 @@ module _ (limits : Bounds) (steps : List Step) (ok : AreBounds limits) where
     -- while it is pending it is so over the one that is named
     pub deciding_over : IsInUse state.heap main → (q : Ref) → prev_at state.heap main ≡ prev.Pending q → q ≡ previous
     deciding_over used q pending =
-        names_line words end operation.line (record { indirection = i; line = read.Decide main previous told }) (deciding limits steps ok actor operation i main previous told runs is) names q (prev_word_of main used ∙ pending)
+        let its_read : Read = record { indirection = i; line = read.Decide main previous told } in
+        names_line words end operation.line its_read (deciding limits steps ok actor operation i main previous told runs is) names q (prev_word_of main used ∙ pending)
 
     -- and stands in that indirection
     pub deciding_stands : IsInUse state.heap i → IsInUse state.heap main → (q : Ref) → prev_at state.heap main ≡ prev.Pending q → main_at state.heap i ≡ main
-    deciding_stands (slot, stands) used q pending =
-        let pends = prev_word_of main used ∙ pending in
-        let owner = sound.owned main q pends in
-        let same = sound.words.one_word main owner.link i (λ none. none≢pending none pends) (stands_now owner.is_link owner.stands) stood in
-        ap main_of (node_standing state.heap i slot stands ∙ sym (node_word_of i slot stands)) ∙ subst (λ j. words.main end j ≡ main) same owner.stands
+    deciding_stands = stood_stands i main stood
 
     -- nobody is about to swap it in
     pub deciding_met : (other : ℕ) (p : Operation) (j a : Ref) (why : Purpose) → operation_of state other ≡ Some p → p.line ≡ line.Swap why (swapping j a main) → ⊥

@@ -1,15 +1,15 @@
 -- What an operation gives up that it made and nobody met is dead then.
-use Rattle.std.proofs.Common.{◌≡◌, ◌==◌, append-nil, ℕ, zero, suc, Bool, true, false, List, [], ◌∷◌, ◌++◌, Contains, Option, Some, None, get_or, refl, sym, ap, subst, ◌∙◌, ◌⊎◌, inl, inr}
+use Rattle.std.proofs.Common.{◌≡◌, ◌==◌, append-nil, ℕ, suc, true, false, List, [], ◌∷◌, ◌++◌, Contains, Option, Some, None, get_or, refl, sym, ap, subst, ◌∙◌, inl, inr}
 use Rattle.std.proofs.lemmas.Bool.{cases_eq, true≢false}
-use Rattle.std.proofs.lemmas.List.Elements.{Contains-append_cases, All-contains}
-use Rattle.std.proofs.lemmas.Option.{none-some, same_Some}
+use Rattle.std.proofs.lemmas.List.Elements.{Contains-append_cases}
+use Rattle.std.proofs.lemmas.Option.{same_Some}
 use Rattle.proof_garbage.specs.Beneath.slot_arena.specs.declared.refs.Ref.{Ref}
 use Rattle.proof_garbage.specs.Beneath.slot_arena.specs.declared.nodes.Node.{Node}
 use Rattle.proof_garbage.specs.Beneath.slot_arena.specs.declared.nodes.Node.TheVariants.{Indirection, Branch, Single, Tomb, List as Listed}
 use Rattle.proof_garbage.specs.Beneath.slot_arena.specs.declared.nodes.Prev.{Prev}
 use Rattle.proof_garbage.specs.Beneath.slot_arena.specs.declared.nodes.Prev.TheVariants as prev
 use Rattle.proof_garbage.specs.Beneath.slot_arena.specs.declared.nodes.Slot.{Slot}
-use Rattle.proof_garbage.specs.Beneath.slot_arena.specs.Heaps.{Heap, stored, main_at, node_at, prev_at, refs_of_node, refs_of_prev, refs_of_slot}
+use Rattle.proof_garbage.specs.Beneath.slot_arena.specs.Heaps.{stored, main_at, node_at, prev_at, refs_of_node, refs_of_prev, refs_of_slot}
 use Rattle.proof_garbage.specs.Beneath.machine_model.specs.declared.lines.Line.TheVariants as line
 use Rattle.proof_garbage.specs.Beneath.machine_model.specs.declared.lines.Purpose.{Purpose}
 use Rattle.proof_garbage.specs.Beneath.machine_model.specs.declared.operations.Operation.{Operation}
@@ -27,9 +27,10 @@ use Rattle.proof_garbage.specs.Beneath.machine_model.specs.declared.lines.Purpos
 use Rattle.proof_garbage.specs.Beneath.machine_model.specs.declared.repairs.Climb.{Climb}
 use Rattle.proof_garbage.specs.Beneath.slot_arena.specs.Refs.{ref_to, slot_of}
 use Rattle.proof_garbage.specs.Beneath.machine_model.proofs.Fates.{place_of_actor}
-use Rattle.proof_garbage.specs.Beneath.machine_model.proofs.Grown.{node_standing, prev_standing}
+use Rattle.proof_garbage.specs.Beneath.machine_model.proofs.Grown.{prev_standing}
 use Rattle.proof_garbage.specs.Beneath.proof_memory.specs.Laws.{IsInUse}
-use Rattle.proof_garbage.specs.Beneath.proof_memory.specs.Wants.{Wanted, AnIndirection, AnEntry, ASingle, AMain, swap_wants, purpose_wants, Holds, AllHold, meets, is_main_node, node_wants, prev_wants, line_wants, climb_carries}
+use Rattle.proof_garbage.specs.Beneath.proof_memory.specs.Wants.{Wanted, AnIndirection, AnEntry, ASingle, AMain, swap_wants, purpose_wants, AllHold, meets, is_main_node, node_wants, prev_wants}
+use Rattle.proof_garbage.specs.Beneath.proof_memory.specs.Wants.{line_wants, climb_carries}
 use Rattle.proof_garbage.specs.Beneath.proof_memory.proofs.Claims.Uses.{safe_of, meets_of, all_of, first_hold, last_hold}
 use Rattle.proof_garbage.specs.Beneath.proof_memory.proofs.Safety.AtEachTime.{safe_along}
 use Rattle.proof_garbage.specs.Beneath.proof_memory.proofs.Safety.AtTimes.{line_finds}
@@ -58,14 +59,14 @@ module _ (limits : Bounds) (steps : List Step) (ok : AreBounds limits) (actor : 
     pub bounds : after.limits ≡ state.limits
     pub others : (a : ℕ) → (a ≡ actor → ⊥) → operation_of after a ≡ operation_of state a
 
-  other_id : (a : ℕ) (o : Operation) → (a ≡ actor → ⊥) → operation_of state a ≡ Some o → Others operation.id o.id
+  pub other_id : (a : ℕ) (o : Operation) → (a ≡ actor → ⊥) → operation_of state a ≡ Some o → Others operation.id o.id
   other_id a o apart is same =
       let (j, its, at_j) = place_of_actor state a o is in
       let (k, own, at_k) = place_of_actor state actor operation runs in
       apart (its ∙ ap suc ((has_handles_along limits steps).0.ids.distinct j k o operation at_j at_k same) ∙ sym own)
 
   -- what is private to it is known to no one else
-  private_known : (x : Ref) → Contains operation.private x → IsKnown state (Others operation.id) x → ⊥
+  pub private_known : (x : Ref) → Contains operation.private x → IsKnown state (Others operation.id) x → ⊥
   private_known x c known = let (k, own, at_k) = place_of_actor state actor operation runs in private_along limits ok steps k operation at_k x c known
 
   module _ (after : State) (same : SameElsewhere after) where
@@ -96,7 +97,7 @@ module _ (limits : Bounds) (steps : List Step) (ok : AreBounds limits) (actor : 
   -- ---- a fresh main node that isn't swapped in
 
   module _ (i a f : Ref) (why : Purpose) (on : operation.line ≡ line.Swap why (swapping i a f)) where
-    claim : IsInUse state.heap f × (meets AMain (node_at state.heap f) ≡ true)
+    pub claim : IsInUse state.heap f × (meets AMain (node_at state.heap f) ≡ true)
     claim =
         let claims = subst (λ l. AllHold (IsInUse state.heap) state.heap (line_wants state.limits.hash operation.call operation.access l)) on (line_finds state safe actor operation runs) in
         (safe_of claims.1.1.0, meets_of claims.1.1.0)
@@ -126,7 +127,8 @@ module _ (limits : Bounds) (steps : List Step) (ok : AreBounds limits) (actor : 
     single_differs (Tomb single) e m = true≢false (sym e)
     single_differs (Listed singles) e m = true≢false (sym e)
 
-    node_names_not : (q : Ref) (slot : Slot) → standing state.heap q ≡ Some slot → (node : Node) → slot.node ≡ node → AllHold (IsInUse state.heap) state.heap (node_wants node) → Contains (refs_of_node node) f → ⊥
+    node_names_not : (q : Ref) (slot : Slot) → standing state.heap q ≡ Some slot → (node : Node) → slot.node ≡ node → AllHold (IsInUse state.heap) state.heap (node_wants node) →
+        Contains (refs_of_node node) f → ⊥
     node_names_not q slot stands (Indirection generation main) is h c =
         one_in (λ r. r ≡ f → ⊥) main (λ same. fresh_nowhere limits steps ok actor operation i a f why runs on q slot generation stands (is ∙ ap (Indirection generation) same)) f c refl
     node_names_not q slot stands (Branch bitmap entries) is h (k, within, at_k) = other_kind AnEntry entry_differs (get_or entries.items k f) (all_of h.0 k f within).1 at_k
@@ -198,7 +200,8 @@ module _ (limits : Bounds) (steps : List Step) (ok : AreBounds limits) (actor : 
         private_is : private_after state operation.private (action_of state operation) ≡ []
         private_is = ap (λ l. private_after state operation.private (line_action state operation l)) on
 
-        hand_is : (o : Operation) → operation_of after actor ≡ Some o → at_hand after o ≡ refs_of_claims (line_wants state.limits.hash operation.call operation.access (swapped operation (node_at state.heap f) why false)) ++ []
+        hand_is : (o : Operation) → operation_of after actor ≡ Some o →
+            at_hand after o ≡ refs_of_claims (line_wants state.limits.hash operation.call operation.access (swapped operation (node_at state.heap f) why false)) ++ []
         hand_is o e =
             hand_same after same o ∙ ap (at_hand state) (same_Some o (operation_after state operation) (sym e ∙ runs_then))
             ∙ ap (λ l. refs_of_claims (line_wants state.limits.hash operation.call operation.access l) ++ private_after state operation.private (action_of state operation)) line_is
@@ -221,7 +224,8 @@ module _ (limits : Bounds) (steps : List Step) (ok : AreBounds limits) (actor : 
             (λ o e d.
             let d' = subst (λ rs. Contains rs f) (hand_is o e ∙ ap wants_then is) d in
             elim (Contains-append_cases (refs_of_claims (climb_carries c ++ [])) [] f d') [
-              | inl in_claims ↦ carries_not c (subst (λ q. AllHold (IsInUse state.heap) state.heap (purpose_wants q)) is carried) (subst (λ cs. Contains (refs_of_claims cs) f) (append-nil (climb_carries c)) in_claims)
+              | inl in_claims ↦ carries_not c (subst (λ q. AllHold (IsInUse state.heap) state.heap (purpose_wants q)) is carried)
+                  (subst (λ cs. Contains (refs_of_claims cs) f) (append-nil (climb_carries c)) in_claims)
               | inr in_none ↦ none_contained f in_none
             ]) x live (one_in (λ r. r ≡ f) f refl x (subst (λ own. Contains own x) (subst (λ q. IsAlone q operation.private f) is fresh_alone) own))
         missed_by (purpose.Update path former) is x own live = nothing_left (purpose.Update path former) is refl x own live

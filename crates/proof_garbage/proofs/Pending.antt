@@ -1,15 +1,16 @@
 -- A READ that is about to decide a node names the one over which that stands, as long as it is pending.
-use Rattle.std.proofs.Common.{◌≡◌, ℕ, zero, suc, ◌<◌, ◌≤◌, ◌⊎◌, Some, None, inl, inr, refl, sym, ap, subst, ◌∙◌, arith}
+use Rattle.std.proofs.Common.{◌≡◌, ℕ, zero, suc, ◌≤◌, ◌⊎◌, inl, inr, sym, subst, ◌∙◌, arith}
 use Rattle.std.proofs.lemmas.Bool.{cases_eq}
 use Rattle.proof_garbage.specs.Beneath.slot_arena.specs.declared.refs.Ref.{Ref}
-use Rattle.proof_garbage.specs.Beneath.slot_arena.specs.declared.nodes.Prev.{Prev}
 use Rattle.proof_garbage.specs.Beneath.slot_arena.specs.declared.nodes.Prev.TheVariants as prev
 use Rattle.proof_garbage.specs.Beneath.machine_model.specs.declared.reading.After.{After}
 use Rattle.proof_garbage.specs.Beneath.machine_model.specs.declared.reading.After.TheVariants.{Goes, Gives}
 use Rattle.proof_garbage.specs.Beneath.machine_model.specs.declared.reading.ReadLine.{ReadLine}
 use Rattle.proof_garbage.specs.Beneath.machine_model.specs.declared.reading.ReadLine.TheVariants as read
-use Rattle.proof_garbage.specs.Beneath.proof_commits.specs.Protocol.{Words, Stage, Rests, Reads, Builds, Publishes, Decides, Checks, Leaves, ReadTurn, ReadsMain, FindsDecided, FindsFailed, FindsPending, DecidesAtOnce, Asks, FindsOffer, Aborts, Commits, Fails, Overtaken}
-use Rattle.proof_garbage.specs.Beneath.proof_commits.specs.Protocol.{Restores, FindsAnother, IsAtRest, after_read, after_deciding, MayHave, Moves, Idles, MakesNode, SwapsNode, ReadsOn, DecidesOn, Turn, Acts, Passes, Protocol}
+use Rattle.proof_garbage.specs.Beneath.proof_commits.specs.Protocol.{Words, Stage, Rests, Reads, Builds, Publishes, Decides, Checks, Leaves, ReadTurn, ReadsMain, FindsDecided, FindsFailed}
+use Rattle.proof_garbage.specs.Beneath.proof_commits.specs.Protocol.{FindsPending, DecidesAtOnce, Asks, FindsOffer, Aborts, Commits, Fails, Overtaken}
+use Rattle.proof_garbage.specs.Beneath.proof_commits.specs.Protocol.{Restores, FindsAnother, IsAtRest, after_read, after_deciding, MayHave, Moves, Idles, MakesNode, SwapsNode, ReadsOn, DecidesOn}
+use Rattle.proof_garbage.specs.Beneath.proof_commits.specs.Protocol.{Turn, Acts, Passes, Protocol}
 use Rattle.proof_garbage.specs.Beneath.proof_commits.proofs.Known.Owners.{OnLine, Staged, IsSound}
 use Rattle.proof_garbage.specs.Beneath.proof_commits.proofs.Known.Sounds.{sound_at, effect_at}
 use Rattle.proof_garbage.specs.Beneath.proof_commits.proofs.Words.Effects.{Effect, Becomes, Same, GoesIn, IsCommitted, IsFailed, becomes}

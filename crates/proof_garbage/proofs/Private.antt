@@ -129,7 +129,8 @@ module _ (limits : Bounds) (ok : AreBounds limits) (steps : List Step) where
         (own_private actor k operation is own (at_place state actor k operation own is) o (Goes d is a g) (action_of state operation) refl x (subst (λ (y : Operation). Contains y.private x) only c))
         (subst (λ (y : Operation). IsKnown after (Others y.id) x) only known)
       where
-        as_was : (actor k : ℕ) (operation : Operation) (is : operation_of state actor ≡ Some operation) (own : actor ≡ suc k) (o : Outcome) (m : Moves state (step.Go actor) o (settled state (gone state actor operation)))
+        as_was : (actor k : ℕ) (operation : Operation) (is : operation_of state actor ≡ Some operation) (own : actor ≡ suc k) (o : Outcome)
+            (m : Moves state (step.Go actor) o (settled state (gone state actor operation)))
             (x : Ref) → Was actor k operation is own (at_place state actor k operation own is) o m x → IsKnown (settled state (gone state actor operation)) (Others operation.id) x → ⊥
         as_was actor k operation is own o m x w known = w known
     by_owner s o after (Ends {actor} d is a) k (yes own) found at_k x c known = absurd (of_end state actor k own found at_k)

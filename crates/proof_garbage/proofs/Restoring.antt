@@ -1,5 +1,5 @@
 -- Who puts a node back does so in the place of one that failed over it; who decides one, one that stood in the indirection's word.
-use Rattle.std.proofs.Common.{◌≡◌, ℕ, Bool, true, false, List, Option, Some, None, refl, sym, ap, subst, ◌∙◌, arith}
+use Rattle.std.proofs.Common.{◌≡◌, ℕ, Bool, true, false, List, Option, Some, refl, sym, ap, subst, ◌∙◌, arith}
 use Rattle.std.proofs.lemmas.Bool.{false≢true}
 use Rattle.std.proofs.lemmas.Option.{none-some, same_Some}
 use Rattle.proof_garbage.specs.Beneath.slot_arena.specs.declared.refs.Ref.{Ref}
@@ -55,7 +55,8 @@ use Rattle.proof_garbage.specs.Beneath.machine_model.specs.declared.walking.Walk
 use Rattle.proof_garbage.specs.Beneath.machine_model.specs.declared.walking.WalkLine.TheVariants as walk
 use Rattle.proof_garbage.specs.Beneath.machine_model.specs.Reading.{read_action}
 use Rattle.proof_garbage.specs.Beneath.machine_model.specs.Swapping.{complete_action_at, root_action, action_at}
-use Rattle.proof_garbage.specs.Beneath.machine_model.specs.Operations.{line_action, action_of, completing_read, rooting_read, keying_read, renewing_read, cleaning_read, climbing_read, copying_read, walking_read}
+use Rattle.proof_garbage.specs.Beneath.machine_model.specs.Operations.{line_action, action_of, completing_read, rooting_read, keying_read, renewing_read, cleaning_read, climbing_read, copying_read}
+use Rattle.proof_garbage.specs.Beneath.machine_model.specs.Operations.{walking_read}
 use Rattle.proof_garbage.specs.Beneath.machine_model.specs.Finding.{key_action}
 use Rattle.proof_garbage.specs.Beneath.machine_model.specs.Building.{build_action}
 use Rattle.proof_garbage.specs.Beneath.machine_model.specs.Renewing.{renew_action}
@@ -195,7 +196,8 @@ module _ (limits : Bounds) (steps : List Step) (ok : AreBounds limits) where
   reading actor operation is e =
       let (r, reads, acts) = line_reads (run limits steps) operation operation.line e in (r, reads, acts, on_line w last actor operation.line r reads (staged actor operation is))
 
-  pub failed_over : (actor : ℕ) (operation : Operation) (i main previous : Ref) → operation_of (run limits steps) actor ≡ Some operation → action_of (run limits steps) operation ≡ act.Restore i main previous →
+  pub failed_over : (actor : ℕ) (operation : Operation) (i main previous : Ref) → operation_of (run limits steps) actor ≡ Some operation →
+      action_of (run limits steps) operation ≡ act.Restore i main previous →
       IsInUse (run limits steps).heap main → prev_at (run limits steps).heap main ≡ prev.Failed previous
   failed_over actor operation i main previous is a used =
       let (r, reads, acts, known) = reading actor operation is (ap of_read a) in

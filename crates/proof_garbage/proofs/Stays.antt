@@ -33,6 +33,7 @@ all_count state I (step.Go actor) = λ operation e g. tt
 all_count state I step.Sweep = tt
 all_count state I (step.GiveUp actor) = tt
 
-pub stays_dead : (limits : Bounds) (steps : List Step) (s : Step) (r : Ref) → AreBounds limits → IsInUse (run limits steps).heap r → IsLive (next_state (run limits steps) s) r → IsLive (run limits steps) r
+pub stays_dead : (limits : Bounds) (steps : List Step) (s : Step) (r : Ref) → AreBounds limits → IsInUse (run limits steps).heap r → IsLive (next_state (run limits steps) s) r →
+    IsLive (run limits steps) r
 stays_dead limits steps s r ok used h =
     let I = safe_along limits ok steps in next_known (run limits steps) I (λ id. Unit {0}) s (all_count (run limits steps) I s) r used h

@@ -94,7 +94,8 @@ module _ (K : Ref → Type 0) (heap : Heap) (f g : Ref → Option Slot) (b c : �
 
   fresh_refs : (slot : Slot) → AllHold K heap (node_wants slot.node) → slot.prev ≡ prev.None → Are K (refs_of_slot (Some slot))
   fresh_refs slot h e =
-      both_in K (refs_of_node slot.node) (refs_of_prev slot.prev) (node_refs_of slot.node (refs_held K heap (node_wants slot.node) h)) (subst (λ p. Are K (refs_of_prev p)) (sym e) (λ r c. none_in r c))
+      both_in K (refs_of_node slot.node) (refs_of_prev slot.prev) (node_refs_of slot.node (refs_held K heap (node_wants slot.node) h)) (subst (λ p. Are K (refs_of_prev p)) (sym e)
+      (λ r c. none_in r c))
 
   pub slots_by : Effect (AllHold K heap) f g b c None → (q : Ref) (slot : Slot) → Was q → g q ≡ Some slot → Are K (refs_of_slot (Some slot))
   slots_by (Keeps e k) q slot t h = old_slot q slot t (sym (k q) ∙ h)
@@ -238,7 +239,9 @@ module _ (state : State) (I : IsSafe state) (P : ℕ → Type 0) where
   own_hand actor operation k own is g found =
       rw (mark_only (marks_by state (Some operation)) (operation_after state operation))
       (λ p.
-      subst (λ (l : Bounds). Are WasKnown (refs_of_claims (line_wants l.hash operation.call operation.access (line_after state operation operation.line)) ++ private_after state operation.private (action_of state operation)))
+      subst
+      (λ (l : Bounds). Are WasKnown (refs_of_claims (line_wants l.hash operation.call operation.access (line_after state operation operation.line))
+      ++ private_after state operation.private (action_of state operation)))
       (sym (acted_framed _ (handle_of operation.call) (action_of state operation)).limits) (its_hand actor k operation is found p g))
 
   other_hand : (s : Step) (o : Outcome) (after : State) → Moves state s o after → (k : ℕ) → (IsOf (suc k) s → ⊥) → (operation : Operation) → get_or state.actors k None ≡ Some operation →
@@ -287,9 +290,11 @@ module _ (state : State) (I : IsSafe state) (P : ℕ → Type 0) where
   step_known s o after (Goes {actor} {operation} d is a g) counts =
       let (k, found) = of_actor state (λ k operation. get_or state.actors k None ≡ Some operation) (λ k operation e. e) actor operation is in
       known_after after (safe_after state I s o after (Goes d is a g))
-      (word_refs_known after (acted_words K state.heap _ (handle_of operation.call) (action_of state operation) (words_known state I P) (action_known state I P actor operation is (counts operation is (rw a g)))))
+      (word_refs_known after (acted_words K state.heap _ (handle_of operation.call) (action_of state operation) (words_known state I P)
+      (action_known state I P actor operation is (counts operation is (rw a g)))))
       (actors_hands s o after (Goes d is a g))
-      (slots_by K state.heap (standing state.heap) (standing after.heap) state.heap.births after.heap.births (slot_known state I P) (its_effect actor k operation is found (counts operation is (rw a g))))
+      (slots_by K state.heap (standing state.heap) (standing after.heap) state.heap.births after.heap.births (slot_known state I P)
+      (its_effect actor k operation is found (counts operation is (rw a g))))
   step_known s o after (Ends {actor} d is a) counts =
       known_after after (safe_after state I s o after (Ends d is a))
       (word_refs_known after (words_known state I P))

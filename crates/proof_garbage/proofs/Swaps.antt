@@ -1,14 +1,11 @@
 -- What an operation has private in a SWAP and in a CLIMB: the fresh node until it is swapped in, and then nothing.
-use Rattle.std.proofs.Common.{◌≡◌, ℕ, Bool, true, false, List, [], ◌∷◌, ◌++◌, Contains, Option, Some, None, get_or, refl, sym, ap, subst, ◌∙◌, arith}
+use Rattle.std.proofs.Common.{◌≡◌, ℕ, Bool, true, false, List, [], ◌∷◌, ◌++◌, Contains, Some, None, get_or, refl, sym, ap, subst, ◌∙◌, arith}
 use Rattle.std.proofs.lemmas.List.Elements.{Contains-append_right, Contains-get_or}
 use Rattle.proof_garbage.specs.Beneath.history.specs.declared.calls.Call.{Call}
 use Rattle.proof_garbage.specs.Beneath.history.specs.declared.calls.Call.TheVariants.{Close, Entries, Count}
-use Rattle.proof_garbage.specs.Beneath.history.specs.declared.replies.Reply.{Reply}
 use Rattle.proof_garbage.specs.Beneath.slot_arena.specs.declared.refs.Ref.{Ref}
 use Rattle.proof_garbage.specs.Beneath.slot_arena.specs.declared.nodes.Node.{Node}
 use Rattle.proof_garbage.specs.Beneath.slot_arena.specs.Heaps.{node_at, next_ref}
-use Rattle.proof_garbage.specs.Beneath.machine_model.specs.declared.actions.Action.{Action}
-use Rattle.proof_garbage.specs.Beneath.machine_model.specs.declared.actions.Action.TheVariants as act
 use Rattle.proof_garbage.specs.Beneath.machine_model.specs.declared.building.BuildLine.{BuildLine}
 use Rattle.proof_garbage.specs.Beneath.machine_model.specs.declared.building.BuildLine.TheVariants as build
 use Rattle.proof_garbage.specs.Beneath.machine_model.specs.declared.finding.KeyLine.{KeyLine}
@@ -18,7 +15,6 @@ use Rattle.proof_garbage.specs.Beneath.machine_model.specs.declared.lines.Line.T
 use Rattle.proof_garbage.specs.Beneath.machine_model.specs.declared.lines.Purpose.{Purpose}
 use Rattle.proof_garbage.specs.Beneath.machine_model.specs.declared.lines.Purpose.TheVariants as purpose
 use Rattle.proof_garbage.specs.Beneath.machine_model.specs.declared.operations.Operation.{Operation}
-use Rattle.proof_garbage.specs.Beneath.machine_model.specs.declared.reading.Read.{Read}
 use Rattle.proof_garbage.specs.Beneath.machine_model.specs.declared.reading.ReadLine.{ReadLine}
 use Rattle.proof_garbage.specs.Beneath.machine_model.specs.declared.reading.ReadLine.TheVariants as read
 use Rattle.proof_garbage.specs.Beneath.machine_model.specs.declared.reading.Swap.{Swap}
@@ -38,23 +34,21 @@ use Rattle.proof_garbage.specs.Beneath.machine_model.specs.declared.walking.Walk
 use Rattle.proof_garbage.specs.Beneath.machine_model.specs.declared.steps.Bounds.{Bounds}
 use Rattle.proof_garbage.specs.Beneath.machine_model.specs.declared.steps.Outcome.{Outcome}
 use Rattle.proof_garbage.specs.Beneath.machine_model.specs.declared.steps.Step.{Step}
-use Rattle.proof_garbage.specs.Beneath.machine_model.specs.Acting.{gone, operation_after, private_after, with_made}
+use Rattle.proof_garbage.specs.Beneath.machine_model.specs.Acting.{operation_after, private_after, with_made}
 use Rattle.proof_garbage.specs.Beneath.machine_model.specs.Climbing.{climb_action, higher}
-use Rattle.proof_garbage.specs.Beneath.machine_model.specs.Counting.{settled}
 use Rattle.proof_garbage.specs.Beneath.machine_model.specs.Edges.Building.{BuildEdge, SwappedEdge, SwapEdge}
 use Rattle.proof_garbage.specs.Beneath.machine_model.specs.Edges.Key.{FoundEdge, KeyEdge}
 use Rattle.proof_garbage.specs.Beneath.machine_model.specs.Edges.Lines.{Edge, of_root, of_key, of_build, of_swap, of_renew, of_clean, of_climb, of_copy, of_walk, stays, strays}
 use Rattle.proof_garbage.specs.Beneath.machine_model.specs.Edges.Repairs.{RenewNext, RenewEdge, CleanNext, CleanEdge, ClimbingEdge, ClimbEdge}
 use Rattle.proof_garbage.specs.Beneath.machine_model.specs.Edges.Roots.{RootEdge, CopyEdge}
 use Rattle.proof_garbage.specs.Beneath.machine_model.specs.Edges.Walking.{WalkNext, WalkEdge}
-use Rattle.proof_garbage.specs.Beneath.machine_model.specs.GivingUp.{given_up, gave_up}
-use Rattle.proof_garbage.specs.Beneath.machine_model.specs.Machine.{begin_denial, with_begin, run}
-use Rattle.proof_garbage.specs.Beneath.machine_model.specs.Moves.{Moves, GoesOn, begun_operation}
-use Rattle.proof_garbage.specs.Beneath.machine_model.specs.Operations.{action_of, line_action, line_after}
+use Rattle.proof_garbage.specs.Beneath.machine_model.specs.Machine.{run}
+use Rattle.proof_garbage.specs.Beneath.machine_model.specs.Moves.{Moves, begun_operation}
+use Rattle.proof_garbage.specs.Beneath.machine_model.specs.Operations.{line_action, line_after}
 use Rattle.proof_garbage.specs.Beneath.machine_model.specs.Reading.{read_action}
-use Rattle.proof_garbage.specs.Beneath.machine_model.specs.States.{State, first_state, operation_of, with_operation}
+use Rattle.proof_garbage.specs.Beneath.machine_model.specs.States.{State, first_state}
 use Rattle.proof_garbage.specs.Beneath.machine_model.specs.Swapping.{action_at, complete_action_at, root_action}
-use Rattle.proof_garbage.specs.Beneath.machine_model.proofs.Actors.{IsOf, mark_one, mark_only, marks_in, marks_by}
+use Rattle.proof_garbage.specs.Beneath.machine_model.proofs.Actors.{mark_only, marks_in, marks_by}
 use Rattle.proof_garbage.specs.Beneath.machine_model.proofs.Along.{along}
 use Rattle.proof_garbage.specs.Beneath.machine_model.proofs.Edges.Lines.{edge}
 use Rattle.proof_garbage.specs.Beneath.machine_model.proofs.Found.{none_found}
@@ -231,7 +225,8 @@ owns_after state h s o after m k operation at_k =
     each_after state (λ k operation. Owns operation) (λ after k operation. Owns operation) h
     (λ actor call k own d. first_owns state call)
     (λ actor operation k own is g p.
-    subst Owns (sym (mark_only (marks_by state (Some operation)) (operation_after state operation))) (owns_by state operation operation.private operation.line (line_after state operation operation.line) (edge state operation operation.line) p))
+    subst Owns (sym (mark_only (marks_by state (Some operation)) (operation_after state operation)))
+    (owns_by state operation operation.private operation.line (line_after state operation operation.line) (edge state operation operation.line) p))
     (λ actor operation answer k own is a p. tt)
     (λ s o after m k other operation at p. subst Owns (sym (mark_only (marks_in state s) operation)) p)
     s o after m k operation at_k

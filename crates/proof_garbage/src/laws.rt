@@ -1,6 +1,6 @@
 //! Laws of what is live, for every list of steps.
 
-ghost use Rattle.proof_garbage.specs.Laws.{LiveInUse, NamedAreHeld, GarbageStays, PrivateUnknown};
+ghost use Rattle.proof_garbage.specs.Laws.{FreshIsAlone, GarbageStays, LiveInUse, NamedAreHeld, PrivateUnknown};
 
 /// A law: what is live is in use.
 pub fn live_in_use()
@@ -21,4 +21,9 @@ pub fn garbage_stays()
 /// operation gives it up.
 pub fn private_unknown()
     ensures { PrivateUnknown }
+{}
+
+/// A law: a main node that is about to be swapped in is private and decided, and stands in no slot.
+pub fn fresh_is_alone()
+    ensures { FreshIsAlone }
 {}

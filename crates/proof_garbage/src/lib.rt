@@ -3,4 +3,4 @@
 
 mod laws;
 
-pub use laws::{garbage_stays, live_in_use, named_are_held, private_unknown};
+pub use laws::{fresh_is_alone, garbage_stays, live_in_use, named_are_held, private_unknown};

@@ -13,7 +13,8 @@ use Rattle.proof_memory.specs.Laws.{IsInUse}
 use Rattle.proof_memory.proofs.Safety.AtEachTime.{safe_along}
 use Rattle.proof_memory.proofs.Safety.States.{stands_in_use}
 use Rattle.proof_slots.specs.Beneath.slot_arena.specs.declared.nodes.Prev.TheVariants as prev
-use Rattle.proof_slots.specs.Vocabulary.{Ref, Node, Prev, Slot, slot_of, ref_to, Heap, Indirection, stored, empty_branch, taken, take_from, freed, written, with_main, with_prev, main_changed, prev_changed}
+use Rattle.proof_slots.specs.Vocabulary.{Ref, Node, Prev, Slot, slot_of, ref_to, Heap, Indirection, stored, empty_branch, taken, take_from, freed, written, with_main, with_prev, main_changed}
+use Rattle.proof_slots.specs.Vocabulary.{prev_changed}
 use Rattle.proof_slots.specs.Vocabulary.{Bounds, Step, AreBounds, first_state, empty_heap, first_heap, run}
 use Rattle.proof_slots.specs.Slots.{SlotsAreBelowBirths}
 
@@ -48,7 +49,8 @@ module _ (heap : Heap) (h : IsFilled heap) where
   taken_filled node = take_by node heap.free h.rest refl
 
   -- a slot is written where one stands
-  changed_below : (change : Slot → Slot) (slot : ℕ) (o : Option Slot) → get_or heap.slots slot None ≡ o → (k : ℕ) (found : Slot) → get_or (set heap.slots slot (option_map change o)) k None ≡ Some found → k < h.first
+  changed_below : (change : Slot → Slot) (slot : ℕ) (o : Option Slot) → get_or heap.slots slot None ≡ o → (k : ℕ) (found : Slot) →
+      get_or (set heap.slots slot (option_map change o)) k None ≡ Some found → k < h.first
   changed_below change slot (Some was) at_slot k found e = put_below heap.slots h.first slot _ (h.below slot was at_slot) h.below k found e
   changed_below change slot None at_slot k found e = elim (cases_eq k slot) [
     | inl same ↦ absurd (none-some found (found_here heap.slots slot None found (subst (λ i. get_or (set heap.slots slot None) i None ≡ Some found) same e)))
@@ -94,7 +96,9 @@ unfolding first_state
 filled_along limits ok =
     along limits (λ state. IsFilled state.heap) (first_filled limits.slots)
     (λ steps s o after m h. filled (run limits steps).heap after.heap _ (heap_moves (run limits steps) s o after m)
-    (λ r due. let I = safe_along limits ok steps in stands_in_use (run limits steps).heap r (ripe_in_use (InUse (run limits steps).heap) (run limits steps).epoch (run limits steps).limbo I.sound.limbo r due)) h)
+    (λ r due.
+    let sound = (safe_along limits ok steps).sound in
+    stands_in_use (run limits steps).heap r (ripe_in_use (InUse (run limits steps).heap) (run limits steps).epoch (run limits steps).limbo sound.limbo r due)) h)
 
 pub slots_are_below_births : SlotsAreBelowBirths
 unfolding stored

@@ -35,7 +35,8 @@ use Rattle.proof_waiting.specs.Beneath.machine_model.specs.Operations.{action_of
 use Rattle.proof_waiting.specs.Beneath.machine_model.specs.Paths.{above, depth_of, is_below_root, flag_in, hash_in}
 use Rattle.proof_waiting.specs.Beneath.machine_model.specs.States.{State}
 use Rattle.proof_memory.specs.Laws.{SameNode, IsInUse}
-use Rattle.proof_memory.specs.Wants.{AllHold, Holds, Is, Each, EntryIs, Wanted, ABranch, AList, BranchOrList, TombOrList, AnEntry, ASingle, entry_is, listed, meets, is_main_node, key_wants, build_wants, renew_wants, clean_wants, climb_wants, line_wants}
+use Rattle.proof_memory.specs.Wants.{AllHold, Holds, Is, Each, EntryIs, Wanted, ABranch, AList, BranchOrList, TombOrList, AnEntry, ASingle, entry_is, listed, meets, is_main_node, key_wants}
+use Rattle.proof_memory.specs.Wants.{build_wants, renew_wants, clean_wants, climb_wants, line_wants}
 use Rattle.proof_memory.proofs.Claims.Uses.{safe_of, meets_of, all_of}
 use Rattle.proof_waiting.specs.Laws.{NodesStay, FindsItsLine}
 

@@ -79,5 +79,6 @@ operations_wait limits steps more actor operation ok others runs =
       mark = mark;
       runs = ap (operation_of (run limits (steps ++ more))) own ∙ later;
       acts = unmarked (run limits (steps ++ more)) operation mark
-          ∙ action_waits (run limits steps) (run limits (steps ++ more)) (nodes_stay limits steps more ok (no_sweeps actor more others)) operation (line_finds (run limits steps) (safe_along limits ok steps) actor operation runs);
+          ∙ action_waits (run limits steps) (run limits (steps ++ more)) (nodes_stay limits steps more ok (no_sweeps actor more others)) operation (line_finds (run limits steps)
+          (safe_along limits ok steps) actor operation runs);
     }

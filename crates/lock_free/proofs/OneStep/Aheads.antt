@@ -180,12 +180,18 @@ module _ (state : State) (operation : Operation) where
   goes_ahead l i a f over made = by l over
     where
       by : (l : Line) → over_of l ≡ Some (i, a) → (why : Purpose) × (line_after state operation l ≡ line.Swap why (swapping i a f))
-      by (line.Build (build.Main path main c former)) e =
-          (purpose.Update path former, ap (build_if_made state operation (build.Main path main c former)) made ∙ ap (λ (y : Ref × Ref). line.Swap (purpose.Update path former) (swapping y.0 y.1 f)) (same_Some (current path, main) (i, a) e))
+      by (line.Build (build.Main path main c former)) e = (
+        purpose.Update path former,
+        ap (build_if_made state operation (build.Main path main c former)) made
+            ∙ ap (λ (y : Ref × Ref). line.Swap (purpose.Update path former) (swapping y.0 y.1 f)) (same_Some (current path, main) (i, a) e),
+      )
       by (line.Renew (renew.Branch path main done)) e =
           (purpose.Renew path, ap (renew_after_branch path main) made ∙ ap (λ (y : Ref × Ref). line.Swap (purpose.Renew path) (swapping y.0 y.1 f)) (same_Some (current path, main) (i, a) e))
       by (line.Clean (clean.Contracted path main done)) e =
           (purpose.Clean, ap (clean_after_contracted path main) made ∙ ap (λ (y : Ref × Ref). line.Swap purpose.Clean (swapping y.0 y.1 f)) (same_Some (current path, main) (i, a) e))
-      by (line.Climb (climb.Contracted c main)) e =
-          (purpose.Climb c, ap (climb_after_contracted operation c main) made ∙ ap (λ (y : Ref × Ref). line.Swap (purpose.Climb c) (swapping y.0 y.1 f)) (same_Some (current (above c.path), main) (i, a) e))
+      by (line.Climb (climb.Contracted c main)) e = (
+        purpose.Climb c,
+        ap (climb_after_contracted operation c main) made
+            ∙ ap (λ (y : Ref × Ref). line.Swap (purpose.Climb c) (swapping y.0 y.1 f)) (same_Some (current (above c.path), main) (i, a) e),
+      )
       by l e = absurd (none-some (i, a) e)

@@ -1,5 +1,5 @@
 -- What any step of an operation leaves that carries no offer out, by what it makes of the heap.
-use Rattle.std.proofs.Common.{◌≡◌, ◌≢◌, ◌⊎◌, ℕ, get_or, Some, None, refl, sym, ap, subst, ◌∙◌, inl, inr}
+use Rattle.std.proofs.Common.{◌≡◌, ◌≢◌, ◌⊎◌, ℕ, get_or, Some, None, sym, ap, subst, ◌∙◌, inl, inr}
 use Rattle.std.specs.Prelude.{option_map}
 use Rattle.std.proofs.lemmas.Bool.{cases_eq}
 use Rattle.std.proofs.lemmas.Option.{none-some}
@@ -29,7 +29,7 @@ use Rattle.lock_free.specs.Nodes.{IsAhead}
 use Rattle.lock_free.specs.Trying.{try_of, try_at, SameTries}
 use Rattle.lock_free.proofs.OneStep.Aheads.{ahead_of, ComesAhead}
 use Rattle.lock_free.proofs.OneStep.Doing.{CompletesNone, others, own, aheads, still}
-use Rattle.lock_free.proofs.OneStep.Going.{later, moves, more, after_is, bounds_after}
+use Rattle.lock_free.proofs.OneStep.Going.{later, moves, more, after_is}
 use Rattle.lock_free.proofs.OneStep.Widened.{slot_in, live_in, ahead_in, ahead_wide}
 
 module _ (sizes : Sizes) (account : Account) (bounds : AreBounds (bounds_for sizes account.steps)) (actor : ℕ) (operation : Operation) (runs : running sizes account actor operation) where
@@ -96,7 +96,8 @@ module _ (sizes : Sizes) (account : Account) (bounds : AreBounds (bounds_for siz
       own_then = ap (λ s. operation_of s actor) whole ∙ own state actor operation runs none
 
       -- where it offers nothing
-      module _ (attempt : attempt_after operation.attempt (action_of state operation) ≡ operation.attempt) (mark : mark_after operation.is_marked (action_of state operation) ≡ operation.is_marked) where
+      module _ (attempt : attempt_after operation.attempt (action_of state operation) ≡ operation.attempt)
+          (mark : mark_after operation.is_marked (action_of state operation) ≡ operation.is_marked) where
         same_try : try_of (operation_after state operation) ≡ try_of operation
         same_try =
             ap (λ n. record { id = operation.id; call = operation.call; opens = operation.opens; attempt = n; is_marked = mark_after operation.is_marked (action_of state operation) }) attempt

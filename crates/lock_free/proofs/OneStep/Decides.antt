@@ -1,34 +1,28 @@
 -- What is left by the step that decides a pending main node, or finds that it was decided.
-use Rattle.std.proofs.Common.{◌≡◌, ◌≢◌, ◌⊎◌, ◌==◌, ℕ, Bool, true, false, Option, Some, None, get_or, refl, sym, ap, subst, ◌∙◌, inl, inr, eqb-true, if◌then◌else◌}
+use Rattle.std.proofs.Common.{◌≡◌, ◌≢◌, ◌⊎◌, ℕ, Bool, true, false, Option, Some, None, get_or, refl, sym, ap, subst, ◌∙◌, inl, inr, eqb-true, if◌then◌else◌}
 use Rattle.std.proofs.lemmas.Bool.{cases_eq, eqb-false, false≢true}
-use Rattle.std.proofs.lemmas.Option.{same_Some}
 use Rattle.machine_model.specs.Beneath.slot_arena.specs.declared.refs.Ref.{Ref}
-use Rattle.machine_model.specs.Beneath.slot_arena.specs.declared.nodes.Node.{Node}
-use Rattle.machine_model.specs.Beneath.slot_arena.specs.declared.nodes.Node.TheVariants.{Indirection}
 use Rattle.machine_model.specs.Beneath.slot_arena.specs.declared.nodes.Prev.{Prev}
 use Rattle.machine_model.specs.Beneath.slot_arena.specs.declared.nodes.Prev.TheVariants as prev
-use Rattle.machine_model.specs.Beneath.slot_arena.specs.declared.nodes.Slot.{Slot}
-use Rattle.machine_model.specs.Beneath.slot_arena.specs.Heaps.{Heap, stored, node_at, main_at, main_of, prev_at, with_prev}
+use Rattle.machine_model.specs.Beneath.slot_arena.specs.Heaps.{Heap, main_at, prev_at, with_prev}
 use Rattle.machine_model.specs.Beneath.slot_arena.specs.Refs.{slot_of}
-use Rattle.machine_model.specs.declared.actions.Action.{Action}
 use Rattle.machine_model.specs.declared.actions.Action.TheVariants as act
 use Rattle.machine_model.specs.declared.lines.Line.TheVariants as line
 use Rattle.machine_model.specs.declared.operations.Operation.{Operation}
 use Rattle.machine_model.specs.Acting.{acted, gone, decided, operation_after, attempt_after, mark_after}
 use Rattle.machine_model.specs.Calls.{handle_of}
-use Rattle.machine_model.specs.Grown.{standing}
 use Rattle.machine_model.specs.Machine.{AreBounds}
 use Rattle.machine_model.specs.Moves.{GoesOn}
 use Rattle.machine_model.specs.Operations.{action_of}
-use Rattle.machine_model.specs.Reading.{Verdict, Commits, Fails, Overtaken, verdict, verdict_by, is_licensed, is_pending}
+use Rattle.machine_model.specs.Reading.{verdict_by, is_licensed, is_pending}
 use Rattle.machine_model.specs.States.{State, with_operation}
 use Rattle.machine_model.specs.Swapping.{swapping}
 use Rattle.machine_model.specs.declared.steps.Bounds.{Bounds}
 use Rattle.machine_model.proofs.Found.{found_elsewhere}
-use Rattle.machine_model.proofs.Grown.{node_standing, prev_standing}
+use Rattle.machine_model.proofs.Grown.{prev_standing}
 use Rattle.proof_memory.specs.Laws.{IsInUse}
 use Rattle.proof_memory.specs.Wants.{AllHold, action_wants}
-use Rattle.proof_memory.proofs.Claims.Uses.{safe_of, meets_of}
+use Rattle.proof_memory.proofs.Claims.Uses.{safe_of}
 use Rattle.proof_memory.proofs.Heap.Under.{prev_here, prev_other}
 use Rattle.proof_memory.proofs.Safety.AtEachTime.{safe_along}
 use Rattle.proof_memory.proofs.Safety.AtTimes.{action_finds}
@@ -88,7 +82,8 @@ either : (licensed : Bool) (previous : Ref) → (decided_so licensed previous �
 either true previous = inl refl
 either false previous = inr refl
 
-module _ (sizes : Sizes) (account : Account) (bounds : AreBounds (bounds_for sizes account.steps)) (actor : ℕ) (operation : Operation) (runs : running sizes account actor operation) (i main replaced : Ref) (told : Option ℕ)
+module _ (sizes : Sizes) (account : Account) (bounds : AreBounds (bounds_for sizes account.steps)) (actor : ℕ) (operation : Operation) (runs : running sizes account actor operation)
+    (i main replaced : Ref) (told : Option ℕ)
     (is : action_of (state_of sizes account) operation ≡ act.Decide i main replaced told) where
   abbrev state : State
   state = state_of sizes account

@@ -1,21 +1,18 @@
 -- Who runs what after an operation's own step that carries no offer out, and who is about to swap a node in.
-use Rattle.std.proofs.Common.{◌≡◌, ◌≢◌, ◌-◌, ◌<◌, ◌⊎◌, ℕ, zero, suc, Option, Some, None, get_or, set, length, refl, sym, ap, subst, ◌∙◌, inl, inr, arith}
+use Rattle.std.proofs.Common.{◌≡◌, ◌≢◌, ◌-◌, ◌⊎◌, ℕ, zero, suc, Some, None, get_or, set, refl, sym, ap, ◌∙◌, inl, inr, arith}
 use Rattle.std.proofs.lemmas.Bool.{cases_eq}
 use Rattle.std.proofs.lemmas.List.{get_or-set_same}
 use Rattle.std.proofs.lemmas.Option.{same_Some}
 use Rattle.machine_model.specs.Beneath.slot_arena.specs.declared.refs.Ref.{Ref}
 use Rattle.machine_model.specs.declared.actions.Action.{Action}
 use Rattle.machine_model.specs.declared.actions.Action.TheVariants as act
-use Rattle.machine_model.specs.declared.lines.Line.{Line}
-use Rattle.machine_model.specs.declared.lines.Line.TheVariants as line
 use Rattle.machine_model.specs.declared.operations.Operation.{Operation}
 use Rattle.machine_model.specs.Acting.{gone, operation_after}
 use Rattle.machine_model.specs.Calls.{handle_of}
 use Rattle.machine_model.specs.Counting.{settled}
 use Rattle.machine_model.specs.Operations.{action_of}
 use Rattle.machine_model.specs.States.{State, operation_of}
-use Rattle.machine_model.specs.Swapping.{swapping}
-use Rattle.machine_model.proofs.Actors.{marks_of, marks_by, after_marks, gone_actors}
+use Rattle.machine_model.proofs.Actors.{marks_of, after_marks, gone_actors}
 use Rattle.machine_model.proofs.Fates.{place_of_actor}
 use Rattle.machine_model.proofs.Found.{found_within, found_elsewhere}
 use Rattle.lock_free.specs.Nodes.{IsAhead}

@@ -1,27 +1,24 @@
 -- One step more of an actor's operation, seen as a step of the definition.
-use Rattle.std.proofs.Common.{◌≡◌, ◌≢◌, ◌+◌, ◌-◌, ◌<◌, ◌≤◌, ◌++◌, ℕ, zero, suc, Bool, true, false, not, List, [], ◌∷◌, get_or, set, length, Some, None, is_some, refl, sym, ap, subst, ◌∙◌, arith, length-append}
+use Rattle.std.proofs.Common.{◌≡◌, ◌+◌, ◌<◌, ◌≤◌, ◌++◌, ℕ, suc, Bool, true, false, not, List, [], ◌∷◌, get_or, length, Some, None, Ok, is_some, refl, ap, ◌∙◌, arith}
 use Rattle.std.proofs.lemmas.Bool.{lt-leb}
-use Rattle.std.proofs.lemmas.List.{get_or-set_same}
-use Rattle.std.proofs.lemmas.Option.{none-some, same_Some}
 use Rattle.machine_model.specs.Beneath.ctrie_base.specs.declared.refusals.Refusal.TheVariants as refuse
 use Rattle.machine_model.specs.declared.actions.Action.{Action}
 use Rattle.machine_model.specs.declared.actions.Action.TheVariants as act
 use Rattle.machine_model.specs.declared.operations.Operation.{Operation}
 use Rattle.machine_model.specs.declared.steps.Bounds.{Bounds}
-use Rattle.machine_model.specs.declared.steps.Outcome.{Outcome}
 use Rattle.machine_model.specs.declared.steps.Outcome.TheVariants as outcome
 use Rattle.machine_model.specs.declared.steps.Step.{Step}
 use Rattle.machine_model.specs.declared.steps.Step.TheVariants as step
-use Rattle.machine_model.specs.Acting.{gone, operation_after}
+use Rattle.machine_model.specs.Acting.{gone}
 use Rattle.machine_model.specs.Counting.{settled}
-use Rattle.machine_model.specs.Machine.{AreBounds, run, run_from, next, next_state, state_after, first_reason, go_denial, go_unless, go_on, step_by, is_actor, is_running, is_spent}
+use Rattle.machine_model.specs.Machine.{AreBounds, run_from, next, next_state, state_after, first_reason, go_denial, go_unless, go_on, step_by, is_actor, is_running, is_spent}
 use Rattle.machine_model.specs.Moves.{Moves, GoesOn, Goes}
 use Rattle.machine_model.specs.Operations.{action_of, kind_of}
 use Rattle.machine_model.specs.States.{State, first_state, operation_of}
-use Rattle.machine_model.proofs.Actors.{actor_by, marks_by, after_marks, gone_actors}
+use Rattle.machine_model.proofs.Actors.{actor_by}
 use Rattle.machine_model.proofs.Along.{limits_along, kept_by_moves}
 use Rattle.machine_model.proofs.Fates.{place_of_actor}
-use Rattle.machine_model.proofs.Found.{found_within, found_elsewhere}
+use Rattle.machine_model.proofs.Found.{found_within}
 use Rattle.machine_model.proofs.Frames.{steps_counted}
 use Rattle.proof_memory.proofs.Holding.Sizes.{sizes_stay}
 use Rattle.proof_waiting.specs.Beneath.proof_slots.specs.Lasting.{widened}
@@ -56,6 +53,11 @@ going : (state : State) (actor : ℕ) (operation : Operation) (action : Action) 
 going state actor operation (act.End answer) g = absurd g
 going state actor operation action g = refl
 
+going_ok : (state : State) (actor : ℕ) (operation : Operation) (action : Action) → GoesOn action →
+    step_by state actor operation action ≡ Ok (outcome.Went (kind_of action), settled state (gone state actor operation))
+going_ok state actor operation (act.End answer) g = absurd g
+going_ok state actor operation action g = refl
+
 module _ (sizes : Sizes) (account : Account) (bounds : AreBounds (bounds_for sizes account.steps)) (actor : ℕ) (operation : Operation) (runs : running sizes account actor operation) where
   abbrev pub now : State
   now = state_of sizes account
@@ -85,6 +87,9 @@ module _ (sizes : Sizes) (account : Account) (bounds : AreBounds (bounds_for siz
   module _ (g : GoesOn (action_of now operation)) where
     pub moves : Moves now (step.Go actor) (outcome.Went (kind_of (action_of now operation))) later
     moves = Goes allowed runs refl g
+
+    pub next_ok : next now (step.Go actor) ≡ Ok (outcome.Went (kind_of (action_of now operation)), later)
+    next_ok = goes_by now actor operation allowed runs ∙ going_ok now actor operation (action_of now operation) g
 
     next_is : next_state now (step.Go actor) ≡ later
     next_is = ap (state_after now) (goes_by now actor operation allowed runs) ∙ going now actor operation (action_of now operation) g

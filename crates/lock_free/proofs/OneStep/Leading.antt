@@ -1,5 +1,5 @@
 -- A step that changes no word.
-use Rattle.std.proofs.Common.{◌≡◌, ℕ, false, Some, refl, ap, inl, inr}
+use Rattle.std.proofs.Common.{◌≡◌, ℕ, false, Some, ap, inl, inr}
 use Rattle.machine_model.specs.Beneath.slot_arena.specs.declared.refs.Ref.{Ref}
 use Rattle.machine_model.specs.Beneath.slot_arena.specs.Refs.{slot_of}
 use Rattle.machine_model.specs.declared.operations.Operation.{Operation}

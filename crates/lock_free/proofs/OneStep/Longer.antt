@@ -1,9 +1,8 @@
 -- The same steps under the bounds of a longer account lead to the same, but for slots that are free and steps that are left.
-use Rattle.std.proofs.Common.{◌≡◌, ◌≤◌, ◌++◌, ◌+◌, ℕ, List, [], ◌∷◌, get_or, length, Some, None, refl, sym, ap, ◌∙◌, subst, arith, length-append}
-use Rattle.machine_model.specs.declared.steps.Bounds.{Bounds}
+use Rattle.std.proofs.Common.{◌≡◌, ◌≤◌, ◌++◌, ◌+◌, List, [], ◌∷◌, length, ap, ◌∙◌, arith, length-append}
 use Rattle.machine_model.specs.declared.steps.Step.{Step}
-use Rattle.machine_model.specs.Machine.{AreBounds, run, run_from, next_state}
-use Rattle.machine_model.specs.States.{State, first_state}
+use Rattle.machine_model.specs.Machine.{AreBounds, run, next_state}
+use Rattle.machine_model.specs.States.{first_state}
 use Rattle.machine_model.proofs.Along.{run_push}
 use Rattle.proof_waiting.specs.Beneath.proof_slots.specs.Lasting.{wider, widened}
 use Rattle.proof_waiting.specs.Beneath.proof_slots.proofs.Wider.{wider_alike}
@@ -25,13 +24,15 @@ module _ (sizes : Sizes) (steps : List Step) where
 
   module _ (ok : AreBounds (bounds_for sizes steps)) where
     -- some of the steps of the longer account
-    pub run_longer : (done rest more : List Step) → steps ≡ done ++ rest → run (bounds_for sizes (steps ++ more)) done ≡ widened (length more) (length (steps ++ more) + 1) (run (bounds_for sizes steps) done)
+    pub run_longer : (done rest more : List Step) → steps ≡ done ++ rest →
+        run (bounds_for sizes (steps ++ more)) done ≡ widened (length more) (length (steps ++ more) + 1) (run (bounds_for sizes steps) done)
     run_longer done rest more e =
         let few : length done ≤ length steps = omega (arith, ap length e, length-append done rest) in
         let enough : length done + 2 ≤ (bounds_for sizes steps).slots = omega (arith, few) in
         let left : length done ≤ (bounds_for sizes steps).steps = omega (arith, few) in
         let also : length done ≤ length (steps ++ more) + 1 = omega (arith, few, length-append steps more) in
-        ap (λ b. run b done) (longer_bounds more) ∙ (wider_alike (length more) (length (steps ++ more) + 1) (bounds_for sizes steps) done ok (few_steps_have_slots (bounds_for sizes steps) done enough) left also).0
+        ap (λ b. run b done) (longer_bounds more)
+        ∙ (wider_alike (length more) (length (steps ++ more) + 1) (bounds_for sizes steps) done ok (few_steps_have_slots (bounds_for sizes steps) done enough) left also).0
 
     -- one step more
     pub run_next : (s : Step) → run (bounds_for sizes (steps ++ s ∷ [])) (steps ++ s ∷ []) ≡ widened 1 (length (steps ++ s ∷ []) + 1) (next_state (run (bounds_for sizes steps) steps) s)

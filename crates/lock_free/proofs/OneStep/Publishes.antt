@@ -1,16 +1,16 @@
 -- What is left by the step that swaps a fresh main node in, or finds another one than it is to replace.
-use Rattle.std.proofs.Common.{◌≡◌, ◌≢◌, ◌⊎◌, ◌==◌, ℕ, Bool, true, false, List, [], ◌∷◌, ◌++◌, All, Contains, Option, Some, None, get_or, arith, refl, sym, ap, subst, ◌∙◌, inl, inr, eqb-true, if◌then◌else◌}
+use Rattle.std.proofs.Common.{◌≡◌, ◌≢◌, ◌⊎◌, ◌==◌, ℕ, Bool, true, false, ◌∷◌, ◌++◌, All, Contains, Option, Some, None, get_or, arith, refl, sym, ap, subst, ◌∙◌, inl, inr, eqb-true}
 use Rattle.std.proofs.lemmas.Bool.{cases_eq, eqb-false, true≢false}
 use Rattle.std.proofs.lemmas.Option.{none-some, same_Some}
 use Rattle.std.proofs.lemmas.List.Elements.{Contains-get_or}
 use Rattle.machine_model.specs.Beneath.slot_arena.specs.declared.refs.Ref.{Ref}
 use Rattle.machine_model.specs.Beneath.slot_arena.specs.declared.nodes.Node.{Node}
 use Rattle.machine_model.specs.Beneath.slot_arena.specs.declared.nodes.Node.TheVariants.{Indirection, Branch, Single, Tomb, List as Listed}
-use Rattle.machine_model.specs.Beneath.slot_arena.specs.declared.nodes.Prev.{Prev}
 use Rattle.machine_model.specs.Beneath.slot_arena.specs.declared.nodes.Prev.TheVariants as prev
 use Rattle.machine_model.specs.Beneath.slot_arena.specs.declared.nodes.Slot.{Slot}
-use Rattle.machine_model.specs.Beneath.slot_arena.specs.Heaps.{Heap, no_ref, stored, node_at, node_of, main_at, main_of, prev_at, with_main, with_main_word, with_prev, refs_of_slot, refs_of_node, refs_of_prev}
-use Rattle.machine_model.specs.Beneath.slot_arena.specs.Refs.{slot_of, birth_of, ref_to}
+use Rattle.machine_model.specs.Beneath.slot_arena.specs.Heaps.{Heap, no_ref, stored, node_at, node_of, main_at, main_of, prev_at, with_main, with_main_word, with_prev, refs_of_slot, refs_of_node}
+use Rattle.machine_model.specs.Beneath.slot_arena.specs.Heaps.{refs_of_prev}
+use Rattle.machine_model.specs.Beneath.slot_arena.specs.Refs.{slot_of, ref_to}
 use Rattle.machine_model.specs.Beneath.slot_arena.proofs.Live.{same_ref}
 use Rattle.machine_model.specs.declared.actions.Action.{Action}
 use Rattle.machine_model.specs.declared.actions.Action.TheVariants as act
@@ -159,7 +159,8 @@ swapped_used heap i a f used_i used_f r used = main_used heap i f used_i r (prev
     kept (inl same) = (_, ap (standing (with_main heap i f)) same ∙ main_here heap i f used_i.0 used_i.1)
     kept (inr apart) = (used_f.0, main_other heap i f used_i.0 used_i.1 f apart ∙ used_f.1)
 
-module _ (sizes : Sizes) (account : Account) (bounds : AreBounds (bounds_for sizes account.steps)) (actor : ℕ) (operation : Operation) (runs : running sizes account actor operation) (quiet : HasNoSweeps account.steps)
+module _ (sizes : Sizes) (account : Account) (bounds : AreBounds (bounds_for sizes account.steps)) (actor : ℕ) (operation : Operation) (runs : running sizes account actor operation)
+    (quiet : HasNoSweeps account.steps)
     (i a f : Ref) (is : action_of (state_of sizes account) operation ≡ act.Publish i a f) where
   abbrev state : State
   state = state_of sizes account
@@ -301,7 +302,8 @@ module _ (sizes : Sizes) (account : Account) (bounds : AreBounds (bounds_for siz
     node_by : (j : Ref) (slot : Slot) → stored state.heap j ≡ Some slot → (node : Node) → slot.node ≡ node → slot_of (main_of node) ≢ slot_of f
     node_by j slot at (Indirection generation m) node same =
         let (r, place, stood) = ref_at state safe (slot_of j) slot (as_found state.heap j (Some slot) at) in
-        let used_m = in_any_slot state safe j m (subst (λ o. Contains (refs_of_slot o) m) (sym at) (subst (λ n. Contains (refs_of_node n ++ refs_of_prev slot.prev) m) (sym node) (Contains-get_or (m ∷ refs_of_prev slot.prev) 0 m (omega arith)))) in
+        let has = subst (λ n. Contains (refs_of_node n ++ refs_of_prev slot.prev) m) (sym node) (Contains-get_or (m ∷ refs_of_prev slot.prev) 0 m (omega arith)) in
+        let used_m = in_any_slot state safe j m (subst (λ o. Contains (refs_of_slot o) m) (sym at) has) in
         fresh_nowhere limits account.steps bounds actor operation i a f why runs its_line.1 r slot generation stood (node ∙ ap (Indirection generation) (one_ref state.heap m f used_m used_f same))
     node_by j slot at (Branch bitmap entries) node same = not_default same
     node_by j slot at (Single key value) node same = not_default same
@@ -325,7 +327,8 @@ module _ (sizes : Sizes) (account : Account) (bounds : AreBounds (bounds_for siz
             let one = same_Some _ _ (sym (own_then sizes account bounds actor operation runs g none) ∙ ap (operation_of (state_of sizes (gone_on actor account))) (sym its) ∙ x.runs) in
             makes_none j b (comes_ahead state operation operation.line (j, b, h) (ap (λ (o : Operation). ahead_of o.line) one ∙ ap ahead_of x.on)).0
         by_actor same (inr apart) =
-            its_own j b h (record { actor = x.actor; operation = x.operation; runs = sym (others_then sizes account bounds actor operation runs g none x.actor apart) ∙ x.runs; why = x.why; on = x.on }) same apart
+            let ran = sym (others_then sizes account bounds actor operation runs g none x.actor apart) ∙ x.runs in
+            its_own j b h (record { actor = x.actor; operation = x.operation; runs = ran; why = x.why; on = x.on }) same apart
 
     pub publishes : Publishes sizes account (swapped_in actor i f account) actor operation i a f
     publishes = record {
@@ -341,8 +344,10 @@ module _ (sizes : Sizes) (account : Account) (bounds : AreBounds (bounds_for siz
       fresh_is = slot_at state.heap f used_f.0 used_f.1;
       fresh_main = subst (λ n. is_main_node n ≡ true) (node_standing state.heap f used_f.0 used_f.1) (meets_of claims.1.1.0);
       fresh_prev = sym (prev_standing state.heap f used_f.0 used_f.1) ∙ fresh_is_decided;
-      fresh_then = slot_then sizes account bounds actor operation runs g heap_then heap_is (slot_of f) ∙ slot_at heap_then f _ (prev_here (with_main state.heap i f) f (prev.Pending a) used_f.0 f_kept);
-      nodes = λ k not_i not_f. slot_then sizes account bounds actor operation runs g heap_then heap_is k ∙ prev_elsewhere (with_main state.heap i f) f (prev.Pending a) k not_f ∙ main_elsewhere state.heap i f k not_i;
+      fresh_then =
+          slot_then sizes account bounds actor operation runs g heap_then heap_is (slot_of f) ∙ slot_at heap_then f _ (prev_here (with_main state.heap i f) f (prev.Pending a) used_f.0 f_kept);
+      nodes = λ k not_i not_f. slot_then sizes account bounds actor operation runs g heap_then heap_is k ∙ prev_elsewhere (with_main state.heap i f) f (prev.Pending a) k not_f
+          ∙ main_elsewhere state.heap i f k not_i;
       births = births_then sizes account bounds actor operation runs g heap_then heap_is ∙ prev_births (with_main state.heap i f) f (prev.Pending a) ∙ main_births state.heap i f;
       live = live_then sizes account bounds actor operation runs g heap_then heap_is (swapped_used state.heap i a f used_i used_f);
       roots = roots_then sizes account bounds actor operation runs g (ap (λ (s : State). s.roots) (gone_is true e));

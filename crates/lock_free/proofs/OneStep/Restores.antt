@@ -1,21 +1,17 @@
 -- What is left by the step that puts the main node before back in the place of a failed one, or finds another there.
-use Rattle.std.proofs.Common.{◌≡◌, ◌≢◌, ◌⊎◌, ◌==◌, ℕ, Bool, true, false, Option, Some, None, get_or, refl, sym, ap, subst, ◌∙◌, inl, inr, eqb-true}
+use Rattle.std.proofs.Common.{◌≡◌, ◌≢◌, ◌⊎◌, ◌==◌, ℕ, Bool, true, false, Some, None, get_or, refl, sym, ap, subst, ◌∙◌, inl, inr, eqb-true}
 use Rattle.std.proofs.lemmas.Bool.{cases_eq, eqb-false}
 use Rattle.std.proofs.lemmas.Option.{same_Some}
 use Rattle.machine_model.specs.Beneath.slot_arena.specs.declared.refs.Ref.{Ref}
-use Rattle.machine_model.specs.Beneath.slot_arena.specs.declared.nodes.Node.{Node}
 use Rattle.machine_model.specs.Beneath.slot_arena.specs.declared.nodes.Node.TheVariants.{Indirection}
 use Rattle.machine_model.specs.Beneath.slot_arena.specs.declared.nodes.Prev.TheVariants as prev
 use Rattle.machine_model.specs.Beneath.slot_arena.specs.declared.nodes.Slot.{Slot}
-use Rattle.machine_model.specs.Beneath.slot_arena.specs.Heaps.{Heap, stored, node_at, main_at, main_of, prev_at, with_main, with_main_word}
+use Rattle.machine_model.specs.Beneath.slot_arena.specs.Heaps.{Heap, node_at, main_at, main_of, prev_at, with_main, with_main_word}
 use Rattle.machine_model.specs.Beneath.slot_arena.specs.Refs.{slot_of}
-use Rattle.machine_model.specs.declared.actions.Action.{Action}
 use Rattle.machine_model.specs.declared.actions.Action.TheVariants as act
-use Rattle.machine_model.specs.declared.lines.Line.{Line}
 use Rattle.machine_model.specs.declared.operations.Operation.{Operation}
 use Rattle.machine_model.specs.Acting.{acted, gone, if_changed, operation_after, attempt_after, mark_after}
 use Rattle.machine_model.specs.Calls.{handle_of}
-use Rattle.machine_model.specs.Grown.{standing}
 use Rattle.machine_model.specs.Machine.{AreBounds}
 use Rattle.machine_model.specs.Moves.{GoesOn}
 use Rattle.machine_model.specs.Operations.{action_of}
@@ -60,7 +56,8 @@ main_used heap i m (was, stands) r (slot, now) = elim (cases_eq r i) [
   | inr apart ↦ (slot, sym (main_other heap i m was stands r apart) ∙ now)
 ]
 
-module _ (sizes : Sizes) (account : Account) (bounds : AreBounds (bounds_for sizes account.steps)) (actor : ℕ) (operation : Operation) (runs : running sizes account actor operation) (i main former : Ref)
+module _ (sizes : Sizes) (account : Account) (bounds : AreBounds (bounds_for sizes account.steps)) (actor : ℕ) (operation : Operation) (runs : running sizes account actor operation)
+    (i main former : Ref)
     (is : action_of (state_of sizes account) operation ≡ act.Restore i main former) where
   abbrev state : State
   state = state_of sizes account
@@ -81,7 +78,8 @@ module _ (sizes : Sizes) (account : Account) (bounds : AreBounds (bounds_for siz
   tries = tries_stay sizes account bounds actor operation runs g none (ap (attempt_after operation.attempt) is) (ap (mark_after operation.is_marked) is)
 
   claims : AllHold (IsInUse state.heap) state.heap (action_wants (act.Restore i main former))
-  claims = subst (λ action. AllHold (IsInUse state.heap) state.heap (action_wants action)) is (action_finds state (safe_along (bounds_for sizes account.steps) bounds account.steps) actor operation runs)
+  claims =
+      subst (λ action. AllHold (IsInUse state.heap) state.heap (action_wants action)) is (action_finds state (safe_along (bounds_for sizes account.steps) bounds account.steps) actor operation runs)
 
   makes_none : (j a : Ref) → over_of operation.line ≡ Some (j, a) → ⊥
   makes_none j a over = let (node, made) = over_makes state operation operation.line (j, a) over in let both = sym made ∙ is in cc

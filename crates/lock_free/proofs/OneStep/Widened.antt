@@ -1,7 +1,7 @@
 -- What a state with more free slots and steps has, the state has.
-use Rattle.std.proofs.Common.{◌≡◌, ℕ, Contains, get_or, None, sym, ap, subst}
+use Rattle.std.proofs.Common.{◌≡◌, ℕ, Contains, get_or, None, subst}
 use Rattle.machine_model.specs.Beneath.slot_arena.specs.declared.refs.Ref.{Ref}
-use Rattle.machine_model.specs.Beneath.slot_arena.specs.Heaps.{stored, refs_of_slot}
+use Rattle.machine_model.specs.Beneath.slot_arena.specs.Heaps.{refs_of_slot}
 use Rattle.machine_model.specs.States.{State}
 use Rattle.proof_waiting.specs.Beneath.proof_slots.specs.Lasting.{widened}
 use Rattle.proof_waiting.specs.Beneath.proof_slots.proofs.Padded.Lists.{get_longer}

@@ -1,0 +1,24 @@
+use Rattle.std.proofs.Common.{Some, None, false, refl, sym, ap, subst, ◌∙◌}
+use Rattle.history.specs.declared.calls.Access.TheVariants.{Writable, ReadOnly}
+use Rattle.machine_model.specs.declared.reading.After.TheVariants.{Goes}
+use Rattle.machine_model.specs.declared.reading.ReadLine.TheVariants as read
+use Rattle.lock_free.specs.Passing.{IsReading, pending_line}
+use Rattle.lock_free.proofs.Comings.{stays_there}
+use Rattle.lock_free.proofs.Laters.{link_later}
+use Rattle.lock_free.proofs.Settles.{license_is}
+use Rattle.lock_free.proofs.reading.is_licensed.Goals as goal
+
+pub returns-in-Writable-clause-licensed : goal.returns-in-Writable-clause-licensed
+returns-in-Writable-clause-licensed g c =
+    let v = c.args.actor.now.me.0 in
+    let w = c.ask.new.actor.me.0 in
+    λ i main replaced is knows.
+    (let reading = subst (λ a. IsReading v i (pending_line a main replaced)) c.in-Writable.is is in
+    let come = c.ask.ensures.asked i main replaced reading in
+    (c.ask.result, come, license_is w i main c.args.link c.ask.result (link_later v w come.later i main c.args.link knows) ∙ sym c.eq.ensures))
+
+pub returns-in-ReadOnly-clause-licensed : goal.returns-in-ReadOnly-clause-licensed
+returns-in-ReadOnly-clause-licensed g c =
+    let v = c.args.actor.now.me.0 in
+    λ i main replaced is knows.
+    (let reading = subst (λ a. IsReading v i (pending_line a main replaced)) c.in-ReadOnly.is is in (None, stays_there v i (read.Decide main replaced None) reading, refl))
