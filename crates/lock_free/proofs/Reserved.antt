@@ -1,6 +1,6 @@
 -- A seat stores the word of the number that it has reserved: it names the offer that is to open the handle, or gives the number back.
 use Rattle.history.specs.declared.calls.Call.{Call}
-use Rattle.std.proofs.Common.{◌≡◌, ◌≢◌, ◌^◌, ℕ, ◌<◌, ◌≤◌, inl, inr, false, List, Contains, set, slice_index, Option, Some, None, refl, sym, ap, subst, ◌∙◌, arith}
+use Rattle.std.proofs.Common.{◌≡◌, ◌≢◌, ◌^◌, ℕ, ◌<◌, ◌≤◌, inl, inr, List, Contains, set, slice_index, Option, Some, None, refl, sym, ap, subst, ◌∙◌, arith}
 use Rattle.std.proofs.lemmas.Bool.{cases_eq}
 use Rattle.std.proofs.lemmas.Option.{none-some, same_Some}
 use mathlib.Core.Option.{some, some-injective}

@@ -1,5 +1,5 @@
 -- What a handle's root is where its word says this.
-use Rattle.std.proofs.Common.{◌≡◌, ◌≢◌, ◌*◌, ◌⊎◌, ◌^◌, ℕ, ◌<◌, inl, inr, Bool, true, false, List, Contains, slice_index, Option, Some, None, refl, sym, ap, subst, ◌∙◌, arith}
+use Rattle.std.proofs.Common.{◌≡◌, ◌*◌, ◌⊎◌, ◌^◌, ℕ, ◌<◌, inl, inr, Bool, true, false, List, Contains, slice_index, Option, Some, None, refl, sym, ap, subst, ◌∙◌, arith}
 use Rattle.trie_words.specs.Codes.{root_code, IsRootWord}
 use Rattle.trie_words.specs.declared.roots.RootWord.{RootWord as HandleWord}
 use Rattle.trie_words.specs.declared.roots.RootWord.TheVariants as word

@@ -1,5 +1,5 @@
 -- Steps that change no node, and stores to words of handles.
-use Rattle.std.proofs.Common.{◌≡◌, ◌≢◌, ◌+◌, ℕ, ◌<◌, ◌≤◌, inl, inr, List, ◌++◌, Contains, length, set, get_or, slice_index, Option, None, refl, sym, ap, subst, ◌∙◌, arith, length-set}
+use Rattle.std.proofs.Common.{◌≡◌, ◌≢◌, ℕ, ◌<◌, ◌≤◌, inl, inr, List, ◌++◌, Contains, length, set, get_or, slice_index, Option, None, refl, sym, ap, subst, ◌∙◌, arith, length-set}
 use Rattle.std.proofs.lemmas.Bool.{cases_eq}
 use Rattle.std.proofs.lemmas.List.{get_or-set_same}
 use Rattle.trie_words.specs.Codes.{root_code}

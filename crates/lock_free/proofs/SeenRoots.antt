@@ -1,6 +1,6 @@
 -- What a load of a handle's word tells.
-use Rattle.std.proofs.Common.{◌≡◌, ◌+◌, ◌*◌, ◌⊎◌, ◌≤◌, ◌<◌, ℕ, inl, inr, List, Contains, slice_index, Option, Some, None, refl, sym, ap, subst, ◌∙◌, arith}
-use Rattle.trie_words.specs.Codes.{root_code, root_of, IsRootWord}
+use Rattle.std.proofs.Common.{◌≡◌, ◌+◌, ◌*◌, ◌⊎◌, ◌≤◌, ◌<◌, ℕ, inl, inr, List, Contains, None, sym, ap, subst, ◌∙◌, arith}
+use Rattle.trie_words.specs.Codes.{root_of, IsRootWord}
 use Rattle.trie_words.specs.declared.roots.RootWord.{RootWord}
 use Rattle.trie_words.specs.declared.roots.RootWord.TheVariants as word
 use Rattle.machine_model.specs.States.{root_at}
@@ -9,11 +9,10 @@ use Rattle.lock_free.specs.declared.accounts.Known.{Known}
 use Rattle.lock_free.specs.declared.rules.View.{View}
 use Rattle.lock_free.specs.declared.sizes.Sizes.{Sizes}
 use Rattle.lock_free.specs.Accounts.{state_of}
-use Rattle.lock_free.specs.HandleWords.{HasOffer, HasOpening, TellsRoot, HasSeenRoot}
-use Rattle.lock_free.specs.Loading.{Moment, HasSeen, seen, IsSound}
+use Rattle.lock_free.specs.HandleWords.{HasOpening, TellsRoot, HasSeenRoot}
+use Rattle.lock_free.specs.Loading.{HasSeen, IsSound}
 use Rattle.lock_free.specs.Places.{HaveTaken, IsTaken, words_of, words_in, root_word}
 use Rattle.lock_free.specs.Roots.{SaysRoot, SaysOpening, NoOffer}
-use Rattle.lock_free.specs.Rules.{IsKept}
 use Rattle.lock_free.proofs.Geometry.{end_inside, root_below}
 use Rattle.lock_free.proofs.Moments.{waited_so}
 use Rattle.lock_free.proofs.RootCodes.{root_back}
@@ -41,8 +40,7 @@ module _ (sizes : Sizes) (account : Account) (words : List ℕ) (have : HaveTake
 pub root_told : (before : View) (handle found : ℕ) (after : View) → handle < 256 → HasSeen before (root_word handle) found after → HasSeenRoot before handle (root_of found) after
 root_told before handle found after low (m, is) =
     let means = m.kept.roots.means handle low in
-    let what : root_of found ≡ means.what = ap root_of (sym m.finds ∙ means.code) ∙ root_back means.what means.fits in
-    (
+    let what : root_of found ≡ means.what = ap root_of (sym m.finds ∙ means.code) ∙ root_back means.what means.fits in (
       record { account = m.kept.account; waited = waited_so before m.table m.kept m.id m.at; after_is = is },
       subst IsRootWord (sym what) means.fits,
       subst (TellsRoot before.sizes m.kept.account handle) (sym what) (tells_by before.sizes m.kept.account m.table.words m.kept.taken m.kept.roots.blocks handle means.what means.says),

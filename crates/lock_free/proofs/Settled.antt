@@ -1,6 +1,6 @@
 -- An exchange of an offer's first word carries it out or takes it back.
 use Rattle.history.specs.declared.calls.Call.{Call}
-use Rattle.std.proofs.Common.{◌≡◌, ◌≢◌, ◌+◌, ◌*◌, ◌^◌, ◌==◌, ℕ, ◌<◌, ◌≤◌, inl, inr, true, false, List, [], ◌∷◌, Contains, set, slice_index, is_some, Some, None, refl, sym, ap, subst, ◌∙◌, arith, append-nil, length-set}
+use Rattle.std.proofs.Common.{◌≡◌, ◌≢◌, ◌+◌, ◌*◌, ◌^◌, ◌==◌, ℕ, ◌<◌, ◌≤◌, inl, inr, true, List, [], ◌∷◌, Contains, set, slice_index, is_some, Some, None, refl, sym, ap, subst, ◌∙◌, arith, append-nil, length-set}
 use Rattle.std.proofs.lemmas.Bool.{cases_eq, true≢false}
 use Rattle.std.proofs.lemmas.Option.{none-some}
 use Rattle.std.proofs.lemmas.List.{get_or-set_same}
@@ -30,7 +30,7 @@ use Rattle.lock_free.proofs.Assembling.{AllStand, all_stand, closing_stays, open
 use Rattle.lock_free.proofs.Framing.{else_word, below_word, still_taken, have_still, stands_over, class_small}
 use Rattle.lock_free.proofs.Geometry.{IsWordOf, slots_apart, above, inside, root_below}
 use Rattle.lock_free.proofs.Meanings.{means_then, stood_still, pending_kept, unmarked_then}
-use Rattle.lock_free.proofs.RootFound.{slot_fits, offered_is, opening_is}
+use Rattle.lock_free.proofs.RootFound.{slot_fits, opening_is}
 use Rattle.lock_free.proofs.RootSteps as root
 use Rattle.lock_free.proofs.Seats.{Stays, other_kept, own_kept, drafts_kept}
 use Rattle.lock_free.proofs.Tries.{is_or_not, ran_settled, reserved_settled, not_owner, marks_settled, marks_else, opener}

@@ -1,10 +1,10 @@
 -- What accesses of handles' words ask and tell.
-use Rattle.std.specs.Prelude.{◌≡◌, ◌+◌, ◌*◌, ◌≤◌, ◌⊎◌, ℕ, Contains, Option, Some, None}
+use Rattle.std.specs.Prelude.{◌≡◌, ◌+◌, ◌*◌, ◌≤◌, ◌⊎◌, ℕ, Contains, Some, None}
 use Rattle.trie_words.specs.Codes.{IsRootWord}
 use Rattle.trie_words.specs.declared.roots.RootWord.{RootWord}
 use Rattle.trie_words.specs.declared.roots.RootWord.TheVariants as word
 use Rattle.history.specs.declared.calls.Access.TheVariants.{Writable, ReadOnly}
-use Rattle.machine_model.specs.States.{State, root_at}
+use Rattle.machine_model.specs.States.{root_at}
 use Rattle.lock_free.specs.declared.accounts.Account.{Account}
 use Rattle.lock_free.specs.declared.accounts.Known.{Known}
 use Rattle.lock_free.specs.declared.rules.View.{View}

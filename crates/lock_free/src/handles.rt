@@ -14,7 +14,11 @@ fn root_word_of(handle: u16) -> usize
     requires { handle < 256 }
     ensures { result ≡ root_word handle }
 {
-    if handle == 0 { 80 } else { 87 + handle as usize }
+    if handle == 0 {
+        80
+    } else {
+        87 + handle as usize
+    }
 }
 
 /// Looks at the word of a handle.

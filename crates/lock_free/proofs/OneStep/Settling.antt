@@ -1,12 +1,10 @@
 -- An ABORT or a COMPLETE settles an offer that stands, and leaves all as it is where it finds it decided.
-use Rattle.std.proofs.Common.{◌≡◌, ◌≢◌, ◌⊎◌, ◌==◌, ℕ, Bool, true, false, Option, Some, None, refl, sym, ap, subst, ◌∙◌, inl, inr, if◌then◌else◌}
+use Rattle.std.proofs.Common.{◌≡◌, ◌==◌, ℕ, Bool, true, false, Some, None, refl, sym, ap, subst, ◌∙◌, if◌then◌else◌}
 use Rattle.std.specs.Prelude.{◌&&◌}
 use Rattle.history.specs.declared.calls.Access.TheVariants.{Writable}
 use Rattle.machine_model.specs.Beneath.slot_arena.specs.declared.refs.Ref.{Ref}
-use Rattle.machine_model.specs.declared.actions.Action.{Action}
 use Rattle.machine_model.specs.declared.actions.Action.TheVariants as act
 use Rattle.machine_model.specs.declared.operations.Operation.{Operation}
-use Rattle.machine_model.specs.declared.roots.Descriptor.{Descriptor}
 use Rattle.machine_model.specs.declared.roots.RootWord.TheVariants.{Plain, Offer}
 use Rattle.machine_model.specs.Acting.{acted, gone, if_changed, operation_after, attempt_after, mark_after, carried_out as carried}
 use Rattle.machine_model.specs.Calls.{handle_of}
@@ -23,7 +21,7 @@ use Rattle.lock_free.specs.declared.sizes.Sizes.{Sizes}
 use Rattle.lock_free.specs.Accounts.{bounds_for, state_of, running, gone_on}
 use Rattle.lock_free.specs.Making.{over_of}
 use Rattle.lock_free.specs.OfferWords.{outcome_by}
-use Rattle.lock_free.specs.Roots.{open_with, carried_out, taken_back}
+use Rattle.lock_free.specs.Roots.{open_with, taken_back}
 use Rattle.lock_free.specs.Settling.{Settles}
 use Rattle.lock_free.specs.Steps.{Reads}
 use Rattle.lock_free.specs.Trying.{as_before}
