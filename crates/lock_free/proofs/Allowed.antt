@@ -26,7 +26,8 @@ use Rattle.lock_free.proofs.OneStep.Going.{steps_from, first_none}
 
 -- no reason holds
 none_by : (actor running is_open write read busy full spent : Bool) → actor ≡ true → running ≡ false → is_open ≡ true → write ≡ false → read ≡ false → busy ≡ false → full ≡ false → spent ≡ false →
-    first_reason ((not actor, refuse.NoActor) ∷ (running, refuse.ActorBusy) ∷ (not is_open, refuse.NoHandle) ∷ (write, refuse.ReadOnly) ∷ (read, refuse.NotReadOnly) ∷ (busy, refuse.Busy) ∷ (full, refuse.HandlesFull)
+    first_reason ((not actor, refuse.NoActor) ∷ (running, refuse.ActorBusy) ∷ (not is_open, refuse.NoHandle) ∷ (write, refuse.ReadOnly) ∷ (read, refuse.NotReadOnly) ∷ (busy, refuse.Busy) ∷
+        (full, refuse.HandlesFull)
     ∷ (spent, refuse.Spent) ∷ []) ≡ None
 none_by actor running is_open write read busy full spent a b c d e f g h = grind (arith, a, b, c, d, e, f, g, h)
 
@@ -40,7 +41,8 @@ and_false : (a b : Bool) → b ≡ false → (a && b) ≡ false
 and_false true b e = e
 and_false false b e = refl
 
-module _ (sizes : Sizes) (s : Table.State Call View) (kept : IsKept sizes s) (id : ℕ) (v : View) (at : get_elem? s.views id ≡ some v) (idle : operation_of (state_of sizes kept.account) v.actor ≡ None) where
+module _ (sizes : Sizes) (s : Table.State Call View) (kept : IsKept sizes s) (id : ℕ) (v : View) (at : get_elem? s.views id ≡ some v)
+    (idle : operation_of (state_of sizes kept.account) v.actor ≡ None) where
   abbrev state : State
   state = state_of sizes kept.account
 
@@ -65,12 +67,15 @@ module _ (sizes : Sizes) (s : Table.State Call View) (kept : IsKept sizes s) (id
       (read : (needs_read_only call && is_access Writable (Some root.access)) ≡ false) (opens_none : opens_handle call ≡ false) where
     pub begin_allowed : (is_close call && runs_on state (handle_of call)) ≡ false → begin_denial state v.actor call ≡ None
     begin_allowed free =
-        none_by (is_actor state v.actor) (is_running state v.actor) (is_some (access_of (root_at state (handle_of call)))) (needs_writable call && is_access ReadOnly (access_of (root_at state (handle_of call))))
-        (needs_read_only call && is_access Writable (access_of (root_at state (handle_of call)))) (is_close call && runs_on state (handle_of call)) (opens_handle call && nat_le handle_limit (handles_taken state)) (is_spent state) its_actor (ap is_some idle)
+        none_by (is_actor state v.actor) (is_running state v.actor) (is_some (access_of (root_at state (handle_of call))))
+            (needs_writable call && is_access ReadOnly (access_of (root_at state (handle_of call))))
+        (needs_read_only call && is_access Writable (access_of (root_at state (handle_of call)))) (is_close call && runs_on state (handle_of call))
+            (opens_handle call && nat_le handle_limit (handles_taken state)) (is_spent state) its_actor (ap is_some idle)
         (ap is_some (access_is (handle_of call) root is_open)) (ap (λ a. needs_writable call && is_access ReadOnly a) (access_is (handle_of call) root is_open) ∙ write)
         (ap (λ a. needs_read_only call && is_access Writable a) (access_is (handle_of call) root is_open) ∙ read) free (ap (λ b. b && nat_le handle_limit (handles_taken state)) opens_none) unspent
 
   -- closing a handle on which nobody runs anything
-  pub close_allowed : (h : ℕ) (root : Root) → root_at state h ≡ Some root → ((a : ℕ) (o : Operation) → operation_of state a ≡ Some o → handle_of o.call ≢ h) → begin_denial state v.actor (Close h) ≡ None
+  pub close_allowed : (h : ℕ) (root : Root) → root_at state h ≡ Some root → ((a : ℕ) (o : Operation) → operation_of state a ≡ Some o → handle_of o.call ≢ h) → begin_denial state v.actor
+      (Close h) ≡ None
   close_allowed h root is_open nobody =
       begin_allowed (Close h) root is_open refl refl refl (none_on h state.actors (λ k o e. nobody (suc k) o e))

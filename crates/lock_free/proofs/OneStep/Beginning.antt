@@ -1,5 +1,6 @@
 -- What is left by a step that begins an operation, and by the two that close a handle.
-use Rattle.std.proofs.Common.{◌≡◌, ◌≢◌, ◌+◌, ◌-◌, ◌<◌, ◌≤◌, ◌++◌, ℕ, zero, suc, Bool, true, false, [], ◌∷◌, length, Contains, Some, None, get_or, set, refl, sym, ap, subst, ◌∙◌, inl, inr, arith, append_assoc}
+use Rattle.std.proofs.Common.{◌≡◌, ◌≢◌, ◌+◌, ◌-◌, ◌<◌, ◌≤◌, ◌++◌, ℕ, zero, suc, Bool, true, false, [], ◌∷◌, length, Contains, Some, None, get_or, set, refl, sym, ap, subst, ◌∙◌, inl, inr, arith}
+use Rattle.std.proofs.Common.{append_assoc}
 use Rattle.std.specs.Prelude.{if◌then◌else◌}
 use Rattle.std.proofs.lemmas.Bool.{cases_eq}
 use Rattle.std.proofs.lemmas.List.{get_or-set_same}
@@ -42,7 +43,8 @@ first_ahead (Count h) = refl
 first_ahead (Close h) = refl
 first_ahead call = refl
 
-module _ (sizes : Sizes) (account : Account) (bounds : AreBounds (bounds_for sizes account.steps)) (actor : ℕ) (call : Call) (most : actor ≤ sizes.seats) (idle : operation_of (state_of sizes account) actor ≡ None)
+module _ (sizes : Sizes) (account : Account) (bounds : AreBounds (bounds_for sizes account.steps)) (actor : ℕ) (call : Call) (most : actor ≤ sizes.seats)
+    (idle : operation_of (state_of sizes account) actor ≡ None)
     (allowed : begin_denial (state_of sizes account) actor call ≡ None) where
   abbrev now : State
   now = state_of sizes account
@@ -104,7 +106,8 @@ module _ (sizes : Sizes) (account : Account) (bounds : AreBounds (bounds_for siz
   begin_roots = ap (λ (s : State). s.roots) begin_whole
 
   -- a call that neither opens nor closes a handle
-  pub begins_of : (opens_none : opens_handle call ≡ false) → (closes_none : is_close call ≡ false) → FitsKey (step.Begin actor call) → ((k : Known) → Contains account.offers k → HasStood sizes account k.offer) →
+  pub begins_of : (opens_none : opens_handle call ≡ false) → (closes_none : is_close call ≡ false) → FitsKey (step.Begin actor call) →
+      ((k : Known) → Contains account.offers k → HasStood sizes account k.offer) →
       Begins sizes account actor (step.Begin actor call) call None
   begins_of opens_none closes_none fits stood = record {
     leaves = begin_leaves;
@@ -140,7 +143,8 @@ record Shuts (sizes : Sizes) (account last : Account) (handle : ℕ) : Type 0 wh
   roots : (g : ℕ) → g ≢ handle → root_at (state_of sizes last) g ≡ root_at (state_of sizes account) g
   operations : (n : ℕ) → operation_of (state_of sizes last) n ≡ operation_of (state_of sizes account) n
 
-module _ (sizes : Sizes) (account : Account) (bounds : AreBounds (bounds_for sizes account.steps)) (actor handle : ℕ) (most : actor ≤ sizes.seats) (low : handle < 256) (idle : operation_of (state_of sizes account) actor ≡ None)
+module _ (sizes : Sizes) (account : Account) (bounds : AreBounds (bounds_for sizes account.steps)) (actor handle : ℕ) (most : actor ≤ sizes.seats) (low : handle < 256)
+    (idle : operation_of (state_of sizes account) actor ≡ None)
     (allowed : begin_denial (state_of sizes account) actor (Close handle) ≡ None) where
   abbrev state : State
   state = state_of sizes account

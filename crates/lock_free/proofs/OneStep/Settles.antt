@@ -88,7 +88,8 @@ module _ (sizes : Sizes) (account : Account) (bounds : AreBounds (bounds_for siz
   not_h : (i : ℕ) → k.offer.opens ≡ Some i → i ≢ h
   not_h i opens same = none-some _ (sym (closed i opens) ∙ ap (root_at state) same ∙ stood)
 
-  module _ (g : GoesOn (action_of state operation)) (makes_none : (i a : Ref) → over_of operation.line ≡ Some (i, a) → ⊥) (publishes_none : (i a f : Ref) → ahead_of operation.line ≡ Some (i, a, f) → ⊥)
+  module _ (g : GoesOn (action_of state operation)) (makes_none : (i a : Ref) → over_of operation.line ≡ Some (i, a) → ⊥)
+      (publishes_none : (i a f : Ref) → ahead_of operation.line ≡ Some (i, a, f) → ⊥)
       (attempt : attempt_after operation.attempt (action_of state operation) ≡ operation.attempt) (mark : mark_after operation.is_marked (action_of state operation) ≡ operation.is_marked) where
     abbrev m : Option ℕ
     m = marks_by state (Some operation)
@@ -163,7 +164,8 @@ module _ (sizes : Sizes) (account : Account) (bounds : AreBounds (bounds_for siz
       at_opened (Some j) i e low =
           let same = same_Some j i e in
           ap (λ n. get_or (set swapped n (Some (opened_root k.offer k.offer.second))) i None) same
-          ∙ get_or-set_same swapped i (Some (opened_root k.offer k.offer.second)) None (let long = length-set state.roots h (open_with Writable (Plain k.offer.successor)) in let count = size in omega (arith, long, count, low))
+          ∙ get_or-set_same swapped i (Some (opened_root k.offer k.offer.second)) None
+              (let long = length-set state.roots h (open_with Writable (Plain k.offer.successor)) in let count = size in omega (arith, long, count, low))
 
       else_opened : (o : Option ℕ) (i : ℕ) → (o ≡ Some i → ⊥) → get_or (with_opened o) i None ≡ get_or swapped i None
       unfolding with_opened
@@ -214,7 +216,8 @@ module _ (sizes : Sizes) (account : Account) (bounds : AreBounds (bounds_for siz
 
       pub out_settles : Settles sizes account actor carried_out operation k
       out_settles = record {
-        leaves = leaves_by sizes account bounds actor operation runs g makes_none publishes_none (ap (λ (s : State). s.heap) gone_is ∙ opened_heap k.offer.opens) (ap (λ (s : State). s.generations) gone_is ∙ opened_generations k.offer.opens);
+        leaves = leaves_by sizes account bounds actor operation runs g makes_none publishes_none (ap (λ (s : State). s.heap) gone_is ∙ opened_heap k.offer.opens)
+            (ap (λ (s : State). s.generations) gone_is ∙ opened_generations k.offer.opens);
         stood = stood;
         settled = ap (λ rs. get_or rs h None) out_roots ∙ else_opened k.offer.opens h (λ opens. not_h h opens refl) ∙ at_h k.offer.successor;
         opened = λ i low opens. ap (λ rs. get_or rs i None) out_roots ∙ at_opened k.offer.opens i opens low;

@@ -42,7 +42,8 @@ module _ (sizes : Sizes) (account : Account) (bounds : AreBounds (bounds_for siz
 
   -- ---- a step that changes nothing and marks nobody
 
-  module _ (g : GoesOn (action_of state operation)) (makes_none : (i a : Ref) → over_of operation.line ≡ Some (i, a) → ⊥) (publishes_none : (i a f : Ref) → ahead_of operation.line ≡ Some (i, a, f) → ⊥)
+  module _ (g : GoesOn (action_of state operation)) (makes_none : (i a : Ref) → over_of operation.line ≡ Some (i, a) → ⊥)
+      (publishes_none : (i a f : Ref) → ahead_of operation.line ≡ Some (i, a, f) → ⊥)
       (attempt : attempt_after operation.attempt (action_of state operation) ≡ operation.attempt) (mark : mark_after operation.is_marked (action_of state operation) ≡ operation.is_marked)
       (gone_is : gone state actor operation ≡ put) (no_marks : marks_by state (Some operation) ≡ None) where
     pub nothing_done : Reads sizes account actor operation
@@ -86,13 +87,15 @@ module _ (sizes : Sizes) (account : Account) (bounds : AreBounds (bounds_for siz
     -- it stands, and is taken back
     pub abort_settles : root_at state h ≡ open_with Writable (Offer k.offer) → Settles sizes account actor taken_back operation k
     abort_settles stood =
-        back_settles sizes account bounds actor operation runs k stood abort_goes abort_makes_none abort_publishes_none (ap (attempt_after operation.attempt) is) (ap (mark_after operation.is_marked) is)
+        back_settles sizes account bounds actor operation runs k stood abort_goes abort_makes_none abort_publishes_none (ap (attempt_after operation.attempt) is)
+            (ap (mark_after operation.is_marked) is)
         (abort_by true (stands sizes account bounds actor operation runs k stood)) (ap (marks_of state h) is)
 
     -- it doesn't stand any more
     pub abort_misses : stands_in (word_at state h) k.offer ≡ false → Reads sizes account actor operation
     abort_misses gone_already =
-        nothing_done abort_goes abort_makes_none abort_publishes_none (ap (attempt_after operation.attempt) is) (ap (mark_after operation.is_marked) is) (abort_by false gone_already) (ap (marks_of state h) is)
+        nothing_done abort_goes abort_makes_none abort_publishes_none (ap (attempt_after operation.attempt) is) (ap (mark_after operation.is_marked) is) (abort_by false gone_already)
+            (ap (marks_of state h) is)
 
   -- ---- COMPLETE
 
@@ -124,11 +127,13 @@ module _ (sizes : Sizes) (account : Account) (bounds : AreBounds (bounds_for siz
     pub complete_settles : root_at state h ≡ open_with Writable (Offer k.offer) → (c : Bool) → (main == k.offer.expected) ≡ c → Settles sizes account actor (outcome_by c) operation k
     complete_settles stood true f =
         let so = stands sizes account bounds actor operation runs k stood in
-        out_settles sizes account bounds actor operation runs k stood complete_goes complete_makes_none complete_publishes_none (ap (attempt_after operation.attempt) is) (ap (mark_after operation.is_marked) is)
+        out_settles sizes account bounds actor operation runs k stood complete_goes complete_makes_none complete_publishes_none (ap (attempt_after operation.attempt) is)
+            (ap (mark_after operation.is_marked) is)
         (complete_by true true so f) (marks_are true true so f)
     complete_settles stood false f =
         let so = stands sizes account bounds actor operation runs k stood in
-        back_settles sizes account bounds actor operation runs k stood complete_goes complete_makes_none complete_publishes_none (ap (attempt_after operation.attempt) is) (ap (mark_after operation.is_marked) is)
+        back_settles sizes account bounds actor operation runs k stood complete_goes complete_makes_none complete_publishes_none (ap (attempt_after operation.attempt) is)
+            (ap (mark_after operation.is_marked) is)
         (complete_by true false so f) (marks_are true false so f)
 
     pub complete_misses : stands_in (word_at state h) k.offer ≡ false → Reads sizes account actor operation

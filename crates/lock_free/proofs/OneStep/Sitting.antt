@@ -58,7 +58,8 @@ module _ (sizes : Sizes) (account : Account) (bounds : AreBounds (bounds_for siz
   safe = safe_along (bounds_for sizes account.steps) bounds account.steps
 
   -- that changes no node, and by which nobody comes to be about to swap one in, or is so no more
-  module _ (heap_is : later.heap ≡ state.heap) (generations_are : later.generations ≡ state.generations) (was_live : (r : Ref) → IsLive later r → IsLive state r ⊎ (standing state.heap r ≡ None)) (actor : ℕ)
+  module _ (heap_is : later.heap ≡ state.heap) (generations_are : later.generations ≡ state.generations) (was_live : (r : Ref) → IsLive later r → IsLive state r ⊎ (standing state.heap r ≡ None))
+      (actor : ℕ)
       (others : (a : ℕ) → a ≢ actor → operation_of later a ≡ operation_of state a) (none_before : (x : Operation) → operation_of state actor ≡ Some x → ahead_of x.line ≡ None)
       (none_after : (x : Operation) → operation_of later actor ≡ Some x → ahead_of x.line ≡ None) where
     live_then : (r : Ref) → IsLive after r → IsLive state r
@@ -70,7 +71,8 @@ module _ (sizes : Sizes) (account : Account) (bounds : AreBounds (bounds_for siz
         by : IsLive state r ⊎ (standing state.heap r ≡ None) → IsLive state r
         by (inl was) = was
         by (inr none) =
-            let (slot, stood) = subst (λ heap. IsInUse heap r) heap_is (known_used later (safe_after state safe taken o later moves) (λ id. Unit {0}) in_later) in absurd (none-some slot (sym none ∙ stood))
+            let (slot, stood) = subst (λ heap. IsInUse heap r) heap_is (known_used later (safe_after state safe taken o later moves) (λ id. Unit {0}) in_later) in absurd
+                (none-some slot (sym none ∙ stood))
 
     aheads_then : (i a f : Ref) → IsAhead after i a f → IsAhead state i a f
     aheads_then i a f x = by (ahead_in 1 steps later i a f (subst (λ s. IsAhead s i a f) whole x))
