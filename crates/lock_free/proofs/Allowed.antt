@@ -27,7 +27,7 @@ use Rattle.lock_free.proofs.OneStep.Going.{steps_from, first_none}
 -- no reason holds
 none_by : (actor running is_open write read busy full spent : Bool) → actor ≡ true → running ≡ false → is_open ≡ true → write ≡ false → read ≡ false → busy ≡ false → full ≡ false → spent ≡ false →
     first_reason ((not actor, refuse.NoActor) ∷ (running, refuse.ActorBusy) ∷ (not is_open, refuse.NoHandle) ∷ (write, refuse.ReadOnly) ∷ (read, refuse.NotReadOnly) ∷ (busy, refuse.Busy) ∷
-        (full, refuse.HandlesFull)
+    (full, refuse.HandlesFull)
     ∷ (spent, refuse.Spent) ∷ []) ≡ None
 none_by actor running is_open write read busy full spent a b c d e f g h = grind (arith, a, b, c, d, e, f, g, h)
 
@@ -68,9 +68,9 @@ module _ (sizes : Sizes) (s : Table.State Call View) (kept : IsKept sizes s) (id
     pub begin_allowed : (is_close call && runs_on state (handle_of call)) ≡ false → begin_denial state v.actor call ≡ None
     begin_allowed free =
         none_by (is_actor state v.actor) (is_running state v.actor) (is_some (access_of (root_at state (handle_of call))))
-            (needs_writable call && is_access ReadOnly (access_of (root_at state (handle_of call))))
+        (needs_writable call && is_access ReadOnly (access_of (root_at state (handle_of call))))
         (needs_read_only call && is_access Writable (access_of (root_at state (handle_of call)))) (is_close call && runs_on state (handle_of call))
-            (opens_handle call && nat_le handle_limit (handles_taken state)) (is_spent state) its_actor (ap is_some idle)
+        (opens_handle call && nat_le handle_limit (handles_taken state)) (is_spent state) its_actor (ap is_some idle)
         (ap is_some (access_is (handle_of call) root is_open)) (ap (λ a. needs_writable call && is_access ReadOnly a) (access_is (handle_of call) root is_open) ∙ write)
         (ap (λ a. needs_read_only call && is_access Writable a) (access_is (handle_of call) root is_open) ∙ read) free (ap (λ b. b && nat_le handle_limit (handles_taken state)) opens_none) unspent
 

@@ -94,9 +94,13 @@ module _ (sizes : Sizes) (s : Table.State Call View) (kept : IsKept sizes s) (id
         (w : View) × (get_elem? later_views other ≡ some w) × (w.actor ≡ u.actor) × (w.closing ≡ Some c)
     becomes other u c e is this its = elim (cases_eq other id) [
       | inl same ↦
-          (let mine : v ≡ u = some-injective v u (sym at ∙ ap (λ n. get_elem? s.views n) (sym same) ∙ e) in
-          (later, ap (λ n. get_elem? later_views n) same ∙ here, actor ∙ ap (λ (x : View). x.actor) mine, closing c (ap (λ (x : View). x.closing) mine ∙ is) this
-              (ap (λ (x : View). x.actor) mine ∙ its)))
+          (let mine : v ≡ u = some-injective v u (sym at ∙ ap (λ n. get_elem? s.views n) (sym same) ∙ e) in (
+            later,
+            ap (λ n. get_elem? later_views n) same ∙ here,
+            actor ∙ ap (λ (x : View). x.actor) mine,
+            closing c (ap (λ (x : View). x.closing) mine ∙ is) this
+                (ap (λ (x : View). x.actor) mine ∙ its),
+          ))
       | inr apart ↦ (u, set_else s.views id other later apart ∙ e, refl, is)
     ]
 

@@ -189,7 +189,7 @@ module _ (sizes : Sizes) (s : Table.State Call View) (kept : IsKept sizes s) (id
         subst (λ names. HasWaited actor first (record account_then { names = names })) (append-nil kept.account.names)
         (waited_more actor first kept.account both [] [] []
         (All-cons (IsOfOther actor) (step.Begin v.actor (Close handle)) (step.Go v.actor ∷ []) (λ e. differs (sym e))
-            (All-cons (IsOfOther actor) (step.Go v.actor) [] (λ e. differs (sym e)) (All-nil (IsOfOther actor)))) h)
+        (All-cons (IsOfOther actor) (step.Go v.actor) [] (λ e. differs (sym e)) (All-nil (IsOfOther actor)))) h)
 
     held : (other : ℕ) (w : View) → get_elem? s.views other ≡ some w → (g : ℕ) → Reserves next w g → IsHeld next words_then g
     held other w e g r =
@@ -231,7 +231,7 @@ module _ (sizes : Sizes) (s : Table.State Call View) (kept : IsKept sizes s) (id
     own_then =
         own_else sizes s kept id v at account_then kept.stands words_then stays account_then (waited_none v.actor account_then) all_then.counted v.pin v.entered None v.opens v.opening
         (pin_same v.actor seat.low ∙ seat.pinned) (λ g e. (let x = seat.entered g e in (x.0, still_open id v at g e x.1, x.2))) (λ o e. absurd (idle_then o e)) (held id v at)
-            (λ o e. absurd (idle_then o e))
+        (λ o e. absurd (idle_then o e))
         (λ g slot o n. (let x = seat.opening g slot o n in record { low = x.low; fits = x.fits; is = named v g slot x ∙ x.is; free = x.free })) (λ b name free. spare_by id v b name at free)
 
     closed_says : (who : ℕ) → SaysClosing (root_code word.Closed) who → ⊥

@@ -171,7 +171,7 @@ complete_told before slot expected a found then_view m after_is took =
         let both : (a.its.offer, a.main) ≡ (offer, main) = ap (λ x. parts_in x (offer, main)) (same_action before (act.Complete a.its.offer a.main) (act.Complete offer main) a.acts q) in
         let same_op : ran ≡ operation = same_Some ran operation (sym ran_runs ∙ runs_it) in
         subst (λ (x : Descriptor × Ref). IsItsTry operation x.0 → (is_carried_out (word_at (now (seen before m.kept.account)) (handle_of operation.call)) x.0 x.1 || operation.is_marked) ≡
-            carried_by found expected) both
+        carried_by found expected) both
         (subst (λ (x : Operation). IsItsTry x a.its.offer → (is_carried_out (word_at (now (seen before m.kept.account)) (handle_of x.call)) a.its.offer a.main || x.is_marked) ≡ carried_by found
-            expected) same_op
+        expected) same_op
         (λ t. tells before a.its a.main a.here a.acts a.on expected a.test m.table m.kept m.id m.at t ∙ ap (λ n. carried_by n expected) finds)) its

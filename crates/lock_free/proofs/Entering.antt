@@ -59,7 +59,7 @@ module _ (sizes : Sizes) (s : Table.State Call View) (kept : IsKept sizes s) (id
         IsKept sizes (record { words = s.words; homes = s.homes; views = set s.views id view_then })
     seat_kept closings =
         assembled sizes s kept id v at view_then refl refl kept.account kept.stands s.words (all_stand sizes s kept) closings own_then
-            (other_kept sizes s kept id v at kept.account kept.stands s.words stays)
+        (other_kept sizes s kept id v at kept.account kept.stands s.words stays)
         (λ b name f. inl f)
         (numbers_stay sizes s kept id v at view_then refl refl kept.account s.words (no_tries kept.account.offers now) (λ slot none. none) (λ g below. refl) refl (λ slot g e free. free))
 
@@ -78,7 +78,7 @@ module _ (sizes : Sizes) (s : Table.State Call View) (kept : IsKept sizes s) (id
           | inl same ↦ absurd (unmarked who (subst (λ n. SaysClosing (slice_index s.words (root_word n)) who) same says))
           | inr differs ↦
               closing_at sizes s kept id v at (record v { entered = Some handle }) refl refl g who (λ e. absurd (differs (sym (same_Some handle g e)))) (λ c is this its. is)
-                  (kept.closings g who below says)
+              (kept.closings g who below says)
         ])
 
   -- ---- closing
@@ -106,7 +106,7 @@ module _ (sizes : Sizes) (s : Table.State Call View) (kept : IsKept sizes s) (id
             (let mine : h.view ≡ v = some-injective h.view v (sym h.at ∙ ap (λ n. get_elem? s.views n) same ∙ at) in
             let own : who ≡ v.actor = sym h.its ∙ ap (λ (x : View). x.actor) mine in
             let looked_is : h.closing.looked ≡ looked = ap (λ (c : Closing). c.looked)
-                (same_Some h.closing (record { handle = handle; looked = looked }) (sym h.is ∙ ap (λ (x : View). x.closing) mine ∙ closes)) in
+            (same_Some h.closing (record { handle = handle; looked = looked }) (sym h.is ∙ ap (λ (x : View). x.closing) mine ∙ closes)) in
             record {
               id = id;
               view = record v { closing = Some passed };
@@ -141,7 +141,7 @@ module _ (sizes : Sizes) (s : Table.State Call View) (kept : IsKept sizes s) (id
             | inr differs ↦
                 closing_at sizes s kept id v at (record v { closing = Some passed }) refl refl g who (λ e. e)
                 (λ c is this its. absurd (differs (sym this ∙ ap (λ (x : Closing). x.handle) (same_Some c (record { handle = handle; looked = looked }) (sym is ∙ closes)))))
-                    (kept.closings g who below says)
+                (kept.closings g who below says)
           ])
 
     -- the closer finds its mark gone
@@ -152,5 +152,5 @@ module _ (sizes : Sizes) (s : Table.State Call View) (kept : IsKept sizes s) (id
           (λ g who below says.
           closing_at sizes s kept id v at (record v { closing = None }) refl refl g who (λ e. e)
           (λ c is this its. absurd (gone (subst (λ n. SaysClosing (slice_index s.words (root_word n)) v.actor)
-              (sym this ∙ ap (λ (x : Closing). x.handle) (same_Some c (record { handle = handle; looked = looked }) (sym is ∙ closes)))
+          (sym this ∙ ap (λ (x : Closing). x.handle) (same_Some c (record { handle = handle; looked = looked }) (sym is ∙ closes)))
           (subst (λ n. SaysClosing (slice_index s.words (root_word g)) n) (sym its) says)))) (kept.closings g who below says))

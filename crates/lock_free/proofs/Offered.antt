@@ -147,7 +147,7 @@ module _ (sizes : Sizes) (s : Table.State Call View) (kept : IsKept sizes s) (id
   means_else g below =
       means_then kept.account account_then s.words words_then g (slice_index s.words (root_word g)) (root_at now g) (λ access q is. refl)
       (λ k c is says. (more_there new kept.account.offers k c, fate_old k c)) (λ k c opens. (more_there new kept.account.offers k c, fate_old k c))
-          (λ found_slot is in_range nothing closed. names g found_slot below is in_range nothing closed) (kept.roots.means g below)
+      (λ found_slot is in_range nothing closed. names g found_slot below is in_range nothing closed) (kept.roots.means g below)
 
   means_here : MeansRoot account_then words_then handle (root_code (word.Offered slot)) (root_at next handle)
   means_here = record {
@@ -270,9 +270,9 @@ module _ (sizes : Sizes) (s : Table.State Call View) (kept : IsKept sizes s) (id
         (let before = sym (fate_old k old) ∙ stands in
         root.pending_rooted sizes kept.account kept.stands s.words all handle low (root_code (word.Offered slot)) k
         (λ is. not_plain k.offer Writable offer.root (sym (offered_is sizes kept.account s.words kept.roots handle low k old (old_fits k old) is ∙ ap (λ n. open_with Writable (meant n k.offer))
-            before) ∙ offers.stood))
+        before) ∙ offers.stood))
         (λ is. not_open handle ((opening_is sizes kept.account s.words kept.roots handle low k old (old_fits k old) is).1 ∙ ap (λ n. opened_by n k.offer) before) refl)
-            (kept.roots.pending k old before))
+        (kept.roots.pending k old before))
   ]
 
   -- ---- all that stands
@@ -348,7 +348,7 @@ module _ (sizes : Sizes) (s : Table.State Call View) (kept : IsKept sizes s) (id
   own_then : IsSeat sizes account_then kept.stands words_then view_then
   own_then =
       own_kept sizes s kept id v at account_then kept.stands words_then stays operation (operation_after now operation) runs offers.own refl refl (held id v at) all_then.counted
-          (pin_same v.actor seat.low) view_then.pool None (λ g n o e. absurd (none-some n e)) []
+      (pin_same v.actor seat.low) view_then.pool None (λ g n o e. absurd (none-some n e)) []
       (λ b name f. (let before = spending.was_free sizes s kept id v at 1 medium slot rest pool b name f.0 f.1 in
       let x = seat.spare b name before.0 in (still_taken b name f.0 x.0, spare_then name before.1 x.1)))
       (spending.once_then sizes s kept id v at 1 medium slot rest pool) (λ d c. absurd (omega (arith, c.1)))
@@ -369,11 +369,17 @@ module _ (sizes : Sizes) (s : Table.State Call View) (kept : IsKept sizes s) (id
   openings_then g found_slot below in_range is nothing = elim (cases_eq g handle) [
     | inl same ↦
         (let wrong = same_kind (word.Offered slot) (word.Opening found_slot) fits in_range (sym root_here ∙ ap (λ n. slice_index words_then (root_word n)) (sym same) ∙ is) in absurd
-            (omega (arith, wrong)))
+        (omega (arith, wrong)))
     | inr differs ↦
         opening_stays sizes s kept id v at view_then refl refl next g found_slot
-        (λ r f. (reserves_on kept.account.offers now next keeps v g r, (medium, spending.still_free sizes s kept id v at 1 medium slot rest pool 1 found_slot
-            (λ same. nothing new (first_there new kept.account.offers) (sym same)) f))) (λ other w e apart f r. reserves_on kept.account.offers now next keeps w g r)
+        (λ r f. (
+          reserves_on kept.account.offers now next keeps v g r,
+          (
+            medium,
+            spending.still_free sizes s kept id v at 1 medium slot rest pool 1 found_slot
+                (λ same. nothing new (first_there new kept.account.offers) (sym same)) f,
+          ),
+        )) (λ other w e apart f r. reserves_on kept.account.offers now next keeps w g r)
         (kept.openings g found_slot below in_range (sym (root_beside g differs) ∙ is) (λ k c. nothing k (more_there new kept.account.offers k c)))
   ]
 

@@ -157,7 +157,7 @@ module _ (sizes : Sizes) (s : Table.State Call View) (kept : IsKept sizes s) (id
             | inl same ↦ absurd (says_none g who same says)
             | inr differs ↦
                 closing_at sizes s kept id v at (record v { closing = None }) refl refl g who (λ e. e)
-                    (λ d is_it on own. absurd (differs (sym on ∙ ap (λ (x : Closing). x.handle) (same_Some d c (sym is_it ∙ closes)) ∙ this)))
+                (λ d is_it on own. absurd (differs (sym on ∙ ap (λ (x : Closing). x.handle) (same_Some d c (sym is_it ∙ closes)) ∙ this)))
                 (kept.closings g who below (says_else g who differs says))
           ])
 

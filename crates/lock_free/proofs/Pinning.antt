@@ -63,7 +63,7 @@ module _ (sizes : Sizes) (s : Table.State Call View) (kept : IsKept sizes s) (id
   own_then =
       own_else sizes s kept id v at kept.account kept.stands words_then stays v.account seat.waited seat.counts pin None v.closing v.opens v.opening
       (root.at_p sizes kept.account kept.stands s.words all v.actor seat.low most (pin_word_of pin)) (λ g e. absurd (none-some g e)) (λ o e. absurd (none-some o (sym idle ∙ e))) (held id v at)
-          seat.reserves
+      seat.reserves
       (λ g slot o n. (let x = seat.opening g slot o n in names_kept sizes s kept id v at kept.account kept.stands words_then stays v view_then g slot x (root_same g x.low) x.free))
       (λ b name free. stays_spare id v b name at free)
 
@@ -73,6 +73,6 @@ module _ (sizes : Sizes) (s : Table.State Call View) (kept : IsKept sizes s) (id
       assembled sizes s kept id v at view_then refl refl kept.account kept.stands words_then
       (root.all_pinned sizes kept.account kept.stands s.words all v.actor seat.low most (pin_word_of pin))
       (λ g who below says. closing_stays sizes s kept id v at view_then refl refl (λ h e. absurd (none-some h e)) refl g who
-          (kept.closings g who below (subst (λ n. SaysClosing n who) (root_same g below) says))) own_then
+      (kept.closings g who below (subst (λ n. SaysClosing n who) (root_same g below) says))) own_then
       (other_kept sizes s kept id v at kept.account kept.stands words_then stays) (λ b name f. inl f)
       (numbers_stay sizes s kept id v at view_then refl refl kept.account words_then (no_tries kept.account.offers now) (λ slot none. none) root_same refl (λ slot g e free. free))

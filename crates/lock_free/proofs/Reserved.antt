@@ -41,9 +41,11 @@ module _ (sizes : Sizes) (s : Table.State Call View) (kept : IsKept sizes s)
       let owner = owners k.handle k.offer (offered_is sizes kept.account s.words kept.roots k.handle p.low k c fits p.stands ∙ ap (λ n. open_with Writable (meant n k.offer)) stands) in
       let seat = kept.runners owner.actor owner.operation owner.runs in
       let runs : operation_of (state_of sizes kept.account) seat.view.actor ≡ Some owner.operation = ap (operation_of (state_of sizes kept.account)) seat.its ∙ owner.runs in
-      let reserves : Reserves (state_of sizes kept.account) seat.view o =
-      ((kept.seats seat.id seat.view seat.at).reserves owner.operation runs ∙ owner.opens ∙ opens, λ p e. ap (λ (x : Operation). x.is_marked) (same_Some p owner.operation (sym e ∙ runs)) ∙
-          owner.unmarked) in
+      let reserves : Reserves (state_of sizes kept.account) seat.view o = (
+        (kept.seats seat.id seat.view seat.at).reserves owner.operation runs ∙ owner.opens ∙ opens,
+        λ p e. ap (λ (x : Operation). x.is_marked) (same_Some p owner.operation (sym e ∙ runs)) ∙
+            owner.unmarked,
+      ) in
       let same : seat.id ≡ id = kept.numbers seat.id id seat.view v o seat.at at reserves r in
       let view_is : seat.view ≡ v = some-injective seat.view v (sym seat.at ∙ ap (λ n. get_elem? s.views n) same ∙ at) in
       (owner.operation, ap (λ (x : View). operation_of (state_of sizes kept.account) x.actor) (sym view_is) ∙ runs)
@@ -134,7 +136,7 @@ module _ (sizes : Sizes) (s : Table.State Call View) (kept : IsKept sizes s) (id
           ((g slot : ℕ) → opens ≡ Some g → opening ≡ Some slot → Names words_then view_then g slot) → IsSeat sizes kept.account kept.stands words_then view_then
       own_by numbers reserves_then names =
           own_else sizes s kept id v at kept.account kept.stands words_then stays v.account seat.waited seat.counts v.pin v.entered v.closing opens opening
-              (pin_same v.actor seat.low ∙ seat.pinned) seat.entered seat.calls
+          (pin_same v.actor seat.low ∙ seat.pinned) seat.entered seat.calls
           numbers reserves_then names (λ b name free. stays_spare id v b name at free)
 
   -- ---- the offer that is to open it is named
@@ -176,8 +178,14 @@ module _ (sizes : Sizes) (s : Table.State Call View) (kept : IsKept sizes s) (id
       | inl same ↦
           (let code = sym here_is ∙ ap (λ n. slice_index named_words (root_word n)) (sym same) ∙ is in
           let which : slot ≡ x = omega (arith, code) in
-          record { id = id; view = naming; at = here sizes s kept id v at naming refl refl; reserves = subst (λ n. Reserves now naming n) (sym same) reserves; free = subst (λ n. IsFree v 1 n)
-              which free })
+          record {
+            id = id;
+            view = naming;
+            at = here sizes s kept id v at naming refl refl;
+            reserves = subst (λ n. Reserves now naming n) (sym same) reserves;
+            free = subst (λ n. IsFree v 1 n)
+                which free;
+          })
       | inr differs ↦
           opening_stays sizes s kept id v at naming refl refl now g x (λ r f. (r, f)) (λ other w e apart f r. r)
           (kept.openings g x below fits (sym (root_beside (word.Opening slot) fits_slot few g differs) ∙ is) nothing)
@@ -212,7 +220,7 @@ module _ (sizes : Sizes) (s : Table.State Call View) (kept : IsKept sizes s) (id
     openings_free g x below fits is nothing = elim (cases_eq g o) [
       | inl same ↦
           (let wrong = same_kind word.Closed (word.Opening x) tt fits (sym (root_here word.Closed tt low_kind) ∙ ap (λ n. slice_index free_words (root_word n)) (sym same) ∙ is) in absurd
-              (omega (arith, wrong)))
+          (omega (arith, wrong)))
       | inr differs ↦
           opening_stays sizes s kept id v at freeing refl refl now g x (λ r f. absurd (differs (same_Some g o (sym r.0 ∙ reserves.0)))) (λ other w e apart f r. r)
           (kept.openings g x below fits (sym (root_beside word.Closed tt low_kind g differs) ∙ is) nothing)

@@ -52,7 +52,7 @@ module _ (sizes : Sizes) (account : Account) (steps : List Step) (offers : List 
     written = λ k slot h.
         (let was = stood k slot h in
         stands_kept account steps offers nothing now next (same_nodes now next leaves.nodes) leaves.aheads (λ i a f e none. leaves.still i a f e) words (place_at account k) k slot slot.node refl
-            (nodes.written k slot was));
+        (nodes.written k slot was));
     inside = λ k slot e. nodes.inside k slot (sym (leaves.nodes k) ∙ e);
     owners = owners_kept account later now next refl refl leaves.aheads nodes.owners;
     live = λ r h. nodes.live r (leaves.live r h);
@@ -64,7 +64,7 @@ module _ (sizes : Sizes) (account : Account) (steps : List Step) (offers : List 
 -- where no root changes either, with the marks of operations as they are then
 module _ (sizes : Sizes) (account : Account) (more : List Step) (leaves : LeavesNodes sizes account (record account { steps = account.steps ++ more })) (stands : Standing) (words : List ℕ)
     (fits : KeysFit (account.steps ++ more)) (quiet : HasNoSweeps (account.steps ++ more))
-        (roots : (state_of sizes (record account { steps = account.steps ++ more })).roots ≡ (state_of sizes account).roots)
+    (roots : (state_of sizes (record account { steps = account.steps ++ more })).roots ≡ (state_of sizes account).roots)
     (marks : AreMarked (state_of sizes (record account { steps = account.steps ++ more })) words account.offers) where
   pub all_left : AllStand sizes account stands words → AllStand sizes (record account { steps = account.steps ++ more }) stands words
   all_left all = record {
@@ -159,7 +159,7 @@ module _ (sizes : Sizes) (account : Account) (stands : Standing) (words : List �
   -- where it says what the handle's root is, all stands as before
   module _ (means : MeansRoot account rooted handle x (root_at (state_of sizes account) handle))
       (unnamed : (k : Known) → Contains account.offers k → fate words k ≡ undecided → (slice_index words i ≡ root_code (word.Offered k.slot) → ⊥) ×
-          (slice_index words i ≡ root_code (word.Opening k.slot) → ⊥)) where
+      (slice_index words i ≡ root_code (word.Opening k.slot) → ⊥)) where
     means_by : (g : ℕ) → g < handle_limit → MeansRoot account rooted g (slice_index rooted (root_word g)) (root_at (state_of sizes account) g)
     means_by g low_g = elim (cases_eq g handle) [
       | inl same ↦

@@ -125,7 +125,7 @@ module _ (sizes : Sizes) (s : Table.State Call View) (kept : IsKept sizes s) (id
         (held : (handle : ℕ) → Reserves (state_of sizes account) v handle → IsHeld (state_of sizes account) words handle) (counted : length account.names ≡ (state_of sizes account).heap.births)
         (own_pin : slice_index words (pin_word v.actor) ≡ slice_index s.words (pin_word v.actor)) (pool : Pool) (opening : Option ℕ)
         (names : (handle slot : ℕ) → v.opens ≡ Some handle → opening ≡ Some slot → (v.opening ≡ Some slot) ×
-            (Names s.words v handle slot → (slice_index words (root_word handle) ≡ slice_index s.words (root_word handle)) × Contains (pool_of pool 1) slot)) (drafts : List (ℕ × ℕ))
+        (Names s.words v handle slot → (slice_index words (root_word handle) ≡ slice_index s.words (root_word handle)) × Contains (pool_of pool 1) slot)) (drafts : List (ℕ × ℕ))
         (spare : (b name : ℕ) → IsFree (seat_then pool opening drafts) b name → IsTaken sizes words b name × IsSpare sizes account stands name) (once : (b : ℕ) → b < 3 → Once (pool_of pool b))
         (written : (d : ℕ × ℕ) → Contains drafts d → AreDrafts words (seat_then pool opening drafts) d) where
       pub own_kept : IsSeat sizes account stands words (seat_then pool opening drafts)
@@ -200,9 +200,9 @@ module _ (sizes : Sizes) (s : Table.State Call View) (kept : IsKept sizes s) (id
     (held : (handle : ℕ) → Reserves (state_of sizes kept.account) v handle → IsHeld (state_of sizes kept.account) words handle)
     (own_pin : slice_index words (pin_word v.actor) ≡ slice_index s.words (pin_word v.actor)) (pool : Pool) (drafts : List (ℕ × ℕ))
     (spare : (b name : ℕ) → IsFree (record v { pool = pool; drafts = drafts }) b name → IsTaken sizes words b name × IsSpare sizes kept.account kept.stands name)
-        (once : (b : ℕ) → b < 3 → Once (pool_of pool b))
+    (once : (b : ℕ) → b < 3 → Once (pool_of pool b))
     (written : (d : ℕ × ℕ) → Contains drafts d → AreDrafts words (record v { pool = pool; drafts = drafts }) d)
-        (still : (handle slot : ℕ) → Names s.words v handle slot → (slice_index words (root_word handle) ≡ slice_index s.words (root_word handle)) × Contains (pool_of pool 1) slot) where
+    (still : (handle slot : ℕ) → Names s.words v handle slot → (slice_index words (root_word handle) ≡ slice_index s.words (root_word handle)) × Contains (pool_of pool 1) slot) where
   pub own_still : IsSeat sizes kept.account kept.stands words (record v { pool = pool; drafts = drafts })
   own_still =
       let h = kept.seats id v at in

@@ -39,7 +39,7 @@ use Rattle.lock_free.proofs.Waiting.{waited_more, quiet_more}
 
 module _ (sizes : Sizes) (s : Table.State Call View) (kept : IsKept sizes s) (id : ℕ) (v : View) (at : get_elem? s.views id ≡ some v) (operation : Operation)
     (runs : operation_of (state_of sizes kept.account) v.actor ≡ Some operation) (n : ℕ) (k : Known) (here : Contains kept.account.offers k)
-        (settles : Settles sizes kept.account v.actor n operation k)
+    (settles : Settles sizes kept.account v.actor n operation k)
     (on : k.handle ≡ handle_of operation.call) (stands_yet : fate s.words k ≡ undecided) where
   abbrev all : AllStand sizes kept.account kept.stands s.words
   all = all_stand sizes s kept
@@ -183,7 +183,7 @@ module _ (sizes : Sizes) (s : Table.State Call View) (kept : IsKept sizes s) (id
       last_apart : (l : Known) → Contains kept.account.offers l → 2 * l.slot + 2 ≢ i
       last_apart l c same =
           let both = (slots_apart sizes s.words kept.taken 1 1 l.slot k.slot i medium medium (kept.roots.blocks l c) (kept.roots.blocks k here)
-              (record { low = omega (arith, same); high = omega (arith, same) }) its_word).1 in
+          (record { low = omega (arith, same); high = omega (arith, same) }) its_word).1 in
           omega (arith, same, both)
 
   marks_all : AreMarked next words_then kept.account.offers
@@ -195,7 +195,7 @@ module _ (sizes : Sizes) (s : Table.State Call View) (kept : IsKept sizes s) (id
         ∙ ap (λ m. m == carried_out) (sym at_it) ∙ ap (λ (x : Known). fate words_then x == carried_out) (sym is))
     | inr differs ↦
         marks_else n k.offer now next settles.tries l (fate words_then l) (fate s.words l) (fate_else l differs)
-            (λ same_id same_try. differs (ap (λ (x : Known). x.slot) (kept.roots.tries l k c here same_id same_try)))
+        (λ same_id same_try. differs (ap (λ (x : Known). x.slot) (kept.roots.tries l k c here same_id same_try)))
         (kept.roots.marks l c) a o e try
   ]
 
@@ -319,7 +319,7 @@ module _ (sizes : Sizes) (s : Table.State Call View) (kept : IsKept sizes s) (id
     openings = λ g slot below fits is nothing.
         (let unopened : k.offer.opens ≡ Some g → ⊥ = not_its g slot below fits is nothing in
         opening_stays sizes s kept id v at view_then refl refl next g slot (λ r f. (reserves_then settles.tries id v at g r unopened, f))
-            (λ other w e apart f r. reserves_then settles.tries other w e g r unopened)
+        (λ other w e apart f r. reserves_then settles.tries other w e g r unopened)
         (kept.openings g slot below fits (sym (root_same g below) ∙ is) nothing));
     number = λ g h. inl (reserved_settled n k.offer now next settles.tries v g h);
     others = λ other w e apart g h. reserved_settled n k.offer now next settles.tries w g h;

@@ -88,7 +88,7 @@ module _ (sizes : Sizes) (account : Account) (bounds : AreBounds (bounds_for siz
       | inl own ↦
           (let is = same_Some _ _ (sym own_marked ∙ ap (operation_of after) (sym own) ∙ h.runs) in
           absurd (makes_none i a (comes_ahead state operation operation.line (i, a, f)
-              (ap ahead_of (sym (marked_line marks (operation_after state operation))) ∙ ap (λ (o : Operation). ahead_of o.line) is ∙ ap ahead_of h.on)).0))
+          (ap ahead_of (sym (marked_line marks (operation_after state operation))) ∙ ap (λ (o : Operation). ahead_of o.line) is ∙ ap ahead_of h.on)).0))
       | inr other ↦
           (let p = marked_from marks (operation_of state h.actor) h.operation (sym (other_marked h.actor other) ∙ h.runs) in
           record { actor = h.actor; operation = p.0; runs = p.1; why = h.why; on = sym (marked_line marks p.0) ∙ ap (λ (o : Operation). o.line) (sym p.2) ∙ h.on })

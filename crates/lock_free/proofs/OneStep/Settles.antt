@@ -165,7 +165,7 @@ module _ (sizes : Sizes) (account : Account) (bounds : AreBounds (bounds_for siz
           let same = same_Some j i e in
           ap (λ n. get_or (set swapped n (Some (opened_root k.offer k.offer.second))) i None) same
           ∙ get_or-set_same swapped i (Some (opened_root k.offer k.offer.second)) None
-              (let long = length-set state.roots h (open_with Writable (Plain k.offer.successor)) in let count = size in omega (arith, long, count, low))
+          (let long = length-set state.roots h (open_with Writable (Plain k.offer.successor)) in let count = size in omega (arith, long, count, low))
 
       else_opened : (o : Option ℕ) (i : ℕ) → (o ≡ Some i → ⊥) → get_or (with_opened o) i None ≡ get_or swapped i None
       unfolding with_opened

@@ -88,14 +88,14 @@ module _ (sizes : Sizes) (account : Account) (bounds : AreBounds (bounds_for siz
     pub abort_settles : root_at state h ≡ open_with Writable (Offer k.offer) → Settles sizes account actor taken_back operation k
     abort_settles stood =
         back_settles sizes account bounds actor operation runs k stood abort_goes abort_makes_none abort_publishes_none (ap (attempt_after operation.attempt) is)
-            (ap (mark_after operation.is_marked) is)
+        (ap (mark_after operation.is_marked) is)
         (abort_by true (stands sizes account bounds actor operation runs k stood)) (ap (marks_of state h) is)
 
     -- it doesn't stand any more
     pub abort_misses : stands_in (word_at state h) k.offer ≡ false → Reads sizes account actor operation
     abort_misses gone_already =
         nothing_done abort_goes abort_makes_none abort_publishes_none (ap (attempt_after operation.attempt) is) (ap (mark_after operation.is_marked) is) (abort_by false gone_already)
-            (ap (marks_of state h) is)
+        (ap (marks_of state h) is)
 
   -- ---- COMPLETE
 
@@ -128,12 +128,12 @@ module _ (sizes : Sizes) (account : Account) (bounds : AreBounds (bounds_for siz
     complete_settles stood true f =
         let so = stands sizes account bounds actor operation runs k stood in
         out_settles sizes account bounds actor operation runs k stood complete_goes complete_makes_none complete_publishes_none (ap (attempt_after operation.attempt) is)
-            (ap (mark_after operation.is_marked) is)
+        (ap (mark_after operation.is_marked) is)
         (complete_by true true so f) (marks_are true true so f)
     complete_settles stood false f =
         let so = stands sizes account bounds actor operation runs k stood in
         back_settles sizes account bounds actor operation runs k stood complete_goes complete_makes_none complete_publishes_none (ap (attempt_after operation.attempt) is)
-            (ap (mark_after operation.is_marked) is)
+        (ap (mark_after operation.is_marked) is)
         (complete_by true false so f) (marks_are true false so f)
 
     pub complete_misses : stands_in (word_at state h) k.offer ≡ false → Reads sizes account actor operation

@@ -72,7 +72,7 @@ module _ (sizes : Sizes) (account : Account) (bounds : AreBounds (bounds_for siz
         by (inl was) = was
         by (inr none) =
             let (slot, stood) = subst (λ heap. IsInUse heap r) heap_is (known_used later (safe_after state safe taken o later moves) (λ id. Unit {0}) in_later) in absurd
-                (none-some slot (sym none ∙ stood))
+            (none-some slot (sym none ∙ stood))
 
     aheads_then : (i a f : Ref) → IsAhead after i a f → IsAhead state i a f
     aheads_then i a f x = by (ahead_in 1 steps later i a f (subst (λ s. IsAhead s i a f) whole x))
