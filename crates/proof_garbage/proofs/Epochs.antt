@@ -28,8 +28,8 @@ record Since (begun epoch : ℕ) (state : State) : Type 0 where
   pub early : (k : ℕ) (operation : Operation) → get_or state.actors k None ≡ Some operation → Early begun epoch operation
 
 module _ (begun epoch : ℕ) (state : State) (h : Since begun epoch state) where
-  begins : (actor : ℕ) (call : Call) (k : ℕ) → actor ≡ suc k → begin_denial state actor call ≡ None → Early begun epoch (begun_operation state call)
-  begins actor call k own d lt = absurd (too_early h.later lt)
+  begins : (actor : ℕ) (call : Call) (number : Option ℕ) (k : ℕ) → actor ≡ suc k → begin_denial state actor call number ≡ None → Early begun epoch (begun_operation state call number)
+  begins actor call number k own d lt = absurd (too_early h.later lt)
     where
       too_early : begun ≤ state.begun → state.begun < begun → ⊥
       too_early a b = omega arith
