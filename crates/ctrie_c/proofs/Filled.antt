@@ -1,6 +1,6 @@
 -- Buffers that are filled row by row.
 use Rattle.std.proofs.Common.{◌≡◌, ◌+◌, ◌<◌, ◌≤◌, ◌++◌, ◌∙◌, ℕ, List, [], ◌∷◌, length, take, drop, slice_set, refl, sym, ap, arith}
-use Rattle.std.proofs.lemmas.List.{drop-drop, drop-set-lt, drop_all, length-drop, length-set, take-append-drop, take_all, take_more_set}
+use Rattle.std.proofs.lemmas.List.{drop-drop, drop-set-lt, length-drop, length-set, take-append-drop, take_all, take_more_set}
 use Rattle.std.proofs.Math.Seq.{take-add}
 use Rattle.ctrie_c.specs.Buffers.{Fills}
 
@@ -31,12 +31,3 @@ rows_filled rows before now count (all, room, same, front, behind) done =
     sym (take-append-drop count now)
     ∙ ap (λ l. l ++ drop count now) (front ∙ take_all count rows done ∙ sym (take_all (length before) rows (omega (arith, done, room))))
     ∙ ap (λ l. take (length before) rows ++ l) (behind ∙ ap (λ n. drop n before) end)
-
--- as many as there is room for
-pub buffer_filled : {A : Type 0} (rows before now : List A) (count : ℕ) → FilledUpTo count rows before now → length now ≤ count → Fills rows before now
-buffer_filled rows before now count (all, room, same, front, behind) done =
-    let end : count ≡ length before = omega (arith, room, done, same) in
-    sym (take-append-drop count now)
-    ∙ ap (λ l. l ++ drop count now) (front ∙ ap (λ n. take n rows) end)
-    ∙ ap (λ l. take (length before) rows ++ l)
-    (behind ∙ drop_all count before (omega (arith, end)) ∙ sym (drop_all (length rows) before (omega (arith, all, end))))

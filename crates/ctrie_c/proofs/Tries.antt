@@ -1,24 +1,11 @@
 -- What a seat's contract says holds of the seat that is held.
-use Rattle.std.proofs.Common.{◌≡◌, ◌<◌, ◌∙◌, ℕ, refl, sym, subst, inl, inr}
+use Rattle.std.proofs.Common.{◌≡◌, ◌<◌, ℕ, refl, sym, subst, inl, inr}
 use Rattle.std.specs.Prelude.{Bool, Option, Some, None, Ok}
 use Rattle.shared_map.specs.declared.asks.Ask.{Ask}
 use Rattle.shared_map.specs.Asks.{Told}
 use Rattle.shared_map.specs.Beneath.sharded_gate.specs.declared.gates.ShardCount.{ShardCount}
 use Rattle.ctrie_c.specs.Answers.{code_limit, no_map, truth_told}
-use Rattle.ctrie_c.specs.Sharing.{Asks, AsksIt, Hears, HearsSo, Says, Sharing, Tries, busy}
-
--- the seat that was taken out of its box
-pub asked_by : {before after : Option Sharing} {old lent new : Sharing} {ask : Ask} {told : Told} → lent ≡ old → before ≡ Some old → after ≡ Some new → Asks ask told lent new →
-    AsksIt before after ask told
-asked_by {before} {after} {old} {lent} {new} {ask} {told} same was is asks =
-    subst (λ (b : Option Sharing). AsksIt b after ask told) (sym was)
-    (subst (λ (a : Option Sharing). AsksIt (Some old) a ask told) (sym is) (subst (λ (s : Sharing). Asks ask told s new) same asks))
-
--- another seat was inside
-pub kept_out : {before after : Option Sharing} {old lent new : Sharing} (Holds : Sharing → Sharing → Type 0) → lent ≡ old → before ≡ Some old → after ≡ Some new → new ≡ lent →
-    Tries before after busy Holds
-kept_out {before} {after} {old} {lent} {new} Holds same was is stays =
-    subst (λ (b : Option Sharing). Tries b after busy Holds) (sym was) (subst (λ (a : Option Sharing). Tries (Some old) a busy Holds) (sym is) (inl (refl, stays ∙ same)))
+use Rattle.ctrie_c.specs.Sharing.{AsksIt, Hears, HearsSo, Says, Sharing, Tries}
 
 -- no seat is held
 pub none_held : {before after : Option Sharing} (Holds : Sharing → Sharing → Type 0) → before ≡ None → after ≡ None → Tries before after no_map Holds

@@ -1,5 +1,5 @@
 -- What is told of a request about all shards.
-use Rattle.std.proofs.Common.{◌≡◌, ◌≢◌, ℕ, ◌≤◌, List, length, Option, Some, None, Ok, Err, option_map, refl, sym, ap, subst, ◌∙◌, arith, Bool}
+use Rattle.std.proofs.Common.{◌≡◌, ◌≢◌, ℕ, ◌≤◌, List, length, Option, Some, None, Ok, Err, option_map, refl, sym, ap, subst, ◌∙◌, Bool}
 use Rattle.shared_map.specs.Vocabulary.{HashKind, Call, handle_of}
 use Rattle.history.specs.declared.replies.Reply.TheVariants as reply
 use Rattle.ctrie_map.specs.declared.errors.MapError.TheVariants.{Memory}
@@ -19,10 +19,6 @@ use Rattle.shared_map.proofs.OfShards as shards
 no_key : (f : ℕ → ℕ) (o : Option ℕ) → option_map f o ≡ None → o ≡ None
 no_key f None e = refl
 no_key f (Some k) e = cc
-
--- where there is none, they aren't those of a map
-pub if_none : (before after : List MapState) (request : Request) (told : Told) → length before ≡ 0 → MapAnswers 0 before request told after
-if_none before after request told none hash are = absurd (omega (arith, none, are.some))
 
 module _ (first : Knowing) (before : List MapState) (request : Request) (knows : KnowsFirst first before) where
   hash_of_all : (hash : HashKind) → AreShards hash before → first.hash ≡ hash

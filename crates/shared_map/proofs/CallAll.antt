@@ -74,21 +74,11 @@ module _ (first : Knowing) (before : List MapState) where
   pub number_next : (h n : ℕ) (access : Access) → first.next ≡ Some n → (s : MapState) → IsKnown first s → HasNext (turn.Copy h n access) s
   number_next h n access is s known = subst (IsNumber s) is known.next
 
-  pub copy_turned : (access : Access) (h n : ℕ) (told : Replied) (after : List MapState) → 1 < length before → denial_from false true first.writable first.handles ≡ None →
-      first.next ≡ Some n → TurnsAll (turn.Copy h n access) before told after → RepliesIf first before (copy_call access h) told after
-  copy_turned Writable h n told after many allowed is turns = if_turned (turn.Copy h n Writable) told after many allowed (number_next h n Writable is) turns
-  copy_turned ReadOnly h n told after many allowed is turns = if_turned (turn.Copy h n ReadOnly) told after many allowed (number_next h n ReadOnly is) turns
-
   -- where no number is left, it is denied
   full_denied : (o : Result Bool MapError) (n : ℕ) → n ≡ handle_limit → denial_from false true o n ≡ None → ⊥
   full_denied (Ok writable) n is e =
       let bad : Some error.HandlesFull ≡ None = ap (λ n. denial_from false true (Ok writable) n) (sym is) ∙ e in cc
   full_denied (Err why) n is e = cc
-
-  pub copy_full : (access : Access) (h : ℕ) → denial_from false true first.writable first.handles ≡ None → first.next ≡ None →
-      RepliesIf first before (copy_call access h) (Err error.HandlesFull) before
-  copy_full access h allowed is hash are knows on none =
-      absurd (full_denied first.writable first.handles (knows.2.handles ∙ subst (IsNumber knows.0) is knows.2.next) allowed)
 
   -- lists and counts
   pub if_listed : (h : ℕ) (pairs : List (ℕ × ℕ)) (writable : Bool) → first.writable ≡ Ok writable → pairs ≡ by_key (pairs_at h (worlds_of before)) →

@@ -1,15 +1,14 @@
 -- New maps are the shards of one.
-use Rattle.std.proofs.Common.{◌≡◌, inl, inr, ℕ, suc, ◌+◌, ◌≤◌, Bool, true, false, cond, List, []}
+use Rattle.std.proofs.Common.{◌≡◌, ℕ, suc, ◌+◌, ◌≤◌, Bool, true, false, cond, List, []}
 use Rattle.std.proofs.Common.{◌∷◌, ◌++◌, length, Some, None, is_some, nat_cmp, refl, sym, ap, ◌∙◌, arith}
 use Rattle.std.specs.Cmp.{nat_cmp_total}
 use Rattle.std.specs.Ordering.{eq_by_cmp}
 use Rattle.std.specs.FinMap as maps
 use Rattle.std.proofs.lemmas.Bool.{true≢false}
 use Rattle.shared_map.specs.Vocabulary.{HashKind, Writable, HandleMap, first_world}
-use Rattle.ctrie_map.specs.Maps.{IsNew, MapState, RefusesSizes}
-use Rattle.ctrie_map.specs.declared.errors.MapError.{MapError}
+use Rattle.ctrie_map.specs.Maps.{IsNew, MapState}
 use Rattle.shared_map.specs.Asks.{place_of}
-use Rattle.shared_map.specs.Opening.{AreNew, AreNewMaps, AreShardNumbers, RefusesNew}
+use Rattle.shared_map.specs.Opening.{AreNew, AreNewMaps}
 use Rattle.shared_map.specs.Shards.{AreHashed, AreShards, worlds_of}
 use Rattle.shared_map.specs.Uniting.{AreOfKinds, AreOwnFrom, kind_of, value_at, value_of}
 use Rattle.shared_map.proofs.United.{shown_as}
@@ -64,7 +63,3 @@ module _ (slots : ℕ) (hash : HashKind) where
 
   pub one_more_new : (n : ℕ) (ms : List MapState) (m : MapState) → AreNewMaps slots hash n ms → IsNew slots hash m → AreNewMaps slots hash (n + 1) (ms ++ m ∷ [])
   one_more_new n ms m new one = (more ms m new.0 one, (let long = longer ms m in omega (arith, long, new.1)))
-
-pub refused_maps : (slots shards : ℕ) (error : MapError) → AreShardNumbers shards → RefusesSizes slots error → RefusesNew slots shards error
-refused_maps slots shards error few (inl bad) = inl (inl bad.0, bad.1)
-refused_maps slots shards error few (inr none) = inr (none.0, few, none.1)

@@ -1,7 +1,7 @@
 -- What one shard after another has found.
-use Rattle.std.proofs.Common.{◌≡◌, ℕ, suc, List, [], ◌∷◌, ◌++◌, Option, Some, None, Ok, Err, IsSome, refl, sym, ap, ap₂, subst, ◌∙◌}
+use Rattle.std.proofs.Common.{◌≡◌, ℕ, suc, List, [], ◌∷◌, ◌++◌, Option, Some, None, Ok, Err, refl, sym, ap, ap₂, subst, ◌∙◌}
 use Rattle.std.specs.FinMap as maps
-use Rattle.shared_map.specs.Vocabulary.{HandleState, KeyMap}
+use Rattle.shared_map.specs.Vocabulary.{HandleState}
 use Rattle.ctrie_map.specs.declared.errors.MapError.{MapError}
 use Rattle.ctrie_map.specs.Maps.{MapState, handles_of}
 use Rattle.ctrie_map.specs.Reading.{IsOneOf, ReadsOf, read_of}
@@ -12,11 +12,6 @@ use Rattle.shared_map.specs.Visits.{VisitedEach}
 use Rattle.shared_map.proofs.TurnAll.{empty_pairs, pairs_shown, value_shown}
 
 -- ---- one shard
-
--- what was found stays
-pub found_stays : (m : KeyMap) (found : Option (ℕ × ℕ)) → IsSome found → IsFoundWith m found found
-found_stays m None some = cc
-found_stays m (Some pair) some = refl
 
 found_read : (o : Option HandleState) (found : Option (ℕ × ℕ)) → ReadsOf (read_of (λ m. m) o) IsOneOf (Ok found) → IsOneOf (map_shown o) found
 found_read None found (m, read, one) = cc

@@ -1,8 +1,7 @@
 -- How many slots the shards of a map have together.
-use Rattle.std.proofs.Common.{◌≡◌, ℕ, ◌+◌, ◌*◌, ◌≤◌, ◌<◌, ◌^◌, List, [], ◌∷◌, length, take, get_or, sym, ap, ◌∙◌, arith}
+use Rattle.std.proofs.Common.{◌≡◌, ℕ, ◌+◌, ◌*◌, ◌≤◌, ◌<◌, ◌^◌, List, [], ◌∷◌, length, sym, ap, ◌∙◌, arith}
 use Rattle.std.proofs.Math.Nat.{mul-suc, mul-zero}
-use Rattle.std.proofs.lemmas.List.{take_all}
-use Rattle.std.proofs.lemmas.List.Sums.{sum_by-cons, sum_by_more}
+use Rattle.std.proofs.lemmas.List.Sums.{sum_by-cons}
 use Rattle.std.proofs.lemmas.Nat.{mul-le}
 use Rattle.shared_map.specs.Vocabulary.{HashKind}
 use Rattle.ctrie_map.specs.Cores.{reserve}
@@ -25,12 +24,3 @@ slots_are slots hash (m ∷ ms) new =
 -- new maps
 pub new_slots : (slots shards : ℕ) (hash : HashKind) (ms : List MapState) → AreNewMaps slots hash shards ms → slots_of_all ms ≡ slots * shards
 new_slots slots shards hash ms new = slots_are slots hash ms new.0 ∙ ap (λ n. slots * n) new.1
-
--- the first of these maps, and one more
-pub slots_more : (ms : List MapState) (i : ℕ) (m : MapState) → i < length ms → m ≡ get_or ms i m → slots_of_all (take (i + 1) ms) ≡ slots_of_all (take i ms) + slots_asked m
-slots_more ms i m within is =
-    sum_by_more slots_asked ms i m within ∙ ap (λ (s : MapState). slots_of_all (take i ms) + slots_asked s) (sym is)
-
--- all of them
-pub slots_of_them : (ms : List MapState) (i : ℕ) → length ms ≤ i → slots_of_all (take i ms) ≡ slots_of_all ms
-slots_of_them ms i past = ap slots_of_all (take_all i ms past)

@@ -59,10 +59,6 @@ module _ (s t : MapState) where
     clear_error WornOut p = absurd (true≢false (sym p.1 ∙ due.life))
     clear_error error p = absurd (not_both (denial_in s (call.Clear h)) error clear_allowed p.0)
 
-    pub clear_turns : (told : Replied) → Performs told s (call.Clear h) t → HasTurned (turn.Clear h) s t
-    clear_turns (Ok answer) p = clear_reply answer p.1
-    clear_turns (Err error) p = clear_error error p
-
   -- ---- a close
 
   module _ (h : ℕ) (due : IsDue (turn.Close h) s) (works : WorksUpTo (work_of_call (call.Close h)) s t) where
@@ -86,10 +82,6 @@ module _ (s t : MapState) where
     close_error : (error : MapError) → Performs (Err error) s (call.Close h) t → HasTurned (turn.Close h) s t
     close_error WornOut p = absurd (true≢false (sym p.1 ∙ due.life))
     close_error error p = absurd (not_both (denial_in s (call.Close h)) error close_allowed p.0)
-
-    pub close_turns : (told : Replied) → Performs told s (call.Close h) t → HasTurned (turn.Close h) s t
-    close_turns (Ok answer) p = close_reply answer p.1
-    close_turns (Err error) p = close_error error p
 
   -- ---- a copy
 

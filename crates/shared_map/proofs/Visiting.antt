@@ -13,9 +13,6 @@ module _ {V O : Type 0} (does : V → O → V → O → Type 0) where
     pub long : length front ≡ place
     pub visited : VisitedEach does before (take place start) after front
 
-  pub visited_none : (before : V) (start : List O) → HaveVisited 0 before start before start
-  visited_none before start = record { front = []; are = refl; long = refl; visited = refl }
-
   -- one more
   more_visited : (before between after : V) (ss ts : List O) (s t : O) → VisitedEach does before ss between ts → does between s after t →
       VisitedEach does before (ss ++ s ∷ []) after (ts ++ t ∷ [])
@@ -74,14 +71,6 @@ module _ {V O : Type 0} (does : V → O → V → O → Type 0) where
   length_rest (suc place) [] lt = absurd (omega (arith, lt))
   length_rest (suc place) (x ∷ start) lt = let e = length_rest place start (omega (arith, lt)) in omega (arith, e)
 
-  -- there is one at the place still
-  pub still_within : (place : ℕ) (before : V) (start : List O) (after : V) (now : List O) → HaveVisited place before start after now → place < length start → place < length now
-  still_within place before start after now have lt =
-      let long = ap length have.are in
-      let sum = length_append have.front (drop place start) in
-      let rest = length_rest place start lt in
-      omega (arith, long, sum, rest, have.long, lt)
-
   append_nil : (xs : List O) → xs ++ [] ≡ xs
   append_nil [] = refl
   append_nil (x ∷ xs) = ap (λ ys. x ∷ ys) (append_nil xs)
@@ -89,11 +78,3 @@ module _ {V O : Type 0} (does : V → O → V → O → Type 0) where
   all_of : (start : List O) → (take (length start) start ≡ start) × (drop (length start) start ≡ [])
   all_of [] = (refl, refl)
   all_of (x ∷ start) = let (t, d) = all_of start in (ap (λ ys. x ∷ ys) t, d)
-
-  pub all_visited : (place : ℕ) (before : V) (start : List O) (after : V) (now : List O) → place ≡ length start → HaveVisited place before start after now →
-      VisitedEach does before start after now
-  all_visited place before start after now end have =
-      let (t, d) = all_of start in
-      let are : now ≡ have.front = have.are ∙ ap (λ n. have.front ++ drop n start) end ∙ ap (λ xs. have.front ++ xs) d ∙ append_nil have.front in
-      subst (VisitedEach does before start after) (sym are)
-      (subst (λ xs. VisitedEach does before xs after have.front) (ap (λ n. take n start) end ∙ t) have.visited)
