@@ -1,6 +1,6 @@
 -- The exchange of an offer's first word that takes it back is the operation's step, whether it finds it undecided or not.
 use Rattle.history.specs.declared.calls.Call.{Call}
-use Rattle.std.proofs.Common.{◌≡◌, ◌≢◌, ◌+◌, ◌*◌, ◌⊎◌, ◌==◌, ◌<◌, ℕ, inl, inr, Bool, true, false, List, [], ◌∷◌, Contains, set, get_or, slice_index, Some, None, refl, sym, ap, subst, ◌∙◌, arith, eq-eqb, ne_eqb}
+use Rattle.std.proofs.Common.{◌≡◌, ◌≢◌, ◌*◌, ◌==◌, ◌<◌, ℕ, inl, inr, false, Contains, set, slice_index, refl, sym, ap, subst, ◌∙◌, eq-eqb, ne_eqb}
 use Rattle.std.proofs.lemmas.Bool.{cases_eq}
 use Rattle.std.proofs.lemmas.List.Elements.{Contains-append_right}
 use Rattle.std.proofs.lemmas.Option.{same_Some}
@@ -23,11 +23,10 @@ use Rattle.lock_free.specs.declared.accounts.Known.{Known}
 use Rattle.lock_free.specs.declared.rules.View.{View}
 use Rattle.lock_free.specs.declared.sizes.Sizes.{Sizes}
 use Rattle.lock_free.specs.Accounts.{state_of, running, gone_on}
-use Rattle.lock_free.specs.Loading.{Moment, now, seen, IsAt, HasGone, has_gone}
+use Rattle.lock_free.specs.Loading.{Moment, seen, IsAt, HasGone, has_gone}
 use Rattle.lock_free.specs.OfferWords.{IsAtAbort, HasAborted}
 use Rattle.lock_free.specs.Roots.{open_with, taken_back}
 use Rattle.lock_free.specs.Rules.{IsSeat, IsKept}
-use Rattle.lock_free.specs.Settling.{Settles}
 use Rattle.lock_free.proofs.Exchanged.{AllowsExchange, Leaves, words_hit, missed, sound_by}
 use Rattle.lock_free.proofs.Looking.{went, o_there, acts_there, same_action}
 use Rattle.lock_free.proofs.Moments.{allowed, took_by}
@@ -87,10 +86,9 @@ module _ (v : View) (k : Known) (known : Contains v.account.offers k) (p : IsAt 
 
     taken : found ≡ 0 → Leaves v s kept id at word 0 taken_back
     taken e =
-        let settles = abort_settles v.sizes there kept.bounds v.actor o runs k (acts_there v word found m does p) (stood e) in
-        (
+        let settles = abort_settles v.sizes there kept.bounds v.actor o runs k (acts_there v word found m does p) (stood e) in (
           subst (λ ws. IsKept v.sizes (record { words = ws; homes = s.homes; views = set s.views id (seen v (gone_on v.actor there)) })) (words_hit v s kept id at word 0 taken_back e word refl)
-          (settle_kept v.sizes s kept id v at o runs taken_back k here settles on e),
+              (settle_kept v.sizes s kept id v at o runs taken_back k here settles on e),
           (
             sound_by v s kept id at (gone_on v.actor there) kept.stands _ (all_then v.sizes s kept id v at o runs taken_back k here settles on e),
             took_by v s kept id at o runs (gone_on v.actor there) (abort_own v.sizes there kept.bounds v.actor o runs k (acts_there v word found m does p)),
@@ -122,12 +120,14 @@ offer_in action other = other
 
 -- what the seat is told
 pub abort_told : (before : View) (slot : ℕ) → IsAtAbort before slot → (found : ℕ) (after : View) → HasGone before (2 * slot) found after → HasAborted before (found == 0) after
-abort_told before slot a found after g =
-    (went before slot (2 * slot) found after g, λ offer q.
-    (let same_o : a.acts.operation ≡ q.operation = same_Some a.acts.operation q.operation (sym a.acts.runs ∙ q.runs) in
-    let same_offer : a.its.offer ≡ offer = ap (λ x. offer_in x offer) (same_action before (act.Abort a.its.offer) (act.Abort offer) a.acts q) in
-    let there = g.0.kept.account in
-    let finds : slice_index g.0.table.words (2 * a.its.slot) ≡ found = ap (λ n. slice_index g.0.table.words (2 * n)) a.place ∙ g.0.finds in
-    subst (λ d. stands_in (word_at (state_of before.sizes there) (handle_of q.operation.call)) d ≡ (found == 0)) same_offer
-    (subst (λ (x : Operation). stands_in (word_at (state_of before.sizes there) (handle_of x.call)) a.its.offer ≡ (found == 0)) same_o
-    (stood_by before a.its a.here a.acts a.on g.0.table g.0.kept g.0.id g.0.at ∙ ap (λ n. n == 0) finds))))
+abort_told before slot a found after g = (
+  went before slot (2 * slot) found after g,
+  λ offer q.
+      (let same_o : a.acts.operation ≡ q.operation = same_Some a.acts.operation q.operation (sym a.acts.runs ∙ q.runs) in
+      let same_offer : a.its.offer ≡ offer = ap (λ x. offer_in x offer) (same_action before (act.Abort a.its.offer) (act.Abort offer) a.acts q) in
+      let there = g.0.kept.account in
+      let finds : slice_index g.0.table.words (2 * a.its.slot) ≡ found = ap (λ n. slice_index g.0.table.words (2 * n)) a.place ∙ g.0.finds in
+      subst (λ d. stands_in (word_at (state_of before.sizes there) (handle_of q.operation.call)) d ≡ (found == 0)) same_offer
+      (subst (λ (x : Operation). stands_in (word_at (state_of before.sizes there) (handle_of x.call)) a.its.offer ≡ (found == 0)) same_o
+      (stood_by before a.its a.here a.acts a.on g.0.table g.0.kept g.0.id g.0.at ∙ ap (λ n. n == 0) finds))),
+)

@@ -1,16 +1,14 @@
 -- The definition lets a seat's operation begin where the rule says that its handle is open, and lets a closer close its handle.
 use Rattle.history.specs.declared.calls.Call.{Call}
 use Rattle.history.specs.declared.calls.Call.TheVariants.{Close}
-use Rattle.std.proofs.Common.{◌≡◌, ◌≢◌, ◌⊎◌, ◌+◌, ◌<◌, ◌≤◌, ◌==◌, ℕ, zero, suc, Bool, true, false, List, [], ◌∷◌, length, Contains, Option, Some, None, get_or, is_some, refl, sym, ap, subst, ◌∙◌, inl, inr, arith, not, ne_eqb}
+use Rattle.std.proofs.Common.{◌≡◌, ◌≢◌, ◌+◌, ℕ, zero, suc, Bool, true, false, List, [], ◌∷◌, length, Option, Some, None, get_or, is_some, refl, ap, ◌∙◌, arith, not, ne_eqb}
 use Rattle.std.specs.Prelude.{◌&&◌, ◌||◌, nat_le}
 use Rattle.std.specs.List.{list_any}
-use Rattle.std.proofs.lemmas.Bool.{cases_eq, lt-leb}
-use Rattle.std.proofs.lemmas.Option.{none-some}
+use Rattle.std.proofs.lemmas.Bool.{lt-leb}
 use mathlib.Core.Option.{some}
 use lib.ListN.{get_elem?}
 use Rattle.atomic_table.specs.Table as Table
 use Rattle.machine_model.specs.Beneath.ctrie_base.specs.declared.refusals.Refusal.TheVariants as refuse
-use Rattle.history.specs.declared.calls.Access.{Access}
 use Rattle.history.specs.declared.calls.Access.TheVariants.{Writable, ReadOnly}
 use Rattle.machine_model.specs.declared.operations.Operation.{Operation}
 use Rattle.machine_model.specs.declared.roots.Root.{Root}
@@ -20,7 +18,6 @@ use Rattle.machine_model.specs.Machine.{begin_denial, is_actor, is_running, is_s
 use Rattle.machine_model.specs.States.{State, operation_of, root_at, handle_limit, first_state}
 use Rattle.machine_model.proofs.Actors.{actor_by}
 use Rattle.machine_model.proofs.Along.{limits_along}
-use Rattle.lock_free.specs.declared.accounts.Account.{Account}
 use Rattle.lock_free.specs.declared.rules.View.{View}
 use Rattle.lock_free.specs.declared.sizes.Sizes.{Sizes}
 use Rattle.lock_free.specs.Accounts.{bounds_for, state_of}
@@ -29,7 +26,8 @@ use Rattle.lock_free.proofs.OneStep.Going.{steps_from, first_none}
 
 -- no reason holds
 none_by : (actor running is_open write read busy full spent : Bool) → actor ≡ true → running ≡ false → is_open ≡ true → write ≡ false → read ≡ false → busy ≡ false → full ≡ false → spent ≡ false →
-    first_reason ((not actor, refuse.NoActor) ∷ (running, refuse.ActorBusy) ∷ (not is_open, refuse.NoHandle) ∷ (write, refuse.ReadOnly) ∷ (read, refuse.NotReadOnly) ∷ (busy, refuse.Busy) ∷ (full, refuse.HandlesFull)
+    first_reason ((not actor, refuse.NoActor) ∷ (running, refuse.ActorBusy) ∷ (not is_open, refuse.NoHandle) ∷ (write, refuse.ReadOnly) ∷ (read, refuse.NotReadOnly) ∷ (busy, refuse.Busy) ∷
+    (full, refuse.HandlesFull)
     ∷ (spent, refuse.Spent) ∷ []) ≡ None
 none_by actor running is_open write read busy full spent a b c d e f g h = grind (arith, a, b, c, d, e, f, g, h)
 
@@ -43,7 +41,8 @@ and_false : (a b : Bool) → b ≡ false → (a && b) ≡ false
 and_false true b e = e
 and_false false b e = refl
 
-module _ (sizes : Sizes) (s : Table.State Call View) (kept : IsKept sizes s) (id : ℕ) (v : View) (at : get_elem? s.views id ≡ some v) (idle : operation_of (state_of sizes kept.account) v.actor ≡ None) where
+module _ (sizes : Sizes) (s : Table.State Call View) (kept : IsKept sizes s) (id : ℕ) (v : View) (at : get_elem? s.views id ≡ some v)
+    (idle : operation_of (state_of sizes kept.account) v.actor ≡ None) where
   abbrev state : State
   state = state_of sizes kept.account
 
@@ -68,12 +67,15 @@ module _ (sizes : Sizes) (s : Table.State Call View) (kept : IsKept sizes s) (id
       (read : (needs_read_only call && is_access Writable (Some root.access)) ≡ false) (opens_none : opens_handle call ≡ false) where
     pub begin_allowed : (is_close call && runs_on state (handle_of call)) ≡ false → begin_denial state v.actor call ≡ None
     begin_allowed free =
-        none_by (is_actor state v.actor) (is_running state v.actor) (is_some (access_of (root_at state (handle_of call)))) (needs_writable call && is_access ReadOnly (access_of (root_at state (handle_of call))))
-        (needs_read_only call && is_access Writable (access_of (root_at state (handle_of call)))) (is_close call && runs_on state (handle_of call)) (opens_handle call && nat_le handle_limit (handles_taken state)) (is_spent state) its_actor (ap is_some idle)
+        none_by (is_actor state v.actor) (is_running state v.actor) (is_some (access_of (root_at state (handle_of call))))
+        (needs_writable call && is_access ReadOnly (access_of (root_at state (handle_of call))))
+        (needs_read_only call && is_access Writable (access_of (root_at state (handle_of call)))) (is_close call && runs_on state (handle_of call))
+        (opens_handle call && nat_le handle_limit (handles_taken state)) (is_spent state) its_actor (ap is_some idle)
         (ap is_some (access_is (handle_of call) root is_open)) (ap (λ a. needs_writable call && is_access ReadOnly a) (access_is (handle_of call) root is_open) ∙ write)
         (ap (λ a. needs_read_only call && is_access Writable a) (access_is (handle_of call) root is_open) ∙ read) free (ap (λ b. b && nat_le handle_limit (handles_taken state)) opens_none) unspent
 
   -- closing a handle on which nobody runs anything
-  pub close_allowed : (h : ℕ) (root : Root) → root_at state h ≡ Some root → ((a : ℕ) (o : Operation) → operation_of state a ≡ Some o → handle_of o.call ≢ h) → begin_denial state v.actor (Close h) ≡ None
+  pub close_allowed : (h : ℕ) (root : Root) → root_at state h ≡ Some root → ((a : ℕ) (o : Operation) → operation_of state a ≡ Some o → handle_of o.call ≢ h) → begin_denial state v.actor
+      (Close h) ≡ None
   close_allowed h root is_open nobody =
       begin_allowed (Close h) root is_open refl refl refl (none_on h state.actors (λ k o e. nobody (suc k) o e))

@@ -54,7 +54,8 @@ all_stand sizes s kept = record {
   roots = kept.roots;
 }
 
-module _ (sizes : Sizes) (s : Table.State Call View) (kept : IsKept sizes s) (id : ℕ) (v : View) (at : get_elem? s.views id ≡ some v) (later : View) (actor : later.actor ≡ v.actor) (last : later.last ≡ v.last) where
+module _ (sizes : Sizes) (s : Table.State Call View) (kept : IsKept sizes s) (id : ℕ) (v : View) (at : get_elem? s.views id ≡ some v) (later : View) (actor : later.actor ≡ v.actor)
+    (last : later.last ≡ v.last) where
   abbrev pub later_views : List View
   later_views = set s.views id later
 
@@ -87,17 +88,24 @@ module _ (sizes : Sizes) (s : Table.State Call View) (kept : IsKept sizes s) (id
   -- ---- closers
 
   -- Where the seat doesn't enter the handle, and would close it still if it would before.
-  module _ (handle who : ℕ) (entered : later.entered ≡ Some handle → v.entered ≡ Some handle) (closing : (c : Closing) → v.closing ≡ Some c → c.handle ≡ handle → v.actor ≡ who → later.closing ≡ Some c) where
+  module _ (handle who : ℕ) (entered : later.entered ≡ Some handle → v.entered ≡ Some handle)
+      (closing : (c : Closing) → v.closing ≡ Some c → c.handle ≡ handle → v.actor ≡ who → later.closing ≡ Some c) where
     becomes : (other : ℕ) (u : View) (c : Closing) → get_elem? s.views other ≡ some u → u.closing ≡ Some c → c.handle ≡ handle → u.actor ≡ who →
         (w : View) × (get_elem? later_views other ≡ some w) × (w.actor ≡ u.actor) × (w.closing ≡ Some c)
     becomes other u c e is this its = elim (cases_eq other id) [
       | inl same ↦
-          (let mine : v ≡ u = some-injective v u (sym at ∙ ap (λ n. get_elem? s.views n) (sym same) ∙ e) in
-          (later, ap (λ n. get_elem? later_views n) same ∙ here, actor ∙ ap (λ (x : View). x.actor) mine, closing c (ap (λ (x : View). x.closing) mine ∙ is) this (ap (λ (x : View). x.actor) mine ∙ its)))
+          (let mine : v ≡ u = some-injective v u (sym at ∙ ap (λ n. get_elem? s.views n) (sym same) ∙ e) in (
+            later,
+            ap (λ n. get_elem? later_views n) same ∙ here,
+            actor ∙ ap (λ (x : View). x.actor) mine,
+            closing c (ap (λ (x : View). x.closing) mine ∙ is) this
+                (ap (λ (x : View). x.actor) mine ∙ its),
+          ))
       | inr apart ↦ (u, set_else s.views id other later apart ∙ e, refl, is)
     ]
 
-    was_inside : (other : ℕ) (w : View) → get_elem? later_views other ≡ some w → w.entered ≡ Some handle → (u : View) × (get_elem? s.views other ≡ some u) × (u.entered ≡ Some handle) × (u.actor ≡ w.actor)
+    was_inside : (other : ℕ) (w : View) → get_elem? later_views other ≡ some w → w.entered ≡ Some handle → (u : View) × (get_elem? s.views other ≡ some u) × (u.entered ≡ Some handle) ×
+        (u.actor ≡ w.actor)
     was_inside other w e inside = elim (at_set s.views id other later w e) [
       | inl h ↦ (v, ap (λ n. get_elem? s.views n) h.0 ∙ at, entered (ap (λ (x : View). x.entered) h.1 ∙ inside), sym actor ∙ ap (λ (x : View). x.actor) h.1)
       | inr h ↦ (w, h.1, inside, refl)
@@ -119,7 +127,8 @@ module _ (sizes : Sizes) (s : Table.State Call View) (kept : IsKept sizes s) (id
         }
 
   -- where the seat enters no handle and would close none that it didn't before
-  pub closing_stays : ((handle : ℕ) → later.entered ≡ Some handle → v.entered ≡ Some handle) → later.closing ≡ v.closing → (handle who : ℕ) → IsClosing s.views handle who → IsClosing later_views handle who
+  pub closing_stays : ((handle : ℕ) → later.entered ≡ Some handle → v.entered ≡ Some handle) → later.closing ≡ v.closing → (handle who : ℕ) → IsClosing s.views handle who → IsClosing later_views
+      handle who
   closing_stays entered closing handle who h = closing_at handle who (entered handle) (λ c is this its. closing ∙ is) h
 
   -- ---- reserved numbers, and who runs what
@@ -151,12 +160,14 @@ module _ (sizes : Sizes) (s : Table.State Call View) (kept : IsKept sizes s) (id
     -- the seat's number is what it was, or nobody else's
     pub number : (handle : ℕ) → Reserves (state_of sizes account) later handle →
         Reserves (state_of sizes kept.account) v handle ⊎ ((other : ℕ) (w : View) → get_elem? s.views other ≡ some w → (other ≡ id → ⊥) → Reserves (state_of sizes account) w handle → ⊥)
-    pub others : (other : ℕ) (w : View) → get_elem? s.views other ≡ some w → (other ≡ id → ⊥) → (handle : ℕ) → Reserves (state_of sizes account) w handle → Reserves (state_of sizes kept.account) w handle
+    pub others : (other : ℕ) (w : View) → get_elem? s.views other ≡ some w → (other ≡ id → ⊥) → (handle : ℕ) → Reserves (state_of sizes account) w handle → Reserves (state_of sizes kept.account) w
+        handle
     -- nobody else runs anything who ran nothing
     pub runners : (a : ℕ) (o : Operation) → operation_of (state_of sizes account) a ≡ Some o → (a ≡ v.actor) ⊎ ((p : Operation) × (operation_of (state_of sizes kept.account) a ≡ Some p))
 
   -- where operations keep their tries, and no word of a handle changes
-  pub numbers_stay : (account : Account) (words : List ℕ) → KeepsTries kept.account.offers (state_of sizes kept.account) (state_of sizes account) → ((slot : ℕ) → NoOffer account slot → NoOffer kept.account slot) →
+  pub numbers_stay : (account : Account) (words : List ℕ) → KeepsTries kept.account.offers (state_of sizes kept.account) (state_of sizes account) →
+      ((slot : ℕ) → NoOffer account slot → NoOffer kept.account slot) →
       ((handle : ℕ) → handle < handle_limit → slice_index words (root_word handle) ≡ slice_index s.words (root_word handle)) → later.opens ≡ v.opens →
       ((slot handle : ℕ) → v.opens ≡ Some handle → IsFree v 1 slot → IsFree later 1 slot) → Numbers account words
   numbers_stay account words tries none same opens still = record {
@@ -166,7 +177,8 @@ module _ (sizes : Sizes) (s : Table.State Call View) (kept : IsKept sizes s) (id
         ((opens ∙ after.0, λ o e. after.1 o (ap (operation_of (state_of sizes account)) (sym actor) ∙ e)), still slot handle r.0 f)))
         (λ other w e apart f r. reserves_on kept.account.offers (state_of sizes kept.account) (state_of sizes account) tries w handle r)
         (kept.openings handle slot low fits (sym (same handle low) ∙ is) (none slot new));
-    number = λ handle h. inl (reserved kept.account.offers (state_of sizes kept.account) (state_of sizes account) tries v handle (sym opens ∙ h.0, λ o e. h.1 o (ap (operation_of (state_of sizes account)) actor ∙ e)));
+    number = λ handle h. inl (reserved kept.account.offers (state_of sizes kept.account) (state_of sizes account) tries v handle
+        (sym opens ∙ h.0, λ o e. h.1 o (ap (operation_of (state_of sizes account)) actor ∙ e)));
     others = λ other w e apart handle h. reserved kept.account.offers (state_of sizes kept.account) (state_of sizes account) tries w handle h;
     runners = λ a o e. inr (ran kept.account.offers (state_of sizes kept.account) (state_of sizes account) tries a o e);
   }

@@ -1,6 +1,7 @@
 -- An operation begins: at the load that finds its handle open, or, if it is to open another handle, at the exchange that reserves that one's number.
 use Rattle.history.specs.declared.calls.Call.{Call}
-use Rattle.std.proofs.Common.{◌≡◌, ◌≢◌, ◌+◌, ◌⊎◌, ℕ, ◌<◌, ◌≤◌, inl, inr, true, List, [], ◌∷◌, Contains, get_or, is_some, set, slice_index, Option, Some, None, refl, sym, ap, subst, ◌∙◌, arith, append-nil}
+use Rattle.std.proofs.Common.{◌≡◌, ◌≢◌, ◌+◌, ◌⊎◌, ℕ, ◌<◌, ◌≤◌, inl, inr, true, List, [], ◌∷◌, Contains, get_or, is_some, set, slice_index, Option, Some, None, refl, sym, ap, subst, ◌∙◌, arith}
+use Rattle.std.proofs.Common.{append-nil}
 use Rattle.std.specs.Prelude.{option_map}
 use Rattle.std.proofs.lemmas.Bool.{cases_eq}
 use Rattle.std.proofs.lemmas.Option.{none-some, same_Some}
@@ -60,7 +61,8 @@ module _ (sizes : Sizes) (s : Table.State Call View) (kept : IsKept sizes s) (id
     | inr other ↦ marked_at now next a (same_try a other) k (fate words k) (fate s.words k) (fates k c) (kept.roots.marks k c a) o e its
   ]
 
-  all_by : (words : List ℕ) → ((k : Known) → Contains kept.account.offers k → fate words k ≡ fate s.words k) → AllStand sizes kept.account kept.stands words → AllStand sizes account_then kept.stands words
+  all_by : (words : List ℕ) → ((k : Known) → Contains kept.account.offers k → fate words k ≡ fate s.words k) → AllStand sizes kept.account kept.stands words → AllStand sizes account_then
+      kept.stands words
   all_by words fates standing =
       root.all_left sizes kept.account (taken ∷ []) begins.leaves kept.stands words
       (All-append FitsKey kept.account.steps (taken ∷ []) kept.keys (All-cons FitsKey taken [] begins.fits (All-nil FitsKey)))
@@ -101,7 +103,8 @@ module _ (sizes : Sizes) (s : Table.State Call View) (kept : IsKept sizes s) (id
   -- ---- at the load that finds the handle open
 
   -- the seat has pinned itself to the handle, and there is no mark that somebody would close it
-  module _ (none : opens ≡ None) (pin : Pin) (pinned : v.pin ≡ Some pin) (its : pin.handle ≡ handle_of call) (low : handle_of call < handle_limit) (is_open : is_some (root_at now (handle_of call)) ≡ true)
+  module _ (none : opens ≡ None) (pin : Pin) (pinned : v.pin ≡ Some pin) (its : pin.handle ≡ handle_of call) (low : handle_of call < handle_limit)
+      (is_open : is_some (root_at now (handle_of call)) ≡ true)
       (unmarked : (who : ℕ) → SaysClosing (slice_index s.words (root_word (handle_of call))) who → ⊥) where
     abbrev pub view_then : View
     view_then = record v { account = account_then; entered = Some (handle_of call) }
@@ -124,7 +127,8 @@ module _ (sizes : Sizes) (s : Table.State Call View) (kept : IsKept sizes s) (id
 
     own_then : IsSeat sizes account_then kept.stands s.words view_then
     own_then =
-        own_else sizes s kept id v at account_then kept.stands s.words stays account_then (waited_none v.actor account_then) all_then.counted v.pin (Some (handle_of call)) v.closing v.opens v.opening seat.pinned
+        own_else sizes s kept id v at account_then kept.stands s.words stays account_then (waited_none v.actor account_then) all_then.counted v.pin (Some (handle_of call)) v.closing v.opens
+        v.opening seat.pinned
         (λ g e. (let same = same_Some (handle_of call) g e in
         (subst (λ n. n < handle_limit) same low, ap (λ n. is_some (root_at next n)) (sym same) ∙ ap is_some (root_then (handle_of call)) ∙ is_open, (pin, pinned, its ∙ same))))
         (λ o e. ap (λ c. Some (handle_of c)) (sym begins.its_call) ∙ ap (λ (x : Operation). Some (handle_of x.call)) (sym (own_call o e))) (λ g r. absurd (none-some g (sym opens_none ∙ r.0)))
@@ -147,7 +151,8 @@ module _ (sizes : Sizes) (s : Table.State Call View) (kept : IsKept sizes s) (id
         assembled sizes s kept id v at view_then refl refl account_then kept.stands s.words all_then
         (λ g who below says. elim (cases_eq g (handle_of call)) [
           | inl same ↦ absurd (unmarked who (subst (λ n. SaysClosing (slice_index s.words (root_word n)) who) same says))
-          | inr differs ↦ closing_at sizes s kept id v at view_then refl refl g who (λ e. absurd (differs (sym (same_Some (handle_of call) g e)))) (λ c is this its. is) (kept.closings g who below says)
+          | inr differs ↦ closing_at sizes s kept id v at view_then refl refl g who (λ e. absurd (differs (sym (same_Some (handle_of call) g e)))) (λ c is this its. is)
+              (kept.closings g who below says)
         ]) own_then (other_kept sizes s kept id v at account_then kept.stands s.words stays) (λ b name f. inl f) numbers_then
 
   -- ---- at the exchange that reserves a number

@@ -1,7 +1,8 @@
 -- The exchange that takes a closer's mark for 0 closes the handle, once the closer has found all other seats in no call on it.
 use Rattle.history.specs.declared.calls.Call.{Call}
 use Rattle.history.specs.declared.calls.Call.TheVariants.{Close}
-use Rattle.std.proofs.Common.{◌≡◌, ◌≢◌, ◌+◌, ◌^◌, ℕ, ◌<◌, ◌≤◌, inl, inr, true, false, List, [], ◌∷◌, ◌++◌, Contains, is_some, set, slice_index, Some, None, refl, sym, ap, subst, ◌∙◌, arith, append-nil, append_assoc}
+use Rattle.std.proofs.Common.{◌≡◌, ◌≢◌, ◌^◌, ℕ, ◌<◌, ◌≤◌, inl, inr, true, List, [], ◌∷◌, ◌++◌, Contains, is_some, set, slice_index, Some, None, refl, sym, ap, subst, ◌∙◌, arith, append-nil}
+use Rattle.std.proofs.Common.{append_assoc}
 use Rattle.std.specs.Prelude.{option_map}
 use Rattle.std.proofs.lemmas.Bool.{cases_eq, true≢false}
 use Rattle.std.proofs.lemmas.Option.{none-some, same_Some}
@@ -127,7 +128,8 @@ module _ (sizes : Sizes) (s : Table.State Call View) (kept : IsKept sizes s) (id
     fates = root.fate_rooted sizes kept.account kept.stands s.words all handle low (root_code word.Closed)
 
     means_else : (g : ℕ) → g < handle_limit → MeansRoot kept.account words_then g (slice_index s.words (root_word g)) (root_at now g)
-    means_else g below = root.meaning_rooted sizes kept.account kept.stands s.words all handle low (root_code word.Closed) g (slice_index s.words (root_word g)) (root_at now g) (kept.roots.means g below)
+    means_else g below = root.meaning_rooted sizes kept.account kept.stands s.words all handle low (root_code word.Closed) g (slice_index s.words (root_word g)) (root_at now g)
+        (kept.roots.means g below)
 
     means_all : (g : ℕ) → g < handle_limit → MeansRoot account_then words_then g (slice_index words_then (root_word g)) (root_at next g)
     means_all g below = elim (cases_eq g handle) [
@@ -186,7 +188,8 @@ module _ (sizes : Sizes) (s : Table.State Call View) (kept : IsKept sizes s) (id
     waits actor first differs h =
         subst (λ names. HasWaited actor first (record account_then { names = names })) (append-nil kept.account.names)
         (waited_more actor first kept.account both [] [] []
-        (All-cons (IsOfOther actor) (step.Begin v.actor (Close handle)) (step.Go v.actor ∷ []) (λ e. differs (sym e)) (All-cons (IsOfOther actor) (step.Go v.actor) [] (λ e. differs (sym e)) (All-nil (IsOfOther actor)))) h)
+        (All-cons (IsOfOther actor) (step.Begin v.actor (Close handle)) (step.Go v.actor ∷ []) (λ e. differs (sym e))
+        (All-cons (IsOfOther actor) (step.Go v.actor) [] (λ e. differs (sym e)) (All-nil (IsOfOther actor)))) h)
 
     held : (other : ℕ) (w : View) → get_elem? s.views other ≡ some w → (g : ℕ) → Reserves next w g → IsHeld next words_then g
     held other w e g r =
@@ -227,7 +230,8 @@ module _ (sizes : Sizes) (s : Table.State Call View) (kept : IsKept sizes s) (id
     own_then : IsSeat sizes account_then kept.stands words_then view_then
     own_then =
         own_else sizes s kept id v at account_then kept.stands words_then stays account_then (waited_none v.actor account_then) all_then.counted v.pin v.entered None v.opens v.opening
-        (pin_same v.actor seat.low ∙ seat.pinned) (λ g e. (let x = seat.entered g e in (x.0, still_open id v at g e x.1, x.2))) (λ o e. absurd (idle_then o e)) (held id v at) (λ o e. absurd (idle_then o e))
+        (pin_same v.actor seat.low ∙ seat.pinned) (λ g e. (let x = seat.entered g e in (x.0, still_open id v at g e x.1, x.2))) (λ o e. absurd (idle_then o e)) (held id v at)
+        (λ o e. absurd (idle_then o e))
         (λ g slot o n. (let x = seat.opening g slot o n in record { low = x.low; fits = x.fits; is = named v g slot x ∙ x.is; free = x.free })) (λ b name free. spare_by id v b name at free)
 
     closed_says : (who : ℕ) → SaysClosing (root_code word.Closed) who → ⊥

@@ -1,6 +1,6 @@
 -- The exchange of an offer's first word that settles it is the operation's step, whether it finds it undecided or not.
 use Rattle.history.specs.declared.calls.Call.{Call}
-use Rattle.std.proofs.Common.{◌≡◌, ◌≢◌, ◌+◌, ◌*◌, ◌⊎◌, ◌==◌, ◌<◌, ◌||◌, ℕ, inl, inr, Bool, true, false, List, Contains, set, slice_index, Some, None, refl, sym, ap, subst, ◌∙◌, eq-eqb, ne_eqb, if◌then◌else◌}
+use Rattle.std.proofs.Common.{◌≡◌, ◌≢◌, ◌*◌, ◌==◌, ◌<◌, ◌||◌, ℕ, inl, inr, Bool, true, false, Contains, set, slice_index, Some, refl, sym, ap, subst, ◌∙◌, eq-eqb, ne_eqb, if◌then◌else◌}
 use Rattle.std.specs.Prelude.{◌&&◌}
 use Rattle.std.proofs.lemmas.Bool.{cases_eq}
 use Rattle.std.proofs.lemmas.Option.{same_Some}
@@ -11,7 +11,6 @@ use Rattle.atomic_table.specs.Table.{Me, Allows, step}
 use Rattle.atomic_table.specs.Table as Table
 use Rattle.history.specs.declared.calls.Access.TheVariants.{Writable}
 use Rattle.machine_model.specs.Beneath.slot_arena.specs.declared.refs.Ref.{Ref}
-use Rattle.machine_model.specs.Beneath.slot_arena.specs.Heaps.{no_ref}
 use Rattle.machine_model.specs.declared.actions.Action.{Action}
 use Rattle.machine_model.specs.declared.actions.Action.TheVariants as act
 use Rattle.machine_model.specs.declared.operations.Operation.{Operation}
@@ -20,19 +19,18 @@ use Rattle.machine_model.specs.declared.roots.RootWord.TheVariants.{Offer}
 use Rattle.machine_model.specs.Acting.{operation_after}
 use Rattle.machine_model.specs.Operations.{action_of}
 use Rattle.machine_model.specs.Calls.{handle_of}
-use Rattle.machine_model.specs.States.{State, operation_of, root_at, word_at, handle_limit}
+use Rattle.machine_model.specs.States.{State, root_at, word_at, handle_limit}
 use Rattle.machine_model.specs.Swapping.{stands_in, is_carried_out}
 use Rattle.lock_free.specs.declared.accounts.Account.{Account}
 use Rattle.lock_free.specs.declared.accounts.Known.{Known}
 use Rattle.lock_free.specs.declared.rules.View.{View}
 use Rattle.lock_free.specs.declared.sizes.Sizes.{Sizes}
 use Rattle.lock_free.specs.Accounts.{state_of, running, gone_on}
-use Rattle.lock_free.specs.Loading.{Moment, now, seen, IsAt, Runs, IsSound}
+use Rattle.lock_free.specs.Loading.{Moment, now, seen, IsAt, IsSound}
 use Rattle.lock_free.specs.OfferWords.{IsAtComplete, TookUnmarked, HasCompleted, has_completed, outcome_by, carried_by}
 use Rattle.lock_free.specs.Places.{words_of}
-use Rattle.lock_free.specs.Roots.{open_with, carried_out, taken_back, IsItsTry}
+use Rattle.lock_free.specs.Roots.{open_with, carried_out, IsItsTry}
 use Rattle.lock_free.specs.Rules.{IsSeat, IsKept}
-use Rattle.lock_free.specs.Settling.{Settles}
 use Rattle.lock_free.proofs.AbortStep.{known_there}
 use Rattle.lock_free.proofs.Exchanged.{words_then, words_hit, missed, sound_by}
 use Rattle.lock_free.proofs.Looking.{o_there, acts_there, same_action}
@@ -105,10 +103,9 @@ module _ (v : View) (k : Known) (main : Ref) (known : Contains v.account.offers 
 
     hits : found ≡ 0 → Settled
     hits e =
-        let settles = complete_settles v.sizes there kept.bounds v.actor o runs k main acts (stood e) expected test in
-        (
+        let settles = complete_settles v.sizes there kept.bounds v.actor o runs k main acts (stood e) expected test in (
           subst (λ ws. IsKept v.sizes (record { words = ws; homes = s.homes; views = set s.views id after })) (words_hit v s kept id at word 0 outcome e word refl)
-          (settle_kept v.sizes s kept id v at o runs outcome k here settles on e),
+              (settle_kept v.sizes s kept id v at o runs outcome k here settles on e),
           sound_by v s kept id at (gone_on v.actor there) kept.stands _ (all_then v.sizes s kept id v at o runs outcome k here settles on e),
         )
 
@@ -167,11 +164,14 @@ complete_told before slot expected a found then_view m after_is took =
     ran_runs : running before.sizes m.kept.account before.actor ran
     ran_runs = (o_there before (2 * a.its.slot) (slice_index m.table.words (2 * a.its.slot)) moment (act.Complete a.its.offer a.main) a.acts).1
 
-    tells_it : (offer : Descriptor) (main : Ref) (q : IsAt before (act.Complete offer main)) (operation : Operation) → running before.sizes m.kept.account before.actor operation → IsItsTry operation offer →
+    tells_it : (offer : Descriptor) (main : Ref) (q : IsAt before (act.Complete offer main)) (operation : Operation) → running before.sizes m.kept.account before.actor operation → IsItsTry
+        operation offer →
         (is_carried_out (word_at (now (seen before m.kept.account)) (handle_of operation.call)) offer main || operation.is_marked) ≡ carried_by found expected
     tells_it offer main q operation runs_it its =
         let both : (a.its.offer, a.main) ≡ (offer, main) = ap (λ x. parts_in x (offer, main)) (same_action before (act.Complete a.its.offer a.main) (act.Complete offer main) a.acts q) in
         let same_op : ran ≡ operation = same_Some ran operation (sym ran_runs ∙ runs_it) in
-        subst (λ (x : Descriptor × Ref). IsItsTry operation x.0 → (is_carried_out (word_at (now (seen before m.kept.account)) (handle_of operation.call)) x.0 x.1 || operation.is_marked) ≡ carried_by found expected) both
-        (subst (λ (x : Operation). IsItsTry x a.its.offer → (is_carried_out (word_at (now (seen before m.kept.account)) (handle_of x.call)) a.its.offer a.main || x.is_marked) ≡ carried_by found expected) same_op
-            (λ t. tells before a.its a.main a.here a.acts a.on expected a.test m.table m.kept m.id m.at t ∙ ap (λ n. carried_by n expected) finds)) its
+        subst (λ (x : Descriptor × Ref). IsItsTry operation x.0 → (is_carried_out (word_at (now (seen before m.kept.account)) (handle_of operation.call)) x.0 x.1 || operation.is_marked) ≡
+        carried_by found expected) both
+        (subst (λ (x : Operation). IsItsTry x a.its.offer → (is_carried_out (word_at (now (seen before m.kept.account)) (handle_of x.call)) a.its.offer a.main || x.is_marked) ≡ carried_by found
+        expected) same_op
+        (λ t. tells before a.its a.main a.here a.acts a.on expected a.test m.table m.kept m.id m.at t ∙ ap (λ n. carried_by n expected) finds)) its

@@ -65,13 +65,15 @@ module _ (sizes : Sizes) (s : Table.State Call View) (kept : IsKept sizes s) (id
   marks_then k c a o e its = elim (cases_eq a v.actor) [
     | inl own ↦ absurd (none-some o (sym ends.own ∙ ap (operation_of next) (sym own) ∙ e))
     | inr other ↦
-        marked_at now next a (same_try a other) k (fate words_then k) (fate s.words k) (root.fate_pinned sizes kept.account kept.stands s.words all v.actor seat.low most 0 k c) (kept.roots.marks k c a) o e its
+        marked_at now next a (same_try a other) k (fate words_then k) (fate s.words k) (root.fate_pinned sizes kept.account kept.stands s.words all v.actor seat.low most 0 k c)
+        (kept.roots.marks k c a) o e its
   ]
 
   all_then : AllStand sizes account_then kept.stands words_then
   all_then =
       root.all_left sizes kept.account (step.Go v.actor ∷ []) ends.leaves kept.stands words_then
-      (All-append FitsKey kept.account.steps (step.Go v.actor ∷ []) kept.keys (All-cons FitsKey (step.Go v.actor) [] tt (All-nil FitsKey))) (quiet_more kept.account.steps (step.Go v.actor) kept.quiet tt) ends.roots marks_then
+      (All-append FitsKey kept.account.steps (step.Go v.actor ∷ []) kept.keys (All-cons FitsKey (step.Go v.actor) [] tt (All-nil FitsKey)))
+      (quiet_more kept.account.steps (step.Go v.actor) kept.quiet tt) ends.roots marks_then
       (root.all_pinned sizes kept.account kept.stands s.words all v.actor seat.low most 0)
 
   root_then : (g : ℕ) → root_at next g ≡ root_at now g
@@ -117,7 +119,8 @@ module _ (sizes : Sizes) (s : Table.State Call View) (kept : IsKept sizes s) (id
   own_then =
       own_else sizes s kept id v at account_then kept.stands words_then stays account_then (waited_none v.actor account_then) all_then.counted None None v.closing opens None
       (root.at_p sizes kept.account kept.stands s.words all v.actor seat.low most 0) (λ g e. absurd (none-some g e)) (λ o e. absurd (none-some o (sym ends.own ∙ e)))
-      (λ g r. still_held g (seat.opens g (own_reserved g r.0))) (λ o e. absurd (none-some o (sym ends.own ∙ e))) (λ g slot o n. absurd (none-some slot n)) (λ b name free. stays_spare id v b name at free)
+      (λ g r. still_held g (seat.opens g (own_reserved g r.0))) (λ o e. absurd (none-some o (sym ends.own ∙ e))) (λ g slot o n. absurd (none-some slot n))
+      (λ b name free. stays_spare id v b name at free)
 
   reserves_else : (w : View) (g : ℕ) → w.actor ≢ v.actor → Reserves now w g → Reserves next w g
   reserves_else w g differs r = (r.0, unmarked_then now next w.actor (same_try w.actor differs) r.1)
@@ -145,5 +148,6 @@ module _ (sizes : Sizes) (s : Table.State Call View) (kept : IsKept sizes s) (id
   pub end_kept : IsKept sizes (record { words = words_then; homes = s.homes; views = set s.views id view_then })
   end_kept =
       assembled sizes s kept id v at view_then refl refl account_then kept.stands words_then all_then
-      (λ g who below says. closing_stays sizes s kept id v at view_then refl refl (λ h e. absurd (none-some h e)) refl g who (kept.closings g who below (subst (λ n. SaysClosing n who) (root_same g below) says))) own_then
+      (λ g who below says. closing_stays sizes s kept id v at view_then refl refl (λ h e. absurd (none-some h e)) refl g who
+      (kept.closings g who below (subst (λ n. SaysClosing n who) (root_same g below) says))) own_then
       (other_kept sizes s kept id v at account_then kept.stands words_then stays) (λ b name f. inl f) numbers_then

@@ -58,14 +58,16 @@ module _ (sizes : Sizes) (s : Table.State Call View) (kept : IsKept sizes s) (id
     pub seat_kept : ((g who : ℕ) → g < handle_limit → SaysClosing (slice_index s.words (root_word g)) who → IsClosing (set s.views id view_then) g who) →
         IsKept sizes (record { words = s.words; homes = s.homes; views = set s.views id view_then })
     seat_kept closings =
-        assembled sizes s kept id v at view_then refl refl kept.account kept.stands s.words (all_stand sizes s kept) closings own_then (other_kept sizes s kept id v at kept.account kept.stands s.words stays)
+        assembled sizes s kept id v at view_then refl refl kept.account kept.stands s.words (all_stand sizes s kept) closings own_then
+        (other_kept sizes s kept id v at kept.account kept.stands s.words stays)
         (λ b name f. inl f)
         (numbers_stay sizes s kept id v at view_then refl refl kept.account s.words (no_tries kept.account.offers now) (λ slot none. none) (λ g below. refl) refl (λ slot g e free. free))
 
   -- ---- entering
 
   -- the seat has pinned itself to the handle, runs nothing, and finds it open, with no mark that somebody would close it
-  module _ (handle : ℕ) (low : handle < handle_limit) (pin : Pin) (pinned : v.pin ≡ Some pin) (its : pin.handle ≡ handle) (idle : operation_of now v.actor ≡ None) (is_open : is_some (root_at now handle) ≡ true)
+  module _ (handle : ℕ) (low : handle < handle_limit) (pin : Pin) (pinned : v.pin ≡ Some pin) (its : pin.handle ≡ handle) (idle : operation_of now v.actor ≡ None)
+      (is_open : is_some (root_at now handle) ≡ true)
       (unmarked : (who : ℕ) → SaysClosing (slice_index s.words (root_word handle)) who → ⊥) where
     pub enter_kept : IsKept sizes (record { words = s.words; homes = s.homes; views = set s.views id (record v { entered = Some handle }) })
     enter_kept =
@@ -75,7 +77,8 @@ module _ (sizes : Sizes) (s : Table.State Call View) (kept : IsKept sizes s) (id
         (λ g who below says. elim (cases_eq g handle) [
           | inl same ↦ absurd (unmarked who (subst (λ n. SaysClosing (slice_index s.words (root_word n)) who) same says))
           | inr differs ↦
-              closing_at sizes s kept id v at (record v { entered = Some handle }) refl refl g who (λ e. absurd (differs (sym (same_Some handle g e)))) (λ c is this its. is) (kept.closings g who below says)
+              closing_at sizes s kept id v at (record v { entered = Some handle }) refl refl g who (λ e. absurd (differs (sym (same_Some handle g e)))) (λ c is this its. is)
+              (kept.closings g who below says)
         ])
 
   -- ---- closing
@@ -102,7 +105,8 @@ module _ (sizes : Sizes) (s : Table.State Call View) (kept : IsKept sizes s) (id
         | inl same ↦
             (let mine : h.view ≡ v = some-injective h.view v (sym h.at ∙ ap (λ n. get_elem? s.views n) same ∙ at) in
             let own : who ≡ v.actor = sym h.its ∙ ap (λ (x : View). x.actor) mine in
-            let looked_is : h.closing.looked ≡ looked = ap (λ (c : Closing). c.looked) (same_Some h.closing (record { handle = handle; looked = looked }) (sym h.is ∙ ap (λ (x : View). x.closing) mine ∙ closes)) in
+            let looked_is : h.closing.looked ≡ looked = ap (λ (c : Closing). c.looked)
+            (same_Some h.closing (record { handle = handle; looked = looked }) (sym h.is ∙ ap (λ (x : View). x.closing) mine ∙ closes)) in
             record {
               id = id;
               view = record v { closing = Some passed };
@@ -132,10 +136,12 @@ module _ (sizes : Sizes) (s : Table.State Call View) (kept : IsKept sizes s) (id
       pass_kept =
           seat_kept v.entered (Some passed) seat.entered seat.calls
           (λ g who below says. elim (cases_eq g handle) [
-            | inl same ↦ subst (λ n. IsClosing (set s.views id (record v { closing = Some passed })) n who) (sym same) (passing who (subst (λ n. IsClosing s.views n who) same (kept.closings g who below says)))
+            | inl same ↦ subst (λ n. IsClosing (set s.views id (record v { closing = Some passed })) n who) (sym same)
+                (passing who (subst (λ n. IsClosing s.views n who) same (kept.closings g who below says)))
             | inr differs ↦
                 closing_at sizes s kept id v at (record v { closing = Some passed }) refl refl g who (λ e. e)
-                (λ c is this its. absurd (differs (sym this ∙ ap (λ (x : Closing). x.handle) (same_Some c (record { handle = handle; looked = looked }) (sym is ∙ closes))))) (kept.closings g who below says)
+                (λ c is this its. absurd (differs (sym this ∙ ap (λ (x : Closing). x.handle) (same_Some c (record { handle = handle; looked = looked }) (sym is ∙ closes)))))
+                (kept.closings g who below says)
           ])
 
     -- the closer finds its mark gone
@@ -145,5 +151,6 @@ module _ (sizes : Sizes) (s : Table.State Call View) (kept : IsKept sizes s) (id
           seat_kept v.entered None seat.entered seat.calls
           (λ g who below says.
           closing_at sizes s kept id v at (record v { closing = None }) refl refl g who (λ e. e)
-          (λ c is this its. absurd (gone (subst (λ n. SaysClosing (slice_index s.words (root_word n)) v.actor) (sym this ∙ ap (λ (x : Closing). x.handle) (same_Some c (record { handle = handle; looked = looked }) (sym is ∙ closes)))
+          (λ c is this its. absurd (gone (subst (λ n. SaysClosing (slice_index s.words (root_word n)) v.actor)
+          (sym this ∙ ap (λ (x : Closing). x.handle) (same_Some c (record { handle = handle; looked = looked }) (sym is ∙ closes)))
           (subst (λ n. SaysClosing (slice_index s.words (root_word g)) n) (sym its) says)))) (kept.closings g who below says))

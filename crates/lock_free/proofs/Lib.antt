@@ -53,7 +53,7 @@ mod Tries
 mod Settled
 mod Rewritten
 mod Entering
-mod Handles
+mod OpenHandles
 mod Pinning
 mod Ended
 mod Begun
@@ -63,3 +63,4 @@ mod Stood
 mod Allowed
 mod AbortStep
 mod CompleteStep
+mod SeenRoots

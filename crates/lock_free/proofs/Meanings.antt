@@ -62,11 +62,13 @@ pub means_kept : (account later : Account) (before after : List ℕ) (handle : �
     ((access : Access) (q : Ref) → r ≡ open_with access (Plain q) → place_of later q ≡ place_of account q) →
     ((k : Known) → Contains account.offers k → Contains later.offers k × (fate after k ≡ fate before k)) → ((slot : ℕ) → NoOffer account slot → NoOffer later slot) → (found : ℕ) →
     MeansRoot account before handle found r → MeansRoot later after handle found r
-means_kept account later before after handle r places offers none found = means_then account later before after handle found r places (λ k c is says. offers k c) (λ k c is. offers k c) (λ slot is fits h closed. inr (none slot h))
+means_kept account later before after handle r places offers none found = means_then account later before after handle found r places (λ k c is says. offers k c) (λ k c is. offers k c)
+    (λ slot is fits h closed. inr (none slot h))
 
 -- ---- offers that stood
 
-pub stood_still : (sizes : Sizes) (account later : Account) (steps : List Step) → later.steps ≡ account.steps ++ steps → (offer : Descriptor) → HasStood sizes account offer → HasStood sizes later offer
+pub stood_still : (sizes : Sizes) (account later : Account) (steps : List Step) → later.steps ≡ account.steps ++ steps → (offer : Descriptor) → HasStood sizes account offer → HasStood sizes later
+    offer
 stood_still sizes account later steps goes_on offer h = record {
   steps = h.steps;
   more = h.more ++ steps;
@@ -78,7 +80,8 @@ stood_still sizes account later steps goes_on offer h = record {
 -- ---- offers that stand
 
 -- where no word of a handle changes
-pub pending_kept : (before after : List ℕ) (k : Known) → ((handle : ℕ) → handle < handle_limit → slice_index after (root_word handle) ≡ slice_index before (root_word handle)) → IsPending before k → IsPending after k
+pub pending_kept : (before after : List ℕ) (k : Known) → ((handle : ℕ) → handle < handle_limit → slice_index after (root_word handle) ≡ slice_index before (root_word handle)) → IsPending before
+    k → IsPending after k
 pending_kept before after k same h = record {
   low = h.low;
   stands = same k.handle h.low ∙ h.stands;
@@ -141,7 +144,8 @@ module _ (offers : List Known) (before after : State) where
     ],
   )
 
-  pub marks_kept : KeepsTries offers before after → (words later : List ℕ) → ((k : Known) → Contains offers k → fate later k ≡ fate words k) → AreMarked before words offers → AreMarked after later offers
+  pub marks_kept : KeepsTries offers before after → (words later : List ℕ) → ((k : Known) → Contains offers k → fate later k ≡ fate words k) → AreMarked before words offers → AreMarked after later
+      offers
   marks_kept (as_before tries) words later fates h k c a o e its = marked_at before after a (tries a) k (fate later k) (fate words k) (fates k c) (h k c a) o e its
   marks_kept (anew actor t) words later fates h k c a o e its = elim (cases_eq a actor) [
     | inl own ↦ absurd (t.fresh k c (subst (λ x. IsItsTry x k.offer) (same_Some o t.now (sym e ∙ ap (operation_of after) own ∙ t.runs)) its))

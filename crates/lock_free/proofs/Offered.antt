@@ -1,6 +1,7 @@
 -- An exchange of a handle's word brings an offer to stand.
 use Rattle.history.specs.declared.calls.Call.{Call}
-use Rattle.std.proofs.Common.{◌≡◌, ◌≢◌, ◌+◌, ◌*◌, ◌⊎◌, ◌^◌, ℕ, ◌<◌, ◌≤◌, inl, inr, true, List, [], ◌∷◌, ◌++◌, Contains, set, slice_index, is_some, Some, None, refl, sym, ap, subst, ◌∙◌, arith, append-nil}
+use Rattle.std.proofs.Common.{◌≡◌, ◌≢◌, ◌+◌, ◌*◌, ◌⊎◌, ◌^◌, ℕ, ◌<◌, ◌≤◌, inl, inr, true, List, [], ◌∷◌, ◌++◌, Contains, set, slice_index, is_some, Some, None, refl, sym, ap, subst, ◌∙◌, arith}
+use Rattle.std.proofs.Common.{append-nil}
 use Rattle.std.specs.Prelude.{option_map, ◌==◌}
 use Rattle.std.proofs.lemmas.Bool.{cases_eq}
 use Rattle.std.proofs.lemmas.Option.{same_Some, none-some}
@@ -116,7 +117,8 @@ module _ (sizes : Sizes) (s : Table.State Call View) (kept : IsKept sizes s) (id
   -- ---- what words of handles mean
 
   -- who waits for the slot's offer is this seat, and it is to open the handle
-  opens_this : (g found_slot : ℕ) → g < handle_limit → IsRootWord (word.Opening found_slot) → slice_index s.words (root_word g) ≡ root_code (word.Opening found_slot) → NoOffer kept.account found_slot → found_slot ≡ slot →
+  opens_this : (g found_slot : ℕ) → g < handle_limit → IsRootWord (word.Opening found_slot) → slice_index s.words (root_word g) ≡ root_code (word.Opening found_slot) → NoOffer kept.account
+      found_slot → found_slot ≡ slot →
       offer.opens ≡ Some g
   opens_this g found_slot below in_range is nothing same =
       let o = kept.openings g found_slot below in_range is nothing in
@@ -124,7 +126,8 @@ module _ (sizes : Sizes) (s : Table.State Call View) (kept : IsKept sizes s) (id
       let view_is : o.view ≡ v = some-injective o.view v (sym o.at ∙ ap (λ n. get_elem? s.views n) mine ∙ at) in
       offers.opens ∙ sym (seat.reserves operation runs) ∙ ap (λ (x : View). x.opens) (sym view_is) ∙ o.reserves.0
 
-  names : (g found_slot : ℕ) → g < handle_limit → slice_index s.words (root_word g) ≡ root_code (word.Opening found_slot) → IsRootWord (word.Opening found_slot) → NoOffer kept.account found_slot → root_at now g ≡ None →
+  names : (g found_slot : ℕ) → g < handle_limit → slice_index s.words (root_word g) ≡ root_code (word.Opening found_slot) → IsRootWord (word.Opening found_slot) → NoOffer kept.account found_slot →
+      root_at now g ≡ None →
       SaysOpening account_then words_then g found_slot (root_at now g) ⊎ NoOffer account_then found_slot
   names g found_slot below is in_range nothing closed = elim (cases_eq found_slot slot) [
     | inl same ↦ inl (record {
@@ -143,7 +146,8 @@ module _ (sizes : Sizes) (s : Table.State Call View) (kept : IsKept sizes s) (id
   means_else : (g : ℕ) → g < handle_limit → MeansRoot account_then words_then g (slice_index s.words (root_word g)) (root_at now g)
   means_else g below =
       means_then kept.account account_then s.words words_then g (slice_index s.words (root_word g)) (root_at now g) (λ access q is. refl)
-      (λ k c is says. (more_there new kept.account.offers k c, fate_old k c)) (λ k c opens. (more_there new kept.account.offers k c, fate_old k c)) (λ found_slot is in_range nothing closed. names g found_slot below is in_range nothing closed) (kept.roots.means g below)
+      (λ k c is says. (more_there new kept.account.offers k c, fate_old k c)) (λ k c opens. (more_there new kept.account.offers k c, fate_old k c))
+      (λ found_slot is in_range nothing closed. names g found_slot below is in_range nothing closed) (kept.roots.means g below)
 
   means_here : MeansRoot account_then words_then handle (root_code (word.Offered slot)) (root_at next handle)
   means_here = record {
@@ -265,8 +269,10 @@ module _ (sizes : Sizes) (s : Table.State Call View) (kept : IsKept sizes s) (id
     | inr old ↦
         (let before = sym (fate_old k old) ∙ stands in
         root.pending_rooted sizes kept.account kept.stands s.words all handle low (root_code (word.Offered slot)) k
-        (λ is. not_plain k.offer Writable offer.root (sym (offered_is sizes kept.account s.words kept.roots handle low k old (old_fits k old) is ∙ ap (λ n. open_with Writable (meant n k.offer)) before) ∙ offers.stood))
-        (λ is. not_open handle ((opening_is sizes kept.account s.words kept.roots handle low k old (old_fits k old) is).1 ∙ ap (λ n. opened_by n k.offer) before) refl) (kept.roots.pending k old before))
+        (λ is. not_plain k.offer Writable offer.root (sym (offered_is sizes kept.account s.words kept.roots handle low k old (old_fits k old) is ∙ ap (λ n. open_with Writable (meant n k.offer))
+        before) ∙ offers.stood))
+        (λ is. not_open handle ((opening_is sizes kept.account s.words kept.roots handle low k old (old_fits k old) is).1 ∙ ap (λ n. opened_by n k.offer) before) refl)
+        (kept.roots.pending k old before))
   ]
 
   -- ---- all that stands
@@ -328,7 +334,8 @@ module _ (sizes : Sizes) (s : Table.State Call View) (kept : IsKept sizes s) (id
     waits = waits;
     others = λ a differs. ran_so now next a (offers.others a differs);
     pins = λ a positive most apart. pin_same a positive;
-    named = λ other w e apart g found_slot o x. root_beside g (not_open g (later_is sizes kept.account s.words kept.roots g x.low found_slot x.fits x.is ((kept.seats other w e).spare 1 found_slot x.free).1.1));
+    named = λ other w e apart g found_slot o x. root_beside g (not_open g
+        (later_is sizes kept.account s.words kept.roots g x.low found_slot x.fits x.is ((kept.seats other w e).spare 1 found_slot x.free).1.1));
     numbers = λ other w e apart. held other w e;
     still_open = λ other w at_w g inside e. open_still g e;
     taken = still_taken;
@@ -340,7 +347,8 @@ module _ (sizes : Sizes) (s : Table.State Call View) (kept : IsKept sizes s) (id
 
   own_then : IsSeat sizes account_then kept.stands words_then view_then
   own_then =
-      own_kept sizes s kept id v at account_then kept.stands words_then stays operation (operation_after now operation) runs offers.own refl refl (held id v at) all_then.counted (pin_same v.actor seat.low) view_then.pool None (λ g n o e. absurd (none-some n e)) []
+      own_kept sizes s kept id v at account_then kept.stands words_then stays operation (operation_after now operation) runs offers.own refl refl (held id v at) all_then.counted
+      (pin_same v.actor seat.low) view_then.pool None (λ g n o e. absurd (none-some n e)) []
       (λ b name f. (let before = spending.was_free sizes s kept id v at 1 medium slot rest pool b name f.0 f.1 in
       let x = seat.spare b name before.0 in (still_taken b name f.0 x.0, spare_then name before.1 x.1)))
       (spending.once_then sizes s kept id v at 1 medium slot rest pool) (λ d c. absurd (omega (arith, c.1)))
@@ -355,14 +363,23 @@ module _ (sizes : Sizes) (s : Table.State Call View) (kept : IsKept sizes s) (id
       not_closing (inl h) = let wrong = same_kind (word.Offered slot) (word.ClosingWritable h.0 who) fits h.1 h.2 in omega (arith, wrong)
       not_closing (inr h) = let wrong = same_kind (word.Offered slot) (word.ClosingReadOnly h.0 who) fits h.1 h.2 in omega (arith, wrong)
 
-  openings_then : (g found_slot : ℕ) → g < handle_limit → IsRootWord (word.Opening found_slot) → slice_index words_then (root_word g) ≡ root_code (word.Opening found_slot) → NoOffer account_then found_slot →
+  openings_then : (g found_slot : ℕ) → g < handle_limit → IsRootWord (word.Opening found_slot) → slice_index words_then (root_word g) ≡ root_code (word.Opening found_slot) → NoOffer account_then
+      found_slot →
       IsOpening next (set s.views id view_then) g found_slot
   openings_then g found_slot below in_range is nothing = elim (cases_eq g handle) [
     | inl same ↦
-        (let wrong = same_kind (word.Offered slot) (word.Opening found_slot) fits in_range (sym root_here ∙ ap (λ n. slice_index words_then (root_word n)) (sym same) ∙ is) in absurd (omega (arith, wrong)))
+        (let wrong = same_kind (word.Offered slot) (word.Opening found_slot) fits in_range (sym root_here ∙ ap (λ n. slice_index words_then (root_word n)) (sym same) ∙ is) in absurd
+        (omega (arith, wrong)))
     | inr differs ↦
         opening_stays sizes s kept id v at view_then refl refl next g found_slot
-        (λ r f. (reserves_on kept.account.offers now next keeps v g r, (medium, spending.still_free sizes s kept id v at 1 medium slot rest pool 1 found_slot (λ same. nothing new (first_there new kept.account.offers) (sym same)) f))) (λ other w e apart f r. reserves_on kept.account.offers now next keeps w g r)
+        (λ r f. (
+          reserves_on kept.account.offers now next keeps v g r,
+          (
+            medium,
+            spending.still_free sizes s kept id v at 1 medium slot rest pool 1 found_slot
+                (λ same. nothing new (first_there new kept.account.offers) (sym same)) f,
+          ),
+        )) (λ other w e apart f r. reserves_on kept.account.offers now next keeps w g r)
         (kept.openings g found_slot below in_range (sym (root_beside g differs) ∙ is) (λ k c. nothing k (more_there new kept.account.offers k c)))
   ]
 

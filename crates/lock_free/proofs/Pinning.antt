@@ -17,7 +17,8 @@ use Rattle.lock_free.proofs.Meanings.{no_tries}
 use Rattle.lock_free.proofs.RootSteps as root
 use Rattle.lock_free.proofs.Seats.{ran_so, Stays, StaysSpare, other_kept, names_kept, own_else}
 
-module _ (sizes : Sizes) (s : Table.State Call View) (kept : IsKept sizes s) (id : ℕ) (v : View) (at : get_elem? s.views id ≡ some v) (idle : operation_of (state_of sizes kept.account) v.actor ≡ None) (pin : Option Pin) where
+module _ (sizes : Sizes) (s : Table.State Call View) (kept : IsKept sizes s) (id : ℕ) (v : View) (at : get_elem? s.views id ≡ some v)
+    (idle : operation_of (state_of sizes kept.account) v.actor ≡ None) (pin : Option Pin) where
   abbrev all : AllStand sizes kept.account kept.stands s.words
   all = all_stand sizes s kept
 
@@ -61,7 +62,8 @@ module _ (sizes : Sizes) (s : Table.State Call View) (kept : IsKept sizes s) (id
   own_then : IsSeat sizes kept.account kept.stands words_then view_then
   own_then =
       own_else sizes s kept id v at kept.account kept.stands words_then stays v.account seat.waited seat.counts pin None v.closing v.opens v.opening
-      (root.at_p sizes kept.account kept.stands s.words all v.actor seat.low most (pin_word_of pin)) (λ g e. absurd (none-some g e)) (λ o e. absurd (none-some o (sym idle ∙ e))) (held id v at) seat.reserves
+      (root.at_p sizes kept.account kept.stands s.words all v.actor seat.low most (pin_word_of pin)) (λ g e. absurd (none-some g e)) (λ o e. absurd (none-some o (sym idle ∙ e))) (held id v at)
+      seat.reserves
       (λ g slot o n. (let x = seat.opening g slot o n in names_kept sizes s kept id v at kept.account kept.stands words_then stays v view_then g slot x (root_same g x.low) x.free))
       (λ b name free. stays_spare id v b name at free)
 
@@ -70,6 +72,7 @@ module _ (sizes : Sizes) (s : Table.State Call View) (kept : IsKept sizes s) (id
   pin_kept =
       assembled sizes s kept id v at view_then refl refl kept.account kept.stands words_then
       (root.all_pinned sizes kept.account kept.stands s.words all v.actor seat.low most (pin_word_of pin))
-      (λ g who below says. closing_stays sizes s kept id v at view_then refl refl (λ h e. absurd (none-some h e)) refl g who (kept.closings g who below (subst (λ n. SaysClosing n who) (root_same g below) says))) own_then
+      (λ g who below says. closing_stays sizes s kept id v at view_then refl refl (λ h e. absurd (none-some h e)) refl g who
+      (kept.closings g who below (subst (λ n. SaysClosing n who) (root_same g below) says))) own_then
       (other_kept sizes s kept id v at kept.account kept.stands words_then stays) (λ b name f. inl f)
       (numbers_stay sizes s kept id v at view_then refl refl kept.account words_then (no_tries kept.account.offers now) (λ slot none. none) root_same refl (λ slot g e free. free))

@@ -1,6 +1,6 @@
 -- A seat stores the word of the number that it has reserved: it names the offer that is to open the handle, or gives the number back.
 use Rattle.history.specs.declared.calls.Call.{Call}
-use Rattle.std.proofs.Common.{◌≡◌, ◌≢◌, ◌^◌, ℕ, ◌<◌, ◌≤◌, inl, inr, false, List, Contains, set, slice_index, Option, Some, None, refl, sym, ap, subst, ◌∙◌, arith}
+use Rattle.std.proofs.Common.{◌≡◌, ◌≢◌, ◌^◌, ℕ, ◌<◌, ◌≤◌, inl, inr, List, Contains, set, slice_index, Option, Some, None, refl, sym, ap, subst, ◌∙◌, arith}
 use Rattle.std.proofs.lemmas.Bool.{cases_eq}
 use Rattle.std.proofs.lemmas.Option.{none-some, same_Some}
 use mathlib.Core.Option.{some, some-injective}
@@ -30,8 +30,10 @@ use Rattle.lock_free.proofs.Seats.{ran_so, Stays, StaysSpare, other_kept, own_el
 
 -- ---- no offer stands that opens the seat's number, but its own operation's
 
-module _ (sizes : Sizes) (s : Table.State Call View) (kept : IsKept sizes s) (owners : (h : ℕ) (offer : Descriptor) → root_at (state_of sizes kept.account) h ≡ open_with Writable (Offer offer) → HasOwner (state_of sizes kept.account) offer) where
-  pub own_pending : (id : ℕ) (v : View) → get_elem? s.views id ≡ some v → (o : ℕ) → Reserves (state_of sizes kept.account) v o → (k : Known) → Contains kept.account.offers k → fate s.words k ≡ undecided →
+module _ (sizes : Sizes) (s : Table.State Call View) (kept : IsKept sizes s)
+    (owners : (h : ℕ) (offer : Descriptor) → root_at (state_of sizes kept.account) h ≡ open_with Writable (Offer offer) → HasOwner (state_of sizes kept.account) offer) where
+  pub own_pending : (id : ℕ) (v : View) → get_elem? s.views id ≡ some v → (o : ℕ) → Reserves (state_of sizes kept.account) v o → (k : Known) → Contains kept.account.offers k → fate s.words k ≡
+      undecided →
       k.offer.opens ≡ Some o → (operation : Operation) × (operation_of (state_of sizes kept.account) v.actor ≡ Some operation)
   own_pending id v at o r k c stands opens =
       let p = kept.roots.pending k c stands in
@@ -39,8 +41,11 @@ module _ (sizes : Sizes) (s : Table.State Call View) (kept : IsKept sizes s) (ow
       let owner = owners k.handle k.offer (offered_is sizes kept.account s.words kept.roots k.handle p.low k c fits p.stands ∙ ap (λ n. open_with Writable (meant n k.offer)) stands) in
       let seat = kept.runners owner.actor owner.operation owner.runs in
       let runs : operation_of (state_of sizes kept.account) seat.view.actor ≡ Some owner.operation = ap (operation_of (state_of sizes kept.account)) seat.its ∙ owner.runs in
-      let reserves : Reserves (state_of sizes kept.account) seat.view o =
-      ((kept.seats seat.id seat.view seat.at).reserves owner.operation runs ∙ owner.opens ∙ opens, λ p e. ap (λ (x : Operation). x.is_marked) (same_Some p owner.operation (sym e ∙ runs)) ∙ owner.unmarked) in
+      let reserves : Reserves (state_of sizes kept.account) seat.view o = (
+        (kept.seats seat.id seat.view seat.at).reserves owner.operation runs ∙ owner.opens ∙ opens,
+        λ p e. ap (λ (x : Operation). x.is_marked) (same_Some p owner.operation (sym e ∙ runs)) ∙
+            owner.unmarked,
+      ) in
       let same : seat.id ≡ id = kept.numbers seat.id id seat.view v o seat.at at reserves r in
       let view_is : seat.view ≡ v = some-injective seat.view v (sym seat.at ∙ ap (λ n. get_elem? s.views n) same ∙ at) in
       (owner.operation, ap (λ (x : View). operation_of (state_of sizes kept.account) x.actor) (sym view_is) ∙ runs)
@@ -130,7 +135,8 @@ module _ (sizes : Sizes) (s : Table.State Call View) (kept : IsKept sizes s) (id
       own_by : (numbers : (g : ℕ) → Reserves now view_then g → IsHeld now words_then g) → ((p : Operation) → operation_of now v.actor ≡ Some p → opens ≡ p.opens) →
           ((g slot : ℕ) → opens ≡ Some g → opening ≡ Some slot → Names words_then view_then g slot) → IsSeat sizes kept.account kept.stands words_then view_then
       own_by numbers reserves_then names =
-          own_else sizes s kept id v at kept.account kept.stands words_then stays v.account seat.waited seat.counts v.pin v.entered v.closing opens opening (pin_same v.actor seat.low ∙ seat.pinned) seat.entered seat.calls
+          own_else sizes s kept id v at kept.account kept.stands words_then stays v.account seat.waited seat.counts v.pin v.entered v.closing opens opening
+          (pin_same v.actor seat.low ∙ seat.pinned) seat.entered seat.calls
           numbers reserves_then names (λ b name free. stays_spare id v b name at free)
 
   -- ---- the offer that is to open it is named
@@ -166,12 +172,20 @@ module _ (sizes : Sizes) (s : Table.State Call View) (kept : IsKept sizes s) (id
         subst (λ n. Names named_words naming n x) (same_Some o g (sym reserves.0 ∙ p))
         (subst (λ n. Names named_words naming o n) (same_Some slot x e) (record { low = its_held.low; fits = fits_slot; is = here_is; free = free }))
 
-    openings_named : (g x : ℕ) → g < handle_limit → IsRootWord (word.Opening x) → slice_index named_words (root_word g) ≡ root_code (word.Opening x) → NoOffer kept.account x → IsOpening now (set s.views id naming) g x
+    openings_named : (g x : ℕ) → g < handle_limit → IsRootWord (word.Opening x) → slice_index named_words (root_word g) ≡ root_code (word.Opening x) → NoOffer kept.account x → IsOpening now
+        (set s.views id naming) g x
     openings_named g x below fits is nothing = elim (cases_eq g o) [
       | inl same ↦
           (let code = sym here_is ∙ ap (λ n. slice_index named_words (root_word n)) (sym same) ∙ is in
           let which : slot ≡ x = omega (arith, code) in
-          record { id = id; view = naming; at = here sizes s kept id v at naming refl refl; reserves = subst (λ n. Reserves now naming n) (sym same) reserves; free = subst (λ n. IsFree v 1 n) which free })
+          record {
+            id = id;
+            view = naming;
+            at = here sizes s kept id v at naming refl refl;
+            reserves = subst (λ n. Reserves now naming n) (sym same) reserves;
+            free = subst (λ n. IsFree v 1 n)
+                which free;
+          })
       | inr differs ↦
           opening_stays sizes s kept id v at naming refl refl now g x (λ r f. (r, f)) (λ other w e apart f r. r)
           (kept.openings g x below fits (sym (root_beside (word.Opening slot) fits_slot few g differs) ∙ is) nothing)
@@ -201,10 +215,12 @@ module _ (sizes : Sizes) (s : Table.State Call View) (kept : IsKept sizes s) (id
     all_free =
         root.all_rooted sizes kept.account kept.stands s.words all o its_held.low (root_code word.Closed) (record { what = word.Closed; fits = tt; code = refl; says = its_held.closed }) unnamed
 
-    openings_free : (g x : ℕ) → g < handle_limit → IsRootWord (word.Opening x) → slice_index free_words (root_word g) ≡ root_code (word.Opening x) → NoOffer kept.account x → IsOpening now (set s.views id freeing) g x
+    openings_free : (g x : ℕ) → g < handle_limit → IsRootWord (word.Opening x) → slice_index free_words (root_word g) ≡ root_code (word.Opening x) → NoOffer kept.account x → IsOpening now
+        (set s.views id freeing) g x
     openings_free g x below fits is nothing = elim (cases_eq g o) [
       | inl same ↦
-          (let wrong = same_kind word.Closed (word.Opening x) tt fits (sym (root_here word.Closed tt low_kind) ∙ ap (λ n. slice_index free_words (root_word n)) (sym same) ∙ is) in absurd (omega (arith, wrong)))
+          (let wrong = same_kind word.Closed (word.Opening x) tt fits (sym (root_here word.Closed tt low_kind) ∙ ap (λ n. slice_index free_words (root_word n)) (sym same) ∙ is) in absurd
+          (omega (arith, wrong)))
       | inr differs ↦
           opening_stays sizes s kept id v at freeing refl refl now g x (λ r f. absurd (differs (same_Some g o (sym r.0 ∙ reserves.0)))) (λ other w e apart f r. r)
           (kept.openings g x below fits (sym (root_beside word.Closed tt low_kind g differs) ∙ is) nothing)

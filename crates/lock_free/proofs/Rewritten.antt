@@ -39,7 +39,8 @@ pub data IsPlainWord (access : Access) (place : ℕ) : HandleWord → Type 0 whe
   is_closing_writable : access ≡ Writable → (seat : ℕ) → IsPlainWord access place (word.ClosingWritable place seat)
   is_closing_read_only : access ≡ ReadOnly → (seat : ℕ) → IsPlainWord access place (word.ClosingReadOnly place seat)
 
-module _ (sizes : Sizes) (s : Table.State Call View) (kept : IsKept sizes s) (id : ℕ) (v : View) (at : get_elem? s.views id ≡ some v) (handle : ℕ) (low : handle < handle_limit) (access : Access) (q : Ref)
+module _ (sizes : Sizes) (s : Table.State Call View) (kept : IsKept sizes s) (id : ℕ) (v : View) (at : get_elem? s.views id ≡ some v) (handle : ℕ) (low : handle < handle_limit) (access : Access)
+    (q : Ref)
     (plain : root_at (state_of sizes kept.account) handle ≡ open_with access (Plain q)) (w : HandleWord) (fits : IsRootWord w) (is : IsPlainWord access (place_of kept.account q) w) where
   abbrev all : AllStand sizes kept.account kept.stands s.words
   all = all_stand sizes s kept
@@ -110,7 +111,8 @@ module _ (sizes : Sizes) (s : Table.State Call View) (kept : IsKept sizes s) (id
     waits = λ actor first differs h. h;
     others = λ a differs. ran_so now now a refl;
     pins = λ a positive most apart. pin_same a positive;
-    named = λ other u e apart handle_of_it found_slot o x. root_beside handle_of_it (not_closed handle_of_it (later_is sizes kept.account s.words kept.roots handle_of_it x.low found_slot x.fits x.is ((kept.seats other u e).spare 1 found_slot x.free).1.1));
+    named = λ other u e apart handle_of_it found_slot o x. root_beside handle_of_it
+        (not_closed handle_of_it (later_is sizes kept.account s.words kept.roots handle_of_it x.low found_slot x.fits x.is ((kept.seats other u e).spare 1 found_slot x.free).1.1));
     numbers = λ other w e apart. held other w e;
     still_open = λ other w at_w g inside e. e;
     taken = root.taken_rooted sizes kept.account kept.stands s.words all handle low (root_code w);
@@ -126,14 +128,17 @@ module _ (sizes : Sizes) (s : Table.State Call View) (kept : IsKept sizes s) (id
 
     own_then : IsSeat sizes kept.account kept.stands words_then view_then
     own_then =
-        own_else sizes s kept id v at kept.account kept.stands words_then stays v.account seat.waited seat.counts v.pin entered closing v.opens v.opening (pin_same v.actor seat.low ∙ seat.pinned) inside calls (held id v at)
+        own_else sizes s kept id v at kept.account kept.stands words_then stays v.account seat.waited seat.counts v.pin entered closing v.opens v.opening (pin_same v.actor seat.low ∙ seat.pinned)
+        inside calls (held id v at)
         seat.reserves (λ g slot o n. (let x = seat.opening g slot o n in names_kept sizes s kept id v at kept.account kept.stands words_then stays v view_then g slot x (stays_named g slot x) x.free))
         (λ b name free. stays_spare id v b name at free)
 
-    openings_then : (g slot : ℕ) → g < handle_limit → IsRootWord (word.Opening slot) → slice_index words_then (root_word g) ≡ root_code (word.Opening slot) → NoOffer kept.account slot → IsOpening now (set s.views id view_then) g slot
+    openings_then : (g slot : ℕ) → g < handle_limit → IsRootWord (word.Opening slot) → slice_index words_then (root_word g) ≡ root_code (word.Opening slot) → NoOffer kept.account slot → IsOpening
+        now (set s.views id view_then) g slot
     openings_then g slot below in_range found nothing = elim (cases_eq g handle) [
       | inl same ↦ absurd (not_opening w is (same_kind w (word.Opening slot) fits in_range (sym root_here ∙ ap (λ n. slice_index words_then (root_word n)) (sym same) ∙ found)))
-      | inr differs ↦ opening_stays sizes s kept id v at view_then refl refl now g slot (λ r f. (r, f)) (λ other x e apart f r. r) (kept.openings g slot below in_range (sym (root_beside g differs) ∙ found) nothing)
+      | inr differs ↦ opening_stays sizes s kept id v at view_then refl refl now g slot (λ r f. (r, f)) (λ other x e apart f r. r)
+          (kept.openings g slot below in_range (sym (root_beside g differs) ∙ found) nothing)
     ]
 
     numbers_then : Numbers sizes s kept id v at view_then refl refl kept.account words_then
@@ -148,5 +153,6 @@ module _ (sizes : Sizes) (s : Table.State Call View) (kept : IsKept sizes s) (id
     pub rewrite_kept : ((g who : ℕ) → g < handle_limit → SaysClosing (slice_index words_then (root_word g)) who → IsClosing (set s.views id view_then) g who) →
         IsKept sizes (record { words = words_then; homes = s.homes; views = set s.views id view_then })
     rewrite_kept closings =
-        assembled sizes s kept id v at view_then refl refl kept.account kept.stands words_then all_then closings own_then (other_kept sizes s kept id v at kept.account kept.stands words_then stays) (λ b name f. inl f)
+        assembled sizes s kept id v at view_then refl refl kept.account kept.stands words_then all_then closings own_then
+        (other_kept sizes s kept id v at kept.account kept.stands words_then stays) (λ b name f. inl f)
         numbers_then

@@ -1,5 +1,5 @@
 -- What a handle's root is where its word says this.
-use Rattle.std.proofs.Common.{◌≡◌, ◌≢◌, ◌*◌, ◌⊎◌, ◌^◌, ℕ, ◌<◌, inl, inr, Bool, true, false, List, Contains, slice_index, Option, Some, None, refl, sym, ap, subst, ◌∙◌, arith}
+use Rattle.std.proofs.Common.{◌≡◌, ◌*◌, ◌⊎◌, ◌^◌, ℕ, ◌<◌, inl, inr, Bool, true, false, List, Contains, slice_index, Option, Some, None, refl, sym, ap, subst, ◌∙◌, arith}
 use Rattle.trie_words.specs.Codes.{root_code, IsRootWord}
 use Rattle.trie_words.specs.declared.roots.RootWord.{RootWord as HandleWord}
 use Rattle.trie_words.specs.declared.roots.RootWord.TheVariants as word
@@ -40,7 +40,8 @@ slot_fits sizes words range have slot taken =
     let is = inside sizes words have 1 slot (2 * slot) (omega arith) taken (record { low = omega arith; high = omega arith }) in
     omega (arith, within, is)
 
-pub says_of : (account : Account) (words : List ℕ) (handle found : ℕ) (r : Option Root) → MeansRoot account words handle found r → (w : HandleWord) → IsRootWord w → found ≡ root_code w → SaysRoot account words handle w r
+pub says_of : (account : Account) (words : List ℕ) (handle found : ℕ) (r : Option Root) → MeansRoot account words handle found r → (w : HandleWord) → IsRootWord w → found ≡ root_code w → SaysRoot
+    account words handle w r
 says_of account words handle found r h w fits is = subst (λ x. SaysRoot account words handle x r) (same_word h.what w h.fits fits (sym h.code ∙ is)) h.says
 
 module _ (sizes : Sizes) (account : Account) (words : List ℕ) (roots : RootsStand sizes account words) (handle : ℕ) (low : handle < handle_limit) where

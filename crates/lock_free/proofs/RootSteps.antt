@@ -1,5 +1,5 @@
 -- Steps that change no node, and stores to words of handles.
-use Rattle.std.proofs.Common.{◌≡◌, ◌≢◌, ◌+◌, ℕ, ◌<◌, ◌≤◌, inl, inr, List, ◌++◌, Contains, length, set, get_or, slice_index, Option, None, refl, sym, ap, subst, ◌∙◌, arith, length-set}
+use Rattle.std.proofs.Common.{◌≡◌, ◌≢◌, ℕ, ◌<◌, ◌≤◌, inl, inr, List, ◌++◌, Contains, length, set, get_or, slice_index, Option, None, refl, sym, ap, subst, ◌∙◌, arith, length-set}
 use Rattle.std.proofs.lemmas.Bool.{cases_eq}
 use Rattle.std.proofs.lemmas.List.{get_or-set_same}
 use Rattle.trie_words.specs.Codes.{root_code}
@@ -28,7 +28,8 @@ use Rattle.lock_free.proofs.Meanings.{stood_still}
 
 -- ---- a step that changes no node
 
-module _ (sizes : Sizes) (account : Account) (steps : List Step) (offers : List Known) (leaves : LeavesNodes sizes account (record account { steps = steps; offers = offers })) (stands : Standing) (words : List ℕ) where
+module _ (sizes : Sizes) (account : Account) (steps : List Step) (offers : List Known) (leaves : LeavesNodes sizes account (record account { steps = steps; offers = offers })) (stands : Standing)
+    (words : List ℕ) where
   abbrev now : State
   now = state_of sizes account
 
@@ -41,7 +42,8 @@ module _ (sizes : Sizes) (account : Account) (steps : List Step) (offers : List 
   stood : (k : ℕ) (slot : Slot) → Stands stands next k slot → Stands stands now k slot
   stood k slot h = (h.0, sym (leaves.nodes k) ∙ h.1)
 
-  pub nodes_left : ((x : Known) → Contains offers x → (k : ℕ) (slot : Slot) → Stands stands now k slot → place_at account k ≢ x.slot) → NodesStand sizes account stands words → NodesStand sizes later stands words
+  pub nodes_left : ((x : Known) → Contains offers x → (k : ℕ) (slot : Slot) → Stands stands now k slot → place_at account k ≢ x.slot) → NodesStand sizes account stands words → NodesStand sizes
+      later stands words
   nodes_left apart nodes = record {
     within = λ k slot h. nodes.within k slot (stood k slot h);
     small = λ k slot h. nodes.small k slot (stood k slot h);
@@ -49,7 +51,8 @@ module _ (sizes : Sizes) (account : Account) (steps : List Step) (offers : List 
     offers = λ x c k slot h. apart x c k slot (stood k slot h);
     written = λ k slot h.
         (let was = stood k slot h in
-        stands_kept account steps offers nothing now next (same_nodes now next leaves.nodes) leaves.aheads (λ i a f e none. leaves.still i a f e) words (place_at account k) k slot slot.node refl (nodes.written k slot was));
+        stands_kept account steps offers nothing now next (same_nodes now next leaves.nodes) leaves.aheads (λ i a f e none. leaves.still i a f e) words (place_at account k) k slot slot.node refl
+        (nodes.written k slot was));
     inside = λ k slot e. nodes.inside k slot (sym (leaves.nodes k) ∙ e);
     owners = owners_kept account later now next refl refl leaves.aheads nodes.owners;
     live = λ r h. nodes.live r (leaves.live r h);
@@ -60,7 +63,8 @@ module _ (sizes : Sizes) (account : Account) (steps : List Step) (offers : List 
 
 -- where no root changes either, with the marks of operations as they are then
 module _ (sizes : Sizes) (account : Account) (more : List Step) (leaves : LeavesNodes sizes account (record account { steps = account.steps ++ more })) (stands : Standing) (words : List ℕ)
-    (fits : KeysFit (account.steps ++ more)) (quiet : HasNoSweeps (account.steps ++ more)) (roots : (state_of sizes (record account { steps = account.steps ++ more })).roots ≡ (state_of sizes account).roots)
+    (fits : KeysFit (account.steps ++ more)) (quiet : HasNoSweeps (account.steps ++ more))
+    (roots : (state_of sizes (record account { steps = account.steps ++ more })).roots ≡ (state_of sizes account).roots)
     (marks : AreMarked (state_of sizes (record account { steps = account.steps ++ more })) words account.offers) where
   pub all_left : AllStand sizes account stands words → AllStand sizes (record account { steps = account.steps ++ more }) stands words
   all_left all = record {
@@ -154,7 +158,8 @@ module _ (sizes : Sizes) (account : Account) (stands : Standing) (words : List �
 
   -- where it says what the handle's root is, all stands as before
   module _ (means : MeansRoot account rooted handle x (root_at (state_of sizes account) handle))
-      (unnamed : (k : Known) → Contains account.offers k → fate words k ≡ undecided → (slice_index words i ≡ root_code (word.Offered k.slot) → ⊥) × (slice_index words i ≡ root_code (word.Opening k.slot) → ⊥)) where
+      (unnamed : (k : Known) → Contains account.offers k → fate words k ≡ undecided → (slice_index words i ≡ root_code (word.Offered k.slot) → ⊥) ×
+      (slice_index words i ≡ root_code (word.Opening k.slot) → ⊥)) where
     means_by : (g : ℕ) → g < handle_limit → MeansRoot account rooted g (slice_index rooted (root_word g)) (root_at (state_of sizes account) g)
     means_by g low_g = elim (cases_eq g handle) [
       | inl same ↦
@@ -190,7 +195,8 @@ module _ (sizes : Sizes) (account : Account) (stands : Standing) (words : List �
 
 -- ---- a store to the word of a seat
 
-module _ (sizes : Sizes) (account : Account) (stands : Standing) (words : List ℕ) (all : AllStand sizes account stands words) (actor : ℕ) (positive : 1 ≤ actor) (most : actor ≤ sizes.seats) (x : ℕ) where
+module _ (sizes : Sizes) (account : Account) (stands : Standing) (words : List ℕ) (all : AllStand sizes account stands words) (actor : ℕ) (positive : 1 ≤ actor) (most : actor ≤ sizes.seats)
+    (x : ℕ) where
   abbrev p : ℕ
   p = pin_word actor
 

@@ -43,7 +43,8 @@ rests_so before after a ran rests = none_by (operation_of after a) (λ o e. (let
 
 module _ (sizes : Sizes) (s : Table.State Call View) (kept : IsKept sizes s) where
   -- where operations keep their tries, and no word of a handle changes, nor what it means
-  pub numbers_so : (account : Account) (words : List ℕ) → KeepsTries kept.account.offers (state_of sizes kept.account) (state_of sizes account) → (state_of sizes account).roots ≡ (state_of sizes kept.account).roots →
+  pub numbers_so : (account : Account) (words : List ℕ) → KeepsTries kept.account.offers (state_of sizes kept.account) (state_of sizes account) → (state_of sizes account).roots ≡
+      (state_of sizes kept.account).roots →
       ((handle : ℕ) → handle < handle_limit → slice_index words (root_word handle) ≡ slice_index s.words (root_word handle)) →
       (other : ℕ) (w : View) → get_elem? s.views other ≡ some w → (handle : ℕ) → Reserves (state_of sizes account) w handle → IsHeld (state_of sizes account) words handle
   numbers_so account words tries roots same other w e handle h =
@@ -60,11 +61,13 @@ module _ (sizes : Sizes) (s : Table.State Call View) (kept : IsKept sizes s) (id
     pub waits : (actor : ℕ) (first : Account) → actor ≢ v.actor → HasWaited actor first kept.account → HasWaited actor first account
     pub others : (a : ℕ) → a ≢ v.actor → (o : Operation) → operation_of (state_of sizes account) a ≡ Some o → Ran (state_of sizes kept.account) a o
     pub pins : (a : ℕ) → 1 ≤ a → a ≤ sizes.seats → a ≢ v.actor → slice_index words (pin_word a) ≡ slice_index s.words (pin_word a)
-    pub numbers : (other : ℕ) (w : View) → get_elem? s.views other ≡ some w → (other ≡ id → ⊥) → (handle : ℕ) → Reserves (state_of sizes account) w handle → IsHeld (state_of sizes account) words handle
+    pub numbers : (other : ℕ) (w : View) → get_elem? s.views other ≡ some w → (other ≡ id → ⊥) → (handle : ℕ) → Reserves (state_of sizes account) w handle → IsHeld (state_of sizes account) words
+        handle
     -- a word that names an offer that another seat writes
     pub named : (other : ℕ) (w : View) → get_elem? s.views other ≡ some w → (other ≡ id → ⊥) → (handle slot : ℕ) → w.opens ≡ Some handle → Names s.words w handle slot →
         slice_index words (root_word handle) ≡ slice_index s.words (root_word handle)
-    pub still_open : (other : ℕ) (w : View) → get_elem? s.views other ≡ some w → (handle : ℕ) → w.entered ≡ Some handle → is_some (root_at (state_of sizes kept.account) handle) ≡ true → is_some (root_at (state_of sizes account) handle) ≡ true
+    pub still_open : (other : ℕ) (w : View) → get_elem? s.views other ≡ some w → (handle : ℕ) → w.entered ≡ Some handle → is_some (root_at (state_of sizes kept.account) handle) ≡ true → is_some
+        (root_at (state_of sizes account) handle) ≡ true
     pub taken : (b name : ℕ) → b < 3 → IsTaken sizes s.words b name → IsTaken sizes words b name
     pub spare : (other : ℕ) (w : View) (b name : ℕ) → get_elem? s.views other ≡ some w → (other ≡ id → ⊥) → IsFree w b name → StaysSpare b name
 
@@ -74,11 +77,13 @@ module _ (sizes : Sizes) (s : Table.State Call View) (kept : IsKept sizes s) (id
 
   module _ (stays : Stays) where
     -- a word names the seat's offer still
-    pub names_kept : (w later : View) (handle slot : ℕ) → Names s.words w handle slot → slice_index words (root_word handle) ≡ slice_index s.words (root_word handle) → IsFree later 1 slot → Names words later handle slot
+    pub names_kept : (w later : View) (handle slot : ℕ) → Names s.words w handle slot → slice_index words (root_word handle) ≡ slice_index s.words (root_word handle) → IsFree later 1 slot → Names
+        words later handle slot
     names_kept w later handle slot n same free = record { low = n.low; fits = n.fits; is = same ∙ n.is; free = free }
 
     -- what is free and written stays so
-    pub drafts_kept : (w : View) (d : ℕ × ℕ) → AreDrafts s.words v d → ((b name : ℕ) → IsFree v b name → IsFree w b name × ((j : ℕ) → IsWordOf b name j → slice_index words j ≡ slice_index s.words j)) → AreDrafts words w d
+    pub drafts_kept : (w : View) (d : ℕ × ℕ) → AreDrafts s.words v d → ((b name : ℕ) → IsFree v b name → IsFree w b name ×
+        ((j : ℕ) → IsWordOf b name j → slice_index words j ≡ slice_index s.words j)) → AreDrafts words w d
     drafts_kept w d x still =
         let slot = x.1 in
         let free = still slot.0 slot.1 slot.2 in
@@ -119,7 +124,8 @@ module _ (sizes : Sizes) (s : Table.State Call View) (kept : IsKept sizes s) (id
         (same_call : next.call ≡ operation.call) (same_opens : next.opens ≡ operation.opens)
         (held : (handle : ℕ) → Reserves (state_of sizes account) v handle → IsHeld (state_of sizes account) words handle) (counted : length account.names ≡ (state_of sizes account).heap.births)
         (own_pin : slice_index words (pin_word v.actor) ≡ slice_index s.words (pin_word v.actor)) (pool : Pool) (opening : Option ℕ)
-        (names : (handle slot : ℕ) → v.opens ≡ Some handle → opening ≡ Some slot → (v.opening ≡ Some slot) × (Names s.words v handle slot → (slice_index words (root_word handle) ≡ slice_index s.words (root_word handle)) × Contains (pool_of pool 1) slot)) (drafts : List (ℕ × ℕ))
+        (names : (handle slot : ℕ) → v.opens ≡ Some handle → opening ≡ Some slot → (v.opening ≡ Some slot) ×
+        (Names s.words v handle slot → (slice_index words (root_word handle) ≡ slice_index s.words (root_word handle)) × Contains (pool_of pool 1) slot)) (drafts : List (ℕ × ℕ))
         (spare : (b name : ℕ) → IsFree (seat_then pool opening drafts) b name → IsTaken sizes words b name × IsSpare sizes account stands name) (once : (b : ℕ) → b < 3 → Once (pool_of pool b))
         (written : (d : ℕ × ℕ) → Contains drafts d → AreDrafts words (seat_then pool opening drafts) d) where
       pub own_kept : IsSeat sizes account stands words (seat_then pool opening drafts)
@@ -149,7 +155,8 @@ module _ (sizes : Sizes) (s : Table.State Call View) (kept : IsKept sizes s) (id
           }
 
     -- and the seat itself, where it pins itself, enters a handle, would close one, or reserves a number
-    module _ (first : Account) (waited : HasWaited v.actor first account) (counted : length first.names ≡ (state_of sizes first).heap.births) (pin : Option Pin) (entered : Option ℕ) (closing : Option Closing)
+    module _ (first : Account) (waited : HasWaited v.actor first account) (counted : length first.names ≡ (state_of sizes first).heap.births) (pin : Option Pin) (entered : Option ℕ)
+        (closing : Option Closing)
         (opens : Option ℕ) (opening : Option ℕ) where
       abbrev pub seat_else : View
       seat_else = record v { account = first; pin = pin; entered = entered; closing = closing; opens = opens; opening = opening }
@@ -188,11 +195,14 @@ module _ (sizes : Sizes) (s : Table.State Call View) (kept : IsKept sizes s) (id
 
 -- ---- an access that is no step
 
-module _ (sizes : Sizes) (s : Table.State Call View) (kept : IsKept sizes s) (id : ℕ) (v : View) (at : get_elem? s.views id ≡ some v) (words : List ℕ) (stays : Stays sizes s kept id v at kept.account kept.stands words)
+module _ (sizes : Sizes) (s : Table.State Call View) (kept : IsKept sizes s) (id : ℕ) (v : View) (at : get_elem? s.views id ≡ some v) (words : List ℕ)
+    (stays : Stays sizes s kept id v at kept.account kept.stands words)
     (held : (handle : ℕ) → Reserves (state_of sizes kept.account) v handle → IsHeld (state_of sizes kept.account) words handle)
     (own_pin : slice_index words (pin_word v.actor) ≡ slice_index s.words (pin_word v.actor)) (pool : Pool) (drafts : List (ℕ × ℕ))
-    (spare : (b name : ℕ) → IsFree (record v { pool = pool; drafts = drafts }) b name → IsTaken sizes words b name × IsSpare sizes kept.account kept.stands name) (once : (b : ℕ) → b < 3 → Once (pool_of pool b))
-    (written : (d : ℕ × ℕ) → Contains drafts d → AreDrafts words (record v { pool = pool; drafts = drafts }) d) (still : (handle slot : ℕ) → Names s.words v handle slot → (slice_index words (root_word handle) ≡ slice_index s.words (root_word handle)) × Contains (pool_of pool 1) slot) where
+    (spare : (b name : ℕ) → IsFree (record v { pool = pool; drafts = drafts }) b name → IsTaken sizes words b name × IsSpare sizes kept.account kept.stands name)
+    (once : (b : ℕ) → b < 3 → Once (pool_of pool b))
+    (written : (d : ℕ × ℕ) → Contains drafts d → AreDrafts words (record v { pool = pool; drafts = drafts }) d)
+    (still : (handle slot : ℕ) → Names s.words v handle slot → (slice_index words (root_word handle) ≡ slice_index s.words (root_word handle)) × Contains (pool_of pool 1) slot) where
   pub own_still : IsSeat sizes kept.account kept.stands words (record v { pool = pool; drafts = drafts })
   own_still =
       let h = kept.seats id v at in

@@ -1,6 +1,7 @@
 -- An exchange of an offer's first word carries it out or takes it back.
 use Rattle.history.specs.declared.calls.Call.{Call}
-use Rattle.std.proofs.Common.{◌≡◌, ◌≢◌, ◌+◌, ◌*◌, ◌^◌, ◌==◌, ℕ, ◌<◌, ◌≤◌, inl, inr, true, false, List, [], ◌∷◌, Contains, set, slice_index, is_some, Some, None, refl, sym, ap, subst, ◌∙◌, arith, append-nil, length-set}
+use Rattle.std.proofs.Common.{◌≡◌, ◌≢◌, ◌+◌, ◌*◌, ◌^◌, ◌==◌, ℕ, ◌<◌, ◌≤◌, inl, inr, true, List, [], ◌∷◌, Contains, set, slice_index, is_some, Some, None, refl, sym, ap, subst, ◌∙◌, arith}
+use Rattle.std.proofs.Common.{append-nil, length-set}
 use Rattle.std.proofs.lemmas.Bool.{cases_eq, true≢false}
 use Rattle.std.proofs.lemmas.Option.{none-some}
 use Rattle.std.proofs.lemmas.List.{get_or-set_same}
@@ -30,14 +31,15 @@ use Rattle.lock_free.proofs.Assembling.{AllStand, all_stand, closing_stays, open
 use Rattle.lock_free.proofs.Framing.{else_word, below_word, still_taken, have_still, stands_over, class_small}
 use Rattle.lock_free.proofs.Geometry.{IsWordOf, slots_apart, above, inside, root_below}
 use Rattle.lock_free.proofs.Meanings.{means_then, stood_still, pending_kept, unmarked_then}
-use Rattle.lock_free.proofs.RootFound.{slot_fits, offered_is, opening_is}
+use Rattle.lock_free.proofs.RootFound.{slot_fits, opening_is}
 use Rattle.lock_free.proofs.RootSteps as root
 use Rattle.lock_free.proofs.Seats.{Stays, other_kept, own_kept, drafts_kept}
 use Rattle.lock_free.proofs.Tries.{is_or_not, ran_settled, reserved_settled, not_owner, marks_settled, marks_else, opener}
 use Rattle.lock_free.proofs.Waiting.{waited_more, quiet_more}
 
 module _ (sizes : Sizes) (s : Table.State Call View) (kept : IsKept sizes s) (id : ℕ) (v : View) (at : get_elem? s.views id ≡ some v) (operation : Operation)
-    (runs : operation_of (state_of sizes kept.account) v.actor ≡ Some operation) (n : ℕ) (k : Known) (here : Contains kept.account.offers k) (settles : Settles sizes kept.account v.actor n operation k)
+    (runs : operation_of (state_of sizes kept.account) v.actor ≡ Some operation) (n : ℕ) (k : Known) (here : Contains kept.account.offers k)
+    (settles : Settles sizes kept.account v.actor n operation k)
     (on : k.handle ≡ handle_of operation.call) (stands_yet : fate s.words k ≡ undecided) where
   abbrev all : AllStand sizes kept.account kept.stands s.words
   all = all_stand sizes s kept
@@ -180,7 +182,8 @@ module _ (sizes : Sizes) (s : Table.State Call View) (kept : IsKept sizes s) (id
     where
       last_apart : (l : Known) → Contains kept.account.offers l → 2 * l.slot + 2 ≢ i
       last_apart l c same =
-          let both = (slots_apart sizes s.words kept.taken 1 1 l.slot k.slot i medium medium (kept.roots.blocks l c) (kept.roots.blocks k here) (record { low = omega (arith, same); high = omega (arith, same) }) its_word).1 in
+          let both = (slots_apart sizes s.words kept.taken 1 1 l.slot k.slot i medium medium (kept.roots.blocks l c) (kept.roots.blocks k here)
+          (record { low = omega (arith, same); high = omega (arith, same) }) its_word).1 in
           omega (arith, same, both)
 
   marks_all : AreMarked next words_then kept.account.offers
@@ -191,7 +194,8 @@ module _ (sizes : Sizes) (s : Table.State Call View) (kept : IsKept sizes s) (id
         (λ b p f t. kept.roots.marks l c b p f t ∙ ap (λ (x : Known). fate s.words x == carried_out) is ∙ ap (λ m. m == carried_out) stands_yet) a o e try
         ∙ ap (λ m. m == carried_out) (sym at_it) ∙ ap (λ (x : Known). fate words_then x == carried_out) (sym is))
     | inr differs ↦
-        marks_else n k.offer now next settles.tries l (fate words_then l) (fate s.words l) (fate_else l differs) (λ same_id same_try. differs (ap (λ (x : Known). x.slot) (kept.roots.tries l k c here same_id same_try)))
+        marks_else n k.offer now next settles.tries l (fate words_then l) (fate s.words l) (fate_else l differs)
+        (λ same_id same_try. differs (ap (λ (x : Known). x.slot) (kept.roots.tries l k c here same_id same_try)))
         (kept.roots.marks l c) a o e try
   ]
 
@@ -298,7 +302,8 @@ module _ (sizes : Sizes) (s : Table.State Call View) (kept : IsKept sizes s) (id
       closing_stays sizes s kept id v at view_then refl refl (λ h e. e) refl g who (kept.closings g who below (subst (λ m. SaysClosing m who) (root_same g below) says))
 
   -- a number whose word names no offer isn't the one that is opened
-  not_its : (g slot : ℕ) → g < handle_limit → IsRootWord (word.Opening slot) → slice_index words_then (root_word g) ≡ root_code (word.Opening slot) → NoOffer account_then slot → k.offer.opens ≡ Some g → ⊥
+  not_its : (g slot : ℕ) → g < handle_limit → IsRootWord (word.Opening slot) → slice_index words_then (root_word g) ≡ root_code (word.Opening slot) → NoOffer account_then slot → k.offer.opens ≡
+      Some g → ⊥
   not_its g slot below fits is nothing opens =
       let code = sym (pending.opens g opens).1 ∙ sym (root_same g below) ∙ is in nothing k here (omega (arith, code))
 
@@ -313,7 +318,8 @@ module _ (sizes : Sizes) (s : Table.State Call View) (kept : IsKept sizes s) (id
   numbers_then = record {
     openings = λ g slot below fits is nothing.
         (let unopened : k.offer.opens ≡ Some g → ⊥ = not_its g slot below fits is nothing in
-        opening_stays sizes s kept id v at view_then refl refl next g slot (λ r f. (reserves_then settles.tries id v at g r unopened, f)) (λ other w e apart f r. reserves_then settles.tries other w e g r unopened)
+        opening_stays sizes s kept id v at view_then refl refl next g slot (λ r f. (reserves_then settles.tries id v at g r unopened, f))
+        (λ other w e apart f r. reserves_then settles.tries other w e g r unopened)
         (kept.openings g slot below fits (sym (root_same g below) ∙ is) nothing));
     number = λ g h. inl (reserved_settled n k.offer now next settles.tries v g h);
     others = λ other w e apart g h. reserved_settled n k.offer now next settles.tries w g h;

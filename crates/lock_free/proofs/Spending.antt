@@ -44,7 +44,8 @@ module _ (sizes : Sizes) (s : Table.State Call View) (kept : IsKept sizes s) (id
           before,
           λ is. differs
               (slots_apart sizes s.words kept.taken b class other name (2 * name) low small (seat.spare b other before).0 its_spare.0
-              (record { low = omega (arith, is); high = (let some = has_words b low in omega (arith, is, some)) }) (record { low = omega arith; high = (let some = has_words class small in omega (arith, some)) })).0,
+              (record { low = omega (arith, is); high = (let some = has_words b low in omega (arith, is, some)) })
+              (record { low = omega arith; high = (let some = has_words class small in omega (arith, some)) })).0,
         ))
   ]
 

@@ -1,8 +1,7 @@
 -- Which offers stand, and which never will again.
 use Rattle.history.specs.declared.calls.Call.{Call}
-use Rattle.std.proofs.Common.{◌≡◌, ◌≢◌, ◌+◌, ◌*◌, ◌⊎◌, ◌^◌, ◌==◌, ℕ, ◌<◌, inl, inr, Bool, true, false, List, Contains, slice_index, Option, Some, None, refl, sym, ap, subst, ◌∙◌, arith, eqb-true, if◌then◌else◌}
-use Rattle.std.proofs.lemmas.Bool.{cases_eq, true≢false, ne_eqb}
-use Rattle.std.proofs.lemmas.Option.{none-some, same_Some}
+use Rattle.std.proofs.Common.{◌≡◌, ◌≢◌, ◌==◌, ℕ, ◌<◌, inl, inr, Bool, true, false, List, Contains, Option, Some, None, refl, sym, ap, ◌∙◌, eqb-true, if◌then◌else◌}
+use Rattle.std.proofs.lemmas.Bool.{true≢false}
 use Rattle.atomic_table.specs.Table as Table
 use Rattle.trie_words.specs.declared.roots.RootWord.{RootWord as HandleWord}
 use Rattle.trie_words.specs.declared.roots.RootWord.TheVariants as word
@@ -23,8 +22,7 @@ use Rattle.lock_free.specs.declared.accounts.Known.{Known}
 use Rattle.lock_free.specs.declared.rules.View.{View}
 use Rattle.lock_free.specs.declared.sizes.Sizes.{Sizes}
 use Rattle.lock_free.specs.Accounts.{state_of}
-use Rattle.lock_free.specs.Places.{root_word}
-use Rattle.lock_free.specs.Roots.{MeansRoot, SaysRoot, SaysOpening, NoOffer, fate, undecided, carried_out, meant, opened_by, open_with}
+use Rattle.lock_free.specs.Roots.{SaysRoot, fate, undecided, meant, open_with}
 use Rattle.lock_free.specs.Rules.{IsKept}
 use Rattle.lock_free.proofs.RootFound.{slot_fits, offered_is}
 

@@ -73,7 +73,8 @@ module _ (n : ℕ) (offer : Descriptor) (before after : State) where
 
   -- of another offer they are what they were
   pub marks_else : IsSettled n offer before after → (l : Known) (fate_then fate_now : ℕ) → fate_then ≡ fate_now → (l.offer.operation ≡ offer.operation → l.offer.attempt ≡ offer.attempt → ⊥) →
-      ((a : ℕ) (o : Operation) → operation_of before a ≡ Some o → IsItsTry o l.offer → o.is_marked ≡ (fate_now == carried_out)) → (a : ℕ) (o : Operation) → operation_of after a ≡ Some o → IsItsTry o l.offer →
+      ((a : ℕ) (o : Operation) → operation_of before a ≡ Some o → IsItsTry o l.offer → o.is_marked ≡ (fate_now == carried_out)) → (a : ℕ) (o : Operation) → operation_of after a ≡ Some o → IsItsTry
+      o l.offer →
       o.is_marked ≡ (fate_then == carried_out)
   marks_else (is_carried_out is h) l fate_then fate_now fates other_try before_so a o e try = elim (cases_eq a h.owner) [
     | inl own ↦

@@ -16,6 +16,7 @@ pub mod Settling
 pub mod Beginning
 pub mod Exchanging
 pub mod Storing
+pub mod OfferWords
+pub mod HandleWords
 pub mod OfReads
 pub mod Passing
-pub mod OfferWords

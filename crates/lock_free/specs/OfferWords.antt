@@ -73,4 +73,5 @@ HasCompleted before carried after =
 
 abbrev pub has_completed : Step Call → Me Call View → ℕ → Me Call View → Type 0
 has_completed step before found after =
-    ((m : Moment before.0 step.word found) × (after.0 ≡ seen before.0 (gone_on before.0.actor m.kept.account)) × TookUnmarked before.0 m.kept.account after.0) × IsSound (words_of before.0.sizes) after.0 × (after.1 ≡ before.1)
+    ((m : Moment before.0 step.word found) × (after.0 ≡ seen before.0 (gone_on before.0.actor m.kept.account)) × TookUnmarked before.0 m.kept.account after.0) × IsSound (words_of before.0.sizes)
+    after.0 × (after.1 ≡ before.1)

@@ -52,7 +52,8 @@ pub record Offers (sizes : Sizes) (account : Account) (actor slot : ℕ) (operat
   pub leaves : LeavesNodes sizes account (offered_at actor slot (handle_of operation.call) offer account)
   pub stood : root_at (state_of sizes account) (handle_of operation.call) ≡ open_with Writable (Plain offer.root)
   pub stands : root_at (state_of sizes (offered_at actor slot (handle_of operation.call) offer account)) (handle_of operation.call) ≡ open_with Writable (Offer offer)
-  pub roots : (handle : ℕ) → handle ≢ handle_of operation.call → root_at (state_of sizes (offered_at actor slot (handle_of operation.call) offer account)) handle ≡ root_at (state_of sizes account) handle
+  pub roots : (handle : ℕ) → handle ≢ handle_of operation.call → root_at (state_of sizes (offered_at actor slot (handle_of operation.call) offer account)) handle ≡ root_at (state_of sizes account)
+      handle
   pub others : (a : ℕ) → a ≢ actor → operation_of (state_of sizes (offered_at actor slot (handle_of operation.call) offer account)) a ≡ operation_of (state_of sizes account) a
   pub own : operation_of (state_of sizes (offered_at actor slot (handle_of operation.call) offer account)) actor ≡ Some (operation_after (state_of sizes account) operation)
   -- for the handle that the operation has reserved

@@ -4,6 +4,7 @@
 
 mod accounts;
 mod exchanges;
+mod handles;
 mod loads;
 mod offers;
 mod reading;
@@ -13,6 +14,7 @@ mod stores;
 
 pub use accounts::{Account, Known, Owned};
 pub use exchanges::{decide, publish, restore};
+pub use handles::see_root;
 pub use loads::{Actor, Words, look_at_key, look_at_link, look_at_main, look_at_value, read_header, read_link, see_key, see_link, see_main, see_pair, see_value};
 pub use offers::{abort, complete};
 pub use reading::{AsksRoot, Given, Passed, Way, read_within};

@@ -40,7 +40,11 @@ fn outcome_of(is_expected: bool) -> u64
 fn is_carried_out(found: u64, is_expected: bool) -> bool
     ensures { result ≡ carried_by found is_expected }
 {
-    if found == UNDECIDED { is_expected } else { found == CARRIED_OUT }
+    if found == UNDECIDED {
+        is_expected
+    } else {
+        found == CARRIED_OUT
+    }
 }
 
 /// Settles the offer in this slot, if it is undecided still: it is carried out if its root had the expected main node, and taken back

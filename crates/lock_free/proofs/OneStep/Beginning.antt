@@ -1,5 +1,6 @@
 -- What is left by a step that begins an operation, and by the two that close a handle.
-use Rattle.std.proofs.Common.{◌≡◌, ◌≢◌, ◌⊎◌, ◌+◌, ◌-◌, ◌<◌, ◌≤◌, ◌++◌, ◌^◌, ℕ, zero, suc, Bool, true, false, List, [], ◌∷◌, length, Contains, Option, Some, None, get_or, set, refl, sym, ap, subst, ◌∙◌, inl, inr, arith, append_assoc}
+use Rattle.std.proofs.Common.{◌≡◌, ◌≢◌, ◌+◌, ◌-◌, ◌<◌, ◌≤◌, ◌++◌, ℕ, zero, suc, Bool, true, false, [], ◌∷◌, length, Contains, Some, None, get_or, set, refl, sym, ap, subst, ◌∙◌, inl, inr, arith}
+use Rattle.std.proofs.Common.{append_assoc}
 use Rattle.std.specs.Prelude.{if◌then◌else◌}
 use Rattle.std.proofs.lemmas.Bool.{cases_eq}
 use Rattle.std.proofs.lemmas.List.{get_or-set_same}
@@ -7,9 +8,7 @@ use Rattle.std.proofs.lemmas.Option.{same_Some, none-some}
 use Rattle.history.specs.declared.calls.Call.{Call}
 use Rattle.history.specs.declared.calls.Call.TheVariants.{Entries, Count, Close}
 use Rattle.history.specs.declared.replies.Reply.TheVariants as reply
-use Rattle.machine_model.specs.Beneath.slot_arena.specs.declared.refs.Ref.{Ref}
 use Rattle.machine_model.specs.declared.operations.Operation.{Operation}
-use Rattle.machine_model.specs.declared.actions.Action.TheVariants as act
 use Rattle.machine_model.specs.declared.steps.Outcome.TheVariants as outcome
 use Rattle.machine_model.specs.declared.steps.Step.TheVariants as step
 use Rattle.machine_model.specs.Calls.{handle_of, is_close, opens_handle}
@@ -17,7 +16,7 @@ use Rattle.machine_model.specs.Counting.{settled}
 use Rattle.machine_model.specs.Keys.{FitsKey}
 use Rattle.machine_model.specs.Machine.{AreBounds, next, next_state, state_after, begin_denial, begin_unless, begun_operation, with_begin, handle_closed, least_free}
 use Rattle.machine_model.specs.Moves.{Moves, Begins as Begun}
-use Rattle.machine_model.specs.Operations.{first_line, action_of}
+use Rattle.machine_model.specs.Operations.{first_line}
 use Rattle.machine_model.specs.States.{State, operation_of, root_at, with_root}
 use Rattle.machine_model.proofs.Actors.{begin_actors, begin_counts}
 use Rattle.machine_model.proofs.Found.{found_elsewhere}
@@ -30,10 +29,9 @@ use Rattle.proof_waiting.specs.Beneath.proof_slots.specs.Lasting.{widened}
 use Rattle.lock_free.specs.declared.accounts.Account.{Account}
 use Rattle.lock_free.specs.declared.accounts.Known.{Known}
 use Rattle.lock_free.specs.declared.sizes.Sizes.{Sizes}
-use Rattle.lock_free.specs.Accounts.{bounds_for, state_of, gone_on, IsOfOther, HasStood}
+use Rattle.lock_free.specs.Accounts.{bounds_for, state_of, gone_on, HasStood}
 use Rattle.lock_free.specs.Beginning.{Begins, Ends, Closes, closed_by, taking}
 use Rattle.lock_free.specs.Offering.{LeavesNodes}
-use Rattle.lock_free.specs.Roots.{IsItsTry}
 use Rattle.lock_free.proofs.OneStep.Aheads.{ahead_of}
 use Rattle.lock_free.proofs.OneStep.Longer.{bounds_more}
 use Rattle.lock_free.proofs.OneStep.Sitting.{whole, leaves_nodes, ends_of}
@@ -45,7 +43,8 @@ first_ahead (Count h) = refl
 first_ahead (Close h) = refl
 first_ahead call = refl
 
-module _ (sizes : Sizes) (account : Account) (bounds : AreBounds (bounds_for sizes account.steps)) (actor : ℕ) (call : Call) (most : actor ≤ sizes.seats) (idle : operation_of (state_of sizes account) actor ≡ None)
+module _ (sizes : Sizes) (account : Account) (bounds : AreBounds (bounds_for sizes account.steps)) (actor : ℕ) (call : Call) (most : actor ≤ sizes.seats)
+    (idle : operation_of (state_of sizes account) actor ≡ None)
     (allowed : begin_denial (state_of sizes account) actor call ≡ None) where
   abbrev now : State
   now = state_of sizes account
@@ -107,7 +106,8 @@ module _ (sizes : Sizes) (account : Account) (bounds : AreBounds (bounds_for siz
   begin_roots = ap (λ (s : State). s.roots) begin_whole
 
   -- a call that neither opens nor closes a handle
-  pub begins_of : (opens_none : opens_handle call ≡ false) → (closes_none : is_close call ≡ false) → FitsKey (step.Begin actor call) → ((k : Known) → Contains account.offers k → HasStood sizes account k.offer) →
+  pub begins_of : (opens_none : opens_handle call ≡ false) → (closes_none : is_close call ≡ false) → FitsKey (step.Begin actor call) →
+      ((k : Known) → Contains account.offers k → HasStood sizes account k.offer) →
       Begins sizes account actor (step.Begin actor call) call None
   begins_of opens_none closes_none fits stood = record {
     leaves = begin_leaves;
@@ -143,7 +143,8 @@ record Shuts (sizes : Sizes) (account last : Account) (handle : ℕ) : Type 0 wh
   roots : (g : ℕ) → g ≢ handle → root_at (state_of sizes last) g ≡ root_at (state_of sizes account) g
   operations : (n : ℕ) → operation_of (state_of sizes last) n ≡ operation_of (state_of sizes account) n
 
-module _ (sizes : Sizes) (account : Account) (bounds : AreBounds (bounds_for sizes account.steps)) (actor handle : ℕ) (most : actor ≤ sizes.seats) (low : handle < 256) (idle : operation_of (state_of sizes account) actor ≡ None)
+module _ (sizes : Sizes) (account : Account) (bounds : AreBounds (bounds_for sizes account.steps)) (actor handle : ℕ) (most : actor ≤ sizes.seats) (low : handle < 256)
+    (idle : operation_of (state_of sizes account) actor ≡ None)
     (allowed : begin_denial (state_of sizes account) actor (Close handle) ≡ None) where
   abbrev state : State
   state = state_of sizes account

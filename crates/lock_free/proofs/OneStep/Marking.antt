@@ -1,18 +1,16 @@
 -- What any step of an operation leaves that changes no node: operations but for their marks, and who is about to swap a node in.
-use Rattle.std.proofs.Common.{◌≡◌, ◌≢◌, ◌⊎◌, ◌+◌, ◌<◌, ◌==◌, ℕ, suc, Bool, true, false, Option, Some, None, refl, sym, ap, subst, ◌∙◌, inl, inr, arith, ne_eqb, eq-eqb, if◌then◌else◌}
+use Rattle.std.proofs.Common.{◌≡◌, ◌≢◌, ◌<◌, ◌==◌, ℕ, Bool, true, false, Option, Some, None, refl, sym, ap, ◌∙◌, inl, inr, arith, ne_eqb, eq-eqb, if◌then◌else◌}
 use Rattle.std.specs.Prelude.{option_map}
 use Rattle.std.proofs.lemmas.Bool.{cases_eq}
 use Rattle.std.proofs.lemmas.Option.{same_Some, none-some}
 use Rattle.machine_model.specs.Beneath.slot_arena.specs.declared.refs.Ref.{Ref}
-use Rattle.machine_model.specs.Beneath.slot_arena.specs.Heaps.{Heap}
 use Rattle.machine_model.specs.declared.operations.Operation.{Operation}
-use Rattle.machine_model.specs.Acting.{gone, operation_after, attempt_after, mark_after, marked}
+use Rattle.machine_model.specs.Acting.{operation_after, attempt_after, mark_after}
 use Rattle.machine_model.specs.Machine.{AreBounds}
 use Rattle.machine_model.specs.Moves.{GoesOn}
 use Rattle.machine_model.specs.Operations.{action_of}
 use Rattle.machine_model.specs.States.{State, operation_of}
 use Rattle.machine_model.proofs.Actors.{mark_one, marks_by}
-use Rattle.proof_memory.specs.Laws.{IsInUse}
 use Rattle.proof_commits.proofs.Known.StepsAt.{after_mark, go_own, go_others}
 use Rattle.proof_garbage.specs.Beneath.proof_generations.proofs.Handles.Running.{place_of_actor}
 use Rattle.lock_free.specs.declared.accounts.Account.{Account}
@@ -21,11 +19,10 @@ use Rattle.lock_free.specs.Accounts.{bounds_for, state_of, running, gone_on}
 use Rattle.lock_free.specs.Making.{over_of}
 use Rattle.lock_free.specs.Nodes.{IsAhead}
 use Rattle.lock_free.specs.Offering.{LeavesNodes}
-use Rattle.lock_free.specs.Trying.{Try, try_of, try_at}
+use Rattle.lock_free.specs.Trying.{try_of, try_at}
 use Rattle.lock_free.proofs.OneStep.Aheads.{ahead_of, comes_ahead}
 use Rattle.lock_free.proofs.OneStep.Changing.{whole, slot_then, births_then, live_then, generations_then}
 use Rattle.lock_free.proofs.OneStep.Going.{more, later, bounds_after}
-use Rattle.lock_free.proofs.OneStep.Widened.{ahead_in, ahead_wide}
 
 -- ---- an operation once some are marked
 
@@ -90,7 +87,8 @@ module _ (sizes : Sizes) (account : Account) (bounds : AreBounds (bounds_for siz
     aheads_marked i a f h = elim (cases_eq h.actor actor) [
       | inl own ↦
           (let is = same_Some _ _ (sym own_marked ∙ ap (operation_of after) (sym own) ∙ h.runs) in
-          absurd (makes_none i a (comes_ahead state operation operation.line (i, a, f) (ap ahead_of (sym (marked_line marks (operation_after state operation))) ∙ ap (λ (o : Operation). ahead_of o.line) is ∙ ap ahead_of h.on)).0))
+          absurd (makes_none i a (comes_ahead state operation operation.line (i, a, f)
+          (ap ahead_of (sym (marked_line marks (operation_after state operation))) ∙ ap (λ (o : Operation). ahead_of o.line) is ∙ ap ahead_of h.on)).0))
       | inr other ↦
           (let p = marked_from marks (operation_of state h.actor) h.operation (sym (other_marked h.actor other) ∙ h.runs) in
           record { actor = h.actor; operation = p.0; runs = p.1; why = h.why; on = sym (marked_line marks p.0) ∙ ap (λ (o : Operation). o.line) (sym p.2) ∙ h.on })

@@ -1,9 +1,8 @@
 -- What is left by the step that offers, whether its root still stands or not.
-use Rattle.std.proofs.Common.{◌≡◌, ◌≢◌, ◌⊎◌, ◌+◌, ◌<◌, ◌≤◌, ◌==◌, ℕ, suc, Bool, true, false, List, Contains, Option, Some, None, get_or, set, refl, sym, ap, subst, ◌∙◌, inl, inr, arith, eq-eqb, eqb-true}
+use Rattle.std.proofs.Common.{◌≡◌, ◌≢◌, ◌+◌, ℕ, suc, Bool, true, false, Contains, Some, None, get_or, set, refl, sym, ap, subst, ◌∙◌, arith, eq-eqb}
 use Rattle.std.specs.Prelude.{option_map}
-use Rattle.std.proofs.lemmas.Bool.{cases_eq, true≢false, false≢true, eqb-false}
+use Rattle.std.proofs.lemmas.Bool.{false≢true}
 use Rattle.std.proofs.lemmas.List.{get_or-set_same}
-use Rattle.std.proofs.lemmas.Option.{same_Some, none-some}
 use Rattle.history.specs.declared.calls.Access.TheVariants.{Writable}
 use Rattle.machine_model.specs.Beneath.slot_arena.specs.declared.refs.Ref.{Ref}
 use Rattle.machine_model.specs.Beneath.slot_arena.specs.Refs.{slot_of}
@@ -33,10 +32,10 @@ use Rattle.lock_free.specs.declared.sizes.Sizes.{Sizes}
 use Rattle.lock_free.specs.Accounts.{bounds_for, state_of, running, gone_on, HasStood}
 use Rattle.lock_free.specs.Live.{IsLive}
 use Rattle.lock_free.specs.Making.{over_of}
-use Rattle.lock_free.specs.Offering.{LeavesNodes, Offers, offered_at}
+use Rattle.lock_free.specs.Offering.{Offers}
 use Rattle.lock_free.specs.Roots.{open_with, IsItsTry}
 use Rattle.lock_free.specs.Steps.{Dropped, Leads}
-use Rattle.lock_free.specs.Trying.{TriesAnew, anew, try_of, try_at}
+use Rattle.lock_free.specs.Trying.{anew, try_of}
 use Rattle.lock_free.proofs.OneStep.Aheads.{ahead_of, over_makes, ahead_acts}
 use Rattle.lock_free.proofs.OneStep.Changing.{whole, roots_then}
 use Rattle.lock_free.proofs.OneStep.Marking.{other_marked, own_marked, leaves_by}

@@ -1,25 +1,21 @@
 -- What is left by the step that takes an offer back, or carries it out, or finds it decided.
-use Rattle.std.proofs.Common.{◌≡◌, ◌≢◌, ◌⊎◌, ◌+◌, ◌<◌, ◌==◌, ℕ, suc, Bool, true, false, List, Option, Some, None, get_or, set, length, length-set, refl, sym, ap, subst, ◌∙◌, inl, inr, arith, if◌then◌else◌, eqb-true}
-use Rattle.std.specs.Prelude.{◌&&◌}
+use Rattle.std.proofs.Common.{◌≡◌, ◌≢◌, ◌<◌, ◌==◌, ℕ, suc, Bool, true, false, List, Option, Some, None, get_or, set, length, length-set, refl, sym, ap, ◌∙◌, inl, inr, arith, if◌then◌else◌}
 use Rattle.std.proofs.lemmas.Bool.{cases_eq}
 use Rattle.std.proofs.lemmas.List.{get_or-set_same}
 use Rattle.std.proofs.lemmas.Option.{same_Some, none-some}
 use Rattle.history.specs.declared.calls.Access.TheVariants.{Writable}
 use Rattle.machine_model.specs.Beneath.slot_arena.specs.declared.refs.Ref.{Ref}
-use Rattle.machine_model.specs.declared.actions.Action.{Action}
-use Rattle.machine_model.specs.declared.actions.Action.TheVariants as act
 use Rattle.machine_model.specs.declared.operations.Operation.{Operation}
-use Rattle.machine_model.specs.declared.roots.Descriptor.{Descriptor}
 use Rattle.machine_model.specs.declared.roots.Root.{Root}
 use Rattle.machine_model.specs.declared.roots.RootWord.TheVariants.{Plain, Offer}
-use Rattle.machine_model.specs.Acting.{acted, gone, if_changed, operation_after, attempt_after, mark_after, carried_out as carried, opened, opened_root}
+use Rattle.machine_model.specs.Acting.{gone, operation_after, attempt_after, mark_after, carried_out as carried, opened, opened_root}
 use Rattle.machine_model.specs.Calls.{handle_of}
 use Rattle.machine_model.specs.Machine.{AreBounds}
 use Rattle.machine_model.specs.Moves.{GoesOn}
 use Rattle.machine_model.specs.Operations.{action_of}
-use Rattle.machine_model.specs.States.{State, operation_of, root_at, word_at, word_of, rewritten, with_word, with_operation, handle_limit}
+use Rattle.machine_model.specs.States.{State, operation_of, root_at, word_at, word_of, rewritten, with_word, with_operation}
 use Rattle.machine_model.specs.Swapping.{stands_in}
-use Rattle.machine_model.proofs.Actors.{mark_one, marks_by, marks_of}
+use Rattle.machine_model.proofs.Actors.{mark_one, marks_by}
 use Rattle.machine_model.proofs.Found.{found_within, found_elsewhere}
 use Rattle.proof_memory.proofs.Holding.Sizes.{sizes_stay}
 use Rattle.proof_commits.proofs.Known.StepsAt.{after_mark}
@@ -30,13 +26,12 @@ use Rattle.lock_free.specs.declared.accounts.Known.{Known}
 use Rattle.lock_free.specs.declared.sizes.Sizes.{Sizes}
 use Rattle.lock_free.specs.Accounts.{bounds_for, state_of, running, gone_on}
 use Rattle.lock_free.specs.Making.{over_of}
-use Rattle.lock_free.specs.Roots.{IsItsTry, open_with, meant, opened_by, carried_out, taken_back}
-use Rattle.lock_free.specs.Settling.{IsMarkedThen, IsSettled, is_carried_out, is_taken_back, Settles}
-use Rattle.lock_free.specs.Trying.{Try, try_of, try_at}
-use Rattle.lock_free.proofs.OneStep.Aheads.{ahead_of, over_makes, ahead_acts}
+use Rattle.lock_free.specs.Roots.{open_with, carried_out, taken_back}
+use Rattle.lock_free.specs.Settling.{IsMarkedThen, is_carried_out, is_taken_back, Settles}
+use Rattle.lock_free.specs.Trying.{Try, try_of}
+use Rattle.lock_free.proofs.OneStep.Aheads.{ahead_of}
 use Rattle.lock_free.proofs.OneStep.Changing.{whole}
-use Rattle.lock_free.proofs.OneStep.Going.{later}
-use Rattle.lock_free.proofs.OneStep.Marking.{marked_some, marked_its, marked_else, other_marked, own_marked, leaves_by, same_try, try_else}
+use Rattle.lock_free.proofs.OneStep.Marking.{marked_some, marked_its, other_marked, own_marked, leaves_by, same_try, try_else}
 use Rattle.lock_free.proofs.OneStep.Standing.{has}
 
 abbrev marked_so : Try → Try
@@ -93,7 +88,8 @@ module _ (sizes : Sizes) (account : Account) (bounds : AreBounds (bounds_for siz
   not_h : (i : ℕ) → k.offer.opens ≡ Some i → i ≢ h
   not_h i opens same = none-some _ (sym (closed i opens) ∙ ap (root_at state) same ∙ stood)
 
-  module _ (g : GoesOn (action_of state operation)) (makes_none : (i a : Ref) → over_of operation.line ≡ Some (i, a) → ⊥) (publishes_none : (i a f : Ref) → ahead_of operation.line ≡ Some (i, a, f) → ⊥)
+  module _ (g : GoesOn (action_of state operation)) (makes_none : (i a : Ref) → over_of operation.line ≡ Some (i, a) → ⊥)
+      (publishes_none : (i a f : Ref) → ahead_of operation.line ≡ Some (i, a, f) → ⊥)
       (attempt : attempt_after operation.attempt (action_of state operation) ≡ operation.attempt) (mark : mark_after operation.is_marked (action_of state operation) ≡ operation.is_marked) where
     abbrev m : Option ℕ
     m = marks_by state (Some operation)
@@ -168,7 +164,8 @@ module _ (sizes : Sizes) (account : Account) (bounds : AreBounds (bounds_for siz
       at_opened (Some j) i e low =
           let same = same_Some j i e in
           ap (λ n. get_or (set swapped n (Some (opened_root k.offer k.offer.second))) i None) same
-          ∙ get_or-set_same swapped i (Some (opened_root k.offer k.offer.second)) None (let long = length-set state.roots h (open_with Writable (Plain k.offer.successor)) in let count = size in omega (arith, long, count, low))
+          ∙ get_or-set_same swapped i (Some (opened_root k.offer k.offer.second)) None
+          (let long = length-set state.roots h (open_with Writable (Plain k.offer.successor)) in let count = size in omega (arith, long, count, low))
 
       else_opened : (o : Option ℕ) (i : ℕ) → (o ≡ Some i → ⊥) → get_or (with_opened o) i None ≡ get_or swapped i None
       unfolding with_opened
@@ -204,24 +201,23 @@ module _ (sizes : Sizes) (account : Account) (bounds : AreBounds (bounds_for siz
           then_is : (o : Operation) × (operation_of after (suc owner.k) ≡ Some o) × (try_of o ≡ record (try_of owner.owner) { is_marked = true })
           then_is = elim (cases_eq (suc owner.k) actor) [
             | inl own ↦
-                (let same : operation ≡ owner.owner = same_Some _ _ (sym runs ∙ ap (operation_of state) (sym own) ∙ owner.runs) in
-                (
+                (let same : operation ≡ owner.owner = same_Some _ _ (sym runs ∙ ap (operation_of state) (sym own) ∙ owner.runs) in (
                   next,
                   ap (operation_of after) own ∙ own_marked sizes account bounds actor operation runs g,
                   marked_try (operation_after state operation) (ap (λ (o : Operation). o.id) same ∙ mine.0)
-                  ∙ ap marked_so (same_try sizes account bounds actor operation runs g attempt mark ∙ ap (λ x. try_of x) same),
+                      ∙ ap marked_so (same_try sizes account bounds actor operation runs g attempt mark ∙ ap (λ x. try_of x) same),
                 ))
-            | inr other ↦
-                (
-                  mark_one m owner.owner,
-                  other_marked sizes account bounds actor operation runs g (suc owner.k) other ∙ ap (after_mark m) owner.runs ∙ marked_some m owner.owner,
-                  marked_try owner.owner mine.0,
-                )
+            | inr other ↦ (
+              mark_one m owner.owner,
+              other_marked sizes account bounds actor operation runs g (suc owner.k) other ∙ ap (after_mark m) owner.runs ∙ marked_some m owner.owner,
+              marked_try owner.owner mine.0,
+            )
           ]
 
       pub out_settles : Settles sizes account actor carried_out operation k
       out_settles = record {
-        leaves = leaves_by sizes account bounds actor operation runs g makes_none publishes_none (ap (λ (s : State). s.heap) gone_is ∙ opened_heap k.offer.opens) (ap (λ (s : State). s.generations) gone_is ∙ opened_generations k.offer.opens);
+        leaves = leaves_by sizes account bounds actor operation runs g makes_none publishes_none (ap (λ (s : State). s.heap) gone_is ∙ opened_heap k.offer.opens)
+            (ap (λ (s : State). s.generations) gone_is ∙ opened_generations k.offer.opens);
         stood = stood;
         settled = ap (λ rs. get_or rs h None) out_roots ∙ else_opened k.offer.opens h (λ opens. not_h h opens refl) ∙ at_h k.offer.successor;
         opened = λ i low opens. ap (λ rs. get_or rs i None) out_roots ∙ at_opened k.offer.opens i opens low;

@@ -1,12 +1,10 @@
 -- An ABORT or a COMPLETE settles an offer that stands, and leaves all as it is where it finds it decided.
-use Rattle.std.proofs.Common.{◌≡◌, ◌≢◌, ◌⊎◌, ◌==◌, ℕ, Bool, true, false, Option, Some, None, refl, sym, ap, subst, ◌∙◌, inl, inr, if◌then◌else◌}
+use Rattle.std.proofs.Common.{◌≡◌, ◌==◌, ℕ, Bool, true, false, Some, None, refl, sym, ap, subst, ◌∙◌, if◌then◌else◌}
 use Rattle.std.specs.Prelude.{◌&&◌}
 use Rattle.history.specs.declared.calls.Access.TheVariants.{Writable}
 use Rattle.machine_model.specs.Beneath.slot_arena.specs.declared.refs.Ref.{Ref}
-use Rattle.machine_model.specs.declared.actions.Action.{Action}
 use Rattle.machine_model.specs.declared.actions.Action.TheVariants as act
 use Rattle.machine_model.specs.declared.operations.Operation.{Operation}
-use Rattle.machine_model.specs.declared.roots.Descriptor.{Descriptor}
 use Rattle.machine_model.specs.declared.roots.RootWord.TheVariants.{Plain, Offer}
 use Rattle.machine_model.specs.Acting.{acted, gone, if_changed, operation_after, attempt_after, mark_after, carried_out as carried}
 use Rattle.machine_model.specs.Calls.{handle_of}
@@ -23,7 +21,7 @@ use Rattle.lock_free.specs.declared.sizes.Sizes.{Sizes}
 use Rattle.lock_free.specs.Accounts.{bounds_for, state_of, running, gone_on}
 use Rattle.lock_free.specs.Making.{over_of}
 use Rattle.lock_free.specs.OfferWords.{outcome_by}
-use Rattle.lock_free.specs.Roots.{open_with, carried_out, taken_back}
+use Rattle.lock_free.specs.Roots.{open_with, taken_back}
 use Rattle.lock_free.specs.Settling.{Settles}
 use Rattle.lock_free.specs.Steps.{Reads}
 use Rattle.lock_free.specs.Trying.{as_before}
@@ -44,7 +42,8 @@ module _ (sizes : Sizes) (account : Account) (bounds : AreBounds (bounds_for siz
 
   -- ---- a step that changes nothing and marks nobody
 
-  module _ (g : GoesOn (action_of state operation)) (makes_none : (i a : Ref) → over_of operation.line ≡ Some (i, a) → ⊥) (publishes_none : (i a f : Ref) → ahead_of operation.line ≡ Some (i, a, f) → ⊥)
+  module _ (g : GoesOn (action_of state operation)) (makes_none : (i a : Ref) → over_of operation.line ≡ Some (i, a) → ⊥)
+      (publishes_none : (i a f : Ref) → ahead_of operation.line ≡ Some (i, a, f) → ⊥)
       (attempt : attempt_after operation.attempt (action_of state operation) ≡ operation.attempt) (mark : mark_after operation.is_marked (action_of state operation) ≡ operation.is_marked)
       (gone_is : gone state actor operation ≡ put) (no_marks : marks_by state (Some operation) ≡ None) where
     pub nothing_done : Reads sizes account actor operation
@@ -88,13 +87,15 @@ module _ (sizes : Sizes) (account : Account) (bounds : AreBounds (bounds_for siz
     -- it stands, and is taken back
     pub abort_settles : root_at state h ≡ open_with Writable (Offer k.offer) → Settles sizes account actor taken_back operation k
     abort_settles stood =
-        back_settles sizes account bounds actor operation runs k stood abort_goes abort_makes_none abort_publishes_none (ap (attempt_after operation.attempt) is) (ap (mark_after operation.is_marked) is)
+        back_settles sizes account bounds actor operation runs k stood abort_goes abort_makes_none abort_publishes_none (ap (attempt_after operation.attempt) is)
+        (ap (mark_after operation.is_marked) is)
         (abort_by true (stands sizes account bounds actor operation runs k stood)) (ap (marks_of state h) is)
 
     -- it doesn't stand any more
     pub abort_misses : stands_in (word_at state h) k.offer ≡ false → Reads sizes account actor operation
     abort_misses gone_already =
-        nothing_done abort_goes abort_makes_none abort_publishes_none (ap (attempt_after operation.attempt) is) (ap (mark_after operation.is_marked) is) (abort_by false gone_already) (ap (marks_of state h) is)
+        nothing_done abort_goes abort_makes_none abort_publishes_none (ap (attempt_after operation.attempt) is) (ap (mark_after operation.is_marked) is) (abort_by false gone_already)
+        (ap (marks_of state h) is)
 
   -- ---- COMPLETE
 
@@ -126,11 +127,13 @@ module _ (sizes : Sizes) (account : Account) (bounds : AreBounds (bounds_for siz
     pub complete_settles : root_at state h ≡ open_with Writable (Offer k.offer) → (c : Bool) → (main == k.offer.expected) ≡ c → Settles sizes account actor (outcome_by c) operation k
     complete_settles stood true f =
         let so = stands sizes account bounds actor operation runs k stood in
-        out_settles sizes account bounds actor operation runs k stood complete_goes complete_makes_none complete_publishes_none (ap (attempt_after operation.attempt) is) (ap (mark_after operation.is_marked) is)
+        out_settles sizes account bounds actor operation runs k stood complete_goes complete_makes_none complete_publishes_none (ap (attempt_after operation.attempt) is)
+        (ap (mark_after operation.is_marked) is)
         (complete_by true true so f) (marks_are true true so f)
     complete_settles stood false f =
         let so = stands sizes account bounds actor operation runs k stood in
-        back_settles sizes account bounds actor operation runs k stood complete_goes complete_makes_none complete_publishes_none (ap (attempt_after operation.attempt) is) (ap (mark_after operation.is_marked) is)
+        back_settles sizes account bounds actor operation runs k stood complete_goes complete_makes_none complete_publishes_none (ap (attempt_after operation.attempt) is)
+        (ap (mark_after operation.is_marked) is)
         (complete_by true false so f) (marks_are true false so f)
 
     pub complete_misses : stands_in (word_at state h) k.offer ≡ false → Reads sizes account actor operation

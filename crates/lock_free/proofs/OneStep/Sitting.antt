@@ -1,57 +1,41 @@
 -- What is left by a step that begins or ends an operation.
-use Rattle.std.proofs.Common.{◌≡◌, ◌≢◌, ◌⊎◌, ◌+◌, ◌-◌, ◌<◌, ◌≤◌, ◌++◌, ℕ, zero, suc, Bool, true, false, List, [], ◌∷◌, length, Contains, Option, Some, None, get_or, set, refl, sym, ap, subst, ◌∙◌, inl, inr, arith}
-use Rattle.std.specs.Prelude.{if◌then◌else◌}
+use Rattle.std.proofs.Common.{◌≡◌, ◌≢◌, ◌⊎◌, ◌+◌, ◌++◌, ℕ, [], ◌∷◌, length, Option, Some, None, get_or, refl, sym, ap, subst, ◌∙◌, inl, inr}
 use Rattle.std.proofs.lemmas.Bool.{cases_eq}
-use Rattle.std.proofs.lemmas.List.{get_or-set_same}
 use Rattle.std.proofs.lemmas.Option.{same_Some, none-some}
-use Rattle.history.specs.declared.calls.Call.{Call}
-use Rattle.history.specs.declared.calls.Call.TheVariants as call
 use Rattle.history.specs.declared.replies.Reply.{Reply}
 use Rattle.machine_model.specs.Beneath.slot_arena.specs.declared.refs.Ref.{Ref}
 use Rattle.machine_model.specs.Beneath.slot_arena.specs.Heaps.{Heap}
-use Rattle.machine_model.specs.declared.actions.Action.{Action}
 use Rattle.machine_model.specs.declared.actions.Action.TheVariants as act
-use Rattle.machine_model.specs.declared.lines.Line.{Line}
-use Rattle.machine_model.specs.declared.lines.Line.TheVariants as line
 use Rattle.machine_model.specs.declared.operations.Operation.{Operation}
 use Rattle.machine_model.specs.declared.steps.Outcome.{Outcome}
 use Rattle.machine_model.specs.declared.steps.Outcome.TheVariants as outcome
 use Rattle.machine_model.specs.declared.steps.Step.{Step}
 use Rattle.machine_model.specs.declared.steps.Step.TheVariants as step
 use Rattle.machine_model.specs.Acting.{ended}
-use Rattle.machine_model.specs.Calls.{handle_of, is_close, opens_handle}
 use Rattle.machine_model.specs.Counting.{settled}
 use Rattle.machine_model.specs.Grown.{standing}
-use Rattle.machine_model.specs.Keys.{FitsKey}
-use Rattle.machine_model.specs.Machine.{AreBounds, next, next_state, state_after, begin_denial, begin_unless, begun_operation, with_begin, handle_closed, step_by, go_denial, go_unless, go_on}
-use Rattle.machine_model.specs.Moves.{Moves, Begins as Begun, Ends as Ended}
-use Rattle.machine_model.specs.Operations.{action_of, first_line}
-use Rattle.machine_model.specs.States.{State, operation_of, root_at}
-use Rattle.machine_model.proofs.Actors.{begin_actors}
-use Rattle.machine_model.proofs.Found.{found_elsewhere}
-use Rattle.machine_model.proofs.HeapMoves.{begin_heap}
+use Rattle.machine_model.specs.Machine.{AreBounds, next, next_state, state_after, step_by, go_unless, go_on}
+use Rattle.machine_model.specs.Moves.{Moves, Ends as Ended}
+use Rattle.machine_model.specs.Operations.{action_of}
+use Rattle.machine_model.specs.States.{State, operation_of}
 use Rattle.proof_memory.specs.Laws.{IsInUse}
-use Rattle.proof_memory.proofs.Holding.Sizes.{sizes_stay}
 use Rattle.proof_memory.proofs.Safety.AtEachTime.{safe_along}
 use Rattle.proof_memory.proofs.Safety.States.{IsSafe}
 use Rattle.proof_memory.proofs.Safety.Steps.{safe_after}
-use Rattle.proof_commits.proofs.Known.StepsAt.{begin_others, end_others, end_own, actor_counts}
+use Rattle.proof_commits.proofs.Known.StepsAt.{end_others, end_own, actor_counts}
 use Rattle.proof_garbage.proofs.Known.{known_used}
 use Rattle.proof_garbage.proofs.Step.{step_known}
 use Rattle.proof_waiting.specs.Beneath.proof_slots.specs.Lasting.{widened}
 use Rattle.lock_free.specs.declared.accounts.Account.{Account}
-use Rattle.lock_free.specs.declared.accounts.Known.{Known}
 use Rattle.lock_free.specs.declared.sizes.Sizes.{Sizes}
-use Rattle.lock_free.specs.Accounts.{bounds_for, state_of, running, gone_on, IsOfOther, HasStood}
-use Rattle.lock_free.specs.Beginning.{Begins, Ends, taking}
+use Rattle.lock_free.specs.Accounts.{bounds_for, state_of, running}
+use Rattle.lock_free.specs.Beginning.{Ends, taking}
 use Rattle.lock_free.specs.Live.{IsLive}
 use Rattle.lock_free.specs.Nodes.{IsAhead}
 use Rattle.lock_free.specs.Offering.{LeavesNodes}
-use Rattle.lock_free.specs.Roots.{IsItsTry}
 use Rattle.lock_free.proofs.OneStep.Aheads.{ahead_of, ahead_acts}
 use Rattle.lock_free.proofs.OneStep.Going.{allowed}
 use Rattle.lock_free.proofs.OneStep.Longer.{bounds_more, run_next}
-use Rattle.lock_free.proofs.OneStep.Standing.{known_once}
 use Rattle.lock_free.proofs.OneStep.Widened.{slot_in, live_in, ahead_in, ahead_wide}
 
 -- ---- any step
@@ -74,7 +58,8 @@ module _ (sizes : Sizes) (account : Account) (bounds : AreBounds (bounds_for siz
   safe = safe_along (bounds_for sizes account.steps) bounds account.steps
 
   -- that changes no node, and by which nobody comes to be about to swap one in, or is so no more
-  module _ (heap_is : later.heap ≡ state.heap) (generations_are : later.generations ≡ state.generations) (was_live : (r : Ref) → IsLive later r → IsLive state r ⊎ (standing state.heap r ≡ None)) (actor : ℕ)
+  module _ (heap_is : later.heap ≡ state.heap) (generations_are : later.generations ≡ state.generations) (was_live : (r : Ref) → IsLive later r → IsLive state r ⊎ (standing state.heap r ≡ None))
+      (actor : ℕ)
       (others : (a : ℕ) → a ≢ actor → operation_of later a ≡ operation_of state a) (none_before : (x : Operation) → operation_of state actor ≡ Some x → ahead_of x.line ≡ None)
       (none_after : (x : Operation) → operation_of later actor ≡ Some x → ahead_of x.line ≡ None) where
     live_then : (r : Ref) → IsLive after r → IsLive state r
@@ -86,7 +71,8 @@ module _ (sizes : Sizes) (account : Account) (bounds : AreBounds (bounds_for siz
         by : IsLive state r ⊎ (standing state.heap r ≡ None) → IsLive state r
         by (inl was) = was
         by (inr none) =
-            let (slot, stood) = subst (λ heap. IsInUse heap r) heap_is (known_used later (safe_after state safe taken o later moves) (λ id. Unit {0}) in_later) in absurd (none-some slot (sym none ∙ stood))
+            let (slot, stood) = subst (λ heap. IsInUse heap r) heap_is (known_used later (safe_after state safe taken o later moves) (λ id. Unit {0}) in_later) in absurd
+            (none-some slot (sym none ∙ stood))
 
     aheads_then : (i a f : Ref) → IsAhead after i a f → IsAhead state i a f
     aheads_then i a f x = by (ahead_in 1 steps later i a f (subst (λ s. IsAhead s i a f) whole x))

@@ -1,17 +1,13 @@
 -- Offers and numbers in the state of an account: who has offered what stands, and what stood once never comes from a new try.
-use Rattle.std.proofs.Common.{◌≡◌, ◌≢◌, ◌+◌, ◌<◌, ◌≤◌, ◌++◌, ℕ, zero, suc, length, Bool, false, List, [], ◌∷◌, Contains, Option, Some, None, get_or, refl, sym, ap, subst, ◌∙◌, arith, append-nil}
-use Rattle.std.proofs.lemmas.Option.{same_Some}
+use Rattle.std.proofs.Common.{◌≡◌, ◌+◌, ◌++◌, ℕ, suc, length, List, [], ◌∷◌, sym, ap, subst, ◌∙◌, append-nil}
 use Rattle.history.specs.declared.calls.Access.TheVariants.{Writable}
-use Rattle.machine_model.specs.declared.operations.Operation.{Operation}
 use Rattle.machine_model.specs.declared.roots.Descriptor.{Descriptor}
 use Rattle.machine_model.specs.declared.roots.RootWord.TheVariants.{Offer}
 use Rattle.machine_model.specs.declared.steps.Step.{Step}
 use Rattle.machine_model.specs.Machine.{AreBounds, run, run_from, next_state}
-use Rattle.machine_model.specs.States.{State, operation_of, root_at, word_at, word_of}
+use Rattle.machine_model.specs.States.{State, root_at, word_at, word_of}
 use Rattle.machine_model.proofs.Along.{run-append, kept_by_moves}
-use Rattle.proof_garbage.specs.Beneath.proof_generations.proofs.Handles.Ids.{one_of_id}
 use Rattle.proof_garbage.specs.Beneath.proof_generations.proofs.Handles.Operations.{HasHandles}
-use Rattle.proof_garbage.specs.Beneath.proof_generations.proofs.Handles.Running.{place_of_actor}
 use Rattle.proof_garbage.specs.Beneath.proof_generations.proofs.Offers.Same.{HasOffers, IsKnown, known_kept, known_own}
 use Rattle.proof_garbage.specs.Beneath.proof_generations.proofs.Offers.Standing.{own_numbers}
 use Rattle.proof_garbage.specs.Beneath.proof_generations.proofs.Roots.OfLists.{has_handles_along}

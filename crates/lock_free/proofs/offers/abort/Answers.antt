@@ -1,4 +1,3 @@
-use Rattle.std.proofs.Common.{◌*◌}
 use Rattle.lock_free.proofs.AbortStep.{abort_allowed, abort_told}
 use Rattle.lock_free.proofs.offers.abort.Goals as goal
 

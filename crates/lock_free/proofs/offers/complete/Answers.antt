@@ -17,7 +17,7 @@ compare_exchange-found-requires c =
       c.requires.table,
       c.requires.within,
       subst (λ n. Allows (IsKept sizes) slots id me word (λ x. either (x == 0) n x) (has_completed (step slots word 0 n none) me)) (sym c.outcome_of-outcome.ensures)
-      (complete_allowed sizes slots id me c.args.offer c.args.is_expected c.requires.completing),
+          (complete_allowed sizes slots id me c.args.offer c.args.is_expected c.requires.completing),
     )
 
 pub returns-clause-completed : goal.returns-clause-completed

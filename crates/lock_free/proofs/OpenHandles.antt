@@ -1,6 +1,7 @@
 -- Exchanges of the word of an open handle: an offer that is settled is taken out of it, and a mark that a seat would close the handle is made or taken away.
 use Rattle.history.specs.declared.calls.Call.{Call}
-use Rattle.std.proofs.Common.{◌≡◌, ◌≢◌, ◌^◌, ◌==◌, ℕ, ◌<◌, inl, inr, Bool, true, false, List, ◌∷◌, [], Contains, set, slice_index, is_some, Option, Some, None, refl, sym, ap, subst, ◌∙◌, arith, if◌then◌else◌}
+use Rattle.std.proofs.Common.{◌≡◌, ◌≢◌, ◌^◌, ◌==◌, ℕ, ◌<◌, inl, inr, Bool, true, false, List, ◌∷◌, [], Contains, set, slice_index, is_some, Option, Some, None, refl, sym, ap, subst, ◌∙◌, arith}
+use Rattle.std.proofs.Common.{if◌then◌else◌}
 use Rattle.std.proofs.lemmas.Bool.{cases_eq, ne_eqb}
 use Rattle.std.proofs.lemmas.Option.{same_Some, none-some}
 use Rattle.std.proofs.lemmas.List.Elements.{Contains-get_or}
@@ -98,7 +99,8 @@ not_closing : (w : HandleWord) (who : ℕ) → IsRootWord w → kind w < 6 → S
 not_closing w who fits unmarked (inl h) = let same = same_kind w (word.ClosingWritable h.0 who) fits h.1 h.2 in omega (arith, same, unmarked)
 not_closing w who fits unmarked (inr h) = let same = same_kind w (word.ClosingReadOnly h.0 who) fits h.1 h.2 in omega (arith, same, unmarked)
 
-module _ (sizes : Sizes) (s : Table.State Call View) (kept : IsKept sizes s) (id : ℕ) (v : View) (at : get_elem? s.views id ≡ some v) (handle : ℕ) (low : handle < handle_limit) (access : Access) (q : Ref)
+module _ (sizes : Sizes) (s : Table.State Call View) (kept : IsKept sizes s) (id : ℕ) (v : View) (at : get_elem? s.views id ≡ some v) (handle : ℕ) (low : handle < handle_limit) (access : Access)
+    (q : Ref)
     (plain : root_at (state_of sizes kept.account) handle ≡ open_with access (Plain q)) (w : HandleWord) (fits : IsRootWord w) (is : IsPlainWord access (place_of kept.account q) w) where
   abbrev state : State
   state = state_of sizes kept.account
@@ -154,7 +156,8 @@ module _ (sizes : Sizes) (s : Table.State Call View) (kept : IsKept sizes s) (id
           (λ g who below says. elim (cases_eq g handle) [
             | inl same ↦ absurd (says_none g who same says)
             | inr differs ↦
-                closing_at sizes s kept id v at (record v { closing = None }) refl refl g who (λ e. e) (λ d is_it on own. absurd (differs (sym on ∙ ap (λ (x : Closing). x.handle) (same_Some d c (sym is_it ∙ closes)) ∙ this)))
+                closing_at sizes s kept id v at (record v { closing = None }) refl refl g who (λ e. e)
+                (λ d is_it on own. absurd (differs (sym on ∙ ap (λ (x : Closing). x.handle) (same_Some d c (sym is_it ∙ closes)) ∙ this)))
                 (kept.closings g who below (says_else g who differs says))
           ])
 
