@@ -14,3 +14,4 @@ pub mod Exchanging
 pub mod Storing
 pub mod OfReads
 pub mod Passing
+pub mod Swaps
