@@ -2,11 +2,13 @@
 
 ghost use Rattle.std.specs.Prelude.{◌≡◌};
 ghost use Rattle.lock_free.specs.Loading.{IsSound};
+ghost use Rattle.lock_free.specs.declared.reading.Passed.TheVariants as passed;
 ghost use Rattle.lock_free.specs.Passing.{HasAsked, HasLicense, HasPassed, HasReached, IsAsking, IsFailed, IsOnWay, IsPassing, IsPending};
 
 use crate::exchanges::{decide, restore};
 use crate::loads::{Actor, Words, read_header, read_link, see_main};
 use history::Access;
+use std::sync::Wait;
 use trie_words::{Header, Link, Name, Previous};
 
 /// The handle of an operation that reads.
@@ -153,4 +155,24 @@ pub fn read_within<A: AsksRoot>(asker: &A, words: &Words, actor: &mut Actor, way
         }
     }
     Passed::Again(next)
+}
+
+/// The READ of the indirection in this slot.
+pub fn read<R: Wait, A: AsksRoot>(rt: &R, asker: &A, words: &Words, actor: &mut Actor, way: Way, indirection: u32, from: Option<Link>) -> Given
+    requires table { actor.old.table_id ≡ words.now.table_id }
+    requires sound { IsSound words.now.table_id.words actor.old.me.0 }
+    requires way { IsOnWay actor.old.me.0 way }
+    requires passing { IsPassing actor.old.me.0 indirection from }
+    ensures table { actor.new.table_id ≡ actor.old.table_id }
+    ensures sound { IsSound words.now.table_id.words actor.new.me.0 }
+    ensures given { HasPassed actor.old.me.0 (passed.Gives result) actor.new.me.0 }
+{
+    let mut next = from;
+    for _ in rt.forever() {
+        match pass(asker, words, actor, way, indirection, next) {
+            Passed::Gives(given) => return given,
+            Passed::Again(from) => next = from,
+        }
+    }
+    unreachable!()
 }

@@ -1,0 +1,34 @@
+use Rattle.std.proofs.Common.{refl, sym, ◌∙◌}
+use Rattle.lock_free.specs.declared.reading.Passed.TheVariants as passed
+use Rattle.lock_free.proofs.OnePass.{none_yet, more, one_more}
+use Rattle.lock_free.proofs.reading.read.Goals as goal
+
+pub loop-init : goal.loop-init
+loop-init g c = (tt, tt, refl, none_yet c.args.words.now.table_id.words c.args.way c.args.indirection c.args.actor.now.me.0 c.args.from c.requires.sound c.requires.way c.requires.passing)
+
+pub pass-requires-clause-table : goal.pass-requires-clause-table
+pass-requires-clause-table g c = c.loop.invariant.2 ∙ c.requires.table
+
+pub pass-requires-clause-sound : goal.pass-requires-clause-sound
+pass-requires-clause-sound g c = c.loop.invariant.3.sound
+
+pub pass-requires-clause-way : goal.pass-requires-clause-way
+pass-requires-clause-way g c = c.loop.invariant.3.on
+
+pub pass-requires-clause-passing : goal.pass-requires-clause-passing
+pass-requires-clause-passing g c = c.loop.invariant.3.passing
+
+pub returns-in-Gives-clause-table : goal.returns-in-Gives-clause-table
+returns-in-Gives-clause-table g c = c.pass.ensures.table ∙ c.loop.invariant.2
+
+pub returns-in-Gives-clause-given : goal.returns-in-Gives-clause-given
+returns-in-Gives-clause-given g c =
+    more c.args.words.now.table_id.words c.args.way c.args.indirection c.args.actor.now.me.0 c.loop.actor.me.0 c.loop.next c.loop.invariant.3 c.pass.new.actor.me.0 (passed.Gives c.in-Gives.given) (c.in-Gives.ensures {u = tt}).passed
+
+pub loop-preserved : goal.loop-preserved
+loop-preserved g c = (
+  tt,
+  tt,
+  c.pass.ensures.table ∙ c.loop.invariant.2,
+  one_more c.args.words.now.table_id.words c.args.way c.args.indirection c.args.actor.now.me.0 c.loop.actor.me.0 c.loop.next c.loop.invariant.3 c.pass.new.actor.me.0 c.in-Again.from c.pass.ensures.sound (c.in-Again.ensures {u = tt}).passed,
+)
