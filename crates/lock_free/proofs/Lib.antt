@@ -32,6 +32,8 @@ mod Passes
 mod ReadHolds
 mod Settles
 mod OnePass
+mod SwapRuns
+mod SwapSteps
 mod Framing
 mod NodeWord
 mod Pools

@@ -54,7 +54,7 @@ kind_in (previous.Pending name) = 1
 kind_in (previous.Failed name) = 2
 
 module _ (account : Account) (state : State) (k : ℕ) where
-  none_says : (p : Prev) (says : Previous) → says ≡ previous.None → SaysPrevious account state k p says → p ≡ prev.None
+  pub none_says : (p : Prev) (says : Previous) → says ≡ previous.None → SaysPrevious account state k p says → p ≡ prev.None
   none_says p says e (decided nobody) = refl
   none_says p says e (ahead i a f own h its owned) = refl
   none_says p says e (pending q own over) = absurd (omega (arith, (ap kind_in e)))

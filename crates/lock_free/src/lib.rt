@@ -11,6 +11,7 @@ mod reading;
 mod rules;
 mod sizes;
 mod stores;
+mod swapping;
 
 pub use accounts::{Account, Known, Owned};
 pub use exchanges::{decide, publish, restore};
@@ -21,3 +22,4 @@ pub use reading::{AsksRoot, Given, Passed, Way, read, read_within};
 pub use rules::{Closing, Completes, Drafts, Goes, Makes, Pool, Publishes, Rule, Sees, Takes, View};
 pub use sizes::Sizes;
 pub use stores::{Tried, draft, make, try_take};
+pub use swapping::{Swapped, swap};

@@ -158,14 +158,14 @@ module _ (limits : Bounds) (ok : AreBounds limits) (before : List Step) (r : Ref
 
   one_step : (steps : List Step) (s : Step) → Unknown (run limits steps) →
       ((actor : ℕ) (operation : Operation) → s ≡ step.Go actor → operation_of (run limits steps) actor ≡ Some operation → operation.id < start.begun →
-          MayMakeKnown (action_of (run limits steps) operation) →
+      MayMakeKnown (action_of (run limits steps) operation) →
       (IsKnownSince start (run limits steps) r → ⊥) → IsKnownSince start (next_state (run limits steps) s) r → ⊥) → Unknown (next_state (run limits steps) s)
   one_step steps s u h =
       (births_kept (run limits steps) (safe_along limits ok steps) s (next (run limits steps) s) (moves (run limits steps) s) u.0, by_answer (next (run limits steps) s) (moves (run limits steps) s) h)
     where
       by_answer : (answer : Answer) → MovesIfTaken (run limits steps) s answer →
           ((actor : ℕ) (operation : Operation) → s ≡ step.Go actor → operation_of (run limits steps) actor ≡ Some operation → operation.id < start.begun →
-              MayMakeKnown (action_of (run limits steps) operation) →
+          MayMakeKnown (action_of (run limits steps) operation) →
           (IsKnownSince start (run limits steps) r → ⊥) → IsKnownSince start (state_after (run limits steps) answer) r → ⊥) → IsKnownSince start (state_after (run limits steps) answer) r → ⊥
       by_answer (Ok done) m h = by_move limits ok steps start.begun r s done.0 done.1 m u.0 h u.1
       by_answer (Err why) m h = u.1

@@ -15,3 +15,4 @@ pub mod Swaps
 pub mod GivenUp
 pub mod Grace
 pub mod Epochs
+pub mod PutBack

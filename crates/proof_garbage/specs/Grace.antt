@@ -47,3 +47,14 @@ abbrev pub TwoEpochsAreGrace : Type 0
 TwoEpochsAreGrace =
     (limits : Bounds) (before since : List Step) → AreBounds limits → (run limits before).epoch + 2 ≤ (run limits (before ++ since)).epoch →
     HaveEnded (run limits before) (run limits (before ++ since))
+
+-- ---- what isn't so: without the premise that nobody puts it back
+
+abbrev pub DeadAfterGraceAlone : Type 0
+DeadAfterGraceAlone =
+    (limits : Bounds) (before since : List Step) (r : Ref) → AreBounds limits → IsInUse (run limits before).heap r → ¬ IsReached (run limits before) r →
+    HaveEnded (run limits before) (run limits (before ++ since)) → ¬ IsLive (run limits (before ++ since)) r
+
+-- a snapshot offers over a main node that was replaced since it was read; who meets the offer has that node at hand when the snapshot has ended
+abbrev pub GraceAloneIsTooLittle : Type 0
+GraceAloneIsTooLittle = ¬ DeadAfterGraceAlone

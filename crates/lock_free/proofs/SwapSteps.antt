@@ -1,0 +1,270 @@
+-- A SWAP, put together.
+use Rattle.std.proofs.Common.{◌≡◌, ◌≢◌, ◌+◌, ◌*◌, ◌^◌, ◌<◌, ◌==◌, ℕ, Bool, true, false, List, [], ◌∷◌, ◌++◌, Contains, get_or, Option, Some, None, refl, sym, ap, subst, ◌∙◌, arith}
+use Rattle.std.proofs.lemmas.List.Elements.{Contains-get_or}
+use Rattle.std.proofs.lemmas.Bool.{true≢false}
+use Rattle.std.proofs.lemmas.Option.{same_Some}
+use Rattle.trie_words.specs.declared.headers.Header.{Header}
+use Rattle.trie_words.specs.declared.headers.Previous.{Previous}
+use Rattle.trie_words.specs.declared.headers.Previous.TheVariants as previous
+use Rattle.trie_words.specs.declared.links.Link.{Link}
+use Rattle.trie_words.specs.declared.names.Name.{Name}
+use Rattle.machine_model.specs.Beneath.slot_arena.specs.declared.refs.Ref.{Ref}
+use Rattle.machine_model.specs.Beneath.slot_arena.specs.declared.nodes.Prev.{Prev}
+use Rattle.machine_model.specs.Beneath.slot_arena.specs.declared.nodes.Slot.{Slot}
+use Rattle.machine_model.specs.Beneath.slot_arena.specs.Heaps.{no_ref, node_at, main_at, prev_at}
+use Rattle.machine_model.specs.Beneath.slot_arena.specs.Refs.{slot_of}
+use Rattle.machine_model.specs.declared.actions.Action.TheVariants as act
+use Rattle.machine_model.specs.declared.lines.Purpose.{Purpose}
+use Rattle.machine_model.specs.declared.lines.Purpose.TheVariants as purpose
+use Rattle.machine_model.specs.declared.lines.Line.{Line}
+use Rattle.machine_model.specs.declared.lines.Line.TheVariants as line
+use Rattle.machine_model.specs.declared.reading.After.TheVariants.{Goes, Gives}
+use Rattle.machine_model.specs.declared.reading.ReadLine.TheVariants as read
+use Rattle.machine_model.specs.declared.reading.SwapLine.TheVariants as swap
+use Rattle.machine_model.specs.declared.operations.Operation.{Operation}
+use Rattle.machine_model.specs.Calls.{handle_of}
+use Rattle.machine_model.specs.Machine.{AreBounds}
+use Rattle.machine_model.specs.Operations.{action_of}
+use Rattle.machine_model.specs.States.{State}
+use Rattle.proof_memory.specs.Wants.{is_main_node}
+use Rattle.lock_free.specs.declared.accounts.Account.{Account}
+use Rattle.lock_free.specs.declared.reading.Given.{Given}
+use Rattle.lock_free.specs.declared.reading.Passed.TheVariants as passed
+use Rattle.lock_free.specs.declared.reading.Way.{Way}
+use Rattle.lock_free.specs.declared.rules.View.{View}
+use Rattle.lock_free.specs.declared.swapping.Swapped.{Swapped}
+use Rattle.lock_free.specs.declared.swapping.Swapped.TheVariants.{Commits, Fails, Misses}
+use Rattle.lock_free.specs.Accounts.{bounds_for, running, IsOwn, later, first}
+use Rattle.lock_free.specs.Exchanging.{IsAtPublish, HasPublished, given_up}
+use Rattle.lock_free.specs.Loading.{now, seen, Runs, IsAt, IsUsed, IsSound, IsAtSlot, Waited, HasHeader, HasReadHeader}
+use Rattle.lock_free.specs.Nodes.{class_of, IsAhead, SaysPrevious, decided, ahead, pending, failed}
+use Rattle.lock_free.specs.Passing.{Later, IsReading, IsOnWay, KnowsLink, IsPlaced, IsPassing, HasPassed, HasGiven}
+use Rattle.lock_free.specs.Places.{words_in}
+use Rattle.lock_free.specs.Publishing.{owned_now, swapped_in}
+use Rattle.lock_free.specs.Swaps.{swap_on, swap_done, IsSwapping, IsAtSwap, is_done, HasSwapDone}
+use Rattle.lock_free.proofs.Asked.{mains_of, main_stands, nodes_go, read_is_met}
+use Rattle.lock_free.proofs.Comings.{runs_one}
+use Rattle.lock_free.proofs.Framing.{class_small}
+use Rattle.lock_free.proofs.GivenBack.{node_is}
+use Rattle.lock_free.proofs.Laters.{main_kind, went_later, later_both, waited_later, same_both, used_later, placed_later, link_later, generation_later}
+use Rattle.lock_free.proofs.Passes.{none_says}
+use Rattle.lock_free.proofs.SwapRuns.{publishes, misses, is_none, checks}
+use Rattle.lock_free.proofs.Verdicts.{main_same, prev_is}
+use Rattle.lock_free.proofs.Within.{two_words}
+
+-- what a SWAP's line is for, and its fresh node
+abbrev parts_in : Line → Purpose × Ref
+parts_in (line.Swap why s) = (why, s.fresh)
+parts_in l = (purpose.Clean, no_ref)
+
+not_none : (account : Account) (state : State) (k : ℕ) (p : Prev) (says : Previous) → says ≢ previous.None → ((j b c : Ref) → IsAhead state j b c → slot_of c ≢ k) → SaysPrevious account state k p says → is_none p ≡ false
+not_none account state k p says isnt met (decided nobody) = absurd (isnt refl)
+not_none account state k p says isnt met (ahead i b c own h its owned) = absurd (met i b c h its)
+not_none account state k p says isnt met (pending q own over) = refl
+not_none account state k p says isnt met (failed q own over) = refl
+
+is_none_says : Previous → Bool
+is_none_says previous.None = true
+is_none_says p = false
+
+pub pending_not : (p : Previous) (name : Name) → p ≡ previous.Pending name → p ≢ previous.None
+unfolding is_none_says
+pending_not p name e n = true≢false (ap is_none_says (sym n ∙ e))
+
+pub failed_not : (p : Previous) (name : Name) → p ≡ previous.Failed name → p ≢ previous.None
+unfolding is_none_says
+failed_not p name e n = true≢false (ap is_none_says (sym n ∙ e))
+
+module _ (v : View) (name : ℕ) (link : Link) (fresh : ℕ) (is_at : IsAtSwap v name link fresh) where
+  abbrev why : Purpose
+  why = is_at.0
+
+  abbrev i : Ref
+  i = is_at.1
+
+  abbrev a : Ref
+  a = is_at.2
+
+  abbrev f : Ref
+  f = is_at.3
+
+  abbrev swaps : IsSwapping v why i a f
+  swaps = is_at.4
+
+  -- each operation that runs is there
+  line_of : (o : Operation) → Runs v o → o.line ≡ line.Swap why (record { indirection = i; replaced = a; fresh = f; line = swap.Publish })
+  line_of o r = ap (λ (z : Operation). z.line) (runs_one v o swaps.0 r swaps.1) ∙ swaps.2
+
+  abbrev o0 : Operation
+  o0 = record swaps.0 { is_marked = swaps.1.0 }
+
+  abbrev at_publish : IsAt v (act.Publish i a f)
+  at_publish = record { operation = o0; runs = swaps.1.1; acts = subst (λ l. action_of (now v) (record o0 { line = l }) ≡ act.Publish i a f) (sym swaps.2) refl }
+
+  pub publish_ready : IsAtPublish v name link fresh
+  publish_ready = (i, a, f, at_publish, is_at.5.1, is_at.6.is, is_at.7.1)
+
+  -- it is at no other SWAP
+  lifted : (w : View) (b : Bool) → ((o : Operation) → Runs v o → Runs w (swap_done why (node_at (now v).heap f) b o)) →
+      (y : Purpose) (j c h : Ref) → IsSwapping v y j c h → (o : Operation) → Runs v o → Runs w (swap_done y (node_at (now v).heap h) b o)
+  lifted w b d y j c h s o r =
+      let same = ap parts_in (sym (line_of o r) ∙ (ap (λ (z : Operation). z.line) (runs_one v o s.0 r s.1) ∙ s.2)) in
+      subst (λ (x : Purpose × Ref). Runs w (swap_done x.0 (node_at (now v).heap x.1) b o)) same (d o r)
+
+  module _ (n : ℕ) (sound : IsSound n v) (w : View) (then : IsSound n w) (stood : Bool) (g : HasPublished v stood w) where
+    abbrev account : Account
+    account = g.0
+
+    abbrev state : State
+    state = now (seen v account)
+
+    abbrev what : ((main_at state.heap i == a) ≡ stood) × (stood ≡ true → w ≡ seen v (swapped_in v.actor i f account)) × (stood ≡ false → w ≡ given_up v account o0.private)
+    what = g.3 i a f at_publish
+
+    seen_later : Later v (seen v account)
+    seen_later = waited_later n v sound account g.1
+
+    fresh_main : is_main_node is_at.7.0.0.node ≡ true
+    fresh_main =
+        let stands = main_stands v.sizes v.account sound.bounds v.actor o0 swaps.1.1 f (subst (λ x. Contains (mains_of x) f) (sym at_publish.acts) (Contains-get_or (a ∷ f ∷ []) 1 f (omega arith))) in
+        subst (λ (z : Slot). is_main_node z.node ≡ true) (same_Some stands.1.0 is_at.7.0.0 (sym stands.1.1 ∙ is_at.7.0.1)) stands.1.2
+
+    -- the fresh node stays what it is
+    fresh_same : (x : View) → Later v x → node_at (now x).heap f ≡ node_at (now v).heap f
+    fresh_same x l =
+        let y = l.nodes f is_at.7.0.0 is_at.7.0.1 in
+        let main = main_kind is_at.7.0.0.node y.0.node y.2 fresh_main in
+        node_is (now x) f y.0 y.1 ∙ main_same is_at.7.0.0.node y.0.node y.2 main ∙ sym (node_is (now v) f is_at.7.0.0 is_at.7.0.1)
+
+    -- it isn't swapped in
+    pub missed : stood ≡ false → HasSwapDone v Misses w
+    missed e = (
+      (account, g.1, λ o r. what.2 e ∙ ap (λ (z : Operation). given_up v account z.private) (runs_one v swaps.0 o swaps.1 r)),
+      lifted w false goes,
+    )
+      where
+        goes : (o : Operation) → Runs v o → Runs w (swap_done why (node_at (now v).heap f) false o)
+        goes o (mark, runs) =
+            let there = g.1.stays (record o { is_marked = mark }) runs in
+            let step = misses why i a f state o there.0 (line_of o (mark, runs)) (what.0 ∙ e) in
+            (
+              there.0,
+              g.2 (record o { is_marked = there.0 }) there.1 ∙ ap Some (step ∙ ap (λ node. record (swap_done why node false o) { is_marked = there.0 }) (fresh_same (seen v account) seen_later)),
+            )
+
+    -- it is swapped in
+    module _ (e : stood ≡ true) where
+      hit_is : w ≡ seen v (swapped_in v.actor i f account)
+      hit_is = what.1 e
+
+      bounds_then : AreBounds (bounds_for v.sizes (swapped_in v.actor i f account).steps)
+      bounds_then = subst (λ (x : View). AreBounds (bounds_for x.sizes x.account.steps)) hit_is then.bounds
+
+      pub later_w : Later v w
+      later_w =
+          subst (λ x. Later v x) (sym hit_is)
+          (record {
+            is = refl;
+            places = seen_later.places;
+            owns = λ x y b h. later (owned_now i f) account.owned (slot_of x) (slot_of y) b (seen_later.owns x y b h);
+            nodes = λ r slot u.
+                (let x = seen_later.nodes r slot u in
+                let y = nodes_go v.sizes v.actor account bounds_then (slot_of r) x.0 x.1 in
+                (y.0, y.1, same_both slot.node x.0.node y.0.node x.2 y.2));
+          })
+
+      swapped_link : Link
+      swapped_link = record { generation = link.generation; main = record { slot = fresh; own = true } }
+
+      goes_w : (o : Operation) → Runs v o → Runs w (swap_on why i a f (swap.Deciding (read.Prev f)) o)
+      goes_w o (mark, runs) =
+          let there = g.1.stays (record o { is_marked = mark }) runs in
+          (there.0, g.2 (record o { is_marked = there.0 }) there.1 ∙ ap Some (publishes why i a f state o there.0 (line_of o (mark, runs)) (what.0 ∙ e)))
+
+      reading_w : IsReading w i (read.Prev f)
+      reading_w = (swap_on why i a f (swap.Deciding (read.Prev f)) swaps.0, goes_w swaps.0 swaps.1, refl)
+
+      fresh_small : fresh < 2 ^ 27
+      fresh_small =
+          let inside = sound.inside (slot_of f) is_at.7.0.0 is_at.7.0.1 in
+          let two = two_words (class_of is_at.7.0.0.node) (class_small is_at.7.0.0.node) in
+          let range = sound.range in
+          let place = is_at.7.1 in
+          omega (arith, inside, two, range, place)
+
+      owned_w : IsOwn w.account i f true
+      owned_w = subst (λ (x : View). IsOwn x.account i f true) (sym hit_is) (first (owned_now i f) account.owned)
+
+      placed_f : IsPlaced w f fresh
+      placed_f = placed_later v w later_w f fresh is_at.7
+
+      pub read_ready : IsPassing w name (Some (record { generation = link.generation; main = record { slot = fresh; own = true } }))
+      read_ready = (
+        i,
+        placed_later v w later_w i name is_at.5,
+        (
+          f,
+          reading_w,
+          record {
+            is = record { generation = is_at.6.is.generation ∙ sym (generation_later v w later_w i is_at.6.link_used); names = record { place = placed_f.1; is_own = owned_w } };
+            fits = (is_at.6.fits.0, fresh_small);
+            link_used = used_later v w later_w i is_at.6.link_used;
+            main_used = placed_f.0;
+          },
+        ),
+      )
+
+      pub way_w : (way : Way) → IsOnWay v way → IsOnWay w way
+      way_w way on q r =
+          let same = runs_one w q (swap_on why i a f (swap.Deciding (read.Prev f)) swaps.0) r (goes_w swaps.0 swaps.1) in
+          let it = on swaps.0 swaps.1 in
+          (ap (λ (z : Operation). z.access) same ∙ it.0, ap (λ (z : Operation). handle_of z.call) same ∙ it.1)
+
+      -- it is decided
+      module _ (x : View) (sound_x : IsSound n x) (given : Given) (p : HasPassed w (passed.Gives given) x) where
+        its_given : HasGiven w i given x
+        its_given = p i (read.Prev f) reading_w
+
+        goes_x : (o : Operation) → Runs v o → Runs x (swap_on why i a f swap.Check o)
+        goes_x o r = its_given.come.comes (swap_on why i a f (swap.Deciding (read.Prev f)) o) (goes_w o r)
+
+        later_x : Later v x
+        later_x = later_both v w x later_w its_given.come.later
+
+        at_check : IsAt x (act.ReadPrev f)
+        at_check = let r = goes_x swaps.0 swaps.1 in record { operation = record (swap_on why i a f swap.Check swaps.0) { is_marked = r.0 }; runs = r.1; acts = refl }
+
+        pub header_ready : IsAtSlot x act.ReadPrev fresh
+        header_ready = (f, at_check, (placed_later v x later_x f fresh is_at.7).1)
+
+        module _ (z : View) (sound_z : IsSound n z) (header : Header) (h : HasReadHeader x header z) where
+          says : HasHeader h.0.account (now (seen x h.0.account)) f header
+          says = (h.1 f at_check).0
+
+          later_y : Later v (seen x h.0.account)
+          later_y = later_both v x (seen x h.0.account) later_x (waited_later n x sound_x h.0.account h.0.waited)
+
+          own_left : z ≡ seen v z.account
+          own_left = (later_both v x z later_x (went_later n x sound_x n z sound_z h.0)).is
+
+          goes_z : (done : Bool) → is_none says.slot.prev ≡ done → (o : Operation) → Runs v o → Runs z (swap_done why (node_at (now v).heap f) done o)
+          goes_z done is o r =
+              let (mark, runs) = goes_x o r in
+              let there = h.0.waited.stays (record (swap_on why i a f swap.Check o) { is_marked = mark }) runs in
+              let step = checks why i a f (now (seen x h.0.account)) o there.0 done (ap is_none (prev_is (now (seen x h.0.account)) f says.slot says.stores) ∙ is) in
+              (
+                there.0,
+                h.0.took (record (swap_on why i a f swap.Check o) { is_marked = there.0 }) there.1
+                ∙ ap Some (step ∙ ap (λ node. record (swap_done why node done o) { is_marked = there.0 }) (fresh_same (seen x h.0.account) later_y)),
+              )
+
+          pub commits : header.previous ≡ previous.None → HasSwapDone v Commits z
+          commits is = (own_left, lifted z true (goes_z true (ap is_none (none_says h.0.account (now (seen x h.0.account)) (slot_of f) says.slot.prev header.previous is says.is_previous))))
+
+          met : (j b c : Ref) → IsAhead (now (seen x h.0.account)) j b c → slot_of c ≢ slot_of f
+          met =
+              let there = h.0.waited.stays at_check.operation at_check.runs in
+              read_is_met x.sizes h.0.account h.0.waited.sound.bounds x.actor (record at_check.operation { is_marked = there.0 }) there.1 f (there.2 ∙ at_check.acts)
+
+          pub fails : header.previous ≢ previous.None → HasSwapDone v Fails z
+          fails isnt = (own_left, lifted z false (goes_z false (not_none h.0.account (now (seen x h.0.account)) (slot_of f) says.slot.prev header.previous isnt met says.is_previous)))

@@ -1,0 +1,52 @@
+-- A SWAP, from its first line to what comes after it.
+use Rattle.std.specs.Prelude.{◌≡◌, ℕ, Bool, true, false, [], Some}
+use Rattle.trie_words.specs.declared.links.Link.{Link}
+use Rattle.machine_model.specs.Beneath.slot_arena.specs.declared.refs.Ref.{Ref}
+use Rattle.machine_model.specs.Beneath.slot_arena.specs.declared.nodes.Node.{Node}
+use Rattle.machine_model.specs.Beneath.slot_arena.specs.Heaps.{node_at}
+use Rattle.machine_model.specs.declared.lines.Purpose.{Purpose}
+use Rattle.machine_model.specs.declared.lines.Line.TheVariants as line
+use Rattle.machine_model.specs.declared.operations.Operation.{Operation}
+use Rattle.machine_model.specs.declared.reading.SwapLine.{SwapLine}
+use Rattle.machine_model.specs.declared.reading.SwapLine.TheVariants as swap
+use Rattle.machine_model.specs.Operations.{swapped}
+use Rattle.lock_free.specs.declared.accounts.Account.{Account}
+use Rattle.lock_free.specs.declared.rules.View.{View}
+use Rattle.lock_free.specs.declared.swapping.Swapped.{Swapped}
+use Rattle.lock_free.specs.declared.swapping.Swapped.TheVariants.{Commits, Fails, Misses}
+use Rattle.lock_free.specs.Exchanging.{given_up}
+use Rattle.lock_free.specs.Loading.{now, seen, Runs, Waited}
+use Rattle.lock_free.specs.Passing.{KnowsLink, IsPlaced}
+
+-- the operation on this line of its SWAP, and all that it has made is handed over
+abbrev pub swap_on : Purpose → Ref → Ref → Ref → SwapLine → Operation → Operation
+swap_on why i replaced made x o = record o { private = []; line = line.Swap why (record { indirection = i; replaced = replaced; fresh = made; line = x }) }
+
+-- after its SWAP of this node
+abbrev pub swap_done : Purpose → Node → Bool → Operation → Operation
+swap_done why node done o = record o { private = []; line = swapped o node why done }
+
+-- it is at a SWAP's first line
+abbrev pub IsSwapping : View → Purpose → Ref → Ref → Ref → Type 0
+IsSwapping v why i replaced made =
+    (o : Operation) × Runs v o × (o.line ≡ line.Swap why (record { indirection = i; replaced = replaced; fresh = made; line = swap.Publish }))
+
+abbrev pub IsAtSwap : View → ℕ → Link → ℕ → Type 0
+IsAtSwap v name link fresh =
+    (why : Purpose) × (i : Ref) × (replaced : Ref) × (made : Ref) × IsSwapping v why i replaced made × IsPlaced v i name × KnowsLink v i replaced link × IsPlaced v made fresh
+
+abbrev pub is_done : Swapped → Bool
+is_done Commits = true
+is_done Fails = false
+is_done Misses = false
+
+-- what is left of the seat's own: where the replaced node wasn't found, all that it has made is free for it again
+abbrev pub LeavesOwn : View → Swapped → View → Type 0
+LeavesOwn before Commits after = after ≡ seen before after.account
+LeavesOwn before Fails after = after ≡ seen before after.account
+LeavesOwn before Misses after = (account : Account) × Waited before account × ((o : Operation) → Runs before o → after ≡ given_up before account o.private)
+
+abbrev pub HasSwapDone : View → Swapped → View → Type 0
+HasSwapDone before result after =
+    LeavesOwn before result after
+    × ((why : Purpose) (i replaced made : Ref) → IsSwapping before why i replaced made → (o : Operation) → Runs before o → Runs after (swap_done why (node_at (now before).heap made) (is_done result) o))
