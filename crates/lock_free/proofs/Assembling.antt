@@ -1,20 +1,28 @@
 -- The rule after an access: put together from what it leaves of each part.
 use Rattle.history.specs.declared.calls.Call.{Call}
-use Rattle.std.proofs.Common.{◌≡◌, ◌≢◌, ◌+◌, ◌*◌, ◌⊎◌, ℕ, zero, suc, ◌<◌, ◌≤◌, inl, inr, List, [], ◌∷◌, Contains, length, set, get_or, slice_index, Some, None, refl, sym, ap, subst, ◌∙◌, arith}
+use Rattle.std.proofs.Common.{◌≡◌, ◌≢◌, ◌⊎◌, ℕ, zero, suc, ◌<◌, ◌≤◌, inl, inr, List, [], ◌∷◌, length, set, slice_index, Some, refl, sym, ap, subst, ◌∙◌, arith}
 use mathlib.Core.Option.{some, some-injective, some-ne-none}
 use lib.ListN.{get_elem?}
 use Rattle.atomic_table.specs.Table as Table
 use Rattle.atomic_table.proofs.Lists.{at_set, set_else, set_here}
 use Rattle.std.proofs.lemmas.Bool.{cases_eq}
+use Rattle.trie_words.specs.Codes.{root_code, IsRootWord}
+use Rattle.trie_words.specs.declared.roots.RootWord.TheVariants as word
 use Rattle.machine_model.specs.Keys.{KeysFit}
+use Rattle.machine_model.specs.declared.operations.Operation.{Operation}
 use Rattle.machine_model.specs.Machine.{AreBounds}
-use Rattle.machine_model.specs.States.{State, handle_limit}
+use Rattle.machine_model.specs.States.{State, operation_of, handle_limit}
+use Rattle.proof_waiting.specs.Beneath.proof_slots.specs.Unswept.{HasNoSweeps}
 use Rattle.lock_free.specs.declared.accounts.Account.{Account}
 use Rattle.lock_free.specs.declared.rules.View.{View}
+use Rattle.lock_free.specs.declared.rules.Closing.{Closing}
 use Rattle.lock_free.specs.declared.sizes.Sizes.{Sizes}
 use Rattle.lock_free.specs.Accounts.{bounds_for, state_of}
 use Rattle.lock_free.specs.Places.{HaveTaken, words_of, generation_word, root_word}
-use Rattle.lock_free.specs.Rules.{Standing, NodesStand, RootsStand, IsClosing, SaysClosing, IsFree, IsSeat, HasActor, IsKept}
+use Rattle.lock_free.specs.Rules.{Standing, NodesStand, RootsStand, IsClosing, SaysClosing, IsFree, IsOpening, Reserves, HasSeat, IsSeat, HasActor, IsKept}
+use Rattle.lock_free.specs.Roots.{NoOffer}
+use Rattle.lock_free.specs.Trying.{KeepsTries}
+use Rattle.lock_free.proofs.Meanings.{ran, reserved, reserves_on}
 
 within : {A : Type 0} (xs : List A) (n : ℕ) (x : A) → get_elem? xs n ≡ some x → n < length xs
 within [] n x e = absurd (some-ne-none x (sym e))
@@ -25,6 +33,7 @@ within (y ∷ ys) (suc n) x e = let h = within ys n x e in omega (arith, h)
 pub record AllStand (sizes : Sizes) (account : Account) (stands : Standing) (words : List ℕ) : Type 0 where
   pub bounds : AreBounds (bounds_for sizes account.steps)
   pub keys : KeysFit account.steps
+  pub quiet : HasNoSweeps account.steps
   pub counted : length account.names ≡ (state_of sizes account).heap.births
   pub size : length words ≡ words_of sizes
   pub taken : HaveTaken sizes words
@@ -36,6 +45,7 @@ pub all_stand : (sizes : Sizes) (s : Table.State Call View) (kept : IsKept sizes
 all_stand sizes s kept = record {
   bounds = kept.bounds;
   keys = kept.keys;
+  quiet = kept.quiet;
   counted = kept.counted;
   size = kept.size;
   taken = kept.taken;
@@ -44,11 +54,12 @@ all_stand sizes s kept = record {
   roots = kept.roots;
 }
 
-module _ (sizes : Sizes) (s : Table.State Call View) (kept : IsKept sizes s) (id : ℕ) (v : View) (at : get_elem? s.views id ≡ some v) (later : View) (actor : later.actor ≡ v.actor) (last : later.last ≡ v.last) where
+module _ (sizes : Sizes) (s : Table.State Call View) (kept : IsKept sizes s) (id : ℕ) (v : View) (at : get_elem? s.views id ≡ some v) (later : View) (actor : later.actor ≡ v.actor)
+    (last : later.last ≡ v.last) where
   abbrev pub later_views : List View
   later_views = set s.views id later
 
-  here : get_elem? later_views id ≡ some later
+  pub here : get_elem? later_views id ≡ some later
   here = set_here s.views id later (within s.views id v at)
 
   -- another seat's actors aren't this one's
@@ -76,46 +87,111 @@ module _ (sizes : Sizes) (s : Table.State Call View) (kept : IsKept sizes s) (id
 
   -- ---- closers
 
-  -- Where the seat enters no handle and would close none that it didn't before, and the word of a handle says that somebody would close it, as it did.
-  module _ (entered : (handle : ℕ) → later.entered ≡ Some handle → v.entered ≡ Some handle) (closing : later.closing ≡ v.closing) where
-    becomes : (other : ℕ) (u : View) → get_elem? s.views other ≡ some u → (w : View) × (get_elem? later_views other ≡ some w) × (w.actor ≡ u.actor) × (w.closing ≡ u.closing)
-    becomes other u e = elim (cases_eq other id) [
+  -- Where the seat doesn't enter the handle, and would close it still if it would before.
+  module _ (handle who : ℕ) (entered : later.entered ≡ Some handle → v.entered ≡ Some handle)
+      (closing : (c : Closing) → v.closing ≡ Some c → c.handle ≡ handle → v.actor ≡ who → later.closing ≡ Some c) where
+    becomes : (other : ℕ) (u : View) (c : Closing) → get_elem? s.views other ≡ some u → u.closing ≡ Some c → c.handle ≡ handle → u.actor ≡ who →
+        (w : View) × (get_elem? later_views other ≡ some w) × (w.actor ≡ u.actor) × (w.closing ≡ Some c)
+    becomes other u c e is this its = elim (cases_eq other id) [
       | inl same ↦
-          (let mine : v ≡ u = some-injective v u (sym at ∙ ap (λ n. get_elem? s.views n) (sym same) ∙ e) in
-          (later, ap (λ n. get_elem? later_views n) same ∙ here, actor ∙ ap (λ (x : View). x.actor) mine, closing ∙ ap (λ (x : View). x.closing) mine))
-      | inr apart ↦ (u, set_else s.views id other later apart ∙ e, refl, refl)
+          (let mine : v ≡ u = some-injective v u (sym at ∙ ap (λ n. get_elem? s.views n) (sym same) ∙ e) in (
+            later,
+            ap (λ n. get_elem? later_views n) same ∙ here,
+            actor ∙ ap (λ (x : View). x.actor) mine,
+            closing c (ap (λ (x : View). x.closing) mine ∙ is) this
+                (ap (λ (x : View). x.actor) mine ∙ its),
+          ))
+      | inr apart ↦ (u, set_else s.views id other later apart ∙ e, refl, is)
     ]
 
-    was_inside : (handle other : ℕ) (w : View) → get_elem? later_views other ≡ some w → w.entered ≡ Some handle → (u : View) × (get_elem? s.views other ≡ some u) × (u.entered ≡ Some handle) × (u.actor ≡ w.actor)
-    was_inside handle other w e inside = elim (at_set s.views id other later w e) [
-      | inl h ↦ (v, ap (λ n. get_elem? s.views n) h.0 ∙ at, entered handle (ap (λ (x : View). x.entered) h.1 ∙ inside), sym actor ∙ ap (λ (x : View). x.actor) h.1)
+    was_inside : (other : ℕ) (w : View) → get_elem? later_views other ≡ some w → w.entered ≡ Some handle → (u : View) × (get_elem? s.views other ≡ some u) × (u.entered ≡ Some handle) ×
+        (u.actor ≡ w.actor)
+    was_inside other w e inside = elim (at_set s.views id other later w e) [
+      | inl h ↦ (v, ap (λ n. get_elem? s.views n) h.0 ∙ at, entered (ap (λ (x : View). x.entered) h.1 ∙ inside), sym actor ∙ ap (λ (x : View). x.actor) h.1)
       | inr h ↦ (w, h.1, inside, refl)
     ]
 
-    pub closing_stays : (handle who : ℕ) → IsClosing s.views handle who → IsClosing later_views handle who
-    closing_stays handle who h =
-        let b = becomes h.id h.view h.at in
+    pub closing_at : IsClosing s.views handle who → IsClosing later_views handle who
+    closing_at h =
+        let b = becomes h.id h.view h.closing h.at h.is h.this h.its in
         record {
           id = h.id;
           view = b.0;
           at = b.1;
           its = b.2 ∙ h.its;
           closing = h.closing;
-          is = b.3 ∙ h.is;
+          is = b.3;
           this = h.this;
           none = λ other w e inside apart.
-              (let u = was_inside handle other w e inside in subst (λ n. h.closing.looked < n) u.3 (h.none other u.0 u.1 u.2 (λ same. apart (sym u.3 ∙ same))));
+              (let u = was_inside other w e inside in subst (λ n. h.closing.looked < n) u.3 (h.none other u.0 u.1 u.2 (λ same. apart (sym u.3 ∙ same))));
         }
+
+  -- where the seat enters no handle and would close none that it didn't before
+  pub closing_stays : ((handle : ℕ) → later.entered ≡ Some handle → v.entered ≡ Some handle) → later.closing ≡ v.closing → (handle who : ℕ) → IsClosing s.views handle who → IsClosing later_views
+      handle who
+  closing_stays entered closing handle who h = closing_at handle who (entered handle) (λ c is this its. closing ∙ is) h
+
+  -- ---- reserved numbers, and who runs what
+
+  has_still : (a : ℕ) → HasSeat s.views a → HasSeat later_views a
+  has_still a h = elim (cases_eq h.id id) [
+    | inl same ↦
+        (let mine : v ≡ h.view = some-injective v h.view (sym at ∙ ap (λ n. get_elem? s.views n) (sym same) ∙ h.at) in
+        record { id = id; view = later; at = here; its = actor ∙ ap (λ (x : View). x.actor) mine ∙ h.its })
+    | inr apart ↦ record { id = h.id; view = h.view; at = set_else s.views id h.id later apart ∙ h.at; its = h.its }
+  ]
+
+  -- who has reserved a number for an offer that it writes has still
+  pub opening_stays : (state : State) (handle slot : ℕ) → (Reserves (state_of sizes kept.account) v handle → IsFree v 1 slot → Reserves state later handle × IsFree later 1 slot) →
+      ((other : ℕ) (w : View) → get_elem? s.views other ≡ some w → (other ≡ id → ⊥) → IsFree w 1 slot → Reserves (state_of sizes kept.account) w handle → Reserves state w handle) →
+      IsOpening (state_of sizes kept.account) s.views handle slot → IsOpening state later_views handle slot
+  opening_stays state handle slot still others h = elim (cases_eq h.id id) [
+    | inl same ↦
+        (let mine : h.view ≡ v = some-injective h.view v (sym h.at ∙ ap (λ n. get_elem? s.views n) same ∙ at) in
+        let both = still (subst (λ x. Reserves (state_of sizes kept.account) x handle) mine h.reserves) (subst (λ x. IsFree x 1 slot) mine h.free) in
+        record { id = id; view = later; at = here; reserves = both.0; free = both.1 })
+    | inr apart ↦
+        record { id = h.id; view = h.view; at = set_else s.views id h.id later apart ∙ h.at; reserves = others h.id h.view h.at apart h.free h.reserves; free = h.free }
+  ]
+
+  pub record Numbers (account : Account) (words : List ℕ) : Type 0 where
+    pub openings : (handle slot : ℕ) → handle < handle_limit → IsRootWord (word.Opening slot) → slice_index words (root_word handle) ≡ root_code (word.Opening slot) → NoOffer account slot →
+        IsOpening (state_of sizes account) later_views handle slot
+    -- the seat's number is what it was, or nobody else's
+    pub number : (handle : ℕ) → Reserves (state_of sizes account) later handle →
+        Reserves (state_of sizes kept.account) v handle ⊎ ((other : ℕ) (w : View) → get_elem? s.views other ≡ some w → (other ≡ id → ⊥) → Reserves (state_of sizes account) w handle → ⊥)
+    pub others : (other : ℕ) (w : View) → get_elem? s.views other ≡ some w → (other ≡ id → ⊥) → (handle : ℕ) → Reserves (state_of sizes account) w handle → Reserves (state_of sizes kept.account) w
+        handle
+    -- nobody else runs anything who ran nothing
+    pub runners : (a : ℕ) (o : Operation) → operation_of (state_of sizes account) a ≡ Some o → (a ≡ v.actor) ⊎ ((p : Operation) × (operation_of (state_of sizes kept.account) a ≡ Some p))
+
+  -- where operations keep their tries, and no word of a handle changes
+  pub numbers_stay : (account : Account) (words : List ℕ) → KeepsTries kept.account.offers (state_of sizes kept.account) (state_of sizes account) →
+      ((slot : ℕ) → NoOffer account slot → NoOffer kept.account slot) →
+      ((handle : ℕ) → handle < handle_limit → slice_index words (root_word handle) ≡ slice_index s.words (root_word handle)) → later.opens ≡ v.opens →
+      ((slot handle : ℕ) → v.opens ≡ Some handle → IsFree v 1 slot → IsFree later 1 slot) → Numbers account words
+  numbers_stay account words tries none same opens still = record {
+    openings = λ handle slot low fits is new.
+        opening_stays (state_of sizes account) handle slot
+        (λ r f. (let after = reserves_on kept.account.offers (state_of sizes kept.account) (state_of sizes account) tries v handle r in
+        ((opens ∙ after.0, λ o e. after.1 o (ap (operation_of (state_of sizes account)) (sym actor) ∙ e)), still slot handle r.0 f)))
+        (λ other w e apart f r. reserves_on kept.account.offers (state_of sizes kept.account) (state_of sizes account) tries w handle r)
+        (kept.openings handle slot low fits (sym (same handle low) ∙ is) (none slot new));
+    number = λ handle h. inl (reserved kept.account.offers (state_of sizes kept.account) (state_of sizes account) tries v handle
+        (sym opens ∙ h.0, λ o e. h.1 o (ap (operation_of (state_of sizes account)) actor ∙ e)));
+    others = λ other w e apart handle h. reserved kept.account.offers (state_of sizes kept.account) (state_of sizes account) tries w handle h;
+    runners = λ a o e. inr (ran kept.account.offers (state_of sizes kept.account) (state_of sizes account) tries a o e);
+  }
 
   -- ---- all of it
 
-  -- Each slot that is free for the seat then was so before, or is free for nobody else; likewise the number that it has reserved.
+  -- Each slot that is free for the seat then was so before, or is free for nobody else.
   module _ (account : Account) (stands : Standing) (words : List ℕ) (all : AllStand sizes account stands words)
       (closings : (handle who : ℕ) → handle < handle_limit → SaysClosing (slice_index words (root_word handle)) who → IsClosing later_views handle who)
       (own : IsSeat sizes account stands words later)
       (others : (other : ℕ) (w : View) → get_elem? s.views other ≡ some w → (other ≡ id → ⊥) → IsSeat sizes account stands words w)
       (free : (b name : ℕ) → IsFree later b name → IsFree v b name ⊎ ((other : ℕ) (w : View) (c : ℕ) → get_elem? s.views other ≡ some w → (other ≡ id → ⊥) → IsFree w c name → ⊥))
-      (number : (handle : ℕ) → later.opens ≡ Some handle → (v.opens ≡ Some handle) ⊎ ((other : ℕ) (w : View) → get_elem? s.views other ≡ some w → (other ≡ id → ⊥) → w.opens ≡ Some handle → ⊥)) where
+      (reserves : Numbers account words) where
     seats_then : (other : ℕ) (w : View) → get_elem? later_views other ≡ some w → IsSeat sizes account stands words w
     seats_then other w e = elim (at_set s.views id other later w e) [
       | inl h ↦ subst (λ x. IsSeat sizes account stands words x) h.1 own
@@ -140,22 +216,29 @@ module _ (sizes : Sizes) (s : Table.State Call View) (kept : IsKept sizes s) (id
       ]
     ]
 
-    number_by : (i : ℕ) (x : View) (handle : ℕ) → get_elem? s.views i ≡ some x → (i ≡ id → ⊥) → later.opens ≡ Some handle → x.opens ≡ Some handle → i ≡ id
-    number_by i x handle e apart f g = elim (number handle f) [
-      | inl h ↦ kept.numbers i id x v handle e at g h
+    number_by : (i : ℕ) (x : View) (handle : ℕ) → get_elem? s.views i ≡ some x → (i ≡ id → ⊥) → Reserves (state_of sizes account) later handle → Reserves (state_of sizes account) x handle → i ≡ id
+    number_by i x handle e apart f g = elim (reserves.number handle f) [
+      | inl h ↦ kept.numbers i id x v handle e at (reserves.others i x e apart handle g) h
       | inr none ↦ absurd (none i x e apart g)
     ]
 
-    numbers_then : (i j : ℕ) (x y : View) (handle : ℕ) → get_elem? later_views i ≡ some x → get_elem? later_views j ≡ some y → x.opens ≡ Some handle → y.opens ≡ Some handle → i ≡ j
+    numbers_then : (i j : ℕ) (x y : View) (handle : ℕ) → get_elem? later_views i ≡ some x → get_elem? later_views j ≡ some y → Reserves (state_of sizes account) x handle →
+        Reserves (state_of sizes account) y handle → i ≡ j
     numbers_then i j x y handle ei ej hx hy = elim (at_set s.views id i later x ei) [
       | inl p ↦ elim (at_set s.views id j later y ej) [
         | inl q ↦ p.0 ∙ sym q.0
-        | inr q ↦ p.0 ∙ sym (number_by j y handle q.1 q.0 (ap (λ (z : View). z.opens) p.1 ∙ hx) hy)
+        | inr q ↦ p.0 ∙ sym (number_by j y handle q.1 q.0 (subst (λ z. Reserves (state_of sizes account) z handle) (sym p.1) hx) hy)
       ]
       | inr p ↦ elim (at_set s.views id j later y ej) [
-        | inl q ↦ number_by i x handle p.1 p.0 (ap (λ (z : View). z.opens) q.1 ∙ hy) hx ∙ sym q.0
-        | inr q ↦ kept.numbers i j x y handle p.1 q.1 hx hy
+        | inl q ↦ number_by i x handle p.1 p.0 (subst (λ z. Reserves (state_of sizes account) z handle) (sym q.1) hy) hx ∙ sym q.0
+        | inr q ↦ kept.numbers i j x y handle p.1 q.1 (reserves.others i x p.1 p.0 handle hx) (reserves.others j y q.1 q.0 handle hy)
       ]
+    ]
+
+    runners_then : (a : ℕ) (o : Operation) → operation_of (state_of sizes account) a ≡ Some o → HasSeat later_views a
+    runners_then a o e = elim (reserves.runners a o e) [
+      | inl own ↦ record { id = id; view = later; at = here; its = actor ∙ sym own }
+      | inr before ↦ has_still a (kept.runners a before.0 before.1)
     ]
 
     pub assembled : IsKept sizes (record { words = words; homes = s.homes; views = later_views })
@@ -165,6 +248,7 @@ module _ (sizes : Sizes) (s : Table.State Call View) (kept : IsKept sizes s) (id
       range = kept.range;
       bounds = all.bounds;
       keys = all.keys;
+      quiet = all.quiet;
       counted = all.counted;
       size = all.size;
       taken = all.taken;
@@ -172,7 +256,9 @@ module _ (sizes : Sizes) (s : Table.State Call View) (kept : IsKept sizes s) (id
       nodes = all.nodes;
       roots = all.roots;
       closings = closings;
+      openings = reserves.openings;
       seats = seats_then;
+      runners = runners_then;
       alone = alone_then;
       pools = pools_then;
       numbers = numbers_then;

@@ -1,17 +1,11 @@
 -- The exchange of a main node's header decides it.
-use Rattle.history.specs.declared.calls.Call.{Call}
-use Rattle.std.proofs.Common.{◌≡◌, ◌≢◌, ◌+◌, ◌*◌, ◌⊎◌, ◌/◌, ℕ, ◌<◌, ◌≤◌, inl, inr, Bool, true, false, List, [], ◌∷◌, ◌++◌, Contains, set, get_or, slice_index, is_some, Some, None, refl, sym, ap, subst, ◌∙◌, arith, length, length-set, append-nil}
+use Rattle.std.proofs.Common.{◌≡◌, ◌≢◌, ◌+◌, ◌*◌, ◌⊎◌, ℕ, ◌<◌, ◌≤◌, inl, inr, Bool, true, false, List, [], ◌∷◌, set, get_or, slice_index, Some, None, refl, sym, ap, subst, ◌∙◌, arith, length, length-set}
 use Rattle.std.proofs.lemmas.Bool.{cases_eq, true≢false}
 use Rattle.std.proofs.lemmas.List.{get_or-set_same}
 use Rattle.std.proofs.lemmas.Option.{same_Some}
 use Rattle.std.proofs.lemmas.List.Elements.{All-append, All-cons, All-nil}
-use mathlib.Core.Option.{some}
-use lib.ListN.{get_elem?}
-use Rattle.atomic_table.specs.Table as Table
 use Rattle.trie_words.specs.Codes.{header_code}
 use Rattle.trie_words.specs.declared.headers.Previous.{Previous}
-use Rattle.trie_words.specs.declared.headers.Previous.TheVariants as previous
-use Rattle.trie_words.specs.declared.headers.Shape.{Shape}
 use Rattle.machine_model.specs.Beneath.slot_arena.specs.declared.refs.Ref.{Ref}
 use Rattle.machine_model.specs.Beneath.slot_arena.specs.declared.nodes.Node.{Node}
 use Rattle.machine_model.specs.Beneath.slot_arena.specs.declared.nodes.Node.TheVariants.{Indirection, Branch, Single, Tomb, List as Listed}
@@ -23,29 +17,26 @@ use Rattle.machine_model.specs.Beneath.slot_arena.specs.Heaps.{node_at, stored, 
 use Rattle.machine_model.specs.Keys.{FitsKey}
 use Rattle.machine_model.specs.declared.steps.Step.TheVariants as step
 use Rattle.machine_model.specs.declared.operations.Operation.{Operation}
-use Rattle.machine_model.specs.declared.roots.Root.{Root}
-use Rattle.machine_model.specs.Acting.{operation_after}
-use Rattle.machine_model.specs.States.{State, operation_of, root_at, handle_limit}
+use Rattle.machine_model.specs.States.{State}
 use Rattle.proof_memory.specs.Wants.{is_main_node}
 use Rattle.lock_free.specs.declared.accounts.Account.{Account}
-use Rattle.lock_free.specs.declared.accounts.Known.{Known}
-use Rattle.lock_free.specs.declared.rules.View.{View}
 use Rattle.lock_free.specs.declared.sizes.Sizes.{Sizes}
-use Rattle.lock_free.specs.Accounts.{state_of, place_at, HasWaited, IsOfOther, gone_on}
+use Rattle.lock_free.specs.Accounts.{state_of, place_at, gone_on}
 use Rattle.lock_free.specs.Deciding.{says_then, Decides}
-use Rattle.lock_free.specs.Nodes.{StandsAs, InTable, AreEntries, entry_word, SaysPrevious, decided, ahead, pending, failed, SaysHeader, class_of, IsAhead}
-use Rattle.lock_free.specs.Places.{first_slot_word, words_in, words_of, generation_word, pin_word, root_word, IsTaken}
+use Rattle.lock_free.specs.Nodes.{StandsAs, InTable, AreEntries, SaysPrevious, decided, ahead, pending, failed, SaysHeader, class_of, IsAhead}
+use Rattle.lock_free.specs.Places.{first_slot_word, words_in, words_of, generation_word, root_word, IsTaken}
 use Rattle.lock_free.specs.Roots.{MeansRoot}
-use Rattle.lock_free.specs.Rules.{Standing, Stands, NodesStand, RootsStand, IsClosing, SaysClosing, IsFree, IsSpare, IsSeat, IsKept}
+use Rattle.lock_free.specs.Rules.{Standing, Stands, NodesStand, RootsStand, IsSpare}
 use Rattle.lock_free.specs.Steps.{nothing}
-use Rattle.lock_free.proofs.Assembling.{AllStand, all_stand, closing_stays, assembled}
-use Rattle.lock_free.proofs.Framing.{below_word, else_word, entries_else, stands_over, still_taken, have_still, roots_still, class_small, node_far, node_inside, not_of_other, not_of_any_offer, not_of_spare, root_beside, pin_beside, first_word}
+use Rattle.lock_free.proofs.Assembling.{AllStand}
+use Rattle.lock_free.proofs.Framing.{below_word, entries_else, stands_over, still_taken, have_still, roots_still, class_small, node_far, node_inside, not_of_other, not_of_any_offer, first_word}
 use Rattle.lock_free.proofs.Geometry.{IsWordOf}
+use Rattle.lock_free.specs.Trying.{as_before}
+use Rattle.lock_free.proofs.Meanings.{marks_kept, stood_still}
 use Rattle.lock_free.proofs.Keeping.{SameNodes, stands_kept, entries_kept, shape_kept, over_kept, meaning_kept, written_kept}
-use Rattle.lock_free.proofs.Made.{is_pending, is_failed}
+use Rattle.lock_free.proofs.Made.{is_pending}
 use Rattle.lock_free.proofs.Owners.{owners_kept}
-use Rattle.lock_free.proofs.Seats.{Stays, StaysSpare, other_kept, own_kept, drafts_kept}
-use Rattle.lock_free.proofs.Waiting.{waited_more}
+use Rattle.lock_free.proofs.Waiting.{quiet_more}
 
 -- what stands in the words of a main node that is decided, with its header as it is then
 module _ (account later : Account) (before after : State) (words changed : List ℕ) (p k : ℕ) (slot : Slot) (verdict : Prev)
@@ -80,7 +71,7 @@ same_pending p q e = ap over e
 module _ (sizes : Sizes) (account : Account) (actor : ℕ) (operation : Operation) (main replaced : Ref) (decides : Decides sizes account actor operation main replaced) (stands : Standing) (words : List ℕ)
     (all : AllStand sizes account stands words) (here : stands (slot_of main) ≡ true) (is_main : is_main_node decides.slot.node ≡ true) (value : ℕ)
     (says : (h : SaysHeader account (state_of sizes account) (slot_of main) decides.slot (slice_index words (2 * place_at account (slot_of main)))) →
-        value ≡ header_code (record { previous = says_then decides.verdict h.previous; shape = h.shape })) where
+    value ≡ header_code (record { previous = says_then decides.verdict h.previous; shape = h.shape })) where
   abbrev now : State
   now = state_of sizes account
 
@@ -130,24 +121,27 @@ module _ (sizes : Sizes) (account : Account) (actor : ℕ) (operation : Operatio
   says_prev found header verdict is (inr fails) (ahead i a f own x at owned) = absurd (none_pending replaced is)
   says_prev found header verdict is (inr fails) (pending q own over) =
       subst (λ v. SaysPrevious account_then next (slot_of main) v (says_then v header)) (ap prev.Failed (same_pending q replaced is) ∙ sym fails)
-      (failed q own (over_kept account account_then.steps nothing now next same decides.aheads still words (slot_of main) q own over))
+      (failed q own (over_kept account account_then.steps account.offers nothing now next same decides.aheads still words (slot_of main) q own over))
   says_prev found header verdict is (inr fails) (failed q own over) = absurd (failed_pending q replaced is)
 
   header_then : (found : ℕ) → slice_index words (2 * p) ≡ found → SaysHeader account now (slot_of main) decides.slot found →
       (word : ℕ) × (slice_index words_then (2 * p) ≡ word) × SaysHeader account_then next (slot_of main) (record decides.slot { prev = decides.verdict }) word
   header_then found is h =
-      let its_header : SaysHeader account now (slot_of main) decides.slot (slice_index words (2 * p)) = subst (λ n. SaysHeader account now (slot_of main) decides.slot n) (sym is) h in
-      (value, get_or-set_same words (2 * p) value 0 (node_inside sizes account stands words all (slot_of main) decides.slot stood (2 * p) its value), record {
-        previous = says_then decides.verdict its_header.previous;
-        is_previous = says_prev decides.slot.prev its_header.previous decides.verdict decides.pending decides.committed_or_failed its_header.is_previous;
-        shape = its_header.shape;
-        is_shape = shape_kept account account_then.steps nothing now next same decides.aheads still words (slot_of main) decides.slot.node its_header.shape its_header.is_shape;
-        code = says its_header;
-      })
+      let its_header : SaysHeader account now (slot_of main) decides.slot (slice_index words (2 * p)) = subst (λ n. SaysHeader account now (slot_of main) decides.slot n) (sym is) h in (
+        value,
+        get_or-set_same words (2 * p) value 0 (node_inside sizes account stands words all (slot_of main) decides.slot stood (2 * p) its value),
+        record {
+          previous = says_then decides.verdict its_header.previous;
+          is_previous = says_prev decides.slot.prev its_header.previous decides.verdict decides.pending decides.committed_or_failed its_header.is_previous;
+          shape = its_header.shape;
+          is_shape = shape_kept account account_then.steps account.offers nothing now next same decides.aheads still words (slot_of main) decides.slot.node its_header.shape its_header.is_shape;
+          code = says its_header;
+        },
+      )
 
   entries_then : (xs : List Ref) → AreEntries account now.heap (InTable words) p xs → AreEntries account_then next.heap (InTable words_then) p xs
   entries_then xs h =
-      entries_kept account account_then.steps nothing now next same decides.aheads still words_then p xs
+      entries_kept account account_then.steps account.offers nothing now next same decides.aheads still words_then p xs
       (entries_else account words (2 * p) value p now (slot_of main) decides.slot xs (λ position low e. absurd (omega (arith, e))) h)
 
   -- ---- what stands
@@ -171,12 +165,12 @@ module _ (sizes : Sizes) (account : Account) (actor : ℕ) (operation : Operatio
   written_by k slot h (is_its at_it is) =
       subst (λ (x : Slot). StandsAs account_then next (InTable words_then) (place_at account k) k x x.node) (sym is)
       (subst (λ n. StandsAs account_then next (InTable words_then) (place_at account n) n (record decides.slot { prev = decides.verdict }) decides.slot.node) (sym at_it)
-          (decided_stands account account_then now next words words_then p (slot_of main) decides.slot decides.verdict entries_then header_then decides.slot.node is_main
-              (all.nodes.written (slot_of main) decides.slot stood)))
+      (decided_stands account account_then now next words words_then p (slot_of main) decides.slot decides.verdict entries_then header_then decides.slot.node is_main
+      (all.nodes.written (slot_of main) decides.slot stood)))
   written_by k slot h (is_else other e) =
-      stands_kept account account_then.steps nothing now next same decides.aheads still words_then (place_at account k) k slot slot.node refl
+      stands_kept account account_then.steps account.offers nothing now next same decides.aheads still words_then (place_at account k) k slot slot.node refl
       (stands_over account words (2 * p) value (place_at account k) now k slot slot.node (all.nodes.small k slot (h, e))
-          (not_of_other sizes account stands words all (slot_of main) decides.slot stood (2 * p) its value k slot other (h, e)) (all.nodes.written k slot (h, e)))
+      (not_of_other sizes account stands words all (slot_of main) decides.slot stood (2 * p) its value k slot other (h, e)) (all.nodes.written k slot (h, e)))
 
   still_its : (b n : ℕ) → b < 3 → IsTaken sizes words b n → IsTaken sizes words_then b n
   still_its = still_taken sizes account words all.taken (2 * p) far value
@@ -199,17 +193,22 @@ module _ (sizes : Sizes) (account : Account) (actor : ℕ) (operation : Operatio
       let over = roots_still sizes account words all.taken (2 * p) far value (not_of_any_offer sizes account stands words all (slot_of main) decides.slot stood (2 * p) its value) all.roots in
       record {
         means = λ handle low.
-            meaning_kept account account_then.steps nothing now next same decides.aheads still words_then _ _
-            (subst (λ rs. MeansRoot account words_then (slice_index words_then (root_word handle)) (get_or rs handle None)) (sym decides.roots) (over.means handle low));
-        offers = λ k c. written_kept account account_then.steps nothing now next same decides.aheads still words_then k (over.offers k c);
+            meaning_kept account account_then.steps words_then handle _ _
+            (subst (λ rs. MeansRoot account words_then handle (slice_index words_then (root_word handle)) (get_or rs handle None)) (sym decides.roots) (over.means handle low));
+        offers = λ k c. written_kept account account_then.steps account.offers nothing now next same decides.aheads still words_then k (over.offers k c);
         blocks = over.blocks;
         single = over.single;
+        pending = over.pending;
+        tries = over.tries;
+        stood = λ k c. stood_still sizes account account_then (step.Go actor ∷ []) refl k.offer (over.stood k c);
+        marks = marks_kept account.offers now next (as_before decides.tries) words_then words_then (λ k c. refl) over.marks;
       }
 
   pub all_then : AllStand sizes account_then stands words_then
   all_then = record {
     bounds = decides.bounds;
     keys = All-append FitsKey account.steps (step.Go actor ∷ []) all.keys (All-cons FitsKey (step.Go actor) [] tt (All-nil FitsKey));
+    quiet = quiet_more account.steps (step.Go actor) all.quiet tt;
     counted = all.counted ∙ sym decides.births;
     size = length-set words (2 * p) value ∙ all.size;
     taken = have_still sizes account words all.taken (2 * p) far value;

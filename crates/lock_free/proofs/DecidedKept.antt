@@ -25,7 +25,7 @@ module _ (sizes : Sizes) (s : Table.State Call View) (kept : IsKept sizes s) (id
     (runs : operation_of (state_of sizes kept.account) v.actor ≡ Some operation) (main replaced : Ref) (decides : Decides sizes kept.account v.actor operation main replaced)
     (here : kept.stands (slot_of main) ≡ true) (is_main : is_main_node decides.slot.node ≡ true) (value : ℕ)
     (says : (h : SaysHeader kept.account (state_of sizes kept.account) (slot_of main) decides.slot (slice_index s.words (2 * place_of kept.account main))) →
-        value ≡ header_code (record { previous = says_then decides.verdict h.previous; shape = h.shape })) where
+    value ≡ header_code (record { previous = says_then decides.verdict h.previous; shape = h.shape })) where
   abbrev all : AllStand sizes kept.account kept.stands s.words
   all = all_stand sizes s kept
 
@@ -37,4 +37,4 @@ module _ (sizes : Sizes) (s : Table.State Call View) (kept : IsKept sizes s) (id
   decide_kept =
       node_word_kept sizes s kept id v at operation runs (slot_of main) decides.slot (here, decides.is) (2 * place_of kept.account main) (first_word decides.slot.node (place_of kept.account main)) value []
       (all_then sizes kept.account v.actor operation main replaced decides kept.stands s.words all here is_main value says)
-      (spare_then sizes kept.account v.actor operation main replaced decides kept.stands s.words all here is_main value says) decides.roots decides.others decides.own
+      (spare_then sizes kept.account v.actor operation main replaced decides kept.stands s.words all here is_main value says) decides.roots decides.others decides.own decides.tries

@@ -1,24 +1,24 @@
 -- A seat writes a word in a free slot of its own.
 use Rattle.history.specs.declared.calls.Call.{Call}
-use Rattle.std.proofs.Common.{◌≡◌, ◌≢◌, ◌+◌, ◌*◌, ◌⊎◌, ℕ, zero, suc, ◌<◌, ◌≤◌, inl, inr, Bool, true, false, List, [], ◌∷◌, Contains, set, get_or, slice_index, Some, None, refl, sym, ap, subst, ◌∙◌, arith, length, not, ◌==◌}
-use Rattle.std.proofs.lemmas.Bool.{cases_eq, eq-eqb, false≢true}
+use Rattle.std.proofs.Common.{◌≡◌, ◌≢◌, ◌⊎◌, ℕ, zero, suc, ◌<◌, ◌≤◌, inl, inr, Bool, true, false, List, Contains, set, get_or, slice_index, refl, sym, ap, subst, ◌∙◌, arith, length, not, ◌==◌}
+use Rattle.std.proofs.lemmas.Bool.{eq-eqb, false≢true}
 use Rattle.std.proofs.lemmas.List.Elements.{All-contains, All-filter, All-contains_itself, filter_passes}
 use Rattle.std.proofs.lemmas.List.{get_or-set_same}
 use mathlib.Core.Option.{some}
 use lib.ListN.{get_elem?}
 use Rattle.atomic_table.specs.Table as Table
 use Rattle.machine_model.specs.States.{handle_limit}
-use Rattle.lock_free.specs.declared.accounts.Account.{Account}
 use Rattle.lock_free.specs.declared.rules.View.{View}
 use Rattle.lock_free.specs.declared.sizes.Sizes.{Sizes}
-use Rattle.lock_free.specs.Accounts.{HasWaited}
 use Rattle.lock_free.specs.Making.{with_draft, others_than}
-use Rattle.lock_free.specs.Places.{words_in, pin_word, root_word, IsTaken}
+use Rattle.lock_free.specs.Places.{pin_word, root_word, IsTaken}
 use Rattle.lock_free.specs.Rules.{IsClosing, SaysClosing, IsFree, IsSpare, AreDrafts, IsSeat, IsKept}
-use Rattle.lock_free.proofs.Assembling.{AllStand, all_stand, closing_stays, assembled}
+use Rattle.lock_free.specs.Accounts.{state_of}
+use Rattle.lock_free.proofs.Meanings.{no_tries}
+use Rattle.lock_free.proofs.Assembling.{AllStand, all_stand, closing_stays, numbers_stay, assembled}
 use Rattle.lock_free.proofs.Framing.{other_word, low_word, taken_over, all_over}
 use Rattle.lock_free.proofs.Geometry.{IsWordOf, slots_apart, inside, root_below}
-use Rattle.lock_free.proofs.Seats.{Stays, other_kept, own_still}
+use Rattle.lock_free.proofs.Seats.{ran_so, numbers_so, Stays, other_kept, own_still}
 
 -- what is among the drafts then is the new one, or one of another word
 which : (j x : ℕ) (drafts : List (ℕ × ℕ)) (d : ℕ × ℕ) → Contains (with_draft drafts j x) d → (d ≡ (j, x)) ⊎ ((d.0 ≢ j) × Contains drafts d)
@@ -34,8 +34,10 @@ which j x drafts d c = by c.0 c.1 c.2
     by zero low e = inl (sym e)
     by (suc k) low e =
         let inside : Contains (others_than j drafts) d = (k, omega (arith, low), e) in
-        inr (passed d.0 (All-contains (λ y. differs y ≡ true) (others_than j drafts) d (filter_passes differs drafts) inside),
-            All-contains (Contains drafts) (others_than j drafts) d (All-filter differs (Contains drafts) drafts (All-contains_itself drafts)) inside)
+        inr (
+          passed d.0 (All-contains (λ y. differs y ≡ true) (others_than j drafts) d (filter_passes differs drafts) inside),
+          All-contains (Contains drafts) (others_than j drafts) d (All-filter differs (Contains drafts) drafts (All-contains_itself drafts)) inside,
+        )
 
 module _ (sizes : Sizes) (s : Table.State Call View) (kept : IsKept sizes s) (id : ℕ) (v : View) (at : get_elem? s.views id ≡ some v) (class name : ℕ) (free : IsFree v class name) (j : ℕ) (its : IsWordOf class name j)
     (x : ℕ) where
@@ -74,16 +76,19 @@ module _ (sizes : Sizes) (s : Table.State Call View) (kept : IsKept sizes s) (id
   stays : Stays sizes s kept id v at kept.account kept.stands words_then
   stays = record {
     waits = λ actor first differs h. h;
-    others = λ a apart. refl;
-    pins = λ a most apart. pin_same a most;
-    taken_numbers = λ handle low none. sym (root_same handle low) ∙ none;
-    still_open = λ handle e. e;
+    others = λ a apart. ran_so (state_of sizes kept.account) (state_of sizes kept.account) a refl;
+    pins = λ a some most apart. pin_same a most;
+    named = λ other w e apart handle slot o x. root_same handle x.low;
+    numbers = λ other w e apart. numbers_so sizes s kept kept.account words_then (no_tries kept.account.offers (state_of sizes kept.account)) refl root_same other w e;
+    still_open = λ other w at_w handle inside e. e;
     taken = taken_then;
     spare = λ other w b other_name e apart f.
-        (let y = (kept.seats other w e).spare b other_name f in
-        (y.1, λ n its_word. else_same n (λ same.
-            (let both = slots_apart sizes s.words kept.taken b class other_name name j f.0 free.0 y.0 is_spare.0 (subst (λ m. IsWordOf b other_name m) same its_word) its in
-            apart (kept.pools other id w v b class name e at (subst (λ m. IsFree w b m) both.1 f) free)))));
+        (let y = (kept.seats other w e).spare b other_name f in (
+          y.1,
+          λ n its_word. else_same n (λ same.
+              (let both = slots_apart sizes s.words kept.taken b class other_name name j f.0 free.0 y.0 is_spare.0 (subst (λ m. IsWordOf b other_name m) same its_word) its in
+              apart (kept.pools other id w v b class name e at (subst (λ m. IsFree w b m) both.1 f) free))),
+        ));
   }
 
   drafted : (d : ℕ × ℕ) → (d ≡ (j, x)) ⊎ ((d.0 ≢ j) × Contains v.drafts d) → AreDrafts words_then view_then d
@@ -94,8 +99,8 @@ module _ (sizes : Sizes) (s : Table.State Call View) (kept : IsKept sizes s) (id
 
   own_then : IsSeat sizes kept.account kept.stands words_then view_then
   own_then =
-      own_still sizes s kept id v at words_then stays (pin_same v.actor (omega (arith, seat.top, seat.most))) v.pool view_then.drafts
-      (λ b other f. (let y = seat.spare b other f in (taken_then b other f.0 y.0, y.1))) seat.once (λ d c. drafted d (which j x v.drafts d c))
+      own_still sizes s kept id v at words_then stays (numbers_so sizes s kept kept.account words_then (no_tries kept.account.offers (state_of sizes kept.account)) refl root_same id v at) (pin_same v.actor (omega (arith, seat.top, seat.most))) v.pool view_then.drafts
+      (λ b other f. (let y = seat.spare b other f in (taken_then b other f.0 y.0, y.1))) seat.once (λ d c. drafted d (which j x v.drafts d c)) (λ handle slot y. (root_same handle y.low, y.free.1))
 
   closings_then : (handle who : ℕ) → handle < handle_limit → SaysClosing (slice_index words_then (root_word handle)) who → IsClosing (set s.views id view_then) handle who
   closings_then handle who low says =
@@ -105,4 +110,5 @@ module _ (sizes : Sizes) (s : Table.State Call View) (kept : IsKept sizes s) (id
   pub draft_kept : IsKept sizes (record { words = words_then; homes = s.homes; views = set s.views id view_then })
   draft_kept =
       assembled sizes s kept id v at view_then refl refl kept.account kept.stands words_then all_then closings_then own_then (other_kept sizes s kept id v at kept.account kept.stands words_then stays)
-      (λ b n f. inl f) (λ handle e. inl e)
+      (λ b n f. inl f)
+      (numbers_stay sizes s kept id v at view_then refl refl kept.account words_then (no_tries kept.account.offers (state_of sizes kept.account)) (λ slot none. none) root_same refl (λ slot handle e free. free))

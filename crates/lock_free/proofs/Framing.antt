@@ -1,9 +1,7 @@
 -- A store to a word of a slot that nothing stands in changes nothing that the rule says of words, but what a seat has written there itself.
-use Rattle.history.specs.declared.calls.Call.{Call}
-use Rattle.std.proofs.Common.{◌≡◌, ◌≢◌, ◌+◌, ◌*◌, ◌/◌, ℕ, zero, suc, ◌<◌, ◌≤◌, List, [], ◌∷◌, Contains, length, set, get_or, slice_index, Option, Some, None, refl, sym, ap, subst, ◌∙◌, arith, nat_le, Bool, true, false, cond, if◌then◌else◌, length-set, slice_get}
+use Rattle.std.proofs.Common.{◌≡◌, ◌≢◌, ◌+◌, ◌*◌, ◌/◌, ℕ, zero, suc, ◌<◌, ◌≤◌, List, [], ◌∷◌, Contains, length, set, slice_index, Option, Some, refl, sym, subst, ◌∙◌, arith, nat_le, Bool, true, false, if◌then◌else◌, length-set, slice_get}
 use Rattle.std.proofs.lemmas.List.{get_or-set_other}
 use Rattle.std.proofs.lemmas.Option.{none-some}
-use Rattle.history.specs.declared.calls.Access.TheVariants.{Writable}
 use Rattle.machine_model.specs.Beneath.slot_arena.specs.declared.refs.Ref.{Ref}
 use Rattle.machine_model.specs.Beneath.slot_arena.specs.declared.nodes.Node.{Node}
 use Rattle.machine_model.specs.Beneath.slot_arena.specs.declared.nodes.Node.TheVariants.{Indirection, Branch, Single, Tomb, List as Listed}
@@ -13,15 +11,15 @@ use Rattle.machine_model.specs.States.{State, handle_limit, root_at}
 use Rattle.machine_model.specs.declared.roots.Root.{Root}
 use Rattle.lock_free.specs.declared.accounts.Account.{Account}
 use Rattle.lock_free.specs.declared.accounts.Known.{Known}
-use Rattle.lock_free.specs.declared.rules.View.{View}
 use Rattle.lock_free.specs.declared.sizes.Sizes.{Sizes}
 use Rattle.lock_free.specs.Accounts.{state_of, place_at}
-use Rattle.lock_free.specs.Nodes.{Has, StandsAs, AreEntries, InTable, entry_word, class_of}
+use Rattle.lock_free.specs.Nodes.{StandsAs, AreEntries, InTable, entry_word, class_of}
 use Rattle.lock_free.specs.Places.{first_slot_word, words_in, slots_in, class_for, IsTaken, HaveTaken, taken_word, generation_word, root_word, pin_word}
-use Rattle.lock_free.specs.Roots.{MeansRoot, closed, reserved, writable, read_only, closing_writable, closing_read_only, offered, opening, opens_later, IsWritten, meant, opened_by, open_with}
+use Rattle.lock_free.specs.Roots.{MeansRoot, IsWritten, AreMarked, fate}
 use Rattle.lock_free.specs.Rules.{Standing, Stands, NodesStand, RootsStand, IsSpare}
 use Rattle.lock_free.proofs.Geometry.{IsWordOf, slots_apart, above, inside, root_below}
 use Rattle.lock_free.proofs.Assembling.{AllStand}
+use Rattle.lock_free.proofs.Meanings.{means_kept, marks_kept, pending_kept, no_tries}
 
 -- ---- a node's words are its slot's
 
@@ -111,19 +109,14 @@ module _ (account : Account) (words : List ℕ) (i x : ℕ) where
 
   -- which is no offer's
   module _ (apart : (k : Known) → Contains account.offers k → (j : ℕ) → IsWordOf 1 k.slot j → j ≢ i) where
-    first_of_offer : (k : Known) → Contains account.offers k → slice_index changed (2 * k.slot) ≡ slice_index words (2 * k.slot)
+    pub first_of_offer : (k : Known) → Contains account.offers k → fate changed k ≡ fate words k
     first_of_offer k c = else_word (2 * k.slot) (apart k c (2 * k.slot) (record { low = omega arith; high = omega arith }))
 
-    pub meaning_over : (word : ℕ) (r : Option Root) → MeansRoot account words word r → MeansRoot account changed word r
-    meaning_over word r closed = closed
-    meaning_over word r reserved = reserved
-    meaning_over word r (writable q) = writable q
-    meaning_over word r (read_only q) = read_only q
-    meaning_over word r (closing_writable q seat) = closing_writable q seat
-    meaning_over word r (closing_read_only q seat) = closing_read_only q seat
-    meaning_over word r (offered k is) = subst (λ n. MeansRoot account changed word (open_with Writable (meant n k.offer))) (first_of_offer k is) (offered k is)
-    meaning_over word r (opening k is) = subst (λ n. MeansRoot account changed word (opened_by n k.offer)) (first_of_offer k is) (opening k is)
-    meaning_over word r (opens_later slot none) = opens_later slot none
+    pub meaning_over : (handle found : ℕ) (r : Option Root) → MeansRoot account words handle found r → MeansRoot account changed handle found r
+    meaning_over handle found r = means_kept account account words changed handle r (λ access q is. refl) (λ k c. (c, first_of_offer k c)) (λ slot none. none) found
+
+    pub marks_over : (state : State) → AreMarked state words account.offers → AreMarked state changed account.offers
+    marks_over state = marks_kept account.offers state state (no_tries account.offers state) words changed first_of_offer
 
     pub written_over : (k : Known) → Contains account.offers k → IsWritten account words k → IsWritten account changed k
     written_over k c h = record {
@@ -148,11 +141,17 @@ module _ (sizes : Sizes) (account : Account) (words : List ℕ) (have : HaveTake
     roots_still roots = record {
       means = λ handle low.
           (let where_it_is = root_below handle low in
-          subst (λ n. MeansRoot account (set words i x) n (root_at (state_of sizes account) handle)) (sym (below_word (root_word handle) (omega (arith, where_it_is.1))))
-          (meaning_over account words i x apart (slice_index words (root_word handle)) (root_at (state_of sizes account) handle) (roots.means handle low)));
+          subst (λ n. MeansRoot account (set words i x) handle n (root_at (state_of sizes account) handle)) (sym (below_word (root_word handle) (omega (arith, where_it_is.1))))
+          (meaning_over account words i x apart handle (slice_index words (root_word handle)) (root_at (state_of sizes account) handle) (roots.means handle low)));
       offers = λ k c. written_over account words i x apart k c (roots.offers k c);
       blocks = λ k c. still_taken 1 k.slot (omega arith) (roots.blocks k c);
       single = roots.single;
+      tries = roots.tries;
+      stood = roots.stood;
+      marks = marks_over account words i x apart (state_of sizes account) roots.marks;
+      pending = λ k c stands.
+          pending_kept words (set words i x) k (λ handle low. (let where_it_is = root_below handle low in below_word (root_word handle) (omega (arith, where_it_is.1))))
+          (roots.pending k c (sym (first_of_offer account words i x apart k c) ∙ stands));
     }
 
 -- a store to a spare slot's word
@@ -201,6 +200,7 @@ module _ (sizes : Sizes) (account : Account) (stands : Standing) (words : List �
   all_over = record {
     bounds = all.bounds;
     keys = all.keys;
+    quiet = all.quiet;
     counted = all.counted;
     size = length-set words i x ∙ all.size;
     taken = have_still sizes account words all.taken i far x;
@@ -223,14 +223,14 @@ module _ (sizes : Sizes) (account : Account) (stands : Standing) (words : List �
   not_of_other j another differs h n w same =
       differs
       (all.nodes.apart j k another slot h stood
-          (slots_apart sizes words all.taken (class_of another.node) (class_of slot.node) (place_at account j) (place_at account k) i (class_small another.node) (class_small slot.node) (all.nodes.within j another h)
-              (all.nodes.within k slot stood) (subst (λ m. IsWordOf (class_of another.node) (place_at account j) m) same w) its).1)
+      (slots_apart sizes words all.taken (class_of another.node) (class_of slot.node) (place_at account j) (place_at account k) i (class_small another.node) (class_small slot.node) (all.nodes.within j another h)
+      (all.nodes.within k slot stood) (subst (λ m. IsWordOf (class_of another.node) (place_at account j) m) same w) its).1)
 
   pub not_of_any_offer : (o : Known) → Contains account.offers o → (n : ℕ) → IsWordOf 1 o.slot n → n ≢ i
   not_of_any_offer o c n w same =
       all.nodes.offers o c k slot stood
       (sym (slots_apart sizes words all.taken 1 (class_of slot.node) o.slot (place_at account k) i (omega arith) (class_small slot.node) (all.roots.blocks o c) (all.nodes.within k slot stood)
-          (subst (λ m. IsWordOf 1 o.slot m) same w) its).1)
+      (subst (λ m. IsWordOf 1 o.slot m) same w) its).1)
 
   pub not_of_spare : (b name : ℕ) → b < 3 → IsTaken sizes words b name → IsSpare sizes account stands name → (n : ℕ) → IsWordOf b name n → n ≢ i
   not_of_spare b name small taken spare n w same =
@@ -249,7 +249,7 @@ module _ (sizes : Sizes) (account : Account) (stands : Standing) (words : List �
   pub no_slot : (b name : ℕ) → b < 3 → IsTaken sizes words b name → (j : ℕ) → IsWordOf b name j → j ≢ i
   no_slot b name small is j its same = let far = above sizes words have b name j small is its in absurd (omega (arith, far, before, same))
 
-  no_offer : (k : Known) → Contains account.offers k → (j : ℕ) → IsWordOf 1 k.slot j → j ≢ i
+  pub no_offer : (k : Known) → Contains account.offers k → (j : ℕ) → IsWordOf 1 k.slot j → j ≢ i
   no_offer k c = no_slot 1 k.slot (omega arith) (roots.blocks k c)
 
   pub nodes_below : NodesStand sizes account stands (set words i x)
@@ -267,7 +267,7 @@ module _ (sizes : Sizes) (account : Account) (stands : Standing) (words : List �
   }
 
   -- what a word of a handle means, and what is written of offers
-  pub meaning_below : (word : ℕ) (r : Option Root) → MeansRoot account words word r → MeansRoot account (set words i x) word r
+  pub meaning_below : (handle found : ℕ) (r : Option Root) → MeansRoot account words handle found r → MeansRoot account (set words i x) handle found r
   meaning_below = meaning_over account words i x no_offer
 
   pub written_below : (k : Known) → Contains account.offers k → IsWritten account (set words i x) k
@@ -280,9 +280,14 @@ module _ (sizes : Sizes) (account : Account) (stands : Standing) (words : List �
   pub roots_below : ((handle : ℕ) → handle < handle_limit → root_word handle ≢ i) → RootsStand sizes account (set words i x)
   roots_below no_root = record {
     means = λ handle low.
-        subst (λ n. MeansRoot account (set words i x) n (root_at (state_of sizes account) handle)) (sym (else_word account words i x (root_word handle) (no_root handle low)))
-        (meaning_below (slice_index words (root_word handle)) (root_at (state_of sizes account) handle) (roots.means handle low));
+        subst (λ n. MeansRoot account (set words i x) handle n (root_at (state_of sizes account) handle)) (sym (else_word account words i x (root_word handle) (no_root handle low)))
+        (meaning_below handle (slice_index words (root_word handle)) (root_at (state_of sizes account) handle) (roots.means handle low));
     offers = written_below;
     blocks = blocks_below;
     single = roots.single;
+    tries = roots.tries;
+    stood = roots.stood;
+    marks = marks_over account words i x no_offer (state_of sizes account) roots.marks;
+    pending = λ k c stands.
+        pending_kept words (set words i x) k (λ handle low. else_word account words i x (root_word handle) (no_root handle low)) (roots.pending k c (sym (first_of_offer account words i x no_offer k c) ∙ stands));
   }

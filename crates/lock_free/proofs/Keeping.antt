@@ -1,36 +1,29 @@
 -- A step that changes no word keeps the rule: one that reads, whatever the seat knows of what it read, and one that gives nodes of its own up.
 use Rattle.history.specs.declared.calls.Call.{Call}
-use Rattle.std.proofs.Common.{if◌then◌else◌, Option, append_assoc, append-nil, ◌≡◌, ◌≢◌, ◌+◌, ◌*◌, ◌⊎◌, ℕ, zero, suc, ◌<◌, ◌≤◌, inl, inr, Bool, true, false, List, [], ◌∷◌, ◌++◌, Contains, All, length, set, get_or, slice_index, is_some, Some, None, refl, sym, ap, subst, ◌∙◌, arith}
-use Rattle.std.proofs.lemmas.Option.{same_Some}
+use Rattle.std.proofs.Common.{if◌then◌else◌, Option, append-nil, ◌≡◌, ◌≢◌, ◌+◌, ◌⊎◌, ℕ, suc, ◌<◌, inl, inr, Bool, true, false, List, [], ◌∷◌, ◌++◌, Contains, set, get_or, slice_index, is_some, Some, None, refl, sym, ap, subst, ◌∙◌, arith}
 use Rattle.std.proofs.lemmas.List.Elements.{All-append, All-cons, All-nil}
-use mathlib.Core.Option.{some, some-injective, some-ne-none}
+use mathlib.Core.Option.{some}
 use lib.ListN.{get_elem?}
 use Rattle.atomic_table.specs.Table as Table
-use Rattle.atomic_table.proofs.Lists.{at_set, set_else, set_here}
 use Rattle.std.proofs.lemmas.Bool.{true≢false}
 use Rattle.machine_model.specs.Beneath.slot_arena.specs.declared.refs.Ref.{Ref}
 use Rattle.machine_model.specs.Beneath.slot_arena.specs.declared.nodes.Slot.{Slot}
 use Rattle.machine_model.specs.Beneath.slot_arena.specs.declared.nodes.Node.{Node}
 use Rattle.machine_model.specs.Beneath.slot_arena.specs.declared.nodes.Node.TheVariants.{Indirection, Branch, Single, Tomb, List as Listed}
 use Rattle.machine_model.specs.Beneath.slot_arena.specs.declared.nodes.Prev.{Prev}
-use Rattle.machine_model.specs.Beneath.slot_arena.specs.declared.nodes.Prev.TheVariants as prev
 use Rattle.machine_model.specs.Beneath.slot_arena.specs.Refs.{slot_of}
 use Rattle.machine_model.specs.Beneath.slot_arena.specs.Heaps.{node_at, stored, node_of, main_of, main_at}
-use Rattle.machine_model.specs.declared.lines.Line.TheVariants as line
-use Rattle.machine_model.specs.declared.lines.Purpose.{Purpose}
 use Rattle.machine_model.specs.declared.operations.Operation.{Operation}
 use Rattle.machine_model.specs.declared.steps.Step.{Step}
 use Rattle.machine_model.specs.declared.steps.Step.TheVariants as step
 use Rattle.machine_model.specs.Acting.{operation_after}
 use Rattle.machine_model.specs.Keys.{FitsKey}
-use Rattle.machine_model.specs.Calls.{handle_of}
 use Rattle.machine_model.specs.declared.roots.Root.{Root}
 use Rattle.trie_words.specs.Codes.{entry_code, pair_code}
 use Rattle.trie_words.specs.declared.headers.Previous.{Previous}
 use Rattle.trie_words.specs.declared.headers.Shape.{Shape}
 use Rattle.lock_free.specs.Places.{root_word, IsTaken}
-use Rattle.machine_model.specs.Swapping.{swapping}
-use Rattle.machine_model.specs.States.{State, operation_of, root_at}
+use Rattle.machine_model.specs.States.{State, operation_of}
 use Rattle.lock_free.specs.declared.accounts.Account.{Account}
 use Rattle.lock_free.specs.declared.accounts.Known.{Known}
 use Rattle.lock_free.specs.declared.rules.Pool.{Pool}
@@ -38,13 +31,14 @@ use Rattle.lock_free.specs.declared.rules.View.{View}
 use Rattle.lock_free.specs.declared.sizes.Sizes.{Sizes}
 use Rattle.lock_free.specs.Accounts.{state_of, place_at, place_of, HasWaited, IsOfOther, gone_on}
 use Rattle.lock_free.specs.Nodes.{StandsAs, class_of, IsAhead, IsOver, is_single, SaysPrevious, decided, ahead, pending, failed, SaysHeader, SaysShape, of_branch, of_tomb, of_list, IsEntryOf, AreEntries, half_of, InTable}
-use Rattle.lock_free.specs.Roots.{MeansRoot, closed, reserved, writable, read_only, closing_writable, closing_read_only, offered, opening, opens_later, IsWritten, second_of}
+use Rattle.lock_free.specs.Roots.{MeansRoot, IsWritten, second_of}
 use Rattle.lock_free.specs.Rules.{Standing, Stands, NodesStand, RootsStand, Once, pool_of, IsFree, IsSpare, IsSeat, IsKept}
 use Rattle.lock_free.specs.Steps.{Dropped, nothing, Leads, Reads}
-use Rattle.lock_free.proofs.Assembling.{AllStand, closing_stays, assembled}
+use Rattle.lock_free.proofs.Assembling.{AllStand, closing_stays, numbers_stay, assembled}
+use Rattle.lock_free.proofs.Meanings.{means_kept, marks_kept, stood_still}
+use Rattle.lock_free.proofs.Seats.{ran_so, numbers_so, Stays, other_kept, own_kept, drafts_kept}
 use Rattle.lock_free.proofs.Owners.{owners_kept}
-use Rattle.lock_free.proofs.Seats.{Stays, other_kept, own_kept, drafts_kept}
-use Rattle.lock_free.proofs.Waiting.{waited_more}
+use Rattle.lock_free.proofs.Waiting.{waited_more, quiet_more, other_quiet}
 
 -- each node is what it was
 abbrev pub SameNodes : State → State → Type 0
@@ -54,10 +48,10 @@ pub same_nodes : (before after : State) → ((k : ℕ) → get_or after.heap.slo
 unfolding node_at stored
 same_nodes before after same r = ap node_of (same (slot_of r))
 
-module _ (account : Account) (steps : List Step) (dropped : Dropped) (before after : State) (same : SameNodes before after) (aheads : (i a f : Ref) → IsAhead after i a f → IsAhead before i a f)
+module _ (account : Account) (steps : List Step) (offers : List Known) (dropped : Dropped) (before after : State) (same : SameNodes before after) (aheads : (i a f : Ref) → IsAhead after i a f → IsAhead before i a f)
     (still : (i a f : Ref) → IsAhead before i a f → dropped (slot_of f) ≡ false → IsAhead after i a f) (words : List ℕ) where
   abbrev pub later : Account
-  later = record account { steps = steps }
+  later = record account { steps = steps; offers = offers }
 
   same_main : (r : Ref) → main_at after.heap r ≡ main_at before.heap r
   same_main r = ap main_of (same r)
@@ -101,23 +95,15 @@ module _ (account : Account) (steps : List Step) (dropped : Dropped) (before aft
   stands_kept name k slot (Tomb single) stays h = (h.0, h.1, header_kept k slot h.0 stays h.2)
   stands_kept name k slot (Listed singles) stays h = ((h.0.0, h.0.1, header_kept k slot h.0.0 stays h.0.2), entries_kept name singles.items h.1)
 
-  pub meaning_kept : (word : ℕ) (r : Option Root) → MeansRoot account words word r → MeansRoot later words word r
-  meaning_kept word r closed = closed
-  meaning_kept word r reserved = reserved
-  meaning_kept word r (writable q) = writable q
-  meaning_kept word r (read_only q) = read_only q
-  meaning_kept word r (closing_writable q seat) = closing_writable q seat
-  meaning_kept word r (closing_read_only q seat) = closing_read_only q seat
-  meaning_kept word r (offered k is) = offered k is
-  meaning_kept word r (opening k is) = opening k is
-  meaning_kept word r (opens_later slot none) = opens_later slot none
-
   second_kept : (o : Option Ref) → second_of account o ≡ second_of later o
   second_kept None = refl
   second_kept (Some r) = refl
 
   pub written_kept : (k : Known) → IsWritten account words k → IsWritten later words k
   written_kept k h = record { olds = h.olds; news = h.news ∙ ap (λ n. pair_code (record { low = place_of account k.offer.successor; high = n })) (second_kept k.offer.second) }
+
+pub meaning_kept : (account : Account) (steps : List Step) (words : List ℕ) (handle found : ℕ) (r : Option Root) → MeansRoot account words handle found r → MeansRoot (record account { steps = steps }) words handle found r
+meaning_kept account steps words handle found r = means_kept account (record account { steps = steps }) words words handle r (λ access q is. refl) (λ k c. (c, refl)) (λ slot none. none) found
 
 -- ---- the rule
 
@@ -162,7 +148,7 @@ module _ (sizes : Sizes) (s : Table.State Call View) (kept : IsKept sizes s) (id
     offers = λ x c k slot h. kept.nodes.offers x c k slot (stood k slot h).0;
     written = λ k slot h.
         (let was = stood k slot h in
-        stands_kept kept.account account_then.steps dropped now next_state (same_nodes now next_state leads.nodes) leads.aheads leads.still s.words (place_at kept.account k) k slot slot.node was.1 (kept.nodes.written k slot was.0));
+        stands_kept kept.account account_then.steps kept.account.offers dropped now next_state (same_nodes now next_state leads.nodes) leads.aheads leads.still s.words (place_at kept.account k) k slot slot.node was.1 (kept.nodes.written k slot was.0));
     inside = λ k slot e. kept.nodes.inside k slot (sym (leads.nodes k) ∙ e);
     owners = owners_kept kept.account account_then now next_state refl refl leads.aheads kept.nodes.owners;
     live = λ r h. (let x = leads.live r h in live_then (dropped (slot_of r)) (slot_of r) refl x.1 (kept.nodes.live r x.0));
@@ -171,17 +157,22 @@ module _ (sizes : Sizes) (s : Table.State Call View) (kept : IsKept sizes s) (id
   roots_then : RootsStand sizes account_then s.words
   roots_then = record {
     means = λ handle low.
-        meaning_kept kept.account account_then.steps dropped now next_state (same_nodes now next_state leads.nodes) leads.aheads leads.still s.words _ _
-        (subst (λ rs. MeansRoot kept.account s.words (slice_index s.words (root_word handle)) (get_or rs handle None)) (sym leads.roots) (kept.roots.means handle low));
-    offers = λ k c. written_kept kept.account account_then.steps dropped now next_state (same_nodes now next_state leads.nodes) leads.aheads leads.still s.words k (kept.roots.offers k c);
+        meaning_kept kept.account account_then.steps s.words handle _ _
+        (subst (λ rs. MeansRoot kept.account s.words handle (slice_index s.words (root_word handle)) (get_or rs handle None)) (sym leads.roots) (kept.roots.means handle low));
+    offers = λ k c. written_kept kept.account account_then.steps kept.account.offers dropped now next_state (same_nodes now next_state leads.nodes) leads.aheads leads.still s.words k (kept.roots.offers k c);
     blocks = kept.roots.blocks;
     single = kept.roots.single;
+    pending = kept.roots.pending;
+    tries = kept.roots.tries;
+    stood = λ k c. stood_still sizes kept.account account_then (taken ∷ []) refl k.offer (kept.roots.stood k c);
+    marks = marks_kept kept.account.offers now next_state leads.tries s.words s.words (λ k c. refl) kept.roots.marks;
   }
 
   all_then : AllStand sizes account_then stands_then s.words
   all_then = record {
     bounds = leads.bounds;
     keys = All-append FitsKey kept.account.steps (taken ∷ []) kept.keys (All-cons FitsKey taken [] fits (All-nil FitsKey));
+    quiet = quiet_more kept.account.steps taken kept.quiet (other_quiet (suc v.actor) taken (its (suc v.actor) (λ e. omega (arith, e))));
     counted = kept.counted ∙ sym leads.births;
     size = kept.size;
     taken = kept.taken;
@@ -201,10 +192,11 @@ module _ (sizes : Sizes) (s : Table.State Call View) (kept : IsKept sizes s) (id
   stays : Stays sizes s kept id v at account_then stands_then s.words
   stays = record {
     waits = waits;
-    others = leads.others;
-    pins = λ a most apart. refl;
-    taken_numbers = λ handle low none. none;
-    still_open = λ handle e. ap (λ rs. is_some (get_or rs handle None)) leads.roots ∙ e;
+    others = λ a differs. ran_so now next_state a (leads.others a differs);
+    pins = λ a some most apart. refl;
+    named = λ other w e apart handle slot o x. refl;
+    numbers = λ other w e apart. numbers_so sizes s kept account_then s.words leads.tries leads.roots (λ handle low. refl) other w e;
+    still_open = λ other w at_w handle inside e. ap (λ rs. is_some (get_or rs handle None)) leads.roots ∙ e;
     taken = λ b name small h. h;
     spare = λ other w b name e apart free. (spare_then name ((kept.seats other w e).spare b name free).1, λ j its_word. refl);
   }
@@ -250,7 +242,7 @@ module _ (sizes : Sizes) (s : Table.State Call View) (kept : IsKept sizes s) (id
 
     own_then : IsSeat sizes account_then stands_then s.words view_then
     own_then =
-        own_kept sizes s kept id v at account_then stands_then s.words stays operation next runs leads.own same_call same_opens all_then.counted refl pool v.drafts spare_own once
+        own_kept sizes s kept id v at account_then stands_then s.words stays operation next runs leads.own same_call same_opens (numbers_so sizes s kept account_then s.words leads.tries leads.roots (λ handle low. refl) id v at) all_then.counted refl pool v.opening (λ handle slot o n. (n, λ x. (refl, more 1 slot x.free.0 x.free.1))) v.drafts spare_own once
         (λ d c. drafts_kept sizes s kept id v at account_then stands_then s.words stays view_then d (seat.drafts d c) (λ b name free. ((free.0, more b name free.0 free.1), λ j its_word. refl)))
 
     -- the rule holds
@@ -258,7 +250,8 @@ module _ (sizes : Sizes) (s : Table.State Call View) (kept : IsKept sizes s) (id
     drop_kept =
         assembled sizes s kept id v at view_then refl refl account_then stands_then s.words all_then
         (λ handle who low says. closing_stays sizes s kept id v at view_then refl refl (λ h e. e) refl handle who (kept.closings handle who low says)) own_then
-        (other_kept sizes s kept id v at account_then stands_then s.words stays) not_others (λ handle e. inl e)
+        (other_kept sizes s kept id v at account_then stands_then s.words stays) not_others
+        (numbers_stay sizes s kept id v at view_then refl refl account_then s.words leads.tries (λ slot none. none) (λ handle low. refl) refl (λ slot handle e free. (free.0, more 1 slot free.0 free.1)))
 
 -- ---- reads
 

@@ -1,11 +1,10 @@
 -- Words, steps and nodes once a node is made in a spare slot whose words have it.
-use Rattle.std.proofs.Common.{◌≡◌, ◌≢◌, ◌+◌, ◌*◌, ◌⊎◌, ℕ, zero, suc, ◌<◌, ◌≤◌, inl, inr, Bool, true, false, List, [], ◌∷◌, ◌++◌, Contains, All, length, get_or, slice_index, Option, Some, None, refl, sym, ap, subst, ◌∙◌, arith, length-append}
+use Rattle.std.proofs.Common.{◌≡◌, ◌≢◌, ◌+◌, ◌*◌, ◌⊎◌, ℕ, ◌≤◌, inl, inr, Bool, true, List, [], ◌∷◌, ◌++◌, Contains, length, get_or, slice_index, Option, Some, None, refl, sym, ap, subst, ◌∙◌, arith, length-append}
 use Rattle.std.proofs.lemmas.Bool.{cases_eq}
 use Rattle.std.proofs.lemmas.Option.{same_Some}
 use Rattle.std.proofs.lemmas.List.Elements.{All-append, All-cons, All-nil, Contains-get_or, Contains-append_right}
 use Rattle.machine_model.specs.Beneath.slot_arena.specs.declared.refs.Ref.{Ref}
 use Rattle.machine_model.specs.Beneath.slot_arena.specs.declared.nodes.Node.{Node}
-use Rattle.machine_model.specs.Beneath.slot_arena.specs.declared.nodes.Node.TheVariants.{Indirection, Branch, Single, Tomb, List as Listed}
 use Rattle.machine_model.specs.Beneath.slot_arena.specs.declared.nodes.Slot.{Slot}
 use Rattle.machine_model.specs.Beneath.slot_arena.specs.Refs.{slot_of}
 use Rattle.machine_model.specs.Beneath.slot_arena.specs.Heaps.{entries_of, refs_of_option}
@@ -13,24 +12,25 @@ use Rattle.machine_model.specs.Counting.{refs_of_root}
 use Rattle.machine_model.specs.Keys.{FitsKey}
 use Rattle.machine_model.specs.declared.steps.Step.TheVariants as step
 use Rattle.machine_model.specs.declared.operations.Operation.{Operation}
-use Rattle.machine_model.specs.declared.roots.Root.{Root}
-use Rattle.machine_model.specs.States.{State, handle_limit, root_at}
-use Rattle.trie_words.specs.Codes.{pair_code, root_code}
-use Rattle.trie_words.specs.declared.roots.RootWord.TheVariants as word
+use Rattle.machine_model.specs.States.{root_at}
+use Rattle.trie_words.specs.Codes.{pair_code}
 use Rattle.lock_free.specs.declared.accounts.Account.{Account}
 use Rattle.lock_free.specs.declared.accounts.Known.{Known}
 use Rattle.lock_free.specs.declared.sizes.Sizes.{Sizes}
 use Rattle.lock_free.specs.Accounts.{state_of, place_at, place_of}
-use Rattle.lock_free.specs.Nodes.{Has, StandsAs, InTable, AreEntries, class_of}
+use Rattle.lock_free.specs.Nodes.{StandsAs, InTable, class_of}
 use Rattle.lock_free.specs.Making.{over_of, DraftsNode, made_at, refs_of_offer, Makes}
 use Rattle.lock_free.specs.Places.{IsTaken, words_in, root_word, words_of, HaveTaken, generation_word}
-use Rattle.lock_free.specs.Roots.{MeansRoot, closed, reserved, writable, read_only, closing_writable, closing_read_only, offered, opening, opens_later, open_with, IsWritten, second_of}
+use Rattle.lock_free.specs.Roots.{MeansRoot, IsWritten, second_of}
 use Rattle.lock_free.specs.Rules.{Standing, Stands, NodesStand, RootsStand, IsSpare}
+use Rattle.lock_free.specs.Trying.{as_before}
+use Rattle.lock_free.proofs.Meanings.{means_kept, marks_kept, stood_still}
 use Rattle.lock_free.proofs.Assembling.{AllStand}
 use Rattle.lock_free.proofs.Framing.{class_small}
 use Rattle.lock_free.proofs.Geometry.{end_inside}
 use Rattle.lock_free.proofs.Owners.{owners_made}
-use Rattle.lock_free.proofs.Made.{after, K, place_else, place_last, same_place, stands_too, stands_new, stands_else, stood_stands, new_stands}
+use Rattle.lock_free.proofs.Made.{place_else, place_last, same_place, stands_too, stands_new, stands_else, stood_stands, new_stands}
+use Rattle.lock_free.proofs.Waiting.{quiet_more}
 
 module _ (sizes : Sizes) (account : Account) (actor : ℕ) (operation : Operation) (name : ℕ) (own : Bool) (node : Node) (more : ℕ) (makes : Makes sizes account (made_at actor name own node account) actor operation node more)
     (stands : Standing) (words : List ℕ) (all : AllStand sizes account stands words) (taken : IsTaken sizes words (class_of node) name) (spare : IsSpare sizes account stands name)
@@ -118,18 +118,10 @@ module _ (sizes : Sizes) (account : Account) (actor : ℕ) (operation : Operatio
   place_then : (r : Ref) → slot_of r ≢ k0 → place_of account r ≡ place_of later r
   place_then r other = sym (same_place sizes account actor operation name own node more makes r other)
 
-  meaning_then : (handle found : ℕ) (root : Option Root) → root ≡ root_at (state_of sizes account) handle → MeansRoot account words found root → MeansRoot later words found root
-  meaning_then handle found root is closed = closed
-  meaning_then handle found root is reserved = reserved
-  meaning_then handle found root is (writable q) = subst (λ p. MeansRoot later words (root_code (word.Writable p)) root) (sym (place_then q (makes.names_not.roots handle q (subst (λ x. Contains (refs_of_root x) q) is (Contains-get_or (q ∷ []) 0 q (omega arith)))))) (writable q)
-  meaning_then handle found root is (read_only q) = subst (λ p. MeansRoot later words (root_code (word.ReadOnly p)) root) (sym (place_then q (makes.names_not.roots handle q (subst (λ x. Contains (refs_of_root x) q) is (Contains-get_or (q ∷ []) 0 q (omega arith)))))) (read_only q)
-  meaning_then handle found root is (closing_writable q seat) =
-      subst (λ p. MeansRoot later words (root_code (word.ClosingWritable p seat)) root) (sym (place_then q (makes.names_not.roots handle q (subst (λ x. Contains (refs_of_root x) q) is (Contains-get_or (q ∷ []) 0 q (omega arith)))))) (closing_writable q seat)
-  meaning_then handle found root is (closing_read_only q seat) =
-      subst (λ p. MeansRoot later words (root_code (word.ClosingReadOnly p seat)) root) (sym (place_then q (makes.names_not.roots handle q (subst (λ x. Contains (refs_of_root x) q) is (Contains-get_or (q ∷ []) 0 q (omega arith)))))) (closing_read_only q seat)
-  meaning_then handle found root is (offered k c) = offered k c
-  meaning_then handle found root is (opening k c) = opening k c
-  meaning_then handle found root is (opens_later slot none) = opens_later slot none
+  meaning_then : (handle found : ℕ) → MeansRoot account words handle found (root_at (state_of sizes account) handle) → MeansRoot later words handle found (root_at (state_of sizes account) handle)
+  meaning_then handle found =
+      means_kept account later words words handle (root_at (state_of sizes account) handle)
+      (λ access q is. sym (place_then q (makes.names_not.roots handle q (subst (λ x. Contains (refs_of_root x) q) (sym is) (Contains-get_or (q ∷ []) 0 q (omega arith)))))) (λ k c. (c, refl)) (λ slot none. none) found
 
   second_then : (o : Option Ref) → ((r : Ref) → Contains (refs_of_option o) r → slot_of r ≢ k0) → second_of account o ≡ second_of later o
   second_then None refs = refl
@@ -151,11 +143,15 @@ module _ (sizes : Sizes) (account : Account) (actor : ℕ) (operation : Operatio
   pub roots_then : RootsStand sizes later words
   roots_then = record {
     means = λ handle low.
-        subst (λ rs. MeansRoot later words (slice_index words (root_word handle)) (get_or rs handle None)) (sym makes.roots)
-        (meaning_then handle (slice_index words (root_word handle)) (root_at (state_of sizes account) handle) refl (all.roots.means handle low));
+        subst (λ rs. MeansRoot later words handle (slice_index words (root_word handle)) (get_or rs handle None)) (sym makes.roots)
+        (meaning_then handle (slice_index words (root_word handle)) (all.roots.means handle low));
     offers = λ k c. written_then k c (all.roots.offers k c);
     blocks = all.roots.blocks;
     single = all.roots.single;
+    pending = all.roots.pending;
+    tries = all.roots.tries;
+    stood = λ k c. stood_still sizes account later (step.Go actor ∷ []) refl k.offer (all.roots.stood k c);
+    marks = marks_kept account.offers (state_of sizes account) (state_of sizes later) (as_before makes.tries) words words (λ k c. refl) all.roots.marks;
   }
 
   -- with the words that were exchanged since, before all slots
@@ -165,6 +161,7 @@ module _ (sizes : Sizes) (account : Account) (actor : ℕ) (operation : Operatio
     all_then = record {
       bounds = makes.bounds;
       keys = All-append FitsKey account.steps (step.Go actor ∷ []) all.keys (All-cons FitsKey (step.Go actor) [] tt (All-nil FitsKey));
+      quiet = quiet_more account.steps (step.Go actor) all.quiet tt;
       counted = (let one = length-append account.names (name ∷ []) in omega (arith, one, all.counted, makes.births));
       size = size;
       taken = have;

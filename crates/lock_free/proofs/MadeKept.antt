@@ -1,44 +1,31 @@
 -- The last store to a free slot of a seat makes the node that is written there, and the exchange of the count of generations makes the root of a copy that is.
 use Rattle.history.specs.declared.calls.Call.{Call}
-use Rattle.std.proofs.Common.{length-set, ◌≡◌, ◌≢◌, ◌+◌, ◌*◌, ◌⊎◌, ℕ, zero, suc, ◌<◌, ◌≤◌, inl, inr, Bool, true, false, List, [], ◌∷◌, ◌++◌, Contains, All, length, set, get_or, slice_index, is_some, Option, Some, None, refl, sym, ap, subst, ◌∙◌, arith}
+use Rattle.std.proofs.Common.{length-set, ◌≡◌, ◌≢◌, ◌+◌, ◌*◌, ℕ, ◌<◌, ◌≤◌, inl, inr, Bool, List, [], ◌∷◌, ◌++◌, length, set, slice_index, Option, Some, sym, ap, subst, ◌∙◌, arith}
 use Rattle.std.proofs.lemmas.Bool.{cases_eq}
-use Rattle.std.proofs.lemmas.Option.{same_Some}
 use Rattle.std.proofs.lemmas.List.{get_or-set_same}
-use Rattle.std.proofs.lemmas.List.Elements.{All-cons, All-nil, Contains-append_left, Contains-append_right, Contains-append_cases, Contains-push, Contains-get_or}
 use mathlib.Core.Option.{some}
 use lib.ListN.{get_elem?}
 use Rattle.atomic_table.specs.Table as Table
 use Rattle.machine_model.specs.Beneath.slot_arena.specs.declared.refs.Ref.{Ref}
 use Rattle.machine_model.specs.Beneath.slot_arena.specs.declared.nodes.Node.{Node}
 use Rattle.machine_model.specs.Beneath.slot_arena.specs.declared.nodes.Node.TheVariants.{Indirection, Branch, Single, Tomb, List as Listed}
-use Rattle.machine_model.specs.Beneath.slot_arena.specs.declared.nodes.Slot.{Slot}
 use Rattle.machine_model.specs.Beneath.slot_arena.specs.Heaps.{Heap, entries_of}
-use Rattle.machine_model.specs.Calls.{handle_of}
-use Rattle.machine_model.specs.declared.steps.Step.TheVariants as step
 use Rattle.machine_model.specs.declared.operations.Operation.{Operation}
-use Rattle.machine_model.specs.Acting.{operation_after}
-use Rattle.machine_model.specs.States.{State, operation_of, root_at, handle_limit}
+use Rattle.machine_model.specs.States.{State, operation_of}
 use Rattle.lock_free.specs.declared.accounts.Account.{Account}
-use Rattle.lock_free.specs.declared.accounts.Known.{Known}
-use Rattle.lock_free.specs.declared.accounts.Owned.{Owned}
-use Rattle.lock_free.specs.declared.rules.Pool.{Pool}
 use Rattle.lock_free.specs.declared.rules.View.{View}
 use Rattle.lock_free.specs.declared.sizes.Sizes.{Sizes}
-use Rattle.lock_free.specs.Accounts.{state_of, place_at, HasWaited, IsOfOther}
-use Rattle.lock_free.specs.Nodes.{Has, InTable, AreEntries, class_of}
-use Rattle.lock_free.specs.Making.{over_of, Drafted, AreDrafted, DraftsNode, owned_with, made_at, Makes, with_slots, made_by}
-use Rattle.lock_free.specs.Places.{words_in, slots_in, first_slot_word, generation_word, taken_word, pin_word, root_word, IsTaken}
-use Rattle.lock_free.specs.Rules.{Standing, Stands, NodesStand, RootsStand, IsClosing, SaysClosing, IsFree, IsSpare, IsSeat, HasActor, IsKept, Once, pool_of, pin_word_of}
-use Rattle.lock_free.proofs.Assembling.{AllStand, all_stand, not_its, other_actor, closing_stays, assembled}
-use Rattle.lock_free.proofs.Framing.{else_word, no_slot, nodes_below, roots_below, stored, other_word, low_word, taken_over, all_over, class_small}
+use Rattle.lock_free.specs.Accounts.{state_of}
+use Rattle.lock_free.specs.Nodes.{Has, InTable, class_of}
+use Rattle.lock_free.specs.Making.{over_of, Drafted, AreDrafted, DraftsNode, made_at, Makes, made_by}
+use Rattle.lock_free.specs.Places.{slots_in, first_slot_word, generation_word, taken_word, pin_word, root_word, IsTaken}
+use Rattle.lock_free.specs.Rules.{NodesStand, RootsStand, IsSpare, IsKept, pool_of}
+use Rattle.lock_free.proofs.Assembling.{AllStand, all_stand}
+use Rattle.lock_free.proofs.Framing.{else_word, no_slot, nodes_below, roots_below, other_word, low_word, taken_over, all_over, class_small}
 use Rattle.lock_free.proofs.Geometry.{IsWordOf, slots_apart, inside, root_below}
-use Rattle.lock_free.proofs.Made.{stands_too, stands_else, place_else, place_last}
+use Rattle.lock_free.proofs.Made.{stands_too}
 use Rattle.lock_free.proofs.MadeAll.{all_then, nodes_then, roots_then}
-use Rattle.lock_free.proofs.Pools.{once_rest, pool_same, pool_else}
-use Rattle.lock_free.proofs.Seats.{Stays, StaysSpare, other_kept, own_kept}
-use Rattle.lock_free.proofs.Waiting.{waited_none, waited_more}
-
-use Rattle.lock_free.proofs.MadeSeats.{its_own, its_spare, made_kept}
+use Rattle.lock_free.proofs.MadeSeats.{its_spare, made_kept}
 
 -- what is written in the words that are meant is written in those that are there
 drafts_in : (account : Account) (heap : Heap) (over : Option (Ref × Ref)) (has there : Has) (name : ℕ) (own : Bool) (node : Node) → ((j w : ℕ) → has j w → there j w) → DraftsNode account heap over has name own node →
@@ -51,7 +38,9 @@ drafts_in account heap over has there name own (Listed singles) f h = ((h.0.0, f
 
 module _ (sizes : Sizes) (s : Table.State Call View) (kept : IsKept sizes s) (id : ℕ) (v : View) (at : get_elem? s.views id ≡ some v) (operation : Operation)
     (runs : operation_of (state_of sizes kept.account) v.actor ≡ Some operation) (name : ℕ) (own : Bool) (node : Node) (rest : List ℕ) (pool : pool_of v.pool (class_of node) ≡ rest ++ name ∷ [])
-    (small : length (entries_of node) ≤ 32) where
+    (small : length (entries_of node) ≤ 32)
+    -- who is to open a handle writes an offer, and no node of an offer's size
+    (unopened : (handle : ℕ) → v.opens ≡ Some handle → class_of node ≢ 1) where
   abbrev all : AllStand sizes kept.account kept.stands s.words
   all = all_stand sizes s kept
 
@@ -104,7 +93,7 @@ module _ (sizes : Sizes) (s : Table.State Call View) (kept : IsKept sizes s) (id
     pub make_kept : IsKept sizes (record { words = words_then; homes = s.homes; views = set s.views id (made_by v (class_of node) name rest own node kept.account) })
     make_kept =
         made_kept sizes s kept id v at operation runs name own node 0 makes rest pool words_then all_made (λ a most. low (pin_word a) (omega (arith, most)))
-        (λ handle below. (let where_it_is = root_below handle below in low (root_word handle) (omega (arith, where_it_is.1)))) still slot_same
+        (λ handle below. (let where_it_is = root_below handle below in low (root_word handle) (omega (arith, where_it_is.1)))) still slot_same unopened
 
   -- ---- by the exchange of the count of generations
 
@@ -146,11 +135,11 @@ module _ (sizes : Sizes) (s : Table.State Call View) (kept : IsKept sizes s) (id
         (let size = kept.size in let same = get_or-set_same s.words generation_word (given_out + 1) 0 (omega (arith, size)) in let before = kept.generations in let one = makes.generations in omega (arith, same, before, one))
         (nodes_below sizes (made_at v.actor name own node kept.account) (stands_too (length kept.account.names) kept.stands) s.words kept.taken root_nodes root_roots generation_word before_slots (given_out + 1) root_taken)
         (roots_below sizes (made_at v.actor name own node kept.account) (stands_too (length kept.account.names) kept.stands) s.words kept.taken root_nodes root_roots generation_word before_slots (given_out + 1) root_taken
-            (λ handle low e. (let where_it_is = root_below handle low in absurd (omega (arith, e, where_it_is.0)))))
+        (λ handle low e. (let where_it_is = root_below handle low in absurd (omega (arith, e, where_it_is.0)))))
 
     -- the rule holds
     pub make_root_kept : IsKept sizes (record { words = root_words; homes = s.homes; views = set s.views id (made_by v (class_of node) name rest own node kept.account) })
     make_root_kept =
         made_kept sizes s kept id v at operation runs name own node 1 makes rest pool root_words root_made (λ a most. beside (pin_word a) (λ e. absurd (omega (arith, e))))
         (λ handle below. (let where_it_is = root_below handle below in beside (root_word handle) (λ e. absurd (omega (arith, e, where_it_is.0))))) root_taken
-        (λ b other low differs taken j its. beside j (no_slot sizes kept.account kept.stands s.words kept.taken kept.nodes kept.roots generation_word before_slots (given_out + 1) root_taken b other low taken j its))
+        (λ b other low differs taken j its. beside j (no_slot sizes kept.account kept.stands s.words kept.taken kept.nodes kept.roots generation_word before_slots (given_out + 1) root_taken b other low taken j its)) unopened

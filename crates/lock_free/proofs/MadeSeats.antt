@@ -1,42 +1,35 @@
 -- A seat's operation makes a node in a free slot of its own: the rule for all seats, from what stands in words then.
 use Rattle.history.specs.declared.calls.Call.{Call}
-use Rattle.std.proofs.Common.{◌≡◌, ◌≢◌, ◌+◌, ◌*◌, ◌⊎◌, ℕ, zero, suc, ◌<◌, ◌≤◌, inl, inr, Bool, true, false, List, [], ◌∷◌, ◌++◌, Contains, All, length, set, get_or, slice_index, is_some, Option, Some, None, refl, sym, ap, subst, ◌∙◌, arith}
+use Rattle.std.proofs.Common.{◌≡◌, ◌≢◌, ◌+◌, ℕ, ◌<◌, ◌≤◌, inl, inr, Bool, List, [], ◌∷◌, ◌++◌, Contains, length, set, get_or, slice_index, is_some, Some, None, refl, sym, ap, subst, ◌∙◌, arith}
 use Rattle.std.proofs.lemmas.Bool.{cases_eq}
-use Rattle.std.proofs.lemmas.Option.{same_Some}
-use Rattle.std.proofs.lemmas.List.{get_or-set_same}
-use Rattle.std.proofs.lemmas.List.Elements.{All-cons, All-nil, Contains-append_left, Contains-append_right, Contains-append_cases, Contains-push, Contains-get_or}
+use Rattle.std.proofs.lemmas.List.Elements.{All-cons, All-nil}
 use mathlib.Core.Option.{some}
 use lib.ListN.{get_elem?}
 use Rattle.atomic_table.specs.Table as Table
-use Rattle.machine_model.specs.Beneath.slot_arena.specs.declared.refs.Ref.{Ref}
 use Rattle.machine_model.specs.Beneath.slot_arena.specs.declared.nodes.Node.{Node}
 use Rattle.machine_model.specs.Beneath.slot_arena.specs.declared.nodes.Node.TheVariants.{Indirection, Branch, Single, Tomb, List as Listed}
-use Rattle.machine_model.specs.Beneath.slot_arena.specs.declared.nodes.Slot.{Slot}
-use Rattle.machine_model.specs.Beneath.slot_arena.specs.Heaps.{Heap, entries_of}
-use Rattle.machine_model.specs.Calls.{handle_of}
 use Rattle.machine_model.specs.declared.steps.Step.TheVariants as step
 use Rattle.machine_model.specs.declared.operations.Operation.{Operation}
 use Rattle.machine_model.specs.Acting.{operation_after}
 use Rattle.machine_model.specs.States.{State, operation_of, root_at, handle_limit}
 use Rattle.lock_free.specs.declared.accounts.Account.{Account}
-use Rattle.lock_free.specs.declared.accounts.Known.{Known}
 use Rattle.lock_free.specs.declared.accounts.Owned.{Owned}
-use Rattle.lock_free.specs.declared.rules.Pool.{Pool}
 use Rattle.lock_free.specs.declared.rules.View.{View}
 use Rattle.lock_free.specs.declared.sizes.Sizes.{Sizes}
-use Rattle.lock_free.specs.Accounts.{state_of, place_at, HasWaited, IsOfOther}
-use Rattle.lock_free.specs.Nodes.{Has, InTable, AreEntries, class_of}
-use Rattle.lock_free.specs.Making.{over_of, Drafted, DraftsNode, owned_with, made_at, Makes, with_slots, made_by}
-use Rattle.lock_free.specs.Places.{words_in, first_slot_word, pin_word, root_word, IsTaken}
-use Rattle.lock_free.specs.Rules.{Standing, Stands, IsClosing, SaysClosing, IsFree, IsSpare, IsSeat, HasActor, IsKept, Once, pool_of, pin_word_of}
-use Rattle.lock_free.proofs.Assembling.{AllStand, all_stand, not_its, other_actor, closing_stays, assembled}
-use Rattle.lock_free.proofs.Framing.{has_words, stored, other_word, low_word, taken_over, all_over, class_small}
-use Rattle.lock_free.proofs.Geometry.{IsWordOf, slots_apart, inside, root_below}
+use Rattle.lock_free.specs.Accounts.{state_of, HasWaited, IsOfOther}
+use Rattle.lock_free.specs.Nodes.{class_of}
+use Rattle.lock_free.specs.Making.{owned_with, made_at, Makes, made_by}
+use Rattle.lock_free.specs.Places.{pin_word, root_word, IsTaken}
+use Rattle.lock_free.specs.Rules.{Standing, IsClosing, SaysClosing, IsFree, IsSpare, IsSeat, IsKept, Once, pool_of}
+use Rattle.lock_free.specs.Trying.{as_before}
+use Rattle.lock_free.proofs.Assembling.{AllStand, closing_stays, numbers_stay, assembled}
+use Rattle.lock_free.proofs.Framing.{class_small}
+use Rattle.lock_free.proofs.Geometry.{IsWordOf, inside}
 use Rattle.lock_free.proofs.Made.{stands_too, stands_else, place_else, place_last}
-use Rattle.lock_free.proofs.Pools.{once_rest, pool_same, pool_else}
-use Rattle.lock_free.proofs.Seats.{Stays, StaysSpare, other_kept, own_kept}
-use Rattle.lock_free.proofs.Waiting.{waited_none, waited_more}
-
+use Rattle.lock_free.proofs.Pools.{pool_else}
+use Rattle.lock_free.proofs.Spending as spending
+use Rattle.lock_free.proofs.Seats.{ran_so, numbers_so, Stays, other_kept, own_kept}
+use Rattle.lock_free.proofs.Waiting.{waited_more}
 
 module _ (sizes : Sizes) (s : Table.State Call View) (kept : IsKept sizes s) (id : ℕ) (v : View) (at : get_elem? s.views id ≡ some v) (operation : Operation)
     (runs : operation_of (state_of sizes kept.account) v.actor ≡ Some operation) (name : ℕ) (own : Bool) (node : Node) (more : ℕ)
@@ -54,10 +47,10 @@ module _ (sizes : Sizes) (s : Table.State Call View) (kept : IsKept sizes s) (id
   seat = kept.seats id v at
 
   pub its_own : IsFree v (class_of node) name
-  its_own = (class_small node, subst (λ xs. Contains xs name) (sym pool) (Contains-append_right rest (name ∷ []) name (Contains-get_or (name ∷ []) 0 name (omega arith))))
+  its_own = spending.its_own sizes s kept id v at (class_of node) (class_small node) name rest pool
 
   pub its_spare : IsTaken sizes s.words (class_of node) name × IsSpare sizes kept.account kept.stands name
-  its_spare = seat.spare (class_of node) name its_own
+  its_spare = spending.its_spare sizes s kept id v at (class_of node) (class_small node) name rest pool
 
   same_root : (handle : ℕ) → root_at (state_of sizes account_then) handle ≡ root_at (state_of sizes kept.account) handle
   same_root handle = ap (λ rs. get_or rs handle None) makes.roots
@@ -90,41 +83,24 @@ module _ (sizes : Sizes) (s : Table.State Call View) (kept : IsKept sizes s) (id
 
   -- what is free for the seat then was free before, and is another slot
   was_free : (b other : ℕ) → IsFree view_then b other → IsFree v b other × (other ≢ name)
-  was_free b other f = elim (cases_eq b (class_of node)) [
-    | inl same ↦
-        (let inside_rest : Contains rest other = subst (λ xs. Contains xs other) (ap (λ n. pool_of view_then.pool n) same ∙ pool_same v.pool (class_of node) rest (class_small node)) f.1 in
-        let alone = once_rest rest name (subst Once pool (seat.once (class_of node) (class_small node))) in (
-          (f.0, subst (λ xs. Contains xs other) (sym (ap (λ n. pool_of v.pool n) same ∙ pool)) (Contains-append_left rest (name ∷ []) other inside_rest)),
-          λ is. alone.1 (subst (λ n. Contains rest n) is inside_rest),
-        ))
-    | inr differs ↦
-        (let before : IsFree v b other = (f.0, subst (λ xs. Contains xs other) (pool_else v.pool (class_of node) b rest (class_small node) f.0 differs) f.1) in (
-          before,
-          λ is. differs
-              (slots_apart sizes s.words kept.taken b (class_of node) other name (2 * name) f.0 (class_small node) (seat.spare b other before).0 its_spare.0
-              (record { low = omega (arith, is); high = (let some = has_words b f.0 in omega (arith, is, some)) }) (record { low = omega arith; high = (let some = has_words (class_of node) (class_small node) in omega (arith, some)) })).0,
-        ))
-  ]
+  was_free b other f = spending.was_free sizes s kept id v at (class_of node) (class_small node) name rest pool b other f.0 f.1
 
   once_then : (b : ℕ) → b < 3 → Once (pool_of view_then.pool b)
-  once_then b small_b = elim (cases_eq b (class_of node)) [
-    | inl same ↦ subst Once (sym (ap (λ n. pool_of view_then.pool n) same ∙ pool_same v.pool (class_of node) rest (class_small node)))
-        (once_rest rest name (subst Once pool (seat.once (class_of node) (class_small node)))).0
-    | inr differs ↦ subst Once (sym (pool_else v.pool (class_of node) b rest (class_small node) small_b differs)) (seat.once b small_b)
-  ]
-
+  once_then = spending.once_then sizes s kept id v at (class_of node) (class_small node) name rest pool
 
   module _ (words_then : List ℕ) (made_all : AllStand sizes account_then stands_then words_then) (pin_same : (a : ℕ) → a ≤ sizes.seats → slice_index words_then (pin_word a) ≡ slice_index s.words (pin_word a))
       (root_same : (handle : ℕ) → handle < handle_limit → slice_index words_then (root_word handle) ≡ slice_index s.words (root_word handle))
       (taken : (b other : ℕ) → b < 3 → IsTaken sizes s.words b other → IsTaken sizes words_then b other)
-      (slot_same : (b other : ℕ) → b < 3 → other ≢ name → IsTaken sizes s.words b other → (j : ℕ) → IsWordOf b other j → slice_index words_then j ≡ slice_index s.words j) where
+      (slot_same : (b other : ℕ) → b < 3 → other ≢ name → IsTaken sizes s.words b other → (j : ℕ) → IsWordOf b other j → slice_index words_then j ≡ slice_index s.words j)
+      (unopened : (handle : ℕ) → v.opens ≡ Some handle → class_of node ≢ 1) where
     stays : Stays sizes s kept id v at account_then stands_then words_then
     stays = record {
       waits = waits;
-      others = makes.others;
-      pins = λ a most apart. pin_same a most;
-      taken_numbers = λ handle below none. sym (root_same handle below) ∙ none;
-      still_open = λ handle e. ap is_some (same_root handle) ∙ e;
+      others = λ a differs. ran_so (state_of sizes kept.account) (state_of sizes account_then) a (makes.others a differs);
+      pins = λ a some most apart. pin_same a most;
+      named = λ other w e apart handle slot o x. root_same handle x.low;
+      numbers = λ other w e apart. numbers_so sizes s kept account_then words_then (as_before makes.tries) makes.roots root_same other w e;
+      still_open = λ other w at_w handle inside e. ap is_some (same_root handle) ∙ e;
       taken = taken;
       spare = λ other w b free_name e apart free.
           (let x = (kept.seats other w e).spare b free_name free in
@@ -132,10 +108,14 @@ module _ (sizes : Sizes) (s : Table.State Call View) (kept : IsKept sizes s) (id
           (spare_then free_name differs x.1, slot_same b free_name free.0 differs x.0));
     }
 
+    pool_still : (handle : ℕ) → v.opens ≡ Some handle → (slot : ℕ) → IsFree v 1 slot → Contains (pool_of view_then.pool 1) slot
+    pool_still handle e slot free = subst (λ xs. Contains xs slot) (sym (pool_else v.pool (class_of node) 1 rest (class_small node) free.0 (λ same. unopened handle e (sym same)))) free.1
+
     own_then : IsSeat sizes account_then stands_then words_then view_then
     own_then =
-        own_kept sizes s kept id v at account_then stands_then words_then stays operation (operation_after (state_of sizes kept.account) operation) runs makes.own refl refl made_all.counted
-        (pin_same v.actor (omega (arith, seat.top, seat.most))) view_then.pool []
+        own_kept sizes s kept id v at account_then stands_then words_then stays operation (operation_after (state_of sizes kept.account) operation) runs makes.own refl refl
+        (numbers_so sizes s kept account_then words_then (as_before makes.tries) makes.roots root_same id v at) made_all.counted
+        (pin_same v.actor (omega (arith, seat.top, seat.most))) view_then.pool v.opening (λ handle slot o n. (n, λ x. (root_same handle x.low, pool_still handle o slot x.free))) []
         (λ b other f. (let before = was_free b other f in let x = seat.spare b other before.0 in (taken b other f.0 x.0, spare_then other before.1 x.1))) once_then
         (λ d c. absurd (omega (arith, c.1)))
 
@@ -147,4 +127,6 @@ module _ (sizes : Sizes) (s : Table.State Call View) (kept : IsKept sizes s) (id
     pub made_kept : IsKept sizes (record { words = words_then; homes = s.homes; views = set s.views id view_then })
     made_kept =
         assembled sizes s kept id v at view_then refl refl account_then stands_then words_then made_all closings_then own_then (other_kept sizes s kept id v at account_then stands_then words_then stays)
-        (λ b other f. inl (was_free b other f).0) (λ handle e. inl e)
+        (λ b other f. inl (was_free b other f).0)
+        (numbers_stay sizes s kept id v at view_then refl refl account_then words_then (as_before makes.tries) (λ slot none. none) root_same refl
+        (λ slot handle e free. (free.0, pool_still handle e slot free)))

@@ -24,6 +24,7 @@ use Rattle.lock_free.proofs.Made.{got_in}
 use Rattle.lock_free.proofs.MadeKept.{all_made, make_kept}
 use Rattle.lock_free.proofs.Moments.{allowed, waited_so, before, seat, live_place, still_own, free_inside}
 use Rattle.lock_free.proofs.Pools.{pool_same, pool_else}
+use Rattle.lock_free.proofs.OneStep.Openers.{openers_make_roots}
 use Rattle.machine_model.specs.Beneath.slot_arena.specs.declared.refs.Ref.{Ref}
 use Rattle.machine_model.specs.Beneath.slot_arena.specs.declared.nodes.Node.{Node}
 use Rattle.machine_model.specs.Beneath.slot_arena.specs.declared.nodes.Node.TheVariants.{Indirection, Branch, Single, Tomb, List as Listed}
@@ -108,7 +109,7 @@ module _ (v : View) (word value : ℕ) (node : Node) (rest : List ℕ) (name : �
   after = made_by v (class_of node) name rest own node there
 
   makes : Makes v.sizes there (made_at v.actor name own node there) v.actor o node 0
-  makes = makes_of v.sizes there kept.bounds v.actor o stays.1 node acts kept.counted name own
+  makes = makes_of v.sizes there kept.bounds v.actor o stays.1 kept.quiet kept.roots.stood node acts kept.counted name own
 
   -- what the node names is as it was when it was written
   same_names : (r : Ref) → Contains (refs_of_node node) r → (place_of there r ≡ place_of v.account r) × (is_single (node_at state.heap r) ≡ is_single (node_at (now v).heap r))
@@ -129,8 +130,12 @@ module _ (v : View) (word value : ℕ) (node : Node) (rest : List ℕ) (name : �
   inside_it : IsWordOf (class_of node) name word
   inside_it = record { low = w.low; high = w.high }
 
+  -- who is to open a handle makes roots alone
+  unopened : (handle : ℕ) → v.opens ≡ Some handle → class_of node ≢ 1
+  unopened handle opens is = openers_make_roots v.sizes there v.actor o stays.1 handle (sym ((kept.seats id v at).reserves o stays.1) ∙ opens) node acts
+
   pub kept_after : IsKept v.sizes (record { words = set s.words word value; homes = s.homes; views = set s.views id after })
-  kept_after = make_kept v.sizes s kept id v at o stays.1 name own node rest w.last w.small makes word value inside_it drafts_there
+  kept_after = make_kept v.sizes s kept id v at o stays.1 name own node rest w.last w.small unopened makes word value inside_it drafts_there
 
   was_free : (b n : ℕ) → IsFree after b n → IsFree v b n
   was_free b n free = elim (cases_eq b (class_of node)) [
@@ -142,7 +147,7 @@ module _ (v : View) (word value : ℕ) (node : Node) (rest : List ℕ) (name : �
 
   pub sound_after : IsSound (words_of v.sizes) after
   sound_after =
-      let all = all_made v.sizes s kept id v at o stays.1 name own node rest w.last w.small makes word value inside_it drafts_there in
+      let all = all_made v.sizes s kept id v at o stays.1 name own node rest w.last w.small unopened makes word value inside_it drafts_there in
       record { size = refl; range = kept.range.within; bounds = all.bounds; counted = all.counted; inside = all.nodes.inside; free = λ b n f. (let g = was_free b n f in free_inside v s kept id at b n g) }
 
   pub took_after : Took v there after

@@ -35,7 +35,8 @@ use Rattle.lock_free.specs.Places.{words_in, words_of}
 use Rattle.lock_free.specs.Rules.{IsFree, IsSeat, IsKept}
 use Rattle.lock_free.specs.Steps.{Reads}
 use Rattle.lock_free.proofs.Asked.{in_use_made, live_in_use, nodes_stay}
-use Rattle.lock_free.proofs.Assembling.{all_stand, closing_stays, assembled}
+use Rattle.lock_free.proofs.Assembling.{all_stand, closing_stays, numbers_stay, assembled}
+use Rattle.lock_free.proofs.Meanings.{no_tries}
 use Rattle.lock_free.proofs.Definition.{IsReading, reads_of, waits, bounds_before}
 use Rattle.lock_free.proofs.Geometry.{end_inside}
 use Rattle.lock_free.proofs.Keeping.{kept_then}
@@ -195,6 +196,7 @@ module _ (v : View) (s : Table.State Call View) (kept : IsKept v.sizes s) (id : 
     entered = seat.entered;
     calls = seat.calls;
     opens = seat.opens;
+    opening = λ handle slot o n. (let x = seat.opening handle slot o n in record { low = x.low; fits = x.fits; is = x.is; free = x.free });
     reserves = seat.reserves;
     spare = seat.spare;
     once = seat.once;
@@ -205,7 +207,8 @@ module _ (v : View) (s : Table.State Call View) (kept : IsKept v.sizes s) (id : 
   seen_kept =
       assembled v.sizes s kept id v at seen_view refl refl there kept.stands s.words (all_stand v.sizes s kept)
       (λ handle who low says. closing_stays v.sizes s kept id v at seen_view refl refl (λ h e. e) refl handle who (kept.closings handle who low says)) seen_seat
-      (λ other w e apart. kept.seats other w e) (λ b n f. inl f) (λ handle e. inl e)
+      (λ other w e apart. kept.seats other w e) (λ b n f. inl f)
+      (numbers_stay v.sizes s kept id v at seen_view refl refl there s.words (no_tries there.offers (state_of v.sizes there)) (λ slot none. none) (λ handle low. refl) refl (λ slot handle e free. free))
 
   -- ---- a load that is the operation's step
 

@@ -1,6 +1,6 @@
 -- A step of a seat's operation changes a word of a node that stands: the rule for all seats, from what stands in words then.
 use Rattle.history.specs.declared.calls.Call.{Call}
-use Rattle.std.proofs.Common.{◌≡◌, ◌≢◌, ℕ, ◌<◌, ◌≤◌, inl, List, [], ◌∷◌, ◌++◌, set, get_or, slice_index, is_some, Some, None, refl, sym, ap, subst, ◌∙◌, arith, append-nil}
+use Rattle.std.proofs.Common.{◌≡◌, ◌≢◌, ℕ, ◌<◌, inl, List, [], ◌∷◌, ◌++◌, set, get_or, slice_index, is_some, Some, None, refl, sym, ap, subst, ◌∙◌, arith, append-nil}
 use Rattle.std.proofs.lemmas.List.Elements.{All-cons, All-nil}
 use mathlib.Core.Option.{some}
 use lib.ListN.{get_elem?}
@@ -16,12 +16,13 @@ use Rattle.lock_free.specs.declared.rules.View.{View}
 use Rattle.lock_free.specs.declared.sizes.Sizes.{Sizes}
 use Rattle.lock_free.specs.Accounts.{state_of, place_at, HasWaited, IsOfOther}
 use Rattle.lock_free.specs.Nodes.{class_of}
-use Rattle.lock_free.specs.Places.{pin_word, root_word}
+use Rattle.lock_free.specs.Places.{root_word}
 use Rattle.lock_free.specs.Rules.{Stands, IsClosing, SaysClosing, IsFree, IsSpare, IsSeat, IsKept}
-use Rattle.lock_free.proofs.Assembling.{AllStand, all_stand, closing_stays, assembled}
+use Rattle.lock_free.specs.Trying.{SameTries, as_before}
+use Rattle.lock_free.proofs.Assembling.{AllStand, all_stand, closing_stays, numbers_stay, assembled}
 use Rattle.lock_free.proofs.Framing.{else_word, still_taken, node_far, not_of_spare, root_beside, pin_beside}
 use Rattle.lock_free.proofs.Geometry.{IsWordOf}
-use Rattle.lock_free.proofs.Seats.{Stays, StaysSpare, other_kept, own_kept, drafts_kept}
+use Rattle.lock_free.proofs.Seats.{ran_so, numbers_so, Stays, StaysSpare, other_kept, own_kept, drafts_kept}
 use Rattle.lock_free.proofs.Waiting.{waited_more}
 
 -- one more step of this actor's operation, and more that is known of whose main nodes are
@@ -34,7 +35,8 @@ module _ (sizes : Sizes) (s : Table.State Call View) (kept : IsKept sizes s) (id
     (spare_then : (name : ℕ) → IsSpare sizes kept.account kept.stands name → IsSpare sizes (owning v.actor owned kept.account) kept.stands name)
     (roots : (state_of sizes (owning v.actor owned kept.account)).roots ≡ (state_of sizes kept.account).roots)
     (others : (a : ℕ) → a ≢ v.actor → operation_of (state_of sizes (owning v.actor owned kept.account)) a ≡ operation_of (state_of sizes kept.account) a)
-    (own : operation_of (state_of sizes (owning v.actor owned kept.account)) v.actor ≡ Some (operation_after (state_of sizes kept.account) operation)) where
+    (own : operation_of (state_of sizes (owning v.actor owned kept.account)) v.actor ≡ Some (operation_after (state_of sizes kept.account) operation))
+    (tries : SameTries (state_of sizes kept.account) (state_of sizes (owning v.actor owned kept.account))) where
   abbrev all : AllStand sizes kept.account kept.stands s.words
   all = all_stand sizes s kept
 
@@ -54,10 +56,12 @@ module _ (sizes : Sizes) (s : Table.State Call View) (kept : IsKept sizes s) (id
 
   spare_stays : (other : ℕ) (w : View) (b name : ℕ) → get_elem? s.views other ≡ some w → IsFree w b name → StaysSpare sizes s kept id v at account_then kept.stands words_then b name
   spare_stays other w b name e free =
-      let x = (kept.seats other w e).spare b name free in
-      (spare_then name x.1, λ j its_word.
-          else_word kept.account s.words i value j
-          (not_of_spare sizes kept.account kept.stands s.words all k slot stood i its value b name free.0 x.0 x.1 j its_word))
+      let x = (kept.seats other w e).spare b name free in (
+        spare_then name x.1,
+        λ j its_word.
+            else_word kept.account s.words i value j
+            (not_of_spare sizes kept.account kept.stands s.words all k slot stood i its value b name free.0 x.0 x.1 j its_word),
+      )
 
   root_same : (handle : ℕ) → handle < handle_limit → slice_index words_then (root_word handle) ≡ slice_index s.words (root_word handle)
   root_same = root_beside sizes kept.account kept.stands s.words all k slot stood i its value
@@ -65,10 +69,11 @@ module _ (sizes : Sizes) (s : Table.State Call View) (kept : IsKept sizes s) (id
   stays : Stays sizes s kept id v at account_then kept.stands words_then
   stays = record {
     waits = waits;
-    others = others;
-    pins = λ a most apart. pin_beside sizes kept.account kept.stands s.words all k slot stood i its value a most;
-    taken_numbers = λ handle low none. sym (root_same handle low) ∙ none;
-    still_open = λ handle e. ap (λ rs. is_some (get_or rs handle None)) roots ∙ e;
+    others = λ a differs. ran_so (state_of sizes kept.account) (state_of sizes account_then) a (others a differs);
+    pins = λ a some most apart. pin_beside sizes kept.account kept.stands s.words all k slot stood i its value a most;
+    named = λ other w e apart handle slot o x. root_same handle x.low;
+    numbers = λ other w e apart. numbers_so sizes s kept account_then words_then (as_before tries) roots root_same other w e;
+    still_open = λ other w at_w handle inside e. ap (λ rs. is_some (get_or rs handle None)) roots ∙ e;
     taken = still_taken sizes kept.account s.words kept.taken i (node_far sizes kept.account kept.stands s.words all k slot stood i its value) value;
     spare = λ other w b name e apart free. spare_stays other w b name e free;
   }
@@ -80,8 +85,8 @@ module _ (sizes : Sizes) (s : Table.State Call View) (kept : IsKept sizes s) (id
   own_then : IsSeat sizes account_then kept.stands words_then view_then
   own_then =
       let seat = kept.seats id v at in
-      own_kept sizes s kept id v at account_then kept.stands words_then stays operation (operation_after (state_of sizes kept.account) operation) runs own refl refl all_then.counted
-      (pin_beside sizes kept.account kept.stands s.words all k slot stood i its value v.actor (omega (arith, seat.top, seat.most))) v.pool v.drafts
+      own_kept sizes s kept id v at account_then kept.stands words_then stays operation (operation_after (state_of sizes kept.account) operation) runs own refl refl (numbers_so sizes s kept account_then words_then (as_before tries) roots root_same id v at) all_then.counted
+      (pin_beside sizes kept.account kept.stands s.words all k slot stood i its value v.actor (omega (arith, seat.top, seat.most))) v.pool v.opening (λ handle slot o n. (n, λ x. (root_same handle x.low, x.free.1))) v.drafts
       (λ b name free. (let x = seat.spare b name free in (stays.taken b name free.0 x.0, (spare_stays id v b name at free).0))) seat.once
       (λ d c. drafts_kept sizes s kept id v at account_then kept.stands words_then stays view_then d (seat.drafts d c) (λ b name free. (free, (spare_stays id v b name at free).1)))
 
@@ -89,4 +94,4 @@ module _ (sizes : Sizes) (s : Table.State Call View) (kept : IsKept sizes s) (id
   pub node_word_kept : IsKept sizes (record { words = words_then; homes = s.homes; views = set s.views id view_then })
   node_word_kept =
       assembled sizes s kept id v at view_then refl refl account_then kept.stands words_then all_then closings_then own_then (other_kept sizes s kept id v at account_then kept.stands words_then stays)
-      (λ b name free. inl free) (λ handle e. inl e)
+      (λ b name free. inl free) (numbers_stay sizes s kept id v at view_then refl refl account_then words_then (as_before tries) (λ slot none. none) root_same refl (λ slot handle e free. free))

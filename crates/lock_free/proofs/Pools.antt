@@ -6,15 +6,28 @@ use Rattle.lock_free.specs.declared.rules.Pool.{Pool}
 use Rattle.lock_free.specs.Making.{with_slots, with_slot}
 use Rattle.lock_free.specs.Rules.{Once, pool_of}
 
-none_there : (n : ℕ) → Contains [] n → ⊥
+none_there : {X : Type 0} (n : X) → Contains [] n → ⊥
 none_there n c = absurd (omega (arith, c.1))
 
-pub one_there : (x n : ℕ) → Contains (x ∷ []) n → n ≡ x
+pub one_there : {X : Type 0} (x n : X) → Contains (x ∷ []) n → n ≡ x
 one_there x n c = by c.0 c.1 c.2
   where
     by : (k : ℕ) → k < 1 → get_or (x ∷ []) k n ≡ n → n ≡ x
     by zero low e = sym e
     by (suc k) low e = absurd (omega (arith, low))
+
+-- the first, or one of the others
+pub first_or_more : {X : Type 0} (x : X) (xs : List X) (n : X) → Contains (x ∷ xs) n → (n ≡ x) ⊎ Contains xs n
+first_or_more x xs n c = elim (Contains-append_cases (x ∷ []) xs n c) [
+  | inl first ↦ inl (one_there x n first)
+  | inr more ↦ inr more
+]
+
+pub first_there : {X : Type 0} (x : X) (xs : List X) → Contains (x ∷ xs) x
+first_there x xs = (0, omega arith, refl)
+
+pub more_there : {X : Type 0} (x : X) (xs : List X) (n : X) → Contains xs n → Contains (x ∷ xs) n
+more_there x xs n c = Contains-append_right (x ∷ []) xs n c
 
 -- no number stands twice in what is left of a pool, and the last one isn't among them
 pub once_rest : (xs : List ℕ) (n : ℕ) → Once (xs ++ n ∷ []) → Once xs × (Contains xs n → ⊥)
@@ -31,11 +44,13 @@ once_rest (x ∷ xs) n h =
 -- one more that isn't among them
 pub once_more : (xs : List ℕ) (n : ℕ) → Once xs → (Contains xs n → ⊥) → Once (xs ++ n ∷ [])
 once_more [] n h new = (none_there n, tt)
-once_more (x ∷ xs) n h new =
-    ((λ c. elim (Contains-push_cases xs n x c) [
-      | inl more ↦ h.0 more
-      | inr same ↦ new (subst (λ y. Contains (x ∷ xs) y) (sym same) (0, omega arith, refl))
-    ]), once_more xs n h.1 (λ c. new (Contains-append_right (x ∷ []) xs n c)))
+once_more (x ∷ xs) n h new = (
+  (λ c. elim (Contains-push_cases xs n x c) [
+    | inl more ↦ h.0 more
+    | inr same ↦ new (subst (λ y. Contains (x ∷ xs) y) (sym same) (0, omega arith, refl))
+  ]),
+  once_more xs n h.1 (λ c. new (Contains-append_right (x ∷ []) xs n c)),
+)
 
 pub pool_same : (pool : Pool) (class : ℕ) (rest : List ℕ) → class < 3 → pool_of (with_slots pool class rest) class ≡ rest
 pool_same pool zero rest low = refl
@@ -56,7 +71,6 @@ pool_else pool (suc (suc zero)) (suc (suc zero)) rest low small differs = absurd
 pool_else pool (suc (suc (suc class))) b rest low small differs = absurd (omega (arith, low))
 pool_else pool class (suc (suc (suc b))) rest low small differs = absurd (omega (arith, small))
 
-
 -- with one more slot in one class
 module _ (pool : Pool) (class name : ℕ) (small : class < 3) where
   pub free_still : (b other : ℕ) → b < 3 → Contains (pool_of pool b) other → Contains (pool_of (with_slot pool class name) b) other
@@ -70,9 +84,9 @@ module _ (pool : Pool) (class name : ℕ) (small : class < 3) where
   was_free b other low c = elim (cases_eq b class) [
     | inl same ↦ elim (Contains-push_cases (pool_of pool class) name other
         (subst (λ xs. Contains xs other) (ap (pool_of (with_slot pool class name)) same ∙ pool_same pool class (pool_of pool class ++ name ∷ []) small) c)) [
-      | inl old ↦ inl (subst (λ n. Contains (pool_of pool n) other) (sym same) old)
-      | inr new ↦ inr (same, new)
-    ]
+          | inl old ↦ inl (subst (λ n. Contains (pool_of pool n) other) (sym same) old)
+          | inr new ↦ inr (same, new)
+        ]
     | inr differs ↦ inl (subst (λ xs. Contains xs other) (pool_else pool class b (pool_of pool class ++ name ∷ []) small low differs) c)
   ]
 

@@ -183,7 +183,7 @@ module _ (v : View) (i replaced made : Ref) (p : IsAt v (act.Publish i replaced 
     Either = (after : View) × Left after × ((main_at state.heap i == replaced) ≡ (found == old)) × ((found == old) ≡ true → after ≡ swapped) × ((found == old) ≡ false → after ≡ dropped)
 
     pub leaves : Either
-    leaves = elim (publishes_or_not v.sizes there kept.bounds v.actor o runs i replaced made (acts_there v word found m does p)) [
+    leaves = elim (publishes_or_not v.sizes there kept.bounds v.actor o runs kept.quiet i replaced made (acts_there v word found m does p)) [
       | inl x ↦
           (let e = found_old x.1 in
           (swapped, swaps x.0 e, eq-eqb (main_at state.heap i) replaced x.1 ∙ sym (eq-eqb found old e), λ h. refl, λ h. absurd (true≢false (sym (eq-eqb found old e) ∙ h))))

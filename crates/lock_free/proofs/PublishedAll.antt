@@ -1,11 +1,10 @@
 -- Words, steps and nodes once a fresh main node is swapped in by an exchange of the indirection's word.
-use Rattle.std.proofs.Common.{◌≡◌, ◌≢◌, ◌+◌, ◌*◌, ◌⊎◌, ◌^◌, ℕ, zero, suc, ◌<◌, ◌≤◌, inl, inr, Bool, true, false, List, [], ◌∷◌, ◌++◌, Contains, All, length, set, get_or, slice_index, Option, Some, None, refl, sym, ap, subst, ◌∙◌, arith, length-set}
+use Rattle.std.proofs.Common.{◌≡◌, ◌≢◌, ◌+◌, ◌*◌, ℕ, ◌<◌, ◌≤◌, inl, inr, true, List, [], ◌∷◌, Contains, length, set, get_or, slice_index, Option, Some, None, refl, sym, ap, subst, ◌∙◌, arith, length-set}
 use Rattle.std.proofs.lemmas.Bool.{cases_eq}
 use Rattle.std.proofs.lemmas.Option.{same_Some}
 use Rattle.std.proofs.lemmas.List.{get_or-set_same}
 use Rattle.std.proofs.lemmas.List.Elements.{All-append, All-cons, All-nil}
 use Rattle.machine_model.specs.Beneath.slot_arena.specs.declared.refs.Ref.{Ref}
-use Rattle.machine_model.specs.Beneath.slot_arena.specs.declared.nodes.Node.{Node}
 use Rattle.machine_model.specs.Beneath.slot_arena.specs.declared.nodes.Node.TheVariants.{Indirection}
 use Rattle.machine_model.specs.Beneath.slot_arena.specs.declared.nodes.Slot.{Slot}
 use Rattle.machine_model.specs.Beneath.slot_arena.specs.Refs.{slot_of}
@@ -14,7 +13,7 @@ use Rattle.machine_model.specs.Keys.{FitsKey}
 use Rattle.machine_model.specs.declared.steps.Step.TheVariants as step
 use Rattle.machine_model.specs.declared.operations.Operation.{Operation}
 use Rattle.machine_model.specs.declared.roots.Root.{Root}
-use Rattle.machine_model.specs.States.{State, handle_limit, root_at}
+use Rattle.machine_model.specs.States.{root_at}
 use Rattle.trie_words.specs.Codes.{link_code, pair_code}
 use Rattle.lock_free.specs.declared.accounts.Account.{Account}
 use Rattle.lock_free.specs.declared.accounts.Known.{Known}
@@ -23,14 +22,17 @@ use Rattle.lock_free.specs.Accounts.{state_of, place_at, place_of, first}
 use Rattle.lock_free.specs.Nodes.{StandsAs, InTable, class_of}
 use Rattle.lock_free.specs.Places.{first_slot_word, words_in, words_of, generation_word, root_word, IsTaken}
 use Rattle.lock_free.specs.Publishing.{swapped_in, with_main_of, over, Publishes}
-use Rattle.lock_free.specs.Roots.{MeansRoot, closed, reserved, writable, read_only, closing_writable, closing_read_only, offered, opening, opens_later, IsWritten, second_of}
+use Rattle.lock_free.specs.Roots.{MeansRoot, second_of}
 use Rattle.lock_free.specs.Rules.{Standing, Stands, NodesStand, RootsStand}
 use Rattle.lock_free.proofs.Asked.{in_use_made}
 use Rattle.lock_free.proofs.Assembling.{AllStand}
-use Rattle.lock_free.proofs.Framing.{changed, else_word, below_word, stands_over, still_taken, have_still, roots_still, class_small}
+use Rattle.lock_free.proofs.Framing.{below_word, stands_over, still_taken, have_still, roots_still, class_small}
+use Rattle.lock_free.specs.Trying.{as_before}
+use Rattle.lock_free.proofs.Meanings.{means_kept, marks_kept, stood_still}
 use Rattle.lock_free.proofs.Geometry.{IsWordOf, slots_apart, above, inside}
 use Rattle.lock_free.proofs.Owners.{owners_published}
 use Rattle.lock_free.proofs.Published.{differ, else_stands, fresh_stands}
+use Rattle.lock_free.proofs.Waiting.{quiet_more}
 
 module _ (sizes : Sizes) (account : Account) (actor : ℕ) (operation : Operation) (i a f : Ref) (publishes : Publishes sizes account (swapped_in actor i f account) actor operation i a f)
     (stands : Standing) (words : List ℕ) (all : AllStand sizes account stands words) (here : stands (slot_of i) ≡ true) where
@@ -144,16 +146,8 @@ module _ (sizes : Sizes) (account : Account) (actor : ℕ) (operation : Operatio
     live = λ r h. all.nodes.live r (publishes.live r h);
   }
 
-  meaning_then : (found : ℕ) (r : Option Root) → MeansRoot account words_then found r → MeansRoot later words_then found r
-  meaning_then found r closed = closed
-  meaning_then found r reserved = reserved
-  meaning_then found r (writable q) = writable q
-  meaning_then found r (read_only q) = read_only q
-  meaning_then found r (closing_writable q seat) = closing_writable q seat
-  meaning_then found r (closing_read_only q seat) = closing_read_only q seat
-  meaning_then found r (offered k c) = offered k c
-  meaning_then found r (opening k c) = opening k c
-  meaning_then found r (opens_later slot none) = opens_later slot none
+  meaning_then : (handle found : ℕ) (r : Option Root) → MeansRoot account words_then handle found r → MeansRoot later words_then handle found r
+  meaning_then handle found r = means_kept account later words_then words_then handle r (λ access q is. refl) (λ k c. (c, refl)) (λ slot none. none) found
 
   second_then : (o : Option Ref) → second_of account o ≡ second_of later o
   second_then None = refl
@@ -164,16 +158,21 @@ module _ (sizes : Sizes) (account : Account) (actor : ℕ) (operation : Operatio
       let roots = roots_still sizes account words all.taken its_word far new_word not_of_offer all.roots in
       record {
         means = λ handle low.
-            subst (λ rs. MeansRoot later words_then (slice_index words_then (root_word handle)) (get_or rs handle None)) (sym publishes.roots) (meaning_then _ (root_at (state_of sizes account) handle) (roots.means handle low));
+            subst (λ rs. MeansRoot later words_then handle (slice_index words_then (root_word handle)) (get_or rs handle None)) (sym publishes.roots) (meaning_then handle _ (root_at (state_of sizes account) handle) (roots.means handle low));
         offers = λ k c. (let h = roots.offers k c in record { olds = h.olds; news = h.news ∙ ap (λ n. pair_code (record { low = place_of account k.offer.successor; high = n })) (second_then k.offer.second) });
         blocks = roots.blocks;
         single = roots.single;
+        pending = roots.pending;
+        tries = roots.tries;
+        stood = λ k c. stood_still sizes account later (step.Go actor ∷ []) refl k.offer (roots.stood k c);
+        marks = marks_kept account.offers (state_of sizes account) (state_of sizes later) (as_before publishes.tries) words_then words_then (λ k c. refl) roots.marks;
       }
 
   pub all_then : AllStand sizes later stands words_then
   all_then = record {
     bounds = publishes.bounds;
     keys = All-append FitsKey account.steps (step.Go actor ∷ []) all.keys (All-cons FitsKey (step.Go actor) [] tt (All-nil FitsKey));
+    quiet = quiet_more account.steps (step.Go actor) all.quiet tt;
     counted = all.counted ∙ sym publishes.births;
     size = length-set words its_word new_word ∙ all.size;
     taken = have_still sizes account words all.taken its_word far new_word;

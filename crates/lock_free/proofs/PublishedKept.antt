@@ -25,9 +25,11 @@ module _ (sizes : Sizes) (s : Table.State Call View) (kept : IsKept sizes s) (id
   all = all_stand sizes s kept
 
   spare_then : (name : ℕ) → IsSpare sizes kept.account kept.stands name → IsSpare sizes (swapped_in v.actor i f kept.account) kept.stands name
-  spare_then name h =
-      (λ k slot e. (let b = before sizes kept.account v.actor operation i a f publishes kept.stands s.words all here k slot (which sizes kept.account v.actor operation i a f publishes kept.stands s.words all here k slot e.1) in
-      h.0 k b.0 (e.0, b.1)), h.1)
+  spare_then name h = (
+    λ k slot e. (let b = before sizes kept.account v.actor operation i a f publishes kept.stands s.words all here k slot (which sizes kept.account v.actor operation i a f publishes kept.stands s.words all here k slot e.1) in
+        h.0 k b.0 (e.0, b.1)),
+    h.1,
+  )
 
   -- the rule holds
   pub publish_kept : IsKept sizes (record {
@@ -38,4 +40,4 @@ module _ (sizes : Sizes) (s : Table.State Call View) (kept : IsKept sizes s) (id
   publish_kept =
       node_word_kept sizes s kept id v at operation runs (slot_of i) publishes.link (link_stands sizes kept.account v.actor operation i a f publishes kept.stands s.words all here) (2 * place_of kept.account i)
       (first_word publishes.link.node (place_of kept.account i)) (new_word sizes kept.account v.actor operation i a f publishes kept.stands s.words all here) (owned_now i f ∷ [])
-      (all_then sizes kept.account v.actor operation i a f publishes kept.stands s.words all here) spare_then publishes.roots publishes.others publishes.own
+      (all_then sizes kept.account v.actor operation i a f publishes kept.stands s.words all here) spare_then publishes.roots publishes.others publishes.own publishes.tries

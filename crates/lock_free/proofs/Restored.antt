@@ -1,7 +1,7 @@
 -- The exchange of an indirection's word puts the main node before a failed one back.
 use Rattle.history.specs.declared.calls.Call.{Call}
-use Rattle.std.proofs.Common.{◌≡◌, ◌≢◌, ◌+◌, ◌*◌, ◌⊎◌, ◌^◌, ℕ, ◌<◌, ◌≤◌, inl, inr, Bool, true, false, List, [], ◌∷◌, ◌++◌, Contains, set, get_or, slice_index, Option, Some, None, refl, sym, ap, subst, ◌∙◌, arith, length, length-set}
-use Rattle.std.proofs.lemmas.Bool.{cases_eq, true≢false}
+use Rattle.std.proofs.Common.{◌≡◌, ◌≢◌, ◌+◌, ◌*◌, ◌⊎◌, ℕ, ◌<◌, ◌≤◌, inl, inr, Bool, true, List, [], ◌∷◌, set, get_or, slice_index, Option, Some, None, refl, sym, ap, subst, ◌∙◌, arith, length, length-set}
+use Rattle.std.proofs.lemmas.Bool.{cases_eq}
 use Rattle.std.proofs.lemmas.List.{get_or-set_same}
 use Rattle.std.proofs.lemmas.Option.{same_Some}
 use Rattle.std.proofs.lemmas.List.Elements.{All-append, All-cons, All-nil}
@@ -10,7 +10,6 @@ use lib.ListN.{get_elem?}
 use Rattle.atomic_table.specs.Table as Table
 use Rattle.trie_words.specs.Codes.{entry_code, link_code, pair_code}
 use Rattle.trie_words.specs.declared.headers.Previous.{Previous}
-use Rattle.trie_words.specs.declared.headers.Previous.TheVariants as previous
 use Rattle.trie_words.specs.declared.headers.Shape.{Shape}
 use Rattle.machine_model.specs.Beneath.slot_arena.specs.declared.refs.Ref.{Ref}
 use Rattle.machine_model.specs.Beneath.slot_arena.specs.declared.nodes.Node.{Node}
@@ -24,9 +23,8 @@ use Rattle.machine_model.specs.Keys.{FitsKey}
 use Rattle.machine_model.specs.declared.steps.Step.TheVariants as step
 use Rattle.machine_model.specs.declared.operations.Operation.{Operation}
 use Rattle.machine_model.specs.declared.roots.Root.{Root}
-use Rattle.machine_model.specs.States.{State, operation_of, root_at, handle_limit}
+use Rattle.machine_model.specs.States.{State, operation_of, root_at}
 use Rattle.lock_free.specs.declared.accounts.Account.{Account}
-use Rattle.lock_free.specs.declared.accounts.Known.{Known}
 use Rattle.lock_free.specs.declared.rules.View.{View}
 use Rattle.lock_free.specs.declared.sizes.Sizes.{Sizes}
 use Rattle.lock_free.specs.Accounts.{state_of, place_at, place_of, gone_on, OwnIs}
@@ -34,14 +32,17 @@ use Rattle.lock_free.specs.Nodes.{Has, StandsAs, InTable, AreEntries, IsEntryOf,
 use Rattle.lock_free.specs.Places.{first_slot_word, words_in, words_of, generation_word, root_word, IsTaken}
 use Rattle.lock_free.specs.Publishing.{with_main_of}
 use Rattle.lock_free.specs.Restoring.{Restores}
-use Rattle.lock_free.specs.Roots.{MeansRoot, closed, reserved, writable, read_only, closing_writable, closing_read_only, offered, opening, opens_later, IsWritten, second_of}
+use Rattle.lock_free.specs.Roots.{MeansRoot, second_of}
 use Rattle.lock_free.specs.Rules.{Standing, Stands, NodesStand, RootsStand, IsSpare, IsKept}
 use Rattle.lock_free.proofs.Assembling.{AllStand, all_stand}
 use Rattle.lock_free.proofs.Framing.{below_word, stands_over, still_taken, have_still, roots_still, class_small, first_word, node_far, node_inside, not_of_other, not_of_any_offer}
+use Rattle.lock_free.specs.Trying.{as_before}
+use Rattle.lock_free.proofs.Meanings.{means_kept, marks_kept, stood_still}
 use Rattle.lock_free.proofs.Geometry.{IsWordOf}
 use Rattle.lock_free.proofs.Made.{is_pending, is_failed}
 use Rattle.lock_free.proofs.Owners.{owners_kept}
 use Rattle.lock_free.proofs.NodeWord.{node_word_kept}
+use Rattle.lock_free.proofs.Waiting.{quiet_more}
 
 module _ (sizes : Sizes) (account : Account) (actor : ℕ) (operation : Operation) (i main former : Ref) (restores : Restores sizes account actor operation i main former) (stands : Standing) (words : List ℕ)
     (all : AllStand sizes account stands words) (here : stands (slot_of i) ≡ true) (own : Bool) (owned : OwnIs account.owned (slot_of i) (slot_of former) own) where
@@ -153,9 +154,12 @@ module _ (sizes : Sizes) (account : Account) (actor : ℕ) (operation : Operatio
   ]
 
   before : (k : ℕ) (slot : Slot) → Which k slot → (was : Slot) × (get_or now.heap.slots k None ≡ Some was) × (class_of slot.node ≡ class_of was.node) × (length (entries_of slot.node) ≡ length (entries_of was.node))
-  before k slot (is_link at_it is) =
-      (restores.link, ap (λ n. get_or now.heap.slots n None) at_it ∙ restores.link_is, ap (λ (x : Slot). class_of x.node) is ∙ sym (ap class_of restores.link_node),
-          ap (λ (x : Slot). length (entries_of x.node)) is ∙ sym (ap (λ n. length (entries_of n)) restores.link_node))
+  before k slot (is_link at_it is) = (
+    restores.link,
+    ap (λ n. get_or now.heap.slots n None) at_it ∙ restores.link_is,
+    ap (λ (x : Slot). class_of x.node) is ∙ sym (ap class_of restores.link_node),
+    ap (λ (x : Slot). length (entries_of x.node)) is ∙ sym (ap (λ n. length (entries_of n)) restores.link_node),
+  )
   before k slot (is_else other e) = (slot, e, refl, refl)
 
   link_written : StandsAs account now (InTable words) p (slot_of i) restores.link (Indirection restores.generation main)
@@ -165,11 +169,11 @@ module _ (sizes : Sizes) (account : Account) (actor : ℕ) (operation : Operatio
   written_by k slot h (is_link at_it is) =
       subst (λ (x : Slot). StandsAs account_then next (InTable words_then) (place_at account k) k x x.node) (sym is)
       (subst (λ n. StandsAs account_then next (InTable words_then) (place_at account n) n (with_main_of restores.link restores.generation former) (Indirection restores.generation former)) (sym at_it)
-          (link_written.0, (own, owned, get_or-set_same words (2 * p) value 0 (node_inside sizes account stands words all (slot_of i) restores.link stood (2 * p) its value))))
+      (link_written.0, (own, owned, get_or-set_same words (2 * p) value 0 (node_inside sizes account stands words all (slot_of i) restores.link stood (2 * p) its value))))
   written_by k slot h (is_else other e) =
       else_stands (InTable words_then) (place_at account k) k slot slot.node e
       (stands_over account words (2 * p) value (place_at account k) now k slot slot.node (all.nodes.small k slot (h, e))
-          (not_of_other sizes account stands words all (slot_of i) restores.link stood (2 * p) its value k slot other (h, e)) (all.nodes.written k slot (h, e)))
+      (not_of_other sizes account stands words all (slot_of i) restores.link stood (2 * p) its value k slot other (h, e)) (all.nodes.written k slot (h, e)))
 
   still_its : (b n : ℕ) → b < 3 → IsTaken sizes words b n → IsTaken sizes words_then b n
   still_its = still_taken sizes account words all.taken (2 * p) far value
@@ -187,16 +191,8 @@ module _ (sizes : Sizes) (account : Account) (actor : ℕ) (operation : Operatio
     live = λ r h. all.nodes.live r (restores.live r h);
   }
 
-  meaning_then : (found : ℕ) (r : Option Root) → MeansRoot account words_then found r → MeansRoot account_then words_then found r
-  meaning_then found r closed = closed
-  meaning_then found r reserved = reserved
-  meaning_then found r (writable q) = writable q
-  meaning_then found r (read_only q) = read_only q
-  meaning_then found r (closing_writable q seat) = closing_writable q seat
-  meaning_then found r (closing_read_only q seat) = closing_read_only q seat
-  meaning_then found r (offered k c) = offered k c
-  meaning_then found r (opening k c) = opening k c
-  meaning_then found r (opens_later slot none) = opens_later slot none
+  meaning_then : (handle found : ℕ) (r : Option Root) → MeansRoot account words_then handle found r → MeansRoot account_then words_then handle found r
+  meaning_then handle found r = means_kept account account_then words_then words_then handle r (λ access q is. refl) (λ k c. (c, refl)) (λ slot none. none) found
 
   second_then : (o : Option Ref) → second_of account o ≡ second_of account_then o
   second_then None = refl
@@ -207,16 +203,21 @@ module _ (sizes : Sizes) (account : Account) (actor : ℕ) (operation : Operatio
       let over = roots_still sizes account words all.taken (2 * p) far value (not_of_any_offer sizes account stands words all (slot_of i) restores.link stood (2 * p) its value) all.roots in
       record {
         means = λ handle low.
-            subst (λ rs. MeansRoot account_then words_then (slice_index words_then (root_word handle)) (get_or rs handle None)) (sym restores.roots) (meaning_then _ (root_at now handle) (over.means handle low));
+            subst (λ rs. MeansRoot account_then words_then handle (slice_index words_then (root_word handle)) (get_or rs handle None)) (sym restores.roots) (meaning_then handle _ (root_at now handle) (over.means handle low));
         offers = λ k c. (let h = over.offers k c in record { olds = h.olds; news = h.news ∙ ap (λ n. pair_code (record { low = place_of account k.offer.successor; high = n })) (second_then k.offer.second) });
         blocks = over.blocks;
         single = over.single;
+        pending = over.pending;
+        tries = over.tries;
+        stood = λ k c. stood_still sizes account account_then (step.Go actor ∷ []) refl k.offer (over.stood k c);
+        marks = marks_kept account.offers now next (as_before restores.tries) words_then words_then (λ k c. refl) over.marks;
       }
 
   pub all_then : AllStand sizes account_then stands words_then
   all_then = record {
     bounds = restores.bounds;
     keys = All-append FitsKey account.steps (step.Go actor ∷ []) all.keys (All-cons FitsKey (step.Go actor) [] tt (All-nil FitsKey));
+    quiet = quiet_more account.steps (step.Go actor) all.quiet tt;
     counted = all.counted ∙ sym restores.births;
     size = length-set words (2 * p) value ∙ all.size;
     taken = have_still sizes account words all.taken (2 * p) far value;
@@ -244,4 +245,4 @@ module _ (sizes : Sizes) (s : Table.State Call View) (kept : IsKept sizes s) (id
       node_word_kept sizes s kept id v at operation runs (slot_of i) restores.link (here, restores.link_is) (2 * place_of kept.account i) (first_word restores.link.node (place_of kept.account i))
       (value sizes kept.account v.actor operation i main former restores kept.stands s.words kept_all here own owned) []
       (all_then sizes kept.account v.actor operation i main former restores kept.stands s.words kept_all here own owned)
-      (spare_then sizes kept.account v.actor operation i main former restores kept.stands s.words kept_all here own owned) restores.roots restores.others restores.own
+      (spare_then sizes kept.account v.actor operation i main former restores kept.stands s.words kept_all here own owned) restores.roots restores.others restores.own restores.tries

@@ -1,7 +1,7 @@
 -- What an access of one seat leaves of the seats.
 use Rattle.history.specs.declared.calls.Call.{Call}
-use Rattle.std.proofs.Common.{◌≡◌, ◌≢◌, ◌+◌, ◌*◌, ℕ, ◌<◌, ◌≤◌, Bool, true, List, [], ◌∷◌, Contains, get_or, slice_index, is_some, length, Some, None, refl, sym, ap, subst, ◌∙◌, arith}
-use Rattle.std.proofs.lemmas.Option.{same_Some}
+use Rattle.std.proofs.Common.{◌≡◌, ◌≢◌, ℕ, ◌<◌, ◌≤◌, true, Option, List, Contains, get_or, slice_index, is_some, length, Some, None, refl, sym, ap, ◌∙◌, arith}
+use Rattle.std.proofs.lemmas.Option.{none-some, same_Some}
 use mathlib.Core.Option.{some}
 use lib.ListN.{get_elem?}
 use Rattle.atomic_table.specs.Table as Table
@@ -9,15 +9,47 @@ use Rattle.machine_model.specs.Calls.{handle_of}
 use Rattle.machine_model.specs.declared.operations.Operation.{Operation}
 use Rattle.machine_model.specs.States.{State, operation_of, root_at, handle_limit}
 use Rattle.lock_free.specs.declared.accounts.Account.{Account}
+use Rattle.trie_words.specs.declared.pins.Pin.{Pin}
+use Rattle.lock_free.specs.declared.rules.Closing.{Closing}
 use Rattle.lock_free.specs.declared.rules.Pool.{Pool}
 use Rattle.lock_free.specs.declared.rules.View.{View}
 use Rattle.lock_free.specs.declared.sizes.Sizes.{Sizes}
 use Rattle.lock_free.specs.Accounts.{state_of, HasWaited}
 use Rattle.lock_free.specs.Places.{pin_word, root_word, IsTaken}
-use Rattle.lock_free.specs.Rules.{Standing, AreDrafts, Once, pool_of, IsFree, IsSpare, IsSeat, IsKept}
+use Rattle.lock_free.specs.Rules.{Standing, AreDrafts, Once, pool_of, IsFree, IsSpare, IsSeat, IsKept, Reserves, IsHeld, Names, pin_word_of}
 use Rattle.lock_free.proofs.Assembling.{not_its, other_actor}
+use Rattle.lock_free.specs.Trying.{KeepsTries}
 use Rattle.lock_free.proofs.Geometry.{IsWordOf}
+use Rattle.lock_free.proofs.Meanings.{reserved}
 use Rattle.lock_free.proofs.Waiting.{waited_none}
+
+-- it ran before, for the same call
+pub record Ran (before : State) (a : ℕ) (o : Operation) : Type 0 where
+  pub was : Operation
+  pub runs : operation_of before a ≡ Some was
+  pub call : was.call ≡ o.call
+  pub opens : was.opens ≡ o.opens
+
+pub ran_so : (before after : State) (a : ℕ) → operation_of after a ≡ operation_of before a → (o : Operation) → operation_of after a ≡ Some o → Ran before a o
+ran_so before after a same o e = record { was = o; runs = sym same ∙ e; call = refl; opens = refl }
+
+none_by : (x : Option Operation) → ((o : Operation) → x ≡ Some o → ⊥) → x ≡ None
+none_by None h = refl
+none_by (Some o) h = absurd (h o refl)
+
+-- who runs nothing runs nothing then
+pub rests_so : (before after : State) (a : ℕ) → ((o : Operation) → operation_of after a ≡ Some o → Ran before a o) → operation_of before a ≡ None → operation_of after a ≡ None
+rests_so before after a ran rests = none_by (operation_of after a) (λ o e. (let p = ran o e in none-some p.was (sym rests ∙ p.runs)))
+
+module _ (sizes : Sizes) (s : Table.State Call View) (kept : IsKept sizes s) where
+  -- where operations keep their tries, and no word of a handle changes, nor what it means
+  pub numbers_so : (account : Account) (words : List ℕ) → KeepsTries kept.account.offers (state_of sizes kept.account) (state_of sizes account) → (state_of sizes account).roots ≡
+      (state_of sizes kept.account).roots →
+      ((handle : ℕ) → handle < handle_limit → slice_index words (root_word handle) ≡ slice_index s.words (root_word handle)) →
+      (other : ℕ) (w : View) → get_elem? s.views other ≡ some w → (handle : ℕ) → Reserves (state_of sizes account) w handle → IsHeld (state_of sizes account) words handle
+  numbers_so account words tries roots same other w e handle h =
+      let x = (kept.seats other w e).opens handle (reserved kept.account.offers (state_of sizes kept.account) (state_of sizes account) tries w handle h) in
+      record { low = x.low; taken = λ none. x.taken (sym (same handle x.low) ∙ none); closed = ap (λ rs. get_or rs handle None) roots ∙ x.closed }
 
 module _ (sizes : Sizes) (s : Table.State Call View) (kept : IsKept sizes s) (id : ℕ) (v : View) (at : get_elem? s.views id ≡ some v) (account : Account) (stands : Standing) (words : List ℕ) where
   -- the slot is spare then, and its words are what they were
@@ -27,20 +59,31 @@ module _ (sizes : Sizes) (s : Table.State Call View) (kept : IsKept sizes s) (id
   -- the access keeps what other seats rely on
   pub record Stays : Type 0 where
     pub waits : (actor : ℕ) (first : Account) → actor ≢ v.actor → HasWaited actor first kept.account → HasWaited actor first account
-    pub others : (a : ℕ) → a ≢ v.actor → operation_of (state_of sizes account) a ≡ operation_of (state_of sizes kept.account) a
-    pub pins : (a : ℕ) → a ≤ sizes.seats → a ≢ v.actor → slice_index words (pin_word a) ≡ slice_index s.words (pin_word a)
-    pub taken_numbers : (handle : ℕ) → handle < handle_limit → slice_index words (root_word handle) ≡ 0 → slice_index s.words (root_word handle) ≡ 0
-    pub still_open : (handle : ℕ) → is_some (root_at (state_of sizes kept.account) handle) ≡ true → is_some (root_at (state_of sizes account) handle) ≡ true
+    pub others : (a : ℕ) → a ≢ v.actor → (o : Operation) → operation_of (state_of sizes account) a ≡ Some o → Ran (state_of sizes kept.account) a o
+    pub pins : (a : ℕ) → 1 ≤ a → a ≤ sizes.seats → a ≢ v.actor → slice_index words (pin_word a) ≡ slice_index s.words (pin_word a)
+    pub numbers : (other : ℕ) (w : View) → get_elem? s.views other ≡ some w → (other ≡ id → ⊥) → (handle : ℕ) → Reserves (state_of sizes account) w handle → IsHeld (state_of sizes account) words
+        handle
+    -- a word that names an offer that another seat writes
+    pub named : (other : ℕ) (w : View) → get_elem? s.views other ≡ some w → (other ≡ id → ⊥) → (handle slot : ℕ) → w.opens ≡ Some handle → Names s.words w handle slot →
+        slice_index words (root_word handle) ≡ slice_index s.words (root_word handle)
+    pub still_open : (other : ℕ) (w : View) → get_elem? s.views other ≡ some w → (handle : ℕ) → w.entered ≡ Some handle → is_some (root_at (state_of sizes kept.account) handle) ≡ true → is_some
+        (root_at (state_of sizes account) handle) ≡ true
     pub taken : (b name : ℕ) → b < 3 → IsTaken sizes s.words b name → IsTaken sizes words b name
     pub spare : (other : ℕ) (w : View) (b name : ℕ) → get_elem? s.views other ≡ some w → (other ≡ id → ⊥) → IsFree w b name → StaysSpare b name
 
   -- the seat with what is free for it then and what it has written there
-  abbrev pub seat_then : Pool → List (ℕ × ℕ) → View
-  seat_then pool drafts = record v { account = account; pool = pool; drafts = drafts }
+  abbrev pub seat_then : Pool → Option ℕ → List (ℕ × ℕ) → View
+  seat_then pool opening drafts = record v { account = account; pool = pool; opening = opening; drafts = drafts }
 
   module _ (stays : Stays) where
+    -- a word names the seat's offer still
+    pub names_kept : (w later : View) (handle slot : ℕ) → Names s.words w handle slot → slice_index words (root_word handle) ≡ slice_index s.words (root_word handle) → IsFree later 1 slot → Names
+        words later handle slot
+    names_kept w later handle slot n same free = record { low = n.low; fits = n.fits; is = same ∙ n.is; free = free }
+
     -- what is free and written stays so
-    pub drafts_kept : (w : View) (d : ℕ × ℕ) → AreDrafts s.words v d → ((b name : ℕ) → IsFree v b name → IsFree w b name × ((j : ℕ) → IsWordOf b name j → slice_index words j ≡ slice_index s.words j)) → AreDrafts words w d
+    pub drafts_kept : (w : View) (d : ℕ × ℕ) → AreDrafts s.words v d → ((b name : ℕ) → IsFree v b name → IsFree w b name ×
+        ((j : ℕ) → IsWordOf b name j → slice_index words j ≡ slice_index s.words j)) → AreDrafts words w d
     drafts_kept w d x still =
         let slot = x.1 in
         let free = still slot.0 slot.1 slot.2 in
@@ -61,12 +104,13 @@ module _ (sizes : Sizes) (s : Table.State Call View) (kept : IsKept sizes s) (id
           rests = λ a above below.
               (let r = h.rests a above below in
               let its = not_mine a (omega (arith, above), below) in
-              (stays.others a its ∙ r.0, stays.pins a (omega (arith, below, h.most)) its ∙ r.1));
-          pinned = stays.pins w.actor (omega (arith, h.top, h.most)) differs ∙ h.pinned;
-          entered = λ handle f. (let x = h.entered handle f in (x.0, stays.still_open handle x.1, x.2));
-          calls = λ o f. h.calls o (sym (stays.others w.actor differs) ∙ f);
-          opens = λ handle f. (let x = h.opens handle f in (x.0, λ none. x.1 (stays.taken_numbers handle x.0 none)));
-          reserves = λ o f handle is. h.reserves o (sym (stays.others w.actor differs) ∙ f) handle is;
+              (rests_so (state_of sizes kept.account) (state_of sizes account) a (stays.others a its) r.0, stays.pins a (omega (arith, above, h.low)) (omega (arith, below, h.most)) its ∙ r.1));
+          pinned = stays.pins w.actor h.low (omega (arith, h.top, h.most)) differs ∙ h.pinned;
+          entered = λ handle f. (let x = h.entered handle f in (x.0, stays.still_open other w e handle f x.1, x.2));
+          calls = λ o f. (let p = stays.others w.actor differs o f in h.calls p.was p.runs ∙ ap (λ c. Some (handle_of c)) p.call);
+          opens = stays.numbers other w e apart;
+          opening = λ handle slot o n. (let x = h.opening handle slot o n in names_kept w w handle slot x (stays.named other w e apart handle slot o x) x.free);
+          reserves = λ o f. (let p = stays.others w.actor differs o f in h.reserves p.was p.runs ∙ p.opens);
           spare = λ b name f. (let x = h.spare b name f in (stays.taken b name f.0 x.0, (stays.spare other w b name e apart f).0));
           once = h.once;
           drafts = λ d c.
@@ -77,11 +121,14 @@ module _ (sizes : Sizes) (s : Table.State Call View) (kept : IsKept sizes s) (id
 
     -- and the seat itself, where the access is its operation's step, with what is free for it then and what it has written there
     module _ (operation next : Operation) (runs : operation_of (state_of sizes kept.account) v.actor ≡ Some operation) (goes_on : operation_of (state_of sizes account) v.actor ≡ Some next)
-        (same_call : next.call ≡ operation.call) (same_opens : next.opens ≡ operation.opens) (counted : length account.names ≡ (state_of sizes account).heap.births)
-        (own_pin : slice_index words (pin_word v.actor) ≡ slice_index s.words (pin_word v.actor)) (pool : Pool) (drafts : List (ℕ × ℕ))
-        (spare : (b name : ℕ) → IsFree (seat_then pool drafts) b name → IsTaken sizes words b name × IsSpare sizes account stands name) (once : (b : ℕ) → b < 3 → Once (pool_of pool b))
-        (written : (d : ℕ × ℕ) → Contains drafts d → AreDrafts words (seat_then pool drafts) d) where
-      pub own_kept : IsSeat sizes account stands words (seat_then pool drafts)
+        (same_call : next.call ≡ operation.call) (same_opens : next.opens ≡ operation.opens)
+        (held : (handle : ℕ) → Reserves (state_of sizes account) v handle → IsHeld (state_of sizes account) words handle) (counted : length account.names ≡ (state_of sizes account).heap.births)
+        (own_pin : slice_index words (pin_word v.actor) ≡ slice_index s.words (pin_word v.actor)) (pool : Pool) (opening : Option ℕ)
+        (names : (handle slot : ℕ) → v.opens ≡ Some handle → opening ≡ Some slot → (v.opening ≡ Some slot) ×
+        (Names s.words v handle slot → (slice_index words (root_word handle) ≡ slice_index s.words (root_word handle)) × Contains (pool_of pool 1) slot)) (drafts : List (ℕ × ℕ))
+        (spare : (b name : ℕ) → IsFree (seat_then pool opening drafts) b name → IsTaken sizes words b name × IsSpare sizes account stands name) (once : (b : ℕ) → b < 3 → Once (pool_of pool b))
+        (written : (d : ℕ × ℕ) → Contains drafts d → AreDrafts words (seat_then pool opening drafts) d) where
+      pub own_kept : IsSeat sizes account stands words (seat_then pool opening drafts)
       own_kept =
           let h = kept.seats id v at in
           record {
@@ -94,23 +141,68 @@ module _ (sizes : Sizes) (s : Table.State Call View) (kept : IsKept sizes s) (id
             rests = λ a above below.
                 (let r = h.rests a above below in
                 let its : a ≢ v.actor = λ is. absurd (omega (arith, above, is)) in
-                (stays.others a its ∙ r.0, stays.pins a (omega (arith, below, h.most)) its ∙ r.1));
+                (rests_so (state_of sizes kept.account) (state_of sizes account) a (stays.others a its) r.0, stays.pins a (omega (arith, above, h.low)) (omega (arith, below, h.most)) its ∙ r.1));
             pinned = own_pin ∙ h.pinned;
-            entered = λ handle f. (let x = h.entered handle f in (x.0, stays.still_open handle x.1, x.2));
+            entered = λ handle f. (let x = h.entered handle f in (x.0, stays.still_open id v at handle f x.1, x.2));
             calls = λ o f. h.calls operation runs ∙ ap (λ c. Some (handle_of c)) (sym same_call ∙ ap (λ (x : Operation). x.call) (same_Some next o (sym goes_on ∙ f)));
-            opens = λ handle f. (let x = h.opens handle f in (x.0, λ none. x.1 (stays.taken_numbers handle x.0 none)));
-            reserves = λ o f handle is. h.reserves operation runs handle (sym same_opens ∙ ap (λ (x : Operation). x.opens) (same_Some next o (sym goes_on ∙ f)) ∙ is);
+            opens = held;
+            opening = λ handle slot o n.
+                (let was = names handle slot o n in let x = h.opening handle slot o was.0 in let y = was.1 x in names_kept v (seat_then pool opening drafts) handle slot x y.0 (x.free.0, y.1));
+            reserves = λ o f. h.reserves operation runs ∙ sym same_opens ∙ ap (λ (x : Operation). x.opens) (same_Some next o (sym goes_on ∙ f));
             spare = spare;
             once = once;
             drafts = written;
           }
 
+    -- and the seat itself, where it pins itself, enters a handle, would close one, or reserves a number
+    module _ (first : Account) (waited : HasWaited v.actor first account) (counted : length first.names ≡ (state_of sizes first).heap.births) (pin : Option Pin) (entered : Option ℕ)
+        (closing : Option Closing)
+        (opens : Option ℕ) (opening : Option ℕ) where
+      abbrev pub seat_else : View
+      seat_else = record v { account = first; pin = pin; entered = entered; closing = closing; opens = opens; opening = opening }
+
+      module _ (pinned : slice_index words (pin_word v.actor) ≡ pin_word_of pin)
+          (inside : (handle : ℕ) → entered ≡ Some handle → (handle < handle_limit) × (is_some (root_at (state_of sizes account) handle) ≡ true) × ((p : Pin) × (pin ≡ Some p) × (p.handle ≡ handle)))
+          (calls : (o : Operation) → operation_of (state_of sizes account) v.actor ≡ Some o → entered ≡ Some (handle_of o.call))
+          (numbers : (handle : ℕ) → Reserves (state_of sizes account) seat_else handle → IsHeld (state_of sizes account) words handle)
+          (reserves : (o : Operation) → operation_of (state_of sizes account) v.actor ≡ Some o → opens ≡ o.opens)
+          (names : (handle slot : ℕ) → opens ≡ Some handle → opening ≡ Some slot → Names words seat_else handle slot)
+          (spare : (b name : ℕ) → IsFree v b name → StaysSpare b name) where
+        pub own_else : IsSeat sizes account stands words seat_else
+        own_else =
+            let h = kept.seats id v at in
+            record {
+              same = h.same;
+              low = h.low;
+              top = h.top;
+              most = h.most;
+              waited = waited;
+              counts = counted;
+              rests = λ a above below.
+                  (let r = h.rests a above below in
+                  let its : a ≢ v.actor = λ is. absurd (omega (arith, above, is)) in
+                  (rests_so (state_of sizes kept.account) (state_of sizes account) a (stays.others a its) r.0, stays.pins a (omega (arith, above, h.low)) (omega (arith, below, h.most)) its ∙ r.1));
+              pinned = pinned;
+              entered = inside;
+              calls = calls;
+              opens = numbers;
+              opening = names;
+              reserves = reserves;
+              spare = λ b name f. (let x = h.spare b name f in (stays.taken b name f.0 x.0, (spare b name f).0));
+              once = h.once;
+              drafts = λ d c. drafts_kept seat_else d (h.drafts d c) (λ b name f. (f, (spare b name f).1));
+            }
+
 -- ---- an access that is no step
 
-module _ (sizes : Sizes) (s : Table.State Call View) (kept : IsKept sizes s) (id : ℕ) (v : View) (at : get_elem? s.views id ≡ some v) (words : List ℕ) (stays : Stays sizes s kept id v at kept.account kept.stands words)
+module _ (sizes : Sizes) (s : Table.State Call View) (kept : IsKept sizes s) (id : ℕ) (v : View) (at : get_elem? s.views id ≡ some v) (words : List ℕ)
+    (stays : Stays sizes s kept id v at kept.account kept.stands words)
+    (held : (handle : ℕ) → Reserves (state_of sizes kept.account) v handle → IsHeld (state_of sizes kept.account) words handle)
     (own_pin : slice_index words (pin_word v.actor) ≡ slice_index s.words (pin_word v.actor)) (pool : Pool) (drafts : List (ℕ × ℕ))
-    (spare : (b name : ℕ) → IsFree (record v { pool = pool; drafts = drafts }) b name → IsTaken sizes words b name × IsSpare sizes kept.account kept.stands name) (once : (b : ℕ) → b < 3 → Once (pool_of pool b))
-    (written : (d : ℕ × ℕ) → Contains drafts d → AreDrafts words (record v { pool = pool; drafts = drafts }) d) where
+    (spare : (b name : ℕ) → IsFree (record v { pool = pool; drafts = drafts }) b name → IsTaken sizes words b name × IsSpare sizes kept.account kept.stands name)
+    (once : (b : ℕ) → b < 3 → Once (pool_of pool b))
+    (written : (d : ℕ × ℕ) → Contains drafts d → AreDrafts words (record v { pool = pool; drafts = drafts }) d)
+    (still : (handle slot : ℕ) → Names s.words v handle slot → (slice_index words (root_word handle) ≡ slice_index s.words (root_word handle)) × Contains (pool_of pool 1) slot) where
   pub own_still : IsSeat sizes kept.account kept.stands words (record v { pool = pool; drafts = drafts })
   own_still =
       let h = kept.seats id v at in
@@ -121,11 +213,14 @@ module _ (sizes : Sizes) (s : Table.State Call View) (kept : IsKept sizes s) (id
         most = h.most;
         waited = h.waited;
         counts = h.counts;
-        rests = λ a above below. (let r = h.rests a above below in (r.0, stays.pins a (omega (arith, below, h.most)) (λ is. absurd (omega (arith, above, is))) ∙ r.1));
+        rests = λ a above below. (let r = h.rests a above below in (r.0, stays.pins a (omega (arith, above, h.low)) (omega (arith, below, h.most)) (λ is. absurd (omega (arith, above, is))) ∙ r.1));
         pinned = own_pin ∙ h.pinned;
         entered = h.entered;
         calls = h.calls;
-        opens = λ handle f. (let x = h.opens handle f in (x.0, λ none. x.1 (stays.taken_numbers handle x.0 none)));
+        opens = held;
+        opening = λ handle slot o n.
+            (let x = h.opening handle slot o n in
+            let y = still handle slot x in names_kept sizes s kept id v at kept.account kept.stands words stays v (record v { pool = pool; drafts = drafts }) handle slot x y.0 (x.free.0, y.1));
         reserves = h.reserves;
         spare = spare;
         once = once;

@@ -1,27 +1,26 @@
 -- A slot that was never handed out becomes free for a seat: the exchange of the count of its class.
 use Rattle.history.specs.declared.calls.Call.{Call}
-use Rattle.std.proofs.Common.{◌≡◌, ◌≢◌, ◌+◌, ◌*◌, ◌⊎◌, ℕ, zero, suc, ◌<◌, ◌≤◌, inl, inr, List, [], ◌∷◌, Contains, set, get_or, slice_index, Some, None, refl, sym, ap, subst, ◌∙◌, arith, length, length-set}
+use Rattle.std.proofs.Common.{◌≡◌, ◌≢◌, ◌+◌, ◌*◌, ◌⊎◌, ℕ, zero, suc, ◌<◌, ◌≤◌, inl, inr, List, set, slice_index, refl, sym, subst, ◌∙◌, arith, length-set}
 use Rattle.std.proofs.lemmas.Bool.{cases_eq}
 use Rattle.std.proofs.lemmas.List.{get_or-set_same}
 use mathlib.Core.Option.{some}
 use lib.ListN.{get_elem?}
 use Rattle.atomic_table.specs.Table as Table
-use Rattle.machine_model.specs.Beneath.slot_arena.specs.declared.nodes.Slot.{Slot}
-use Rattle.machine_model.specs.States.{State, root_at, handle_limit}
-use Rattle.lock_free.specs.declared.accounts.Known.{Known}
+use Rattle.machine_model.specs.States.{State, handle_limit}
 use Rattle.lock_free.specs.declared.rules.View.{View}
 use Rattle.lock_free.specs.declared.sizes.Sizes.{Sizes}
-use Rattle.lock_free.specs.Accounts.{state_of, place_at}
+use Rattle.lock_free.specs.Accounts.{state_of}
 use Rattle.lock_free.specs.Making.{with_slot}
 use Rattle.lock_free.specs.Nodes.{class_of}
-use Rattle.lock_free.specs.Places.{words_in, slots_in, part_of, first_slot_word, words_of, taken_word, generation_word, pin_word, root_word, IsTaken, HaveTaken}
-use Rattle.lock_free.specs.Roots.{MeansRoot}
-use Rattle.lock_free.specs.Rules.{Stands, NodesStand, RootsStand, IsClosing, SaysClosing, IsFree, IsSpare, AreDrafts, IsSeat, IsKept}
-use Rattle.lock_free.proofs.Assembling.{AllStand, closing_stays, assembled}
+use Rattle.lock_free.specs.Places.{words_in, slots_in, part_of, first_slot_word, taken_word, generation_word, pin_word, root_word, IsTaken, HaveTaken}
+use Rattle.lock_free.specs.Rules.{IsClosing, SaysClosing, IsFree, IsSpare, AreDrafts, IsSeat, IsKept}
+use Rattle.lock_free.specs.Accounts.{state_of}
+use Rattle.lock_free.proofs.Meanings.{no_tries}
+use Rattle.lock_free.proofs.Assembling.{AllStand, closing_stays, numbers_stay, assembled}
 use Rattle.lock_free.proofs.Framing.{else_word, class_small, has_words, no_slot, nodes_below, roots_below}
 use Rattle.lock_free.proofs.Geometry.{IsWordOf, slots_apart, root_below}
 use Rattle.lock_free.proofs.Pools.{free_still, was_free, once_with}
-use Rattle.lock_free.proofs.Seats.{Stays, other_kept, own_still}
+use Rattle.lock_free.proofs.Seats.{ran_so, numbers_so, Stays, other_kept, own_still}
 
 pub same_class : (b c : ℕ) → taken_word b ≡ taken_word c → b ≡ c
 same_class b c e = omega (arith, e)
@@ -85,14 +84,15 @@ module _ (sizes : Sizes) (s : Table.State Call View) (kept : IsKept sizes s) (id
       let some = has_words b low in
       let some_too = has_words class small in
       let both = slots_apart sizes words_then have_then b class name name (2 * name) low small (taken_then b name low h) new_taken (record { low = omega arith; high = omega (arith, some) })
-          (record { low = omega arith; high = omega (arith, some_too) }) in
+      (record { low = omega arith; high = omega (arith, some_too) }) in
       let of_class : IsTaken sizes s.words class name = subst (λ c. IsTaken sizes s.words c name) both.0 h in
       let is = numbers class of_class.number number small of_class.first first in absurd (omega (arith, of_class.few, is))
 
   new_spare : IsSpare sizes kept.account kept.stands name
-  new_spare =
-      (λ k slot h e. not_taken (class_of slot.node) (class_small slot.node) (subst (λ n. IsTaken sizes s.words (class_of slot.node) n) e (kept.nodes.within k slot h)),
-          λ k c e. not_taken 1 (omega arith) (subst (λ n. IsTaken sizes s.words 1 n) e (kept.roots.blocks k c)))
+  new_spare = (
+    λ k slot h e. not_taken (class_of slot.node) (class_small slot.node) (subst (λ n. IsTaken sizes s.words (class_of slot.node) n) e (kept.nodes.within k slot h)),
+    λ k c e. not_taken 1 (omega arith) (subst (λ n. IsTaken sizes s.words 1 n) e (kept.roots.blocks k c)),
+  )
 
   -- ---- what stands
 
@@ -100,6 +100,7 @@ module _ (sizes : Sizes) (s : Table.State Call View) (kept : IsKept sizes s) (id
   all_then = record {
     bounds = kept.bounds;
     keys = kept.keys;
+    quiet = kept.quiet;
     counted = kept.counted;
     size = length-set s.words (taken_word class) (number + 1) ∙ kept.size;
     taken = have_then;
@@ -117,10 +118,11 @@ module _ (sizes : Sizes) (s : Table.State Call View) (kept : IsKept sizes s) (id
   stays : Stays sizes s kept id v at kept.account kept.stands words_then
   stays = record {
     waits = λ actor before differs h. h;
-    others = λ a apart. refl;
-    pins = λ a most apart. pin_same a;
-    taken_numbers = λ handle low none. sym (root_same handle low) ∙ none;
-    still_open = λ handle e. e;
+    others = λ a apart. ran_so (state_of sizes kept.account) (state_of sizes kept.account) a refl;
+    pins = λ a some most apart. pin_same a;
+    named = λ other w e apart handle slot o x. root_same handle x.low;
+    numbers = λ other w e apart. numbers_so sizes s kept kept.account words_then (no_tries kept.account.offers (state_of sizes kept.account)) refl root_same other w e;
+    still_open = λ other w at_w handle inside e. e;
     taken = taken_then;
     spare = λ other w b n e apart free. (let x = (kept.seats other w e).spare b n free in (x.1, slot_words b n free.0 x.0));
   }
@@ -134,14 +136,15 @@ module _ (sizes : Sizes) (s : Table.State Call View) (kept : IsKept sizes s) (id
   drafted : (d : ℕ × ℕ) → AreDrafts s.words v d → AreDrafts words_then view_then d
   drafted d h =
       let slot = h.1 in
-      let x = seat.spare slot.0 slot.1 slot.2 in
-      (slot_words slot.0 slot.1 slot.2.0 x.0 d.0 (record { low = slot.3; high = slot.4 }) ∙ h.0,
-          (slot.0, slot.1, (slot.2.0, free_still v.pool class name small slot.0 slot.1 slot.2.0 slot.2.1), slot.3, slot.4))
+      let x = seat.spare slot.0 slot.1 slot.2 in (
+        slot_words slot.0 slot.1 slot.2.0 x.0 d.0 (record { low = slot.3; high = slot.4 }) ∙ h.0,
+        (slot.0, slot.1, (slot.2.0, free_still v.pool class name small slot.0 slot.1 slot.2.0 slot.2.1), slot.3, slot.4),
+      )
 
   own_then : IsSeat sizes kept.account kept.stands words_then view_then
   own_then =
-      own_still sizes s kept id v at words_then stays (pin_same v.actor) view_then.pool v.drafts own_spare
-      (once_with v.pool class name small seat.once (λ c. not_taken class small (seat.spare class name (small, c)).0)) (λ d c. drafted d (seat.drafts d c))
+      own_still sizes s kept id v at words_then stays (numbers_so sizes s kept kept.account words_then (no_tries kept.account.offers (state_of sizes kept.account)) refl root_same id v at) (pin_same v.actor) view_then.pool v.drafts own_spare
+      (once_with v.pool class name small seat.once (λ c. not_taken class small (seat.spare class name (small, c)).0)) (λ d c. drafted d (seat.drafts d c)) (λ handle slot y. (root_same handle y.low, free_still v.pool class name small 1 slot y.free.0 y.free.1))
 
   free_then : (b other : ℕ) → IsFree view_then b other → IsFree v b other ⊎ ((n : ℕ) (w : View) (c : ℕ) → get_elem? s.views n ≡ some w → (n ≡ id → ⊥) → IsFree w c other → ⊥)
   free_then b other free = elim (was_free v.pool class name small b other free.0 free.1) [
@@ -157,4 +160,5 @@ module _ (sizes : Sizes) (s : Table.State Call View) (kept : IsKept sizes s) (id
   pub take_kept : IsKept sizes (record { words = words_then; homes = s.homes; views = set s.views id view_then })
   take_kept =
       assembled sizes s kept id v at view_then refl refl kept.account kept.stands words_then all_then closings_then own_then (other_kept sizes s kept id v at kept.account kept.stands words_then stays)
-      free_then (λ handle e. inl e)
+      free_then
+      (numbers_stay sizes s kept id v at view_then refl refl kept.account words_then (no_tries kept.account.offers (state_of sizes kept.account)) (λ slot none. none) root_same refl (λ slot handle e free. (free.0, free_still v.pool class name small 1 slot free.0 free.1)))

@@ -2,10 +2,23 @@
 use Rattle.std.proofs.Common.{◌≡◌, ◌≢◌, ◌++◌, ℕ, List, [], ◌∷◌, All, refl, sym, ap, ◌∙◌, append_assoc, append-nil}
 use Rattle.std.proofs.lemmas.List.Elements.{All-append, All-nil}
 use Rattle.machine_model.specs.declared.steps.Step.{Step}
+use Rattle.machine_model.specs.declared.steps.Step.TheVariants as step
+use Rattle.proof_waiting.specs.Beneath.proof_slots.specs.Unswept.{HasNoSweeps, IsNoSweep}
 use Rattle.lock_free.specs.declared.accounts.Account.{Account}
 use Rattle.lock_free.specs.declared.accounts.Owned.{Owned}
 use Rattle.lock_free.specs.declared.accounts.Known.{Known}
 use Rattle.lock_free.specs.Accounts.{IsOfOther, HasWaited}
+
+-- one step more that isn't the sweep's
+pub quiet_more : (steps : List Step) (s : Step) → HasNoSweeps steps → IsNoSweep s → HasNoSweeps (steps ++ s ∷ [])
+quiet_more [] s quiet own = (own, tt)
+quiet_more (x ∷ steps) s quiet own = (quiet.0, quiet_more steps s quiet.1 own)
+
+pub other_quiet : (actor : ℕ) (s : Step) → IsOfOther actor s → IsNoSweep s
+other_quiet actor (step.Begin other call) h = tt
+other_quiet actor (step.Go other) h = tt
+other_quiet actor (step.GiveUp other) h = tt
+other_quiet actor step.Sweep h = absurd h
 
 -- nothing has happened
 pub waited_none : (actor : ℕ) (account : Account) → HasWaited actor account account

@@ -1,15 +1,18 @@
 -- What has happened so far, as the definition has it: the state that its steps lead to, and where its nodes stand in the table. The definition never runs out
 -- of slots: it has as many as steps were taken, and three more.
-use Rattle.std.specs.Prelude.{◌≡◌, ℕ, ◌+◌, ◌≤◌, ◌⊎◌, ◌≢◌, Bool, true, false, List, [], ◌∷◌, ◌++◌, All, Contains, length, slice_index_or, Some, None}
+use Rattle.std.specs.Prelude.{◌≡◌, ℕ, ◌+◌, Bool, List, [], ◌∷◌, ◌++◌, All, length, slice_index_or, Some}
 use Rattle.machine_model.specs.declared.operations.Operation.{Operation}
 use Rattle.machine_model.specs.declared.steps.Bounds.{Bounds}
 use Rattle.machine_model.specs.declared.steps.Step.{Step}
 use Rattle.machine_model.specs.declared.steps.Step.TheVariants as step
 use Rattle.machine_model.specs.Beneath.slot_arena.specs.declared.refs.Ref.{Ref}
 use Rattle.machine_model.specs.Beneath.slot_arena.specs.Refs.{slot_of}
+use Rattle.machine_model.specs.declared.roots.Descriptor.{Descriptor}
+use Rattle.machine_model.specs.declared.roots.RootWord.TheVariants.{Offer}
 use Rattle.machine_model.specs.Machine.{run}
 use Rattle.machine_model.specs.Records.{Record, record_of}
-use Rattle.machine_model.specs.States.{State, operation_of}
+use Rattle.machine_model.specs.States.{State, operation_of, word_at}
+pub use Rattle.proof_waiting.specs.Waiting.{IsOfOther}
 use Rattle.lock_free.specs.declared.accounts.Account.{Account}
 use Rattle.lock_free.specs.declared.accounts.Owned.{Owned}
 use Rattle.lock_free.specs.declared.accounts.Known.{Known}
@@ -41,13 +44,6 @@ IsOwn account holder held b = OwnIs account.owned (slot_of holder) (slot_of held
 
 -- ---- how it goes on
 
--- a step of another actor, and no sweep: nothing is freed
-abbrev pub IsOfOther : ℕ → Step → Type 0
-IsOfOther actor (step.Begin other call) = other ≢ actor
-IsOfOther actor (step.Go other) = other ≢ actor
-IsOfOther actor (step.GiveUp other) = other ≢ actor
-IsOfOther actor step.Sweep = ⊥
-
 -- the one account goes on as the other, by others' steps alone
 pub record HasWaited (actor : ℕ) (before after : Account) : Type 0 where
   pub steps : List Step
@@ -67,3 +63,13 @@ running sizes account actor operation = operation_of (state_of sizes account) ac
 -- one more step of this actor's operation, which makes nothing
 abbrev pub gone_on : ℕ → Account → Account
 gone_on actor account = record account { steps = account.steps ++ step.Go actor ∷ [] }
+
+-- ---- offers
+
+-- the offer stood in a root word once
+pub record HasStood (sizes : Sizes) (account : Account) (offer : Descriptor) : Type 0 where
+  pub steps : List Step
+  pub more : List Step
+  pub goes_on : account.steps ≡ steps ++ more
+  pub handle : ℕ
+  pub stood : word_at (run (bounds_for sizes steps) steps) handle ≡ Offer offer

@@ -16,6 +16,7 @@ use Rattle.lock_free.specs.declared.sizes.Sizes.{Sizes}
 use Rattle.lock_free.specs.Accounts.{bounds_for, state_of, gone_on}
 use Rattle.lock_free.specs.Live.{IsLive}
 use Rattle.lock_free.specs.Nodes.{IsAhead}
+use Rattle.lock_free.specs.Trying.{SameTries}
 
 -- what a header says of a node that was pending: committed, or failed over the same one
 abbrev pub says_then : Prev → Previous → Previous
@@ -40,6 +41,7 @@ pub record Decides (sizes : Sizes) (account : Account) (actor : ℕ) (operation 
   pub generations : (state_of sizes (gone_on actor account)).generations ≡ (state_of sizes account).generations
   pub others : (a : ℕ) → a ≢ actor → operation_of (state_of sizes (gone_on actor account)) a ≡ operation_of (state_of sizes account) a
   pub own : operation_of (state_of sizes (gone_on actor account)) actor ≡ Some (operation_after (state_of sizes account) operation)
+  pub tries : SameTries (state_of sizes account) (state_of sizes (gone_on actor account))
   -- who is about to swap a node in is so still, and nobody with this one
   pub aheads : (i a f : Ref) → IsAhead (state_of sizes (gone_on actor account)) i a f → IsAhead (state_of sizes account) i a f
   pub still : (i a f : Ref) → IsAhead (state_of sizes account) i a f → IsAhead (state_of sizes (gone_on actor account)) i a f

@@ -3,6 +3,7 @@ pub mod Accounts
 pub mod Live
 pub mod Nodes
 pub mod Roots
+pub mod Trying
 pub mod Rules
 pub mod Steps
 pub mod Loading
@@ -10,8 +11,13 @@ pub mod Making
 pub mod Publishing
 pub mod Deciding
 pub mod Restoring
+pub mod Offering
+pub mod Settling
+pub mod Beginning
 pub mod Exchanging
 pub mod Storing
+pub mod OfferWords
+pub mod HandleWords
 pub mod OfReads
 pub mod Passing
 pub mod Swaps

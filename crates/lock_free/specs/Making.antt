@@ -1,6 +1,5 @@
 -- A node is made: what a seat has written in a free slot of its own, what the definition's step leaves, and what the seat knows then.
-use Rattle.history.specs.declared.calls.Call.{Call}
-use Rattle.std.specs.Prelude.{◌≡◌, ◌≢◌, ℕ, ◌+◌, ◌*◌, ◌^◌, ◌<◌, ◌⊎◌, Bool, true, false, List, [], ◌∷◌, ◌++◌, Contains, filter, not, length, Option, Some, None, slice_get, slice_index_or, if◌then◌else◌, ◌==◌}
+use Rattle.std.specs.Prelude.{◌≡◌, ◌≢◌, ℕ, ◌+◌, ◌*◌, ◌^◌, ◌<◌, ◌⊎◌, Bool, true, List, [], ◌∷◌, ◌++◌, Contains, filter, not, length, Option, Some, None, slice_index_or, if◌then◌else◌, ◌==◌}
 use Rattle.trie_words.specs.Codes.{link_code, header_code}
 use Rattle.trie_words.specs.declared.headers.Previous.{Previous}
 use Rattle.trie_words.specs.declared.headers.Previous.TheVariants as previous
@@ -35,7 +34,8 @@ use Rattle.lock_free.specs.declared.rules.View.{View}
 use Rattle.lock_free.specs.declared.sizes.Sizes.{Sizes}
 use Rattle.lock_free.specs.Accounts.{bounds_for, state_of, place_of, IsOwn}
 use Rattle.lock_free.specs.Live.{IsLive}
-use Rattle.lock_free.specs.Nodes.{Has, IsAhead, AreEntries, class_of}
+use Rattle.lock_free.specs.Trying.{SameTries}
+use Rattle.lock_free.specs.Nodes.{Has, IsAhead, AreEntries}
 use Rattle.lock_free.specs.Rules.{pool_of}
 
 -- where a main node that is made is swapped in next: in this indirection, over that main node
@@ -137,6 +137,7 @@ pub record Makes (sizes : Sizes) (account after : Account) (actor : ℕ) (operat
   pub generations : (state_of sizes after).generations ≡ (state_of sizes account).generations + more
   pub others : (a : ℕ) → a ≢ actor → operation_of (state_of sizes after) a ≡ operation_of (state_of sizes account) a
   pub own : operation_of (state_of sizes after) actor ≡ Some (operation_after (state_of sizes account) operation)
+  pub tries : SameTries (state_of sizes account) (state_of sizes after)
   -- it is about to swap the node in, if it is a main node to be swapped in; nobody else is who wasn't
   pub aheads : (i a f : Ref) → IsAhead (state_of sizes after) i a f → IsAhead (state_of sizes account) i a f ⊎ ((over_of operation.line ≡ Some (i, a)) × (slot_of f ≡ length account.names))
   pub still : (i a f : Ref) → IsAhead (state_of sizes account) i a f → IsAhead (state_of sizes after) i a f

@@ -18,6 +18,7 @@ use Rattle.lock_free.specs.declared.sizes.Sizes.{Sizes}
 use Rattle.lock_free.specs.Accounts.{bounds_for, state_of}
 use Rattle.lock_free.specs.Live.{IsLive}
 use Rattle.lock_free.specs.Nodes.{IsAhead}
+use Rattle.lock_free.specs.Trying.{SameTries}
 
 -- the fresh main node is the indirection's own
 abbrev pub owned_now : Ref → Ref → Owned
@@ -54,6 +55,7 @@ pub record Publishes (sizes : Sizes) (account after : Account) (actor : ℕ) (op
   pub generations : (state_of sizes after).generations ≡ (state_of sizes account).generations
   pub others : (n : ℕ) → n ≢ actor → operation_of (state_of sizes after) n ≡ operation_of (state_of sizes account) n
   pub own : operation_of (state_of sizes after) actor ≡ Some (operation_after (state_of sizes account) operation)
+  pub tries : SameTries (state_of sizes account) (state_of sizes after)
   -- it was ahead with this node, nobody else with it, and nobody with another one but who was
   pub was_ahead : IsAhead (state_of sizes account) i a f
   pub alone : (j b g : Ref) → IsAhead (state_of sizes account) j b g → slot_of g ≡ slot_of f → (slot_of j ≡ slot_of i) × (b ≡ a)

@@ -14,6 +14,7 @@ use Rattle.lock_free.specs.declared.sizes.Sizes.{Sizes}
 use Rattle.lock_free.specs.Accounts.{bounds_for, state_of, gone_on}
 use Rattle.lock_free.specs.Live.{IsLive}
 use Rattle.lock_free.specs.Nodes.{IsAhead}
+use Rattle.lock_free.specs.Trying.{SameTries}
 use Rattle.lock_free.specs.Publishing.{with_main_of}
 
 -- the operation of this actor puts the decided main node `former` back in the place of `main`, which failed over it
@@ -35,5 +36,6 @@ pub record Restores (sizes : Sizes) (account : Account) (actor : ℕ) (operation
   pub generations : (state_of sizes (gone_on actor account)).generations ≡ (state_of sizes account).generations
   pub others : (a : ℕ) → a ≢ actor → operation_of (state_of sizes (gone_on actor account)) a ≡ operation_of (state_of sizes account) a
   pub own : operation_of (state_of sizes (gone_on actor account)) actor ≡ Some (operation_after (state_of sizes account) operation)
+  pub tries : SameTries (state_of sizes account) (state_of sizes (gone_on actor account))
   pub aheads : (j b g : Ref) → IsAhead (state_of sizes (gone_on actor account)) j b g → IsAhead (state_of sizes account) j b g
   pub still : (j b g : Ref) → IsAhead (state_of sizes account) j b g → IsAhead (state_of sizes (gone_on actor account)) j b g

@@ -1,14 +1,15 @@
 -- The rule: the words say what the definition's machine comes to by a list of its steps, and each seat knows how this list was at its last access, since when its
 -- actor has taken no step.
 use Rattle.history.specs.declared.calls.Call.{Call}
-use Rattle.std.specs.Prelude.{◌≡◌, ℕ, ◌+◌, ◌*◌, ◌^◌, ◌<◌, ◌≤◌, ◌≢◌, ◌⊎◌, ◌==◌, Bool, true, false, is_some, if◌then◌else◌, List, [], ◌∷◌, length, Option, Some, None, slice_index, slice_index_or, Contains}
+use Rattle.std.specs.Prelude.{◌≡◌, ℕ, ◌+◌, ◌*◌, ◌<◌, ◌≤◌, ◌≢◌, ◌⊎◌, ◌==◌, Bool, true, false, is_some, if◌then◌else◌, List, [], ◌∷◌, length, Option, Some, None, slice_index, slice_index_or, Contains}
 use mathlib.Core.Option.{some}
 use lib.ListN.{get_elem?}
 use Rattle.atomic_table.specs.Table as Table
-use Rattle.trie_words.specs.Codes.{pin_code, root_code}
+use Rattle.trie_words.specs.Codes.{pin_code, root_code, IsRootWord}
 use Rattle.trie_words.specs.declared.roots.RootWord.TheVariants as word
 use Rattle.lock_free.specs.declared.rules.Closing.{Closing}
 use Rattle.lock_free.specs.declared.rules.Pool.{Pool}
+use Rattle.proof_waiting.specs.Beneath.proof_slots.specs.Unswept.{HasNoSweeps}
 use Rattle.lock_free.specs.Live.{IsLive}
 use Rattle.trie_words.specs.declared.pins.Pin.{Pin}
 use Rattle.machine_model.specs.Beneath.slot_arena.specs.declared.refs.Ref.{Ref}
@@ -24,16 +25,16 @@ use Rattle.lock_free.specs.declared.accounts.Account.{Account}
 use Rattle.lock_free.specs.declared.accounts.Known.{Known}
 use Rattle.lock_free.specs.declared.rules.View.{View}
 use Rattle.lock_free.specs.declared.sizes.Sizes.{Sizes}
-use Rattle.lock_free.specs.Accounts.{bounds_for, state_of, place_at, HasWaited}
+use Rattle.lock_free.specs.Accounts.{bounds_for, state_of, place_at, HasWaited, HasStood}
 use Rattle.lock_free.specs.Nodes.{StandsAs, InTable, AreOwners, class_of}
 use Rattle.lock_free.specs.Places.{AreSizes, words_of, words_in, IsTaken, HaveTaken, generation_word, pin_word, root_word}
-use Rattle.lock_free.specs.Roots.{MeansRoot, IsWritten}
+use Rattle.lock_free.specs.Roots.{MeansRoot, IsWritten, NoOffer, AreMarked, IsPending, fate, undecided}
 
 abbrev pub first_account : Account
 first_account = record { steps = []; names = []; owned = []; offers = [] }
 
 abbrev pub first_view : Sizes → View
-first_view sizes = record { sizes = sizes; actor = 1; last = sizes.seats; account = first_account; pin = None; entered = None; closing = None; opens = None; pool = record { small = []; medium = []; wide = [] }; drafts = [] }
+first_view sizes = record { sizes = sizes; actor = 1; last = sizes.seats; account = first_account; pin = None; entered = None; closing = None; opens = None; opening = None; pool = record { small = []; medium = []; wide = [] }; drafts = [] }
 
 -- no number stands twice
 abbrev pub Once : List ℕ → Type 0
@@ -66,11 +67,16 @@ pub record NodesStand (sizes : Sizes) (account : Account) (stands : Standing) (w
 -- ---- handles
 
 pub record RootsStand (sizes : Sizes) (account : Account) (words : List ℕ) : Type 0 where
-  pub means : (handle : ℕ) → handle < handle_limit → MeansRoot account words (slice_index words (root_word handle)) (root_at (state_of sizes account) handle)
+  pub means : (handle : ℕ) → handle < handle_limit → MeansRoot account words handle (slice_index words (root_word handle)) (root_at (state_of sizes account) handle)
   pub offers : (k : Known) → Contains account.offers k → IsWritten account words k
   pub blocks : (k : Known) → Contains account.offers k → IsTaken sizes words 1 k.slot
   -- a slot has one offer
   pub single : (k l : Known) → Contains account.offers k → Contains account.offers l → k.slot ≡ l.slot → k ≡ l
+  -- and a try of an operation has one
+  pub tries : (k l : Known) → Contains account.offers k → Contains account.offers l → k.offer.operation ≡ l.offer.operation → k.offer.attempt ≡ l.offer.attempt → k ≡ l
+  pub stood : (k : Known) → Contains account.offers k → HasStood sizes account k.offer
+  pub marks : AreMarked (state_of sizes account) words account.offers
+  pub pending : (k : Known) → Contains account.offers k → fate words k ≡ undecided → IsPending words k
 
 -- who would close a handle has found no call on it at the seats that it has looked at, and none has begun there since
 pub record IsClosing (views : List View) (handle seat : ℕ) : Type 0 where
@@ -86,7 +92,8 @@ pub record IsClosing (views : List View) (handle seat : ℕ) : Type 0 where
 -- the word says that this seat would close the handle
 abbrev pub SaysClosing : ℕ → ℕ → Type 0
 SaysClosing found seat =
-    ((root : ℕ) × (found ≡ root_code (word.ClosingWritable root seat))) ⊎ ((root : ℕ) × (found ≡ root_code (word.ClosingReadOnly root seat)))
+    ((root : ℕ) × IsRootWord (word.ClosingWritable root seat) × (found ≡ root_code (word.ClosingWritable root seat)))
+    ⊎ ((root : ℕ) × IsRootWord (word.ClosingReadOnly root seat) × (found ≡ root_code (word.ClosingReadOnly root seat)))
 
 -- ---- seats
 
@@ -110,6 +117,23 @@ IsSpare sizes account stands name =
 abbrev pub AreDrafts : List ℕ → View → ℕ × ℕ → Type 0
 AreDrafts words v d = (slice_index words d.0 ≡ d.1) × ((class name : ℕ) × IsFree v class name × (2 * name ≤ d.0) × (d.0 < 2 * name + words_in class))
 
+-- the seat has reserved the number, for an offer that isn't carried out yet
+abbrev pub Reserves : State → View → ℕ → Type 0
+Reserves state v handle = (v.opens ≡ Some handle) × ((operation : Operation) → operation_of state v.actor ≡ Some operation → operation.is_marked ≡ false)
+
+-- nobody has opened it, and nobody else may
+pub record IsHeld (state : State) (words : List ℕ) (handle : ℕ) : Type 0 where
+  pub low : handle < handle_limit
+  pub taken : slice_index words (root_word handle) ≢ 0
+  pub closed : root_at state handle ≡ None
+
+-- the word of its number names the offer that the seat writes in this slot
+pub record Names (words : List ℕ) (v : View) (handle slot : ℕ) : Type 0 where
+  pub low : handle < handle_limit
+  pub fits : IsRootWord (word.Opening slot)
+  pub is : slice_index words (root_word handle) ≡ root_code (word.Opening slot)
+  pub free : IsFree v 1 slot
+
 pub record IsSeat (sizes : Sizes) (account : Account) (stands : Standing) (words : List ℕ) (v : View) : Type 0 where
   pub same : v.sizes ≡ sizes
   pub low : 1 ≤ v.actor
@@ -123,9 +147,9 @@ pub record IsSeat (sizes : Sizes) (account : Account) (stands : Standing) (words
   pub entered : (handle : ℕ) → v.entered ≡ Some handle →
       (handle < handle_limit) × (is_some (root_at (state_of sizes account) handle) ≡ true) × ((pin : Pin) × (v.pin ≡ Some pin) × (pin.handle ≡ handle))
   pub calls : (operation : Operation) → operation_of (state_of sizes account) v.actor ≡ Some operation → v.entered ≡ Some (handle_of operation.call)
-  -- the number that it has reserved is nobody else's
-  pub opens : (handle : ℕ) → v.opens ≡ Some handle → (handle < handle_limit) × (slice_index words (root_word handle) ≢ 0)
-  pub reserves : (operation : Operation) → operation_of (state_of sizes account) v.actor ≡ Some operation → (handle : ℕ) → operation.opens ≡ Some handle → v.opens ≡ Some handle
+  pub opens : (handle : ℕ) → Reserves (state_of sizes account) v handle → IsHeld (state_of sizes account) words handle
+  pub reserves : (operation : Operation) → operation_of (state_of sizes account) v.actor ≡ Some operation → v.opens ≡ operation.opens
+  pub opening : (handle slot : ℕ) → v.opens ≡ Some handle → v.opening ≡ Some slot → Names words v handle slot
   pub spare : (class name : ℕ) → IsFree v class name → IsTaken sizes words class name × IsSpare sizes account stands name
   pub once : (class : ℕ) → class < 3 → Once (pool_of v.pool class)
   pub drafts : (d : ℕ × ℕ) → Contains v.drafts d → AreDrafts words v d
@@ -133,6 +157,23 @@ pub record IsSeat (sizes : Sizes) (account : Account) (stands : Standing) (words
 -- the actor is one of the seat's
 abbrev pub HasActor : View → ℕ → Type 0
 HasActor v a = (v.actor ≤ a) × (a ≤ v.last)
+
+-- ---- what seats have
+
+-- A seat has reserved the handle for the offer that it writes in this slot.
+pub record IsOpening (state : State) (views : List View) (handle slot : ℕ) : Type 0 where
+  pub id : ℕ
+  pub view : View
+  pub at : get_elem? views id ≡ some view
+  pub reserves : Reserves state view handle
+  pub free : IsFree view 1 slot
+
+-- the actor is a seat's
+pub record HasSeat (views : List View) (actor : ℕ) : Type 0 where
+  pub id : ℕ
+  pub view : View
+  pub at : get_elem? views id ≡ some view
+  pub its : view.actor ≡ actor
 
 -- ---- all of it
 
@@ -142,6 +183,8 @@ pub record IsKept (sizes : Sizes) (s : Table.State Call View) : Type 0 where
   pub range : AreSizes sizes
   pub bounds : AreBounds (bounds_for sizes account.steps)
   pub keys : KeysFit account.steps
+  -- nothing is freed, so nodes are numbered as they are made
+  pub quiet : HasNoSweeps account.steps
   -- each node that was made has its place
   pub counted : length account.names ≡ (state_of sizes account).heap.births
   pub size : length s.words ≡ words_of sizes
@@ -150,8 +193,12 @@ pub record IsKept (sizes : Sizes) (s : Table.State Call View) : Type 0 where
   pub nodes : NodesStand sizes account stands s.words
   pub roots : RootsStand sizes account s.words
   pub closings : (handle seat : ℕ) → handle < handle_limit → SaysClosing (slice_index s.words (root_word handle)) seat → IsClosing s.views handle seat
+  -- a word that names an offer that doesn't stand yet
+  pub openings : (handle slot : ℕ) → handle < handle_limit → IsRootWord (word.Opening slot) → slice_index s.words (root_word handle) ≡ root_code (word.Opening slot) → NoOffer account slot →
+      IsOpening (state_of sizes account) s.views handle slot
   pub seats : (id : ℕ) (v : View) → get_elem? s.views id ≡ some v → IsSeat sizes account stands s.words v
+  pub runners : (a : ℕ) (operation : Operation) → operation_of (state_of sizes account) a ≡ Some operation → HasSeat s.views a
   -- no two seats have the same actor, the same free slot or the same reserved number
   pub alone : (i j : ℕ) (v w : View) (a : ℕ) → get_elem? s.views i ≡ some v → get_elem? s.views j ≡ some w → HasActor v a → HasActor w a → i ≡ j
   pub pools : (i j : ℕ) (v w : View) (b c name : ℕ) → get_elem? s.views i ≡ some v → get_elem? s.views j ≡ some w → IsFree v b name → IsFree w c name → i ≡ j
-  pub numbers : (i j : ℕ) (v w : View) (handle : ℕ) → get_elem? s.views i ≡ some v → get_elem? s.views j ≡ some w → v.opens ≡ Some handle → w.opens ≡ Some handle → i ≡ j
+  pub numbers : (i j : ℕ) (v w : View) (handle : ℕ) → get_elem? s.views i ≡ some v → get_elem? s.views j ≡ some w → Reserves (state_of sizes account) v handle → Reserves (state_of sizes account) w handle → i ≡ j

@@ -3,11 +3,12 @@ use Rattle.std.specs.Prelude.{◌≡◌, ℕ, ◌≢◌, Bool, false, Some, None
 use Rattle.machine_model.specs.declared.operations.Operation.{Operation}
 use Rattle.machine_model.specs.Acting.{operation_after}
 use Rattle.machine_model.specs.Machine.{AreBounds}
-use Rattle.machine_model.specs.States.{State, operation_of}
+use Rattle.machine_model.specs.States.{operation_of}
 use Rattle.machine_model.specs.Beneath.slot_arena.specs.declared.refs.Ref.{Ref}
 use Rattle.machine_model.specs.Beneath.slot_arena.specs.Refs.{slot_of}
 use Rattle.lock_free.specs.Live.{IsLive}
 use Rattle.lock_free.specs.Nodes.{IsAhead}
+use Rattle.lock_free.specs.Trying.{KeepsTries}
 use Rattle.lock_free.specs.declared.accounts.Account.{Account}
 use Rattle.lock_free.specs.declared.sizes.Sizes.{Sizes}
 use Rattle.lock_free.specs.Accounts.{state_of, bounds_for, gone_on}
@@ -29,6 +30,7 @@ pub record Leads (sizes : Sizes) (account after : Account) (actor : ℕ) (droppe
   pub generations : (state_of sizes after).generations ≡ (state_of sizes account).generations
   pub others : (a : ℕ) → a ≢ actor → operation_of (state_of sizes after) a ≡ operation_of (state_of sizes account) a
   pub own : operation_of (state_of sizes after) actor ≡ Some next
+  pub tries : KeepsTries account.offers (state_of sizes account) (state_of sizes after)
   -- nobody is about to swap a node in but who was, and who was still is, but for what is given up
   pub aheads : (i a f : Ref) → IsAhead (state_of sizes after) i a f → IsAhead (state_of sizes account) i a f
   pub still : (i a f : Ref) → IsAhead (state_of sizes account) i a f → dropped (slot_of f) ≡ false → IsAhead (state_of sizes after) i a f

@@ -11,9 +11,12 @@ pub struct Owned {
     pub is_own: bool,
 }
 
-/// An offer, and the slot of the table in which it was written.
+/// An offer, and where it was made.
 pub struct Known {
+    /// The slot of the table in which it is written.
     pub slot: u32,
+    /// The handle whose root it is to replace.
+    pub handle: u16,
     pub offer: Descriptor,
 }
 

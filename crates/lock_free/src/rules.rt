@@ -3,6 +3,7 @@
 ghost use Rattle.lock_free.specs.Rules.{IsKept, first_view};
 ghost use Rattle.lock_free.specs.Loading.{has_seen, has_gone};
 ghost use Rattle.lock_free.specs.Exchanging.{has_published};
+ghost use Rattle.lock_free.specs.OfferWords.{has_completed};
 ghost use Rattle.lock_free.specs.Storing.{has_drafted, has_made, has_taken};
 
 use crate::accounts::Account;
@@ -44,6 +45,8 @@ pub struct View {
     pub closing: Option<Closing>,
     /// The number that it has reserved.
     pub opens: Option<u16>,
+    /// The slot of the offer that it writes, which the word of that number names already.
+    pub opening: Option<u32>,
     /// The slots that are free for it alone.
     pub pool: Pool,
     /// What it has written in these: the number of a word, and what it has.
@@ -77,6 +80,13 @@ pub struct Publishes;
 
 impl Play<Call, View> for Publishes {
     ghost then = { has_published };
+}
+
+/// An offer is settled, or was.
+pub struct Completes;
+
+impl Play<Call, View> for Completes {
+    ghost then = { has_completed };
 }
 
 /// A word of a free slot is written.

@@ -1,11 +1,10 @@
 -- What the next step of an operation does is read off its line and off nodes that stay.
-use Rattle.std.proofs.Common.{◌≡◌, ℕ, zero, suc, ◌+◌, ◌-◌, ◌<◌, Bool, true, false, ◌&&◌, List, [], ◌∷◌, ◌++◌, length, slice_index_or, slice_set, Some, None, refl, sym, ap, subst, ◌∙◌, arith}
+use Rattle.std.proofs.Common.{◌≡◌, ℕ, ◌-◌, true, ◌&&◌, List, [], ◌∷◌, length, slice_index_or, slice_set, refl, sym, ap, ◌∙◌, arith}
 use Rattle.std.proofs.lemmas.Bool.{true≢false}
 use Rattle.proof_waiting.specs.Beneath.slot_arena.specs.declared.refs.Ref.{Ref}
 use Rattle.proof_waiting.specs.Beneath.slot_arena.specs.declared.nodes.Node.{Node}
 use Rattle.proof_waiting.specs.Beneath.slot_arena.specs.declared.nodes.Node.TheVariants.{Indirection, Branch, Single, Tomb, List as Listed}
 use Rattle.proof_waiting.specs.Beneath.slot_arena.specs.Heaps.{node_at, entry_at, entries_of, bitmap_of, no_ref}
-use Rattle.proof_waiting.specs.Beneath.machine_model.specs.declared.actions.Action.{Action}
 use Rattle.proof_waiting.specs.Beneath.machine_model.specs.declared.actions.Action.TheVariants as act
 use Rattle.proof_waiting.specs.Beneath.machine_model.specs.declared.operations.Operation.{Operation}
 use Rattle.proof_waiting.specs.Beneath.machine_model.specs.declared.finding.KeyLine.{KeyLine}
@@ -20,7 +19,7 @@ use Rattle.proof_waiting.specs.Beneath.machine_model.specs.declared.repairs.Clim
 use Rattle.proof_waiting.specs.Beneath.machine_model.specs.declared.repairs.ClimbLine.TheVariants as climb
 use Rattle.proof_waiting.specs.Beneath.machine_model.specs.declared.lines.Line.{Line}
 use Rattle.proof_waiting.specs.Beneath.machine_model.specs.declared.lines.Line.TheVariants as line
-use Rattle.proof_waiting.specs.Beneath.machine_model.specs.Calls.{key_of, value_of}
+use Rattle.proof_waiting.specs.Beneath.machine_model.specs.Calls.{key_of}
 use Rattle.proof_waiting.specs.Beneath.machine_model.specs.Cleaning.{is_single, leaves_single, clean_action}
 use Rattle.proof_waiting.specs.Beneath.ctrie_base.specs.Hashes.{hash_of}
 use Rattle.proof_waiting.specs.Beneath.ctrie_base.specs.Paths.{position_of}
@@ -36,7 +35,8 @@ use Rattle.proof_waiting.specs.Beneath.machine_model.specs.Operations.{action_of
 use Rattle.proof_waiting.specs.Beneath.machine_model.specs.Paths.{above, depth_of, is_below_root, flag_in, hash_in}
 use Rattle.proof_waiting.specs.Beneath.machine_model.specs.States.{State}
 use Rattle.proof_memory.specs.Laws.{SameNode, IsInUse}
-use Rattle.proof_memory.specs.Wants.{AllHold, Holds, Is, Each, EntryIs, Wanted, ABranch, AList, BranchOrList, TombOrList, AnEntry, ASingle, entry_is, listed, meets, is_main_node, key_wants, build_wants, renew_wants, clean_wants, climb_wants, line_wants}
+use Rattle.proof_memory.specs.Wants.{AllHold, Holds, Is, Each, EntryIs, Wanted, ABranch, AList, BranchOrList, TombOrList, AnEntry, ASingle, entry_is, listed, meets, is_main_node, key_wants}
+use Rattle.proof_memory.specs.Wants.{build_wants, renew_wants, clean_wants, climb_wants, line_wants}
 use Rattle.proof_memory.proofs.Claims.Uses.{safe_of, meets_of, all_of}
 use Rattle.proof_waiting.specs.Laws.{NodesStay, FindsItsLine}
 
@@ -169,8 +169,8 @@ module _ (a b : State) (stay : NodesStay a b) where
         ap (λ node. act.Make (contracted (is_below_root (above c.path)) (bitmap_of node) (slice_set (entries_of node) (position_of (flag_in b o (above c.path)) (bitmap_of node)) c.single)))
         (main_at_stays main branch_is_main h.1.1.1.0)
         ∙ ap (λ n. act.Make (contracted (is_below_root (above c.path)) (bitmap_of (node_at a.heap main))
-              (slice_set (entries_of (node_at a.heap main)) (position_of n (bitmap_of (node_at a.heap main))) c.single)))
-          (flag_waits (above c.path))
+        (slice_set (entries_of (node_at a.heap main)) (position_of n (bitmap_of (node_at a.heap main))) c.single)))
+        (flag_waits (above c.path))
     climb_waits (climb.Root c l) h = refl
 
     line_waits : (l : Line) → AllHold S a.heap (line_wants a.limits.hash o.call o.access l) → line_action b o l ≡ line_action a o l

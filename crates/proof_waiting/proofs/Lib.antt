@@ -1,1 +1,2 @@
 mod Actions
+pub mod Operations

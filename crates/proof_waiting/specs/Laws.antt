@@ -1,5 +1,5 @@
 -- While others take steps an operation stays, and so does what its next step does.
-use Rattle.std.specs.Prelude.{◌≡◌, ℕ, Some}
+use Rattle.std.specs.Prelude.{◌≡◌}
 use Rattle.proof_waiting.specs.Beneath.slot_arena.specs.declared.refs.Ref.{Ref}
 use Rattle.proof_waiting.specs.Beneath.slot_arena.specs.Heaps.{node_at}
 use Rattle.proof_waiting.specs.Beneath.machine_model.specs.declared.operations.Operation.{Operation}

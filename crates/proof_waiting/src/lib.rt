@@ -3,4 +3,4 @@
 
 mod laws;
 
-pub use laws::actions_wait;
+pub use laws::{actions_wait, operations_wait};

@@ -1,0 +1,267 @@
+-- The exchange that takes a closer's mark for 0 closes the handle, once the closer has found all other seats in no call on it.
+use Rattle.history.specs.declared.calls.Call.{Call}
+use Rattle.history.specs.declared.calls.Call.TheVariants.{Close}
+use Rattle.std.proofs.Common.{◌≡◌, ◌≢◌, ◌^◌, ℕ, ◌<◌, ◌≤◌, inl, inr, true, List, [], ◌∷◌, ◌++◌, Contains, is_some, set, slice_index, Some, None, refl, sym, ap, subst, ◌∙◌, arith, append-nil}
+use Rattle.std.proofs.Common.{append_assoc}
+use Rattle.std.specs.Prelude.{option_map}
+use Rattle.std.proofs.lemmas.Bool.{cases_eq, true≢false}
+use Rattle.std.proofs.lemmas.Option.{none-some, same_Some}
+use Rattle.std.proofs.lemmas.List.Elements.{All-cons, All-nil, All-append}
+use mathlib.Core.Option.{some, some-injective}
+use lib.ListN.{get_elem?}
+use Rattle.atomic_table.specs.Table as Table
+use Rattle.trie_words.specs.Codes.{root_code, IsRootWord}
+use Rattle.trie_words.specs.declared.roots.RootWord.{RootWord as HandleWord}
+use Rattle.trie_words.specs.declared.roots.RootWord.TheVariants as word
+use Rattle.machine_model.specs.declared.operations.Operation.{Operation}
+use Rattle.machine_model.specs.declared.steps.Step.{Step}
+use Rattle.machine_model.specs.declared.steps.Step.TheVariants as step
+use Rattle.machine_model.specs.Calls.{handle_of}
+use Rattle.machine_model.specs.Keys.{FitsKey}
+use Rattle.machine_model.specs.States.{State, operation_of, handle_limit, root_at}
+use Rattle.proof_waiting.specs.Beneath.proof_slots.specs.Unswept.{HasNoSweeps}
+use Rattle.lock_free.specs.declared.accounts.Account.{Account}
+use Rattle.lock_free.specs.declared.accounts.Known.{Known}
+use Rattle.lock_free.specs.declared.rules.Closing.{Closing}
+use Rattle.lock_free.specs.declared.rules.View.{View}
+use Rattle.lock_free.specs.declared.sizes.Sizes.{Sizes}
+use Rattle.lock_free.specs.Accounts.{state_of, HasWaited, IsOfOther}
+use Rattle.lock_free.specs.Beginning.{Closes, closed_by}
+use Rattle.lock_free.specs.Places.{pin_word, root_word}
+use Rattle.lock_free.specs.Roots.{MeansRoot, IsPending, NoOffer, fate, undecided}
+use Rattle.lock_free.specs.Rules.{IsClosing, SaysClosing, IsFree, IsHeld, Reserves, Names, IsOpening, IsSeat, IsKept}
+use Rattle.lock_free.specs.Trying.{try_of, KeepsTries, as_before}
+use Rattle.lock_free.proofs.Assembling.{AllStand, all_stand, closing_at, opening_stays, assembled}
+use Rattle.lock_free.proofs.Keeping.{meaning_kept}
+use Rattle.lock_free.proofs.Meanings.{ran, reserved, reserves_on, marks_kept, stood_still}
+use Rattle.lock_free.proofs.RootCodes.{kind, same_kind}
+use Rattle.lock_free.proofs.RootFound.{said, slot_fits}
+use Rattle.lock_free.proofs.RootSteps as root
+use Rattle.lock_free.proofs.Seats.{ran_so, Stays, StaysSpare, other_kept, own_else}
+use Rattle.lock_free.proofs.Waiting.{waited_none, waited_more, quiet_more}
+
+module _ (sizes : Sizes) (s : Table.State Call View) (kept : IsKept sizes s) (id : ℕ) (v : View) (at : get_elem? s.views id ≡ some v) (handle : ℕ) (low : handle < handle_limit) (looked : ℕ)
+    (closing : v.closing ≡ Some (record { handle = handle; looked = looked })) (all_looked : sizes.seats ≤ looked) (says : SaysClosing (slice_index s.words (root_word handle)) v.actor)
+    (outside : v.entered ≡ Some handle → ⊥) (idle : operation_of (state_of sizes kept.account) v.actor ≡ None) where
+  abbrev now : State
+  now = state_of sizes kept.account
+
+  abbrev all : AllStand sizes kept.account kept.stands s.words
+  all = all_stand sizes s kept
+
+  seat : IsSeat sizes kept.account kept.stands s.words v
+  seat = kept.seats id v at
+
+  -- nobody is in a call on the handle
+  closer : IsClosing s.views handle v.actor
+  closer = kept.closings handle v.actor low says
+
+  has_looked : closer.closing.looked ≡ looked
+  has_looked =
+      let top = (kept.seats closer.id closer.view closer.at).top in
+      let is = closer.its in
+      let same : closer.id ≡ id = kept.alone closer.id id closer.view v v.actor closer.at at (omega (arith, is), omega (arith, is, top)) (omega arith, seat.top) in
+      let mine : closer.view ≡ v = some-injective closer.view v (sym closer.at ∙ ap (λ n. get_elem? s.views n) same ∙ at) in
+      ap (λ (c : Closing). c.looked) (same_Some closer.closing (record { handle = handle; looked = looked }) (sym closer.is ∙ ap (λ (x : View). x.closing) mine ∙ closing))
+
+  pub nobody_inside : (other : ℕ) (w : View) → get_elem? s.views other ≡ some w → w.entered ≡ Some handle → ⊥
+  nobody_inside other w e inside = elim (cases_eq other id) [
+    | inl same ↦
+        (let mine : w ≡ v = some-injective w v (sym e ∙ ap (λ n. get_elem? s.views n) same ∙ at) in outside (ap (λ (x : View). x.entered) (sym mine) ∙ inside))
+    | inr apart ↦
+        (let x = kept.seats other w e in
+        let differs : w.actor ≢ v.actor =
+        λ same. apart (kept.alone other id w v w.actor e at (omega arith, x.top) (let top = seat.top in (omega (arith, same), omega (arith, same, top)))) in
+        let more = closer.none other w e inside differs in
+        omega (arith, more, has_looked, all_looked, x.top, x.most))
+  ]
+
+  -- so no operation runs on it
+  pub nobody_runs : (a : ℕ) (o : Operation) → operation_of now a ≡ Some o → handle_of o.call ≢ handle
+  nobody_runs a o e same =
+      let it = kept.runners a o e in
+      nobody_inside it.id it.view it.at ((kept.seats it.id it.view it.at).calls o (ap (operation_of now) it.its ∙ e) ∙ ap Some same)
+
+  open_by : SaysClosing (slice_index s.words (root_word handle)) v.actor → is_some (root_at now handle) ≡ true
+  open_by (inl h) = ap is_some (said sizes kept.account s.words kept.roots handle low (word.ClosingWritable h.0 v.actor) h.1 h.2).is
+  open_by (inr h) = ap is_some (said sizes kept.account s.words kept.roots handle low (word.ClosingReadOnly h.0 v.actor) h.1 h.2).is
+
+  pub is_open : is_some (root_at now handle) ≡ true
+  is_open = open_by says
+
+  not_closed : (g : ℕ) → root_at now g ≡ None → g ≢ handle
+  not_closed g shut same = true≢false (sym is_open ∙ ap (λ n. is_some (root_at now n)) (sym same) ∙ ap is_some shut)
+
+  -- its word names no offer
+  not_kind : (w : HandleWord) → IsRootWord w → kind w < 6 → SaysClosing (slice_index s.words (root_word handle)) v.actor → slice_index s.words (root_word handle) ≡ root_code w → ⊥
+  not_kind w fits few (inl h) is = let same = same_kind w (word.ClosingWritable h.0 v.actor) fits h.1 (sym is ∙ h.2) in omega (arith, same, few)
+  not_kind w fits few (inr h) is = let same = same_kind w (word.ClosingReadOnly h.0 v.actor) fits h.1 (sym is ∙ h.2) in omega (arith, same, few)
+
+  -- ---- the exchange
+
+  module _ (closes : Closes sizes kept.account v.actor handle) where
+    abbrev pub account_then : Account
+    account_then = closed_by v.actor handle kept.account
+
+    abbrev next : State
+    next = state_of sizes account_then
+
+    abbrev both : List Step
+    both = step.Begin v.actor (Close handle) ∷ step.Go v.actor ∷ []
+
+    abbrev pub words_then : List ℕ
+    words_then = set s.words (root_word handle) (root_code word.Closed)
+
+    abbrev pub view_then : View
+    view_then = record v { account = account_then; closing = None }
+
+    keeps : KeepsTries kept.account.offers now next
+    keeps = as_before (λ a. ap (λ o. option_map try_of o) (closes.operations a))
+
+    root_beside : (g : ℕ) → g ≢ handle → slice_index words_then (root_word g) ≡ slice_index s.words (root_word g)
+    root_beside = root.else_root sizes kept.account kept.stands s.words all handle low (root_code word.Closed)
+
+    root_here : slice_index words_then (root_word handle) ≡ root_code word.Closed
+    root_here = root.at_it sizes kept.account kept.stands s.words all handle low (root_code word.Closed)
+
+    fates : (k : Known) → Contains kept.account.offers k → fate words_then k ≡ fate s.words k
+    fates = root.fate_rooted sizes kept.account kept.stands s.words all handle low (root_code word.Closed)
+
+    means_else : (g : ℕ) → g < handle_limit → MeansRoot kept.account words_then g (slice_index s.words (root_word g)) (root_at now g)
+    means_else g below = root.meaning_rooted sizes kept.account kept.stands s.words all handle low (root_code word.Closed) g (slice_index s.words (root_word g)) (root_at now g)
+        (kept.roots.means g below)
+
+    means_all : (g : ℕ) → g < handle_limit → MeansRoot account_then words_then g (slice_index words_then (root_word g)) (root_at next g)
+    means_all g below = elim (cases_eq g handle) [
+      | inl same ↦ record {
+        what = word.Closed;
+        fits = tt;
+        code = ap (λ n. slice_index words_then (root_word n)) same ∙ root_here;
+        says = ap (root_at next) same ∙ closes.closed;
+      }
+      | inr differs ↦
+          subst (λ n. MeansRoot account_then words_then g n (root_at next g)) (sym (root_beside g differs))
+          (subst (λ r. MeansRoot account_then words_then g (slice_index s.words (root_word g)) r) (sym (closes.roots g differs))
+          (meaning_kept kept.account account_then.steps words_then g (slice_index s.words (root_word g)) (root_at now g) (means_else g below)))
+    ]
+
+    k_fits : (k : Known) → Contains kept.account.offers k → k.slot < 2 ^ 27
+    k_fits k c = slot_fits sizes s.words kept.range kept.taken k.slot (kept.roots.blocks k c)
+
+    pending_all : (k : Known) → Contains kept.account.offers k → fate words_then k ≡ undecided → IsPending words_then k
+    pending_all k c stands =
+        root.pending_rooted sizes kept.account kept.stands s.words all handle low (root_code word.Closed) k (λ is. not_kind (word.Offered k.slot) (k_fits k c) (omega arith) says is)
+        (λ is. not_kind (word.Opening k.slot) (k_fits k c) (omega arith) says is) (kept.roots.pending k c (sym (fates k c) ∙ stands))
+
+    quiet : HasNoSweeps (kept.account.steps ++ both)
+    quiet =
+        subst HasNoSweeps (append_assoc kept.account.steps (step.Begin v.actor (Close handle) ∷ []) (step.Go v.actor ∷ []))
+        (quiet_more (kept.account.steps ++ step.Begin v.actor (Close handle) ∷ []) (step.Go v.actor) (quiet_more kept.account.steps (step.Begin v.actor (Close handle)) kept.quiet tt) tt)
+
+    all_then : AllStand sizes account_then kept.stands words_then
+    all_then = record {
+      bounds = closes.leaves.bounds;
+      keys = All-append FitsKey kept.account.steps both kept.keys
+          (All-cons FitsKey (step.Begin v.actor (Close handle)) (step.Go v.actor ∷ []) (omega arith) (All-cons FitsKey (step.Go v.actor) [] tt (All-nil FitsKey)));
+      quiet = quiet;
+      counted = kept.counted ∙ sym closes.leaves.births;
+      size = root.size_rooted sizes kept.account kept.stands s.words all handle low (root_code word.Closed);
+      taken = root.have_rooted sizes kept.account kept.stands s.words all handle low (root_code word.Closed);
+      generations = root.generations_rooted sizes kept.account kept.stands s.words all handle low (root_code word.Closed) ∙ sym closes.leaves.generations;
+      nodes = root.nodes_left sizes kept.account account_then.steps kept.account.offers closes.leaves kept.stands words_then kept.nodes.offers
+          (root.nodes_rooted sizes kept.account kept.stands s.words all handle low (root_code word.Closed));
+      roots = record {
+        means = means_all;
+        offers = λ k c.
+            root.written_left sizes kept.account account_then.steps kept.account.offers closes.leaves kept.stands words_then k
+            (root.written_rooted sizes kept.account kept.stands s.words all handle low (root_code word.Closed) k c);
+        blocks = λ k c. root.taken_rooted sizes kept.account kept.stands s.words all handle low (root_code word.Closed) 1 k.slot (omega arith) (kept.roots.blocks k c);
+        single = kept.roots.single;
+        tries = kept.roots.tries;
+        stood = λ k c. stood_still sizes kept.account account_then both refl k.offer (kept.roots.stood k c);
+        marks = marks_kept kept.account.offers now next keeps s.words words_then fates kept.roots.marks;
+        pending = pending_all;
+      };
+    }
+
+    waits : (actor : ℕ) (first : Account) → actor ≢ v.actor → HasWaited actor first kept.account → HasWaited actor first account_then
+    waits actor first differs h =
+        subst (λ names. HasWaited actor first (record account_then { names = names })) (append-nil kept.account.names)
+        (waited_more actor first kept.account both [] [] []
+        (All-cons (IsOfOther actor) (step.Begin v.actor (Close handle)) (step.Go v.actor ∷ []) (λ e. differs (sym e))
+        (All-cons (IsOfOther actor) (step.Go v.actor) [] (λ e. differs (sym e)) (All-nil (IsOfOther actor)))) h)
+
+    held : (other : ℕ) (w : View) → get_elem? s.views other ≡ some w → (g : ℕ) → Reserves next w g → IsHeld next words_then g
+    held other w e g r =
+        let h = (kept.seats other w e).opens g (reserved kept.account.offers now next keeps w g r) in
+        let differs = not_closed g h.closed in
+        record { low = h.low; taken = λ none. h.taken (sym (root_beside g differs) ∙ none); closed = closes.roots g differs ∙ h.closed }
+
+    spare_by : (other : ℕ) (w : View) (b name : ℕ) → get_elem? s.views other ≡ some w → IsFree w b name → StaysSpare sizes s kept id v at account_then kept.stands words_then b name
+    spare_by other w b name e free =
+        let h = (kept.seats other w e).spare b name free in
+        ((λ k slot x. h.1.0 k slot (x.0, sym (closes.leaves.nodes k) ∙ x.1), h.1.1), root.slot_rooted sizes kept.account kept.stands s.words all handle low (root_code word.Closed) b name free.0 h.0)
+
+    still_open : (other : ℕ) (w : View) → get_elem? s.views other ≡ some w → (g : ℕ) → w.entered ≡ Some g → is_some (root_at now g) ≡ true → is_some (root_at next g) ≡ true
+    still_open other w e g inside was =
+        ap is_some (closes.roots g (λ same. nobody_inside other w e (inside ∙ ap Some same))) ∙ was
+
+    pin_same : (a : ℕ) → 1 ≤ a → slice_index words_then (pin_word a) ≡ slice_index s.words (pin_word a)
+    pin_same = root.pin_rooted sizes kept.account kept.stands s.words all handle low (root_code word.Closed)
+
+    named : (w : View) (g slot : ℕ) → Names s.words w g slot → slice_index words_then (root_word g) ≡ slice_index s.words (root_word g)
+    named w g slot n = root_beside g (λ same. not_kind (word.Opening slot) n.fits (omega arith) says (ap (λ m. slice_index s.words (root_word m)) (sym same) ∙ n.is))
+
+    stays : Stays sizes s kept id v at account_then kept.stands words_then
+    stays = record {
+      waits = waits;
+      others = λ a differs. ran_so now next a (closes.operations a);
+      pins = λ a positive most differs. pin_same a positive;
+      named = λ other w e apart g slot p n. named w g slot n;
+      numbers = λ other w e apart. held other w e;
+      still_open = still_open;
+      taken = root.taken_rooted sizes kept.account kept.stands s.words all handle low (root_code word.Closed);
+      spare = λ other w b name e apart free. spare_by other w b name e free;
+    }
+
+    idle_then : (o : Operation) → operation_of next v.actor ≡ Some o → ⊥
+    idle_then o e = none-some o (sym idle ∙ sym (closes.operations v.actor) ∙ e)
+
+    own_then : IsSeat sizes account_then kept.stands words_then view_then
+    own_then =
+        own_else sizes s kept id v at account_then kept.stands words_then stays account_then (waited_none v.actor account_then) all_then.counted v.pin v.entered None v.opens v.opening
+        (pin_same v.actor seat.low ∙ seat.pinned) (λ g e. (let x = seat.entered g e in (x.0, still_open id v at g e x.1, x.2))) (λ o e. absurd (idle_then o e)) (held id v at)
+        (λ o e. absurd (idle_then o e))
+        (λ g slot o n. (let x = seat.opening g slot o n in record { low = x.low; fits = x.fits; is = named v g slot x ∙ x.is; free = x.free })) (λ b name free. spare_by id v b name at free)
+
+    closed_says : (who : ℕ) → SaysClosing (root_code word.Closed) who → ⊥
+    closed_says who (inl h) = let same = same_kind word.Closed (word.ClosingWritable h.0 who) tt h.1 h.2 in omega (arith, same)
+    closed_says who (inr h) = let same = same_kind word.Closed (word.ClosingReadOnly h.0 who) tt h.1 h.2 in omega (arith, same)
+
+    openings_then : (g slot : ℕ) → g < handle_limit → IsRootWord (word.Opening slot) → slice_index words_then (root_word g) ≡ root_code (word.Opening slot) → NoOffer account_then slot →
+        IsOpening next (set s.views id view_then) g slot
+    openings_then g slot below fits is nothing = elim (cases_eq g handle) [
+      | inl same ↦
+          (let wrong = same_kind word.Closed (word.Opening slot) tt fits (sym root_here ∙ ap (λ n. slice_index words_then (root_word n)) (sym same) ∙ is) in absurd (omega (arith, wrong)))
+      | inr differs ↦
+          opening_stays sizes s kept id v at view_then refl refl next g slot (λ r f. (reserves_on kept.account.offers now next keeps v g r, f))
+          (λ other w e apart f r. reserves_on kept.account.offers now next keeps w g r) (kept.openings g slot below fits (sym (root_beside g differs) ∙ is) nothing)
+    ]
+
+    -- the rule holds
+    pub close_kept : IsKept sizes (record { words = words_then; homes = s.homes; views = set s.views id view_then })
+    close_kept =
+        assembled sizes s kept id v at view_then refl refl account_then kept.stands words_then all_then
+        (λ g who below marked. elim (cases_eq g handle) [
+          | inl same ↦ absurd (closed_says who (subst (λ n. SaysClosing n who) (ap (λ n. slice_index words_then (root_word n)) same ∙ root_here) marked))
+          | inr differs ↦
+              closing_at sizes s kept id v at view_then refl refl g who (λ e. e)
+              (λ c is this its. absurd (differs (sym this ∙ ap (λ (x : Closing). x.handle) (same_Some c (record { handle = handle; looked = looked }) (sym is ∙ closing)))))
+              (kept.closings g who below (subst (λ n. SaysClosing n who) (root_beside g differs) marked))
+        ]) own_then (other_kept sizes s kept id v at account_then kept.stands words_then stays) (λ b name f. inl f)
+        (record {
+          openings = openings_then;
+          number = λ g r. inl (reserved kept.account.offers now next keeps v g r);
+          others = λ other w e apart g r. reserved kept.account.offers now next keeps w g r;
+          runners = λ a o e. inr (ran kept.account.offers now next keeps a o e);
+        })

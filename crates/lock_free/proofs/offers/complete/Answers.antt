@@ -1,0 +1,29 @@
+use Rattle.std.proofs.Common.{◌*◌, ◌==◌, sym, subst}
+use mathlib.Core.Option.{none}
+use prog.Atomic.{either}
+use Rattle.atomic_table.specs.Table.{Allows, step}
+use Rattle.lock_free.specs.OfferWords.{HasCompleted, has_completed}
+use Rattle.lock_free.specs.Rules.{IsKept}
+use Rattle.lock_free.proofs.CompleteStep.{complete_allowed, complete_told}
+use Rattle.lock_free.proofs.offers.complete.Goals as goal
+
+pub compare_exchange-found-requires : goal.compare_exchange-found-requires
+compare_exchange-found-requires c =
+    let sizes = c.args.words.now.key in
+    let slots = c.args.words.now.table_id.slots in
+    let id = c.args.actor.now.id in
+    let me = c.args.actor.now.me in
+    let word = 2 * c.args.offer in (
+      c.requires.table,
+      c.requires.within,
+      subst (λ n. Allows (IsKept sizes) slots id me word (λ x. either (x == 0) n x) (has_completed (step slots word 0 n none) me)) (sym c.outcome_of-outcome.ensures)
+          (complete_allowed sizes slots id me c.args.offer c.args.is_expected c.requires.completing),
+    )
+
+pub returns-clause-completed : goal.returns-clause-completed
+returns-clause-completed c =
+    let before = c.args.actor.now.me.0 in
+    let after = c.compare_exchange-found.new.seat.me.0 in
+    let told = c.compare_exchange-found.ensures.2.0 in
+    subst (λ b. HasCompleted before b after) (sym c.is_carried_out.ensures)
+    (complete_told before c.args.offer c.args.is_expected c.requires.completing c.compare_exchange-found.result after told.0 told.1 told.2)

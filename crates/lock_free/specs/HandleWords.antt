@@ -1,0 +1,46 @@
+-- What accesses of handles' words ask and tell.
+use Rattle.std.specs.Prelude.{◌≡◌, ◌+◌, ◌*◌, ◌≤◌, ◌⊎◌, ℕ, Contains, Some, None}
+use Rattle.trie_words.specs.Codes.{IsRootWord}
+use Rattle.trie_words.specs.declared.roots.RootWord.{RootWord}
+use Rattle.trie_words.specs.declared.roots.RootWord.TheVariants as word
+use Rattle.history.specs.declared.calls.Access.TheVariants.{Writable, ReadOnly}
+use Rattle.machine_model.specs.States.{root_at}
+use Rattle.lock_free.specs.declared.accounts.Account.{Account}
+use Rattle.lock_free.specs.declared.accounts.Known.{Known}
+use Rattle.lock_free.specs.declared.rules.View.{View}
+use Rattle.lock_free.specs.declared.sizes.Sizes.{Sizes}
+use Rattle.lock_free.specs.Accounts.{state_of}
+use Rattle.lock_free.specs.Loading.{Saw}
+use Rattle.lock_free.specs.Places.{words_of, words_in}
+use Rattle.lock_free.specs.Roots.{SaysPlain}
+
+-- an offer for this handle was made in this slot
+pub record HasOffer (sizes : Sizes) (account : Account) (handle slot : ℕ) : Type 0 where
+  pub its : Known
+  pub here : Contains account.offers its
+  pub place : its.slot ≡ slot
+  pub on : its.handle ≡ handle
+  pub inside : 2 * slot + words_in 1 ≤ words_of sizes
+
+-- an offer in this slot opens the handle
+pub record HasOpening (sizes : Sizes) (account : Account) (handle slot : ℕ) : Type 0 where
+  pub its : Known
+  pub here : Contains account.offers its
+  pub place : its.slot ≡ slot
+  pub opens : its.offer.opens ≡ Some handle
+  pub inside : 2 * slot + words_in 1 ≤ words_of sizes
+
+-- the handle is closed, has the root in this slot, or stands by an offer
+abbrev pub TellsRoot : Sizes → Account → ℕ → RootWord → Type 0
+TellsRoot sizes account handle word.Closed = root_at (state_of sizes account) handle ≡ None
+TellsRoot sizes account handle word.Reserved = root_at (state_of sizes account) handle ≡ None
+TellsRoot sizes account handle (word.Writable slot) = SaysPlain account Writable slot (root_at (state_of sizes account) handle)
+TellsRoot sizes account handle (word.ReadOnly slot) = SaysPlain account ReadOnly slot (root_at (state_of sizes account) handle)
+TellsRoot sizes account handle (word.ClosingWritable slot seat) = SaysPlain account Writable slot (root_at (state_of sizes account) handle)
+TellsRoot sizes account handle (word.ClosingReadOnly slot seat) = SaysPlain account ReadOnly slot (root_at (state_of sizes account) handle)
+TellsRoot sizes account handle (word.Offered slot) = HasOffer sizes account handle slot
+TellsRoot sizes account handle (word.Opening slot) = HasOpening sizes account handle slot ⊎ (root_at (state_of sizes account) handle ≡ None)
+
+-- it has seen the word of this handle
+abbrev pub HasSeenRoot : View → ℕ → RootWord → View → Type 0
+HasSeenRoot before handle found after = (s : Saw before after) × IsRootWord found × TellsRoot before.sizes s.account handle found
