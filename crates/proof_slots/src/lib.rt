@@ -6,5 +6,5 @@ mod laws;
 
 pub use laws::{
     few_steps_have_slots, free_at_the_end, more_slots_alike, more_slots_answer, nothing_is_freed,
-    slots_are_taken_in_order, slots_tell_apart,
+    slots_are_below_births, slots_are_taken_in_order, slots_tell_apart, wider_alike,
 };

@@ -31,7 +31,7 @@ nothing_is_freed limits steps more r was ok quiet found =
     let (now, later) = stays limits ok r steps more quiet (was, found) in (now, later, one_node limits ok steps more r was now found later)
 
 -- what stands in one slot at one time has one reference
-one_ref : (heap : Heap) (q r : Ref) → IsInUse heap q → IsInUse heap r → slot_of q ≡ slot_of r → q ≡ r
+pub one_ref : (heap : Heap) (q r : Ref) → IsInUse heap q → IsInUse heap r → slot_of q ≡ slot_of r → q ≡ r
 unfolding stored
 one_ref heap q r (a, at_q) (b, at_r) same =
     let (in_q, birth_q) = standing_parts heap q a at_q in

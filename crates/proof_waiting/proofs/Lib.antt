@@ -1,0 +1,2 @@
+mod Actions
+pub mod Operations
