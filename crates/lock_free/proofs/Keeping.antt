@@ -1,6 +1,6 @@
 -- A step that changes no word keeps the rule: one that reads, whatever the seat knows of what it read, and one that gives nodes of its own up.
 use Rattle.history.specs.declared.calls.Call.{Call}
-use Rattle.std.proofs.Common.{if◌then◌else◌, Option, append-nil, ◌≡◌, ◌≢◌, ◌+◌, ◌⊎◌, ℕ, suc, ◌<◌, inl, inr, Bool, true, false, List, [], ◌∷◌, ◌++◌, Contains, set, get_or, slice_index, is_some, Some, None, refl, sym, ap, subst, ◌∙◌, arith}
+use Rattle.std.proofs.Common.{if◌then◌else◌, Option, append-nil, ◌≡◌, ◌≢◌, ◌⊎◌, ℕ, suc, ◌<◌, inl, inr, Bool, true, false, List, [], ◌∷◌, ◌++◌, Contains, set, get_or, slice_index, is_some, Some, None, refl, sym, ap, subst, ◌∙◌, arith}
 use Rattle.std.proofs.lemmas.List.Elements.{All-append, All-cons, All-nil}
 use mathlib.Core.Option.{some}
 use lib.ListN.{get_elem?}

@@ -1,5 +1,5 @@
 -- What a seat knows of nodes stays so, whatever it has seen since.
-use Rattle.std.proofs.Common.{◌≡◌, ◌+◌, ◌*◌, ◌<◌, ℕ, Bool, true, [], ◌∷◌, Contains, get_or, length, Some, None, refl, sym, ap, subst, ◌∙◌, arith}
+use Rattle.std.proofs.Common.{◌≡◌, ◌<◌, ℕ, Bool, true, [], ◌∷◌, Contains, get_or, length, Some, None, refl, sym, ap, subst, ◌∙◌, arith}
 use Rattle.std.proofs.lemmas.List.Elements.{Contains-get_or}
 use Rattle.trie_words.specs.declared.headers.Header.{Header}
 use Rattle.trie_words.specs.declared.headers.Shape.{Shape}
@@ -16,8 +16,8 @@ use Rattle.proof_memory.specs.Laws.{SameNode}
 use Rattle.proof_memory.specs.Wants.{is_main_node}
 use Rattle.lock_free.specs.declared.accounts.Account.{Account}
 use Rattle.lock_free.specs.declared.rules.View.{View}
-use Rattle.lock_free.specs.Accounts.{bounds_for, state_of, place_of, OwnIs, IsOwn, HasWaited, gone_on}
-use Rattle.lock_free.specs.Exchanging.{IsNamed, IsPendingOver, IsLinkTo}
+use Rattle.lock_free.specs.Accounts.{bounds_for, place_of, OwnIs, IsOwn, gone_on}
+use Rattle.lock_free.specs.Exchanging.{IsNamed, IsPendingOver}
 use Rattle.lock_free.specs.Loading.{now, seen, IsUsed, IsSound, Waited, Went, Saw}
 use Rattle.lock_free.specs.Nodes.{SaysShape, of_branch, of_tomb, of_list}
 use Rattle.lock_free.specs.Passing.{Later, KnowsLink, IsPlaced, KnowsMain, KnowsPending}

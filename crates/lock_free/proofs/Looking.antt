@@ -1,11 +1,9 @@
 -- What loads of nodes find.
-use Rattle.std.proofs.Common.{◌≡◌, ◌+◌, ◌*◌, ◌/◌, ◌^◌, ◌<◌, ◌≤◌, ℕ, Bool, true, false, List, [], ◌∷◌, Contains, get_or, slice_index, slice_get, length, Some, None, refl, sym, ap, subst, ◌∙◌, arith}
+use Rattle.std.proofs.Common.{◌≡◌, ◌+◌, ◌*◌, ◌/◌, ◌^◌, ◌<◌, ℕ, Bool, true, List, [], ◌∷◌, Contains, slice_index, slice_get, Some, refl, sym, ap, subst, ◌∙◌, arith}
 use Rattle.std.proofs.lemmas.Bool.{true≢false}
 use Rattle.std.proofs.lemmas.List.Elements.{Contains-get_or}
 use Rattle.std.proofs.lemmas.Option.{same_Some}
 use Rattle.trie_words.specs.Codes.{header_of, link_of, link_code, pair_of}
-use Rattle.trie_words.specs.declared.headers.Header.{Header}
-use Rattle.trie_words.specs.declared.links.Link.{Link}
 use Rattle.machine_model.specs.Beneath.slot_arena.specs.declared.refs.Ref.{Ref}
 use Rattle.machine_model.specs.Beneath.slot_arena.specs.declared.nodes.Node.{Node}
 use Rattle.machine_model.specs.Beneath.slot_arena.specs.declared.nodes.Node.TheVariants.{Indirection, Branch, Single, Tomb, List as Listed}
@@ -14,15 +12,13 @@ use Rattle.machine_model.specs.Beneath.slot_arena.specs.Heaps.{no_ref, entries_o
 use Rattle.machine_model.specs.Beneath.slot_arena.specs.Refs.{slot_of}
 use Rattle.machine_model.specs.declared.actions.Action.{Action}
 use Rattle.machine_model.specs.declared.actions.Action.TheVariants as act
-use Rattle.machine_model.specs.declared.operations.Operation.{Operation}
 use Rattle.machine_model.specs.Operations.{action_of}
 use Rattle.machine_model.specs.States.{State}
 use Rattle.proof_memory.specs.Wants.{is_main_node, is_branch_or_list}
 use Rattle.lock_free.specs.declared.accounts.Account.{Account}
 use Rattle.lock_free.specs.declared.rules.View.{View}
 use Rattle.lock_free.specs.Accounts.{state_of, place_of, running, OwnIs}
-use Rattle.lock_free.specs.Loading.{Moment, now, IsAt, seen, HasSeen, HasGone, Holds, Stores, HasHeader, HasLink, SaysMain, SaysLink, SaysKey, SaysValue, SaysPair, IsAtSlot, Went, Saw, SawOf, SameSlots, HasRead}
-use Rattle.lock_free.specs.Live.{IsLive}
+use Rattle.lock_free.specs.Loading.{Moment, now, IsAt, HasSeen, HasGone, Holds, Stores, HasHeader, HasLink, SaysMain, SaysLink, SaysKey, SaysValue, SaysPair, IsAtSlot, Went, Saw, SameSlots}
 use Rattle.lock_free.specs.Nodes.{StandsAs, InTable, SaysHeader, IsEntryOf, half_of}
 use Rattle.lock_free.proofs.Asked.{links_of, mains_of, link_stands, main_stands, looked_at_lives}
 use Rattle.lock_free.proofs.Definition.{IsReading, reads_of}

@@ -1,7 +1,5 @@
 -- A node that is made stands in the slot that was written for it, and all others stand as they did.
-use Rattle.history.specs.declared.calls.Call.{Call}
-use Rattle.std.proofs.Common.{◌≡◌, ◌≢◌, ◌+◌, ◌*◌, ◌⊎◌, ℕ, zero, suc, ◌<◌, ◌≤◌, inl, inr, Bool, true, false, List, [], ◌∷◌, ◌++◌, Contains, length, set, get_or, slice_index, Option, Some, None, refl, sym, ap, subst, ◌∙◌, arith, length-append, slice_get, ◌==◌, if◌then◌else◌}
-use Rattle.std.proofs.lemmas.List.{get_or-set_same}
+use Rattle.std.proofs.Common.{◌≡◌, ◌≢◌, ◌*◌, ℕ, zero, suc, inl, inr, Bool, true, false, List, [], ◌∷◌, ◌++◌, Contains, length, get_or, Option, Some, None, refl, sym, ap, subst, ◌∙◌, arith, slice_get, ◌==◌, if◌then◌else◌}
 use Rattle.std.proofs.lemmas.List.Elements.{Contains-get_or, Contains-append_left, Contains-append_right}
 use Rattle.std.proofs.lemmas.Bool.{cases_eq, eq-eqb, ne_eqb, true≢false}
 use Rattle.std.proofs.lemmas.Option.{none-some, same_Some}
@@ -12,23 +10,21 @@ use Rattle.machine_model.specs.Beneath.slot_arena.specs.declared.nodes.Prev.{Pre
 use Rattle.machine_model.specs.Beneath.slot_arena.specs.declared.nodes.Prev.TheVariants as prev
 use Rattle.machine_model.specs.Beneath.slot_arena.specs.declared.nodes.Slot.{Slot}
 use Rattle.machine_model.specs.Beneath.slot_arena.specs.Refs.{slot_of}
-use Rattle.machine_model.specs.Beneath.slot_arena.specs.Heaps.{Heap, node_at, stored, node_of, main_of, main_at, entries_of, refs_of_node, refs_of_prev, refs_of_slot}
+use Rattle.machine_model.specs.Beneath.slot_arena.specs.Heaps.{node_at, stored, node_of, main_of, refs_of_node, refs_of_prev}
 use Rattle.machine_model.specs.declared.operations.Operation.{Operation}
-use Rattle.machine_model.specs.declared.lines.Line.{Line}
-use Rattle.machine_model.specs.States.{State, operation_of, root_at}
-use Rattle.trie_words.specs.Codes.{entry_code, link_code, header_code, pair_code}
+use Rattle.machine_model.specs.States.{State}
+use Rattle.trie_words.specs.Codes.{entry_code, link_code}
 use Rattle.trie_words.specs.declared.headers.Previous.{Previous}
 use Rattle.trie_words.specs.declared.headers.Previous.TheVariants as previous
 use Rattle.trie_words.specs.declared.headers.Shape.{Shape}
 use Rattle.trie_words.specs.declared.headers.Shape.TheVariants as shape
 use Rattle.lock_free.specs.declared.accounts.Account.{Account}
 use Rattle.lock_free.specs.declared.accounts.Owned.{Owned}
-use Rattle.lock_free.specs.declared.accounts.Known.{Known}
 use Rattle.lock_free.specs.declared.sizes.Sizes.{Sizes}
-use Rattle.lock_free.specs.Accounts.{state_of, place_at, place_of, OwnIs, first, later, IsOwn}
-use Rattle.lock_free.specs.Nodes.{Has, StandsAs, InTable, AreEntries, IsEntryOf, is_single, half_of, entry_word, IsAhead, IsOver, SaysPrevious, decided, ahead, pending, failed, SaysShape, of_branch, of_tomb, of_list, SaysHeader, class_of}
-use Rattle.lock_free.specs.Making.{over_of, Drafted, IsOverBy, shape_with, DraftsHeader, DraftsNode, owned_with, made_at, refs_of_offer, NamesNot, Makes}
-use Rattle.lock_free.specs.Rules.{Standing, Stands}
+use Rattle.lock_free.specs.Accounts.{state_of, place_of, OwnIs, first, later}
+use Rattle.lock_free.specs.Nodes.{Has, StandsAs, AreEntries, IsEntryOf, is_single, half_of, IsAhead, IsOver, SaysPrevious, decided, ahead, pending, failed, SaysShape, of_branch, of_tomb, of_list, SaysHeader}
+use Rattle.lock_free.specs.Making.{over_of, IsOverBy, shape_with, DraftsHeader, DraftsNode, owned_with, made_at, Makes}
+use Rattle.lock_free.specs.Rules.{Standing}
 
 -- ---- places
 

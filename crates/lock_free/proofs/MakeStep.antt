@@ -1,6 +1,6 @@
 -- The last store in a free slot makes the node that is written there: the operation's step.
 use Rattle.history.specs.declared.calls.Call.{Call}
-use Rattle.std.proofs.Common.{◌≡◌, ◌≢◌, ◌+◌, ◌*◌, ◌<◌, ◌≤◌, ℕ, inl, inr, Bool, true, false, List, [], ◌∷◌, ◌++◌, Contains, length, set, get_or, slice_get, slice_index, Option, Some, None, refl, sym, ap, subst, ◌∙◌, arith}
+use Rattle.std.proofs.Common.{◌≡◌, ◌≢◌, ◌*◌, ℕ, inl, inr, Bool, true, List, [], ◌∷◌, Contains, set, Option, Some, None, refl, sym, ap, subst, ◌∙◌, arith}
 use Rattle.std.proofs.lemmas.List.Elements.{Contains-get_or, Contains-append_left, Contains-push}
 use Rattle.std.proofs.lemmas.Bool.{cases_eq}
 use Rattle.std.proofs.lemmas.Option.{same_Some}
@@ -28,21 +28,20 @@ use Rattle.lock_free.proofs.OneStep.Openers.{openers_make_roots}
 use Rattle.machine_model.specs.Beneath.slot_arena.specs.declared.refs.Ref.{Ref}
 use Rattle.machine_model.specs.Beneath.slot_arena.specs.declared.nodes.Node.{Node}
 use Rattle.machine_model.specs.Beneath.slot_arena.specs.declared.nodes.Node.TheVariants.{Indirection, Branch, Single, Tomb, List as Listed}
-use Rattle.machine_model.specs.Beneath.slot_arena.specs.Heaps.{Heap, node_at, refs_of_node, entries_of}
+use Rattle.machine_model.specs.Beneath.slot_arena.specs.Heaps.{Heap, node_at, refs_of_node}
 use Rattle.machine_model.specs.declared.actions.Action.TheVariants as act
-use Rattle.machine_model.specs.declared.lines.Line.{Line}
 use Rattle.machine_model.specs.declared.operations.Operation.{Operation}
 use Rattle.machine_model.specs.States.{State}
 use Rattle.lock_free.specs.declared.accounts.Account.{Account}
 use Rattle.lock_free.specs.declared.rules.View.{View}
 use Rattle.lock_free.specs.declared.sizes.Sizes.{Sizes}
 use Rattle.lock_free.specs.Accounts.{state_of, place_of, running, IsOwn}
-use Rattle.lock_free.specs.Loading.{Moment, now, seen, IsAt, IsSound, Took}
+use Rattle.lock_free.specs.Loading.{now, IsAt, IsSound, Took}
 use Rattle.lock_free.specs.Making.{over_of, Drafted, IsOverBy, shape_with, DraftsHeader, DraftsNode, made_at, made_by, Makes}
-use Rattle.lock_free.specs.Nodes.{Has, is_single, IsEntryOf, AreEntries, half_of, class_of}
-use Rattle.lock_free.specs.Places.{words_in, words_of}
+use Rattle.lock_free.specs.Nodes.{Has, is_single, AreEntries, class_of}
+use Rattle.lock_free.specs.Places.{words_of}
 use Rattle.lock_free.specs.Rules.{pool_of, IsFree, IsKept}
-use Rattle.lock_free.specs.Storing.{IsOwnWord, Writes, IsAtMake, HasMade, has_made}
+use Rattle.lock_free.specs.Storing.{IsOwnWord, Writes, IsAtMake, has_made}
 
 -- what is written is written so later too, where places stay, whose own nodes are, and which entries are singles
 module _ (before after : Account) (first later : Heap) (has : Has) (name : ℕ) (own : Bool) (over : Option (Ref × Ref))
@@ -65,12 +64,15 @@ module _ (before after : Account) (first later : Heap) (has : Has) (name : ℕ) 
     entries_stay : (entries : List Ref) → ((r : Ref) → Contains entries r → (place_of after r ≡ place_of before r) × (is_single (node_at later r) ≡ is_single (node_at first r))) → AreEntries before first has name entries → AreEntries after later has name entries
     entries_stay entries same h position e at =
         let x = h position e at in
-        let s = same e (got_in entries position e at) in
-        (x.0, x.1, record {
-          own = x.2.own;
-          code = x.2.code ∙ ap (λ p. entry_code (record { slot = p; own = x.2.own; is_single = is_single (node_at first e) })) (sym s.0)
-              ∙ ap (λ b. entry_code (record { slot = place_of after e; own = x.2.own; is_single = b })) (sym s.1);
-        })
+        let s = same e (got_in entries position e at) in (
+          x.0,
+          x.1,
+          record {
+            own = x.2.own;
+            code = x.2.code ∙ ap (λ p. entry_code (record { slot = p; own = x.2.own; is_single = is_single (node_at first e) })) (sym s.0)
+                ∙ ap (λ b. entry_code (record { slot = place_of after e; own = x.2.own; is_single = b })) (sym s.1);
+          },
+        )
 
     pub drafts_stay : (n : Node) → ((r : Ref) → Contains (refs_of_node n) r → (place_of after r ≡ place_of before r) × (is_single (node_at later r) ≡ is_single (node_at first r))) → DraftsNode before first over has name own n →
         DraftsNode after later over has name own n
@@ -116,8 +118,7 @@ module _ (v : View) (word value : ℕ) (node : Node) (rest : List ℕ) (name : �
   same_names r c =
       let live = made_names_live v.sizes v.account (before v s kept id at) v.actor p.operation p.runs node p.acts r c in
       let was = live_in_use v.sizes v.account (before v s kept id at) r live in
-      let later = nodes_stay v.sizes v.actor v.account there (seat v s kept id at).waited kept.bounds (slot_of r) was.0 was.1 in
-      (
+      let later = nodes_stay v.sizes v.actor v.account there (seat v s kept id at).waited kept.bounds (slot_of r) was.0 was.1 in (
         live_place v s kept id at r live,
         ap is_single (node_is state r later.0 later.1) ∙ single_stays was.0.node later.0.node later.2 ∙ sym (ap is_single (node_is (now v) r was.0 was.1)),
       )
@@ -156,8 +157,11 @@ module _ (v : View) (word value : ℕ) (node : Node) (rest : List ℕ) (name : �
 pub make_allowed : (sizes : Sizes) (size id : ℕ) (me : Me Call View) (word value : ℕ) → IsAtMake me.0 word value → Allows (IsKept sizes) size id me word (λ n. value) (λ n. has_made (step size word value 0 none) me value)
 make_allowed sizes size id me word value (node, rest, name, own, p, w) =
     allowed sizes size id me word (λ n. value) (λ n. has_made (step size word value 0 none) me value)
-    (λ s kept at. (made_by me.0 (class_of node) name rest own node kept.account, kept_after me.0 word value node rest name own p w s kept id at,
-        ((kept.account, waited_so me.0 s kept id at, took_after me.0 word value node rest name own p w s kept id at, (node, rest, name, own, p, w, refl)), sound_after me.0 word value node rest name own p w s kept id at, refl)))
+    (λ s kept at. (
+      made_by me.0 (class_of node) name rest own node kept.account,
+      kept_after me.0 word value node rest name own p w s kept id at,
+      ((kept.account, waited_so me.0 s kept id at, took_after me.0 word value node rest name own p w s kept id at, (node, rest, name, own, p, w, refl)), sound_after me.0 word value node rest name own p w s kept id at, refl),
+    ))
 
 -- its last word is free for the seat till then
 pub is_own_word : (v : View) (word value : ℕ) → IsAtMake v word value → IsOwnWord v word

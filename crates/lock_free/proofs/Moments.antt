@@ -1,6 +1,6 @@
 -- What the rule says at the moment of an access: of the seat's operation, of nodes, and what a load leaves.
 use Rattle.history.specs.declared.calls.Call.{Call}
-use Rattle.std.proofs.Common.{◌≡◌, ◌+◌, ◌*◌, ◌<◌, ◌≤◌, ◌⊎◌, ℕ, suc, zero, inl, inr, Bool, List, [], ◌∷◌, ◌++◌, Contains, set, get_or, slice_index, length, Some, None, refl, sym, ap, subst, ◌∙◌, arith}
+use Rattle.std.proofs.Common.{◌≡◌, ◌+◌, ◌*◌, ◌<◌, ◌≤◌, ℕ, suc, zero, inl, inr, Bool, List, [], ◌∷◌, ◌++◌, Contains, set, get_or, slice_index, length, Some, None, refl, sym, ap, subst, ◌∙◌, arith}
 use Rattle.std.proofs.lemmas.List.{set-get_or}
 use Rattle.std.proofs.lemmas.List.Elements.{Contains-append_left}
 use Rattle.std.proofs.lemmas.Option.{same_Some}
@@ -14,7 +14,7 @@ use Rattle.machine_model.specs.Beneath.slot_arena.specs.declared.nodes.Node.{Nod
 use Rattle.machine_model.specs.Beneath.slot_arena.specs.declared.nodes.Node.TheVariants.{Indirection, Branch, Single, Tomb, List as Listed}
 use Rattle.machine_model.specs.Beneath.slot_arena.specs.declared.nodes.Slot.{Slot}
 use Rattle.machine_model.specs.Beneath.slot_arena.specs.Refs.{slot_of}
-use Rattle.machine_model.specs.Beneath.slot_arena.specs.Heaps.{stored, refs_of_node, refs_of_slot, refs_of_prev, entries_of, with_main_word}
+use Rattle.machine_model.specs.Beneath.slot_arena.specs.Heaps.{stored, refs_of_node, refs_of_slot, refs_of_prev, entries_of}
 use Rattle.machine_model.specs.declared.operations.Operation.{Operation}
 use Rattle.machine_model.specs.Acting.{operation_after}
 use Rattle.machine_model.specs.Machine.{AreBounds}
@@ -27,9 +27,9 @@ use Rattle.lock_free.specs.declared.accounts.Account.{Account}
 use Rattle.lock_free.specs.declared.accounts.Owned.{Owned}
 use Rattle.lock_free.specs.declared.rules.View.{View}
 use Rattle.lock_free.specs.declared.sizes.Sizes.{Sizes}
-use Rattle.lock_free.specs.Accounts.{bounds_for, state_of, place_at, place_of, HasWaited, running, gone_on, OwnIs, later}
-use Rattle.lock_free.specs.Live.{refs_of_claims, at_hand, IsKnown, from_root, from_operation, from_slot, IsLive}
-use Rattle.lock_free.specs.Loading.{now, Runs, IsUsed, IsSound, seen, Waited, Took, HasSeen, HasGone, has_seen, has_gone, Holds}
+use Rattle.lock_free.specs.Accounts.{bounds_for, state_of, place_at, place_of, running, gone_on, OwnIs, later}
+use Rattle.lock_free.specs.Live.{refs_of_claims, at_hand, from_operation, from_slot, IsLive}
+use Rattle.lock_free.specs.Loading.{now, IsUsed, IsSound, seen, Waited, Took, has_seen, has_gone, Holds}
 use Rattle.lock_free.specs.Nodes.{StandsAs, InTable}
 use Rattle.lock_free.specs.Places.{words_in, words_of}
 use Rattle.lock_free.specs.Rules.{IsFree, IsSeat, IsKept}
@@ -160,8 +160,7 @@ module _ (v : View) (s : Table.State Call View) (kept : IsKept v.sizes s) (id : 
   module _ (o : Operation) (runs : running v.sizes v.account v.actor o) where
     hand_lives : (r : Ref) → Contains (at_hand (now v) o) r → IsLive (now v) r × IsLive (state_of v.sizes there) r
     hand_lives r c =
-        let here = waited_so.stays o runs in
-        (
+        let here = waited_so.stays o runs in (
           from_operation v.actor o r runs tt c,
           from_operation v.actor (record o { is_marked = here.0 }) r here.1 tt (subst (λ h. Contains (hand_by h o) r) (same_hash v.sizes v.account there) c),
         )
@@ -244,11 +243,17 @@ module _ (sizes : Sizes) (size id : ℕ) (me : Me Call View) (word : ℕ) where
   pub load_allowed : Allows (IsKept sizes) size id me word (λ n. n) (has_seen (step size word 0 0 none) me)
   load_allowed =
       allowed sizes size id me word (λ n. n) (has_seen (step size word 0 0 none) me)
-      (λ s kept at. (seen_view me.0 s kept id at, unchanged s (seen_view me.0 s kept id at) (seen_kept me.0 s kept id at),
-          ((record { table = s; kept = kept; id = id; at = at; finds = refl }, refl), (waited_so me.0 s kept id at).sound, refl)))
+      (λ s kept at. (
+        seen_view me.0 s kept id at,
+        unchanged s (seen_view me.0 s kept id at) (seen_kept me.0 s kept id at),
+        ((record { table = s; kept = kept; id = id; at = at; finds = refl }, refl), (waited_so me.0 s kept id at).sound, refl),
+      ))
 
   pub go_allowed : (o : Operation) → running me.0.sizes me.0.account me.0.actor o → IsReading (action_of (now me.0) o) → Allows (IsKept sizes) size id me word (λ n. n) (has_gone (step size word 0 0 none) me)
   go_allowed o runs reading =
       allowed sizes size id me word (λ n. n) (has_gone (step size word 0 0 none) me)
-      (λ s kept at. (gone_view me.0 s kept id at o runs reading, unchanged s (gone_view me.0 s kept id at o runs reading) (gone_kept me.0 s kept id at o runs reading),
-          ((record { table = s; kept = kept; id = id; at = at; finds = refl }, refl, gone_took me.0 s kept id at o runs reading), gone_sound me.0 s kept id at o runs reading, refl)))
+      (λ s kept at. (
+        gone_view me.0 s kept id at o runs reading,
+        unchanged s (gone_view me.0 s kept id at o runs reading) (gone_kept me.0 s kept id at o runs reading),
+        ((record { table = s; kept = kept; id = id; at = at; finds = refl }, refl, gone_took me.0 s kept id at o runs reading), gone_sound me.0 s kept id at o runs reading, refl),
+      ))

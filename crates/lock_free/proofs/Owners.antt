@@ -1,5 +1,5 @@
 -- Whose own main nodes are stays so, and who is about to be swapped in is nobody's.
-use Rattle.std.proofs.Common.{◌≡◌, ◌≢◌, ◌+◌, ◌<◌, ◌⊎◌, ℕ, inl, inr, Bool, true, List, [], ◌∷◌, ◌++◌, Contains, length, refl, sym, ap, subst, ◌∙◌, arith, length-append}
+use Rattle.std.proofs.Common.{◌≡◌, ◌≢◌, ◌+◌, ◌<◌, ◌⊎◌, ℕ, inl, inr, Bool, List, [], ◌∷◌, Contains, length, refl, sym, ap, subst, ◌∙◌, arith, length-append}
 use Rattle.std.proofs.lemmas.List.Elements.{Contains-get_or}
 use Rattle.machine_model.specs.Beneath.slot_arena.specs.declared.refs.Ref.{Ref}
 use Rattle.machine_model.specs.Beneath.slot_arena.specs.declared.nodes.Node.{Node}
@@ -12,7 +12,7 @@ use Rattle.lock_free.specs.declared.accounts.Account.{Account}
 use Rattle.lock_free.specs.declared.accounts.Owned.{Owned}
 use Rattle.lock_free.specs.declared.sizes.Sizes.{Sizes}
 use Rattle.lock_free.specs.Accounts.{state_of, OwnIs, first, later}
-use Rattle.lock_free.specs.Making.{over_of, owned_with, made_at, Makes}
+use Rattle.lock_free.specs.Making.{owned_with, made_at, Makes}
 use Rattle.lock_free.specs.Nodes.{IsAhead, AreOwners}
 use Rattle.lock_free.specs.Publishing.{owned_now, swapped_in, Publishes}
 

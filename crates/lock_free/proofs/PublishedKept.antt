@@ -1,6 +1,6 @@
 -- The exchange of an indirection's word swaps a fresh main node in.
 use Rattle.history.specs.declared.calls.Call.{Call}
-use Rattle.std.proofs.Common.{◌≡◌, ℕ, ◌*◌, true, [], ◌∷◌, set, Some, ap, sym, ◌∙◌, subst, refl}
+use Rattle.std.proofs.Common.{◌≡◌, ℕ, ◌*◌, true, [], ◌∷◌, set, Some}
 use mathlib.Core.Option.{some}
 use lib.ListN.{get_elem?}
 use Rattle.atomic_table.specs.Table as Table
@@ -15,7 +15,7 @@ use Rattle.lock_free.specs.Publishing.{owned_now, swapped_in, Publishes}
 use Rattle.lock_free.specs.Rules.{IsSpare, IsKept}
 use Rattle.lock_free.proofs.Assembling.{AllStand, all_stand}
 use Rattle.lock_free.proofs.Framing.{first_word}
-use Rattle.lock_free.proofs.NodeWord.{view_then, node_word_kept}
+use Rattle.lock_free.proofs.NodeWord.{node_word_kept}
 use Rattle.lock_free.proofs.PublishedAll.{all_then, words_then, new_word, which, before, link_stands}
 
 module _ (sizes : Sizes) (s : Table.State Call View) (kept : IsKept sizes s) (id : ℕ) (v : View) (at : get_elem? s.views id ≡ some v) (operation : Operation)

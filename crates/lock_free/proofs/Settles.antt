@@ -1,6 +1,5 @@
 -- What the exchanges of a READ come to.
-use Rattle.history.specs.declared.calls.Access.TheVariants.{Writable, ReadOnly}
-use Rattle.std.proofs.Common.{◌≡◌, ◌≢◌, ◌+◌, ◌*◌, ◌^◌, ◌<◌, ◌≤◌, ◌⊎◌, ◌==◌, ℕ, inl, inr, Bool, true, false, [], ◌∷◌, Contains, get_or, Option, Some, None, refl, sym, ap, subst, ◌∙◌, arith, nat_eq}
+use Rattle.std.proofs.Common.{◌≡◌, ◌≢◌, ◌^◌, ◌<◌, ◌==◌, ℕ, inl, inr, Bool, true, false, [], ◌∷◌, Contains, Option, Some, refl, sym, ap, subst, ◌∙◌, arith, nat_eq}
 use Rattle.std.proofs.lemmas.Bool.{eqb-true}
 use Rattle.std.proofs.lemmas.List.Elements.{Contains-get_or, Contains-append_left}
 use Rattle.std.proofs.lemmas.Option.{same_Some}
@@ -11,26 +10,20 @@ use Rattle.trie_words.specs.declared.links.Link.{Link}
 use Rattle.trie_words.specs.declared.names.Name.{Name}
 use Rattle.machine_model.specs.Beneath.slot_arena.specs.declared.refs.Ref.{Ref}
 use Rattle.machine_model.specs.Beneath.slot_arena.specs.declared.nodes.Slot.{Slot}
-use Rattle.machine_model.specs.Beneath.slot_arena.specs.Heaps.{main_at, prev_at, generation_at, refs_of_node, refs_of_prev}
+use Rattle.machine_model.specs.Beneath.slot_arena.specs.Heaps.{main_at, prev_at, refs_of_node, refs_of_prev}
 use Rattle.machine_model.specs.Beneath.slot_arena.specs.Refs.{slot_of}
 use Rattle.machine_model.specs.declared.actions.Action.TheVariants as act
-use Rattle.machine_model.specs.declared.reading.After.{After}
-use Rattle.machine_model.specs.declared.reading.After.TheVariants.{Goes, Gives}
+use Rattle.machine_model.specs.declared.reading.After.TheVariants.{Goes}
 use Rattle.machine_model.specs.declared.reading.ReadLine.{ReadLine}
 use Rattle.machine_model.specs.declared.reading.ReadLine.TheVariants as read
-use Rattle.machine_model.specs.declared.operations.Operation.{Operation}
-use Rattle.machine_model.specs.Operations.{action_of}
 use Rattle.machine_model.specs.Reading.{is_licensed, is_pending, verdict_by, after_decide, after_restore}
 use Rattle.proof_memory.specs.Wants.{is_main_node}
-use Rattle.lock_free.specs.declared.reading.Given.{Given}
 use Rattle.lock_free.specs.declared.reading.Way.{Way}
 use Rattle.lock_free.specs.declared.rules.View.{View}
-use Rattle.lock_free.specs.Accounts.{state_of, place_of, running}
 use Rattle.lock_free.specs.Exchanging.{IsNamed, IsNamedOrGone, IsAtDecide, HasDecided, IsAtRestore, HasRestored}
-use Rattle.lock_free.specs.Loading.{now, seen, Runs, IsAt, IsUsed, IsSound, Went, Saw, Holds, HoldsSlot, HasSeenMain}
+use Rattle.lock_free.specs.Loading.{now, seen, IsAt, IsUsed, IsSound, Holds, HoldsSlot, HasSeenMain}
 use Rattle.lock_free.specs.Nodes.{class_of}
-use Rattle.lock_free.specs.Passing.{Later, HasCome, IsReading, KnowsLink, IsPlaced, KnowsMain, KnowsPending, HasGiven, pending_line, IsPending, HasLicense, IsFailed}
-use Rattle.lock_free.specs.Places.{words_in}
+use Rattle.lock_free.specs.Passing.{Later, HasCome, IsReading, KnowsLink, KnowsMain, KnowsPending, HasGiven, pending_line, IsPending, HasLicense, IsFailed}
 use Rattle.lock_free.proofs.Asked.{mains_of, main_stands, gone_stays}
 use Rattle.lock_free.proofs.Comings.{at_read, all_read, came, come_on, reading_one, reading_then, saw_come}
 use Rattle.lock_free.proofs.Framing.{class_small}
@@ -192,7 +185,11 @@ module _ (before : View) (indirection : ℕ) (link : Link) (former : Name) (f : 
         let kind = main_kind used.0.node x.0.node x.2 (subst (λ (z : Slot). is_main_node z.node ≡ true) is stands.1.2) in
         let h = g.1 old holds f.7.1 x.0 there kind in
         let known : KnowsMain v old header = record {
-          slot = h.slot; used = h.stores; is_main = h.is_main; is_shape = h.is_shape; fits = h.fits;
+          slot = h.slot;
+          used = h.stores;
+          is_main = h.is_main;
+          is_shape = h.is_shape;
+          fits = h.fits;
           names = λ r c. h.used r (Contains-append_left (refs_of_node h.slot.node) (refs_of_prev h.slot.prev) r c);
         } in
         subst (λ z. KnowsMain z old header) (sym g.0.after_is) known

@@ -6,7 +6,7 @@ use Rattle.std.proofs.lemmas.List.{get_or-set_same}
 use mathlib.Core.Option.{some}
 use lib.ListN.{get_elem?}
 use Rattle.atomic_table.specs.Table as Table
-use Rattle.machine_model.specs.States.{State, handle_limit}
+use Rattle.machine_model.specs.States.{handle_limit}
 use Rattle.lock_free.specs.declared.rules.View.{View}
 use Rattle.lock_free.specs.declared.sizes.Sizes.{Sizes}
 use Rattle.lock_free.specs.Accounts.{state_of}

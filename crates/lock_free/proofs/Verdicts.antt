@@ -1,9 +1,9 @@
 -- The exchange of a header decides a main node that is pending still, and no other.
-use Rattle.std.proofs.Common.{◌≡◌, ◌≢◌, ◌+◌, ◌*◌, ◌^◌, ◌<◌, ◌⊎◌, ◌==◌, ℕ, inl, inr, Bool, true, false, List, [], ◌∷◌, Contains, set, get_or, slice_index, length, Option, Some, None, refl, sym, ap, subst, ◌∙◌, arith, if◌then◌else◌, eq-eqb, ne_eqb}
+use Rattle.std.proofs.Common.{◌≡◌, ◌≢◌, ◌*◌, ℕ, inl, inr, Bool, true, false, [], ◌∷◌, Contains, get_or, length, Option, Some, None, refl, sym, ap, subst, ◌∙◌, arith, if◌then◌else◌, eq-eqb}
 use Rattle.std.proofs.lemmas.Bool.{true≢false}
 use Rattle.std.proofs.lemmas.List.Elements.{Contains-get_or, Contains-append_left}
 use Rattle.std.proofs.lemmas.Option.{same_Some}
-use Rattle.trie_words.specs.Codes.{IsHeader, IsName, IsPrevious, header_code, previous_code, name_code}
+use Rattle.trie_words.specs.Codes.{IsHeader, IsName, IsPrevious, header_code, previous_code}
 use Rattle.trie_words.specs.declared.headers.Header.{Header}
 use Rattle.trie_words.specs.declared.headers.Previous.{Previous}
 use Rattle.trie_words.specs.declared.headers.Previous.TheVariants as previous
@@ -17,7 +17,7 @@ use Rattle.machine_model.specs.Beneath.slot_arena.specs.declared.nodes.Node.TheV
 use Rattle.machine_model.specs.Beneath.slot_arena.specs.declared.nodes.Prev.{Prev}
 use Rattle.machine_model.specs.Beneath.slot_arena.specs.declared.nodes.Prev.TheVariants as prev
 use Rattle.machine_model.specs.Beneath.slot_arena.specs.declared.nodes.Slot.{Slot}
-use Rattle.machine_model.specs.Beneath.slot_arena.specs.Heaps.{stored, prev_at, prev_of, main_at, refs_of_node, refs_of_prev, refs_of_slot, with_main_word}
+use Rattle.machine_model.specs.Beneath.slot_arena.specs.Heaps.{stored, prev_at, prev_of, main_at, refs_of_node, refs_of_prev, refs_of_slot}
 use Rattle.machine_model.specs.Beneath.slot_arena.specs.Refs.{slot_of}
 use Rattle.machine_model.specs.declared.actions.Action.TheVariants as act
 use Rattle.machine_model.specs.declared.operations.Operation.{Operation}
@@ -27,19 +27,17 @@ use Rattle.proof_memory.specs.Laws.{SameNode}
 use Rattle.proof_memory.specs.Wants.{is_main_node}
 use Rattle.lock_free.specs.declared.accounts.Account.{Account}
 use Rattle.lock_free.specs.declared.rules.View.{View}
-use Rattle.lock_free.specs.Accounts.{state_of, place_of, OwnIs, IsOwn, running, gone_on}
-use Rattle.lock_free.specs.Deciding.{says_then, Decides}
-use Rattle.lock_free.specs.Exchanging.{IsNamed, IsPendingOver, decided_previous, decided_header, IsAtDecide, HasDecided}
-use Rattle.lock_free.specs.Live.{from_slot, IsLive}
-use Rattle.lock_free.specs.Loading.{Moment, now, seen, IsAt, IsSound, HasGone, has_gone, Went}
+use Rattle.lock_free.specs.Accounts.{state_of, place_of, OwnIs, running}
+use Rattle.lock_free.specs.Deciding.{Decides}
+use Rattle.lock_free.specs.Exchanging.{IsPendingOver}
+use Rattle.lock_free.specs.Live.{from_slot}
+use Rattle.lock_free.specs.Loading.{Moment, IsAt}
 use Rattle.lock_free.specs.Nodes.{IsAhead, IsOver, SaysPrevious, decided, ahead, pending, failed, SaysShape, of_branch, of_tomb, of_list, SaysHeader}
-use Rattle.lock_free.specs.Places.{words_of}
-use Rattle.lock_free.specs.Rules.{IsKept}
 use Rattle.lock_free.specs.Steps.{Reads}
-use Rattle.lock_free.proofs.Asked.{mains_of, decides_or_not, nodes_stay}
+use Rattle.lock_free.proofs.Asked.{decides_or_not, nodes_stay}
 use Rattle.lock_free.proofs.Decided.{failed_pending, none_pending, same_pending}
-use Rattle.lock_free.proofs.Looking.{main_there, link_there, header_at, same_action, o_there, acts_there}
-use Rattle.lock_free.proofs.Moments.{allowed, CanBe, IsThere, its_place, live_place, still_own, took_by, waited_so, before, seat}
+use Rattle.lock_free.proofs.Looking.{main_there, header_at, o_there, acts_there}
+use Rattle.lock_free.proofs.Moments.{IsThere, its_place, live_place, still_own, seat}
 
 -- ---- what a main node is stays
 
@@ -160,7 +158,7 @@ module _ (v : View) (word found : ℕ) (m : Moment v word found) (i main replace
   miss : ((q : Ref) → slot.prev ≡ prev.Pending q → ⊥) → ((j a f : Ref) → IsAhead state j a f → slot_of f ≢ slot_of main) → found ≢ header_code header
   miss nobody alone e =
       let same : header_code (record { previous = says_now.previous; shape = header.shape }) ≡ header_code (record { previous = header.previous; shape = header.shape }) =
-          ap (λ x. header_code (record { previous = says_now.previous; shape = x })) (sym (shape_now says_now.shape says_now.is_shape)) ∙ sym says_now.code ∙ e in
+      ap (λ x. header_code (record { previous = says_now.previous; shape = x })) (sym (shape_now says_now.shape says_now.is_shape)) ∙ sym says_now.code ∙ e in
       let codes : previous_code says_now.previous ≡ previous_code header.previous = omega (arith, same) in
       other_code account state (slot_of main) slot.prev says_now.previous over.name (subst IsPrevious over.says fits.0) nobody alone says_now.is_previous (codes ∙ ap previous_code over.says)
 

@@ -1,6 +1,6 @@
 -- What exchanges of nodes' words ask and tell.
 use Rattle.history.specs.declared.calls.Call.{Call}
-use Rattle.std.specs.Prelude.{◌≡◌, ◌≢◌, ◌⊎◌, ℕ, ◌==◌, Bool, true, false, List, [], ◌∷◌, Option, Some}
+use Rattle.std.specs.Prelude.{◌≡◌, ◌≢◌, ◌⊎◌, ℕ, ◌==◌, Bool, true, false, List, [], ◌∷◌, Option}
 use Rattle.atomic_table.specs.Table.{Me, Step}
 use Rattle.trie_words.specs.declared.headers.Header.{Header}
 use Rattle.trie_words.specs.declared.headers.Previous.{Previous}

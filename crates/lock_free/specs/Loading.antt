@@ -1,6 +1,6 @@
 -- What an access tells: how everything stood when it was made, and what the seat has seen of it since.
 use Rattle.history.specs.declared.calls.Call.{Call}
-use Rattle.std.specs.Prelude.{◌≡◌, ℕ, ◌+◌, ◌*◌, ◌/◌, ◌^◌, ◌<◌, ◌≤◌, ◌⊎◌, Bool, true, List, Contains, length, slice_get, slice_index, slice_index_or, Some, None}
+use Rattle.std.specs.Prelude.{◌≡◌, ℕ, ◌+◌, ◌*◌, ◌/◌, ◌^◌, ◌<◌, ◌≤◌, ◌⊎◌, Bool, true, Contains, length, slice_get, slice_index, slice_index_or, Some, None}
 use mathlib.Core.Option.{some}
 use lib.ListN.{get_elem?}
 use Rattle.atomic_table.specs.Table as Table
@@ -24,7 +24,6 @@ use Rattle.machine_model.specs.States.{State}
 use Rattle.proof_memory.specs.Wants.{is_main_node, is_branch_or_list}
 use Rattle.lock_free.specs.declared.accounts.Account.{Account}
 use Rattle.lock_free.specs.declared.rules.View.{View}
-use Rattle.lock_free.specs.declared.sizes.Sizes.{Sizes}
 use Rattle.lock_free.specs.Accounts.{bounds_for, HasWaited, running, state_of, place_at, place_of, gone_on, IsOwn}
 use Rattle.lock_free.specs.Live.{at_hand}
 use Rattle.lock_free.specs.Nodes.{SaysPrevious, SaysShape, IsEntryOf, half_in, class_of}

@@ -1,5 +1,5 @@
 -- How nodes stand in words.
-use Rattle.std.specs.Prelude.{◌≡◌, ℕ, zero, suc, ◌+◌, ◌*◌, ◌/◌, ◌%◌, ◌^◌, ◌<◌, ◌≤◌, ◌==◌, ◌⊎◌, Bool, true, false, List, length, Option, Some, None, slice_get, slice_index, slice_index_or, if◌then◌else◌}
+use Rattle.std.specs.Prelude.{◌≡◌, ℕ, ◌+◌, ◌*◌, ◌/◌, ◌%◌, ◌^◌, ◌<◌, ◌==◌, Bool, true, false, List, length, Some, slice_get, slice_index, if◌then◌else◌}
 use Rattle.trie_words.specs.Codes.{link_code, header_code, entry_code, pair_of}
 use Rattle.trie_words.specs.declared.entries.Pair.{Pair}
 use Rattle.trie_words.specs.declared.headers.Previous.{Previous}
@@ -13,14 +13,13 @@ use Rattle.machine_model.specs.Beneath.slot_arena.specs.declared.nodes.Prev.{Pre
 use Rattle.machine_model.specs.Beneath.slot_arena.specs.declared.nodes.Prev.TheVariants as prev
 use Rattle.machine_model.specs.Beneath.slot_arena.specs.declared.nodes.Slot.{Slot}
 use Rattle.machine_model.specs.Beneath.slot_arena.specs.Refs.{slot_of}
-use Rattle.machine_model.specs.Beneath.slot_arena.specs.Heaps.{Heap, node_at, main_at, entries_of}
+use Rattle.machine_model.specs.Beneath.slot_arena.specs.Heaps.{Heap, node_at, main_at}
 use Rattle.machine_model.specs.declared.lines.Purpose.{Purpose}
 use Rattle.machine_model.specs.declared.lines.Line.TheVariants as line
 use Rattle.machine_model.specs.declared.operations.Operation.{Operation}
 use Rattle.machine_model.specs.States.{State, operation_of}
 use Rattle.machine_model.specs.Swapping.{swapping}
 use Rattle.lock_free.specs.declared.accounts.Account.{Account}
-use Rattle.lock_free.specs.declared.sizes.Sizes.{Sizes}
 use Rattle.lock_free.specs.Accounts.{place_of, OwnIs, IsOwn}
 use Rattle.lock_free.specs.Places.{class_for}
 

@@ -27,7 +27,7 @@ use Rattle.lock_free.specs.declared.reading.Passed.TheVariants as passed
 use Rattle.lock_free.specs.declared.reading.Way.{Way}
 use Rattle.lock_free.specs.declared.rules.View.{View}
 use Rattle.lock_free.specs.Accounts.{place_of, IsOwn}
-use Rattle.lock_free.specs.Exchanging.{IsNamed, IsNamedOrGone, IsPendingOver, IsLinkTo}
+use Rattle.lock_free.specs.Exchanging.{IsNamed, IsNamedOrGone, IsLinkTo}
 use Rattle.lock_free.specs.Loading.{now, seen, Runs, IsUsed, IsSound}
 use Rattle.lock_free.specs.Nodes.{SaysShape}
 use Rattle.lock_free.specs.OfReads.{read_to}

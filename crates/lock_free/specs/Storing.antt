@@ -10,8 +10,7 @@ use Rattle.lock_free.specs.declared.accounts.Account.{Account}
 use Rattle.lock_free.specs.declared.rules.View.{View}
 use Rattle.lock_free.specs.declared.stores.Tried.{Tried}
 use Rattle.lock_free.specs.declared.stores.Tried.TheVariants as tried
-use Rattle.lock_free.specs.Accounts.{state_of}
-use Rattle.lock_free.specs.Loading.{Moment, now, seen, IsAt, IsSound, Waited, Took}
+use Rattle.lock_free.specs.Loading.{now, IsAt, IsSound, Waited, Took}
 use Rattle.lock_free.specs.Making.{over_of, with_draft, with_slot, Drafted, DraftsNode, made_by}
 use Rattle.lock_free.specs.Nodes.{class_of}
 use Rattle.lock_free.specs.Places.{words_in, words_of, part_of, taken_word}

@@ -1,5 +1,5 @@
 -- A SWAP, from its first line to what comes after it.
-use Rattle.std.specs.Prelude.{◌≡◌, ℕ, Bool, true, false, [], Some}
+use Rattle.std.specs.Prelude.{◌≡◌, ℕ, Bool, true, false, []}
 use Rattle.trie_words.specs.declared.links.Link.{Link}
 use Rattle.machine_model.specs.Beneath.slot_arena.specs.declared.refs.Ref.{Ref}
 use Rattle.machine_model.specs.Beneath.slot_arena.specs.declared.nodes.Node.{Node}

@@ -1,4 +1,4 @@
-use Rattle.std.proofs.Common.{◌+◌, ◌*◌, ◌==◌, [], ◌∷◌, Contains, sym, subst, ap, arith, ◌∙◌}
+use Rattle.std.proofs.Common.{◌*◌, ◌==◌, [], ◌∷◌, Contains, sym, subst, ap, arith, ◌∙◌}
 use Rattle.std.proofs.lemmas.List.Elements.{Contains-get_or}
 use Rattle.trie_words.specs.Codes.{header_code}
 use Rattle.lock_free.specs.Exchanging.{decided_header, HasDecided}
@@ -18,8 +18,8 @@ compare_exchange-requires c =
       c.requires.table,
       (both_inside c.args.words.now.table_id.words v c.requires.sound main c.args.main live place).0,
       exchange_by c.args.words.now.key c.args.words.now.table_id.slots c.args.actor.now.id c.args.actor.now.me (2 * c.args.main) (header_code c.args.header) (header_code (decided_header c.args.is_licensed c.args.header))
-      c.to_word-pending.result c.to_word-decided.result c.to_word-pending.ensures (c.to_word-decided.ensures ∙ ap header_code c.once_decided.ensures)
-      (decide_allowed c.args.words.now.key c.args.words.now.table_id.slots c.args.actor.now.id c.args.actor.now.me c.args.main c.args.header c.requires.fits c.args.is_licensed c.requires.deciding),
+          c.to_word-pending.result c.to_word-decided.result c.to_word-pending.ensures (c.to_word-decided.ensures ∙ ap header_code c.once_decided.ensures)
+          (decide_allowed c.args.words.now.key c.args.words.now.table_id.slots c.args.actor.now.id c.args.actor.now.me c.args.main c.args.header c.requires.fits c.args.is_licensed c.requires.deciding),
     )
 
 pub returns-clause-decided : goal.returns-clause-decided

@@ -1,4 +1,4 @@
-use Rattle.std.proofs.Common.{◌+◌, ◌*◌, ◌/◌, refl, sym, subst}
+use Rattle.std.proofs.Common.{◌*◌, refl, sym, subst}
 use Rattle.lock_free.specs.Loading.{IsSound, HasSeenMain}
 use Rattle.lock_free.proofs.Looking.{saw, seen_main}
 use Rattle.lock_free.proofs.Moments.{load_allowed}

@@ -1,4 +1,3 @@
-use Rattle.std.proofs.Common.{true, false, refl}
 use Rattle.lock_free.proofs.Settles.{held, former_small, restore_ready, puts_back, missed_it}
 use Rattle.lock_free.proofs.reading.put_back.Goals as goal
 

@@ -1,9 +1,9 @@
-use Rattle.std.proofs.Common.{◌+◌, ◌*◌, ◌<◌, ◌≤◌, ◌==◌, sym, ap, subst, arith, ◌∙◌}
+use Rattle.std.proofs.Common.{◌+◌, ◌*◌, ◌<◌, ◌==◌, sym, ap, subst, arith, ◌∙◌}
 use mathlib.Core.Option.{none}
 use prog.Atomic.{either}
 use Rattle.atomic_table.specs.Table.{Allows, step}
 use Rattle.lock_free.specs.Loading.{IsSound}
-use Rattle.lock_free.specs.Places.{part_of, slots_in, words_in, taken_word, words_of, first_slot_word}
+use Rattle.lock_free.specs.Places.{part_of, slots_in, words_in}
 use Rattle.lock_free.specs.Rules.{IsKept}
 use Rattle.lock_free.specs.Storing.{has_taken}
 use Rattle.lock_free.proofs.OwnSlots.{take_allowed, taken_sound}
@@ -15,13 +15,12 @@ compare_exchange-requires c =
     let size = c.requires.sound.size in
     let class = c.requires.class in
     let word = c.taken_word_of-word.ensures in
-    let me = c.args.actor.now.me in
-    (
+    let me = c.args.actor.now.me in (
       c.requires.table,
       omega (arith, size, class, word),
       subst (λ w. Allows (IsKept c.args.words.now.key) c.args.words.now.table_id.slots c.args.actor.now.id me w (λ n. either (n == c.peek-count.result) (c.peek-count.result + 1) n)
-      (has_taken (step c.args.words.now.table_id.slots w c.peek-count.result (c.peek-count.result + 1) none) me)) (sym word)
-      (take_allowed c.args.words.now.key c.args.words.now.table_id.slots c.args.actor.now.id me c.args.class c.requires.class c.peek-count.result few),
+          (has_taken (step c.args.words.now.table_id.slots w c.peek-count.result (c.peek-count.result + 1) none) me)) (sym word)
+          (take_allowed c.args.words.now.key c.args.words.now.table_id.slots c.args.actor.now.id me c.args.class c.requires.class c.peek-count.result few),
     )
 
 pub returns-clause-sound : goal.returns-clause-sound

@@ -1,4 +1,4 @@
-use Rattle.lock_free.proofs.SwapSteps.{publish_ready, missed, read_ready, way_w, header_ready, commits, fails, pending_not, failed_not}
+use Rattle.lock_free.proofs.SwapSteps.{missed, read_ready, way_w, header_ready, commits, fails, pending_not, failed_not}
 use Rattle.lock_free.proofs.swapping.swap.Goals as goal
 
 pub returns-then-not-publish-clause-done : goal.returns-then-not-publish-clause-done
