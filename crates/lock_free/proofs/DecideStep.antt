@@ -44,11 +44,13 @@ use Rattle.lock_free.proofs.Moments.{allowed, took_by, its_place}
 use Rattle.lock_free.proofs.Verdicts.{o, runs, main_is, shape_now, previous_now, case_is, Case, was_pending, was_decided}
 
 -- what an exchange writes over a header that is pending
-verdict_says : (licensed : Bool) (verdict : Prev) (says : Previous) (name : Name) (replaced : Ref) → says ≡ previous.Pending name → verdict ≡ (if licensed then prev.None else prev.Failed replaced) → decided_previous licensed says ≡ says_then verdict says
+verdict_says : (licensed : Bool) (verdict : Prev) (says : Previous) (name : Name) (replaced : Ref) → says ≡ previous.Pending name → verdict ≡ (if licensed then prev.None else prev.Failed replaced) →
+    decided_previous licensed says ≡ says_then verdict says
 verdict_says true verdict says name replaced is v = ap (λ x. says_then x says) (sym v)
 verdict_says false verdict says name replaced is v = ap (decided_previous false) is ∙ ap (says_then (prev.Failed replaced)) (sym is) ∙ ap (λ x. says_then x says) (sym v)
 
-module _ (v : View) (i main replaced : Ref) (told : Option ℕ) (p : IsAt v (act.Decide i main replaced told)) (name : ℕ) (place : place_of v.account main ≡ name) (header : Header) (fits : IsHeader header)
+module _ (v : View) (i main replaced : Ref) (told : Option ℕ) (p : IsAt v (act.Decide i main replaced told)) (name : ℕ) (place : place_of v.account main ≡ name) (header : Header)
+    (fits : IsHeader header)
     (over : IsPendingOver v i main replaced header) (licensed : Bool) (license : is_licensed (now v).heap i told ≡ licensed) where
   abbrev word : ℕ
   word = 2 * name
@@ -89,7 +91,8 @@ module _ (v : View) (i main replaced : Ref) (told : Option ℕ) (p : IsAt v (act
     Left = Leaves v s kept id at word old new
 
     module _ (d : Decides v.sizes there v.actor (o v word found m i main replaced told p its_word header fits over) main replaced)
-        (verdict : d.verdict ≡ (if is_licensed (state_of v.sizes there).heap i told then prev.None else prev.Failed replaced)) (same : d.slot ≡ (main_is v word found m i main replaced told p its_word header fits over).0.slot)
+        (verdict : d.verdict ≡ (if is_licensed (state_of v.sizes there).heap i told then prev.None else prev.Failed replaced))
+            (same : d.slot ≡ (main_is v word found m i main replaced told p its_word header fits over).0.slot)
         (stands : main_at (state_of v.sizes there).heap i ≡ main) where
       here : kept.stands (slot_of main) ≡ true
       here = kept.nodes.live main (main_is v word found m i main replaced told p its_word header fits over).0.lives
@@ -105,7 +108,8 @@ module _ (v : View) (i main replaced : Ref) (told : Option ℕ) (p : IsAt v (act
       shape_is : (says : Shape) → SaysShape there (slot_of main) d.slot.node says → says ≡ header.shape
       shape_is says h = shape_now v word found m i main replaced told p its_word header fits over says (subst (λ (x : Slot). SaysShape there (slot_of main) x.node says) same h)
 
-      says : (h : SaysHeader there (state_of v.sizes there) (slot_of main) d.slot (slice_index s.words (2 * place_of there main))) → new ≡ header_code (record { previous = says_then d.verdict h.previous; shape = h.shape })
+      says : (h : SaysHeader there (state_of v.sizes there) (slot_of main) d.slot (slice_index s.words (2 * place_of there main))) → new ≡ header_code
+          (record { previous = says_then d.verdict h.previous; shape = h.shape })
       says h =
           ap (λ x. header_code (record { previous = x; shape = header.shape }))
           (verdict_says licensed d.verdict header.previous over.name replaced over.says (verdict ∙ ap (λ b. if b then prev.None else prev.Failed replaced) (same_license ∙ license))
@@ -118,11 +122,13 @@ module _ (v : View) (i main replaced : Ref) (told : Option ℕ) (p : IsAt v (act
       decided_so : found ≡ old → Left
       decided_so e = (
         subst (λ ws. IsKept v.sizes (record { words = ws; homes = s.homes; views = set s.views id after })) (words_hit v s kept id at word old new e (2 * place_of there main) at_place)
-            (decide_kept v.sizes s kept id v at (o v word found m i main replaced told p its_word header fits over) (runs v word found m i main replaced told p its_word header fits over) main replaced d here is_main new says),
+            (decide_kept v.sizes s kept id v at (o v word found m i main replaced told p its_word header fits over)
+                (runs v word found m i main replaced told p its_word header fits over) main replaced d here is_main new says),
         (
           sound_by v s kept id at (gone_on v.actor there) kept.stands _
               (all_then v.sizes there v.actor (o v word found m i main replaced told p its_word header fits over) main replaced d kept.stands s.words (all_stand v.sizes s kept) here is_main new says),
-          took_by v s kept id at (o v word found m i main replaced told p its_word header fits over) (runs v word found m i main replaced told p its_word header fits over) (gone_on v.actor there) d.own,
+          took_by v s kept id at (o v word found m i main replaced told p its_word header fits over) (runs v word found m i main replaced told p its_word header fits over)
+              (gone_on v.actor there) d.own,
         ),
       )
 
@@ -143,7 +149,8 @@ module _ (v : View) (i main replaced : Ref) (told : Option ℕ) (p : IsAt v (act
         by (was_decided reads differs pending) = pending ∙ sym (ne_eqb found old differs)
 
 module _ (v : View) (name : ℕ) (header : Header) (fits : IsHeader header) (licensed : Bool) (is_at : IsAtDecide v name header licensed) where
-  abbrev it_leaves : (s : Table.State Call View) (kept : IsKept v.sizes s) (id : ℕ) (at : get_elem? s.views id ≡ some v) → Leaves v s kept id at (2 * name) (header_code header) (header_code (decided_header licensed header))
+  abbrev it_leaves : (s : Table.State Call View) (kept : IsKept v.sizes s) (id : ℕ) (at : get_elem? s.views id ≡ some v) → Leaves v s kept id at (2 * name) (header_code header)
+      (header_code (decided_header licensed header))
   it_leaves s kept id at = leaves v is_at.0 is_at.1 is_at.2 is_at.3 is_at.4 name is_at.5 header fits is_at.6 licensed is_at.7 s kept id at
 
 pub decide_allowed : (sizes : Sizes) (size id : ℕ) (me : Me Call View) (name : ℕ) (header : Header) (fits : IsHeader header) (licensed : Bool) (is_at : IsAtDecide me.0 name header licensed) →
@@ -160,13 +167,15 @@ decided_of (act.Decide i main replaced told) = (i, (main, (replaced, told)))
 decided_of action = (no_ref, (no_ref, (no_ref, None)))
 
 -- what the seat is told
-pub decide_told : (before : View) (name : ℕ) (header : Header) (fits : IsHeader header) (licensed : Bool) (is_at : IsAtDecide before name header licensed) (found : ℕ) (after : View) → HasGone before (2 * name) found after →
+pub decide_told : (before : View) (name : ℕ) (header : Header) (fits : IsHeader header) (licensed : Bool) (is_at : IsAtDecide before name header licensed) (found : ℕ) (after : View) → HasGone before
+    (2 * name) found after →
     HasDecided before (found == header_code header) after
 decide_told before name header fits licensed is_at found after g = (
   went before name (2 * name) found after g,
   λ i main replaced told p.
       (let same = ap decided_of (same_action before (act.Decide is_at.0 is_at.1 is_at.2 is_at.3) (act.Decide i main replaced told) is_at.4 p) in
-      let result : (is_pending (prev_at (state_of before.sizes g.0.kept.account).heap is_at.1) is_at.2 ≡ (found == header_code header)) × (is_licensed (state_of before.sizes g.0.kept.account).heap is_at.0 is_at.3 ≡ is_licensed (now before).heap is_at.0 is_at.3) = (
+      let result : (is_pending (prev_at (state_of before.sizes g.0.kept.account).heap is_at.1) is_at.2 ≡ (found == header_code header)) ×
+          (is_licensed (state_of before.sizes g.0.kept.account).heap is_at.0 is_at.3 ≡ is_licensed (now before).heap is_at.0 is_at.3) = (
         stood_by before is_at.0 is_at.1 is_at.2 is_at.3 is_at.4 name is_at.5 header fits is_at.6 licensed is_at.7 g.0.table g.0.kept g.0.id g.0.at ∙ ap (λ n. n == header_code header) g.0.finds,
         same_license before is_at.0 is_at.1 is_at.2 is_at.3 is_at.4 name is_at.5 header fits is_at.6 licensed is_at.7 g.0.table g.0.kept g.0.id g.0.at,
       ) in

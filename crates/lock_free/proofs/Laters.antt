@@ -121,7 +121,8 @@ module _ (v w : View) (l : Later v w) where
     main_used = used_later main k.main_used;
   }
 
-  kept_shape : (k : Ref) (n : Node) (s : Shape) → ((r : Ref) → Contains (refs_of_node n) r → (slot : Slot) × IsUsed v r slot) → SaysShape v.account (slot_of k) n s → SaysShape w.account (slot_of k) n s
+  kept_shape : (k : Ref) (n : Node) (s : Shape) → ((r : Ref) → Contains (refs_of_node n) r → (slot : Slot) × IsUsed v r slot) → SaysShape v.account (slot_of k) n s → SaysShape w.account
+      (slot_of k) n s
   kept_shape k n s used (of_branch bitmap entries) = of_branch bitmap entries
   kept_shape k n s used (of_tomb single own is) =
       let u = used single (Contains-get_or (single ∷ []) 0 single (omega arith)) in
@@ -143,7 +144,8 @@ module _ (v w : View) (l : Later v w) where
       }
 
   pub pending_later : (i main replaced : Ref) (header : Header) → KnowsPending v i main replaced header → KnowsPending w i main replaced header
-  pending_later i main replaced header k = record { main_is = main_later main header k.main_is; name = k.name; says = k.says; names = named_later i replaced k.name k.used k.names; used = used_later replaced k.used }
+  pending_later i main replaced header k = record { main_is = main_later main header k.main_is; name = k.name; says = k.says; names = named_later i replaced k.name k.used k.names;
+      used = used_later replaced k.used }
 
 pub pending_over : (v : View) (i main replaced : Ref) (header : Header) → KnowsPending v i main replaced header → IsPendingOver v i main replaced header
 pending_over v i main replaced header k = record { name = k.name; says = k.says; names = k.names; slot = k.main_is.slot; stores = k.main_is.used; is_shape = k.main_is.is_shape }

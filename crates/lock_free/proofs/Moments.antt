@@ -82,7 +82,8 @@ entry_named (Tomb single) r c = c
 entry_named (Listed singles) r c = c
 
 -- what is an entry of a live main node is live
-pub entry_lives : (sizes : Sizes) (account : Account) (main r : Ref) (slot : Slot) → IsLive (state_of sizes account) main → get_or (state_of sizes account).heap.slots (slot_of main) None ≡ Some slot → Contains (entries_of slot.node) r →
+pub entry_lives : (sizes : Sizes) (account : Account) (main r : Ref) (slot : Slot) → IsLive (state_of sizes account) main → get_or (state_of sizes account).heap.slots
+    (slot_of main) None ≡ Some slot → Contains (entries_of slot.node) r →
     IsLive (state_of sizes account) r
 unfolding stored
 entry_lives sizes account main r slot live is c =
@@ -174,7 +175,8 @@ module _ (v : View) (s : Table.State Call View) (kept : IsKept v.sizes s) (id : 
       (entry_lives v.sizes there main r now_is.0 x.1 now_is.1 (subst (λ xs. Contains xs r) (sym (same_entries slot.node now_is.0.node now_is.2)) e))
 
   -- its operation's step was taken where it then is on the next line
-  pub took_by : (o : Operation) → running v.sizes there v.actor o → (account : Account) → operation_of (state_of v.sizes account) v.actor ≡ Some (operation_after (state_of v.sizes there) o) → Took v there (seen v account)
+  pub took_by : (o : Operation) → running v.sizes there v.actor o → (account : Account) → operation_of (state_of v.sizes account) v.actor ≡ Some (operation_after (state_of v.sizes there) o) →
+      Took v there (seen v account)
   took_by o runs account own q runs_q = own ∙ ap (λ x. Some (operation_after (state_of v.sizes there) x)) (same_Some o q (sym runs ∙ runs_q))
 
   -- ---- a load that is no step
@@ -207,7 +209,8 @@ module _ (v : View) (s : Table.State Call View) (kept : IsKept v.sizes s) (id : 
       assembled v.sizes s kept id v at seen_view refl refl there kept.stands s.words (all_stand v.sizes s kept)
       (λ handle who low says. closing_stays v.sizes s kept id v at seen_view refl refl (λ h e. e) refl handle who (kept.closings handle who low says)) seen_seat
       (λ other w e apart. kept.seats other w e) (λ b n f. inl f)
-      (numbers_stay v.sizes s kept id v at seen_view refl refl there s.words (no_tries there.offers (state_of v.sizes there)) (λ slot none. none) (λ handle low. refl) refl (λ slot handle e free. free))
+      (numbers_stay v.sizes s kept id v at seen_view refl refl there s.words (no_tries there.offers (state_of v.sizes there)) (λ slot none. none) (λ handle low. refl) refl
+          (λ slot handle e free. free))
 
   -- ---- a load that is the operation's step
 
@@ -228,7 +231,8 @@ module _ (v : View) (s : Table.State Call View) (kept : IsKept v.sizes s) (id : 
     gone_kept = kept_then v.sizes s kept id v at o_there here.1 reads
 
     pub gone_sound : IsSound (words_of v.sizes) gone_view
-    gone_sound = record { size = refl; range = kept.range.within; bounds = reads.bounds; counted = kept.counted ∙ sym reads.births; inside = λ k slot e. kept.nodes.inside k slot (sym (reads.nodes k) ∙ e); free = free_inside }
+    gone_sound = record { size = refl; range = kept.range.within; bounds = reads.bounds; counted = kept.counted ∙ sym reads.births; inside = λ k slot e. kept.nodes.inside k slot
+        (sym (reads.nodes k) ∙ e); free = free_inside }
 
     pub gone_took : Took v there gone_view
     gone_took = took_by o_there here.1 (gone_on v.actor there) reads.own
@@ -249,7 +253,8 @@ module _ (sizes : Sizes) (size id : ℕ) (me : Me Call View) (word : ℕ) where
         ((record { table = s; kept = kept; id = id; at = at; finds = refl }, refl), (waited_so me.0 s kept id at).sound, refl),
       ))
 
-  pub go_allowed : (o : Operation) → running me.0.sizes me.0.account me.0.actor o → IsReading (action_of (now me.0) o) → Allows (IsKept sizes) size id me word (λ n. n) (has_gone (step size word 0 0 none) me)
+  pub go_allowed : (o : Operation) → running me.0.sizes me.0.account me.0.actor o → IsReading (action_of (now me.0) o) → Allows (IsKept sizes) size id me word (λ n. n)
+      (has_gone (step size word 0 0 none) me)
   go_allowed o runs reading =
       allowed sizes size id me word (λ n. n) (has_gone (step size word 0 0 none) me)
       (λ s kept at. (

@@ -22,7 +22,8 @@ use Rattle.lock_free.proofs.Taking.{take_kept, same_class}
 
 -- ---- a word is written
 
-pub draft_allowed : (sizes : Sizes) (size id : ℕ) (me : Me Call View) (word value : ℕ) → IsOwnWord me.0 word → Allows (IsKept sizes) size id me word (λ n. value) (λ n. has_drafted (step size word value 0 none) me value)
+pub draft_allowed : (sizes : Sizes) (size id : ℕ) (me : Me Call View) (word value : ℕ) → IsOwnWord me.0 word → Allows (IsKept sizes) size id me word (λ n. value)
+    (λ n. has_drafted (step size word value 0 none) me value)
 draft_allowed sizes size id me word value (class, name, free, low, high) =
     allowed sizes size id me word (λ n. value) (λ n. has_drafted (step size word value 0 none) me value)
     (λ s kept at. (drafted me.0 word value, draft_kept me.0.sizes s kept id me.0 at class name free word (record { low = low; high = high }) value, refl))
@@ -60,7 +61,8 @@ module _ (sizes : Sizes) (size id : ℕ) (me : Me Call View) (class : ℕ) (smal
 
   module _ (s : Table.State Call View) (kept : IsKept v.sizes s) (at : get_elem? s.views id ≡ some v) where
     abbrev Taken : Type 0
-    Taken = (w : View) × IsKept v.sizes (record { words = set s.words word (either (slice_index s.words word == count) (count + 1) (slice_index s.words word)); homes = s.homes; views = set s.views id w })
+    Taken = (w : View) × IsKept v.sizes (record { words = set s.words word (either (slice_index s.words word == count) (count + 1) (slice_index s.words word)); homes = s.homes;
+        views = set s.views id w })
         × has_taken (step size word count (count + 1) none) me (slice_index s.words word) (w, me.1)
 
     took : slice_index s.words word ≡ count → Taken
@@ -98,7 +100,8 @@ module _ (sizes : Sizes) (size id : ℕ) (me : Me Call View) (class : ℕ) (smal
   pub take_allowed : Allows (IsKept sizes) size id me word (λ n. either (n == count) (count + 1) n) (has_taken (step size word count (count + 1) none) me)
   take_allowed = allowed sizes size id me word (λ n. either (n == count) (count + 1) n) (has_taken (step size word count (count + 1) none) me) (λ s kept at. taken_or_lost s kept at)
 
-pub taken_sound : (words : ℕ) (v : View) (class count name : ℕ) → class < 3 → count < slots_in v.sizes class → 2 * name ≡ part_of v.sizes class + words_in class * count → IsSound words v → IsSound words (with_free v class name)
+pub taken_sound : (words : ℕ) (v : View) (class count name : ℕ) → class < 3 → count < slots_in v.sizes class → 2 * name ≡ part_of v.sizes class + words_in class * count → IsSound words v →
+    IsSound words (with_free v class name)
 taken_sound words v class count name small few is h =
     record { size = h.size; range = h.range; bounds = h.bounds; counted = h.counted; inside = h.inside; free = λ b n f. free_then b n f.0 (was_free v.pool class name small b n f.0 f.1) }
   where

@@ -61,7 +61,8 @@ module _ (account : Account) (state : State) (k : ℕ) where
   abbrev Says : (Ref → Prev) → Prev → Name → Type 0
   Says kind p name = (q : Ref) × (own : Bool) × (p ≡ kind q) × IsOver account state k q own × (name ≡ record { slot = place_of account q; own = own })
 
-  pending_says : (p : Prev) (says : Previous) (name : Name) → says ≡ previous.Pending name → ((j a f : Ref) → IsAhead state j a f → slot_of f ≢ k) → SaysPrevious account state k p says → Says prev.Pending p name
+  pending_says : (p : Prev) (says : Previous) (name : Name) → says ≡ previous.Pending name → ((j a f : Ref) → IsAhead state j a f → slot_of f ≢ k) → SaysPrevious account state k p says →
+      Says prev.Pending p name
   pending_says p says name e met (decided nobody) = absurd (omega (arith, (ap kind_in e)))
   pending_says p says name e met (ahead i a f own h its owned) = absurd (met i a f h its)
   pending_says p says name e met (pending q own over) = (q, own, refl, over, ap name_in (sym e))
@@ -105,7 +106,8 @@ module _ (n m : ℕ) (before after : View) (sound : IsSound n before) (then : Is
           main_used = (h.used.0, same (slot_of h.main) ∙ h.used.1);
         } in (
           h.main,
-          came before after i read.Main reading (went_later n before sound m after then w) w (Goes (read.Prev h.main)) (λ o r. ap (λ z. Goes (read.Prev z)) (main_is state i h.slot h.stores ∙ ap main_of h.is_link)),
+          came before after i read.Main reading (went_later n before sound m after then w) w (Goes (read.Prev h.main))
+              (λ o r. ap (λ z. Goes (read.Prev z)) (main_is state i h.slot h.stores ∙ ap main_of h.is_link)),
           subst (λ z. KnowsLink z i h.main link) (sym w.after_is) known,
         )
 
@@ -167,7 +169,8 @@ module _ (n m : ℕ) (before after : View) (sound : IsSound n before) (then : Is
     former_used q c = used_now q (h.used q (Contains-append_right (refs_of_node h.slot.node) (refs_of_prev h.slot.prev) q c))
 
     -- it has failed, so the one before it is to be put back
-    pub failed_come : (name : Name) → header.previous ≡ previous.Failed name → (q : Ref) × HasCome (Goes (read.Restore main q)) before after × IsNamedOrGone after i main q name × IsPlaced after q name.slot
+    pub failed_come : (name : Name) → header.previous ≡ previous.Failed name → (q : Ref) × HasCome (Goes (read.Restore main q)) before after × IsNamedOrGone after i main q name ×
+        IsPlaced after q name.slot
     failed_come name e =
         let x = failed_says account state (slot_of main) h.slot.prev header.previous name e h.is_previous in
         let q = x.0 in

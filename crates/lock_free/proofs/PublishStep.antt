@@ -45,7 +45,8 @@ use Rattle.lock_free.proofs.Moments.{IsThere, free_inside, allowed, took_by, wai
 use Rattle.lock_free.proofs.PublishedAll.{all_then}
 use Rattle.lock_free.proofs.PublishedKept.{publish_kept}
 
-module _ (v : View) (i replaced made : Ref) (p : IsAt v (act.Publish i replaced made)) (name : ℕ) (place : place_of v.account i ≡ name) (link : Link) (fits : IsLink link) (is : IsLinkTo v i replaced link)
+module _ (v : View) (i replaced made : Ref) (p : IsAt v (act.Publish i replaced made)) (name : ℕ) (place : place_of v.account i ≡ name) (link : Link) (fits : IsLink link)
+    (is : IsLinkTo v i replaced link)
     (fresh : ℕ) (fresh_place : place_of v.account made ≡ fresh) where
   abbrev does : Action
   does = act.Publish i replaced made
@@ -129,7 +130,8 @@ module _ (v : View) (i replaced made : Ref) (p : IsAt v (act.Publish i replaced 
 
       swaps : found ≡ old → Left swapped
       swaps e = (
-        subst (λ ws. IsKept v.sizes (record { words = ws; homes = s.homes; views = set s.views id swapped })) (ap (set s.words (2 * place_of there i)) new_is ∙ words_hit v s kept id at word old new e (2 * place_of there i) at_place)
+        subst (λ ws. IsKept v.sizes (record { words = ws; homes = s.homes; views = set s.views id swapped }))
+            (ap (set s.words (2 * place_of there i)) new_is ∙ words_hit v s kept id at word old new e (2 * place_of there i) at_place)
             (publish_kept v.sizes s kept id v at o runs i replaced made r here),
         (
           sound_by v s kept id at (swapped_in v.actor i made there) kept.stands _ (all_then v.sizes there v.actor o i replaced made r kept.stands s.words (all_stand v.sizes s kept) here),
@@ -155,7 +157,8 @@ module _ (v : View) (i replaced made : Ref) (p : IsAt v (act.Publish i replaced 
     free_then : (b n : ℕ) → b < 3 → Contains (pool_of v.pool b) n ⊎ WasOf v s kept id at (λ q. Contains o.private q) b n → 2 * n + words_in b ≤ words_of v.sizes
     free_then b n low (inl old) = free_inside v s kept id at b n (low, old)
     free_then b n low (inr w) =
-        subst (λ c. 2 * n + words_in c ≤ words_of v.sizes) w.class (subst (λ x. 2 * x + words_in (class_of w.slot.node) ≤ words_of v.sizes) w.place (kept.nodes.inside (slot_of w.node) w.slot w.stood.1))
+        subst (λ c. 2 * n + words_in c ≤ words_of v.sizes) w.class (subst (λ x. 2 * x + words_in (class_of w.slot.node) ≤ words_of v.sizes) w.place
+            (kept.nodes.inside (slot_of w.node) w.slot w.stood.1))
 
     module _ (leads : Leads v.sizes there (gone_on v.actor there) v.actor (is_one_of o.private) (operation_after state o)) where
       abbrev GivenUp : ℕ → ℕ → Type 0
@@ -169,10 +172,12 @@ module _ (v : View) (i replaced made : Ref) (p : IsAt v (act.Publish i replaced 
       drops : found ≢ old → Left dropped
       drops differs = (
         subst (λ ws. IsKept v.sizes (record { words = ws; homes = s.homes; views = set s.views id dropped })) (words_miss v s kept id at word old new differs)
-            (drop_kept v.sizes s kept id v at o (operation_after state o) runs (machine.Go v.actor) tt (λ a d e. d (sym e)) (is_one_of o.private) leads refl refl (given_back state there o.private v.pool) fit.once fit.more
+            (drop_kept v.sizes s kept id v at o (operation_after state o) runs (machine.Go v.actor) tt (λ a d e. d (sym e)) (is_one_of o.private) leads refl refl
+                (given_back state there o.private v.pool) fit.once fit.more
             (λ b n low c. was_given b n (fit.which b n low c))),
         (
-          record { size = refl; range = kept.range.within; bounds = leads.bounds; counted = kept.counted ∙ sym leads.births; inside = λ k slot e. kept.nodes.inside k slot (sym (leads.nodes k) ∙ e); free = λ b n f. free_then b n f.0 (fit.which b n f.0 f.1) },
+          record { size = refl; range = kept.range.within; bounds = leads.bounds; counted = kept.counted ∙ sym leads.births; inside = λ k slot e. kept.nodes.inside k slot (sym (leads.nodes k) ∙ e);
+              free = λ b n f. free_then b n f.0 (fit.which b n f.0 f.1) },
           λ q runs_q. leads.own ∙ ap (λ x. Some (operation_after state x)) (same_Some o q (sym runs ∙ runs_q)),
         ),
       )
@@ -198,7 +203,8 @@ published_in (act.Publish i replaced made) = (i, (replaced, made))
 published_in action = (no_ref, (no_ref, no_ref))
 
 swapped_so : (before : View) (account : Account) (stood : Bool) (after : View) (i replaced made : Ref) (p : IsAt before (act.Publish i replaced made)) →
-    (main_at (now (seen before account)).heap i == replaced) ≡ stood → (stood ≡ true → after ≡ seen before (swapped_in before.actor i made account)) → (stood ≡ false → after ≡ given_up before account p.operation.private) →
+    (main_at (now (seen before account)).heap i == replaced) ≡ stood → (stood ≡ true → after ≡ seen before (swapped_in before.actor i made account)) →
+        (stood ≡ false → after ≡ given_up before account p.operation.private) →
     HasSwapped before account stood after
 swapped_so before account stood after i replaced made p first hit_is miss_is j other g q =
     let same = ap published_in (same_action before (act.Publish i replaced made) (act.Publish j other g) p q) in (
@@ -234,5 +240,6 @@ publish_allowed sizes size id me name link fits fresh (i, replaced, made, p, pla
     )))
 
 -- what the seat is told
-pub publish_told : (before : View) (word found : ℕ) (old : ℕ) (after : View) → (m : Moment before word found) × Took before m.kept.account after × HasSwapped before m.kept.account (found == old) after → HasPublished before (found == old) after
+pub publish_told : (before : View) (word found : ℕ) (old : ℕ) (after : View) → (m : Moment before word found) × Took before m.kept.account after × HasSwapped before m.kept.account
+    (found == old) after → HasPublished before (found == old) after
 publish_told before at says expected after (m, took, swapped_or_not) = (m.kept.account, waited_so before m.table m.kept m.id m.at, took, swapped_or_not)

@@ -118,7 +118,8 @@ module _ (v : View) (i main former : Ref) (p : IsAt v (act.Restore i main former
 
       put_back : found ≡ old → Leaves v s kept id at word old new
       put_back e = (
-        subst (λ ws. IsKept v.sizes (record { words = ws; homes = s.homes; views = set s.views id after })) (ap (set s.words (2 * place_of there i)) new_is ∙ words_hit v s kept id at word old new e (2 * place_of there i) at_place)
+        subst (λ ws. IsKept v.sizes (record { words = ws; homes = s.homes; views = set s.views id after }))
+            (ap (set s.words (2 * place_of there i)) new_is ∙ words_hit v s kept id at word old new e (2 * place_of there i) at_place)
             (restore_kept v.sizes s kept id v at o runs i main former r here former_name.own owned),
         (
           sound_by v s kept id at (gone_on v.actor there) kept.stands _ (all_then v.sizes there v.actor o i main former r kept.stands s.words (all_stand v.sizes s kept) here former_name.own owned),
@@ -157,7 +158,8 @@ restored_in (act.Restore i main former) = (i, main)
 restored_in action = (no_ref, no_ref)
 
 -- what the seat is told
-pub restore_told : (before : View) (name : ℕ) (link : Link) (fits : IsLink link) (former : Name) → IsAtRestore before name link former → (found : ℕ) (after : View) → HasGone before (2 * name) found after →
+pub restore_told : (before : View) (name : ℕ) (link : Link) (fits : IsLink link) (former : Name) → IsAtRestore before name link former → (found : ℕ) (after : View) → HasGone before
+    (2 * name) found after →
     HasRestored before (found == link_code link) after
 restore_told before name link fits former (i, main, replaced, p, place, is, names) found after g = (
   went before name (2 * name) found after g,

@@ -74,7 +74,8 @@ module _ (before middle : View) (way : Way) (link : Link) (header : Header) (lic
         let x = g.1 i main replaced told.0 (at_read middle i (read.Decide main replaced told.0) deciding) in
         come_on before middle after (read.Decide main replaced told.0) (after_decide main (verdict_by licensed stood)) told.1
         (came middle after i (read.Decide main replaced told.0) deciding its_later g.0 (after_decide main (verdict_by licensed stood))
-        (λ o r. ap (λ a. after_decide main (verdict_by a (is_pending (prev_at (now (seen middle g.0.account)).heap main) replaced))) (x.1 ∙ told.2) ∙ ap (λ b. after_decide main (verdict_by licensed b)) x.0))
+        (λ o r. ap (λ a. after_decide main (verdict_by a (is_pending (prev_at (now (seen middle g.0.account)).heap main) replaced))) (x.1 ∙ told.2) ∙ ap
+            (λ b. after_decide main (verdict_by licensed b)) x.0))
 
     link_then : KnowsLink after i main link
     link_then = link_later middle after its_later i main link link_now
@@ -86,7 +87,8 @@ module _ (before middle : View) (way : Way) (link : Link) (header : Header) (lic
     same_link j y reading = (reading_one before i j (pending_line way.access main replaced) y pending.3 reading).0
 
     -- it is committed, and given
-    pub commits : licensed ≡ true → stood ≡ true → (j : Ref) (y : ReadLine) → IsReading before j y → HasGiven before j (record { link = link; header = record { previous = previous.None; shape = header.shape } }) after
+    pub commits : licensed ≡ true → stood ≡ true → (j : Ref) (y : ReadLine) → IsReading before j y → HasGiven before j
+        (record { link = link; header = record { previous = previous.None; shape = header.shape } }) after
     commits a b j y reading =
         subst (λ k. HasGiven before k (record { link = link; header = record { previous = previous.None; shape = header.shape } }) after) (same_link j y reading)
         (record {
@@ -177,7 +179,8 @@ module _ (before : View) (indirection : ℕ) (link : Link) (former : Name) (f : 
     header_mid =
         let used = f.7.0 in
         let o = at_it.operation in
-        let stands = main_stands before.sizes before.account sound.bounds before.actor o at_it.runs old (subst (λ a. Contains (mains_of a) old) (sym at_it.acts) (Contains-get_or (main0 ∷ old ∷ []) 1 old (omega arith))) in
+        let stands = main_stands before.sizes before.account sound.bounds before.actor o at_it.runs old
+            (subst (λ a. Contains (mains_of a) old) (sym at_it.acts) (Contains-get_or (main0 ∷ old ∷ []) 1 old (omega arith))) in
         let is = same_Some stands.1.0 used.0 (sym stands.1.1 ∙ used.1) in
         let v = seen before g.0.account in
         let x = later0.nodes old used.0 used.1 in
@@ -216,7 +219,8 @@ module _ (before : View) (indirection : ℕ) (link : Link) (former : Name) (f : 
           absurd (gone_stays middle.sizes middle.actor middle.account r.0.account r.0.waited.waited r.0.waited.sound.bounds at_mid.operation at_mid.runs i0 main0 old at_mid.acts gone
           (eqb-true (main_at (now (seen middle r.0.account)).heap i0) main0 (stood_is ∙ e)))
 
-      pub puts_back : stood ≡ true → (j : Ref) (y : ReadLine) → IsReading before j y → HasGiven before j (record { link = record { generation = link.generation; main = former }; header = header }) after
+      pub puts_back : stood ≡ true → (j : Ref) (y : ReadLine) → IsReading before j y → HasGiven before j
+          (record { link = record { generation = link.generation; main = former }; header = header }) after
       puts_back e j y reading =
           let link_end = link_later middle after later1 i0 main0 link link_mid in
           subst (λ z. HasGiven before z (record { link = record { generation = link.generation; main = former }; header = header }) after)

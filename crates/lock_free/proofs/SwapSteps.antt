@@ -54,7 +54,8 @@ abbrev parts_in : Line → Purpose × Ref
 parts_in (line.Swap why s) = (why, s.fresh)
 parts_in l = (purpose.Clean, no_ref)
 
-not_none : (account : Account) (state : State) (k : ℕ) (p : Prev) (says : Previous) → says ≢ previous.None → ((j b c : Ref) → IsAhead state j b c → slot_of c ≢ k) → SaysPrevious account state k p says → is_none p ≡ false
+not_none : (account : Account) (state : State) (k : ℕ) (p : Prev) (says : Previous) → says ≢ previous.None → ((j b c : Ref) → IsAhead state j b c → slot_of c ≢ k) →
+    SaysPrevious account state k p says → is_none p ≡ false
 not_none account state k p says isnt met (decided nobody) = absurd (isnt refl)
 not_none account state k p says isnt met (ahead i b c own h its owned) = absurd (met i b c h its)
 not_none account state k p says isnt met (pending q own over) = refl

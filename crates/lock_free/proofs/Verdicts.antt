@@ -81,7 +81,8 @@ pending_says account state k p says r is (pending q own over) =
 pending_says account state k p says r is (failed q own over) = absurd (failed_pending q r is)
 
 -- the code of a pending one is no other's
-other_code : (account : Account) (state : State) (k : ℕ) (p : Prev) (says : Previous) (name : Name) → IsName name → ((r : Ref) → p ≡ prev.Pending r → ⊥) → ((j a f : Ref) → IsAhead state j a f → slot_of f ≢ k) → SaysPrevious account state k p says →
+other_code : (account : Account) (state : State) (k : ℕ) (p : Prev) (says : Previous) (name : Name) → IsName name → ((r : Ref) → p ≡ prev.Pending r → ⊥) →
+    ((j a f : Ref) → IsAhead state j a f → slot_of f ≢ k) → SaysPrevious account state k p says →
     previous_code says ≢ previous_code (previous.Pending name)
 other_code account state k p says name fits over nobody (decided h) e = absurd (omega (arith, e))
 other_code account state k p says name fits over nobody (ahead i a f own h its owned) e = nobody i a f h its
@@ -130,7 +131,8 @@ module _ (v : View) (word found : ℕ) (m : Moment v word found) (i main replace
   unfolding stored
   places r c =
       live_place v m.table m.kept m.id m.at r
-      (from_slot main r main_is.0.was_live (subst (λ x. Contains (refs_of_slot x) r) (sym over.stores) (Contains-append_left (refs_of_node over.slot.node) (refs_of_prev over.slot.prev) r (subst (λ n. Contains (refs_of_node n) r) same_node c))))
+      (from_slot main r main_is.0.was_live (subst (λ x. Contains (refs_of_slot x) r) (sym over.stores)
+          (Contains-append_left (refs_of_node over.slot.node) (refs_of_prev over.slot.prev) r (subst (λ n. Contains (refs_of_node n) r) same_node c))))
 
   -- it is what the header says
   pub shape_now : (s : Shape) → SaysShape account (slot_of main) slot.node s → s ≡ header.shape
@@ -143,7 +145,8 @@ module _ (v : View) (word found : ℕ) (m : Moment v word found) (i main replace
   pub previous_now : (says : Previous) → slot.prev ≡ prev.Pending replaced → main_at state.heap i ≡ main → SaysPrevious account state (slot_of main) slot.prev says → says ≡ header.previous
   previous_now says is stands h =
       let x = pending_says account state (slot_of main) slot.prev says replaced is h in
-      let own = m.kept.nodes.owners.once (slot_of i) (slot_of replaced) x.0 over.name.own (x.1 i (ap slot_of stands)) (still_own v m.table m.kept m.id m.at (slot_of i) (slot_of replaced) over.name.own over.names.is_own) in
+      let own = m.kept.nodes.owners.once (slot_of i) (slot_of replaced) x.0 over.name.own (x.1 i (ap slot_of stands))
+          (still_own v m.table m.kept m.id m.at (slot_of i) (slot_of replaced) over.name.own over.names.is_own) in
       x.2 ∙ ap (λ n. previous.Pending (record { slot = n; own = x.0 })) (its_place v m.table m.kept m.id m.at replaced former_is ∙ over.names.place)
       ∙ ap (λ b. previous.Pending (record { slot = over.name.slot; own = b })) own ∙ sym over.says
 
@@ -164,7 +167,8 @@ module _ (v : View) (word found : ℕ) (m : Moment v word found) (i main replace
 
   -- either it was pending, and its header was this one, or it wasn't
   pub data Case : Type 0 where
-    was_pending : (d : Decides v.sizes account v.actor o main replaced) → d.verdict ≡ (if is_licensed state.heap i told then prev.None else prev.Failed replaced) → d.slot ≡ slot → main_at state.heap i ≡ main →
+    was_pending : (d : Decides v.sizes account v.actor o main replaced) → d.verdict ≡ (if is_licensed state.heap i told then prev.None else prev.Failed replaced) → d.slot ≡ slot →
+        main_at state.heap i ≡ main →
         found ≡ header_code header → is_pending (prev_at state.heap main) replaced ≡ true → Case
     was_decided : Reads v.sizes account v.actor o → found ≢ header_code header → is_pending (prev_at state.heap main) replaced ≡ false → Case
 
