@@ -24,6 +24,7 @@ mod GivenBack
 mod PublishStep
 mod OwnSlots
 mod MakeStep
+mod RootMade
 mod ReadSteps
 mod ReadAgain
 mod Laters

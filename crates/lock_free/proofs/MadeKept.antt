@@ -127,7 +127,7 @@ module _ (sizes : Sizes) (s : Table.State Call View) (kept : IsKept sizes s) (id
     root_taken : (b n : ℕ) → b < 3 → IsTaken sizes s.words b n → IsTaken sizes root_words b n
     root_taken b n low h = record { number = h.number; few = subst (λ m. h.number < m) (sym (beside (taken_word b) (λ e. absurd (omega (arith, e))))) h.few; first = h.first }
 
-    root_made : AllStand sizes (made_at v.actor name own node kept.account) (stands_too (length kept.account.names) kept.stands) root_words
+    pub root_made : AllStand sizes (made_at v.actor name own node kept.account) (stands_too (length kept.account.names) kept.stands) root_words
     root_made =
         all_then sizes kept.account v.actor operation name own node 1 makes kept.stands s.words all root_spare.0 root_spare.1 small root_drafted root_words
         (length-set s.words generation_word (given_out + 1) ∙ kept.size)

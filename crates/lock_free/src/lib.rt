@@ -23,8 +23,8 @@ pub use loads::{
 pub use offers::{abort, complete};
 pub use reading::{AsksRoot, Given, Passed, Way, read, read_within};
 pub use rules::{
-    Closing, Completes, Drafts, Goes, Makes, Pool, Publishes, Rule, Sees, Takes, View,
+    Closing, Completes, Drafts, Goes, Makes, MakesRoot, Pool, Publishes, Rule, Sees, Takes, View,
 };
 pub use sizes::Sizes;
-pub use stores::{Tried, draft, make, try_take};
+pub use stores::{Tried, draft, make, make_root, try_take};
 pub use swapping::{Swapped, swap};

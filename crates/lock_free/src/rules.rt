@@ -4,7 +4,7 @@ ghost use Rattle.lock_free.specs.Rules.{IsKept, first_view};
 ghost use Rattle.lock_free.specs.Loading.{has_seen, has_gone};
 ghost use Rattle.lock_free.specs.Exchanging.{has_published};
 ghost use Rattle.lock_free.specs.OfferWords.{has_completed};
-ghost use Rattle.lock_free.specs.Storing.{has_drafted, has_made, has_taken};
+ghost use Rattle.lock_free.specs.Storing.{has_drafted, has_made, has_made_root, has_taken};
 
 use crate::accounts::Account;
 use crate::sizes::Sizes;
@@ -108,4 +108,11 @@ pub struct Makes;
 
 impl Play<Call, View> for Makes {
     ghost then = { has_made };
+}
+
+/// The root that was written becomes one of the machine's, or doesn't.
+pub struct MakesRoot;
+
+impl Play<Call, View> for MakesRoot {
+    ghost then = { has_made_root };
 }
