@@ -131,5 +131,6 @@ nodes_go = found.nodes_go
 -- a pending main node that is read stands in the indirection
 pub pending_stands : (sizes : Sizes) (account : Account) → AreBounds (bounds_for sizes account.steps) → (actor : ℕ) (operation : Operation) → running sizes account actor operation →
     (i main replaced : Ref) →
-    read_of operation.line ≡ Some (record { indirection = i; line = read.Prev main }) → prev_at (state_of sizes account).heap main ≡ prev.Pending replaced → main_at (state_of sizes account).heap i ≡ main
+    read_of operation.line ≡ Some (record { indirection = i; line = read.Prev main }) → prev_at (state_of sizes account).heap main ≡ prev.Pending replaced →
+    main_at (state_of sizes account).heap i ≡ main
 pending_stands = found.pending_stands

@@ -87,6 +87,14 @@ node_claimed K (Single key value) f = f
 node_claimed K (Tomb single) f = f
 node_claimed K (Listed singles) f = subst (Are K) (sym (append-nil singles.items)) f
 
+-- and the other way round
+pub refs_claimed : (K : Ref → Type 0) (node : Node) → Are K (refs_of_claims (node_wants node)) → Are K (refs_of_node node)
+refs_claimed K (Indirection generation main) h r c = h r c
+refs_claimed K (Branch bitmap entries) h r c = h r (Contains-append_left entries.items [] r c)
+refs_claimed K (Single key value) h r c = h r c
+refs_claimed K (Tomb single) h r c = h r c
+refs_claimed K (Listed singles) h r c = h r (Contains-append_left singles.items [] r c)
+
 pub prev_claimed : (K : Ref → Type 0) (p : Prev) → Are K (refs_of_prev p) → Are K (refs_of_claims (prev_wants p))
 prev_claimed K prev.None f = f
 prev_claimed K (prev.Pending p) f = f

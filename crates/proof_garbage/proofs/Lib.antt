@@ -13,3 +13,6 @@ pub mod Gone
 pub mod First
 pub mod Swaps
 pub mod GivenUp
+pub mod Grace
+pub mod Epochs
+pub mod PutBack

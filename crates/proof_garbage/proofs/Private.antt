@@ -1,5 +1,5 @@
 -- What is private to an operation no root leads to, and no other operation.
-use Rattle.std.proofs.Common.{◌≡◌, ℕ, zero, suc, List, Contains, get_or, Option, Some, None, refl, sym, ap, ◌∙◌, subst, ◌⊎◌, inl, inr}
+use Rattle.std.proofs.Common.{◌≡◌, ℕ, suc, List, Contains, get_or, Option, Some, None, refl, sym, ap, ◌∙◌, subst, ◌⊎◌, inl, inr}
 use Rattle.std.proofs.lemmas.Option.{none-some}
 use Rattle.std.proofs.lemmas.List.Elements.{Contains-push_cases, All-contains}
 use Rattle.proof_garbage.specs.Beneath.slot_arena.specs.declared.refs.Ref.{Ref}
@@ -22,6 +22,7 @@ use Rattle.proof_garbage.specs.Beneath.machine_model.specs.Moves.{Moves, Begins,
 use Rattle.proof_garbage.specs.Beneath.machine_model.specs.Grown.{standing}
 use Rattle.proof_garbage.specs.Beneath.machine_model.proofs.Actors.{IsOf, is_of, mark_only, marks_in, marks_by, of_others, of_itself, of_begin, of_end, of_giving_up}
 use Rattle.proof_garbage.specs.Beneath.machine_model.proofs.Along.{along}
+use Rattle.proof_garbage.specs.Beneath.machine_model.proofs.Fates.{place_of_actor}
 use Rattle.proof_garbage.specs.Beneath.machine_model.proofs.Found.{none_found}
 use Rattle.proof_garbage.specs.Beneath.proof_memory.specs.Wants.{AllHold, action_wants}
 use Rattle.proof_garbage.specs.Beneath.proof_memory.specs.Laws.{IsInUse}
@@ -34,11 +35,12 @@ use Rattle.proof_garbage.specs.Beneath.proof_memory.proofs.Safety.States.{IsSafe
 use Rattle.proof_garbage.specs.Beneath.proof_memory.proofs.Safety.Steps.{step_claims}
 use Rattle.proof_garbage.specs.Beneath.proof_generations.proofs.Roots.OfLists.{has_handles_along}
 use Rattle.proof_garbage.specs.Beneath.proof_generations.proofs.Offers.Same.{same_offer}
+use Rattle.proof_garbage.specs.Grace.{MayMakeKnown}
 use Rattle.proof_garbage.specs.Live.{IsKnown}
 use Rattle.proof_garbage.proofs.Claims.{none_in}
 use Rattle.proof_garbage.proofs.Known.{known_used}
 use Rattle.proof_garbage.proofs.Step.{WasKnown, Counts, step_known}
-use Rattle.proof_garbage.proofs.Unknown.{MayMakeKnown, old_known}
+use Rattle.proof_garbage.proofs.Unknown.{old_known}
 use Rattle.proof_garbage.proofs.Restoring.{failed_over}
 
 -- the other operations
@@ -98,14 +100,10 @@ module _ (limits : Bounds) (ok : AreBounds limits) (steps : List Step) where
       own_private (act.MakeRoot main) a x c = made (λ p. subst MayMakeKnown a p) (next_ref state.heap) refl x c
       own_private action a x c = kept (λ p. subst MayMakeKnown a p) x c
 
-    place : (actor : ℕ) (operation : Operation) → operation_of state actor ≡ Some operation → (j : ℕ) × (actor ≡ suc j) × (get_or state.actors j None ≡ Some operation)
-    place zero operation is = absurd (none-some operation is)
-    place (suc j) operation is = (j, refl, is)
-
     counts : (s : Step) (k : ℕ) (was : Operation) → get_or state.actors k None ≡ Some was → (IsOf (suc k) s → ⊥) → Counts state I (Others was.id) s
     counts (step.Begin actor call) k was at_k other = tt
     counts (step.Go actor) k was at_k other = λ operation is g same.
-        let (j, own, at_j) = place actor operation is in
+        let (j, own, at_j) = place_of_actor state actor operation is in
         other (own ∙ ap suc ((has_handles_along limits steps).0.ids.distinct j k operation was at_j at_k same))
     counts step.Sweep k was at_k other = tt
     counts (step.GiveUp actor) k was at_k other = tt

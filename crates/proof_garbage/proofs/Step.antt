@@ -2,7 +2,6 @@
 use Rattle.std.proofs.Common.{◌≡◌, ℕ, zero, suc, [], ◌∷◌, ◌++◌, Contains, map, get_or, Option, Some, None, is_some, true, refl, sym, ap, ◌∙◌, subst, arith, ◌⊎◌, inl, inr}
 use Rattle.std.proofs.lemmas.Bool.{cases_eq, or_cases}
 use Rattle.std.proofs.lemmas.Option.{none-some, same_Some}
-use Rattle.std.proofs.lemmas.List.Elements.{Contains-append_left}
 use Rattle.proof_garbage.specs.Beneath.history.specs.declared.calls.Call.{Call}
 use Rattle.proof_garbage.specs.Beneath.history.specs.declared.calls.Call.TheVariants.{Close, Entries, Count}
 use Rattle.proof_garbage.specs.Beneath.slot_arena.specs.declared.refs.Ref.{Ref}
@@ -51,7 +50,7 @@ use Rattle.proof_garbage.specs.Beneath.proof_memory.proofs.Safety.Held.{word_ref
 use Rattle.proof_garbage.specs.Beneath.proof_memory.proofs.Safety.States.{IsSafe, stands_in_use}
 use Rattle.proof_garbage.specs.Beneath.proof_memory.proofs.Safety.Steps.{made_fresh, of_actor, safe_after}
 use Rattle.proof_garbage.specs.Live.{refs_of_claims, line_claims, at_hand, IsKnown, from_root, from_operation, from_slot}
-use Rattle.proof_garbage.proofs.Claims.{Are, none_in, one_in, both_in, first_of, last_of, from_all, refs_held}
+use Rattle.proof_garbage.proofs.Claims.{Are, none_in, one_in, both_in, first_of, last_of, from_all, refs_claimed, refs_held}
 use Rattle.proof_garbage.proofs.Known.{known_used, slot_known, heaped_known, words_known, line_known, privates_known, action_known}
 
 -- ---- what stands in slots after an effect
@@ -80,13 +79,6 @@ module _ (K : Ref → Type 0) (heap : Heap) (f g : Ref → Option Slot) (b c : �
   pub prev_slot : (p : Prev) (slot : Slot) → Are K (refs_of_slot (Some slot)) → Are K (refs_of_prev p) → Are K (refs_of_slot (Some (prev_changed p slot)))
   prev_slot p slot h k = both_in K (refs_of_node slot.node) (refs_of_prev p) (first_of K (refs_of_node slot.node) (refs_of_prev slot.prev) h) k
 
-  node_refs_of : (node : Node) → Are K (refs_of_claims (node_wants node)) → Are K (refs_of_node node)
-  node_refs_of (Indirection generation main) h r c = h r c
-  node_refs_of (Branch bitmap entries) h r c = h r (Contains-append_left entries.items [] r c)
-  node_refs_of (Single key value) h r c = h r c
-  node_refs_of (Tomb single) h r c = h r c
-  node_refs_of (Listed singles) h r c = h r (Contains-append_left singles.items [] r c)
-
   prev_refs_of : (p : Prev) → Are K (refs_of_claims (prev_wants p)) → Are K (refs_of_prev p)
   prev_refs_of prev.None h = h
   prev_refs_of (prev.Pending p) h = h
@@ -94,7 +86,7 @@ module _ (K : Ref → Type 0) (heap : Heap) (f g : Ref → Option Slot) (b c : �
 
   fresh_refs : (slot : Slot) → AllHold K heap (node_wants slot.node) → slot.prev ≡ prev.None → Are K (refs_of_slot (Some slot))
   fresh_refs slot h e =
-      both_in K (refs_of_node slot.node) (refs_of_prev slot.prev) (node_refs_of slot.node (refs_held K heap (node_wants slot.node) h)) (subst (λ p. Are K (refs_of_prev p)) (sym e)
+      both_in K (refs_of_node slot.node) (refs_of_prev slot.prev) (refs_claimed K slot.node (refs_held K heap (node_wants slot.node) h)) (subst (λ p. Are K (refs_of_prev p)) (sym e)
       (λ r c. none_in r c))
 
   pub slots_by : Effect (AllHold K heap) f g b c None → (q : Ref) (slot : Slot) → Was q → g q ≡ Some slot → Are K (refs_of_slot (Some slot))

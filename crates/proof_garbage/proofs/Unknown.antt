@@ -41,17 +41,18 @@ use Rattle.proof_garbage.specs.Beneath.proof_memory.proofs.Safety.Guards.{Safe}
 use Rattle.proof_garbage.specs.Beneath.proof_memory.proofs.Safety.States.{IsSafe}
 use Rattle.proof_garbage.specs.Beneath.proof_memory.proofs.Safety.Steps.{step_claims, safe_after}
 use Rattle.proof_garbage.specs.Beneath.proof_generations.specs.Laws.Roots.{settles}
+use Rattle.proof_garbage.specs.Grace.{MayMakeKnown}
 use Rattle.proof_garbage.specs.Live.{at_hand, IsKnown, from_root, from_operation, from_slot}
 use Rattle.proof_garbage.proofs.Claims.{Are, none_in, one_in, first_of, last_of}
 use Rattle.proof_garbage.proofs.Known.{known_used, slot_known, heaped_known}
 use Rattle.proof_garbage.proofs.Step.{main_slot, prev_slot}
 use Rattle.proof_garbage.specs.Beneath.machine_model.proofs.Grown.{standing_parts}
 
--- the actions that may make known to others what was not: only these put references where others find them that stood neither there nor next to it
-abbrev pub MayMakeKnown : Action → Type 0
-MayMakeKnown (act.Publish indirection replaced fresh) = Unit {0}
-MayMakeKnown (act.Offer offer) = Unit {0}
-MayMakeKnown action = ⊥
+-- what a test finds pending is so
+pub pending_is : (p : Prev) (previous : Ref) → is_pending p previous ≡ true → p ≡ prev.Pending previous
+pending_is prev.None previous e = absurd (false≢true e)
+pending_is (prev.Failed x) previous e = absurd (false≢true e)
+pending_is (prev.Pending x) previous e = ap prev.Pending (eqb-true x previous e)
 
 module _ (state : State) (I : IsSafe state) (P : ℕ → Type 0) (actor k : ℕ) (operation : Operation) (is : operation_of state actor ≡ Some operation)
     (found : get_or state.actors k None ≡ Some operation) (old : P operation.id → ⊥)
@@ -141,11 +142,6 @@ module _ (state : State) (I : IsSafe state) (P : ℕ → Type 0) (actor k : ℕ)
             (main_slot K state.heap (standing state.heap) (standing state.heap) 0 0 slots_before previous was (slots_before i was known_i at_i) known_previous)
         | inr other ↦ slots_before q slot k (sym (main_other state.heap i previous was at_i q other) ∙ stands)
       ]
-
-  pending_is : (p : Prev) (previous : Ref) → is_pending p previous ≡ true → p ≡ prev.Pending previous
-  pending_is prev.None previous e = absurd (false≢true e)
-  pending_is (prev.Failed x) previous e = absurd (false≢true e)
-  pending_is (prev.Pending x) previous e = ap prev.Pending (eqb-true x previous e)
 
   verdict_fails : (a b : Bool) → verdict_by a b ≡ Fails → b ≡ true
   verdict_fails true true e = refl

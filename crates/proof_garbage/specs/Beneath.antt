@@ -1,5 +1,6 @@
 -- What lies below this crate, named through the nearest crate alone: crates.txt lists only this one, since the toolchain goes along each of its paths.
 pub use Rattle.proof_generations as proof_generations
+pub use Rattle.proof_generations.specs.Beneath.ctrie_base as ctrie_base
 pub use Rattle.proof_generations.specs.Beneath.slot_arena as slot_arena
 pub use Rattle.proof_generations.specs.Beneath.epochs as epochs
 pub use Rattle.proof_generations.specs.Beneath.history as history

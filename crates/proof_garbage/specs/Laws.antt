@@ -42,6 +42,6 @@ PrivateUnknown =
 abbrev pub FreshIsAlone : Type 0
 FreshIsAlone =
     (limits : Bounds) (steps : List Step) (actor : ℕ) (operation : Operation) (why : Purpose) (indirection replaced fresh : Ref) → AreBounds limits →
-        operation_of (run limits steps) actor ≡ Some operation →
+    operation_of (run limits steps) actor ≡ Some operation →
     operation.line ≡ line.Swap why (swapping indirection replaced fresh) →
     Contains operation.private fresh × (prev_at (run limits steps).heap fresh ≡ prev.None) × ((q : Ref) → ¬ Contains (refs_of_slot (stored (run limits steps).heap q)) fresh)

@@ -1,3 +1,4 @@
 pub mod Beneath
 pub mod Live
 pub mod Laws
+pub mod Grace

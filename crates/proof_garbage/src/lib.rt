@@ -3,4 +3,7 @@
 
 mod laws;
 
-pub use laws::{fresh_is_alone, garbage_stays, live_in_use, named_are_held, private_unknown};
+pub use laws::{
+    dead_after_grace, fresh_is_alone, garbage_stays, grace_alone_is_too_little, live_in_use,
+    named_are_held, private_unknown, two_epochs_are_grace,
+};

@@ -27,6 +27,7 @@ use Rattle.proof_memory.proofs.Heap.Under.{prev_here, prev_other}
 use Rattle.proof_memory.proofs.Safety.AtEachTime.{safe_along}
 use Rattle.proof_memory.proofs.Safety.AtTimes.{action_finds}
 use Rattle.proof_waiting.specs.Beneath.proof_slots.proofs.Unswept.Kept.{one_ref}
+use Rattle.proof_garbage.proofs.Unknown.{pending_is}
 use Rattle.proof_garbage.proofs.Fresh.{deciding_over, deciding_stands, deciding_met}
 use Rattle.lock_free.specs.declared.accounts.Account.{Account}
 use Rattle.lock_free.specs.declared.sizes.Sizes.{Sizes}
@@ -57,11 +58,6 @@ prev_used heap m p (was, stands) r (slot, now) = elim (cases_eq r m) [
   | inl same ↦ subst (IsInUse heap) (sym same) (was, stands)
   | inr apart ↦ (slot, sym (prev_other heap m p was stands r apart) ∙ now)
 ]
-
-pending_is : (p : Prev) (previous : Ref) → is_pending p previous ≡ true → p ≡ prev.Pending previous
-pending_is prev.None previous e = absurd (false≢true e)
-pending_is (prev.Failed x) previous e = absurd (false≢true e)
-pending_is (prev.Pending x) previous e = ap prev.Pending (eqb-true x previous e)
 
 pending_so : (p : Prev) (q previous : Ref) → p ≡ prev.Pending q → q ≡ previous → is_pending p previous ≡ false → ⊥
 pending_so p q previous pending same e = eqb-false q previous (sym (ap (λ x. is_pending x previous) pending) ∙ e) same

@@ -40,7 +40,7 @@ use Rattle.proof_memory.proofs.Safety.AtTimes.{line_finds}
 use Rattle.proof_memory.proofs.Safety.States.{IsSafe}
 use Rattle.proof_memory.proofs.Safety.Standing.{in_root, in_any_slot}
 use Rattle.proof_memory.proofs.Safety.Steps.{made_heap}
-use Rattle.proof_garbage.proofs.Claims.{Are, refs_held}
+use Rattle.proof_garbage.proofs.Claims.{Are, refs_claimed, refs_held}
 use Rattle.proof_garbage.proofs.First.{first_decided}
 use Rattle.proof_garbage.proofs.Known.{action_known, known_used, line_known}
 use Rattle.proof_waiting.specs.Beneath.proof_slots.specs.Unswept.{HasNoSweeps}
@@ -62,14 +62,6 @@ use Rattle.lock_free.proofs.OneStep.MadeMains.{made_main_decided}
 use Rattle.lock_free.proofs.OneStep.Met.{known_met}
 use Rattle.lock_free.proofs.OneStep.Offers.{stood_used}
 use Rattle.lock_free.proofs.OneStep.Taking as taking
-
--- what a node names is what it claims
-refs_claimed : (K : Ref → Type 0) (node : Node) → Are K (refs_of_claims (node_wants node)) → Are K (refs_of_node node)
-refs_claimed K (Indirection generation main) h r c = h r c
-refs_claimed K (Branch bitmap entries) h r c = h r (Contains-append_left entries.items [] r c)
-refs_claimed K (Single key value) h r c = h r c
-refs_claimed K (Tomb single) h r c = h r c
-refs_claimed K (Listed singles) h r c = h r (Contains-append_left singles.items [] r c)
 
 -- the claims of an action that makes this node are the node's
 node_claims : (state : State) (S : Ref → Type 0) (heap : Heap) (action : Action) (node : Node) → made_node state action ≡ Some node → AllHold S heap (action_wants action) →
