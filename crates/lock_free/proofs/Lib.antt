@@ -64,3 +64,4 @@ mod Allowed
 mod AbortStep
 mod CompleteStep
 mod SeenRoots
+mod EndStep

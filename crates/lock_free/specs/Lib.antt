@@ -20,3 +20,4 @@ pub mod OfferWords
 pub mod HandleWords
 pub mod OfReads
 pub mod Passing
+pub mod SeatWords

@@ -4,6 +4,7 @@ ghost use Rattle.lock_free.specs.Rules.{IsKept, first_view};
 ghost use Rattle.lock_free.specs.Loading.{has_seen, has_gone};
 ghost use Rattle.lock_free.specs.Exchanging.{has_published};
 ghost use Rattle.lock_free.specs.OfferWords.{has_completed};
+ghost use Rattle.lock_free.specs.SeatWords.{has_ended};
 ghost use Rattle.lock_free.specs.Storing.{has_drafted, has_made, has_taken};
 
 use crate::accounts::Account;
@@ -87,6 +88,13 @@ pub struct Completes;
 
 impl Play<Call, View> for Completes {
     ghost then = { has_completed };
+}
+
+/// An operation ends.
+pub struct Ends;
+
+impl Play<Call, View> for Ends {
+    ghost then = { has_ended };
 }
 
 /// A word of a free slot is written.
