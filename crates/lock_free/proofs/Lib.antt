@@ -65,3 +65,4 @@ mod AbortStep
 mod CompleteStep
 mod SeenRoots
 mod EndStep
+mod PinStep

@@ -3,6 +3,7 @@ use Rattle.history.specs.declared.calls.Call.{Call}
 use Rattle.history.specs.declared.replies.Reply.{Reply}
 use Rattle.std.specs.Prelude.{◌≡◌, ℕ, Option, Some, None}
 use Rattle.atomic_table.specs.Table.{Me, Step}
+use Rattle.trie_words.specs.Codes.{pin_of}
 use Rattle.trie_words.specs.declared.pins.Pin.{Pin}
 use Rattle.machine_model.specs.declared.actions.Action.TheVariants as act
 use Rattle.machine_model.specs.States.{operation_of}
@@ -15,6 +16,14 @@ use Rattle.lock_free.specs.Places.{words_of}
 -- the seat runs nothing
 abbrev pub IsIdle : View → Type 0
 IsIdle v = operation_of (now v) v.actor ≡ None
+
+-- ---- the store by which a seat pins itself, or goes out of a call that it hasn't begun
+
+abbrev pub pinned_to : View → Option Pin → View
+pinned_to v pin = record v { pin = pin; entered = None }
+
+abbrev pub has_pinned : Step Call → Me Call View → ℕ → Me Call View → Type 0
+has_pinned step before found after = after ≡ (pinned_to before.0 (pin_of step.first), before.1)
 
 -- ---- the store of 0 by which an operation ends
 

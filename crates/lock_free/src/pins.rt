@@ -1,18 +1,49 @@
 //! Seats' own words.
 
-ghost use Rattle.std.specs.Prelude.{◌≡◌, ◌≤◌};
+ghost use Rattle.std.specs.Prelude.{◌≡◌, ◌≤◌, Some, None};
+ghost use Rattle.trie_words.specs.Codes.{IsPin};
 ghost use Rattle.lock_free.specs.Loading.{IsSound};
 ghost use Rattle.lock_free.specs.Places.{pin_word};
-ghost use Rattle.lock_free.specs.SeatWords.{IsAtEnd, HasEnded};
+ghost use Rattle.lock_free.specs.SeatWords.{IsAtEnd, IsIdle, HasEnded, pinned_to};
 
 use crate::loads::{Actor, Words};
-use crate::rules::Ends;
+use crate::rules::{Ends, Pins};
+use trie_words::Pin;
 
 /// Which word is this seat's own.
 fn pin_word_of(seat: u8) -> usize
     ensures { result ≡ pin_word seat }
 {
     336 + 16 * seat as usize
+}
+
+/// Pins this seat, which runs nothing.
+pub fn pin(words: &Words, actor: &mut Actor, seat: u8, pin: Pin)
+    requires table { actor.old.table_id ≡ words.now.table_id }
+    requires sound { IsSound words.now.table_id.words actor.old.me.0 }
+    requires its { actor.old.me.0.actor ≡ seat }
+    requires few { actor.old.me.0.actor ≤ actor.old.me.0.sizes.seats }
+    requires idle { IsIdle actor.old.me.0 }
+    requires fits { IsPin pin }
+    ensures table { actor.new.table_id ≡ actor.old.table_id }
+    ensures sound { IsSound words.now.table_id.words actor.new.me.0 }
+    ensures pinned { actor.new.me ≡ (pinned_to actor.old.me.0 (Some pin), actor.old.me.1) }
+{
+    words.store::<Pins>(actor, pin_word_of(seat), pin.to_word());
+}
+
+/// Takes the pin of this seat away, which runs nothing.
+pub fn unpin(words: &Words, actor: &mut Actor, seat: u8)
+    requires table { actor.old.table_id ≡ words.now.table_id }
+    requires sound { IsSound words.now.table_id.words actor.old.me.0 }
+    requires its { actor.old.me.0.actor ≡ seat }
+    requires few { actor.old.me.0.actor ≤ actor.old.me.0.sizes.seats }
+    requires idle { IsIdle actor.old.me.0 }
+    ensures table { actor.new.table_id ≡ actor.old.table_id }
+    ensures sound { IsSound words.now.table_id.words actor.new.me.0 }
+    ensures unpinned { actor.new.me ≡ (pinned_to actor.old.me.0 None, actor.old.me.1) }
+{
+    words.store::<Pins>(actor, pin_word_of(seat), 0);
 }
 
 /// Ends the operation of this seat, which is pinned no more.

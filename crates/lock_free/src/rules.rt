@@ -4,7 +4,7 @@ ghost use Rattle.lock_free.specs.Rules.{IsKept, first_view};
 ghost use Rattle.lock_free.specs.Loading.{has_seen, has_gone};
 ghost use Rattle.lock_free.specs.Exchanging.{has_published};
 ghost use Rattle.lock_free.specs.OfferWords.{has_completed};
-ghost use Rattle.lock_free.specs.SeatWords.{has_ended};
+ghost use Rattle.lock_free.specs.SeatWords.{has_ended, has_pinned};
 ghost use Rattle.lock_free.specs.Storing.{has_drafted, has_made, has_taken};
 
 use crate::accounts::Account;
@@ -88,6 +88,13 @@ pub struct Completes;
 
 impl Play<Call, View> for Completes {
     ghost then = { has_completed };
+}
+
+/// A seat pins itself, or takes its pin away.
+pub struct Pins;
+
+impl Play<Call, View> for Pins {
+    ghost then = { has_pinned };
 }
 
 /// An operation ends.
