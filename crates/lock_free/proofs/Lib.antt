@@ -66,3 +66,4 @@ mod CompleteStep
 mod SeenRoots
 mod EndStep
 mod PinStep
+mod EnterStep

@@ -1,6 +1,9 @@
 -- What accesses of handles' words ask and tell.
-use Rattle.std.specs.Prelude.{◌≡◌, ◌+◌, ◌*◌, ◌≤◌, ◌⊎◌, ℕ, Contains, Some, None}
-use Rattle.trie_words.specs.Codes.{IsRootWord}
+use Rattle.history.specs.declared.calls.Call.{Call}
+use Rattle.std.specs.Prelude.{◌≡◌, ◌+◌, ◌*◌, ◌≤◌, ◌⊎◌, ℕ, Bool, true, false, Contains, Some, None}
+use Rattle.atomic_table.specs.Table.{Me, Step}
+use Rattle.trie_words.specs.Codes.{IsRootWord, root_of}
+use Rattle.trie_words.specs.declared.pins.Pin.{Pin}
 use Rattle.trie_words.specs.declared.roots.RootWord.{RootWord}
 use Rattle.trie_words.specs.declared.roots.RootWord.TheVariants as word
 use Rattle.history.specs.declared.calls.Access.TheVariants.{Writable, ReadOnly}
@@ -11,7 +14,7 @@ use Rattle.lock_free.specs.declared.rules.View.{View}
 use Rattle.lock_free.specs.declared.sizes.Sizes.{Sizes}
 use Rattle.lock_free.specs.Accounts.{state_of}
 use Rattle.lock_free.specs.Loading.{Saw}
-use Rattle.lock_free.specs.Places.{words_of, words_in}
+use Rattle.lock_free.specs.Places.{words_of, words_in, root_word}
 use Rattle.lock_free.specs.Roots.{SaysPlain}
 
 -- an offer for this handle was made in this slot
@@ -44,3 +47,23 @@ TellsRoot sizes account handle (word.Opening slot) = HasOpening sizes account ha
 -- it has seen the word of this handle
 abbrev pub HasSeenRoot : View → ℕ → RootWord → View → Type 0
 HasSeenRoot before handle found after = (s : Saw before after) × IsRootWord found × TellsRoot before.sizes s.account handle found
+
+-- ---- a handle is entered
+
+-- it is open, and nobody would close it
+abbrev pub is_open_word : RootWord → Bool
+is_open_word (word.Writable slot) = true
+is_open_word (word.ReadOnly slot) = true
+is_open_word (word.Offered slot) = true
+is_open_word w = false
+
+abbrev pub entering : View → ℕ → View
+entering v handle = record v { entered = Some handle }
+
+-- a seat enters the handle to which it has pinned itself, where it finds it so
+abbrev pub HasEntered : View → ℕ → RootWord → View → Type 0
+HasEntered before handle found after = (is_open_word found ≡ true → after ≡ entering before handle) × (is_open_word found ≡ false → after ≡ before)
+
+abbrev pub has_entered : Step Call → Me Call View → ℕ → Me Call View → Type 0
+has_entered step before found after =
+    ((pin : Pin) → before.0.pin ≡ Some pin → step.word ≡ root_word pin.handle → HasEntered before.0 pin.handle (root_of found) after.0) × (after.1 ≡ before.1)

@@ -3,6 +3,7 @@
 ghost use Rattle.lock_free.specs.Rules.{IsKept, first_view};
 ghost use Rattle.lock_free.specs.Loading.{has_seen, has_gone};
 ghost use Rattle.lock_free.specs.Exchanging.{has_published};
+ghost use Rattle.lock_free.specs.HandleWords.{has_entered};
 ghost use Rattle.lock_free.specs.OfferWords.{has_completed};
 ghost use Rattle.lock_free.specs.SeatWords.{has_ended, has_pinned};
 ghost use Rattle.lock_free.specs.Storing.{has_drafted, has_made, has_taken};
@@ -95,6 +96,13 @@ pub struct Pins;
 
 impl Play<Call, View> for Pins {
     ghost then = { has_pinned };
+}
+
+/// A handle is entered, if it is open.
+pub struct Enters;
+
+impl Play<Call, View> for Enters {
+    ghost then = { has_entered };
 }
 
 /// An operation ends.
