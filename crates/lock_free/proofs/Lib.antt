@@ -67,3 +67,4 @@ mod SeenRoots
 mod EndStep
 mod PinStep
 mod EnterStep
+mod MarkStep

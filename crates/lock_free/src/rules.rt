@@ -3,7 +3,7 @@
 ghost use Rattle.lock_free.specs.Rules.{IsKept, first_view};
 ghost use Rattle.lock_free.specs.Loading.{has_seen, has_gone};
 ghost use Rattle.lock_free.specs.Exchanging.{has_published};
-ghost use Rattle.lock_free.specs.HandleWords.{has_entered};
+ghost use Rattle.lock_free.specs.HandleWords.{has_entered, has_marked};
 ghost use Rattle.lock_free.specs.OfferWords.{has_completed};
 ghost use Rattle.lock_free.specs.SeatWords.{has_ended, has_pinned};
 ghost use Rattle.lock_free.specs.Storing.{has_drafted, has_made, has_taken};
@@ -103,6 +103,13 @@ pub struct Enters;
 
 impl Play<Call, View> for Enters {
     ghost then = { has_entered };
+}
+
+/// A handle is marked, which a seat would close, or isn't.
+pub struct Marks;
+
+impl Play<Call, View> for Marks {
+    ghost then = { has_marked };
 }
 
 /// An operation ends.
