@@ -68,3 +68,4 @@ mod EndStep
 mod PinStep
 mod EnterStep
 mod MarkStep
+mod PassStep

@@ -23,12 +23,15 @@ use Rattle.lock_free.proofs.Pinning.{pin_kept}
 parts_back : (n epoch handle : ℕ) → n ≡ 1 + handle + 2 ^ 9 * epoch → handle < 2 ^ 9 → ((n - 1) / 2 ^ 9 ≡ epoch) × ((n - 1) % 2 ^ 9 ≡ handle) × (n ≢ 0)
 parts_back n epoch handle is low = (omega (arith, is, low), omega (arith, is, low), λ e. omega (arith, is, e))
 
-pub pin_back : (pin : Pin) → IsPin pin → pin_of (pin_code pin) ≡ Some pin
-pin_back pin fits =
+pub low_back : (pin : Pin) → pin.handle < 2 ^ 9 → pin_of (pin_code pin) ≡ Some pin
+low_back pin low =
     let n = pin_code pin in
-    let parts = parts_back n pin.epoch pin.handle refl fits.1 in
+    let parts = parts_back n pin.epoch pin.handle refl low in
     ap (λ b. if b then None else Some (record { epoch = (n - 1) / 2 ^ 9; handle = (n - 1) % 2 ^ 9 })) (ne_eqb n 0 parts.2) ∙ ap (λ e. Some (record { epoch = e; handle = (n - 1) % 2 ^ 9 })) parts.0
     ∙ ap (λ h. Some (record { epoch = pin.epoch; handle = h })) parts.1
+
+pub pin_back : (pin : Pin) → IsPin pin → pin_of (pin_code pin) ≡ Some pin
+pin_back pin fits = low_back pin fits.1
 
 -- the seat runs nothing yet
 idle_there : (v : View) (s : Table.State Call View) (kept : IsKept v.sizes s) (id : ℕ) → get_elem? s.views id ≡ some v → IsIdle v → operation_of (state_of v.sizes kept.account) v.actor ≡ None

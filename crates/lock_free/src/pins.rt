@@ -1,13 +1,13 @@
 //! Seats' own words.
 
-ghost use Rattle.std.specs.Prelude.{◌≡◌, ◌≤◌, Some, None};
+ghost use Rattle.std.specs.Prelude.{◌≡◌, ◌==◌, ◌||◌, ◌+◌, ◌<◌, ◌≤◌, Some, None};
 ghost use Rattle.trie_words.specs.Codes.{IsPin};
 ghost use Rattle.lock_free.specs.Loading.{IsSound};
 ghost use Rattle.lock_free.specs.Places.{pin_word};
-ghost use Rattle.lock_free.specs.SeatWords.{IsAtEnd, IsIdle, HasEnded, pinned_to};
+ghost use Rattle.lock_free.specs.SeatWords.{IsAtEnd, IsIdle, HasEnded, HasPassed, closes, is_out, pinned_to};
 
 use crate::loads::{Actor, Words};
-use crate::rules::{Ends, Pins};
+use crate::rules::{Ends, Looks, Pins};
 use trie_words::Pin;
 
 /// Which word is this seat's own.
@@ -58,4 +58,44 @@ pub fn finish(words: &Words, actor: &mut Actor, seat: u8)
     ensures ended { HasEnded actor.old.me.0 actor.new.me.0 }
 {
     words.store::<Ends>(actor, pin_word_of(seat), 0);
+}
+
+/// Whether a seat with this pin has no call on the handle.
+fn has_no_call(pin: &Option<Pin>, handle: u16) -> bool
+    ensures { result ≡ is_out handle pin.now }
+{
+    match pin {
+        None => true,
+        Some(pin) => pin.handle != handle,
+    }
+}
+
+/// Whether this seat with this pin has no call on the handle, or is the one that would close it.
+fn is_no_hindrance(pin: &Option<Pin>, handle: u16, seat: u8, own: u8) -> bool
+    ensures { result ≡ (is_out handle pin.now || (seat == own)) }
+{
+    if seat == own {
+        true
+    } else {
+        has_no_call(pin, handle)
+    }
+}
+
+/// Looks at the pin of the next seat, where this one, `own`, would close the handle, has marked it, and has found that so many seats
+/// have no call on it. Returns whether the next one has none either, or is this one.
+pub fn pass(words: &Words, actor: &mut Actor, own: u8, handle: u16, looked: u8) -> bool
+    requires table { actor.old.table_id ≡ words.now.table_id }
+    requires sound { IsSound words.now.table_id.words actor.old.me.0 }
+    requires its { actor.old.me.0.actor ≡ own }
+    requires low { handle < 256 }
+    requires small { looked + 1 < 256 }
+    requires few { looked + 1 ≤ actor.old.me.0.sizes.seats }
+    requires closing { actor.old.me.0.closing ≡ Some (closes handle looked) }
+    ensures table { actor.new.table_id ≡ actor.old.table_id }
+    ensures sound { IsSound words.now.table_id.words actor.new.me.0 }
+    ensures passed { HasPassed actor.old.me.0 handle looked result actor.new.me.0 }
+{
+    let next = looked + 1;
+    let found = words.load::<Looks>(actor, pin_word_of(next));
+    is_no_hindrance(&Pin::of_word(found), handle, next, own)
 }

@@ -5,7 +5,7 @@ ghost use Rattle.lock_free.specs.Loading.{has_seen, has_gone};
 ghost use Rattle.lock_free.specs.Exchanging.{has_published};
 ghost use Rattle.lock_free.specs.HandleWords.{has_entered, has_marked};
 ghost use Rattle.lock_free.specs.OfferWords.{has_completed};
-ghost use Rattle.lock_free.specs.SeatWords.{has_ended, has_pinned};
+ghost use Rattle.lock_free.specs.SeatWords.{has_ended, has_passed, has_pinned};
 ghost use Rattle.lock_free.specs.Storing.{has_drafted, has_made, has_taken};
 
 use crate::accounts::Account;
@@ -110,6 +110,13 @@ pub struct Marks;
 
 impl Play<Call, View> for Marks {
     ghost then = { has_marked };
+}
+
+/// A seat that would close a handle looks at the next seat's pin.
+pub struct Looks;
+
+impl Play<Call, View> for Looks {
+    ghost then = { has_passed };
 }
 
 /// An operation ends.
