@@ -67,3 +67,8 @@ mod Allowed
 mod AbortStep
 mod CompleteStep
 mod SeenRoots
+mod EndStep
+mod PinStep
+mod EnterStep
+mod MarkStep
+mod PassStep
