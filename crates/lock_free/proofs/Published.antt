@@ -136,7 +136,8 @@ module _ (sizes : Sizes) (account : Account) (actor : ℕ) (operation : Operatio
     code = h.code;
   }
 
-  pub fresh_stands : (has : Has) (p : ℕ) (n : Node) → is_main_node n ≡ true → StandsAs account now has p (slot_of f) publishes.fresh n → StandsAs after next has p (slot_of f) (over publishes.fresh a) n
+  pub fresh_stands : (has : Has) (p : ℕ) (n : Node) → is_main_node n ≡ true → StandsAs account now has p (slot_of f) publishes.fresh n → StandsAs after next has p (slot_of f)
+      (over publishes.fresh a) n
   fresh_stands has p (Indirection generation main) m h = absurd (true≢false (sym m))
   fresh_stands has p (Single key value) m h = absurd (true≢false (sym m))
   fresh_stands has p (Branch bitmap entries) m h = ((h.0.0, h.0.1, fresh_header h.0.0 h.0.2), entries_kept has p entries.items h.1)

@@ -26,7 +26,8 @@ module _ (sizes : Sizes) (s : Table.State Call View) (kept : IsKept sizes s) (id
 
   spare_then : (name : ℕ) → IsSpare sizes kept.account kept.stands name → IsSpare sizes (swapped_in v.actor i f kept.account) kept.stands name
   spare_then name h = (
-    λ k slot e. (let b = before sizes kept.account v.actor operation i a f publishes kept.stands s.words all here k slot (which sizes kept.account v.actor operation i a f publishes kept.stands s.words all here k slot e.1) in
+    λ k slot e. (let b = before sizes kept.account v.actor operation i a f publishes kept.stands s.words all here k slot
+        (which sizes kept.account v.actor operation i a f publishes kept.stands s.words all here k slot e.1) in
         h.0 k b.0 (e.0, b.1)),
     h.1,
   )
@@ -38,6 +39,7 @@ module _ (sizes : Sizes) (s : Table.State Call View) (kept : IsKept sizes s) (id
     views = set s.views id (record v { account = swapped_in v.actor i f kept.account });
   })
   publish_kept =
-      node_word_kept sizes s kept id v at operation runs (slot_of i) publishes.link (link_stands sizes kept.account v.actor operation i a f publishes kept.stands s.words all here) (2 * place_of kept.account i)
+      node_word_kept sizes s kept id v at operation runs (slot_of i) publishes.link (link_stands sizes kept.account v.actor operation i a f publishes kept.stands s.words all here)
+          (2 * place_of kept.account i)
       (first_word publishes.link.node (place_of kept.account i)) (new_word sizes kept.account v.actor operation i a f publishes kept.stands s.words all here) (owned_now i f ∷ [])
       (all_then sizes kept.account v.actor operation i a f publishes kept.stands s.words all here) spare_then publishes.roots publishes.others publishes.own publishes.tries
