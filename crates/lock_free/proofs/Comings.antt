@@ -1,9 +1,7 @@
 -- A READ comes from line to line, whichever program it belongs to.
-use Rattle.history.specs.declared.calls.Access.{Access}
-use Rattle.std.proofs.Common.{◌≡◌, ℕ, Bool, true, false, List, ◌++◌, Contains, Some, None, Option, refl, sym, ap, subst, ◌∙◌, arith}
+use Rattle.std.proofs.Common.{◌≡◌, Bool, false, Some, refl, sym, ap, subst, ◌∙◌, arith}
 use Rattle.std.proofs.lemmas.Option.{none-some, same_Some}
 use Rattle.machine_model.specs.Beneath.slot_arena.specs.declared.refs.Ref.{Ref}
-use Rattle.machine_model.specs.declared.actions.Action.{Action}
 use Rattle.machine_model.specs.declared.reading.After.{After}
 use Rattle.machine_model.specs.declared.reading.After.TheVariants.{Goes, Gives}
 use Rattle.machine_model.specs.declared.reading.Read.{Read}
@@ -23,20 +21,19 @@ use Rattle.machine_model.specs.declared.walking.WalkLine.TheVariants as walk
 use Rattle.machine_model.specs.declared.lines.Line.{Line}
 use Rattle.machine_model.specs.declared.lines.Line.TheVariants as line
 use Rattle.machine_model.specs.declared.operations.Operation.{Operation}
-use Rattle.machine_model.specs.Acting.{operation_after}
 use Rattle.machine_model.specs.Calls.{handle_of}
-use Rattle.machine_model.specs.Operations.{action_of, read_of, completing_read, swapping_read}
+use Rattle.machine_model.specs.Operations.{read_of, completing_read, swapping_read}
 use Rattle.machine_model.specs.Reading.{read_action, read_after}
 use Rattle.machine_model.specs.States.{State, word_at}
 use Rattle.lock_free.specs.declared.reading.Way.{Way}
 use Rattle.lock_free.specs.declared.rules.View.{View}
 use Rattle.lock_free.specs.Accounts.{running}
-use Rattle.lock_free.specs.Loading.{now, seen, Runs, IsAt, Waited, Took, Went, Saw}
-use Rattle.lock_free.specs.OfReads.{at_line, on_read, line_by, read_to}
+use Rattle.lock_free.specs.Loading.{now, seen, Runs, IsAt, Went, Saw}
+use Rattle.lock_free.specs.OfReads.{at_line, on_read, read_to}
 use Rattle.lock_free.specs.Passing.{Later, HasCome, IsReading, IsOnWay}
 use Rattle.lock_free.proofs.Laters.{later_self, later_both}
 use Rattle.lock_free.proofs.ReadAgain.{read_again, read_on}
-use Rattle.lock_free.proofs.ReadSteps.{out_of, read_acts, read_leads}
+use Rattle.lock_free.proofs.ReadSteps.{read_acts, read_leads}
 
 -- ---- one operation runs, but for its mark
 
@@ -50,7 +47,7 @@ runs_one v p q (a, x) (b, y) = ap unmarked (same_Some (record p { is_marked = a 
 pub reading_one : (v : View) (i j : Ref) (x y : ReadLine) → IsReading v i x → IsReading v j y → (i ≡ j) × (x ≡ y)
 reading_one v i j x y (p, r, is) (q, s, e) =
     let same : (record { indirection = i; line = x }) ≡ (record { indirection = j; line = y }) =
-        same_Some (record { indirection = i; line = x }) (record { indirection = j; line = y }) (sym is ∙ ap (λ (o : Operation). read_of o.line) (runs_one v p q r s) ∙ e) in
+    same_Some (record { indirection = i; line = x }) (record { indirection = j; line = y }) (sym is ∙ ap (λ (o : Operation). read_of o.line) (runs_one v p q r s) ∙ e) in
     (ap (λ (z : Read). z.indirection) same, ap (λ (z : Read). z.line) same)
 
 -- each operation that runs is in it
@@ -85,8 +82,7 @@ module _ (v w : View) (i : Ref) (x : ReadLine) (reading : IsReading v i x) (late
       goes o (mark, runs) =
           let there = went.waited.stays (record o { is_marked = mark }) runs in
           let o_there : Operation = record o { is_marked = there.0 } in
-          let leads = read_leads state o_there its_read (all_read v i x reading o (mark, runs)) in
-          (
+          let leads = read_leads state o_there its_read (all_read v i x reading o (mark, runs)) in (
             there.0,
             went.took o_there there.1 ∙ ap Some (leads ∙ ap (λ z. read_to z o_there) (is o (mark, runs)) ∙ marked_read out o there.0),
           )

@@ -1,7 +1,6 @@
 -- The exchange of a header is the operation's step, whether it finds the main node pending or not.
 use Rattle.history.specs.declared.calls.Call.{Call}
-use Rattle.std.proofs.Common.{◌≡◌, ◌≢◌, ◌+◌, ◌*◌, ◌^◌, ◌<◌, ◌≤◌, ◌⊎◌, ◌==◌, ℕ, inl, inr, Bool, true, false, List, [], ◌∷◌, Contains, set, get_or, slice_index, Option, Some, None, refl, sym, ap, subst, ◌∙◌, arith, if◌then◌else◌, eq-eqb, ne_eqb}
-use Rattle.std.proofs.lemmas.List.{set-get_or}
+use Rattle.std.proofs.Common.{◌≡◌, ◌*◌, ◌==◌, ℕ, Bool, true, false, [], ◌∷◌, set, slice_index, Option, Some, None, refl, sym, ap, subst, ◌∙◌, arith, if◌then◌else◌, eq-eqb, ne_eqb}
 use Rattle.std.proofs.lemmas.List.Elements.{Contains-get_or}
 use mathlib.Core.Option.{some, none}
 use lib.ListN.{get_elem?}
@@ -14,12 +13,10 @@ use Rattle.trie_words.specs.declared.headers.Previous.{Previous}
 use Rattle.trie_words.specs.declared.headers.Previous.TheVariants as previous
 use Rattle.trie_words.specs.declared.names.Name.{Name}
 use Rattle.machine_model.specs.Beneath.slot_arena.specs.declared.refs.Ref.{Ref}
-use Rattle.machine_model.specs.Beneath.slot_arena.specs.declared.nodes.Node.{Node}
-use Rattle.machine_model.specs.Beneath.slot_arena.specs.declared.nodes.Node.TheVariants.{Indirection, Branch, Single, Tomb, List as Listed}
 use Rattle.machine_model.specs.Beneath.slot_arena.specs.declared.nodes.Prev.{Prev}
 use Rattle.machine_model.specs.Beneath.slot_arena.specs.declared.nodes.Prev.TheVariants as prev
 use Rattle.machine_model.specs.Beneath.slot_arena.specs.declared.nodes.Slot.{Slot}
-use Rattle.machine_model.specs.Beneath.slot_arena.specs.Heaps.{no_ref, node_at, node_of, stored, generation_of, generation_at, prev_at, main_at}
+use Rattle.machine_model.specs.Beneath.slot_arena.specs.Heaps.{no_ref, prev_at, main_at}
 use Rattle.machine_model.specs.Beneath.slot_arena.specs.Refs.{slot_of}
 use Rattle.machine_model.specs.declared.actions.Action.{Action}
 use Rattle.machine_model.specs.declared.actions.Action.TheVariants as act
@@ -27,8 +24,6 @@ use Rattle.std.specs.Option.{option_eq}
 use Rattle.std.proofs.Common.{nat_eq}
 use Rattle.trie_words.specs.declared.headers.Shape.{Shape}
 use Rattle.machine_model.specs.Reading.{is_licensed, is_pending}
-use Rattle.machine_model.specs.States.{State}
-use Rattle.proof_memory.specs.Laws.{SameNode}
 use Rattle.proof_memory.specs.Wants.{is_main_node}
 use Rattle.lock_free.specs.declared.accounts.Account.{Account}
 use Rattle.lock_free.specs.declared.rules.View.{View}
@@ -36,27 +31,26 @@ use Rattle.lock_free.specs.declared.sizes.Sizes.{Sizes}
 use Rattle.lock_free.specs.Accounts.{state_of, place_of, gone_on}
 use Rattle.lock_free.specs.Deciding.{says_then, Decides}
 use Rattle.lock_free.specs.Exchanging.{IsPendingOver, decided_previous, decided_header, IsAtDecide, HasDecided}
-use Rattle.lock_free.specs.Loading.{Moment, now, seen, IsAt, IsSound, Took, HasGone, has_gone}
+use Rattle.lock_free.specs.Loading.{Moment, now, seen, IsAt, HasGone, has_gone}
 use Rattle.lock_free.specs.Nodes.{SaysPrevious, SaysShape, SaysHeader}
-use Rattle.lock_free.specs.Places.{words_of}
 use Rattle.lock_free.specs.Rules.{IsKept}
-use Rattle.lock_free.specs.Steps.{Reads}
-use Rattle.lock_free.proofs.Asked.{links_of, nodes_stay}
-use Rattle.lock_free.proofs.Assembling.{AllStand, all_stand}
+use Rattle.lock_free.proofs.Assembling.{all_stand}
 use Rattle.lock_free.proofs.Decided.{all_then}
 use Rattle.lock_free.proofs.DecidedKept.{decide_kept}
 use Rattle.lock_free.proofs.Exchanged.{AllowsExchange, Leaves, words_hit, missed, sound_by}
 use Rattle.lock_free.proofs.LinkWords.{same_generation}
 use Rattle.lock_free.proofs.Looking.{went, link_there, same_action}
-use Rattle.lock_free.proofs.Moments.{allowed, took_by, seat, its_place}
+use Rattle.lock_free.proofs.Moments.{allowed, took_by, its_place}
 use Rattle.lock_free.proofs.Verdicts.{o, runs, main_is, shape_now, previous_now, case_is, Case, was_pending, was_decided}
 
 -- what an exchange writes over a header that is pending
-verdict_says : (licensed : Bool) (verdict : Prev) (says : Previous) (name : Name) (replaced : Ref) → says ≡ previous.Pending name → verdict ≡ (if licensed then prev.None else prev.Failed replaced) → decided_previous licensed says ≡ says_then verdict says
+verdict_says : (licensed : Bool) (verdict : Prev) (says : Previous) (name : Name) (replaced : Ref) → says ≡ previous.Pending name → verdict ≡ (if licensed then prev.None else prev.Failed replaced) →
+    decided_previous licensed says ≡ says_then verdict says
 verdict_says true verdict says name replaced is v = ap (λ x. says_then x says) (sym v)
 verdict_says false verdict says name replaced is v = ap (decided_previous false) is ∙ ap (says_then (prev.Failed replaced)) (sym is) ∙ ap (λ x. says_then x says) (sym v)
 
-module _ (v : View) (i main replaced : Ref) (told : Option ℕ) (p : IsAt v (act.Decide i main replaced told)) (name : ℕ) (place : place_of v.account main ≡ name) (header : Header) (fits : IsHeader header)
+module _ (v : View) (i main replaced : Ref) (told : Option ℕ) (p : IsAt v (act.Decide i main replaced told)) (name : ℕ) (place : place_of v.account main ≡ name) (header : Header)
+    (fits : IsHeader header)
     (over : IsPendingOver v i main replaced header) (licensed : Bool) (license : is_licensed (now v).heap i told ≡ licensed) where
   abbrev word : ℕ
   word = 2 * name
@@ -97,7 +91,8 @@ module _ (v : View) (i main replaced : Ref) (told : Option ℕ) (p : IsAt v (act
     Left = Leaves v s kept id at word old new
 
     module _ (d : Decides v.sizes there v.actor (o v word found m i main replaced told p its_word header fits over) main replaced)
-        (verdict : d.verdict ≡ (if is_licensed (state_of v.sizes there).heap i told then prev.None else prev.Failed replaced)) (same : d.slot ≡ (main_is v word found m i main replaced told p its_word header fits over).0.slot)
+        (verdict : d.verdict ≡ (if is_licensed (state_of v.sizes there).heap i told then prev.None else prev.Failed replaced))
+            (same : d.slot ≡ (main_is v word found m i main replaced told p its_word header fits over).0.slot)
         (stands : main_at (state_of v.sizes there).heap i ≡ main) where
       here : kept.stands (slot_of main) ≡ true
       here = kept.nodes.live main (main_is v word found m i main replaced told p its_word header fits over).0.lives
@@ -113,7 +108,8 @@ module _ (v : View) (i main replaced : Ref) (told : Option ℕ) (p : IsAt v (act
       shape_is : (says : Shape) → SaysShape there (slot_of main) d.slot.node says → says ≡ header.shape
       shape_is says h = shape_now v word found m i main replaced told p its_word header fits over says (subst (λ (x : Slot). SaysShape there (slot_of main) x.node says) same h)
 
-      says : (h : SaysHeader there (state_of v.sizes there) (slot_of main) d.slot (slice_index s.words (2 * place_of there main))) → new ≡ header_code (record { previous = says_then d.verdict h.previous; shape = h.shape })
+      says : (h : SaysHeader there (state_of v.sizes there) (slot_of main) d.slot (slice_index s.words (2 * place_of there main))) → new ≡ header_code
+          (record { previous = says_then d.verdict h.previous; shape = h.shape })
       says h =
           ap (λ x. header_code (record { previous = x; shape = header.shape }))
           (verdict_says licensed d.verdict header.previous over.name replaced over.says (verdict ∙ ap (λ b. if b then prev.None else prev.Failed replaced) (same_license ∙ license))
@@ -126,11 +122,13 @@ module _ (v : View) (i main replaced : Ref) (told : Option ℕ) (p : IsAt v (act
       decided_so : found ≡ old → Left
       decided_so e = (
         subst (λ ws. IsKept v.sizes (record { words = ws; homes = s.homes; views = set s.views id after })) (words_hit v s kept id at word old new e (2 * place_of there main) at_place)
-        (decide_kept v.sizes s kept id v at (o v word found m i main replaced told p its_word header fits over) (runs v word found m i main replaced told p its_word header fits over) main replaced d here is_main new says),
+            (decide_kept v.sizes s kept id v at (o v word found m i main replaced told p its_word header fits over)
+                (runs v word found m i main replaced told p its_word header fits over) main replaced d here is_main new says),
         (
           sound_by v s kept id at (gone_on v.actor there) kept.stands _
-          (all_then v.sizes there v.actor (o v word found m i main replaced told p its_word header fits over) main replaced d kept.stands s.words (all_stand v.sizes s kept) here is_main new says),
-          took_by v s kept id at (o v word found m i main replaced told p its_word header fits over) (runs v word found m i main replaced told p its_word header fits over) (gone_on v.actor there) d.own,
+              (all_then v.sizes there v.actor (o v word found m i main replaced told p its_word header fits over) main replaced d kept.stands s.words (all_stand v.sizes s kept) here is_main new says),
+          took_by v s kept id at (o v word found m i main replaced told p its_word header fits over) (runs v word found m i main replaced told p its_word header fits over)
+              (gone_on v.actor there) d.own,
         ),
       )
 
@@ -151,7 +149,8 @@ module _ (v : View) (i main replaced : Ref) (told : Option ℕ) (p : IsAt v (act
         by (was_decided reads differs pending) = pending ∙ sym (ne_eqb found old differs)
 
 module _ (v : View) (name : ℕ) (header : Header) (fits : IsHeader header) (licensed : Bool) (is_at : IsAtDecide v name header licensed) where
-  abbrev it_leaves : (s : Table.State Call View) (kept : IsKept v.sizes s) (id : ℕ) (at : get_elem? s.views id ≡ some v) → Leaves v s kept id at (2 * name) (header_code header) (header_code (decided_header licensed header))
+  abbrev it_leaves : (s : Table.State Call View) (kept : IsKept v.sizes s) (id : ℕ) (at : get_elem? s.views id ≡ some v) → Leaves v s kept id at (2 * name) (header_code header)
+      (header_code (decided_header licensed header))
   it_leaves s kept id at = leaves v is_at.0 is_at.1 is_at.2 is_at.3 is_at.4 name is_at.5 header fits is_at.6 licensed is_at.7 s kept id at
 
 pub decide_allowed : (sizes : Sizes) (size id : ℕ) (me : Me Call View) (name : ℕ) (header : Header) (fits : IsHeader header) (licensed : Bool) (is_at : IsAtDecide me.0 name header licensed) →
@@ -168,14 +167,18 @@ decided_of (act.Decide i main replaced told) = (i, (main, (replaced, told)))
 decided_of action = (no_ref, (no_ref, (no_ref, None)))
 
 -- what the seat is told
-pub decide_told : (before : View) (name : ℕ) (header : Header) (fits : IsHeader header) (licensed : Bool) (is_at : IsAtDecide before name header licensed) (found : ℕ) (after : View) → HasGone before (2 * name) found after →
+pub decide_told : (before : View) (name : ℕ) (header : Header) (fits : IsHeader header) (licensed : Bool) (is_at : IsAtDecide before name header licensed) (found : ℕ) (after : View) → HasGone before
+    (2 * name) found after →
     HasDecided before (found == header_code header) after
-decide_told before name header fits licensed is_at found after g =
-    (went before name (2 * name) found after g, λ i main replaced told p.
-    (let same = ap decided_of (same_action before (act.Decide is_at.0 is_at.1 is_at.2 is_at.3) (act.Decide i main replaced told) is_at.4 p) in
-    let result : (is_pending (prev_at (state_of before.sizes g.0.kept.account).heap is_at.1) is_at.2 ≡ (found == header_code header)) × (is_licensed (state_of before.sizes g.0.kept.account).heap is_at.0 is_at.3 ≡ is_licensed (now before).heap is_at.0 is_at.3) = (
-      stood_by before is_at.0 is_at.1 is_at.2 is_at.3 is_at.4 name is_at.5 header fits is_at.6 licensed is_at.7 g.0.table g.0.kept g.0.id g.0.at ∙ ap (λ n. n == header_code header) g.0.finds,
-      same_license before is_at.0 is_at.1 is_at.2 is_at.3 is_at.4 name is_at.5 header fits is_at.6 licensed is_at.7 g.0.table g.0.kept g.0.id g.0.at,
-    ) in
-    subst (λ (x : Ref × (Ref × (Ref × Option ℕ))). (is_pending (prev_at (state_of before.sizes g.0.kept.account).heap x.1.0) x.1.1.0 ≡ (found == header_code header))
-    × (is_licensed (state_of before.sizes g.0.kept.account).heap x.0 x.1.1.1 ≡ is_licensed (now before).heap x.0 x.1.1.1)) same result))
+decide_told before name header fits licensed is_at found after g = (
+  went before name (2 * name) found after g,
+  λ i main replaced told p.
+      (let same = ap decided_of (same_action before (act.Decide is_at.0 is_at.1 is_at.2 is_at.3) (act.Decide i main replaced told) is_at.4 p) in
+      let result : (is_pending (prev_at (state_of before.sizes g.0.kept.account).heap is_at.1) is_at.2 ≡ (found == header_code header)) ×
+          (is_licensed (state_of before.sizes g.0.kept.account).heap is_at.0 is_at.3 ≡ is_licensed (now before).heap is_at.0 is_at.3) = (
+        stood_by before is_at.0 is_at.1 is_at.2 is_at.3 is_at.4 name is_at.5 header fits is_at.6 licensed is_at.7 g.0.table g.0.kept g.0.id g.0.at ∙ ap (λ n. n == header_code header) g.0.finds,
+        same_license before is_at.0 is_at.1 is_at.2 is_at.3 is_at.4 name is_at.5 header fits is_at.6 licensed is_at.7 g.0.table g.0.kept g.0.id g.0.at,
+      ) in
+      subst (λ (x : Ref × (Ref × (Ref × Option ℕ))). (is_pending (prev_at (state_of before.sizes g.0.kept.account).heap x.1.0) x.1.1.0 ≡ (found == header_code header))
+      × (is_licensed (state_of before.sizes g.0.kept.account).heap x.0 x.1.1.1 ≡ is_licensed (now before).heap x.0 x.1.1.1)) same result),
+)

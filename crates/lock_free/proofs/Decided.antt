@@ -1,5 +1,6 @@
 -- The exchange of a main node's header decides it.
-use Rattle.std.proofs.Common.{◌≡◌, ◌≢◌, ◌+◌, ◌*◌, ◌⊎◌, ℕ, ◌<◌, ◌≤◌, inl, inr, Bool, true, false, List, [], ◌∷◌, set, get_or, slice_index, Some, None, refl, sym, ap, subst, ◌∙◌, arith, length, length-set}
+use Rattle.std.proofs.Common.{◌≡◌, ◌≢◌, ◌+◌, ◌*◌, ◌⊎◌, ℕ, ◌<◌, ◌≤◌, inl, inr, Bool, true, false, List, [], ◌∷◌, set, get_or, slice_index, Some, None, refl, sym, ap, subst, ◌∙◌, arith, length}
+use Rattle.std.proofs.Common.{length-set}
 use Rattle.std.proofs.lemmas.Bool.{cases_eq, true≢false}
 use Rattle.std.proofs.lemmas.List.{get_or-set_same}
 use Rattle.std.proofs.lemmas.Option.{same_Some}
@@ -41,8 +42,10 @@ use Rattle.lock_free.proofs.Waiting.{quiet_more}
 -- what stands in the words of a main node that is decided, with its header as it is then
 module _ (account later : Account) (before after : State) (words changed : List ℕ) (p k : ℕ) (slot : Slot) (verdict : Prev)
     (entries : (xs : List Ref) → AreEntries account before.heap (InTable words) p xs → AreEntries later after.heap (InTable changed) p xs)
-    (header : (found : ℕ) → slice_index words (2 * p) ≡ found → SaysHeader account before k slot found → (word : ℕ) × (slice_index changed (2 * p) ≡ word) × SaysHeader later after k (record slot { prev = verdict }) word) where
-  pub decided_stands : (node : Node) → is_main_node node ≡ true → StandsAs account before (InTable words) p k slot node → StandsAs later after (InTable changed) p k (record slot { prev = verdict }) node
+    (header : (found : ℕ) → slice_index words (2 * p) ≡ found → SaysHeader account before k slot found → (word : ℕ) × (slice_index changed (2 * p) ≡ word) × SaysHeader later after k
+        (record slot { prev = verdict }) word) where
+  pub decided_stands : (node : Node) → is_main_node node ≡ true → StandsAs account before (InTable words) p k slot node → StandsAs later after (InTable changed) p k
+      (record slot { prev = verdict }) node
   decided_stands (Indirection generation main) is h = absurd (true≢false (sym is))
   decided_stands (Single key value) is h = absurd (true≢false (sym is))
   decided_stands (Branch bitmap xs) is h = (header h.0.0 h.0.1 h.0.2, entries xs.items h.1)
@@ -68,7 +71,8 @@ same_pending p q e = ap over e
     over (prev.Failed r) = r
     over prev.None = p
 
-module _ (sizes : Sizes) (account : Account) (actor : ℕ) (operation : Operation) (main replaced : Ref) (decides : Decides sizes account actor operation main replaced) (stands : Standing) (words : List ℕ)
+module _ (sizes : Sizes) (account : Account) (actor : ℕ) (operation : Operation) (main replaced : Ref) (decides : Decides sizes account actor operation main replaced) (stands : Standing)
+    (words : List ℕ)
     (all : AllStand sizes account stands words) (here : stands (slot_of main) ≡ true) (is_main : is_main_node decides.slot.node ≡ true) (value : ℕ)
     (says : (h : SaysHeader account (state_of sizes account) (slot_of main) decides.slot (slice_index words (2 * place_at account (slot_of main)))) →
     value ≡ header_code (record { previous = says_then decides.verdict h.previous; shape = h.shape })) where

@@ -1,12 +1,10 @@
 -- What stands in a word comes back from it.
 use Rattle.history.specs.declared.calls.Call.{Call}
-use Rattle.std.proofs.Common.{◌≡◌, ◌+◌, ◌*◌, ◌/◌, ◌%◌, ◌^◌, ◌<◌, ◌≤◌, ℕ, Bool, true, false, [], ◌∷◌, Contains, get_or, length, nat_lt, nat_le, count_ones, Some, None, refl, sym, ap, subst, ◌∙◌, arith, ltb-true}
-use Rattle.std.proofs.lemmas.Bool.{true≢false, and_parts}
+use Rattle.std.proofs.Common.{◌≡◌, ◌^◌, ◌<◌, ◌≤◌, ℕ, Bool, true, [], ◌∷◌, Contains, get_or, length, nat_lt, nat_le, count_ones, Some, None, refl, sym, ap, subst, ◌∙◌, arith, ltb-true}
+use Rattle.std.proofs.lemmas.Bool.{and_parts}
 use Rattle.std.proofs.lemmas.List.Elements.{Contains-get_or, Contains-append_left, Contains-append_right}
-use mathlib.Core.Option.{some}
-use lib.ListN.{get_elem?}
 use Rattle.atomic_table.specs.Table as Table
-use Rattle.trie_words.specs.Codes.{bit, IsName, IsLink, link_code, link_of, IsPrevious, IsShape, IsHeader, header_code, header_of}
+use Rattle.trie_words.specs.Codes.{IsLink, link_code, link_of, IsPrevious, IsShape, IsHeader, header_of}
 use Rattle.trie_words.specs.declared.headers.Header.{Header}
 use Rattle.trie_words.specs.declared.headers.Previous.{Previous}
 use Rattle.trie_words.specs.declared.headers.Shape.{Shape}
@@ -14,14 +12,13 @@ use Rattle.trie_words.specs.declared.links.Link.{Link}
 use Rattle.trie_words.proofs.Parts.{header_back, link_back}
 use Rattle.machine_model.specs.Beneath.slot_arena.specs.declared.refs.Ref.{Ref}
 use Rattle.machine_model.specs.Beneath.slot_arena.specs.declared.nodes.Node.{Node}
-use Rattle.machine_model.specs.Beneath.slot_arena.specs.declared.nodes.Node.TheVariants.{Indirection, Branch, Single, Tomb, List as Listed}
+use Rattle.machine_model.specs.Beneath.slot_arena.specs.declared.nodes.Node.TheVariants.{Indirection}
 use Rattle.machine_model.specs.Beneath.slot_arena.specs.declared.nodes.Prev.{Prev}
 use Rattle.machine_model.specs.Beneath.slot_arena.specs.declared.nodes.Prev.TheVariants as prev
 use Rattle.machine_model.specs.Beneath.slot_arena.specs.declared.nodes.Slot.{Slot}
 use Rattle.machine_model.specs.Beneath.slot_arena.specs.Heaps.{stored, refs_of_node, refs_of_prev, refs_of_slot, entries_of}
 use Rattle.machine_model.specs.Beneath.slot_arena.specs.Refs.{slot_of}
 use Rattle.machine_model.specs.States.{State}
-use Rattle.machine_model.specs.declared.operations.Operation.{Operation}
 use Rattle.machine_model.specs.declared.lines.Line.{Line}
 use Rattle.machine_model.specs.declared.lines.Line.TheVariants as line
 use Rattle.machine_model.specs.Swapping.{swapping}
@@ -31,7 +28,7 @@ use Rattle.lock_free.specs.declared.rules.View.{View}
 use Rattle.lock_free.specs.Accounts.{state_of, place_of, OwnIs}
 use Rattle.lock_free.specs.Live.{line_claims, refs_of_claims, from_slot, from_operation, IsLive}
 use Rattle.lock_free.specs.Loading.{HasHeader, HasLink}
-use Rattle.lock_free.specs.Nodes.{class_of, IsAhead, SaysPrevious, decided, ahead, pending, failed, SaysShape, of_branch, of_tomb, of_list, SaysHeader, StandsAs, InTable}
+use Rattle.lock_free.specs.Nodes.{class_of, IsAhead, SaysPrevious, decided, ahead, pending, failed, SaysShape, of_branch, of_tomb, of_list, SaysHeader}
 use Rattle.lock_free.specs.Rules.{IsKept}
 use Rattle.lock_free.proofs.Asked.{live_in_use, is_well_formed}
 use Rattle.lock_free.proofs.Framing.{class_small}
@@ -62,7 +59,8 @@ module _ (v : View) (s : Table.State Call View) (kept : IsKept v.sizes s) where
   ahead_lives i a f h =
       from_operation h.actor h.operation a h.runs tt
       (Contains-append_left (refs_of_claims (line_claims state h.operation)) h.operation.private a
-      (subst (λ (l : Line). Contains (refs_of_claims (line_claims state (record h.operation { line = l }))) a) (sym h.on) (Contains-get_or (refs_of_claims (line_claims state (record h.operation { line = line.Swap h.why (swapping i a f) }))) 1 a (omega arith))))
+      (subst (λ (l : Line). Contains (refs_of_claims (line_claims state (record h.operation { line = l }))) a) (sym h.on)
+          (Contains-get_or (refs_of_claims (line_claims state (record h.operation { line = line.Swap h.why (swapping i a f) }))) 1 a (omega arith))))
 
   module _ (r : Ref) (slot : Slot) (live : IsLive state r) (is : get_or state.heap.slots (slot_of r) None ≡ Some slot) where
     prev_small : (p : Prev) (q : Ref) → p ≡ slot.prev → Contains (refs_of_prev p) q → place_of there q < 2 ^ 27
@@ -76,9 +74,11 @@ module _ (v : View) (s : Table.State Call View) (kept : IsKept v.sizes s) where
 
     shape_fits : (n : Node) (says : Shape) → n ≡ slot.node → SaysShape there (slot_of r) n says → IsShape says
     shape_fits n says same (of_branch bitmap entries) =
-        ltb-true bitmap (2 ^ 32) (and_parts (nat_lt bitmap (2 ^ 32)) (nat_le (count_ones bitmap) (length entries.items)) (ap is_formed same ∙ is_well_formed v.sizes there kept.bounds (slot_of r) slot is)).0
+        ltb-true bitmap (2 ^ 32) (and_parts (nat_lt bitmap (2 ^ 32)) (nat_le (count_ones bitmap) (length entries.items))
+            (ap is_formed same ∙ is_well_formed v.sizes there kept.bounds (slot_of r) slot is)).0
     shape_fits n says same (of_tomb single own owned) =
-        place_small single (node_lives r single slot live is (Contains-append_left (refs_of_node slot.node) (refs_of_prev slot.prev) single (subst (λ x. Contains (refs_of_node x) single) same (Contains-get_or (single ∷ []) 0 single (omega arith)))))
+        place_small single (node_lives r single slot live is (Contains-append_left (refs_of_node slot.node) (refs_of_prev slot.prev) single
+            (subst (λ x. Contains (refs_of_node x) single) same (Contains-get_or (single ∷ []) 0 single (omega arith)))))
     shape_fits n says same (of_list singles) =
         let few = subst (λ x. length (entries_of x) ≤ 32) (sym same) (kept.nodes.small (slot_of r) slot (kept.nodes.live r live, is)) in omega (arith, few)
 
@@ -88,7 +88,8 @@ module _ (v : View) (s : Table.State Call View) (kept : IsKept v.sizes s) where
         let header : Header = record { previous = h.previous; shape = h.shape } in
         let fits : IsHeader header = (previous_fits slot.prev h.previous refl h.is_previous, shape_fits slot.node h.shape refl h.is_shape) in
         subst (λ x. HasHeader there state r x) (sym (ap header_of h.code ∙ header_back header fits))
-        (record { slot = slot; stores = is; is_main = main; is_previous = h.is_previous; is_shape = h.is_shape; fits = fits; used = λ q c. live_in_use v.sizes there kept.bounds q (node_lives r q slot live is c) })
+        (record { slot = slot; stores = is; is_main = main; is_previous = h.is_previous; is_shape = h.is_shape; fits = fits; used = λ q c. live_in_use v.sizes there kept.bounds q
+            (node_lives r q slot live is c) })
 
     -- and so does the link
     pub link_found : (found generation : ℕ) (main : Ref) (own : Bool) → slot.node ≡ Indirection generation main → generation < 2 ^ 36 → OwnIs there.owned (slot_of r) (slot_of main) own →

@@ -1,6 +1,6 @@
 -- A seat writes a word in a free slot of its own.
 use Rattle.history.specs.declared.calls.Call.{Call}
-use Rattle.std.proofs.Common.{◌≡◌, ◌≢◌, ◌⊎◌, ℕ, zero, suc, ◌<◌, ◌≤◌, inl, inr, Bool, true, false, List, Contains, set, get_or, slice_index, refl, sym, ap, subst, ◌∙◌, arith, length, not, ◌==◌}
+use Rattle.std.proofs.Common.{◌≡◌, ◌≢◌, ◌⊎◌, ℕ, zero, suc, ◌<◌, ◌≤◌, inl, inr, Bool, true, List, Contains, set, get_or, slice_index, refl, sym, ap, subst, ◌∙◌, arith, length, not, ◌==◌}
 use Rattle.std.proofs.lemmas.Bool.{eq-eqb, false≢true}
 use Rattle.std.proofs.lemmas.List.Elements.{All-contains, All-filter, All-contains_itself, filter_passes}
 use Rattle.std.proofs.lemmas.List.{get_or-set_same}
@@ -39,7 +39,8 @@ which j x drafts d c = by c.0 c.1 c.2
           All-contains (Contains drafts) (others_than j drafts) d (All-filter differs (Contains drafts) drafts (All-contains_itself drafts)) inside,
         )
 
-module _ (sizes : Sizes) (s : Table.State Call View) (kept : IsKept sizes s) (id : ℕ) (v : View) (at : get_elem? s.views id ≡ some v) (class name : ℕ) (free : IsFree v class name) (j : ℕ) (its : IsWordOf class name j)
+module _ (sizes : Sizes) (s : Table.State Call View) (kept : IsKept sizes s) (id : ℕ) (v : View) (at : get_elem? s.views id ≡ some v) (class name : ℕ) (free : IsFree v class name) (j : ℕ)
+    (its : IsWordOf class name j)
     (x : ℕ) where
   abbrev all : AllStand sizes kept.account kept.stands s.words
   all = all_stand sizes s kept
@@ -99,7 +100,8 @@ module _ (sizes : Sizes) (s : Table.State Call View) (kept : IsKept sizes s) (id
 
   own_then : IsSeat sizes kept.account kept.stands words_then view_then
   own_then =
-      own_still sizes s kept id v at words_then stays (numbers_so sizes s kept kept.account words_then (no_tries kept.account.offers (state_of sizes kept.account)) refl root_same id v at) (pin_same v.actor (omega (arith, seat.top, seat.most))) v.pool view_then.drafts
+      own_still sizes s kept id v at words_then stays (numbers_so sizes s kept kept.account words_then (no_tries kept.account.offers (state_of sizes kept.account)) refl root_same id v at)
+          (pin_same v.actor (omega (arith, seat.top, seat.most))) v.pool view_then.drafts
       (λ b other f. (let y = seat.spare b other f in (taken_then b other f.0 y.0, y.1))) seat.once (λ d c. drafted d (which j x v.drafts d c)) (λ handle slot y. (root_same handle y.low, y.free.1))
 
   closings_then : (handle who : ℕ) → handle < handle_limit → SaysClosing (slice_index words_then (root_word handle)) who → IsClosing (set s.views id view_then) handle who
@@ -111,4 +113,5 @@ module _ (sizes : Sizes) (s : Table.State Call View) (kept : IsKept sizes s) (id
   draft_kept =
       assembled sizes s kept id v at view_then refl refl kept.account kept.stands words_then all_then closings_then own_then (other_kept sizes s kept id v at kept.account kept.stands words_then stays)
       (λ b n f. inl f)
-      (numbers_stay sizes s kept id v at view_then refl refl kept.account words_then (no_tries kept.account.offers (state_of sizes kept.account)) (λ slot none. none) root_same refl (λ slot handle e free. free))
+      (numbers_stay sizes s kept id v at view_then refl refl kept.account words_then (no_tries kept.account.offers (state_of sizes kept.account)) (λ slot none. none) root_same refl
+          (λ slot handle e free. free))

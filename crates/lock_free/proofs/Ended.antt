@@ -69,7 +69,7 @@ module _ (sizes : Sizes) (s : Table.State Call View) (kept : IsKept sizes s) (id
         (kept.roots.marks k c a) o e its
   ]
 
-  all_then : AllStand sizes account_then kept.stands words_then
+  pub all_then : AllStand sizes account_then kept.stands words_then
   all_then =
       root.all_left sizes kept.account (step.Go v.actor ∷ []) ends.leaves kept.stands words_then
       (All-append FitsKey kept.account.steps (step.Go v.actor ∷ []) kept.keys (All-cons FitsKey (step.Go v.actor) [] tt (All-nil FitsKey)))

@@ -30,7 +30,8 @@ pub either_miss : (n old new : ℕ) → n ≢ old → either (n == old) new n �
 either_miss n old new e = exchanged n old new (λ x. x ≡ n) (λ same. absurd (e same)) (λ other. refl)
 
 -- an account at which what stands is sound
-pub sound_by : (v : View) (s : Table.State Call View) (kept : IsKept v.sizes s) (id : ℕ) (at : get_elem? s.views id ≡ some v) (account : Account) (stands : ℕ → Bool) (words : List ℕ) → AllStand v.sizes account stands words →
+pub sound_by : (v : View) (s : Table.State Call View) (kept : IsKept v.sizes s) (id : ℕ) (at : get_elem? s.views id ≡ some v) (account : Account) (stands : ℕ → Bool) (words : List ℕ) →
+    AllStand v.sizes account stands words →
     IsSound (words_of v.sizes) (seen v account)
 sound_by v s kept id at account stands words all =
     record { size = refl; range = kept.range.within; bounds = all.bounds; counted = all.counted; inside = all.nodes.inside; free = free_inside v s kept id at }
@@ -54,9 +55,11 @@ module _ (v : View) (s : Table.State Call View) (kept : IsKept v.sizes s) (id : 
 
   pub missed : (o : Operation) → running v.sizes kept.account v.actor o → Reads v.sizes kept.account v.actor o → slice_index s.words word ≢ old → Leaves
   missed o runs reads differs = (
-    subst (λ ws. IsKept v.sizes (record { words = ws; homes = s.homes; views = set s.views id (seen v (gone_on v.actor kept.account)) })) (words_miss differs) (kept_then v.sizes s kept id v at o runs reads),
+    subst (λ ws. IsKept v.sizes (record { words = ws; homes = s.homes; views = set s.views id (seen v (gone_on v.actor kept.account)) })) (words_miss differs)
+        (kept_then v.sizes s kept id v at o runs reads),
     (
-      record { size = refl; range = kept.range.within; bounds = reads.bounds; counted = kept.counted ∙ sym reads.births; inside = λ k slot e. kept.nodes.inside k slot (sym (reads.nodes k) ∙ e); free = free_inside v s kept id at },
+      record { size = refl; range = kept.range.within; bounds = reads.bounds; counted = kept.counted ∙ sym reads.births; inside = λ k slot e. kept.nodes.inside k slot (sym (reads.nodes k) ∙ e);
+          free = free_inside v s kept id at },
       took_by v s kept id at o runs (gone_on v.actor kept.account) reads.own,
     ),
   )

@@ -1,5 +1,6 @@
 -- A store to a word of a slot that nothing stands in changes nothing that the rule says of words, but what a seat has written there itself.
-use Rattle.std.proofs.Common.{◌≡◌, ◌≢◌, ◌+◌, ◌*◌, ◌/◌, ℕ, zero, suc, ◌<◌, ◌≤◌, List, [], ◌∷◌, Contains, length, set, slice_index, Option, Some, refl, sym, subst, ◌∙◌, arith, nat_le, Bool, true, false, if◌then◌else◌, length-set, slice_get}
+use Rattle.std.proofs.Common.{◌≡◌, ◌≢◌, ◌+◌, ◌*◌, ◌/◌, ℕ, zero, suc, ◌<◌, ◌≤◌, List, [], ◌∷◌, Contains, length, set, slice_index, Option, Some, refl, sym, subst, ◌∙◌, arith, nat_le, Bool, true}
+use Rattle.std.proofs.Common.{false, if◌then◌else◌, length-set, slice_get}
 use Rattle.std.proofs.lemmas.List.{get_or-set_other}
 use Rattle.std.proofs.lemmas.Option.{none-some}
 use Rattle.machine_model.specs.Beneath.slot_arena.specs.declared.refs.Ref.{Ref}
@@ -210,7 +211,8 @@ module _ (sizes : Sizes) (account : Account) (stands : Standing) (words : List �
   }
 
 -- a store to a word of a node that stands
-module _ (sizes : Sizes) (account : Account) (stands : Standing) (words : List ℕ) (all : AllStand sizes account stands words) (k : ℕ) (slot : Slot) (stood : Stands stands (state_of sizes account) k slot)
+module _ (sizes : Sizes) (account : Account) (stands : Standing) (words : List ℕ) (all : AllStand sizes account stands words) (k : ℕ) (slot : Slot)
+    (stood : Stands stands (state_of sizes account) k slot)
     (i : ℕ) (its : IsWordOf (class_of slot.node) (place_at account k) i) (x : ℕ) where
   pub node_far : first_slot_word sizes ≤ i
   node_far = above sizes words all.taken (class_of slot.node) (place_at account k) i (class_small slot.node) (all.nodes.within k slot stood) its
@@ -223,7 +225,8 @@ module _ (sizes : Sizes) (account : Account) (stands : Standing) (words : List �
   not_of_other j another differs h n w same =
       differs
       (all.nodes.apart j k another slot h stood
-      (slots_apart sizes words all.taken (class_of another.node) (class_of slot.node) (place_at account j) (place_at account k) i (class_small another.node) (class_small slot.node) (all.nodes.within j another h)
+      (slots_apart sizes words all.taken (class_of another.node) (class_of slot.node) (place_at account j) (place_at account k) i (class_small another.node) (class_small slot.node)
+          (all.nodes.within j another h)
       (all.nodes.within k slot stood) (subst (λ m. IsWordOf (class_of another.node) (place_at account j) m) same w) its).1)
 
   pub not_of_any_offer : (o : Known) → Contains account.offers o → (n : ℕ) → IsWordOf 1 o.slot n → n ≢ i
@@ -235,7 +238,8 @@ module _ (sizes : Sizes) (account : Account) (stands : Standing) (words : List �
   pub not_of_spare : (b name : ℕ) → b < 3 → IsTaken sizes words b name → IsSpare sizes account stands name → (n : ℕ) → IsWordOf b name n → n ≢ i
   not_of_spare b name small taken spare n w same =
       spare.0 k slot stood
-      (sym (slots_apart sizes words all.taken b (class_of slot.node) name (place_at account k) i small (class_small slot.node) taken (all.nodes.within k slot stood) (subst (λ m. IsWordOf b name m) same w) its).1)
+      (sym (slots_apart sizes words all.taken b (class_of slot.node) name (place_at account k) i small (class_small slot.node) taken (all.nodes.within k slot stood)
+          (subst (λ m. IsWordOf b name m) same w) its).1)
 
   pub root_beside : (handle : ℕ) → handle < handle_limit → slice_index (set words i x) (root_word handle) ≡ slice_index words (root_word handle)
   root_beside handle low = let where_it_is = root_below handle low in below_word sizes account words all.taken i node_far x (root_word handle) (omega (arith, where_it_is.1))
@@ -244,7 +248,8 @@ module _ (sizes : Sizes) (account : Account) (stands : Standing) (words : List �
   pin_beside a most = below_word sizes account words all.taken i node_far x (pin_word a) (omega (arith, most))
 
 -- a store to a word before all slots, which takes back none that was handed out
-module _ (sizes : Sizes) (account : Account) (stands : Standing) (words : List ℕ) (have : HaveTaken sizes words) (nodes : NodesStand sizes account stands words) (roots : RootsStand sizes account words) (i : ℕ) (before : i < first_slot_word sizes) (x : ℕ)
+module _ (sizes : Sizes) (account : Account) (stands : Standing) (words : List ℕ) (have : HaveTaken sizes words) (nodes : NodesStand sizes account stands words)
+    (roots : RootsStand sizes account words) (i : ℕ) (before : i < first_slot_word sizes) (x : ℕ)
     (taken : (b n : ℕ) → b < 3 → IsTaken sizes words b n → IsTaken sizes (set words i x) b n) where
   pub no_slot : (b name : ℕ) → b < 3 → IsTaken sizes words b name → (j : ℕ) → IsWordOf b name j → j ≢ i
   no_slot b name small is j its same = let far = above sizes words have b name j small is its in absurd (omega (arith, far, before, same))
@@ -289,5 +294,6 @@ module _ (sizes : Sizes) (account : Account) (stands : Standing) (words : List �
     stood = roots.stood;
     marks = marks_over account words i x no_offer (state_of sizes account) roots.marks;
     pending = λ k c stands.
-        pending_kept words (set words i x) k (λ handle low. else_word account words i x (root_word handle) (no_root handle low)) (roots.pending k c (sym (first_of_offer account words i x no_offer k c) ∙ stands));
+        pending_kept words (set words i x) k (λ handle low. else_word account words i x (root_word handle) (no_root handle low))
+            (roots.pending k c (sym (first_of_offer account words i x no_offer k c) ∙ stands));
   }

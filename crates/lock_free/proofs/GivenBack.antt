@@ -1,6 +1,6 @@
 -- The slots of nodes that an operation gives up are free for its seat.
 use Rattle.history.specs.declared.calls.Call.{Call}
-use Rattle.std.proofs.Common.{◌≡◌, ◌≢◌, ◌⊎◌, ◌<◌, ◌==◌, ℕ, zero, suc, length, inl, inr, Bool, true, false, ◌||◌, List, [], ◌∷◌, ◌++◌, Contains, map, get_or, Some, None, refl, sym, ap, subst, ◌∙◌, arith, eq-eqb}
+use Rattle.std.proofs.Common.{◌≡◌, ◌≢◌, ◌⊎◌, ◌<◌, ◌==◌, ℕ, zero, suc, length, inl, inr, true, ◌||◌, List, [], ◌∷◌, Contains, map, get_or, Some, None, refl, sym, ap, subst, ◌∙◌, arith, eq-eqb}
 use Rattle.std.proofs.Math.Bool.{or-true}
 use Rattle.std.proofs.lemmas.List.Elements.{Contains-get_or, Contains-append_right}
 use mathlib.Core.Option.{some}
@@ -15,11 +15,10 @@ use Rattle.lock_free.specs.declared.rules.Pool.{Pool}
 use Rattle.lock_free.specs.declared.rules.View.{View}
 use Rattle.lock_free.specs.Accounts.{state_of, place_of}
 use Rattle.lock_free.specs.Exchanging.{given_back}
-use Rattle.lock_free.specs.Live.{IsLive}
 use Rattle.lock_free.specs.Making.{with_slot}
 use Rattle.lock_free.specs.Nodes.{class_of}
 use Rattle.lock_free.specs.Rules.{Stands, Once, pool_of, IsKept}
-use Rattle.lock_free.proofs.Asked.{is_one_of, live_in_use}
+use Rattle.lock_free.proofs.Asked.{is_one_of}
 use Rattle.lock_free.proofs.Framing.{class_small}
 use Rattle.lock_free.proofs.Pools.{free_still, was_free, once_with}
 

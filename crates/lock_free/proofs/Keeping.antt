@@ -1,6 +1,7 @@
 -- A step that changes no word keeps the rule: one that reads, whatever the seat knows of what it read, and one that gives nodes of its own up.
 use Rattle.history.specs.declared.calls.Call.{Call}
-use Rattle.std.proofs.Common.{if◌then◌else◌, Option, append-nil, ◌≡◌, ◌≢◌, ◌+◌, ◌⊎◌, ℕ, suc, ◌<◌, inl, inr, Bool, true, false, List, [], ◌∷◌, ◌++◌, Contains, set, get_or, slice_index, is_some, Some, None, refl, sym, ap, subst, ◌∙◌, arith}
+use Rattle.std.proofs.Common.{if◌then◌else◌, Option, append-nil, ◌≡◌, ◌≢◌, ◌⊎◌, ℕ, suc, ◌<◌, inl, inr, Bool, true, false, List, [], ◌∷◌, ◌++◌, Contains, set, get_or, slice_index, is_some, Some}
+use Rattle.std.proofs.Common.{None, refl, sym, ap, subst, ◌∙◌, arith}
 use Rattle.std.proofs.lemmas.List.Elements.{All-append, All-cons, All-nil}
 use mathlib.Core.Option.{some}
 use lib.ListN.{get_elem?}
@@ -30,7 +31,8 @@ use Rattle.lock_free.specs.declared.rules.Pool.{Pool}
 use Rattle.lock_free.specs.declared.rules.View.{View}
 use Rattle.lock_free.specs.declared.sizes.Sizes.{Sizes}
 use Rattle.lock_free.specs.Accounts.{state_of, place_at, place_of, HasWaited, IsOfOther, gone_on}
-use Rattle.lock_free.specs.Nodes.{StandsAs, class_of, IsAhead, IsOver, is_single, SaysPrevious, decided, ahead, pending, failed, SaysHeader, SaysShape, of_branch, of_tomb, of_list, IsEntryOf, AreEntries, half_of, InTable}
+use Rattle.lock_free.specs.Nodes.{StandsAs, class_of, IsAhead, IsOver, is_single, SaysPrevious, decided, ahead, pending, failed, SaysHeader, SaysShape, of_branch, of_tomb, of_list, IsEntryOf}
+use Rattle.lock_free.specs.Nodes.{AreEntries, half_of, InTable}
 use Rattle.lock_free.specs.Roots.{MeansRoot, IsWritten, second_of}
 use Rattle.lock_free.specs.Rules.{Standing, Stands, NodesStand, RootsStand, Once, pool_of, IsFree, IsSpare, IsSeat, IsKept}
 use Rattle.lock_free.specs.Steps.{Dropped, nothing, Leads, Reads}
@@ -48,7 +50,8 @@ pub same_nodes : (before after : State) → ((k : ℕ) → get_or after.heap.slo
 unfolding node_at stored
 same_nodes before after same r = ap node_of (same (slot_of r))
 
-module _ (account : Account) (steps : List Step) (offers : List Known) (dropped : Dropped) (before after : State) (same : SameNodes before after) (aheads : (i a f : Ref) → IsAhead after i a f → IsAhead before i a f)
+module _ (account : Account) (steps : List Step) (offers : List Known) (dropped : Dropped) (before after : State) (same : SameNodes before after)
+    (aheads : (i a f : Ref) → IsAhead after i a f → IsAhead before i a f)
     (still : (i a f : Ref) → IsAhead before i a f → dropped (slot_of f) ≡ false → IsAhead after i a f) (words : List ℕ) where
   abbrev pub later : Account
   later = record account { steps = steps; offers = offers }
@@ -102,7 +105,8 @@ module _ (account : Account) (steps : List Step) (offers : List Known) (dropped 
   pub written_kept : (k : Known) → IsWritten account words k → IsWritten later words k
   written_kept k h = record { olds = h.olds; news = h.news ∙ ap (λ n. pair_code (record { low = place_of account k.offer.successor; high = n })) (second_kept k.offer.second) }
 
-pub meaning_kept : (account : Account) (steps : List Step) (words : List ℕ) (handle found : ℕ) (r : Option Root) → MeansRoot account words handle found r → MeansRoot (record account { steps = steps }) words handle found r
+pub meaning_kept : (account : Account) (steps : List Step) (words : List ℕ) (handle found : ℕ) (r : Option Root) → MeansRoot account words handle found r → MeansRoot
+    (record account { steps = steps }) words handle found r
 meaning_kept account steps words handle found r = means_kept account (record account { steps = steps }) words words handle r (λ access q is. refl) (λ k c. (c, refl)) (λ slot none. none) found
 
 -- ---- the rule
@@ -148,7 +152,8 @@ module _ (sizes : Sizes) (s : Table.State Call View) (kept : IsKept sizes s) (id
     offers = λ x c k slot h. kept.nodes.offers x c k slot (stood k slot h).0;
     written = λ k slot h.
         (let was = stood k slot h in
-        stands_kept kept.account account_then.steps kept.account.offers dropped now next_state (same_nodes now next_state leads.nodes) leads.aheads leads.still s.words (place_at kept.account k) k slot slot.node was.1 (kept.nodes.written k slot was.0));
+        stands_kept kept.account account_then.steps kept.account.offers dropped now next_state (same_nodes now next_state leads.nodes) leads.aheads leads.still s.words
+            (place_at kept.account k) k slot slot.node was.1 (kept.nodes.written k slot was.0));
     inside = λ k slot e. kept.nodes.inside k slot (sym (leads.nodes k) ∙ e);
     owners = owners_kept kept.account account_then now next_state refl refl leads.aheads kept.nodes.owners;
     live = λ r h. (let x = leads.live r h in live_then (dropped (slot_of r)) (slot_of r) refl x.1 (kept.nodes.live r x.0));
@@ -159,7 +164,8 @@ module _ (sizes : Sizes) (s : Table.State Call View) (kept : IsKept sizes s) (id
     means = λ handle low.
         meaning_kept kept.account account_then.steps s.words handle _ _
         (subst (λ rs. MeansRoot kept.account s.words handle (slice_index s.words (root_word handle)) (get_or rs handle None)) (sym leads.roots) (kept.roots.means handle low));
-    offers = λ k c. written_kept kept.account account_then.steps kept.account.offers dropped now next_state (same_nodes now next_state leads.nodes) leads.aheads leads.still s.words k (kept.roots.offers k c);
+    offers = λ k c. written_kept kept.account account_then.steps kept.account.offers dropped now next_state (same_nodes now next_state leads.nodes) leads.aheads leads.still s.words k
+        (kept.roots.offers k c);
     blocks = kept.roots.blocks;
     single = kept.roots.single;
     pending = kept.roots.pending;
@@ -242,7 +248,9 @@ module _ (sizes : Sizes) (s : Table.State Call View) (kept : IsKept sizes s) (id
 
     own_then : IsSeat sizes account_then stands_then s.words view_then
     own_then =
-        own_kept sizes s kept id v at account_then stands_then s.words stays operation next runs leads.own same_call same_opens (numbers_so sizes s kept account_then s.words leads.tries leads.roots (λ handle low. refl) id v at) all_then.counted refl pool v.opening (λ handle slot o n. (n, λ x. (refl, more 1 slot x.free.0 x.free.1))) v.drafts spare_own once
+        own_kept sizes s kept id v at account_then stands_then s.words stays operation next runs leads.own same_call same_opens
+            (numbers_so sizes s kept account_then s.words leads.tries leads.roots (λ handle low. refl) id v at) all_then.counted refl pool v.opening
+                (λ handle slot o n. (n, λ x. (refl, more 1 slot x.free.0 x.free.1))) v.drafts spare_own once
         (λ d c. drafts_kept sizes s kept id v at account_then stands_then s.words stays view_then d (seat.drafts d c) (λ b name free. ((free.0, more b name free.0 free.1), λ j its_word. refl)))
 
     -- the rule holds
@@ -251,7 +259,8 @@ module _ (sizes : Sizes) (s : Table.State Call View) (kept : IsKept sizes s) (id
         assembled sizes s kept id v at view_then refl refl account_then stands_then s.words all_then
         (λ handle who low says. closing_stays sizes s kept id v at view_then refl refl (λ h e. e) refl handle who (kept.closings handle who low says)) own_then
         (other_kept sizes s kept id v at account_then stands_then s.words stays) not_others
-        (numbers_stay sizes s kept id v at view_then refl refl account_then s.words leads.tries (λ slot none. none) (λ handle low. refl) refl (λ slot handle e free. (free.0, more 1 slot free.0 free.1)))
+        (numbers_stay sizes s kept id v at view_then refl refl account_then s.words leads.tries (λ slot none. none) (λ handle low. refl) refl
+            (λ slot handle e free. (free.0, more 1 slot free.0 free.1)))
 
 -- ---- reads
 

@@ -1,5 +1,5 @@
 -- What a seat knows of nodes stays so, whatever it has seen since.
-use Rattle.std.proofs.Common.{◌≡◌, ◌+◌, ◌*◌, ◌<◌, ℕ, Bool, true, [], ◌∷◌, Contains, get_or, length, Some, None, refl, sym, ap, subst, ◌∙◌, arith}
+use Rattle.std.proofs.Common.{◌≡◌, ◌<◌, ℕ, Bool, true, [], ◌∷◌, Contains, get_or, length, Some, None, refl, sym, ap, subst, ◌∙◌, arith}
 use Rattle.std.proofs.lemmas.List.Elements.{Contains-get_or}
 use Rattle.trie_words.specs.declared.headers.Header.{Header}
 use Rattle.trie_words.specs.declared.headers.Shape.{Shape}
@@ -16,8 +16,8 @@ use Rattle.proof_memory.specs.Laws.{SameNode}
 use Rattle.proof_memory.specs.Wants.{is_main_node}
 use Rattle.lock_free.specs.declared.accounts.Account.{Account}
 use Rattle.lock_free.specs.declared.rules.View.{View}
-use Rattle.lock_free.specs.Accounts.{bounds_for, state_of, place_of, OwnIs, IsOwn, HasWaited, gone_on}
-use Rattle.lock_free.specs.Exchanging.{IsNamed, IsPendingOver, IsLinkTo}
+use Rattle.lock_free.specs.Accounts.{bounds_for, place_of, OwnIs, IsOwn, gone_on}
+use Rattle.lock_free.specs.Exchanging.{IsNamed, IsPendingOver}
 use Rattle.lock_free.specs.Loading.{now, seen, IsUsed, IsSound, Waited, Went, Saw}
 use Rattle.lock_free.specs.Nodes.{SaysShape, of_branch, of_tomb, of_list}
 use Rattle.lock_free.specs.Passing.{Later, KnowsLink, IsPlaced, KnowsMain, KnowsPending}
@@ -121,7 +121,8 @@ module _ (v w : View) (l : Later v w) where
     main_used = used_later main k.main_used;
   }
 
-  kept_shape : (k : Ref) (n : Node) (s : Shape) → ((r : Ref) → Contains (refs_of_node n) r → (slot : Slot) × IsUsed v r slot) → SaysShape v.account (slot_of k) n s → SaysShape w.account (slot_of k) n s
+  kept_shape : (k : Ref) (n : Node) (s : Shape) → ((r : Ref) → Contains (refs_of_node n) r → (slot : Slot) × IsUsed v r slot) → SaysShape v.account (slot_of k) n s → SaysShape w.account
+      (slot_of k) n s
   kept_shape k n s used (of_branch bitmap entries) = of_branch bitmap entries
   kept_shape k n s used (of_tomb single own is) =
       let u = used single (Contains-get_or (single ∷ []) 0 single (omega arith)) in
@@ -143,7 +144,8 @@ module _ (v w : View) (l : Later v w) where
       }
 
   pub pending_later : (i main replaced : Ref) (header : Header) → KnowsPending v i main replaced header → KnowsPending w i main replaced header
-  pending_later i main replaced header k = record { main_is = main_later main header k.main_is; name = k.name; says = k.says; names = named_later i replaced k.name k.used k.names; used = used_later replaced k.used }
+  pending_later i main replaced header k = record { main_is = main_later main header k.main_is; name = k.name; says = k.says; names = named_later i replaced k.name k.used k.names;
+      used = used_later replaced k.used }
 
 pub pending_over : (v : View) (i main replaced : Ref) (header : Header) → KnowsPending v i main replaced header → IsPendingOver v i main replaced header
 pending_over v i main replaced header k = record { name = k.name; says = k.says; names = k.names; slot = k.main_is.slot; stores = k.main_is.used; is_shape = k.main_is.is_shape }

@@ -24,6 +24,7 @@ mod GivenBack
 mod PublishStep
 mod OwnSlots
 mod MakeStep
+mod RootMade
 mod ReadSteps
 mod ReadAgain
 mod Laters
@@ -66,3 +67,8 @@ mod Allowed
 mod AbortStep
 mod CompleteStep
 mod SeenRoots
+mod EndStep
+mod PinStep
+mod EnterStep
+mod MarkStep
+mod PassStep

@@ -1,8 +1,7 @@
 -- What stands in an indirection's word, and what an exchange of it finds.
 use Rattle.history.specs.declared.calls.Call.{Call}
-use Rattle.std.proofs.Common.{◌≡◌, ◌≢◌, ◌+◌, ◌*◌, ◌^◌, ◌<◌, ℕ, Bool, true, false, [], ◌∷◌, Contains, get_or, slice_index, Some, None, refl, sym, ap, subst, ◌∙◌, arith}
+use Rattle.std.proofs.Common.{◌≡◌, ◌≢◌, ◌*◌, ◌^◌, ◌<◌, ℕ, Bool, true, false, [], ◌∷◌, Contains, get_or, Some, None, sym, ap, subst, ◌∙◌, arith}
 use Rattle.std.proofs.lemmas.List.Elements.{Contains-get_or, Contains-append_left}
-use Rattle.std.proofs.lemmas.Option.{same_Some}
 use mathlib.Core.Option.{some}
 use lib.ListN.{get_elem?}
 use Rattle.atomic_table.specs.Table as Table
@@ -88,7 +87,8 @@ module _ (v : View) (word found : ℕ) (m : Moment v word found) (does : Action)
   generation_now =
       sym (generation_is state i i_there.0.slot i_there.0.used ∙ ap generation_of i_there.3) ∙ same_generation v m.table m.kept m.id m.at i i_there.0 ∙ sym is.generation
 
-  says : (i_there.1 < 2 ^ 36) × ((own : Bool) × OwnIs account.owned (slot_of i) (slot_of current) own × (found ≡ link_code (record { generation = i_there.1; main = record { slot = place_of account current; own = own } })))
+  says : (i_there.1 < 2 ^ 36) × ((own : Bool) × OwnIs account.owned (slot_of i) (slot_of current) own ×
+      (found ≡ link_code (record { generation = i_there.1; main = record { slot = place_of account current; own = own } })))
   says = link_at v word found m i i_there.0 its_word i_there.1 current i_there.3
 
   place_now : place_of account main ≡ link.main.slot
@@ -98,7 +98,7 @@ module _ (v : View) (word found : ℕ) (m : Moment v word found) (does : Action)
   hit stands =
       let same : current ≡ main = sym stands_there_now ∙ stands in
       let own = m.kept.nodes.owners.once (slot_of i) (slot_of main) says.1.0 link.main.own (subst (λ r. OwnIs account.owned (slot_of i) (slot_of r) says.1.0) same says.1.1)
-          (still_own v m.table m.kept m.id m.at (slot_of i) (slot_of main) link.main.own is.names.is_own) in
+      (still_own v m.table m.kept m.id m.at (slot_of i) (slot_of main) link.main.own is.names.is_own) in
       says.1.2 ∙ ap (λ g. link_code (record { generation = g; main = record { slot = place_of account current; own = says.1.0 } })) generation_now
       ∙ ap (λ n. link_code (record { generation = link.generation; main = record { slot = n; own = says.1.0 } })) (ap (place_of account) same ∙ place_now)
       ∙ ap (λ b. link_code (record { generation = link.generation; main = record { slot = link.main.slot; own = b } })) own
@@ -106,13 +106,15 @@ module _ (v : View) (word found : ℕ) (m : Moment v word found) (does : Action)
   current_lives : IsLive state current
   current_lives =
       node_lives v m.table m.kept i current i_there.0.slot i_there.0.lives i_there.0.used
-      (Contains-append_left (refs_of_node i_there.0.slot.node) (refs_of_prev i_there.0.slot.prev) current (subst (λ n. Contains (refs_of_node n) current) (sym i_there.3) (Contains-get_or (current ∷ []) 0 current (omega arith))))
+      (Contains-append_left (refs_of_node i_there.0.slot.node) (refs_of_prev i_there.0.slot.prev) current
+          (subst (λ n. Contains (refs_of_node n) current) (sym i_there.3) (Contains-get_or (current ∷ []) 0 current (omega arith))))
 
   pub miss : main_at state.heap i ≢ main → found ≢ link_code link
   miss other e =
       let places : place_of account current ≡ link.main.slot =
-          one_slot link.generation (place_of account current) link.main.slot says.1.0 link.main.own (place_small v m.table m.kept current current_lives) fits.1
-          (ap (λ g. link_code (record { generation = g; main = record { slot = place_of account current; own = says.1.0 } })) (sym generation_now) ∙ sym says.1.2 ∙ e) in
+      one_slot link.generation (place_of account current) link.main.slot says.1.0 link.main.own (place_small v m.table m.kept current current_lives) fits.1
+      (ap (λ g. link_code (record { generation = g; main = record { slot = place_of account current; own = says.1.0 } })) (sym generation_now) ∙ sym says.1.2 ∙ e) in
       let used = live_in_use v.sizes account m.kept.bounds current current_lives in
-      let one = m.kept.nodes.apart (slot_of current) (slot_of main) used.0 main_there_is.slot (m.kept.nodes.live current current_lives, used.1) (m.kept.nodes.live main main_there_is.lives, main_there_is.used) (places ∙ sym place_now) in
+      let one = m.kept.nodes.apart (slot_of current) (slot_of main) used.0 main_there_is.slot (m.kept.nodes.live current current_lives, used.1)
+          (m.kept.nodes.live main main_there_is.lives, main_there_is.used) (places ∙ sym place_now) in
       other (stands_there_now ∙ slots_tell v.sizes account m.kept.bounds current main current_lives main_there_is.lives one)

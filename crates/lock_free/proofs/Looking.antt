@@ -1,11 +1,9 @@
 -- What loads of nodes find.
-use Rattle.std.proofs.Common.{◌≡◌, ◌+◌, ◌*◌, ◌/◌, ◌^◌, ◌<◌, ◌≤◌, ℕ, Bool, true, false, List, [], ◌∷◌, Contains, get_or, slice_index, slice_get, length, Some, None, refl, sym, ap, subst, ◌∙◌, arith}
+use Rattle.std.proofs.Common.{◌≡◌, ◌+◌, ◌*◌, ◌/◌, ◌^◌, ◌<◌, ℕ, Bool, true, List, [], ◌∷◌, Contains, slice_index, slice_get, Some, refl, sym, ap, subst, ◌∙◌, arith}
 use Rattle.std.proofs.lemmas.Bool.{true≢false}
 use Rattle.std.proofs.lemmas.List.Elements.{Contains-get_or}
 use Rattle.std.proofs.lemmas.Option.{same_Some}
 use Rattle.trie_words.specs.Codes.{header_of, link_of, link_code, pair_of}
-use Rattle.trie_words.specs.declared.headers.Header.{Header}
-use Rattle.trie_words.specs.declared.links.Link.{Link}
 use Rattle.machine_model.specs.Beneath.slot_arena.specs.declared.refs.Ref.{Ref}
 use Rattle.machine_model.specs.Beneath.slot_arena.specs.declared.nodes.Node.{Node}
 use Rattle.machine_model.specs.Beneath.slot_arena.specs.declared.nodes.Node.TheVariants.{Indirection, Branch, Single, Tomb, List as Listed}
@@ -14,15 +12,13 @@ use Rattle.machine_model.specs.Beneath.slot_arena.specs.Heaps.{no_ref, entries_o
 use Rattle.machine_model.specs.Beneath.slot_arena.specs.Refs.{slot_of}
 use Rattle.machine_model.specs.declared.actions.Action.{Action}
 use Rattle.machine_model.specs.declared.actions.Action.TheVariants as act
-use Rattle.machine_model.specs.declared.operations.Operation.{Operation}
 use Rattle.machine_model.specs.Operations.{action_of}
 use Rattle.machine_model.specs.States.{State}
 use Rattle.proof_memory.specs.Wants.{is_main_node, is_branch_or_list}
 use Rattle.lock_free.specs.declared.accounts.Account.{Account}
 use Rattle.lock_free.specs.declared.rules.View.{View}
 use Rattle.lock_free.specs.Accounts.{state_of, place_of, running, OwnIs}
-use Rattle.lock_free.specs.Loading.{Moment, now, IsAt, seen, HasSeen, HasGone, Holds, Stores, HasHeader, HasLink, SaysMain, SaysLink, SaysKey, SaysValue, SaysPair, IsAtSlot, Went, Saw, SawOf, SameSlots, HasRead}
-use Rattle.lock_free.specs.Live.{IsLive}
+use Rattle.lock_free.specs.Loading.{Moment, now, IsAt, HasSeen, HasGone, Holds, Stores, HasHeader, HasLink, SaysMain, SaysLink, SaysKey, SaysValue, SaysPair, IsAtSlot, Went, Saw, SameSlots}
 use Rattle.lock_free.specs.Nodes.{StandsAs, InTable, SaysHeader, IsEntryOf, half_of}
 use Rattle.lock_free.proofs.Asked.{links_of, mains_of, link_stands, main_stands, looked_at_lives}
 use Rattle.lock_free.proofs.Definition.{IsReading, reads_of}
@@ -42,7 +38,8 @@ module _ (account : Account) (state : State) (words : List ℕ) (name k : ℕ) (
   header_in (Tomb single) is h = subst (λ w. SaysHeader account state k slot w) (sym h.1) h.2
   header_in (Listed singles) is h = subst (λ w. SaysHeader account state k slot w) (sym h.0.1) h.0.2
 
-  pair_in : (position : ℕ) (node : Node) → is_branch_or_list node ≡ true → StandsAs account state (InTable words) name k slot node → (n : ℕ) (e : Ref) → n / 2 ≡ position / 2 → slice_get (entries_of node) n ≡ Some e →
+  pair_in : (position : ℕ) (node : Node) → is_branch_or_list node ≡ true → StandsAs account state (InTable words) name k slot node → (n : ℕ) (e : Ref) → n / 2 ≡ position / 2 → slice_get
+      (entries_of node) n ≡ Some e →
       IsEntryOf account state.heap e (half_of (slice_index words (2 * name + 1 + position / 2)) n)
   pair_in position (Branch bitmap entries) is h n e same at =
       let x = h.1 n e at in subst (λ w. IsEntryOf account state.heap e (half_of w n)) (sym x.1 ∙ ap (λ m. slice_index words (2 * name + 1 + m)) same) x.2
@@ -83,9 +80,11 @@ module _ (v : View) (word found : ℕ) (m : Moment v word found) where
         (header_in account state m.table.words (place_of v.account r) (slot_of r) h.slot h.slot.node main stands)
 
     pub link_at : word ≡ 2 * place_of v.account r → (generation : ℕ) (main : Ref) → h.slot.node ≡ Indirection generation main →
-        (generation < 2 ^ 36) × ((own : Bool) × OwnIs account.owned (slot_of r) (slot_of main) own × (found ≡ link_code (record { generation = generation; main = record { slot = place_of account main; own = own } })))
+        (generation < 2 ^ 36) × ((own : Bool) × OwnIs account.owned (slot_of r) (slot_of main) own ×
+            (found ≡ link_code (record { generation = generation; main = record { slot = place_of account main; own = own } })))
     link_at its generation main node =
-        let link = subst (λ n. StandsAs account state (InTable m.table.words) (place_of v.account r) (slot_of r) h.slot n) node stands in (link.0, (link.1.0, link.1.1, sym (is_found (2 * place_of v.account r) its) ∙ link.1.2))
+        let link = subst (λ n. StandsAs account state (InTable m.table.words) (place_of v.account r) (slot_of r) h.slot n) node stands in
+            (link.0, (link.1.0, link.1.1, sym (is_found (2 * place_of v.account r) its) ∙ link.1.2))
 
     pub says_main : word ≡ 2 * place_of v.account r → SaysMain account state r (header_of found)
     says_main its slot is main =
@@ -100,11 +99,13 @@ module _ (v : View) (word found : ℕ) (m : Moment v word found) where
 
     pub says_key : word ≡ 2 * place_of v.account r → SaysKey state r found
     says_key its slot key value is node =
-        let single = subst (λ n. StandsAs account state (InTable m.table.words) (place_of v.account r) (slot_of r) slot n) node (stands_so slot is) in sym (is_found (2 * place_of v.account r) its) ∙ single.0
+        let single = subst (λ n. StandsAs account state (InTable m.table.words) (place_of v.account r) (slot_of r) slot n) node (stands_so slot is) in sym (is_found (2 * place_of v.account r) its) ∙
+            single.0
 
     pub says_value : word ≡ 2 * place_of v.account r + 1 → SaysValue state r found
     says_value its slot key value is node =
-        let single = subst (λ n. StandsAs account state (InTable m.table.words) (place_of v.account r) (slot_of r) slot n) node (stands_so slot is) in sym (is_found (2 * place_of v.account r + 1) its) ∙ single.1
+        let single = subst (λ n. StandsAs account state (InTable m.table.words) (place_of v.account r) (slot_of r) slot n) node (stands_so slot is) in sym
+            (is_found (2 * place_of v.account r + 1) its) ∙ single.1
 
     pub says_pair : (position : ℕ) → word ≡ 2 * place_of v.account r + 1 + position / 2 → SaysPair account state r position (pair_of found)
     says_pair position its slot n e is kind same at =
@@ -113,7 +114,8 @@ module _ (v : View) (word found : ℕ) (m : Moment v word found) where
 
   -- what the operation's action names is there
   module _ (does : Action) (p : IsAt v does) where
-    pub o_there : (mark : Bool) × running v.sizes account v.actor (record p.operation { is_marked = mark }) × (action_of state (record p.operation { is_marked = mark }) ≡ action_of (now v) p.operation)
+    pub o_there : (mark : Bool) × running v.sizes account v.actor (record p.operation { is_marked = mark }) ×
+        (action_of state (record p.operation { is_marked = mark }) ≡ action_of (now v) p.operation)
     o_there = (waited_so v m.table m.kept m.id m.at).stays p.operation p.runs
 
     pub acts_there : action_of state (record p.operation { is_marked = o_there.0 }) ≡ does
@@ -161,7 +163,8 @@ module _ (before : View) (name word found : ℕ) (after : View) (g : HasGone bef
   pub same_slots : (does : Action) → IsReading does → IsAt before does → SameSlots (state_of before.sizes g.0.kept.account) (now after)
   same_slots does reading p =
       let o = o_there before word found g.0 does p in
-      let reads = reads_of before.sizes g.0.kept.account g.0.kept.bounds before.actor (record p.operation { is_marked = o.0 }) o.1 (subst IsReading (sym (acts_there before word found g.0 does p)) reading) in
+      let reads = reads_of before.sizes g.0.kept.account g.0.kept.bounds before.actor (record p.operation { is_marked = o.0 }) o.1
+          (subst IsReading (sym (acts_there before word found g.0 does p)) reading) in
       subst (λ (x : View). SameSlots (state_of before.sizes g.0.kept.account) (now x)) (sym g.1) reads.nodes
 
   -- where it was to do that to the node in this slot
@@ -200,7 +203,8 @@ module _ (before : View) (name word found : ℕ) (after : View) (g : HasGone bef
       HasLink g.0.kept.account (state_of before.sizes g.0.kept.account) r (link_of found) × SameSlots (state_of before.sizes g.0.kept.account) (now after)
   link_read is_at its r p =
       let there = link_there before word found g.0 (act.ReadMain r) r (one_named r) p in
-      (says_link before word found g.0 r there.0 (its ∙ ap (λ n. 2 * n) (its_slot act.ReadMain (λ q. refl) is_at r p)) there.0.slot there.1 there.2 there.0.used there.3, same_slots (act.ReadMain r) tt p)
+      (says_link before word found g.0 r there.0 (its ∙ ap (λ n. 2 * n) (its_slot act.ReadMain (λ q. refl) is_at r p)) there.0.slot there.1 there.2 there.0.used there.3, same_slots
+          (act.ReadMain r) tt p)
 
 -- by none
 module _ (before : View) (name word found : ℕ) (after : View) (h : HasSeen before word found after) where

@@ -1,7 +1,6 @@
 -- A node that is made stands in the slot that was written for it, and all others stand as they did.
-use Rattle.history.specs.declared.calls.Call.{Call}
-use Rattle.std.proofs.Common.{◌≡◌, ◌≢◌, ◌+◌, ◌*◌, ◌⊎◌, ℕ, zero, suc, ◌<◌, ◌≤◌, inl, inr, Bool, true, false, List, [], ◌∷◌, ◌++◌, Contains, length, set, get_or, slice_index, Option, Some, None, refl, sym, ap, subst, ◌∙◌, arith, length-append, slice_get, ◌==◌, if◌then◌else◌}
-use Rattle.std.proofs.lemmas.List.{get_or-set_same}
+use Rattle.std.proofs.Common.{◌≡◌, ◌≢◌, ◌*◌, ℕ, zero, suc, inl, inr, Bool, true, false, List, [], ◌∷◌, ◌++◌, Contains, length, get_or, Option, Some, None, refl, sym, ap, subst, ◌∙◌, arith}
+use Rattle.std.proofs.Common.{slice_get, ◌==◌, if◌then◌else◌}
 use Rattle.std.proofs.lemmas.List.Elements.{Contains-get_or, Contains-append_left, Contains-append_right}
 use Rattle.std.proofs.lemmas.Bool.{cases_eq, eq-eqb, ne_eqb, true≢false}
 use Rattle.std.proofs.lemmas.Option.{none-some, same_Some}
@@ -12,23 +11,22 @@ use Rattle.machine_model.specs.Beneath.slot_arena.specs.declared.nodes.Prev.{Pre
 use Rattle.machine_model.specs.Beneath.slot_arena.specs.declared.nodes.Prev.TheVariants as prev
 use Rattle.machine_model.specs.Beneath.slot_arena.specs.declared.nodes.Slot.{Slot}
 use Rattle.machine_model.specs.Beneath.slot_arena.specs.Refs.{slot_of}
-use Rattle.machine_model.specs.Beneath.slot_arena.specs.Heaps.{Heap, node_at, stored, node_of, main_of, main_at, entries_of, refs_of_node, refs_of_prev, refs_of_slot}
+use Rattle.machine_model.specs.Beneath.slot_arena.specs.Heaps.{node_at, stored, node_of, main_of, refs_of_node, refs_of_prev}
 use Rattle.machine_model.specs.declared.operations.Operation.{Operation}
-use Rattle.machine_model.specs.declared.lines.Line.{Line}
-use Rattle.machine_model.specs.States.{State, operation_of, root_at}
-use Rattle.trie_words.specs.Codes.{entry_code, link_code, header_code, pair_code}
+use Rattle.machine_model.specs.States.{State}
+use Rattle.trie_words.specs.Codes.{entry_code, link_code}
 use Rattle.trie_words.specs.declared.headers.Previous.{Previous}
 use Rattle.trie_words.specs.declared.headers.Previous.TheVariants as previous
 use Rattle.trie_words.specs.declared.headers.Shape.{Shape}
 use Rattle.trie_words.specs.declared.headers.Shape.TheVariants as shape
 use Rattle.lock_free.specs.declared.accounts.Account.{Account}
 use Rattle.lock_free.specs.declared.accounts.Owned.{Owned}
-use Rattle.lock_free.specs.declared.accounts.Known.{Known}
 use Rattle.lock_free.specs.declared.sizes.Sizes.{Sizes}
-use Rattle.lock_free.specs.Accounts.{state_of, place_at, place_of, OwnIs, first, later, IsOwn}
-use Rattle.lock_free.specs.Nodes.{Has, StandsAs, InTable, AreEntries, IsEntryOf, is_single, half_of, entry_word, IsAhead, IsOver, SaysPrevious, decided, ahead, pending, failed, SaysShape, of_branch, of_tomb, of_list, SaysHeader, class_of}
-use Rattle.lock_free.specs.Making.{over_of, Drafted, IsOverBy, shape_with, DraftsHeader, DraftsNode, owned_with, made_at, refs_of_offer, NamesNot, Makes}
-use Rattle.lock_free.specs.Rules.{Standing, Stands}
+use Rattle.lock_free.specs.Accounts.{state_of, place_of, OwnIs, first, later}
+use Rattle.lock_free.specs.Nodes.{Has, StandsAs, AreEntries, IsEntryOf, is_single, half_of, IsAhead, IsOver, SaysPrevious, decided, ahead, pending, failed, SaysShape, of_branch, of_tomb, of_list}
+use Rattle.lock_free.specs.Nodes.{SaysHeader}
+use Rattle.lock_free.specs.Making.{over_of, IsOverBy, shape_with, DraftsHeader, DraftsNode, owned_with, made_at, Makes}
+use Rattle.lock_free.specs.Rules.{Standing}
 
 -- ---- places
 
@@ -79,7 +77,8 @@ is_pending q e = true≢false (ap is_undecided e)
 pub is_failed : (q : Ref) → prev.Failed q ≡ prev.None → ⊥
 is_failed q e = true≢false (ap is_undecided e)
 
-module _ (sizes : Sizes) (account : Account) (actor : ℕ) (operation : Operation) (name : ℕ) (own : Bool) (node : Node) (more : ℕ) (makes : Makes sizes account (made_at actor name own node account) actor operation node more) where
+module _ (sizes : Sizes) (account : Account) (actor : ℕ) (operation : Operation) (name : ℕ) (own : Bool) (node : Node) (more : ℕ)
+    (makes : Makes sizes account (made_at actor name own node account) actor operation node more) where
   abbrev pub after : Account
   after = made_at actor name own node account
 
@@ -130,7 +129,8 @@ module _ (sizes : Sizes) (account : Account) (actor : ℕ) (operation : Operatio
     | inr new ↦ other (sym its ∙ new.1)
   ]
 
-  previous_by : (k : ℕ) → k ≢ K → (p : Prev) (says : Previous) → ((q : Ref) → Contains (refs_of_prev p) q → slot_of q ≢ K) → ((q : Ref) (b : Bool) → (p ≡ prev.None → ⊥) → IsOver account now k q b → IsOver after next k q b) →
+  previous_by : (k : ℕ) → k ≢ K → (p : Prev) (says : Previous) → ((q : Ref) → Contains (refs_of_prev p) q → slot_of q ≢ K) →
+      ((q : Ref) (b : Bool) → (p ≡ prev.None → ⊥) → IsOver account now k q b → IsOver after next k q b) →
       SaysPrevious account now k p says → SaysPrevious after next k p says
   previous_by k other p says refs over (decided none) = decided (no_ahead k other none)
   previous_by k other p says refs over (ahead i a f b h its is) =
@@ -146,7 +146,8 @@ module _ (sizes : Sizes) (account : Account) (actor : ℕ) (operation : Operatio
   shape_kept : (k : ℕ) (n : Node) (says : Shape) → ((r : Ref) → Contains (refs_of_node n) r → slot_of r ≢ K) → SaysShape account k n says → SaysShape after k n says
   shape_kept k n says refs (of_branch bitmap entries) = of_branch bitmap entries
   shape_kept k n says refs (of_tomb single b is) =
-      subst (λ p. SaysShape after k (Tomb single) (shape.Tomb (record { slot = p; own = b; is_single = true }))) (same_place single (refs single (Contains-get_or (single ∷ []) 0 single (omega arith))))
+      subst (λ p. SaysShape after k (Tomb single) (shape.Tomb (record { slot = p; own = b; is_single = true })))
+          (same_place single (refs single (Contains-get_or (single ∷ []) 0 single (omega arith))))
       (of_tomb single b (owns k (slot_of single) b is))
   shape_kept k n says refs (of_list singles) = of_list singles
 
@@ -166,7 +167,8 @@ module _ (sizes : Sizes) (account : Account) (actor : ℕ) (operation : Operatio
   }
 
   -- a node that stood stands as before
-  pub stood_stands : (has : Has) (p k : ℕ) (slot : Slot) (n : Node) → k ≢ K → get_or now.heap.slots k None ≡ Some slot → n ≡ slot.node → StandsAs account now has p k slot n → StandsAs after next has p k slot n
+  pub stood_stands : (has : Has) (p k : ℕ) (slot : Slot) (n : Node) → k ≢ K → get_or now.heap.slots k None ≡ Some slot → n ≡ slot.node → StandsAs account now has p k slot n →
+      StandsAs after next has p k slot n
   stood_stands has p k slot (Indirection generation main) other at is h = (
     h.0,
     (

@@ -1,5 +1,6 @@
 -- Words, steps and nodes once a node is made in a spare slot whose words have it.
-use Rattle.std.proofs.Common.{◌≡◌, ◌≢◌, ◌+◌, ◌*◌, ◌⊎◌, ℕ, ◌≤◌, inl, inr, Bool, true, List, [], ◌∷◌, ◌++◌, Contains, length, get_or, slice_index, Option, Some, None, refl, sym, ap, subst, ◌∙◌, arith, length-append}
+use Rattle.std.proofs.Common.{◌≡◌, ◌≢◌, ◌+◌, ◌*◌, ◌⊎◌, ℕ, ◌≤◌, inl, inr, Bool, true, List, [], ◌∷◌, ◌++◌, Contains, length, get_or, slice_index, Option, Some, None, refl, sym, ap, subst, ◌∙◌, arith}
+use Rattle.std.proofs.Common.{length-append}
 use Rattle.std.proofs.lemmas.Bool.{cases_eq}
 use Rattle.std.proofs.lemmas.Option.{same_Some}
 use Rattle.std.proofs.lemmas.List.Elements.{All-append, All-cons, All-nil, Contains-get_or, Contains-append_right}
@@ -32,7 +33,8 @@ use Rattle.lock_free.proofs.Owners.{owners_made}
 use Rattle.lock_free.proofs.Made.{place_else, place_last, same_place, stands_too, stands_new, stands_else, stood_stands, new_stands}
 use Rattle.lock_free.proofs.Waiting.{quiet_more}
 
-module _ (sizes : Sizes) (account : Account) (actor : ℕ) (operation : Operation) (name : ℕ) (own : Bool) (node : Node) (more : ℕ) (makes : Makes sizes account (made_at actor name own node account) actor operation node more)
+module _ (sizes : Sizes) (account : Account) (actor : ℕ) (operation : Operation) (name : ℕ) (own : Bool) (node : Node) (more : ℕ)
+    (makes : Makes sizes account (made_at actor name own node account) actor operation node more)
     (stands : Standing) (words : List ℕ) (all : AllStand sizes account stands words) (taken : IsTaken sizes words (class_of node) name) (spare : IsSpare sizes account stands name)
     (small : length (entries_of node) ≤ 32) (drafted : DraftsNode account (state_of sizes account).heap (over_of operation.line) (InTable words) name own node) where
   abbrev pub later : Account
@@ -121,7 +123,8 @@ module _ (sizes : Sizes) (account : Account) (actor : ℕ) (operation : Operatio
   meaning_then : (handle found : ℕ) → MeansRoot account words handle found (root_at (state_of sizes account) handle) → MeansRoot later words handle found (root_at (state_of sizes account) handle)
   meaning_then handle found =
       means_kept account later words words handle (root_at (state_of sizes account) handle)
-      (λ access q is. sym (place_then q (makes.names_not.roots handle q (subst (λ x. Contains (refs_of_root x) q) (sym is) (Contains-get_or (q ∷ []) 0 q (omega arith)))))) (λ k c. (c, refl)) (λ slot none. none) found
+      (λ access q is. sym (place_then q (makes.names_not.roots handle q (subst (λ x. Contains (refs_of_root x) q) (sym is) (Contains-get_or (q ∷ []) 0 q (omega arith)))))) (λ k c. (c, refl))
+          (λ slot none. none) found
 
   second_then : (o : Option Ref) → ((r : Ref) → Contains (refs_of_option o) r → slot_of r ≢ k0) → second_of account o ≡ second_of later o
   second_then None refs = refl
@@ -137,7 +140,8 @@ module _ (sizes : Sizes) (account : Account) (actor : ℕ) (operation : Operatio
       let second = second_then k.offer.second (λ r d. refs r (Contains-append_right (k.offer.root ∷ k.offer.expected ∷ k.offer.successor ∷ []) (refs_of_option k.offer.second) r d)) in
       record {
         olds = h.olds ∙ ap (λ p. pair_code (record { low = p; high = place_of account k.offer.expected })) root ∙ ap (λ p. pair_code (record { low = place_of later k.offer.root; high = p })) expected;
-        news = h.news ∙ ap (λ p. pair_code (record { low = p; high = second_of account k.offer.second })) successor ∙ ap (λ p. pair_code (record { low = place_of later k.offer.successor; high = p })) second;
+        news = h.news ∙ ap (λ p. pair_code (record { low = p; high = second_of account k.offer.second })) successor ∙ ap
+            (λ p. pair_code (record { low = place_of later k.offer.successor; high = p })) second;
       }
 
   pub roots_then : RootsStand sizes later words
@@ -155,7 +159,8 @@ module _ (sizes : Sizes) (account : Account) (actor : ℕ) (operation : Operatio
   }
 
   -- with the words that were exchanged since, before all slots
-  module _ (words_then : List ℕ) (size : length words_then ≡ words_of sizes) (have : HaveTaken sizes words_then) (generations : slice_index words_then generation_word ≡ (state_of sizes later).generations)
+  module _ (words_then : List ℕ) (size : length words_then ≡ words_of sizes) (have : HaveTaken sizes words_then)
+      (generations : slice_index words_then generation_word ≡ (state_of sizes later).generations)
       (nodes : NodesStand sizes later later_stands words_then) (roots : RootsStand sizes later words_then) where
     pub all_then : AllStand sizes later later_stands words_then
     all_then = record {

@@ -11,7 +11,7 @@ use Rattle.machine_model.specs.Beneath.slot_arena.specs.declared.nodes.Node.{Nod
 use Rattle.machine_model.specs.Beneath.slot_arena.specs.declared.nodes.Node.TheVariants.{Indirection, Branch, Single, Tomb, List as Listed}
 use Rattle.machine_model.specs.Beneath.slot_arena.specs.Heaps.{Heap, entries_of}
 use Rattle.machine_model.specs.declared.operations.Operation.{Operation}
-use Rattle.machine_model.specs.States.{State, operation_of}
+use Rattle.machine_model.specs.States.{operation_of}
 use Rattle.lock_free.specs.declared.accounts.Account.{Account}
 use Rattle.lock_free.specs.declared.rules.View.{View}
 use Rattle.lock_free.specs.declared.sizes.Sizes.{Sizes}
@@ -28,7 +28,8 @@ use Rattle.lock_free.proofs.MadeAll.{all_then, nodes_then, roots_then}
 use Rattle.lock_free.proofs.MadeSeats.{its_spare, made_kept}
 
 -- what is written in the words that are meant is written in those that are there
-drafts_in : (account : Account) (heap : Heap) (over : Option (Ref × Ref)) (has there : Has) (name : ℕ) (own : Bool) (node : Node) → ((j w : ℕ) → has j w → there j w) → DraftsNode account heap over has name own node →
+drafts_in : (account : Account) (heap : Heap) (over : Option (Ref × Ref)) (has there : Has) (name : ℕ) (own : Bool) (node : Node) → ((j w : ℕ) → has j w → there j w) →
+    DraftsNode account heap over has name own node →
     DraftsNode account heap over there name own node
 drafts_in account heap over has there name own (Indirection generation main) f h = (h.0, f (2 * name) _ h.1)
 drafts_in account heap over has there name own (Single key value) f h = (f (2 * name) key h.0, f (2 * name + 1) value h.1)
@@ -65,7 +66,8 @@ module _ (sizes : Sizes) (s : Table.State Call View) (kept : IsKept sizes s) (id
 
     there : (j w : ℕ) → Drafted v.drafts last value j w → InTable words_then j w
     there j w h = elim (cases_eq j last) [
-      | inl same ↦ ap (λ n. slice_index words_then n) same ∙ get_or-set_same s.words last value 0 (subst (λ n. last < n) (sym kept.size) (inside sizes s.words kept.taken (class_of node) name last (class_small node) is_spare.0 inside_it)) ∙ sym (h.0 same)
+      | inl same ↦ ap (λ n. slice_index words_then n) same ∙ get_or-set_same s.words last value 0
+          (subst (λ n. last < n) (sym kept.size) (inside sizes s.words kept.taken (class_of node) name last (class_small node) is_spare.0 inside_it)) ∙ sym (h.0 same)
       | inr other ↦ else_same j other ∙ ((kept.seats id v at).drafts (j, w) (h.1 other)).0
     ]
 
@@ -87,7 +89,8 @@ module _ (sizes : Sizes) (s : Table.State Call View) (kept : IsKept sizes s) (id
 
     slot_same : (b other : ℕ) → b < 3 → other ≢ name → IsTaken sizes s.words b other → (j : ℕ) → IsWordOf b other j → slice_index words_then j ≡ slice_index s.words j
     slot_same b other small_b differs taken j its =
-        else_same j (λ same. differs (slots_apart sizes s.words kept.taken b (class_of node) other name last small_b (class_small node) taken is_spare.0 (subst (λ n. IsWordOf b other n) same its) inside_it).1)
+        else_same j (λ same. differs (slots_apart sizes s.words kept.taken b (class_of node) other name last small_b (class_small node) taken is_spare.0
+            (subst (λ n. IsWordOf b other n) same its) inside_it).1)
 
     -- the rule holds
     pub make_kept : IsKept sizes (record { words = words_then; homes = s.homes; views = set s.views id (made_by v (class_of node) name rest own node kept.account) })
@@ -113,7 +116,8 @@ module _ (sizes : Sizes) (s : Table.State Call View) (kept : IsKept sizes s) (id
 
     root_drafted : DraftsNode kept.account (state_of sizes kept.account).heap (over_of operation.line) (InTable s.words) name own node
     root_drafted =
-        drafts_in kept.account (state_of sizes kept.account).heap (over_of operation.line) (AreDrafted v.drafts) (InTable s.words) name own node (λ j w c. ((kept.seats id v at).drafts (j, w) c).0) drafted
+        drafts_in kept.account (state_of sizes kept.account).heap (over_of operation.line) (AreDrafted v.drafts) (InTable s.words) name own node
+            (λ j w c. ((kept.seats id v at).drafts (j, w) c).0) drafted
 
     root_nodes : NodesStand sizes (made_at v.actor name own node kept.account) (stands_too (length kept.account.names) kept.stands) s.words
     root_nodes = nodes_then sizes kept.account v.actor operation name own node 1 makes kept.stands s.words all root_spare.0 root_spare.1 small root_drafted
@@ -127,14 +131,17 @@ module _ (sizes : Sizes) (s : Table.State Call View) (kept : IsKept sizes s) (id
     root_taken : (b n : ℕ) → b < 3 → IsTaken sizes s.words b n → IsTaken sizes root_words b n
     root_taken b n low h = record { number = h.number; few = subst (λ m. h.number < m) (sym (beside (taken_word b) (λ e. absurd (omega (arith, e))))) h.few; first = h.first }
 
-    root_made : AllStand sizes (made_at v.actor name own node kept.account) (stands_too (length kept.account.names) kept.stands) root_words
+    pub root_made : AllStand sizes (made_at v.actor name own node kept.account) (stands_too (length kept.account.names) kept.stands) root_words
     root_made =
         all_then sizes kept.account v.actor operation name own node 1 makes kept.stands s.words all root_spare.0 root_spare.1 small root_drafted root_words
         (length-set s.words generation_word (given_out + 1) ∙ kept.size)
         (λ c low. subst (λ n. n ≤ slots_in sizes c) (sym (beside (taken_word c) (λ e. absurd (omega (arith, e))))) (kept.taken c low))
-        (let size = kept.size in let same = get_or-set_same s.words generation_word (given_out + 1) 0 (omega (arith, size)) in let before = kept.generations in let one = makes.generations in omega (arith, same, before, one))
-        (nodes_below sizes (made_at v.actor name own node kept.account) (stands_too (length kept.account.names) kept.stands) s.words kept.taken root_nodes root_roots generation_word before_slots (given_out + 1) root_taken)
-        (roots_below sizes (made_at v.actor name own node kept.account) (stands_too (length kept.account.names) kept.stands) s.words kept.taken root_nodes root_roots generation_word before_slots (given_out + 1) root_taken
+        (let size = kept.size in let same = get_or-set_same s.words generation_word (given_out + 1) 0 (omega (arith, size)) in let before = kept.generations in let one = makes.generations in omega
+            (arith, same, before, one))
+        (nodes_below sizes (made_at v.actor name own node kept.account) (stands_too (length kept.account.names) kept.stands) s.words kept.taken root_nodes root_roots generation_word before_slots
+            (given_out + 1) root_taken)
+        (roots_below sizes (made_at v.actor name own node kept.account) (stands_too (length kept.account.names) kept.stands) s.words kept.taken root_nodes root_roots generation_word before_slots
+            (given_out + 1) root_taken
         (λ handle low e. (let where_it_is = root_below handle low in absurd (omega (arith, e, where_it_is.0)))))
 
     -- the rule holds
@@ -142,4 +149,5 @@ module _ (sizes : Sizes) (s : Table.State Call View) (kept : IsKept sizes s) (id
     make_root_kept =
         made_kept sizes s kept id v at operation runs name own node 1 makes rest pool root_words root_made (λ a most. beside (pin_word a) (λ e. absurd (omega (arith, e))))
         (λ handle below. (let where_it_is = root_below handle below in beside (root_word handle) (λ e. absurd (omega (arith, e, where_it_is.0))))) root_taken
-        (λ b other low differs taken j its. beside j (no_slot sizes kept.account kept.stands s.words kept.taken kept.nodes kept.roots generation_word before_slots (given_out + 1) root_taken b other low taken j its)) unopened
+        (λ b other low differs taken j its. beside j (no_slot sizes kept.account kept.stands s.words kept.taken kept.nodes kept.roots generation_word before_slots
+            (given_out + 1) root_taken b other low taken j its)) unopened

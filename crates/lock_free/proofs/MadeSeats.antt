@@ -1,6 +1,6 @@
 -- A seat's operation makes a node in a free slot of its own: the rule for all seats, from what stands in words then.
 use Rattle.history.specs.declared.calls.Call.{Call}
-use Rattle.std.proofs.Common.{◌≡◌, ◌≢◌, ◌+◌, ℕ, ◌<◌, ◌≤◌, inl, inr, Bool, List, [], ◌∷◌, ◌++◌, Contains, length, set, get_or, slice_index, is_some, Some, None, refl, sym, ap, subst, ◌∙◌, arith}
+use Rattle.std.proofs.Common.{◌≡◌, ◌≢◌, ℕ, ◌<◌, ◌≤◌, inl, inr, Bool, List, [], ◌∷◌, ◌++◌, Contains, length, set, get_or, slice_index, is_some, Some, None, refl, sym, ap, subst, ◌∙◌, arith}
 use Rattle.std.proofs.lemmas.Bool.{cases_eq}
 use Rattle.std.proofs.lemmas.List.Elements.{All-cons, All-nil}
 use mathlib.Core.Option.{some}
@@ -11,7 +11,7 @@ use Rattle.machine_model.specs.Beneath.slot_arena.specs.declared.nodes.Node.TheV
 use Rattle.machine_model.specs.declared.steps.Step.TheVariants as step
 use Rattle.machine_model.specs.declared.operations.Operation.{Operation}
 use Rattle.machine_model.specs.Acting.{operation_after}
-use Rattle.machine_model.specs.States.{State, operation_of, root_at, handle_limit}
+use Rattle.machine_model.specs.States.{operation_of, root_at, handle_limit}
 use Rattle.lock_free.specs.declared.accounts.Account.{Account}
 use Rattle.lock_free.specs.declared.accounts.Owned.{Owned}
 use Rattle.lock_free.specs.declared.rules.View.{View}
@@ -24,7 +24,7 @@ use Rattle.lock_free.specs.Rules.{Standing, IsClosing, SaysClosing, IsFree, IsSp
 use Rattle.lock_free.specs.Trying.{as_before}
 use Rattle.lock_free.proofs.Assembling.{AllStand, closing_stays, numbers_stay, assembled}
 use Rattle.lock_free.proofs.Framing.{class_small}
-use Rattle.lock_free.proofs.Geometry.{IsWordOf, inside}
+use Rattle.lock_free.proofs.Geometry.{IsWordOf}
 use Rattle.lock_free.proofs.Made.{stands_too, stands_else, place_else, place_last}
 use Rattle.lock_free.proofs.Pools.{pool_else}
 use Rattle.lock_free.proofs.Spending as spending
@@ -69,7 +69,8 @@ module _ (sizes : Sizes) (s : Table.State Call View) (kept : IsKept sizes s) (id
   waits actor before differs h =
       subst (λ owned. HasWaited actor before (record { steps = kept.account.steps ++ step.Go v.actor ∷ []; names = kept.account.names ++ name ∷ []; owned = owned; offers = kept.account.offers }))
       (owned_is node)
-      (waited_more actor before kept.account (step.Go v.actor ∷ []) (name ∷ []) (owned_more node) [] (All-cons (IsOfOther actor) (step.Go v.actor) [] (λ e. differs (sym e)) (All-nil (IsOfOther actor))) h)
+      (waited_more actor before kept.account (step.Go v.actor ∷ []) (name ∷ []) (owned_more node) []
+          (All-cons (IsOfOther actor) (step.Go v.actor) [] (λ e. differs (sym e)) (All-nil (IsOfOther actor))) h)
     where
       owned_more : Node → List Owned
       owned_more n = owned_with [] (length kept.account.names) own n
@@ -88,7 +89,8 @@ module _ (sizes : Sizes) (s : Table.State Call View) (kept : IsKept sizes s) (id
   once_then : (b : ℕ) → b < 3 → Once (pool_of view_then.pool b)
   once_then = spending.once_then sizes s kept id v at (class_of node) (class_small node) name rest pool
 
-  module _ (words_then : List ℕ) (made_all : AllStand sizes account_then stands_then words_then) (pin_same : (a : ℕ) → a ≤ sizes.seats → slice_index words_then (pin_word a) ≡ slice_index s.words (pin_word a))
+  module _ (words_then : List ℕ) (made_all : AllStand sizes account_then stands_then words_then)
+      (pin_same : (a : ℕ) → a ≤ sizes.seats → slice_index words_then (pin_word a) ≡ slice_index s.words (pin_word a))
       (root_same : (handle : ℕ) → handle < handle_limit → slice_index words_then (root_word handle) ≡ slice_index s.words (root_word handle))
       (taken : (b other : ℕ) → b < 3 → IsTaken sizes s.words b other → IsTaken sizes words_then b other)
       (slot_same : (b other : ℕ) → b < 3 → other ≢ name → IsTaken sizes s.words b other → (j : ℕ) → IsWordOf b other j → slice_index words_then j ≡ slice_index s.words j)
@@ -126,7 +128,8 @@ module _ (sizes : Sizes) (s : Table.State Call View) (kept : IsKept sizes s) (id
     -- the rule holds
     pub made_kept : IsKept sizes (record { words = words_then; homes = s.homes; views = set s.views id view_then })
     made_kept =
-        assembled sizes s kept id v at view_then refl refl account_then stands_then words_then made_all closings_then own_then (other_kept sizes s kept id v at account_then stands_then words_then stays)
+        assembled sizes s kept id v at view_then refl refl account_then stands_then words_then made_all closings_then own_then
+            (other_kept sizes s kept id v at account_then stands_then words_then stays)
         (λ b other f. inl (was_free b other f).0)
         (numbers_stay sizes s kept id v at view_then refl refl account_then words_then (as_before makes.tries) (λ slot none. none) root_same refl
         (λ slot handle e free. (free.0, pool_still handle e slot free)))

@@ -1,6 +1,6 @@
 -- The last store in a free slot makes the node that is written there: the operation's step.
 use Rattle.history.specs.declared.calls.Call.{Call}
-use Rattle.std.proofs.Common.{◌≡◌, ◌≢◌, ◌+◌, ◌*◌, ◌<◌, ◌≤◌, ℕ, inl, inr, Bool, true, false, List, [], ◌∷◌, ◌++◌, Contains, length, set, get_or, slice_get, slice_index, Option, Some, None, refl, sym, ap, subst, ◌∙◌, arith}
+use Rattle.std.proofs.Common.{◌≡◌, ◌≢◌, ◌*◌, ℕ, inl, inr, Bool, true, List, [], ◌∷◌, Contains, set, Option, Some, None, refl, sym, ap, subst, ◌∙◌, arith}
 use Rattle.std.proofs.lemmas.List.Elements.{Contains-get_or, Contains-append_left, Contains-push}
 use Rattle.std.proofs.lemmas.Bool.{cases_eq}
 use Rattle.std.proofs.lemmas.Option.{same_Some}
@@ -28,21 +28,20 @@ use Rattle.lock_free.proofs.OneStep.Openers.{openers_make_roots}
 use Rattle.machine_model.specs.Beneath.slot_arena.specs.declared.refs.Ref.{Ref}
 use Rattle.machine_model.specs.Beneath.slot_arena.specs.declared.nodes.Node.{Node}
 use Rattle.machine_model.specs.Beneath.slot_arena.specs.declared.nodes.Node.TheVariants.{Indirection, Branch, Single, Tomb, List as Listed}
-use Rattle.machine_model.specs.Beneath.slot_arena.specs.Heaps.{Heap, node_at, refs_of_node, entries_of}
+use Rattle.machine_model.specs.Beneath.slot_arena.specs.Heaps.{Heap, node_at, refs_of_node}
 use Rattle.machine_model.specs.declared.actions.Action.TheVariants as act
-use Rattle.machine_model.specs.declared.lines.Line.{Line}
 use Rattle.machine_model.specs.declared.operations.Operation.{Operation}
 use Rattle.machine_model.specs.States.{State}
 use Rattle.lock_free.specs.declared.accounts.Account.{Account}
 use Rattle.lock_free.specs.declared.rules.View.{View}
 use Rattle.lock_free.specs.declared.sizes.Sizes.{Sizes}
 use Rattle.lock_free.specs.Accounts.{state_of, place_of, running, IsOwn}
-use Rattle.lock_free.specs.Loading.{Moment, now, seen, IsAt, IsSound, Took}
+use Rattle.lock_free.specs.Loading.{now, IsAt, IsSound, Took}
 use Rattle.lock_free.specs.Making.{over_of, Drafted, IsOverBy, shape_with, DraftsHeader, DraftsNode, made_at, made_by, Makes}
-use Rattle.lock_free.specs.Nodes.{Has, is_single, IsEntryOf, AreEntries, half_of, class_of}
-use Rattle.lock_free.specs.Places.{words_in, words_of}
+use Rattle.lock_free.specs.Nodes.{Has, is_single, AreEntries, class_of}
+use Rattle.lock_free.specs.Places.{words_of}
 use Rattle.lock_free.specs.Rules.{pool_of, IsFree, IsKept}
-use Rattle.lock_free.specs.Storing.{IsOwnWord, Writes, IsAtMake, HasMade, has_made}
+use Rattle.lock_free.specs.Storing.{IsOwnWord, Writes, IsAtMake, has_made}
 
 -- what is written is written so later too, where places stay, whose own nodes are, and which entries are singles
 module _ (before after : Account) (first later : Heap) (has : Has) (name : ℕ) (own : Bool) (over : Option (Ref × Ref))
@@ -60,22 +59,29 @@ module _ (before after : Account) (first later : Heap) (has : Has) (name : ℕ) 
     shape_stays (Listed singles) places = refl
 
     header_stays : (n : Node) (word : ℕ) → ((r : Ref) → Contains (refs_of_node n) r → place_of after r ≡ place_of before r) → DraftsHeader before over own n word → DraftsHeader after over own n word
-    header_stays n word places h = record { previous = h.previous; is_previous = over_stays over h.previous over_places h.is_previous; shape = h.shape; is_shape = shape_stays n places ∙ h.is_shape; code = h.code }
+    header_stays n word places h = record { previous = h.previous; is_previous = over_stays over h.previous over_places h.is_previous; shape = h.shape; is_shape = shape_stays n places ∙ h.is_shape;
+        code = h.code }
 
-    entries_stay : (entries : List Ref) → ((r : Ref) → Contains entries r → (place_of after r ≡ place_of before r) × (is_single (node_at later r) ≡ is_single (node_at first r))) → AreEntries before first has name entries → AreEntries after later has name entries
+    entries_stay : (entries : List Ref) → ((r : Ref) → Contains entries r → (place_of after r ≡ place_of before r) × (is_single (node_at later r) ≡ is_single (node_at first r))) →
+        AreEntries before first has name entries → AreEntries after later has name entries
     entries_stay entries same h position e at =
         let x = h position e at in
-        let s = same e (got_in entries position e at) in
-        (x.0, x.1, record {
-          own = x.2.own;
-          code = x.2.code ∙ ap (λ p. entry_code (record { slot = p; own = x.2.own; is_single = is_single (node_at first e) })) (sym s.0)
-              ∙ ap (λ b. entry_code (record { slot = place_of after e; own = x.2.own; is_single = b })) (sym s.1);
-        })
+        let s = same e (got_in entries position e at) in (
+          x.0,
+          x.1,
+          record {
+            own = x.2.own;
+            code = x.2.code ∙ ap (λ p. entry_code (record { slot = p; own = x.2.own; is_single = is_single (node_at first e) })) (sym s.0)
+                ∙ ap (λ b. entry_code (record { slot = place_of after e; own = x.2.own; is_single = b })) (sym s.1);
+          },
+        )
 
-    pub drafts_stay : (n : Node) → ((r : Ref) → Contains (refs_of_node n) r → (place_of after r ≡ place_of before r) × (is_single (node_at later r) ≡ is_single (node_at first r))) → DraftsNode before first over has name own n →
+    pub drafts_stay : (n : Node) → ((r : Ref) → Contains (refs_of_node n) r → (place_of after r ≡ place_of before r) × (is_single (node_at later r) ≡ is_single (node_at first r))) →
+        DraftsNode before first over has name own n →
         DraftsNode after later over has name own n
     drafts_stay (Indirection generation main) same h =
-        (h.0, subst (λ p. has (2 * name) (link_code (record { generation = generation; main = record { slot = p; own = own } }))) (sym (same main (Contains-get_or (main ∷ []) 0 main (omega arith))).0) h.1)
+        (h.0, subst (λ p. has (2 * name) (link_code (record { generation = generation; main = record { slot = p; own = own } })))
+            (sym (same main (Contains-get_or (main ∷ []) 0 main (omega arith))).0) h.1)
     drafts_stay (Single key value) same h = h
     drafts_stay (Branch bitmap entries) same h = ((h.0.0, h.0.1, header_stays (Branch bitmap entries) h.0.0 (λ r c. (same r c).0) h.0.2), entries_stay entries.items same h.1)
     drafts_stay (Tomb single) same h = (h.0, h.1, header_stays (Tomb single) h.0 (λ r c. (same r c).0) h.2)
@@ -116,8 +122,7 @@ module _ (v : View) (word value : ℕ) (node : Node) (rest : List ℕ) (name : �
   same_names r c =
       let live = made_names_live v.sizes v.account (before v s kept id at) v.actor p.operation p.runs node p.acts r c in
       let was = live_in_use v.sizes v.account (before v s kept id at) r live in
-      let later = nodes_stay v.sizes v.actor v.account there (seat v s kept id at).waited kept.bounds (slot_of r) was.0 was.1 in
-      (
+      let later = nodes_stay v.sizes v.actor v.account there (seat v s kept id at).waited kept.bounds (slot_of r) was.0 was.1 in (
         live_place v s kept id at r live,
         ap is_single (node_is state r later.0 later.1) ∙ single_stays was.0.node later.0.node later.2 ∙ sym (ap is_single (node_is (now v) r was.0 was.1)),
       )
@@ -148,16 +153,22 @@ module _ (v : View) (word value : ℕ) (node : Node) (rest : List ℕ) (name : �
   pub sound_after : IsSound (words_of v.sizes) after
   sound_after =
       let all = all_made v.sizes s kept id v at o stays.1 name own node rest w.last w.small unopened makes word value inside_it drafts_there in
-      record { size = refl; range = kept.range.within; bounds = all.bounds; counted = all.counted; inside = all.nodes.inside; free = λ b n f. (let g = was_free b n f in free_inside v s kept id at b n g) }
+      record { size = refl; range = kept.range.within; bounds = all.bounds; counted = all.counted; inside = all.nodes.inside; free = λ b n f.
+          (let g = was_free b n f in free_inside v s kept id at b n g) }
 
   pub took_after : Took v there after
   took_after q runs = makes.own ∙ ap (λ x. Some (operation_after state x)) (same_Some o q (sym stays.1 ∙ runs))
 
-pub make_allowed : (sizes : Sizes) (size id : ℕ) (me : Me Call View) (word value : ℕ) → IsAtMake me.0 word value → Allows (IsKept sizes) size id me word (λ n. value) (λ n. has_made (step size word value 0 none) me value)
+pub make_allowed : (sizes : Sizes) (size id : ℕ) (me : Me Call View) (word value : ℕ) → IsAtMake me.0 word value → Allows (IsKept sizes) size id me word (λ n. value)
+    (λ n. has_made (step size word value 0 none) me value)
 make_allowed sizes size id me word value (node, rest, name, own, p, w) =
     allowed sizes size id me word (λ n. value) (λ n. has_made (step size word value 0 none) me value)
-    (λ s kept at. (made_by me.0 (class_of node) name rest own node kept.account, kept_after me.0 word value node rest name own p w s kept id at,
-        ((kept.account, waited_so me.0 s kept id at, took_after me.0 word value node rest name own p w s kept id at, (node, rest, name, own, p, w, refl)), sound_after me.0 word value node rest name own p w s kept id at, refl)))
+    (λ s kept at. (
+      made_by me.0 (class_of node) name rest own node kept.account,
+      kept_after me.0 word value node rest name own p w s kept id at,
+      ((kept.account, waited_so me.0 s kept id at, took_after me.0 word value node rest name own p w s kept id at, (node, rest, name, own, p, w, refl)),
+          sound_after me.0 word value node rest name own p w s kept id at, refl),
+    ))
 
 -- its last word is free for the seat till then
 pub is_own_word : (v : View) (word value : ℕ) → IsAtMake v word value → IsOwnWord v word

@@ -1,6 +1,6 @@
 -- What the rule says at the moment of an access: of the seat's operation, of nodes, and what a load leaves.
 use Rattle.history.specs.declared.calls.Call.{Call}
-use Rattle.std.proofs.Common.{◌≡◌, ◌+◌, ◌*◌, ◌<◌, ◌≤◌, ◌⊎◌, ℕ, suc, zero, inl, inr, Bool, List, [], ◌∷◌, ◌++◌, Contains, set, get_or, slice_index, length, Some, None, refl, sym, ap, subst, ◌∙◌, arith}
+use Rattle.std.proofs.Common.{◌≡◌, ◌+◌, ◌*◌, ◌<◌, ◌≤◌, ℕ, suc, zero, inl, inr, Bool, List, [], ◌∷◌, ◌++◌, Contains, set, get_or, slice_index, length, Some, None, refl, sym, ap, subst, ◌∙◌, arith}
 use Rattle.std.proofs.lemmas.List.{set-get_or}
 use Rattle.std.proofs.lemmas.List.Elements.{Contains-append_left}
 use Rattle.std.proofs.lemmas.Option.{same_Some}
@@ -14,7 +14,7 @@ use Rattle.machine_model.specs.Beneath.slot_arena.specs.declared.nodes.Node.{Nod
 use Rattle.machine_model.specs.Beneath.slot_arena.specs.declared.nodes.Node.TheVariants.{Indirection, Branch, Single, Tomb, List as Listed}
 use Rattle.machine_model.specs.Beneath.slot_arena.specs.declared.nodes.Slot.{Slot}
 use Rattle.machine_model.specs.Beneath.slot_arena.specs.Refs.{slot_of}
-use Rattle.machine_model.specs.Beneath.slot_arena.specs.Heaps.{stored, refs_of_node, refs_of_slot, refs_of_prev, entries_of, with_main_word}
+use Rattle.machine_model.specs.Beneath.slot_arena.specs.Heaps.{stored, refs_of_node, refs_of_slot, refs_of_prev, entries_of}
 use Rattle.machine_model.specs.declared.operations.Operation.{Operation}
 use Rattle.machine_model.specs.Acting.{operation_after}
 use Rattle.machine_model.specs.Machine.{AreBounds}
@@ -27,9 +27,9 @@ use Rattle.lock_free.specs.declared.accounts.Account.{Account}
 use Rattle.lock_free.specs.declared.accounts.Owned.{Owned}
 use Rattle.lock_free.specs.declared.rules.View.{View}
 use Rattle.lock_free.specs.declared.sizes.Sizes.{Sizes}
-use Rattle.lock_free.specs.Accounts.{bounds_for, state_of, place_at, place_of, HasWaited, running, gone_on, OwnIs, later}
-use Rattle.lock_free.specs.Live.{refs_of_claims, at_hand, IsKnown, from_root, from_operation, from_slot, IsLive}
-use Rattle.lock_free.specs.Loading.{now, Runs, IsUsed, IsSound, seen, Waited, Took, HasSeen, HasGone, has_seen, has_gone, Holds}
+use Rattle.lock_free.specs.Accounts.{bounds_for, state_of, place_at, place_of, running, gone_on, OwnIs, later}
+use Rattle.lock_free.specs.Live.{refs_of_claims, at_hand, from_operation, from_slot, IsLive}
+use Rattle.lock_free.specs.Loading.{now, IsUsed, IsSound, seen, Waited, Took, has_seen, has_gone, Holds}
 use Rattle.lock_free.specs.Nodes.{StandsAs, InTable}
 use Rattle.lock_free.specs.Places.{words_in, words_of}
 use Rattle.lock_free.specs.Rules.{IsFree, IsSeat, IsKept}
@@ -82,7 +82,8 @@ entry_named (Tomb single) r c = c
 entry_named (Listed singles) r c = c
 
 -- what is an entry of a live main node is live
-pub entry_lives : (sizes : Sizes) (account : Account) (main r : Ref) (slot : Slot) → IsLive (state_of sizes account) main → get_or (state_of sizes account).heap.slots (slot_of main) None ≡ Some slot → Contains (entries_of slot.node) r →
+pub entry_lives : (sizes : Sizes) (account : Account) (main r : Ref) (slot : Slot) → IsLive (state_of sizes account) main → get_or (state_of sizes account).heap.slots
+    (slot_of main) None ≡ Some slot → Contains (entries_of slot.node) r →
     IsLive (state_of sizes account) r
 unfolding stored
 entry_lives sizes account main r slot live is c =
@@ -160,8 +161,7 @@ module _ (v : View) (s : Table.State Call View) (kept : IsKept v.sizes s) (id : 
   module _ (o : Operation) (runs : running v.sizes v.account v.actor o) where
     hand_lives : (r : Ref) → Contains (at_hand (now v) o) r → IsLive (now v) r × IsLive (state_of v.sizes there) r
     hand_lives r c =
-        let here = waited_so.stays o runs in
-        (
+        let here = waited_so.stays o runs in (
           from_operation v.actor o r runs tt c,
           from_operation v.actor (record o { is_marked = here.0 }) r here.1 tt (subst (λ h. Contains (hand_by h o) r) (same_hash v.sizes v.account there) c),
         )
@@ -175,7 +175,8 @@ module _ (v : View) (s : Table.State Call View) (kept : IsKept v.sizes s) (id : 
       (entry_lives v.sizes there main r now_is.0 x.1 now_is.1 (subst (λ xs. Contains xs r) (sym (same_entries slot.node now_is.0.node now_is.2)) e))
 
   -- its operation's step was taken where it then is on the next line
-  pub took_by : (o : Operation) → running v.sizes there v.actor o → (account : Account) → operation_of (state_of v.sizes account) v.actor ≡ Some (operation_after (state_of v.sizes there) o) → Took v there (seen v account)
+  pub took_by : (o : Operation) → running v.sizes there v.actor o → (account : Account) → operation_of (state_of v.sizes account) v.actor ≡ Some (operation_after (state_of v.sizes there) o) →
+      Took v there (seen v account)
   took_by o runs account own q runs_q = own ∙ ap (λ x. Some (operation_after (state_of v.sizes there) x)) (same_Some o q (sym runs ∙ runs_q))
 
   -- ---- a load that is no step
@@ -208,7 +209,8 @@ module _ (v : View) (s : Table.State Call View) (kept : IsKept v.sizes s) (id : 
       assembled v.sizes s kept id v at seen_view refl refl there kept.stands s.words (all_stand v.sizes s kept)
       (λ handle who low says. closing_stays v.sizes s kept id v at seen_view refl refl (λ h e. e) refl handle who (kept.closings handle who low says)) seen_seat
       (λ other w e apart. kept.seats other w e) (λ b n f. inl f)
-      (numbers_stay v.sizes s kept id v at seen_view refl refl there s.words (no_tries there.offers (state_of v.sizes there)) (λ slot none. none) (λ handle low. refl) refl (λ slot handle e free. free))
+      (numbers_stay v.sizes s kept id v at seen_view refl refl there s.words (no_tries there.offers (state_of v.sizes there)) (λ slot none. none) (λ handle low. refl) refl
+          (λ slot handle e free. free))
 
   -- ---- a load that is the operation's step
 
@@ -229,7 +231,8 @@ module _ (v : View) (s : Table.State Call View) (kept : IsKept v.sizes s) (id : 
     gone_kept = kept_then v.sizes s kept id v at o_there here.1 reads
 
     pub gone_sound : IsSound (words_of v.sizes) gone_view
-    gone_sound = record { size = refl; range = kept.range.within; bounds = reads.bounds; counted = kept.counted ∙ sym reads.births; inside = λ k slot e. kept.nodes.inside k slot (sym (reads.nodes k) ∙ e); free = free_inside }
+    gone_sound = record { size = refl; range = kept.range.within; bounds = reads.bounds; counted = kept.counted ∙ sym reads.births; inside = λ k slot e. kept.nodes.inside k slot
+        (sym (reads.nodes k) ∙ e); free = free_inside }
 
     pub gone_took : Took v there gone_view
     gone_took = took_by o_there here.1 (gone_on v.actor there) reads.own
@@ -244,11 +247,18 @@ module _ (sizes : Sizes) (size id : ℕ) (me : Me Call View) (word : ℕ) where
   pub load_allowed : Allows (IsKept sizes) size id me word (λ n. n) (has_seen (step size word 0 0 none) me)
   load_allowed =
       allowed sizes size id me word (λ n. n) (has_seen (step size word 0 0 none) me)
-      (λ s kept at. (seen_view me.0 s kept id at, unchanged s (seen_view me.0 s kept id at) (seen_kept me.0 s kept id at),
-          ((record { table = s; kept = kept; id = id; at = at; finds = refl }, refl), (waited_so me.0 s kept id at).sound, refl)))
+      (λ s kept at. (
+        seen_view me.0 s kept id at,
+        unchanged s (seen_view me.0 s kept id at) (seen_kept me.0 s kept id at),
+        ((record { table = s; kept = kept; id = id; at = at; finds = refl }, refl), (waited_so me.0 s kept id at).sound, refl),
+      ))
 
-  pub go_allowed : (o : Operation) → running me.0.sizes me.0.account me.0.actor o → IsReading (action_of (now me.0) o) → Allows (IsKept sizes) size id me word (λ n. n) (has_gone (step size word 0 0 none) me)
+  pub go_allowed : (o : Operation) → running me.0.sizes me.0.account me.0.actor o → IsReading (action_of (now me.0) o) → Allows (IsKept sizes) size id me word (λ n. n)
+      (has_gone (step size word 0 0 none) me)
   go_allowed o runs reading =
       allowed sizes size id me word (λ n. n) (has_gone (step size word 0 0 none) me)
-      (λ s kept at. (gone_view me.0 s kept id at o runs reading, unchanged s (gone_view me.0 s kept id at o runs reading) (gone_kept me.0 s kept id at o runs reading),
-          ((record { table = s; kept = kept; id = id; at = at; finds = refl }, refl, gone_took me.0 s kept id at o runs reading), gone_sound me.0 s kept id at o runs reading, refl)))
+      (λ s kept at. (
+        gone_view me.0 s kept id at o runs reading,
+        unchanged s (gone_view me.0 s kept id at o runs reading) (gone_kept me.0 s kept id at o runs reading),
+        ((record { table = s; kept = kept; id = id; at = at; finds = refl }, refl, gone_took me.0 s kept id at o runs reading), gone_sound me.0 s kept id at o runs reading, refl),
+      ))

@@ -1,5 +1,5 @@
 -- A pass of a READ, put together.
-use Rattle.std.proofs.Common.{◌≡◌, ℕ, Option, Some, None, refl, sym, ap, subst, ◌∙◌}
+use Rattle.std.proofs.Common.{◌≡◌, ℕ, Option, Some, None, subst}
 use Rattle.trie_words.specs.declared.headers.Header.{Header}
 use Rattle.trie_words.specs.declared.headers.Previous.TheVariants as previous
 use Rattle.trie_words.specs.declared.links.Link.{Link}
@@ -9,14 +9,14 @@ use Rattle.machine_model.specs.declared.actions.Action.TheVariants as act
 use Rattle.machine_model.specs.declared.reading.After.TheVariants.{Goes, Gives}
 use Rattle.machine_model.specs.declared.reading.ReadLine.{ReadLine}
 use Rattle.machine_model.specs.declared.reading.ReadLine.TheVariants as read
-use Rattle.lock_free.specs.declared.reading.Given.{Given}
 use Rattle.lock_free.specs.declared.reading.Passed.{Passed}
 use Rattle.lock_free.specs.declared.reading.Passed.TheVariants as passed
 use Rattle.lock_free.specs.declared.reading.Way.{Way}
 use Rattle.lock_free.specs.declared.rules.View.{View}
 use Rattle.lock_free.specs.Exchanging.{IsNamedOrGone}
 use Rattle.lock_free.specs.Loading.{IsSound, IsAtSlot, HasReadHeader}
-use Rattle.lock_free.specs.Passing.{HasCome, IsReading, IsOnWay, KnowsLink, IsPlaced, KnowsMain, KnowsPending, IsFrom, IsPassing, HasGiven, GoesFrom, PassedBy, HasPassed, HasPassedSome, HasReached, pending_line, IsPending, IsFailed}
+use Rattle.lock_free.specs.Passing.{HasCome, IsReading, IsOnWay, KnowsLink, IsPlaced, KnowsMain, KnowsPending, IsFrom, IsPassing, HasGiven, GoesFrom, PassedBy, HasPassed, HasPassedSome, HasReached}
+use Rattle.lock_free.specs.Passing.{pending_line, IsPending, IsFailed}
 use Rattle.lock_free.proofs.Comings.{at_read, come_on, reading_one, reading_then, way_then, stays_there}
 use Rattle.lock_free.proofs.Laters.{placed_later, link_later}
 use Rattle.lock_free.proofs.Passes.{main_known, none_come, failed_come, pending_come}
@@ -78,10 +78,14 @@ module _ (before middle : View) (name : ℕ) (from : Option Link) (passing : IsP
 
       pub is_failed : IsFailed after name link former
       is_failed = (
-        i, main, failed.0, is_restoring,
+        i,
+        main,
+        failed.0,
+        is_restoring,
         placed_later middle after failed.1.later i name (placed_later before middle there.1.later i name passing.1),
         link_later middle after failed.1.later i main link there.2,
-        failed.2, failed.3,
+        failed.2,
+        failed.3,
       )
 
       pub failed_passes : (last : View) (result : Passed) → HasPassed after result last → HasPassed before result last
@@ -106,7 +110,10 @@ module _ (before middle : View) (name : ℕ) (from : Option Link) (passing : IsP
 
       pub is_pending : IsPending after way link header
       is_pending = (
-        i, main, pends.0, is_settling,
+        i,
+        main,
+        pends.0,
+        is_settling,
         link_later middle after pends.1.later i main link there.2,
         pends.2,
       )

@@ -15,6 +15,7 @@ pub mod Settling
 pub mod Offering
 pub mod Sitting
 pub mod Beginning
+pub mod Idle
 pub mod Restores
 pub mod Decides
 pub mod Publishes

@@ -1,6 +1,6 @@
 -- A seat takes a slot, and writes in one: accesses that are no step.
 use Rattle.history.specs.declared.calls.Call.{Call}
-use Rattle.std.proofs.Common.{◌≡◌, ◌≢◌, ◌+◌, ◌*◌, ◌/◌, ◌<◌, ◌≤◌, ◌⊎◌, ◌==◌, ℕ, zero, suc, inl, inr, List, Contains, set, slice_index, refl, sym, ap, subst, ◌∙◌, arith}
+use Rattle.std.proofs.Common.{◌≡◌, ◌≢◌, ◌+◌, ◌*◌, ◌/◌, ◌<◌, ◌≤◌, ◌⊎◌, ◌==◌, ℕ, zero, suc, inl, inr, Contains, set, slice_index, refl, sym, ap, subst, ◌∙◌, arith}
 use Rattle.std.proofs.lemmas.Bool.{cases_eq}
 use mathlib.Core.Option.{some, none}
 use lib.ListN.{get_elem?}
@@ -11,10 +11,9 @@ use Rattle.atomic_table.proofs.Lists.{set_again}
 use Rattle.lock_free.specs.declared.rules.View.{View}
 use Rattle.lock_free.specs.declared.sizes.Sizes.{Sizes}
 use Rattle.lock_free.specs.Loading.{IsSound}
-use Rattle.lock_free.specs.Making.{with_slot}
-use Rattle.lock_free.specs.Places.{words_in, words_of, part_of, slots_in, taken_word, first_slot_word}
-use Rattle.lock_free.specs.Rules.{IsFree, pool_of, IsKept}
-use Rattle.lock_free.specs.Storing.{IsOwnWord, drafted, has_drafted, with_free, IsSlotOf, has_taken}
+use Rattle.lock_free.specs.Places.{words_in, words_of, part_of, slots_in, taken_word}
+use Rattle.lock_free.specs.Rules.{pool_of, IsKept}
+use Rattle.lock_free.specs.Storing.{IsOwnWord, drafted, has_drafted, with_free, has_taken}
 use Rattle.lock_free.proofs.Drafting.{draft_kept}
 use Rattle.lock_free.proofs.Exchanged.{words_hit, words_miss}
 use Rattle.lock_free.proofs.Moments.{allowed}
@@ -23,7 +22,8 @@ use Rattle.lock_free.proofs.Taking.{take_kept, same_class}
 
 -- ---- a word is written
 
-pub draft_allowed : (sizes : Sizes) (size id : ℕ) (me : Me Call View) (word value : ℕ) → IsOwnWord me.0 word → Allows (IsKept sizes) size id me word (λ n. value) (λ n. has_drafted (step size word value 0 none) me value)
+pub draft_allowed : (sizes : Sizes) (size id : ℕ) (me : Me Call View) (word value : ℕ) → IsOwnWord me.0 word → Allows (IsKept sizes) size id me word (λ n. value)
+    (λ n. has_drafted (step size word value 0 none) me value)
 draft_allowed sizes size id me word value (class, name, free, low, high) =
     allowed sizes size id me word (λ n. value) (λ n. has_drafted (step size word value 0 none) me value)
     (λ s kept at. (drafted me.0 word value, draft_kept me.0.sizes s kept id me.0 at class name free word (record { low = low; high = high }) value, refl))
@@ -61,36 +61,35 @@ module _ (sizes : Sizes) (size id : ℕ) (me : Me Call View) (class : ℕ) (smal
 
   module _ (s : Table.State Call View) (kept : IsKept v.sizes s) (at : get_elem? s.views id ≡ some v) where
     abbrev Taken : Type 0
-    Taken = (w : View) × IsKept v.sizes (record { words = set s.words word (either (slice_index s.words word == count) (count + 1) (slice_index s.words word)); homes = s.homes; views = set s.views id w })
+    Taken = (w : View) × IsKept v.sizes (record { words = set s.words word (either (slice_index s.words word == count) (count + 1) (slice_index s.words word)); homes = s.homes;
+        views = set s.views id w })
         × has_taken (step size word count (count + 1) none) me (slice_index s.words word) (w, me.1)
 
     took : slice_index s.words word ≡ count → Taken
     took e =
         let slot = slot_at v.sizes class (slice_index s.words word) small in
         let w = with_free v class slot.0 in
-        let kept_then = take_kept v.sizes s kept id v at class small (subst (λ n. n < slots_in v.sizes class) (sym e) few) slot.0 slot.1 in
-        (
+        let kept_then = take_kept v.sizes s kept id v at class small (subst (λ n. n < slots_in v.sizes class) (sym e) few) slot.0 slot.1 in (
           w,
           subst (λ ws. IsKept v.sizes (record { words = ws; homes = s.homes; views = set s.views id w }))
-          (ap (λ n. set s.words word (n + 1)) e ∙ words_hit v s kept id at word count (count + 1) e word refl) kept_then,
+              (ap (λ n. set s.words word (n + 1)) e ∙ words_hit v s kept id at word count (count + 1) e word refl) kept_then,
           (
             (λ e c name low same is.
                 (let one = same_class class c same in
                 ap (λ n. (with_free v class n, me.1)) (same_slot slot.0 name (part_of v.sizes class + words_in class * slice_index s.words word) slot.1
-                  (is ∙ ap (λ n. part_of v.sizes n + words_in n * slice_index s.words word) (sym one)))
+                (is ∙ ap (λ n. part_of v.sizes n + words_in n * slice_index s.words word) (sym one)))
                 ∙ ap (λ n. (with_free v n name, me.1)) one)),
             λ other. absurd (other e),
           ),
         )
 
     lost : slice_index s.words word ≢ count → Taken
-    lost differs =
-        (
-          v,
-          subst (λ ws. IsKept v.sizes (record { words = ws; homes = s.homes; views = set s.views id v })) (words_miss v s kept id at word count (count + 1) differs)
+    lost differs = (
+      v,
+      subst (λ ws. IsKept v.sizes (record { words = ws; homes = s.homes; views = set s.views id v })) (words_miss v s kept id at word count (count + 1) differs)
           (subst (λ vs. IsKept v.sizes (record { words = s.words; homes = s.homes; views = vs })) (sym (set_again s.views id v at)) kept),
-          ((λ e. absurd (differs e)), λ other. refl),
-        )
+      ((λ e. absurd (differs e)), λ other. refl),
+    )
 
     taken_or_lost : Taken
     taken_or_lost = elim (cases_eq (slice_index s.words word) count) [
@@ -101,7 +100,8 @@ module _ (sizes : Sizes) (size id : ℕ) (me : Me Call View) (class : ℕ) (smal
   pub take_allowed : Allows (IsKept sizes) size id me word (λ n. either (n == count) (count + 1) n) (has_taken (step size word count (count + 1) none) me)
   take_allowed = allowed sizes size id me word (λ n. either (n == count) (count + 1) n) (has_taken (step size word count (count + 1) none) me) (λ s kept at. taken_or_lost s kept at)
 
-pub taken_sound : (words : ℕ) (v : View) (class count name : ℕ) → class < 3 → count < slots_in v.sizes class → 2 * name ≡ part_of v.sizes class + words_in class * count → IsSound words v → IsSound words (with_free v class name)
+pub taken_sound : (words : ℕ) (v : View) (class count name : ℕ) → class < 3 → count < slots_in v.sizes class → 2 * name ≡ part_of v.sizes class + words_in class * count → IsSound words v →
+    IsSound words (with_free v class name)
 taken_sound words v class count name small few is h =
     record { size = h.size; range = h.range; bounds = h.bounds; counted = h.counted; inside = h.inside; free = λ b n f. free_then b n f.0 (was_free v.pool class name small b n f.0 f.1) }
   where

@@ -1,5 +1,5 @@
 -- Whose own main nodes are stays so, and who is about to be swapped in is nobody's.
-use Rattle.std.proofs.Common.{◌≡◌, ◌≢◌, ◌+◌, ◌<◌, ◌⊎◌, ℕ, inl, inr, Bool, true, List, [], ◌∷◌, ◌++◌, Contains, length, refl, sym, ap, subst, ◌∙◌, arith, length-append}
+use Rattle.std.proofs.Common.{◌≡◌, ◌≢◌, ◌+◌, ◌<◌, ◌⊎◌, ℕ, inl, inr, Bool, List, [], ◌∷◌, Contains, length, refl, sym, ap, subst, ◌∙◌, arith, length-append}
 use Rattle.std.proofs.lemmas.List.Elements.{Contains-get_or}
 use Rattle.machine_model.specs.Beneath.slot_arena.specs.declared.refs.Ref.{Ref}
 use Rattle.machine_model.specs.Beneath.slot_arena.specs.declared.nodes.Node.{Node}
@@ -12,7 +12,7 @@ use Rattle.lock_free.specs.declared.accounts.Account.{Account}
 use Rattle.lock_free.specs.declared.accounts.Owned.{Owned}
 use Rattle.lock_free.specs.declared.sizes.Sizes.{Sizes}
 use Rattle.lock_free.specs.Accounts.{state_of, OwnIs, first, later}
-use Rattle.lock_free.specs.Making.{over_of, owned_with, made_at, Makes}
+use Rattle.lock_free.specs.Making.{owned_with, made_at, Makes}
 use Rattle.lock_free.specs.Nodes.{IsAhead, AreOwners}
 use Rattle.lock_free.specs.Publishing.{owned_now, swapped_in, Publishes}
 
@@ -34,7 +34,8 @@ it_or_before x rest i m b (first y ys) = inl (refl, refl, refl)
 it_or_before x rest i m b (later y ys j k c h) = inr h
 
 -- one more, of a made indirection and a made main node, of which nothing was said before
-module _ (account after : Account) (before next : State) (h : AreOwners account before) (x : Owned) (same : after.owned ≡ x ∷ account.owned) (more : (n : ℕ) → n < length account.names → n < length after.names)
+module _ (account after : Account) (before next : State) (h : AreOwners account before) (x : Owned) (same : after.owned ≡ x ∷ account.owned)
+    (more : (n : ℕ) → n < length account.names → n < length after.names)
     (link : x.holder < length after.names) (main : x.held < length after.names) (new : (b : Bool) → OwnIs account.owned x.holder x.held b → ⊥)
     (fresh : (i a f : Ref) → IsAhead next i a f → (slot_of f ≢ x.held) × ((j : ℕ) (b : Bool) → OwnIs account.owned j (slot_of f) b → ⊥)) where
   cases : (i m : ℕ) (b : Bool) → OwnIs after.owned i m b → IsIt x i m b ⊎ OwnIs account.owned i m b
@@ -75,7 +76,8 @@ module _ (sizes : Sizes) (account : Account) (actor : ℕ) (operation : Operatio
       (λ j b g is. (let y = publishes.no_more j b g is in (y.1, λ k c o. h.fresh j b g y.0 k c o)))
 
 -- a make
-module _ (sizes : Sizes) (account : Account) (actor : ℕ) (operation : Operation) (name : ℕ) (own : Bool) (node : Node) (more : ℕ) (makes : Makes sizes account (made_at actor name own node account) actor operation node more)
+module _ (sizes : Sizes) (account : Account) (actor : ℕ) (operation : Operation) (name : ℕ) (own : Bool) (node : Node) (more : ℕ)
+    (makes : Makes sizes account (made_at actor name own node account) actor operation node more)
     (h : AreOwners account (state_of sizes account)) where
   abbrev after : Account
   after = made_at actor name own node account
@@ -110,11 +112,14 @@ module _ (sizes : Sizes) (account : Account) (actor : ℕ) (operation : Operatio
   }
 
   -- it says whose own this node is
-  with_held : (r : Ref) → Contains (refs_of_node node) r → owned_with account.owned (length account.names) own node ≡ record { holder = length account.names; held = slot_of r; is_own = own } ∷ account.owned → AreOwners after next
+  with_held : (r : Ref) → Contains (refs_of_node node) r → owned_with account.owned (length account.names) own node ≡ record { holder = length account.names; held = slot_of r; is_own = own } ∷
+      account.owned → AreOwners after next
   with_held r there same =
       let low = makes.refs r there in
-      owners_more account after (state_of sizes account) next h (record { holder = length account.names; held = slot_of r; is_own = own }) same (λ n below. omega (arith, below, longer)) (omega (arith, longer))
-      (omega (arith, low, longer)) (λ b o. (let made = (h.made (length account.names) (slot_of r) b o).0 in absurd (omega (arith, made)))) (λ i a f ahead. (not_named r there i a f ahead, not_said i a f ahead))
+      owners_more account after (state_of sizes account) next h (record { holder = length account.names; held = slot_of r; is_own = own }) same (λ n below. omega (arith, below, longer))
+          (omega (arith, longer))
+      (omega (arith, low, longer)) (λ b o. (let made = (h.made (length account.names) (slot_of r) b o).0 in absurd (omega (arith, made))))
+          (λ i a f ahead. (not_named r there i a f ahead, not_said i a f ahead))
 
   owners_by : (n : Node) → n ≡ node → AreOwners after next
   owners_by (Indirection generation main) is =
@@ -122,7 +127,8 @@ module _ (sizes : Sizes) (account : Account) (actor : ℕ) (operation : Operatio
   owners_by (Branch bitmap entries) is = nothing_more (ap (λ m. owned_with account.owned (length account.names) own m) (sym is))
   owners_by (Single key value) is = nothing_more (ap (λ m. owned_with account.owned (length account.names) own m) (sym is))
   owners_by (Tomb single) is =
-      with_held single (subst (λ m. Contains (refs_of_node m) single) is (Contains-get_or (single ∷ []) 0 single (omega arith))) (ap (λ m. owned_with account.owned (length account.names) own m) (sym is))
+      with_held single (subst (λ m. Contains (refs_of_node m) single) is (Contains-get_or (single ∷ []) 0 single (omega arith)))
+          (ap (λ m. owned_with account.owned (length account.names) own m) (sym is))
   owners_by (Listed singles) is = nothing_more (ap (λ m. owned_with account.owned (length account.names) own m) (sym is))
 
   pub owners_made : AreOwners after next

@@ -1,7 +1,7 @@
 -- What the loads of a READ come to.
 use Rattle.history.specs.declared.calls.Access.{Access}
 use Rattle.history.specs.declared.calls.Access.TheVariants.{Writable, ReadOnly}
-use Rattle.std.proofs.Common.{◌≡◌, ◌≢◌, ◌⊎◌, ℕ, inl, inr, Bool, true, false, List, [], ◌∷◌, Contains, get_or, Some, None, refl, sym, ap, subst, ◌∙◌, arith}
+use Rattle.std.proofs.Common.{◌≡◌, ◌≢◌, ℕ, inl, inr, Bool, true, [], ◌∷◌, Contains, get_or, Some, None, refl, sym, ap, subst, ◌∙◌, arith}
 use Rattle.std.proofs.lemmas.Bool.{cases_eq}
 use Rattle.std.proofs.lemmas.List.Elements.{Contains-get_or, Contains-append_left, Contains-append_right}
 use Rattle.trie_words.specs.declared.headers.Header.{Header}
@@ -12,11 +12,10 @@ use Rattle.trie_words.specs.declared.links.Link.{Link}
 use Rattle.trie_words.specs.declared.names.Name.{Name}
 use Rattle.machine_model.specs.Beneath.slot_arena.specs.declared.refs.Ref.{Ref}
 use Rattle.machine_model.specs.Beneath.slot_arena.specs.declared.nodes.Node.{Node}
-use Rattle.machine_model.specs.Beneath.slot_arena.specs.declared.nodes.Node.TheVariants.{Indirection}
 use Rattle.machine_model.specs.Beneath.slot_arena.specs.declared.nodes.Prev.{Prev}
 use Rattle.machine_model.specs.Beneath.slot_arena.specs.declared.nodes.Prev.TheVariants as prev
 use Rattle.machine_model.specs.Beneath.slot_arena.specs.declared.nodes.Slot.{Slot}
-use Rattle.machine_model.specs.Beneath.slot_arena.specs.Heaps.{stored, node_at, node_of, main_of, main_at, generation_of, prev_at, refs_of_node, refs_of_prev, refs_of_slot}
+use Rattle.machine_model.specs.Beneath.slot_arena.specs.Heaps.{stored, node_at, node_of, main_of, main_at, generation_of, refs_of_node, refs_of_prev}
 use Rattle.machine_model.specs.Beneath.slot_arena.specs.Refs.{slot_of}
 use Rattle.machine_model.specs.declared.actions.Action.TheVariants as act
 use Rattle.machine_model.specs.declared.reading.After.{After}
@@ -24,15 +23,14 @@ use Rattle.machine_model.specs.declared.reading.After.TheVariants.{Goes, Gives}
 use Rattle.machine_model.specs.declared.reading.ReadLine.{ReadLine}
 use Rattle.machine_model.specs.declared.reading.ReadLine.TheVariants as read
 use Rattle.machine_model.specs.declared.operations.Operation.{Operation}
-use Rattle.machine_model.specs.Operations.{read_of}
 use Rattle.machine_model.specs.Reading.{after_prev}
 use Rattle.machine_model.specs.States.{State}
 use Rattle.lock_free.specs.declared.accounts.Account.{Account}
 use Rattle.lock_free.specs.declared.reading.Way.{Way}
 use Rattle.lock_free.specs.declared.rules.View.{View}
-use Rattle.lock_free.specs.Accounts.{state_of, place_of, running, IsOwn, gone_on}
-use Rattle.lock_free.specs.Exchanging.{IsNamed, IsNamedOrGone, IsLinkTo}
-use Rattle.lock_free.specs.Loading.{now, seen, Runs, IsAt, IsUsed, IsSound, SameSlots, Went, HasLink, HasHeader, HasReadLink, HasReadHeader}
+use Rattle.lock_free.specs.Accounts.{place_of, IsOwn, gone_on}
+use Rattle.lock_free.specs.Exchanging.{IsNamed, IsNamedOrGone}
+use Rattle.lock_free.specs.Loading.{now, seen, Runs, IsAt, IsUsed, IsSound, SameSlots, Went, HasHeader, HasReadLink, HasReadHeader}
 use Rattle.lock_free.specs.Nodes.{IsAhead, IsOver, SaysPrevious, decided, ahead, pending, failed, SaysShape, of_branch, of_tomb, of_list}
 use Rattle.lock_free.specs.Passing.{Later, HasCome, IsReading, IsOnWay, KnowsLink, IsPlaced, KnowsMain, KnowsPending, pending_line}
 use Rattle.lock_free.proofs.Asked.{pending_stands, read_is_met}
@@ -63,7 +61,8 @@ module _ (account : Account) (state : State) (k : ℕ) where
   abbrev Says : (Ref → Prev) → Prev → Name → Type 0
   Says kind p name = (q : Ref) × (own : Bool) × (p ≡ kind q) × IsOver account state k q own × (name ≡ record { slot = place_of account q; own = own })
 
-  pending_says : (p : Prev) (says : Previous) (name : Name) → says ≡ previous.Pending name → ((j a f : Ref) → IsAhead state j a f → slot_of f ≢ k) → SaysPrevious account state k p says → Says prev.Pending p name
+  pending_says : (p : Prev) (says : Previous) (name : Name) → says ≡ previous.Pending name → ((j a f : Ref) → IsAhead state j a f → slot_of f ≢ k) → SaysPrevious account state k p says →
+      Says prev.Pending p name
   pending_says p says name e met (decided nobody) = absurd (omega (arith, (ap kind_in e)))
   pending_says p says name e met (ahead i a f own h its owned) = absurd (met i a f h its)
   pending_says p says name e met (pending q own over) = (q, own, refl, over, ap name_in (sym e))
@@ -105,10 +104,10 @@ module _ (n m : ℕ) (before after : View) (sound : IsSound n before) (then : Is
           fits = h.fits;
           link_used = (h.slot, same (slot_of i) ∙ h.stores);
           main_used = (h.used.0, same (slot_of h.main) ∙ h.used.1);
-        } in
-        (
+        } in (
           h.main,
-          came before after i read.Main reading (went_later n before sound m after then w) w (Goes (read.Prev h.main)) (λ o r. ap (λ z. Goes (read.Prev z)) (main_is state i h.slot h.stores ∙ ap main_of h.is_link)),
+          came before after i read.Main reading (went_later n before sound m after then w) w (Goes (read.Prev h.main))
+              (λ o r. ap (λ z. Goes (read.Prev z)) (main_is state i h.slot h.stores ∙ ap main_of h.is_link)),
           subst (λ z. KnowsLink z i h.main link) (sym w.after_is) known,
         )
 
@@ -170,7 +169,8 @@ module _ (n m : ℕ) (before after : View) (sound : IsSound n before) (then : Is
     former_used q c = used_now q (h.used q (Contains-append_right (refs_of_node h.slot.node) (refs_of_prev h.slot.prev) q c))
 
     -- it has failed, so the one before it is to be put back
-    pub failed_come : (name : Name) → header.previous ≡ previous.Failed name → (q : Ref) × HasCome (Goes (read.Restore main q)) before after × IsNamedOrGone after i main q name × IsPlaced after q name.slot
+    pub failed_come : (name : Name) → header.previous ≡ previous.Failed name → (q : Ref) × HasCome (Goes (read.Restore main q)) before after × IsNamedOrGone after i main q name ×
+        IsPlaced after q name.slot
     failed_come name e =
         let x = failed_says account state (slot_of main) h.slot.prev header.previous name e h.is_previous in
         let q = x.0 in
@@ -178,8 +178,7 @@ module _ (n m : ℕ) (before after : View) (sound : IsSound n before) (then : Is
         let choice : IsNamedOrGone v i main q name = elim (cases_eq (main_at state.heap i) main) [
           | inl stands ↦ inl (named q x.1 name x.4 (x.3 i (ap slot_of stands)))
           | inr gone ↦ inr (λ stands. gone (sym (main_same_at state (now v) same i) ∙ stands))
-        ] in
-        (
+        ] in (
           q,
           comes_by (prev.Failed q) (Goes (read.Restore main q)) x.2 (λ o r. refl),
           subst (λ z. IsNamedOrGone z i main q name) (sym w.after_is) choice,
@@ -203,8 +202,7 @@ module _ (n m : ℕ) (before after : View) (sound : IsSound n before) (then : Is
         let is_read = all_read before i (read.Prev main) reading at_it.operation (at_it.operation.is_marked, at_it.runs) in
         let stands = pending_stands before.sizes account w.waited.sound.bounds before.actor o_there there.1 i main q is_read (prev_is state main h.slot h.stores ∙ x.2) in
         let used = former_used q (subst (λ p. Contains (refs_of_prev p) q) (sym x.2) (Contains-get_or (q ∷ []) 0 q (omega arith))) in
-        let knows : KnowsPending v i main q header = record { main_is = known; name = name; says = e; names = named q x.1 name x.4 (x.3 i (ap slot_of stands)); used = used } in
-        (
+        let knows : KnowsPending v i main q header = record { main_is = known; name = name; says = e; names = named q x.1 name x.4 (x.3 i (ap slot_of stands)); used = used } in (
           q,
           comes_by (prev.Pending q) (Goes (pending_line way.access main q)) x.2 (λ o r. ap (λ a. after_prev a main (prev.Pending q)) (on o r).0 ∙ prev_then way.access q),
           subst (λ z. KnowsPending z i main q header) (sym w.after_is) knows,

@@ -92,6 +92,7 @@ module _ (pool : Pool) (class name : ℕ) (small : class < 3) where
 
   pub once_with : ((b : ℕ) → b < 3 → Once (pool_of pool b)) → (Contains (pool_of pool class) name → ⊥) → (b : ℕ) → b < 3 → Once (pool_of (with_slot pool class name) b)
   once_with once new b low = elim (cases_eq b class) [
-    | inl same ↦ subst Once (sym (ap (pool_of (with_slot pool class name)) same ∙ pool_same pool class (pool_of pool class ++ name ∷ []) small)) (once_more (pool_of pool class) name (once class small) new)
+    | inl same ↦ subst Once (sym (ap (pool_of (with_slot pool class name)) same ∙ pool_same pool class (pool_of pool class ++ name ∷ []) small))
+        (once_more (pool_of pool class) name (once class small) new)
     | inr differs ↦ subst Once (sym (pool_else pool class b (pool_of pool class ++ name ∷ []) small low differs)) (once b low)
   ]

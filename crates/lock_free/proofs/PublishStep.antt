@@ -1,6 +1,6 @@
 -- The exchange of an indirection's word that swaps a fresh main node in is the operation's step, whether it finds the replaced one or not.
 use Rattle.history.specs.declared.calls.Call.{Call}
-use Rattle.std.proofs.Common.{◌≡◌, ◌≢◌, ◌+◌, ◌*◌, ◌<◌, ◌≤◌, ◌⊎◌, ◌==◌, ℕ, inl, inr, Bool, true, false, List, [], ◌∷◌, Contains, map, set, get_or, slice_index, Some, None, refl, sym, ap, subst, ◌∙◌, arith, eq-eqb, ne_eqb}
+use Rattle.std.proofs.Common.{◌≡◌, ◌≢◌, ◌+◌, ◌*◌, ◌<◌, ◌≤◌, ◌⊎◌, ◌==◌, ℕ, inl, inr, Bool, true, false, [], ◌∷◌, Contains, set, slice_index, Some, refl, sym, ap, subst, ◌∙◌, arith, eq-eqb, ne_eqb}
 use Rattle.std.proofs.lemmas.Bool.{true≢false}
 use Rattle.std.proofs.lemmas.List.Elements.{Contains-get_or, Contains-append_right}
 use Rattle.std.proofs.lemmas.Option.{same_Some}
@@ -28,7 +28,7 @@ use Rattle.lock_free.specs.declared.sizes.Sizes.{Sizes}
 use Rattle.lock_free.specs.Accounts.{state_of, place_of, running, gone_on}
 use Rattle.lock_free.specs.Exchanging.{IsLinkTo, IsAtPublish, given_back, given_up, HasSwapped, HasPublished, has_published}
 use Rattle.lock_free.specs.Live.{refs_of_claims, line_claims, from_operation, IsLive}
-use Rattle.lock_free.specs.Loading.{Moment, now, seen, IsAt, IsSound, Took}
+use Rattle.lock_free.specs.Loading.{Moment, now, seen, IsAt, Took}
 use Rattle.lock_free.specs.Nodes.{class_of}
 use Rattle.lock_free.specs.Places.{words_in, words_of}
 use Rattle.lock_free.specs.Publishing.{swapped_in, Publishes}
@@ -45,7 +45,8 @@ use Rattle.lock_free.proofs.Moments.{IsThere, free_inside, allowed, took_by, wai
 use Rattle.lock_free.proofs.PublishedAll.{all_then}
 use Rattle.lock_free.proofs.PublishedKept.{publish_kept}
 
-module _ (v : View) (i replaced made : Ref) (p : IsAt v (act.Publish i replaced made)) (name : ℕ) (place : place_of v.account i ≡ name) (link : Link) (fits : IsLink link) (is : IsLinkTo v i replaced link)
+module _ (v : View) (i replaced made : Ref) (p : IsAt v (act.Publish i replaced made)) (name : ℕ) (place : place_of v.account i ≡ name) (link : Link) (fits : IsLink link)
+    (is : IsLinkTo v i replaced link)
     (fresh : ℕ) (fresh_place : place_of v.account made ≡ fresh) where
   abbrev does : Action
   does = act.Publish i replaced made
@@ -129,8 +130,9 @@ module _ (v : View) (i replaced made : Ref) (p : IsAt v (act.Publish i replaced 
 
       swaps : found ≡ old → Left swapped
       swaps e = (
-        subst (λ ws. IsKept v.sizes (record { words = ws; homes = s.homes; views = set s.views id swapped })) (ap (set s.words (2 * place_of there i)) new_is ∙ words_hit v s kept id at word old new e (2 * place_of there i) at_place)
-        (publish_kept v.sizes s kept id v at o runs i replaced made r here),
+        subst (λ ws. IsKept v.sizes (record { words = ws; homes = s.homes; views = set s.views id swapped }))
+            (ap (set s.words (2 * place_of there i)) new_is ∙ words_hit v s kept id at word old new e (2 * place_of there i) at_place)
+            (publish_kept v.sizes s kept id v at o runs i replaced made r here),
         (
           sound_by v s kept id at (swapped_in v.actor i made there) kept.stands _ (all_then v.sizes there v.actor o i replaced made r kept.stands s.words (all_stand v.sizes s kept) here),
           took_by v s kept id at o runs (swapped_in v.actor i made there) r.own,
@@ -155,7 +157,8 @@ module _ (v : View) (i replaced made : Ref) (p : IsAt v (act.Publish i replaced 
     free_then : (b n : ℕ) → b < 3 → Contains (pool_of v.pool b) n ⊎ WasOf v s kept id at (λ q. Contains o.private q) b n → 2 * n + words_in b ≤ words_of v.sizes
     free_then b n low (inl old) = free_inside v s kept id at b n (low, old)
     free_then b n low (inr w) =
-        subst (λ c. 2 * n + words_in c ≤ words_of v.sizes) w.class (subst (λ x. 2 * x + words_in (class_of w.slot.node) ≤ words_of v.sizes) w.place (kept.nodes.inside (slot_of w.node) w.slot w.stood.1))
+        subst (λ c. 2 * n + words_in c ≤ words_of v.sizes) w.class (subst (λ x. 2 * x + words_in (class_of w.slot.node) ≤ words_of v.sizes) w.place
+            (kept.nodes.inside (slot_of w.node) w.slot w.stood.1))
 
     module _ (leads : Leads v.sizes there (gone_on v.actor there) v.actor (is_one_of o.private) (operation_after state o)) where
       abbrev GivenUp : ℕ → ℕ → Type 0
@@ -169,10 +172,12 @@ module _ (v : View) (i replaced made : Ref) (p : IsAt v (act.Publish i replaced 
       drops : found ≢ old → Left dropped
       drops differs = (
         subst (λ ws. IsKept v.sizes (record { words = ws; homes = s.homes; views = set s.views id dropped })) (words_miss v s kept id at word old new differs)
-        (drop_kept v.sizes s kept id v at o (operation_after state o) runs (machine.Go v.actor) tt (λ a d e. d (sym e)) (is_one_of o.private) leads refl refl (given_back state there o.private v.pool) fit.once fit.more
-        (λ b n low c. was_given b n (fit.which b n low c))),
+            (drop_kept v.sizes s kept id v at o (operation_after state o) runs (machine.Go v.actor) tt (λ a d e. d (sym e)) (is_one_of o.private) leads refl refl
+                (given_back state there o.private v.pool) fit.once fit.more
+            (λ b n low c. was_given b n (fit.which b n low c))),
         (
-          record { size = refl; range = kept.range.within; bounds = leads.bounds; counted = kept.counted ∙ sym leads.births; inside = λ k slot e. kept.nodes.inside k slot (sym (leads.nodes k) ∙ e); free = λ b n f. free_then b n f.0 (fit.which b n f.0 f.1) },
+          record { size = refl; range = kept.range.within; bounds = leads.bounds; counted = kept.counted ∙ sym leads.births; inside = λ k slot e. kept.nodes.inside k slot (sym (leads.nodes k) ∙ e);
+              free = λ b n f. free_then b n f.0 (fit.which b n f.0 f.1) },
           λ q runs_q. leads.own ∙ ap (λ x. Some (operation_after state x)) (same_Some o q (sym runs ∙ runs_q)),
         ),
       )
@@ -198,11 +203,11 @@ published_in (act.Publish i replaced made) = (i, (replaced, made))
 published_in action = (no_ref, (no_ref, no_ref))
 
 swapped_so : (before : View) (account : Account) (stood : Bool) (after : View) (i replaced made : Ref) (p : IsAt before (act.Publish i replaced made)) →
-    (main_at (now (seen before account)).heap i == replaced) ≡ stood → (stood ≡ true → after ≡ seen before (swapped_in before.actor i made account)) → (stood ≡ false → after ≡ given_up before account p.operation.private) →
+    (main_at (now (seen before account)).heap i == replaced) ≡ stood → (stood ≡ true → after ≡ seen before (swapped_in before.actor i made account)) →
+        (stood ≡ false → after ≡ given_up before account p.operation.private) →
     HasSwapped before account stood after
 swapped_so before account stood after i replaced made p first hit_is miss_is j other g q =
-    let same = ap published_in (same_action before (act.Publish i replaced made) (act.Publish j other g) p q) in
-    (
+    let same = ap published_in (same_action before (act.Publish i replaced made) (act.Publish j other g) p q) in (
       subst (λ (x : Ref × (Ref × Ref)). (main_at (now (seen before account)).heap x.0 == x.1.0) ≡ stood) same first,
       λ h. subst (λ (x : Ref × (Ref × Ref)). after ≡ seen before (swapped_in before.actor x.0 x.1.1 account)) same (hit_is h),
       λ h. miss_is h ∙ ap (λ (x : Operation). given_up before account x.private) (same_Some p.operation q.operation (sym p.runs ∙ q.runs)),
@@ -220,10 +225,21 @@ publish_allowed sizes size id me name link fits fresh (i, replaced, made, p, pla
     let old = link_code link in
     let new = link_code (record { generation = link.generation; main = record { slot = fresh; own = true } }) in
     allowed sizes size id me (2 * name) (λ n. either (n == old) new n) (has_published (step size (2 * name) old new none) me)
-    (λ s kept at. (let x = leaves me.0 i replaced made p name place link fits is fresh fresh_place s kept id at in
-    (x.0, x.1.0, ((record { table = s; kept = kept; id = id; at = at; finds = refl }, x.1.1.1,
-        swapped_so me.0 kept.account (slice_index s.words (2 * name) == old) x.0 i replaced made p x.2 x.3 x.4), x.1.1.0, refl))))
+    (λ s kept at. (let x = leaves me.0 i replaced made p name place link fits is fresh fresh_place s kept id at in (
+      x.0,
+      x.1.0,
+      (
+        (
+          record { table = s; kept = kept; id = id; at = at; finds = refl },
+          x.1.1.1,
+          swapped_so me.0 kept.account (slice_index s.words (2 * name) == old) x.0 i replaced made p x.2 x.3 x.4,
+        ),
+        x.1.1.0,
+        refl,
+      ),
+    )))
 
 -- what the seat is told
-pub publish_told : (before : View) (word found : ℕ) (old : ℕ) (after : View) → (m : Moment before word found) × Took before m.kept.account after × HasSwapped before m.kept.account (found == old) after → HasPublished before (found == old) after
+pub publish_told : (before : View) (word found : ℕ) (old : ℕ) (after : View) → (m : Moment before word found) × Took before m.kept.account after × HasSwapped before m.kept.account
+    (found == old) after → HasPublished before (found == old) after
 publish_told before at says expected after (m, took, swapped_or_not) = (m.kept.account, waited_so before m.table m.kept m.id m.at, took, swapped_or_not)

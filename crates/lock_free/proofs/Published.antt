@@ -1,9 +1,7 @@
 -- A fresh main node is swapped in: the indirection's word names it, its header says already that it is pending, and all else stands as it did.
-use Rattle.std.proofs.Common.{◌≡◌, ◌≢◌, ◌+◌, ◌*◌, ◌⊎◌, ◌^◌, ℕ, zero, suc, ◌<◌, ◌≤◌, inl, inr, Bool, true, false, List, [], ◌∷◌, ◌++◌, Contains, All, length, set, get_or, slice_index, Option, Some, None, refl, sym, ap, subst, ◌∙◌, arith, length-set}
+use Rattle.std.proofs.Common.{◌≡◌, ◌≢◌, ℕ, inl, inr, Bool, true, List, get_or, None, refl, sym, ap, subst, ◌∙◌}
 use Rattle.std.proofs.lemmas.Bool.{cases_eq, true≢false}
 use Rattle.std.proofs.lemmas.Option.{same_Some}
-use Rattle.std.proofs.lemmas.List.{get_or-set_same}
-use Rattle.std.proofs.lemmas.List.Elements.{All-append, All-cons, All-nil}
 use Rattle.machine_model.specs.Beneath.slot_arena.specs.declared.refs.Ref.{Ref}
 use Rattle.machine_model.specs.Beneath.slot_arena.specs.declared.nodes.Node.{Node}
 use Rattle.machine_model.specs.Beneath.slot_arena.specs.declared.nodes.Node.TheVariants.{Indirection, Branch, Single, Tomb, List as Listed}
@@ -11,24 +9,19 @@ use Rattle.machine_model.specs.Beneath.slot_arena.specs.declared.nodes.Prev.{Pre
 use Rattle.machine_model.specs.Beneath.slot_arena.specs.declared.nodes.Prev.TheVariants as prev
 use Rattle.machine_model.specs.Beneath.slot_arena.specs.declared.nodes.Slot.{Slot}
 use Rattle.machine_model.specs.Beneath.slot_arena.specs.Refs.{slot_of}
-use Rattle.machine_model.specs.Beneath.slot_arena.specs.Heaps.{Heap, node_at, stored, node_of, main_of, main_at, entries_of}
-use Rattle.machine_model.specs.Keys.{FitsKey}
-use Rattle.machine_model.specs.declared.steps.Step.TheVariants as step
+use Rattle.machine_model.specs.Beneath.slot_arena.specs.Heaps.{node_at, stored, node_of, main_of, main_at}
 use Rattle.machine_model.specs.declared.operations.Operation.{Operation}
-use Rattle.machine_model.specs.declared.roots.Root.{Root}
-use Rattle.machine_model.specs.States.{State, handle_limit, root_at}
+use Rattle.machine_model.specs.States.{State}
 use Rattle.proof_memory.specs.Wants.{is_main_node}
-use Rattle.trie_words.specs.Codes.{entry_code, link_code}
+use Rattle.trie_words.specs.Codes.{entry_code}
 use Rattle.trie_words.specs.declared.headers.Previous.{Previous}
 use Rattle.trie_words.specs.declared.headers.Previous.TheVariants as previous
 use Rattle.trie_words.specs.declared.headers.Shape.{Shape}
 use Rattle.lock_free.specs.declared.accounts.Account.{Account}
-use Rattle.lock_free.specs.declared.accounts.Known.{Known}
 use Rattle.lock_free.specs.declared.sizes.Sizes.{Sizes}
-use Rattle.lock_free.specs.Accounts.{state_of, place_at, place_of, OwnIs, first, later, IsOwn}
-use Rattle.lock_free.specs.Nodes.{Has, StandsAs, InTable, AreEntries, IsEntryOf, is_single, half_of, IsAhead, IsOver, SaysPrevious, decided, ahead, pending, failed, SaysShape, of_branch, of_tomb, of_list, SaysHeader, class_of}
-use Rattle.lock_free.specs.Publishing.{swapped_in, with_main_of, over, Publishes}
-use Rattle.lock_free.specs.Rules.{Standing, Stands, NodesStand, RootsStand}
+use Rattle.lock_free.specs.Accounts.{state_of, place_of, OwnIs, later}
+use Rattle.lock_free.specs.Nodes.{Has, StandsAs, AreEntries, IsEntryOf, is_single, half_of, IsOver, SaysPrevious, decided, ahead, pending, failed, SaysShape, of_branch, of_tomb, of_list, SaysHeader}
+use Rattle.lock_free.specs.Publishing.{swapped_in, over, Publishes}
 use Rattle.lock_free.proofs.Made.{is_pending, is_failed}
 
 module _ (sizes : Sizes) (account : Account) (actor : ℕ) (operation : Operation) (i a f : Ref) (publishes : Publishes sizes account (swapped_in actor i f account) actor operation i a f) where
@@ -143,7 +136,8 @@ module _ (sizes : Sizes) (account : Account) (actor : ℕ) (operation : Operatio
     code = h.code;
   }
 
-  pub fresh_stands : (has : Has) (p : ℕ) (n : Node) → is_main_node n ≡ true → StandsAs account now has p (slot_of f) publishes.fresh n → StandsAs after next has p (slot_of f) (over publishes.fresh a) n
+  pub fresh_stands : (has : Has) (p : ℕ) (n : Node) → is_main_node n ≡ true → StandsAs account now has p (slot_of f) publishes.fresh n → StandsAs after next has p (slot_of f)
+      (over publishes.fresh a) n
   fresh_stands has p (Indirection generation main) m h = absurd (true≢false (sym m))
   fresh_stands has p (Single key value) m h = absurd (true≢false (sym m))
   fresh_stands has p (Branch bitmap entries) m h = ((h.0.0, h.0.1, fresh_header h.0.0 h.0.2), entries_kept has p entries.items h.1)

@@ -1,5 +1,6 @@
 -- Words, steps and nodes once a fresh main node is swapped in by an exchange of the indirection's word.
-use Rattle.std.proofs.Common.{◌≡◌, ◌≢◌, ◌+◌, ◌*◌, ℕ, ◌<◌, ◌≤◌, inl, inr, true, List, [], ◌∷◌, Contains, length, set, get_or, slice_index, Option, Some, None, refl, sym, ap, subst, ◌∙◌, arith, length-set}
+use Rattle.std.proofs.Common.{◌≡◌, ◌≢◌, ◌+◌, ◌*◌, ℕ, ◌<◌, ◌≤◌, inl, inr, true, List, [], ◌∷◌, Contains, length, set, get_or, slice_index, Option, Some, None, refl, sym, ap, subst, ◌∙◌, arith}
+use Rattle.std.proofs.Common.{length-set}
 use Rattle.std.proofs.lemmas.Bool.{cases_eq}
 use Rattle.std.proofs.lemmas.Option.{same_Some}
 use Rattle.std.proofs.lemmas.List.{get_or-set_same}
@@ -73,7 +74,8 @@ module _ (sizes : Sizes) (account : Account) (actor : ℕ) (operation : Operatio
 
   pub not_of_offer : (x : Known) → Contains account.offers x → (j : ℕ) → IsWordOf 1 x.slot j → j ≢ its_word
   not_of_offer x c j w same =
-      absurd (omega (arith, (slots_apart sizes words all.taken 1 0 x.slot (place_of account i) its_word (omega arith) (omega arith) (all.roots.blocks x c) link_taken (subst (λ n. IsWordOf 1 x.slot n) same w) its_slot).0))
+      absurd (omega (arith, (slots_apart sizes words all.taken 1 0 x.slot (place_of account i) its_word (omega arith) (omega arith) (all.roots.blocks x c) link_taken
+          (subst (λ n. IsWordOf 1 x.slot n) same w) its_slot).0))
 
   -- what stands then stood before: the indirection, the fresh node, or another one
   pub data Which (k : ℕ) (slot : Slot) : Type 0 where
@@ -83,7 +85,8 @@ module _ (sizes : Sizes) (account : Account) (actor : ℕ) (operation : Operatio
 
   pub which : (k : ℕ) (slot : Slot) → get_or (state_of sizes later).heap.slots k None ≡ Some slot → Which k slot
   which k slot e = elim (cases_eq k (slot_of i)) [
-    | inl at_link ↦ is_link at_link (same_Some slot (with_main_of publishes.link publishes.generation f) (sym e ∙ ap (λ n. get_or (state_of sizes later).heap.slots n None) at_link ∙ publishes.link_then))
+    | inl at_link ↦ is_link at_link (same_Some slot (with_main_of publishes.link publishes.generation f)
+        (sym e ∙ ap (λ n. get_or (state_of sizes later).heap.slots n None) at_link ∙ publishes.link_then))
     | inr other ↦ elim (cases_eq k (slot_of f)) [
       | inl at_fresh ↦ is_fresh at_fresh (same_Some slot (over publishes.fresh a) (sym e ∙ ap (λ n. get_or (state_of sizes later).heap.slots n None) at_fresh ∙ publishes.fresh_then))
       | inr another ↦ is_else other another (sym (publishes.nodes k other another) ∙ e)
@@ -91,7 +94,8 @@ module _ (sizes : Sizes) (account : Account) (actor : ℕ) (operation : Operatio
   ]
 
   -- the slot of that number before
-  pub before : (k : ℕ) (slot : Slot) → Which k slot → (was : Slot) × (get_or (state_of sizes account).heap.slots k None ≡ Some was) × (class_of slot.node ≡ class_of was.node) × (length (entries_of slot.node) ≡ length (entries_of was.node))
+  pub before : (k : ℕ) (slot : Slot) → Which k slot → (was : Slot) × (get_or (state_of sizes account).heap.slots k None ≡ Some was) × (class_of slot.node ≡ class_of was.node) ×
+      (length (entries_of slot.node) ≡ length (entries_of was.node))
   before k slot (is_link at_link is) = (
     publishes.link,
     ap (λ n. get_or (state_of sizes account).heap.slots n None) at_link ∙ publishes.link_is,
@@ -99,7 +103,8 @@ module _ (sizes : Sizes) (account : Account) (actor : ℕ) (operation : Operatio
     ap (λ (x : Slot). length (entries_of x.node)) is ∙ sym (ap (λ n. length (entries_of n)) publishes.link_node),
   )
   before k slot (is_fresh at_fresh is) =
-      (publishes.fresh, ap (λ n. get_or (state_of sizes account).heap.slots n None) at_fresh ∙ publishes.fresh_is, ap (λ (x : Slot). class_of x.node) is, ap (λ (x : Slot). length (entries_of x.node)) is)
+      (publishes.fresh, ap (λ n. get_or (state_of sizes account).heap.slots n None) at_fresh ∙ publishes.fresh_is, ap (λ (x : Slot). class_of x.node) is, ap
+          (λ (x : Slot). length (entries_of x.node)) is)
   before k slot (is_else other another e) = (slot, e, refl, refl)
 
   inside_words : its_word < length words
@@ -109,12 +114,14 @@ module _ (sizes : Sizes) (account : Account) (actor : ℕ) (operation : Operatio
   still = still_taken sizes account words all.taken its_word far new_word
 
   link_written : StandsAs account (state_of sizes account) (InTable words) (place_of account i) (slot_of i) publishes.link (Indirection publishes.generation a)
-  link_written = subst (λ n. StandsAs account (state_of sizes account) (InTable words) (place_of account i) (slot_of i) publishes.link n) publishes.link_node (all.nodes.written (slot_of i) publishes.link link_stands)
+  link_written = subst (λ n. StandsAs account (state_of sizes account) (InTable words) (place_of account i) (slot_of i) publishes.link n) publishes.link_node
+      (all.nodes.written (slot_of i) publishes.link link_stands)
 
   written_by : (k : ℕ) (slot : Slot) → stands k ≡ true → Which k slot → StandsAs later (state_of sizes later) (InTable words_then) (place_at later k) k slot slot.node
   written_by k slot h (is_link at_link is) =
       subst (λ (x : Slot). StandsAs later (state_of sizes later) (InTable words_then) (place_at later k) k x x.node) (sym is)
-      (subst (λ n. StandsAs later (state_of sizes later) (InTable words_then) (place_at later n) n (with_main_of publishes.link publishes.generation f) (Indirection publishes.generation f)) (sym at_link)
+      (subst (λ n. StandsAs later (state_of sizes later) (InTable words_then) (place_at later n) n (with_main_of publishes.link publishes.generation f) (Indirection publishes.generation f))
+          (sym at_link)
       (link_written.0, (true, first _ account.owned, get_or-set_same words its_word new_word 0 inside_words)))
   written_by k slot h (is_fresh at_fresh is) =
       let stood : Stands stands (state_of sizes account) (slot_of f) publishes.fresh = (ap stands (sym at_fresh) ∙ h, publishes.fresh_is) in
@@ -142,7 +149,8 @@ module _ (sizes : Sizes) (account : Account) (actor : ℕ) (operation : Operatio
     offers = λ x c k slot h. (let b = before k slot (which k slot h.1) in all.nodes.offers x c k b.0 (h.0, b.1));
     written = λ k slot h. written_by k slot h.0 (which k slot h.1);
     inside = λ k slot e. (let b = before k slot (which k slot e) in subst (λ c. 2 * place_at account k + words_in c ≤ words_of sizes) (sym b.2) (all.nodes.inside k b.0 b.1));
-    owners = owners_published sizes account actor operation i a f publishes all.nodes.owners (made_before (slot_of i) publishes.link publishes.link_is) (made_before (slot_of f) publishes.fresh publishes.fresh_is);
+    owners = owners_published sizes account actor operation i a f publishes all.nodes.owners (made_before (slot_of i) publishes.link publishes.link_is)
+        (made_before (slot_of f) publishes.fresh publishes.fresh_is);
     live = λ r h. all.nodes.live r (publishes.live r h);
   }
 
@@ -158,8 +166,10 @@ module _ (sizes : Sizes) (account : Account) (actor : ℕ) (operation : Operatio
       let roots = roots_still sizes account words all.taken its_word far new_word not_of_offer all.roots in
       record {
         means = λ handle low.
-            subst (λ rs. MeansRoot later words_then handle (slice_index words_then (root_word handle)) (get_or rs handle None)) (sym publishes.roots) (meaning_then handle _ (root_at (state_of sizes account) handle) (roots.means handle low));
-        offers = λ k c. (let h = roots.offers k c in record { olds = h.olds; news = h.news ∙ ap (λ n. pair_code (record { low = place_of account k.offer.successor; high = n })) (second_then k.offer.second) });
+            subst (λ rs. MeansRoot later words_then handle (slice_index words_then (root_word handle)) (get_or rs handle None)) (sym publishes.roots)
+                (meaning_then handle _ (root_at (state_of sizes account) handle) (roots.means handle low));
+        offers = λ k c. (let h = roots.offers k c in record { olds = h.olds; news = h.news ∙ ap (λ n. pair_code (record { low = place_of account k.offer.successor; high = n }))
+            (second_then k.offer.second) });
         blocks = roots.blocks;
         single = roots.single;
         pending = roots.pending;

@@ -1,7 +1,7 @@
 -- An operation that is in a READ has at hand what the READ names.
 use Rattle.history.specs.declared.calls.Access.{Access}
 use Rattle.history.specs.declared.calls.Call.{Call}
-use Rattle.std.proofs.Common.{◌≡◌, ℕ, List, [], ◌∷◌, ◌++◌, Contains, Some, sym, subst, ap, ◌∙◌, arith}
+use Rattle.std.proofs.Common.{◌≡◌, List, [], ◌∷◌, ◌++◌, Contains, Some, sym, subst, arith}
 use Rattle.std.proofs.lemmas.Grind.{flat_map-append}
 use Rattle.std.proofs.lemmas.List.Elements.{Contains-append_left, Contains-append_right}
 use Rattle.std.proofs.lemmas.Option.{none-some, same_Some}
@@ -25,7 +25,8 @@ use Rattle.machine_model.specs.declared.operations.Operation.{Operation}
 use Rattle.machine_model.specs.Operations.{read_of, completing_read, swapping_read}
 use Rattle.machine_model.specs.States.{State}
 use Rattle.proof_memory.specs.Vocabulary.{HashKind}
-use Rattle.proof_memory.specs.Wants.{Claim, Is, Each, AnIndirection, AMain, AnEntry, read_wants, offer_wants, complete_wants, swap_line_wants, purpose_wants, path_wants, done_wants, climb_carries, line_wants}
+use Rattle.proof_memory.specs.Wants.{Claim, Is, Each, AnIndirection, AMain, AnEntry, read_wants, offer_wants, complete_wants, swap_line_wants, purpose_wants, path_wants, done_wants, climb_carries}
+use Rattle.proof_memory.specs.Wants.{line_wants}
 use Rattle.lock_free.specs.Live.{refs_of_claim, refs_of_claims, line_claims, at_hand}
 
 module _ (q : Ref) where

@@ -1,6 +1,6 @@
 -- The exchange of an indirection's word that puts a main node back is the operation's step, whether it finds the failed one or not.
 use Rattle.history.specs.declared.calls.Call.{Call}
-use Rattle.std.proofs.Common.{◌≡◌, ◌≢◌, ◌+◌, ◌*◌, ◌⊎◌, ◌==◌, ℕ, inl, inr, Bool, true, false, List, [], ◌∷◌, Contains, set, get_or, slice_index, Some, None, refl, sym, ap, subst, ◌∙◌, arith, eq-eqb, ne_eqb}
+use Rattle.std.proofs.Common.{◌≡◌, ◌≢◌, ◌*◌, ◌==◌, ℕ, inl, inr, true, [], ◌∷◌, Contains, set, slice_index, refl, sym, ap, subst, ◌∙◌, arith, eq-eqb, ne_eqb}
 use Rattle.std.proofs.lemmas.List.Elements.{Contains-get_or}
 use Rattle.std.proofs.lemmas.Option.{same_Some}
 use mathlib.Core.Option.{some, none}
@@ -30,7 +30,7 @@ use Rattle.lock_free.specs.Restoring.{Restores}
 use Rattle.lock_free.specs.Rules.{IsKept}
 use Rattle.lock_free.proofs.Asked.{links_of, mains_of, restores_or_not, gone_stays}
 use Rattle.lock_free.proofs.Assembling.{all_stand}
-use Rattle.lock_free.proofs.Exchanged.{AllowsExchange, Leaves, words_then, words_hit, missed, sound_by}
+use Rattle.lock_free.proofs.Exchanged.{AllowsExchange, Leaves, words_hit, missed, sound_by}
 use Rattle.lock_free.proofs.LinkWords.{i_there, generation_now, hit, miss}
 use Rattle.lock_free.proofs.Looking.{went, main_there, o_there, acts_there, same_action}
 use Rattle.lock_free.proofs.Moments.{IsThere, seat, allowed, took_by, its_place, still_own}
@@ -118,8 +118,9 @@ module _ (v : View) (i main former : Ref) (p : IsAt v (act.Restore i main former
 
       put_back : found ≡ old → Leaves v s kept id at word old new
       put_back e = (
-        subst (λ ws. IsKept v.sizes (record { words = ws; homes = s.homes; views = set s.views id after })) (ap (set s.words (2 * place_of there i)) new_is ∙ words_hit v s kept id at word old new e (2 * place_of there i) at_place)
-        (restore_kept v.sizes s kept id v at o runs i main former r here former_name.own owned),
+        subst (λ ws. IsKept v.sizes (record { words = ws; homes = s.homes; views = set s.views id after }))
+            (ap (set s.words (2 * place_of there i)) new_is ∙ words_hit v s kept id at word old new e (2 * place_of there i) at_place)
+            (restore_kept v.sizes s kept id v at o runs i main former r here former_name.own owned),
         (
           sound_by v s kept id at (gone_on v.actor there) kept.stands _ (all_then v.sizes there v.actor o i main former r kept.stands s.words (all_stand v.sizes s kept) here former_name.own owned),
           took_by v s kept id at o runs (gone_on v.actor there) r.own,
@@ -157,10 +158,13 @@ restored_in (act.Restore i main former) = (i, main)
 restored_in action = (no_ref, no_ref)
 
 -- what the seat is told
-pub restore_told : (before : View) (name : ℕ) (link : Link) (fits : IsLink link) (former : Name) → IsAtRestore before name link former → (found : ℕ) (after : View) → HasGone before (2 * name) found after →
+pub restore_told : (before : View) (name : ℕ) (link : Link) (fits : IsLink link) (former : Name) → IsAtRestore before name link former → (found : ℕ) (after : View) → HasGone before
+    (2 * name) found after →
     HasRestored before (found == link_code link) after
-restore_told before name link fits former (i, main, replaced, p, place, is, names) found after g =
-    (went before name (2 * name) found after g, λ j other q a.
-    subst (λ (x : Ref × Ref). (main_at (state_of before.sizes g.0.kept.account).heap x.0 == x.1) ≡ (found == link_code link))
-    (ap restored_in (same_action before (act.Restore i main replaced) (act.Restore j other q) p a))
-    (stood_by before i main replaced p name place link fits is former g.0.table g.0.kept g.0.id g.0.at ∙ ap (λ n. n == link_code link) g.0.finds))
+restore_told before name link fits former (i, main, replaced, p, place, is, names) found after g = (
+  went before name (2 * name) found after g,
+  λ j other q a.
+      subst (λ (x : Ref × Ref). (main_at (state_of before.sizes g.0.kept.account).heap x.0 == x.1) ≡ (found == link_code link))
+      (ap restored_in (same_action before (act.Restore i main replaced) (act.Restore j other q) p a))
+      (stood_by before i main replaced p name place link fits is former g.0.table g.0.kept g.0.id g.0.at ∙ ap (λ n. n == link_code link) g.0.finds),
+)

@@ -1,6 +1,7 @@
 -- The exchange of an indirection's word puts the main node before a failed one back.
 use Rattle.history.specs.declared.calls.Call.{Call}
-use Rattle.std.proofs.Common.{◌≡◌, ◌≢◌, ◌+◌, ◌*◌, ◌⊎◌, ℕ, ◌<◌, ◌≤◌, inl, inr, Bool, true, List, [], ◌∷◌, set, get_or, slice_index, Option, Some, None, refl, sym, ap, subst, ◌∙◌, arith, length, length-set}
+use Rattle.std.proofs.Common.{◌≡◌, ◌≢◌, ◌+◌, ◌*◌, ◌⊎◌, ℕ, ◌<◌, ◌≤◌, inl, inr, Bool, true, List, [], ◌∷◌, set, get_or, slice_index, Option, Some, None, refl, sym, ap, subst, ◌∙◌, arith, length}
+use Rattle.std.proofs.Common.{length-set}
 use Rattle.std.proofs.lemmas.Bool.{cases_eq}
 use Rattle.std.proofs.lemmas.List.{get_or-set_same}
 use Rattle.std.proofs.lemmas.Option.{same_Some}
@@ -28,7 +29,8 @@ use Rattle.lock_free.specs.declared.accounts.Account.{Account}
 use Rattle.lock_free.specs.declared.rules.View.{View}
 use Rattle.lock_free.specs.declared.sizes.Sizes.{Sizes}
 use Rattle.lock_free.specs.Accounts.{state_of, place_at, place_of, gone_on, OwnIs}
-use Rattle.lock_free.specs.Nodes.{Has, StandsAs, InTable, AreEntries, IsEntryOf, is_single, half_of, IsOver, SaysPrevious, decided, ahead, pending, failed, SaysShape, of_branch, of_tomb, of_list, SaysHeader, class_of}
+use Rattle.lock_free.specs.Nodes.{Has, StandsAs, InTable, AreEntries, IsEntryOf, is_single, half_of, IsOver, SaysPrevious, decided, ahead, pending, failed, SaysShape, of_branch, of_tomb, of_list}
+use Rattle.lock_free.specs.Nodes.{SaysHeader, class_of}
 use Rattle.lock_free.specs.Places.{first_slot_word, words_in, words_of, generation_word, root_word, IsTaken}
 use Rattle.lock_free.specs.Publishing.{with_main_of}
 use Rattle.lock_free.specs.Restoring.{Restores}
@@ -44,7 +46,8 @@ use Rattle.lock_free.proofs.Owners.{owners_kept}
 use Rattle.lock_free.proofs.NodeWord.{node_word_kept}
 use Rattle.lock_free.proofs.Waiting.{quiet_more}
 
-module _ (sizes : Sizes) (account : Account) (actor : ℕ) (operation : Operation) (i main former : Ref) (restores : Restores sizes account actor operation i main former) (stands : Standing) (words : List ℕ)
+module _ (sizes : Sizes) (account : Account) (actor : ℕ) (operation : Operation) (i main former : Ref) (restores : Restores sizes account actor operation i main former) (stands : Standing)
+    (words : List ℕ)
     (all : AllStand sizes account stands words) (here : stands (slot_of i) ≡ true) (own : Bool) (owned : OwnIs account.owned (slot_of i) (slot_of former) own) where
   abbrev now : State
   now = state_of sizes account
@@ -118,7 +121,8 @@ module _ (sizes : Sizes) (account : Account) (actor : ℕ) (operation : Operatio
   not_former : (k : ℕ) (slot : Slot) → get_or now.heap.slots k None ≡ Some slot → (slot.prev ≡ prev.None → ⊥) → k ≢ slot_of former
   not_former k slot e undecided same = undecided (restores.former_decided slot (ap (λ n. get_or now.heap.slots n None) (sym same) ∙ e))
 
-  previous_kept : (k : ℕ) (slot : Slot) (q : Prev) (says : Previous) → get_or now.heap.slots k None ≡ Some slot → slot.prev ≡ q → SaysPrevious account now k q says → SaysPrevious account_then next k q says
+  previous_kept : (k : ℕ) (slot : Slot) (q : Prev) (says : Previous) → get_or now.heap.slots k None ≡ Some slot → slot.prev ≡ q → SaysPrevious account now k q says →
+      SaysPrevious account_then next k q says
   previous_kept k slot q says at is (decided none) = decided (λ j b g h its_own. none j b g (restores.aheads j b g h) its_own)
   previous_kept k slot q says at is (ahead j b g o h its_own o_is) = ahead j b g o (restores.still j b g h) its_own o_is
   previous_kept k slot q says at is (pending r o h) = pending r o (over_kept k r o (not_former k slot at (λ none. is_pending r (sym is ∙ none))) h)
@@ -153,7 +157,8 @@ module _ (sizes : Sizes) (account : Account) (actor : ℕ) (operation : Operatio
     | inr other ↦ is_else other (sym (restores.nodes k other) ∙ e)
   ]
 
-  before : (k : ℕ) (slot : Slot) → Which k slot → (was : Slot) × (get_or now.heap.slots k None ≡ Some was) × (class_of slot.node ≡ class_of was.node) × (length (entries_of slot.node) ≡ length (entries_of was.node))
+  before : (k : ℕ) (slot : Slot) → Which k slot → (was : Slot) × (get_or now.heap.slots k None ≡ Some was) × (class_of slot.node ≡ class_of was.node) ×
+      (length (entries_of slot.node) ≡ length (entries_of was.node))
   before k slot (is_link at_it is) = (
     restores.link,
     ap (λ n. get_or now.heap.slots n None) at_it ∙ restores.link_is,
@@ -203,8 +208,10 @@ module _ (sizes : Sizes) (account : Account) (actor : ℕ) (operation : Operatio
       let over = roots_still sizes account words all.taken (2 * p) far value (not_of_any_offer sizes account stands words all (slot_of i) restores.link stood (2 * p) its value) all.roots in
       record {
         means = λ handle low.
-            subst (λ rs. MeansRoot account_then words_then handle (slice_index words_then (root_word handle)) (get_or rs handle None)) (sym restores.roots) (meaning_then handle _ (root_at now handle) (over.means handle low));
-        offers = λ k c. (let h = over.offers k c in record { olds = h.olds; news = h.news ∙ ap (λ n. pair_code (record { low = place_of account k.offer.successor; high = n })) (second_then k.offer.second) });
+            subst (λ rs. MeansRoot account_then words_then handle (slice_index words_then (root_word handle)) (get_or rs handle None)) (sym restores.roots)
+                (meaning_then handle _ (root_at now handle) (over.means handle low));
+        offers = λ k c. (let h = over.offers k c in record { olds = h.olds; news = h.news ∙ ap (λ n. pair_code (record { low = place_of account k.offer.successor; high = n }))
+            (second_then k.offer.second) });
         blocks = over.blocks;
         single = over.single;
         pending = over.pending;

@@ -1,6 +1,5 @@
 -- What the exchanges of a READ come to.
-use Rattle.history.specs.declared.calls.Access.TheVariants.{Writable, ReadOnly}
-use Rattle.std.proofs.Common.{◌≡◌, ◌≢◌, ◌+◌, ◌*◌, ◌^◌, ◌<◌, ◌≤◌, ◌⊎◌, ◌==◌, ℕ, inl, inr, Bool, true, false, [], ◌∷◌, Contains, get_or, Option, Some, None, refl, sym, ap, subst, ◌∙◌, arith, nat_eq}
+use Rattle.std.proofs.Common.{◌≡◌, ◌≢◌, ◌^◌, ◌<◌, ◌==◌, ℕ, inl, inr, Bool, true, false, [], ◌∷◌, Contains, Option, Some, refl, sym, ap, subst, ◌∙◌, arith, nat_eq}
 use Rattle.std.proofs.lemmas.Bool.{eqb-true}
 use Rattle.std.proofs.lemmas.List.Elements.{Contains-get_or, Contains-append_left}
 use Rattle.std.proofs.lemmas.Option.{same_Some}
@@ -11,26 +10,20 @@ use Rattle.trie_words.specs.declared.links.Link.{Link}
 use Rattle.trie_words.specs.declared.names.Name.{Name}
 use Rattle.machine_model.specs.Beneath.slot_arena.specs.declared.refs.Ref.{Ref}
 use Rattle.machine_model.specs.Beneath.slot_arena.specs.declared.nodes.Slot.{Slot}
-use Rattle.machine_model.specs.Beneath.slot_arena.specs.Heaps.{main_at, prev_at, generation_at, refs_of_node, refs_of_prev}
+use Rattle.machine_model.specs.Beneath.slot_arena.specs.Heaps.{main_at, prev_at, refs_of_node, refs_of_prev}
 use Rattle.machine_model.specs.Beneath.slot_arena.specs.Refs.{slot_of}
 use Rattle.machine_model.specs.declared.actions.Action.TheVariants as act
-use Rattle.machine_model.specs.declared.reading.After.{After}
-use Rattle.machine_model.specs.declared.reading.After.TheVariants.{Goes, Gives}
+use Rattle.machine_model.specs.declared.reading.After.TheVariants.{Goes}
 use Rattle.machine_model.specs.declared.reading.ReadLine.{ReadLine}
 use Rattle.machine_model.specs.declared.reading.ReadLine.TheVariants as read
-use Rattle.machine_model.specs.declared.operations.Operation.{Operation}
-use Rattle.machine_model.specs.Operations.{action_of}
 use Rattle.machine_model.specs.Reading.{is_licensed, is_pending, verdict_by, after_decide, after_restore}
 use Rattle.proof_memory.specs.Wants.{is_main_node}
-use Rattle.lock_free.specs.declared.reading.Given.{Given}
 use Rattle.lock_free.specs.declared.reading.Way.{Way}
 use Rattle.lock_free.specs.declared.rules.View.{View}
-use Rattle.lock_free.specs.Accounts.{state_of, place_of, running}
 use Rattle.lock_free.specs.Exchanging.{IsNamed, IsNamedOrGone, IsAtDecide, HasDecided, IsAtRestore, HasRestored}
-use Rattle.lock_free.specs.Loading.{now, seen, Runs, IsAt, IsUsed, IsSound, Went, Saw, Holds, HoldsSlot, HasSeenMain}
+use Rattle.lock_free.specs.Loading.{now, seen, IsAt, IsUsed, IsSound, Holds, HoldsSlot, HasSeenMain}
 use Rattle.lock_free.specs.Nodes.{class_of}
-use Rattle.lock_free.specs.Passing.{Later, HasCome, IsReading, KnowsLink, IsPlaced, KnowsMain, KnowsPending, HasGiven, pending_line, IsPending, HasLicense, IsFailed}
-use Rattle.lock_free.specs.Places.{words_in}
+use Rattle.lock_free.specs.Passing.{Later, HasCome, IsReading, KnowsLink, KnowsMain, KnowsPending, HasGiven, pending_line, IsPending, HasLicense, IsFailed}
 use Rattle.lock_free.proofs.Asked.{mains_of, main_stands, gone_stays}
 use Rattle.lock_free.proofs.Comings.{at_read, all_read, came, come_on, reading_one, reading_then, saw_come}
 use Rattle.lock_free.proofs.Framing.{class_small}
@@ -81,7 +74,8 @@ module _ (before middle : View) (way : Way) (link : Link) (header : Header) (lic
         let x = g.1 i main replaced told.0 (at_read middle i (read.Decide main replaced told.0) deciding) in
         come_on before middle after (read.Decide main replaced told.0) (after_decide main (verdict_by licensed stood)) told.1
         (came middle after i (read.Decide main replaced told.0) deciding its_later g.0 (after_decide main (verdict_by licensed stood))
-        (λ o r. ap (λ a. after_decide main (verdict_by a (is_pending (prev_at (now (seen middle g.0.account)).heap main) replaced))) (x.1 ∙ told.2) ∙ ap (λ b. after_decide main (verdict_by licensed b)) x.0))
+        (λ o r. ap (λ a. after_decide main (verdict_by a (is_pending (prev_at (now (seen middle g.0.account)).heap main) replaced))) (x.1 ∙ told.2) ∙ ap
+            (λ b. after_decide main (verdict_by licensed b)) x.0))
 
     link_then : KnowsLink after i main link
     link_then = link_later middle after its_later i main link link_now
@@ -93,7 +87,8 @@ module _ (before middle : View) (way : Way) (link : Link) (header : Header) (lic
     same_link j y reading = (reading_one before i j (pending_line way.access main replaced) y pending.3 reading).0
 
     -- it is committed, and given
-    pub commits : licensed ≡ true → stood ≡ true → (j : Ref) (y : ReadLine) → IsReading before j y → HasGiven before j (record { link = link; header = record { previous = previous.None; shape = header.shape } }) after
+    pub commits : licensed ≡ true → stood ≡ true → (j : Ref) (y : ReadLine) → IsReading before j y → HasGiven before j
+        (record { link = link; header = record { previous = previous.None; shape = header.shape } }) after
     commits a b j y reading =
         subst (λ k. HasGiven before k (record { link = link; header = record { previous = previous.None; shape = header.shape } }) after) (same_link j y reading)
         (record {
@@ -184,7 +179,8 @@ module _ (before : View) (indirection : ℕ) (link : Link) (former : Name) (f : 
     header_mid =
         let used = f.7.0 in
         let o = at_it.operation in
-        let stands = main_stands before.sizes before.account sound.bounds before.actor o at_it.runs old (subst (λ a. Contains (mains_of a) old) (sym at_it.acts) (Contains-get_or (main0 ∷ old ∷ []) 1 old (omega arith))) in
+        let stands = main_stands before.sizes before.account sound.bounds before.actor o at_it.runs old
+            (subst (λ a. Contains (mains_of a) old) (sym at_it.acts) (Contains-get_or (main0 ∷ old ∷ []) 1 old (omega arith))) in
         let is = same_Some stands.1.0 used.0 (sym stands.1.1 ∙ used.1) in
         let v = seen before g.0.account in
         let x = later0.nodes old used.0 used.1 in
@@ -192,7 +188,11 @@ module _ (before : View) (indirection : ℕ) (link : Link) (former : Name) (f : 
         let kind = main_kind used.0.node x.0.node x.2 (subst (λ (z : Slot). is_main_node z.node ≡ true) is stands.1.2) in
         let h = g.1 old holds f.7.1 x.0 there kind in
         let known : KnowsMain v old header = record {
-          slot = h.slot; used = h.stores; is_main = h.is_main; is_shape = h.is_shape; fits = h.fits;
+          slot = h.slot;
+          used = h.stores;
+          is_main = h.is_main;
+          is_shape = h.is_shape;
+          fits = h.fits;
           names = λ r c. h.used r (Contains-append_left (refs_of_node h.slot.node) (refs_of_prev h.slot.prev) r c);
         } in
         subst (λ z. KnowsMain z old header) (sym g.0.after_is) known
@@ -219,7 +219,8 @@ module _ (before : View) (indirection : ℕ) (link : Link) (former : Name) (f : 
           absurd (gone_stays middle.sizes middle.actor middle.account r.0.account r.0.waited.waited r.0.waited.sound.bounds at_mid.operation at_mid.runs i0 main0 old at_mid.acts gone
           (eqb-true (main_at (now (seen middle r.0.account)).heap i0) main0 (stood_is ∙ e)))
 
-      pub puts_back : stood ≡ true → (j : Ref) (y : ReadLine) → IsReading before j y → HasGiven before j (record { link = record { generation = link.generation; main = former }; header = header }) after
+      pub puts_back : stood ≡ true → (j : Ref) (y : ReadLine) → IsReading before j y → HasGiven before j
+          (record { link = record { generation = link.generation; main = former }; header = header }) after
       puts_back e j y reading =
           let link_end = link_later middle after later1 i0 main0 link link_mid in
           subst (λ z. HasGiven before z (record { link = record { generation = link.generation; main = former }; header = header }) after)

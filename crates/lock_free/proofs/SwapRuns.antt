@@ -1,25 +1,16 @@
 -- A SWAP comes from line to line.
-use Rattle.std.proofs.Common.{◌≡◌, ◌+◌, ◌*◌, ◌^◌, ◌<◌, ◌==◌, ℕ, Bool, true, false, List, [], ◌∷◌, ◌++◌, Contains, get_or, Some, None, refl, sym, ap, subst, ◌∙◌, arith}
-use Rattle.std.proofs.lemmas.List.Elements.{Contains-get_or}
-use Rattle.std.proofs.lemmas.Option.{same_Some}
-use Rattle.trie_words.specs.declared.headers.Header.{Header}
-use Rattle.trie_words.specs.declared.headers.Previous.{Previous}
-use Rattle.trie_words.specs.declared.headers.Previous.TheVariants as previous
-use Rattle.trie_words.specs.declared.links.Link.{Link}
+use Rattle.std.proofs.Common.{◌≡◌, ◌==◌, Bool, true, false, List, [], refl, sym, ap, subst, ◌∙◌}
 use Rattle.machine_model.specs.Beneath.slot_arena.specs.declared.refs.Ref.{Ref}
 use Rattle.machine_model.specs.Beneath.slot_arena.specs.declared.nodes.Node.{Node}
 use Rattle.machine_model.specs.Beneath.slot_arena.specs.declared.nodes.Node.TheVariants.{Indirection, Branch, Single, Tomb, List as Listed}
 use Rattle.machine_model.specs.Beneath.slot_arena.specs.declared.nodes.Prev.{Prev}
 use Rattle.machine_model.specs.Beneath.slot_arena.specs.declared.nodes.Prev.TheVariants as prev
-use Rattle.machine_model.specs.Beneath.slot_arena.specs.declared.nodes.Slot.{Slot}
 use Rattle.machine_model.specs.Beneath.slot_arena.specs.Heaps.{node_at, main_at, prev_at}
-use Rattle.machine_model.specs.Beneath.slot_arena.specs.Refs.{slot_of}
-use Rattle.machine_model.specs.declared.actions.Action.TheVariants as act
 use Rattle.machine_model.specs.declared.lines.Purpose.{Purpose}
 use Rattle.machine_model.specs.declared.lines.Purpose.TheVariants as purpose
 use Rattle.machine_model.specs.declared.lines.Line.{Line}
 use Rattle.machine_model.specs.declared.lines.Line.TheVariants as line
-use Rattle.machine_model.specs.declared.reading.After.TheVariants.{Goes, Gives}
+use Rattle.machine_model.specs.declared.reading.After.TheVariants.{Gives}
 use Rattle.machine_model.specs.declared.reading.ReadLine.TheVariants as read
 use Rattle.machine_model.specs.declared.reading.SwapLine.{SwapLine}
 use Rattle.machine_model.specs.declared.reading.SwapLine.TheVariants as swap
@@ -28,7 +19,6 @@ use Rattle.machine_model.specs.Acting.{operation_after}
 use Rattle.machine_model.specs.Operations.{swapped, after_swap}
 use Rattle.machine_model.specs.Swapping.{after_publish, after_check, on_line}
 use Rattle.machine_model.specs.States.{State}
-use Rattle.lock_free.specs.Loading.{Runs}
 use Rattle.lock_free.specs.Swaps.{swap_on, swap_done}
 
 abbrev pub is_none : Prev → Bool
@@ -66,9 +56,11 @@ module _ (why : Purpose) (i a f : Ref) where
   -- it swaps the fresh node in, or doesn't
   abbrev published : State → Operation → Bool → Bool → Operation
   published state o mark stood =
-      record o { private = []; is_marked = mark; line = after_swap state (record o { is_marked = mark; line = at_line swap.Publish }) why (record { indirection = i; replaced = a; fresh = f; line = swap.Publish }) (on_line (record { indirection = i; replaced = a; fresh = f; line = swap.Publish }) (after_publish f stood)) }
+      record o { private = []; is_marked = mark; line = after_swap state (record o { is_marked = mark; line = at_line swap.Publish }) why
+          (record { indirection = i; replaced = a; fresh = f; line = swap.Publish }) (on_line (record { indirection = i; replaced = a; fresh = f; line = swap.Publish }) (after_publish f stood)) }
 
-  first_step : (state : State) (o : Operation) (mark stood : Bool) → o.line ≡ at_line swap.Publish → (main_at state.heap i == a) ≡ stood → operation_after state (record o { is_marked = mark }) ≡ published state o mark stood
+  first_step : (state : State) (o : Operation) (mark stood : Bool) → o.line ≡ at_line swap.Publish → (main_at state.heap i == a) ≡ stood → operation_after state
+      (record o { is_marked = mark }) ≡ published state o mark stood
   first_step state o mark stood is hits =
       subst (λ l. operation_after state (record o { is_marked = mark; line = l }) ≡ published state o mark stood) (sym is) (ap (published state o mark) hits)
 
@@ -85,6 +77,7 @@ module _ (why : Purpose) (i a f : Ref) where
   pub checks : (state : State) (o : Operation) (mark : Bool) (done : Bool) → is_none (prev_at state.heap f) ≡ done →
       operation_after state (record (swap_on why i a f swap.Check o) { is_marked = mark }) ≡ record (swap_done why (node_at state.heap f) done o) { is_marked = mark }
   checks state o mark done is =
-      ap (λ z. record o { private = []; is_marked = mark; line = after_swap state (record (swap_on why i a f swap.Check o) { is_marked = mark }) why (record { indirection = i; replaced = a; fresh = f; line = swap.Check }) (on_line (record { indirection = i; replaced = a; fresh = f; line = swap.Check }) z) })
+      ap (λ z. record o { private = []; is_marked = mark; line = after_swap state (record (swap_on why i a f swap.Check o) { is_marked = mark }) why
+          (record { indirection = i; replaced = a; fresh = f; line = swap.Check }) (on_line (record { indirection = i; replaced = a; fresh = f; line = swap.Check }) z) })
       (check_gives (prev_at state.heap f) ∙ ap Gives is)
       ∙ ap (λ l. record o { private = []; is_marked = mark; line = l }) (same_call why (node_at state.heap f) done o [] (at_line swap.Check) mark)

@@ -1,5 +1,5 @@
 -- A SWAP, put together.
-use Rattle.std.proofs.Common.{◌≡◌, ◌≢◌, ◌+◌, ◌*◌, ◌^◌, ◌<◌, ◌==◌, ℕ, Bool, true, false, List, [], ◌∷◌, ◌++◌, Contains, get_or, Option, Some, None, refl, sym, ap, subst, ◌∙◌, arith}
+use Rattle.std.proofs.Common.{◌≡◌, ◌≢◌, ◌^◌, ◌<◌, ◌==◌, ℕ, Bool, true, false, [], ◌∷◌, Contains, Some, refl, sym, ap, subst, ◌∙◌, arith}
 use Rattle.std.proofs.lemmas.List.Elements.{Contains-get_or}
 use Rattle.std.proofs.lemmas.Bool.{true≢false}
 use Rattle.std.proofs.lemmas.Option.{same_Some}
@@ -11,14 +11,13 @@ use Rattle.trie_words.specs.declared.names.Name.{Name}
 use Rattle.machine_model.specs.Beneath.slot_arena.specs.declared.refs.Ref.{Ref}
 use Rattle.machine_model.specs.Beneath.slot_arena.specs.declared.nodes.Prev.{Prev}
 use Rattle.machine_model.specs.Beneath.slot_arena.specs.declared.nodes.Slot.{Slot}
-use Rattle.machine_model.specs.Beneath.slot_arena.specs.Heaps.{no_ref, node_at, main_at, prev_at}
+use Rattle.machine_model.specs.Beneath.slot_arena.specs.Heaps.{no_ref, node_at, main_at}
 use Rattle.machine_model.specs.Beneath.slot_arena.specs.Refs.{slot_of}
 use Rattle.machine_model.specs.declared.actions.Action.TheVariants as act
 use Rattle.machine_model.specs.declared.lines.Purpose.{Purpose}
 use Rattle.machine_model.specs.declared.lines.Purpose.TheVariants as purpose
 use Rattle.machine_model.specs.declared.lines.Line.{Line}
 use Rattle.machine_model.specs.declared.lines.Line.TheVariants as line
-use Rattle.machine_model.specs.declared.reading.After.TheVariants.{Goes, Gives}
 use Rattle.machine_model.specs.declared.reading.ReadLine.TheVariants as read
 use Rattle.machine_model.specs.declared.reading.SwapLine.TheVariants as swap
 use Rattle.machine_model.specs.declared.operations.Operation.{Operation}
@@ -32,21 +31,19 @@ use Rattle.lock_free.specs.declared.reading.Given.{Given}
 use Rattle.lock_free.specs.declared.reading.Passed.TheVariants as passed
 use Rattle.lock_free.specs.declared.reading.Way.{Way}
 use Rattle.lock_free.specs.declared.rules.View.{View}
-use Rattle.lock_free.specs.declared.swapping.Swapped.{Swapped}
 use Rattle.lock_free.specs.declared.swapping.Swapped.TheVariants.{Commits, Fails, Misses}
-use Rattle.lock_free.specs.Accounts.{bounds_for, running, IsOwn, later, first}
+use Rattle.lock_free.specs.Accounts.{bounds_for, IsOwn, later, first}
 use Rattle.lock_free.specs.Exchanging.{IsAtPublish, HasPublished, given_up}
-use Rattle.lock_free.specs.Loading.{now, seen, Runs, IsAt, IsUsed, IsSound, IsAtSlot, Waited, HasHeader, HasReadHeader}
+use Rattle.lock_free.specs.Loading.{now, seen, Runs, IsAt, IsSound, IsAtSlot, HasHeader, HasReadHeader}
 use Rattle.lock_free.specs.Nodes.{class_of, IsAhead, SaysPrevious, decided, ahead, pending, failed}
-use Rattle.lock_free.specs.Passing.{Later, IsReading, IsOnWay, KnowsLink, IsPlaced, IsPassing, HasPassed, HasGiven}
-use Rattle.lock_free.specs.Places.{words_in}
+use Rattle.lock_free.specs.Passing.{Later, IsReading, IsOnWay, IsPlaced, IsPassing, HasPassed, HasGiven}
 use Rattle.lock_free.specs.Publishing.{owned_now, swapped_in}
-use Rattle.lock_free.specs.Swaps.{swap_on, swap_done, IsSwapping, IsAtSwap, is_done, HasSwapDone}
+use Rattle.lock_free.specs.Swaps.{swap_on, swap_done, IsSwapping, IsAtSwap, HasSwapDone}
 use Rattle.lock_free.proofs.Asked.{mains_of, main_stands, nodes_go, read_is_met}
 use Rattle.lock_free.proofs.Comings.{runs_one}
 use Rattle.lock_free.proofs.Framing.{class_small}
 use Rattle.lock_free.proofs.GivenBack.{node_is}
-use Rattle.lock_free.proofs.Laters.{main_kind, went_later, later_both, waited_later, same_both, used_later, placed_later, link_later, generation_later}
+use Rattle.lock_free.proofs.Laters.{main_kind, went_later, later_both, waited_later, same_both, used_later, placed_later, generation_later}
 use Rattle.lock_free.proofs.Passes.{none_says}
 use Rattle.lock_free.proofs.SwapRuns.{publishes, misses, is_none, checks}
 use Rattle.lock_free.proofs.Verdicts.{main_same, prev_is}
@@ -57,7 +54,8 @@ abbrev parts_in : Line → Purpose × Ref
 parts_in (line.Swap why s) = (why, s.fresh)
 parts_in l = (purpose.Clean, no_ref)
 
-not_none : (account : Account) (state : State) (k : ℕ) (p : Prev) (says : Previous) → says ≢ previous.None → ((j b c : Ref) → IsAhead state j b c → slot_of c ≢ k) → SaysPrevious account state k p says → is_none p ≡ false
+not_none : (account : Account) (state : State) (k : ℕ) (p : Prev) (says : Previous) → says ≢ previous.None → ((j b c : Ref) → IsAhead state j b c → slot_of c ≢ k) →
+    SaysPrevious account state k p says → is_none p ≡ false
 not_none account state k p says isnt met (decided nobody) = absurd (isnt refl)
 not_none account state k p says isnt met (ahead i b c own h its owned) = absurd (met i b c h its)
 not_none account state k p says isnt met (pending q own over) = refl
@@ -146,8 +144,7 @@ module _ (v : View) (name : ℕ) (link : Link) (fresh : ℕ) (is_at : IsAtSwap v
         goes : (o : Operation) → Runs v o → Runs w (swap_done why (node_at (now v).heap f) false o)
         goes o (mark, runs) =
             let there = g.1.stays (record o { is_marked = mark }) runs in
-            let step = misses why i a f state o there.0 (line_of o (mark, runs)) (what.0 ∙ e) in
-            (
+            let step = misses why i a f state o there.0 (line_of o (mark, runs)) (what.0 ∙ e) in (
               there.0,
               g.2 (record o { is_marked = there.0 }) there.1 ∙ ap Some (step ∙ ap (λ node. record (swap_done why node false o) { is_marked = there.0 }) (fresh_same (seen v account) seen_later)),
             )
@@ -251,11 +248,10 @@ module _ (v : View) (name : ℕ) (link : Link) (fresh : ℕ) (is_at : IsAtSwap v
           goes_z done is o r =
               let (mark, runs) = goes_x o r in
               let there = h.0.waited.stays (record (swap_on why i a f swap.Check o) { is_marked = mark }) runs in
-              let step = checks why i a f (now (seen x h.0.account)) o there.0 done (ap is_none (prev_is (now (seen x h.0.account)) f says.slot says.stores) ∙ is) in
-              (
+              let step = checks why i a f (now (seen x h.0.account)) o there.0 done (ap is_none (prev_is (now (seen x h.0.account)) f says.slot says.stores) ∙ is) in (
                 there.0,
                 h.0.took (record (swap_on why i a f swap.Check o) { is_marked = there.0 }) there.1
-                ∙ ap Some (step ∙ ap (λ node. record (swap_done why node done o) { is_marked = there.0 }) (fresh_same (seen x h.0.account) later_y)),
+                    ∙ ap Some (step ∙ ap (λ node. record (swap_done why node done o) { is_marked = there.0 }) (fresh_same (seen x h.0.account) later_y)),
               )
 
           pub commits : header.previous ≡ previous.None → HasSwapDone v Commits z

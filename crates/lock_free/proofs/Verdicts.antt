@@ -1,9 +1,9 @@
 -- The exchange of a header decides a main node that is pending still, and no other.
-use Rattle.std.proofs.Common.{◌≡◌, ◌≢◌, ◌+◌, ◌*◌, ◌^◌, ◌<◌, ◌⊎◌, ◌==◌, ℕ, inl, inr, Bool, true, false, List, [], ◌∷◌, Contains, set, get_or, slice_index, length, Option, Some, None, refl, sym, ap, subst, ◌∙◌, arith, if◌then◌else◌, eq-eqb, ne_eqb}
+use Rattle.std.proofs.Common.{◌≡◌, ◌≢◌, ◌*◌, ℕ, inl, inr, Bool, true, false, [], ◌∷◌, Contains, get_or, length, Option, Some, None, refl, sym, ap, subst, ◌∙◌, arith, if◌then◌else◌, eq-eqb}
 use Rattle.std.proofs.lemmas.Bool.{true≢false}
 use Rattle.std.proofs.lemmas.List.Elements.{Contains-get_or, Contains-append_left}
 use Rattle.std.proofs.lemmas.Option.{same_Some}
-use Rattle.trie_words.specs.Codes.{IsHeader, IsName, IsPrevious, header_code, previous_code, name_code}
+use Rattle.trie_words.specs.Codes.{IsHeader, IsName, IsPrevious, header_code, previous_code}
 use Rattle.trie_words.specs.declared.headers.Header.{Header}
 use Rattle.trie_words.specs.declared.headers.Previous.{Previous}
 use Rattle.trie_words.specs.declared.headers.Previous.TheVariants as previous
@@ -17,7 +17,7 @@ use Rattle.machine_model.specs.Beneath.slot_arena.specs.declared.nodes.Node.TheV
 use Rattle.machine_model.specs.Beneath.slot_arena.specs.declared.nodes.Prev.{Prev}
 use Rattle.machine_model.specs.Beneath.slot_arena.specs.declared.nodes.Prev.TheVariants as prev
 use Rattle.machine_model.specs.Beneath.slot_arena.specs.declared.nodes.Slot.{Slot}
-use Rattle.machine_model.specs.Beneath.slot_arena.specs.Heaps.{stored, prev_at, prev_of, main_at, refs_of_node, refs_of_prev, refs_of_slot, with_main_word}
+use Rattle.machine_model.specs.Beneath.slot_arena.specs.Heaps.{stored, prev_at, prev_of, main_at, refs_of_node, refs_of_prev, refs_of_slot}
 use Rattle.machine_model.specs.Beneath.slot_arena.specs.Refs.{slot_of}
 use Rattle.machine_model.specs.declared.actions.Action.TheVariants as act
 use Rattle.machine_model.specs.declared.operations.Operation.{Operation}
@@ -27,19 +27,17 @@ use Rattle.proof_memory.specs.Laws.{SameNode}
 use Rattle.proof_memory.specs.Wants.{is_main_node}
 use Rattle.lock_free.specs.declared.accounts.Account.{Account}
 use Rattle.lock_free.specs.declared.rules.View.{View}
-use Rattle.lock_free.specs.Accounts.{state_of, place_of, OwnIs, IsOwn, running, gone_on}
-use Rattle.lock_free.specs.Deciding.{says_then, Decides}
-use Rattle.lock_free.specs.Exchanging.{IsNamed, IsPendingOver, decided_previous, decided_header, IsAtDecide, HasDecided}
-use Rattle.lock_free.specs.Live.{from_slot, IsLive}
-use Rattle.lock_free.specs.Loading.{Moment, now, seen, IsAt, IsSound, HasGone, has_gone, Went}
+use Rattle.lock_free.specs.Accounts.{state_of, place_of, OwnIs, running}
+use Rattle.lock_free.specs.Deciding.{Decides}
+use Rattle.lock_free.specs.Exchanging.{IsPendingOver}
+use Rattle.lock_free.specs.Live.{from_slot}
+use Rattle.lock_free.specs.Loading.{Moment, IsAt}
 use Rattle.lock_free.specs.Nodes.{IsAhead, IsOver, SaysPrevious, decided, ahead, pending, failed, SaysShape, of_branch, of_tomb, of_list, SaysHeader}
-use Rattle.lock_free.specs.Places.{words_of}
-use Rattle.lock_free.specs.Rules.{IsKept}
 use Rattle.lock_free.specs.Steps.{Reads}
-use Rattle.lock_free.proofs.Asked.{mains_of, decides_or_not, nodes_stay}
+use Rattle.lock_free.proofs.Asked.{decides_or_not, nodes_stay}
 use Rattle.lock_free.proofs.Decided.{failed_pending, none_pending, same_pending}
-use Rattle.lock_free.proofs.Looking.{main_there, link_there, header_at, same_action, o_there, acts_there}
-use Rattle.lock_free.proofs.Moments.{allowed, CanBe, IsThere, its_place, live_place, still_own, took_by, waited_so, before, seat}
+use Rattle.lock_free.proofs.Looking.{main_there, header_at, o_there, acts_there}
+use Rattle.lock_free.proofs.Moments.{IsThere, its_place, live_place, still_own, seat}
 
 -- ---- what a main node is stays
 
@@ -83,7 +81,8 @@ pending_says account state k p says r is (pending q own over) =
 pending_says account state k p says r is (failed q own over) = absurd (failed_pending q r is)
 
 -- the code of a pending one is no other's
-other_code : (account : Account) (state : State) (k : ℕ) (p : Prev) (says : Previous) (name : Name) → IsName name → ((r : Ref) → p ≡ prev.Pending r → ⊥) → ((j a f : Ref) → IsAhead state j a f → slot_of f ≢ k) → SaysPrevious account state k p says →
+other_code : (account : Account) (state : State) (k : ℕ) (p : Prev) (says : Previous) (name : Name) → IsName name → ((r : Ref) → p ≡ prev.Pending r → ⊥) →
+    ((j a f : Ref) → IsAhead state j a f → slot_of f ≢ k) → SaysPrevious account state k p says →
     previous_code says ≢ previous_code (previous.Pending name)
 other_code account state k p says name fits over nobody (decided h) e = absurd (omega (arith, e))
 other_code account state k p says name fits over nobody (ahead i a f own h its owned) e = nobody i a f h its
@@ -132,7 +131,8 @@ module _ (v : View) (word found : ℕ) (m : Moment v word found) (i main replace
   unfolding stored
   places r c =
       live_place v m.table m.kept m.id m.at r
-      (from_slot main r main_is.0.was_live (subst (λ x. Contains (refs_of_slot x) r) (sym over.stores) (Contains-append_left (refs_of_node over.slot.node) (refs_of_prev over.slot.prev) r (subst (λ n. Contains (refs_of_node n) r) same_node c))))
+      (from_slot main r main_is.0.was_live (subst (λ x. Contains (refs_of_slot x) r) (sym over.stores)
+          (Contains-append_left (refs_of_node over.slot.node) (refs_of_prev over.slot.prev) r (subst (λ n. Contains (refs_of_node n) r) same_node c))))
 
   -- it is what the header says
   pub shape_now : (s : Shape) → SaysShape account (slot_of main) slot.node s → s ≡ header.shape
@@ -145,7 +145,8 @@ module _ (v : View) (word found : ℕ) (m : Moment v word found) (i main replace
   pub previous_now : (says : Previous) → slot.prev ≡ prev.Pending replaced → main_at state.heap i ≡ main → SaysPrevious account state (slot_of main) slot.prev says → says ≡ header.previous
   previous_now says is stands h =
       let x = pending_says account state (slot_of main) slot.prev says replaced is h in
-      let own = m.kept.nodes.owners.once (slot_of i) (slot_of replaced) x.0 over.name.own (x.1 i (ap slot_of stands)) (still_own v m.table m.kept m.id m.at (slot_of i) (slot_of replaced) over.name.own over.names.is_own) in
+      let own = m.kept.nodes.owners.once (slot_of i) (slot_of replaced) x.0 over.name.own (x.1 i (ap slot_of stands))
+          (still_own v m.table m.kept m.id m.at (slot_of i) (slot_of replaced) over.name.own over.names.is_own) in
       x.2 ∙ ap (λ n. previous.Pending (record { slot = n; own = x.0 })) (its_place v m.table m.kept m.id m.at replaced former_is ∙ over.names.place)
       ∙ ap (λ b. previous.Pending (record { slot = over.name.slot; own = b })) own ∙ sym over.says
 
@@ -160,13 +161,14 @@ module _ (v : View) (word found : ℕ) (m : Moment v word found) (i main replace
   miss : ((q : Ref) → slot.prev ≡ prev.Pending q → ⊥) → ((j a f : Ref) → IsAhead state j a f → slot_of f ≢ slot_of main) → found ≢ header_code header
   miss nobody alone e =
       let same : header_code (record { previous = says_now.previous; shape = header.shape }) ≡ header_code (record { previous = header.previous; shape = header.shape }) =
-          ap (λ x. header_code (record { previous = says_now.previous; shape = x })) (sym (shape_now says_now.shape says_now.is_shape)) ∙ sym says_now.code ∙ e in
+      ap (λ x. header_code (record { previous = says_now.previous; shape = x })) (sym (shape_now says_now.shape says_now.is_shape)) ∙ sym says_now.code ∙ e in
       let codes : previous_code says_now.previous ≡ previous_code header.previous = omega (arith, same) in
       other_code account state (slot_of main) slot.prev says_now.previous over.name (subst IsPrevious over.says fits.0) nobody alone says_now.is_previous (codes ∙ ap previous_code over.says)
 
   -- either it was pending, and its header was this one, or it wasn't
   pub data Case : Type 0 where
-    was_pending : (d : Decides v.sizes account v.actor o main replaced) → d.verdict ≡ (if is_licensed state.heap i told then prev.None else prev.Failed replaced) → d.slot ≡ slot → main_at state.heap i ≡ main →
+    was_pending : (d : Decides v.sizes account v.actor o main replaced) → d.verdict ≡ (if is_licensed state.heap i told then prev.None else prev.Failed replaced) → d.slot ≡ slot →
+        main_at state.heap i ≡ main →
         found ≡ header_code header → is_pending (prev_at state.heap main) replaced ≡ true → Case
     was_decided : Reads v.sizes account v.actor o → found ≢ header_code header → is_pending (prev_at state.heap main) replaced ≡ false → Case
 

@@ -1,5 +1,5 @@
 -- The words of nodes that a seat knows are the table's.
-use Rattle.std.proofs.Common.{◌≡◌, ◌+◌, ◌*◌, ◌/◌, ◌<◌, ◌≤◌, ℕ, zero, suc, inl, inr, Bool, true, false, Contains, get_or, length, Some, None, refl, sym, ap, subst, ◌∙◌, arith, nat_le, if◌then◌else◌}
+use Rattle.std.proofs.Common.{◌≡◌, ◌+◌, ◌*◌, ◌/◌, ◌<◌, ◌≤◌, ℕ, zero, suc, inl, inr, Bool, true, false, length, refl, sym, subst, arith, nat_le, if◌then◌else◌}
 use Rattle.std.proofs.lemmas.Bool.{true≢false, leb-true}
 use Rattle.machine_model.specs.Beneath.slot_arena.specs.declared.refs.Ref.{Ref}
 use Rattle.machine_model.specs.Beneath.slot_arena.specs.declared.nodes.Node.{Node}
@@ -9,11 +9,11 @@ use Rattle.machine_model.specs.Beneath.slot_arena.specs.Heaps.{entries_of}
 use Rattle.machine_model.specs.Beneath.slot_arena.specs.Refs.{slot_of}
 use Rattle.proof_memory.specs.Wants.{is_branch_or_list}
 use Rattle.lock_free.specs.declared.rules.View.{View}
-use Rattle.lock_free.specs.Accounts.{state_of, place_of}
+use Rattle.lock_free.specs.Accounts.{place_of}
 use Rattle.lock_free.specs.Live.{from_operation, IsLive}
 use Rattle.lock_free.specs.Loading.{now, IsSound, IsUsed, Holds, HasPosition}
 use Rattle.lock_free.specs.Nodes.{class_of}
-use Rattle.lock_free.specs.Places.{words_in, words_of, class_for}
+use Rattle.lock_free.specs.Places.{words_in, class_for}
 use Rattle.lock_free.proofs.Asked.{live_in_use}
 use Rattle.lock_free.proofs.Framing.{class_small}
 use Rattle.lock_free.proofs.Moments.{entry_lives}

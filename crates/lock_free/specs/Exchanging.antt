@@ -1,6 +1,6 @@
 -- What exchanges of nodes' words ask and tell.
 use Rattle.history.specs.declared.calls.Call.{Call}
-use Rattle.std.specs.Prelude.{◌≡◌, ◌≢◌, ◌⊎◌, ℕ, ◌==◌, Bool, true, false, List, [], ◌∷◌, Option, Some}
+use Rattle.std.specs.Prelude.{◌≡◌, ◌≢◌, ◌⊎◌, ℕ, ◌==◌, Bool, true, false, List, [], ◌∷◌, Option}
 use Rattle.atomic_table.specs.Table.{Me, Step}
 use Rattle.trie_words.specs.declared.headers.Header.{Header}
 use Rattle.trie_words.specs.declared.headers.Previous.{Previous}
@@ -108,4 +108,5 @@ HasPublished before stood after = (account : Account) × Waited before account �
 
 abbrev pub has_published : Step Call → Me Call View → ℕ → Me Call View → Type 0
 has_published step before found after =
-    ((m : Moment before.0 step.word found) × Took before.0 m.kept.account after.0 × HasSwapped before.0 m.kept.account (found == step.first) after.0) × IsSound (words_of before.0.sizes) after.0 × (after.1 ≡ before.1)
+    ((m : Moment before.0 step.word found) × Took before.0 m.kept.account after.0 × HasSwapped before.0 m.kept.account (found == step.first) after.0) × IsSound (words_of before.0.sizes) after.0 ×
+        (after.1 ≡ before.1)

@@ -1,17 +1,21 @@
 -- What accesses of handles' words ask and tell.
-use Rattle.std.specs.Prelude.{◌≡◌, ◌+◌, ◌*◌, ◌≤◌, ◌⊎◌, ℕ, Contains, Some, None}
-use Rattle.trie_words.specs.Codes.{IsRootWord}
+use Rattle.history.specs.declared.calls.Call.{Call}
+use Rattle.std.specs.Prelude.{◌≡◌, ◌==◌, ◌<◌, ◌+◌, ◌*◌, ◌≤◌, ◌⊎◌, ℕ, Bool, true, false, Contains, Some, None}
+use Rattle.atomic_table.specs.Table.{Me, Step}
+use Rattle.trie_words.specs.Codes.{IsRootWord, root_of}
+use Rattle.trie_words.specs.declared.pins.Pin.{Pin}
 use Rattle.trie_words.specs.declared.roots.RootWord.{RootWord}
 use Rattle.trie_words.specs.declared.roots.RootWord.TheVariants as word
 use Rattle.history.specs.declared.calls.Access.TheVariants.{Writable, ReadOnly}
 use Rattle.machine_model.specs.States.{root_at}
 use Rattle.lock_free.specs.declared.accounts.Account.{Account}
 use Rattle.lock_free.specs.declared.accounts.Known.{Known}
+use Rattle.lock_free.specs.declared.rules.Closing.{Closing}
 use Rattle.lock_free.specs.declared.rules.View.{View}
 use Rattle.lock_free.specs.declared.sizes.Sizes.{Sizes}
 use Rattle.lock_free.specs.Accounts.{state_of}
 use Rattle.lock_free.specs.Loading.{Saw}
-use Rattle.lock_free.specs.Places.{words_of, words_in}
+use Rattle.lock_free.specs.Places.{words_of, words_in, root_word}
 use Rattle.lock_free.specs.Roots.{SaysPlain}
 
 -- an offer for this handle was made in this slot
@@ -44,3 +48,51 @@ TellsRoot sizes account handle (word.Opening slot) = HasOpening sizes account ha
 -- it has seen the word of this handle
 abbrev pub HasSeenRoot : View → ℕ → RootWord → View → Type 0
 HasSeenRoot before handle found after = (s : Saw before after) × IsRootWord found × TellsRoot before.sizes s.account handle found
+
+-- ---- a handle is entered
+
+-- it is open, and nobody would close it
+abbrev pub is_open_word : RootWord → Bool
+is_open_word (word.Writable slot) = true
+is_open_word (word.ReadOnly slot) = true
+is_open_word (word.Offered slot) = true
+is_open_word w = false
+
+abbrev pub entering : View → ℕ → View
+entering v handle = record v { entered = Some handle }
+
+-- a seat enters the handle to which it has pinned itself, where it finds it so
+abbrev pub HasEntered : View → ℕ → RootWord → View → Type 0
+HasEntered before handle found after = (is_open_word found ≡ true → after ≡ entering before handle) × (is_open_word found ≡ false → after ≡ before)
+
+abbrev pub has_entered : Step Call → Me Call View → ℕ → Me Call View → Type 0
+has_entered step before found after =
+    ((pin : Pin) → before.0.pin ≡ Some pin → step.word ≡ root_word pin.handle → HasEntered before.0 pin.handle (root_of found) after.0) × (after.1 ≡ before.1)
+
+-- ---- a handle is marked, which a seat would close
+
+-- it is open, has a root that doesn't stand by an offer, and nobody would close it
+abbrev pub is_unmarked : RootWord → Bool
+is_unmarked (word.Writable slot) = true
+is_unmarked (word.ReadOnly slot) = true
+is_unmarked w = false
+
+-- this seat would close it
+abbrev pub marked_by : ℕ → RootWord → RootWord
+marked_by seat (word.Writable slot) = word.ClosingWritable slot seat
+marked_by seat (word.ReadOnly slot) = word.ClosingReadOnly slot seat
+marked_by seat w = w
+
+-- it has looked at nobody's pin yet
+abbrev pub begins_with : ℕ → Closing
+begins_with handle = record { handle = handle; looked = 0 }
+
+abbrev pub marking : View → ℕ → View
+marking v handle = record v { closing = Some (begins_with handle) }
+
+-- the mark was made, or the word was another
+abbrev pub HasMarked : View → ℕ → Bool → View → Type 0
+HasMarked before handle made after = (made ≡ true → after ≡ marking before handle) × (made ≡ false → after ≡ before)
+
+abbrev pub has_marked : Step Call → Me Call View → ℕ → Me Call View → Type 0
+has_marked step before found after = ((handle : ℕ) → step.word ≡ root_word handle → HasMarked before.0 handle (found == step.first) after.0) × (after.1 ≡ before.1)

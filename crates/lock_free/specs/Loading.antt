@@ -1,6 +1,6 @@
 -- What an access tells: how everything stood when it was made, and what the seat has seen of it since.
 use Rattle.history.specs.declared.calls.Call.{Call}
-use Rattle.std.specs.Prelude.{◌≡◌, ℕ, ◌+◌, ◌*◌, ◌/◌, ◌^◌, ◌<◌, ◌≤◌, ◌⊎◌, Bool, true, List, Contains, length, slice_get, slice_index, slice_index_or, Some, None}
+use Rattle.std.specs.Prelude.{◌≡◌, ℕ, ◌+◌, ◌*◌, ◌/◌, ◌^◌, ◌<◌, ◌≤◌, ◌⊎◌, Bool, true, Contains, length, slice_get, slice_index, slice_index_or, Some, None}
 use mathlib.Core.Option.{some}
 use lib.ListN.{get_elem?}
 use Rattle.atomic_table.specs.Table as Table
@@ -24,7 +24,6 @@ use Rattle.machine_model.specs.States.{State}
 use Rattle.proof_memory.specs.Wants.{is_main_node, is_branch_or_list}
 use Rattle.lock_free.specs.declared.accounts.Account.{Account}
 use Rattle.lock_free.specs.declared.rules.View.{View}
-use Rattle.lock_free.specs.declared.sizes.Sizes.{Sizes}
 use Rattle.lock_free.specs.Accounts.{bounds_for, HasWaited, running, state_of, place_at, place_of, gone_on, IsOwn}
 use Rattle.lock_free.specs.Live.{at_hand}
 use Rattle.lock_free.specs.Nodes.{SaysPrevious, SaysShape, IsEntryOf, half_in, class_of}
@@ -145,7 +144,8 @@ SaysValue state r found = (slot : Slot) (key value : ℕ) → Stores state r slo
 -- the entries at this position and beside it
 abbrev pub SaysPair : Account → State → Ref → ℕ → Pair → Type 0
 SaysPair account state r position pair =
-    (slot : Slot) (n : ℕ) (e : Ref) → Stores state r slot → is_branch_or_list slot.node ≡ true → n / 2 ≡ position / 2 → slice_get (entries_of slot.node) n ≡ Some e → IsEntryOf account state.heap e (half_in pair n)
+    (slot : Slot) (n : ℕ) (e : Ref) → Stores state r slot → is_branch_or_list slot.node ≡ true → n / 2 ≡ position / 2 → slice_get (entries_of slot.node) n ≡ Some e → IsEntryOf account state.heap e
+        (half_in pair n)
 
 -- ---- what loads ask and tell
 

@@ -1,5 +1,5 @@
 -- How nodes stand in words.
-use Rattle.std.specs.Prelude.{◌≡◌, ℕ, zero, suc, ◌+◌, ◌*◌, ◌/◌, ◌%◌, ◌^◌, ◌<◌, ◌≤◌, ◌==◌, ◌⊎◌, Bool, true, false, List, length, Option, Some, None, slice_get, slice_index, slice_index_or, if◌then◌else◌}
+use Rattle.std.specs.Prelude.{◌≡◌, ℕ, ◌+◌, ◌*◌, ◌/◌, ◌%◌, ◌^◌, ◌<◌, ◌==◌, Bool, true, false, List, length, Some, slice_get, slice_index, if◌then◌else◌}
 use Rattle.trie_words.specs.Codes.{link_code, header_code, entry_code, pair_of}
 use Rattle.trie_words.specs.declared.entries.Pair.{Pair}
 use Rattle.trie_words.specs.declared.headers.Previous.{Previous}
@@ -13,14 +13,13 @@ use Rattle.machine_model.specs.Beneath.slot_arena.specs.declared.nodes.Prev.{Pre
 use Rattle.machine_model.specs.Beneath.slot_arena.specs.declared.nodes.Prev.TheVariants as prev
 use Rattle.machine_model.specs.Beneath.slot_arena.specs.declared.nodes.Slot.{Slot}
 use Rattle.machine_model.specs.Beneath.slot_arena.specs.Refs.{slot_of}
-use Rattle.machine_model.specs.Beneath.slot_arena.specs.Heaps.{Heap, node_at, main_at, entries_of}
+use Rattle.machine_model.specs.Beneath.slot_arena.specs.Heaps.{Heap, node_at, main_at}
 use Rattle.machine_model.specs.declared.lines.Purpose.{Purpose}
 use Rattle.machine_model.specs.declared.lines.Line.TheVariants as line
 use Rattle.machine_model.specs.declared.operations.Operation.{Operation}
 use Rattle.machine_model.specs.States.{State, operation_of}
 use Rattle.machine_model.specs.Swapping.{swapping}
 use Rattle.lock_free.specs.declared.accounts.Account.{Account}
-use Rattle.lock_free.specs.declared.sizes.Sizes.{Sizes}
 use Rattle.lock_free.specs.Accounts.{place_of, OwnIs, IsOwn}
 use Rattle.lock_free.specs.Places.{class_for}
 
@@ -104,7 +103,8 @@ pub record SaysHeader (account : Account) (state : State) (k : ℕ) (slot : Slot
 -- this node stands in the words of this slot of the table
 abbrev pub StandsAs : Account → State → Has → ℕ → ℕ → Slot → Node → Type 0
 StandsAs account state has name k slot (Indirection generation main) =
-    (generation < 2 ^ 36) × ((own : Bool) × OwnIs account.owned k (slot_of main) own × has (2 * name) (link_code (record { generation = generation; main = record { slot = place_of account main; own = own } })))
+    (generation < 2 ^ 36) × ((own : Bool) × OwnIs account.owned k (slot_of main) own × has (2 * name)
+        (link_code (record { generation = generation; main = record { slot = place_of account main; own = own } })))
 StandsAs account state has name k slot (Single key value) = has (2 * name) key × has (2 * name + 1) value
 StandsAs account state has name k slot (Branch bitmap entries) =
     ((word : ℕ) × has (2 * name) word × SaysHeader account state k slot word) × AreEntries account state.heap has name entries.items

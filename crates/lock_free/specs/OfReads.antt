@@ -139,4 +139,3 @@ line_by operation (Gives m) = on_given operation.call operation.line m
 -- the operation once its READ has come to this
 abbrev pub read_to : After ReadLine Ref → Operation → Operation
 read_to out operation = record operation { line = line_by operation out }
-

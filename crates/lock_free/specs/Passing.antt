@@ -27,7 +27,7 @@ use Rattle.lock_free.specs.declared.reading.Passed.TheVariants as passed
 use Rattle.lock_free.specs.declared.reading.Way.{Way}
 use Rattle.lock_free.specs.declared.rules.View.{View}
 use Rattle.lock_free.specs.Accounts.{place_of, IsOwn}
-use Rattle.lock_free.specs.Exchanging.{IsNamed, IsNamedOrGone, IsPendingOver, IsLinkTo}
+use Rattle.lock_free.specs.Exchanging.{IsNamed, IsNamedOrGone, IsLinkTo}
 use Rattle.lock_free.specs.Loading.{now, seen, Runs, IsUsed, IsSound}
 use Rattle.lock_free.specs.Nodes.{SaysShape}
 use Rattle.lock_free.specs.OfReads.{read_to}
@@ -144,7 +144,8 @@ HasLicense before way link licensed after = (i main replaced : Ref) → IsReadin
 -- the root's generation is asked
 abbrev pub IsAsking : View → ℕ → Type 0
 IsAsking v handle =
-    (i : Ref) × (main : Ref) × (replaced : Ref) × (operation : Operation) × Runs v operation × (read_of operation.line ≡ Some (record { indirection = i; line = read.AskRoot main replaced })) × (handle_of operation.call ≡ handle)
+    (i : Ref) × (main : Ref) × (replaced : Ref) × (operation : Operation) × Runs v operation × (read_of operation.line ≡ Some (record { indirection = i; line = read.AskRoot main replaced })) ×
+        (handle_of operation.call ≡ handle)
 
 abbrev pub HasAsked : View → Option ℕ → View → Type 0
 HasAsked before told after = (i main replaced : Ref) → IsReading before i (read.AskRoot main replaced) → HasCome (Goes (read.Decide main replaced told)) before after

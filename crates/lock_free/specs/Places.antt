@@ -1,5 +1,5 @@
 -- Which word is what: counters, a word for each handle and each seat, and three parts with slots of one size each. A slot is named by its first word, halved.
-use Rattle.std.specs.Prelude.{◌≡◌, ℕ, zero, suc, ◌+◌, ◌*◌, ◌^◌, ◌<◌, ◌≤◌, ◌==◌, if◌then◌else◌, nat_le, List, slice_index}
+use Rattle.std.specs.Prelude.{◌≡◌, ℕ, ◌+◌, ◌*◌, ◌^◌, ◌<◌, ◌≤◌, ◌==◌, if◌then◌else◌, nat_le, List, slice_index}
 use Rattle.lock_free.specs.declared.sizes.Sizes.{Sizes}
 
 -- 16 words are two lines of the cache, so that who writes one counter doesn't take another from a processor

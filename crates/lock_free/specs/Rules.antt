@@ -34,7 +34,8 @@ abbrev pub first_account : Account
 first_account = record { steps = []; names = []; owned = []; offers = [] }
 
 abbrev pub first_view : Sizes → View
-first_view sizes = record { sizes = sizes; actor = 1; last = sizes.seats; account = first_account; pin = None; entered = None; closing = None; opens = None; opening = None; pool = record { small = []; medium = []; wide = [] }; drafts = [] }
+first_view sizes = record { sizes = sizes; actor = 1; last = sizes.seats; account = first_account; pin = None; entered = None; closing = None; opens = None; opening = None;
+    pool = record { small = []; medium = []; wide = [] }; drafts = [] }
 
 -- no number stands twice
 abbrev pub Once : List ℕ → Type 0
@@ -201,4 +202,5 @@ pub record IsKept (sizes : Sizes) (s : Table.State Call View) : Type 0 where
   -- no two seats have the same actor, the same free slot or the same reserved number
   pub alone : (i j : ℕ) (v w : View) (a : ℕ) → get_elem? s.views i ≡ some v → get_elem? s.views j ≡ some w → HasActor v a → HasActor w a → i ≡ j
   pub pools : (i j : ℕ) (v w : View) (b c name : ℕ) → get_elem? s.views i ≡ some v → get_elem? s.views j ≡ some w → IsFree v b name → IsFree w c name → i ≡ j
-  pub numbers : (i j : ℕ) (v w : View) (handle : ℕ) → get_elem? s.views i ≡ some v → get_elem? s.views j ≡ some w → Reserves (state_of sizes account) v handle → Reserves (state_of sizes account) w handle → i ≡ j
+  pub numbers : (i j : ℕ) (v w : View) (handle : ℕ) → get_elem? s.views i ≡ some v → get_elem? s.views j ≡ some w → Reserves (state_of sizes account) v handle → Reserves
+      (state_of sizes account) w handle → i ≡ j

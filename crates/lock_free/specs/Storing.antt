@@ -1,8 +1,13 @@
 -- What stores in slots of a seat's own ask and tell, and what taking a slot does.
 use Rattle.history.specs.declared.calls.Call.{Call}
-use Rattle.std.specs.Prelude.{◌≡◌, ◌≢◌, ℕ, ◌+◌, ◌*◌, ◌<◌, ◌≤◌, Bool, List, [], ◌∷◌, ◌++◌, length}
+use Rattle.std.specs.Prelude.{◌≡◌, ◌≢◌, ℕ, ◌+◌, ◌*◌, ◌^◌, ◌<◌, ◌≤◌, ◌==◌, Bool, true, false, Contains, List, [], ◌∷◌, ◌++◌, length}
 use Rattle.atomic_table.specs.Table.{Me, Step}
+use Rattle.trie_words.specs.Codes.{link_code}
+use Rattle.machine_model.specs.Beneath.slot_arena.specs.declared.refs.Ref.{Ref}
 use Rattle.machine_model.specs.Beneath.slot_arena.specs.declared.nodes.Node.{Node}
+use Rattle.machine_model.specs.Beneath.slot_arena.specs.declared.nodes.Node.TheVariants.{Indirection}
+use Rattle.machine_model.specs.Beneath.slot_arena.specs.declared.nodes.Slot.{Slot}
+use Rattle.lock_free.specs.Accounts.{place_of}
 use Rattle.machine_model.specs.Beneath.slot_arena.specs.Heaps.{entries_of}
 use Rattle.machine_model.specs.declared.actions.Action.TheVariants as act
 use Rattle.machine_model.specs.declared.lines.Line.{Line}
@@ -10,8 +15,7 @@ use Rattle.lock_free.specs.declared.accounts.Account.{Account}
 use Rattle.lock_free.specs.declared.rules.View.{View}
 use Rattle.lock_free.specs.declared.stores.Tried.{Tried}
 use Rattle.lock_free.specs.declared.stores.Tried.TheVariants as tried
-use Rattle.lock_free.specs.Accounts.{state_of}
-use Rattle.lock_free.specs.Loading.{Moment, now, seen, IsAt, IsSound, Waited, Took}
+use Rattle.lock_free.specs.Loading.{now, IsAt, IsUsed, IsSound, Waited, Took}
 use Rattle.lock_free.specs.Making.{over_of, with_draft, with_slot, Drafted, DraftsNode, made_by}
 use Rattle.lock_free.specs.Nodes.{class_of}
 use Rattle.lock_free.specs.Places.{words_in, words_of, part_of, taken_word}
@@ -76,3 +80,29 @@ HasMade before word value after = (account : Account) × Waited before account �
 abbrev pub has_made : Step Call → Me Call View → ℕ → Me Call View → Type 0
 has_made step before found after =
     HasMade before.0 step.word step.first after.0 × IsSound (words_of before.0.sizes) after.0 × (after.1 ≡ before.1)
+
+-- ---- the root of a copy is made
+
+-- The seat has written the indirection in the last of its free slots, with this generation: it is made where that is the next one to be given out.
+pub record WritesRoot (v : View) (generation : ℕ) (main : Ref) (rest : List ℕ) (name : ℕ) (own : Bool) : Type 0 where
+  pub last : pool_of v.pool 0 ≡ rest ++ name ∷ []
+  pub small : generation < 2 ^ 36
+  pub drafts : Contains v.drafts (2 * name, link_code (record { generation = generation; main = record { slot = place_of v.account main; own = own } }))
+  pub used : (slot : Slot) × IsUsed v main slot
+
+abbrev pub IsAtMakeRoot : View → ℕ → Type 0
+IsAtMakeRoot v generation = (main : Ref) × (rest : List ℕ) × (name : ℕ) × (own : Bool) × IsAt v (act.MakeRoot main) × WritesRoot v generation main rest name own
+
+-- it was made, where that was the next generation, or nothing has happened
+abbrev pub IsRootMade : View → ℕ → Account → View → Type 0
+IsRootMade before generation account after =
+    (main : Ref) × (rest : List ℕ) × (name : ℕ) × (own : Bool) × IsAt before (act.MakeRoot main) × WritesRoot before generation main rest name own
+    × (after ≡ made_by before 0 name rest own (Indirection generation main) account)
+
+abbrev pub HasMadeRoot : View → ℕ → Bool → View → Type 0
+HasMadeRoot before generation stood after =
+    (stood ≡ true → (account : Account) × Waited before account × Took before account after × IsRootMade before generation account after) × (stood ≡ false → after ≡ before)
+
+abbrev pub has_made_root : Step Call → Me Call View → ℕ → Me Call View → Type 0
+has_made_root step before found after =
+    HasMadeRoot before.0 step.first (found == step.first) after.0 × (IsSound (words_of before.0.sizes) before.0 → IsSound (words_of before.0.sizes) after.0) × (after.1 ≡ before.1)

@@ -1,5 +1,5 @@
 -- A SWAP, from its first line to what comes after it.
-use Rattle.std.specs.Prelude.{◌≡◌, ℕ, Bool, true, false, [], Some}
+use Rattle.std.specs.Prelude.{◌≡◌, ℕ, Bool, true, false, []}
 use Rattle.trie_words.specs.declared.links.Link.{Link}
 use Rattle.machine_model.specs.Beneath.slot_arena.specs.declared.refs.Ref.{Ref}
 use Rattle.machine_model.specs.Beneath.slot_arena.specs.declared.nodes.Node.{Node}
@@ -49,4 +49,5 @@ LeavesOwn before Misses after = (account : Account) × Waited before account × 
 abbrev pub HasSwapDone : View → Swapped → View → Type 0
 HasSwapDone before result after =
     LeavesOwn before result after
-    × ((why : Purpose) (i replaced made : Ref) → IsSwapping before why i replaced made → (o : Operation) → Runs before o → Runs after (swap_done why (node_at (now before).heap made) (is_done result) o))
+    × ((why : Purpose) (i replaced made : Ref) → IsSwapping before why i replaced made → (o : Operation) → Runs before o → Runs after
+        (swap_done why (node_at (now before).heap made) (is_done result) o))

@@ -18,12 +18,21 @@ fn once_decided(header: Header, is_licensed: bool) -> Header
         Previous::Pending(name) => Previous::Failed(name),
         other => other,
     };
-    Header { previous, shape: header.shape }
+    Header {
+        previous,
+        shape: header.shape,
+    }
 }
 
 /// Decides the main node in this slot, if it is pending still and this is its header: with a licence it is committed, without one
 /// it fails. Returns whether it was pending still.
-pub fn decide(words: &Words, actor: &mut Actor, main: u32, header: Header, is_licensed: bool) -> bool
+pub fn decide(
+    words: &Words,
+    actor: &mut Actor,
+    main: u32,
+    header: Header,
+    is_licensed: bool,
+) -> bool
     requires table { actor.old.table_id ≡ words.now.table_id }
     requires sound { IsSound words.now.table_id.words actor.old.me.0 }
     requires fits { IsHeader header }
@@ -50,7 +59,11 @@ pub fn restore(words: &Words, actor: &mut Actor, indirection: u32, link: Link, f
     ensures restored { HasRestored actor.old.me.0 result actor.new.me.0 }
 {
     let failed = link.to_word();
-    let restored = Link { generation: link.generation, main: former }.to_word();
+    let restored = Link {
+        generation: link.generation,
+        main: former,
+    }
+    .to_word();
     words.compare_exchange::<Goes>(actor, 2 * indirection as usize, failed, restored) == failed
 }
 
@@ -66,6 +79,13 @@ pub fn publish(words: &Words, actor: &mut Actor, indirection: u32, link: Link, f
     ensures published { HasPublished actor.old.me.0 result actor.new.me.0 }
 {
     let before = link.to_word();
-    let swapped = Link { generation: link.generation, main: Name { slot: fresh, own: true } }.to_word();
+    let swapped = Link {
+        generation: link.generation,
+        main: Name {
+            slot: fresh,
+            own: true,
+        },
+    }
+    .to_word();
     words.compare_exchange::<Publishes>(actor, 2 * indirection as usize, before, swapped) == before
 }

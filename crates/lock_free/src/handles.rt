@@ -1,13 +1,15 @@
 //! Handles' words.
 
-ghost use Rattle.std.specs.Prelude.{◌≡◌, ◌<◌};
-ghost use Rattle.lock_free.specs.HandleWords.{HasSeenRoot};
+ghost use Rattle.std.specs.Prelude.{◌≡◌, ◌<◌, true, None, Some};
+ghost use Rattle.trie_words.specs.Codes.{IsRootWord};
+ghost use Rattle.lock_free.specs.HandleWords.{is_unmarked, marked_by, HasEntered, HasMarked, HasSeenRoot};
 ghost use Rattle.lock_free.specs.Loading.{IsSound};
 ghost use Rattle.lock_free.specs.Places.{root_word};
+ghost use Rattle.lock_free.specs.SeatWords.{IsIdle};
 
 use crate::loads::{Actor, Words};
-use crate::rules::Sees;
-use trie_words::RootWord;
+use crate::rules::{Enters, Marks, Sees};
+use trie_words::{Pin, RootWord};
 
 /// Which word is this handle's.
 fn root_word_of(handle: u16) -> usize
@@ -32,4 +34,50 @@ pub fn see_root(words: &Words, actor: &mut Actor, handle: u16) -> RootWord
 {
     let found = words.load::<Sees>(actor, root_word_of(handle));
     RootWord::of_word(found)
+}
+
+/// Enters the handle to which the seat has pinned itself, if that is open and nobody would close it: from then on nobody closes it
+/// while the seat is pinned. Returns what its word says.
+pub fn enter(words: &Words, actor: &mut Actor, pin: &Pin) -> RootWord
+    requires table { actor.old.table_id ≡ words.now.table_id }
+    requires sound { IsSound words.now.table_id.words actor.old.me.0 }
+    requires low { pin.now.handle < 256 }
+    requires pinned { actor.old.me.0.pin ≡ Some pin.now }
+    requires idle { IsIdle actor.old.me.0 }
+    ensures table { actor.new.table_id ≡ actor.old.table_id }
+    ensures sound { IsSound words.now.table_id.words actor.new.me.0 }
+    ensures entered { HasEntered actor.old.me.0 pin.now.handle result actor.new.me.0 }
+{
+    let found = words.load::<Enters>(actor, root_word_of(pin.handle));
+    RootWord::of_word(found)
+}
+
+/// This word of an open handle, with the mark of a seat that would close it.
+fn once_marked(word: RootWord, seat: u8) -> RootWord
+    ensures { result ≡ marked_by seat word }
+{
+    match word {
+        RootWord::Writable(root) => RootWord::ClosingWritable { root, seat },
+        RootWord::ReadOnly(root) => RootWord::ClosingReadOnly { root, seat },
+        other => other,
+    }
+}
+
+/// Marks the handle, which the seat would close, if its word is this one still: from then on nobody enters it while the mark is there.
+/// Returns whether it was.
+pub fn mark(words: &Words, actor: &mut Actor, handle: u16, word: RootWord, seat: u8) -> bool
+    requires table { actor.old.table_id ≡ words.now.table_id }
+    requires sound { IsSound words.now.table_id.words actor.old.me.0 }
+    requires low { handle < 256 }
+    requires fits { IsRootWord word }
+    requires unmarked { is_unmarked word ≡ true }
+    requires own { seat ≡ actor.old.me.0.actor }
+    requires one { actor.old.me.0.closing ≡ None }
+    ensures table { actor.new.table_id ≡ actor.old.table_id }
+    ensures sound { IsSound words.now.table_id.words actor.new.me.0 }
+    ensures marked { HasMarked actor.old.me.0 handle result actor.new.me.0 }
+{
+    let open = word.to_word();
+    let marked = once_marked(word, seat).to_word();
+    words.compare_exchange::<Marks>(actor, root_word_of(handle), open, marked) == open
 }

@@ -2,7 +2,8 @@
 
 ghost use Rattle.std.specs.Prelude.{◌≡◌};
 ghost use Rattle.machine_model.specs.declared.actions.Action.TheVariants as act;
-ghost use Rattle.lock_free.specs.Loading.{IsSound, IsAtSlot, HoldsSlot, HasPosition, HasReadHeader, HasReadLink, HasLookedAtMain, HasLookedAtLink, HasLookedAtKey, HasLookedAtValue, HasSeenMain, HasSeenLink, HasSeenKey, HasSeenValue, HasSeenPair};
+ghost use Rattle.lock_free.specs.Loading.{IsSound, IsAtSlot, HoldsSlot, HasPosition, HasReadHeader, HasReadLink, HasLookedAtMain, HasLookedAtLink, HasLookedAtKey, HasLookedAtValue, HasSeenMain};
+ghost use Rattle.lock_free.specs.Loading.{HasSeenLink, HasSeenKey, HasSeenValue, HasSeenPair};
 
 use crate::rules::{Goes, Rule, Sees, View};
 use crate::sizes::Sizes;

@@ -66,7 +66,13 @@ fn reach(words: &Words, actor: &mut Actor, indirection: u32, from: Option<Link>)
 }
 
 /// Whether a main node that is pending in this indirection may be committed.
-fn is_licensed<A: AsksRoot>(asker: &A, words: &Words, actor: &mut Actor, way: Way, link: Link) -> bool
+fn is_licensed<A: AsksRoot>(
+    asker: &A,
+    words: &Words,
+    actor: &mut Actor,
+    way: Way,
+    link: Link,
+) -> bool
     requires table { actor.old.table_id ≡ words.now.table_id }
     requires sound { IsSound words.now.table_id.words actor.old.me.0 }
     requires way { IsOnWay actor.old.me.0 way }
@@ -82,7 +88,14 @@ fn is_licensed<A: AsksRoot>(asker: &A, words: &Words, actor: &mut Actor, way: Wa
 }
 
 /// Decides the main node that is pending in this indirection.
-fn settle<A: AsksRoot>(asker: &A, words: &Words, actor: &mut Actor, way: Way, link: Link, header: Header) -> Passed
+fn settle<A: AsksRoot>(
+    asker: &A,
+    words: &Words,
+    actor: &mut Actor,
+    way: Way,
+    link: Link,
+    header: Header,
+) -> Passed
     requires table { actor.old.table_id ≡ words.now.table_id }
     requires sound { IsSound words.now.table_id.words actor.old.me.0 }
     requires way { IsOnWay actor.old.me.0 way }
@@ -94,7 +107,13 @@ fn settle<A: AsksRoot>(asker: &A, words: &Words, actor: &mut Actor, way: Way, li
     let licensed = is_licensed(asker, words, actor, way, link);
     let stood = decide(words, actor, link.main.slot, header, licensed);
     match (licensed, stood) {
-        (true, true) => Passed::Gives(Given { link, header: Header { previous: Previous::None, shape: header.shape } }),
+        (true, true) => Passed::Gives(Given {
+            link,
+            header: Header {
+                previous: Previous::None,
+                shape: header.shape,
+            },
+        }),
         (true, false) => Passed::Again(Some(link)),
         (false, _) => Passed::Again(None),
     }
@@ -111,14 +130,27 @@ fn put_back(words: &Words, actor: &mut Actor, indirection: u32, link: Link, form
 {
     let header = see_main(words, actor, former.slot);
     if restore(words, actor, indirection, link, former) {
-        Passed::Gives(Given { link: Link { generation: link.generation, main: former }, header })
+        Passed::Gives(Given {
+            link: Link {
+                generation: link.generation,
+                main: former,
+            },
+            header,
+        })
     } else {
         Passed::Again(None)
     }
 }
 
 /// A pass of the READ of the indirection in this slot.
-fn pass<A: AsksRoot>(asker: &A, words: &Words, actor: &mut Actor, way: Way, indirection: u32, from: Option<Link>) -> Passed
+fn pass<A: AsksRoot>(
+    asker: &A,
+    words: &Words,
+    actor: &mut Actor,
+    way: Way,
+    indirection: u32,
+    from: Option<Link>,
+) -> Passed
     requires table { actor.old.table_id ≡ words.now.table_id }
     requires sound { IsSound words.now.table_id.words actor.old.me.0 }
     requires way { IsOnWay actor.old.me.0 way }
@@ -138,7 +170,15 @@ fn pass<A: AsksRoot>(asker: &A, words: &Words, actor: &mut Actor, way: Way, indi
 
 /// The READ of the indirection in this slot, of which so many passes are made at most. Where it gives nothing it goes on from what
 /// is returned.
-pub fn read_within<A: AsksRoot>(asker: &A, words: &Words, actor: &mut Actor, way: Way, indirection: u32, from: Option<Link>, passes: u32) -> Passed
+pub fn read_within<A: AsksRoot>(
+    asker: &A,
+    words: &Words,
+    actor: &mut Actor,
+    way: Way,
+    indirection: u32,
+    from: Option<Link>,
+    passes: u32,
+) -> Passed
     requires table { actor.old.table_id ≡ words.now.table_id }
     requires sound { IsSound words.now.table_id.words actor.old.me.0 }
     requires way { IsOnWay actor.old.me.0 way }
@@ -158,7 +198,15 @@ pub fn read_within<A: AsksRoot>(asker: &A, words: &Words, actor: &mut Actor, way
 }
 
 /// The READ of the indirection in this slot.
-pub fn read<R: Wait, A: AsksRoot>(rt: &R, asker: &A, words: &Words, actor: &mut Actor, way: Way, indirection: u32, from: Option<Link>) -> Given
+pub fn read<R: Wait, A: AsksRoot>(
+    rt: &R,
+    asker: &A,
+    words: &Words,
+    actor: &mut Actor,
+    way: Way,
+    indirection: u32,
+    from: Option<Link>,
+) -> Given
     requires table { actor.old.table_id ≡ words.now.table_id }
     requires sound { IsSound words.now.table_id.words actor.old.me.0 }
     requires way { IsOnWay actor.old.me.0 way }

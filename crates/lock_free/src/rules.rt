@@ -3,8 +3,10 @@
 ghost use Rattle.lock_free.specs.Rules.{IsKept, first_view};
 ghost use Rattle.lock_free.specs.Loading.{has_seen, has_gone};
 ghost use Rattle.lock_free.specs.Exchanging.{has_published};
+ghost use Rattle.lock_free.specs.HandleWords.{has_entered, has_marked};
 ghost use Rattle.lock_free.specs.OfferWords.{has_completed};
-ghost use Rattle.lock_free.specs.Storing.{has_drafted, has_made, has_taken};
+ghost use Rattle.lock_free.specs.SeatWords.{has_ended, has_passed, has_pinned};
+ghost use Rattle.lock_free.specs.Storing.{has_drafted, has_made, has_made_root, has_taken};
 
 use crate::accounts::Account;
 use crate::sizes::Sizes;
@@ -89,6 +91,41 @@ impl Play<Call, View> for Completes {
     ghost then = { has_completed };
 }
 
+/// A seat pins itself, or takes its pin away.
+pub struct Pins;
+
+impl Play<Call, View> for Pins {
+    ghost then = { has_pinned };
+}
+
+/// A handle is entered, if it is open.
+pub struct Enters;
+
+impl Play<Call, View> for Enters {
+    ghost then = { has_entered };
+}
+
+/// A handle is marked, which a seat would close, or isn't.
+pub struct Marks;
+
+impl Play<Call, View> for Marks {
+    ghost then = { has_marked };
+}
+
+/// A seat that would close a handle looks at the next seat's pin.
+pub struct Looks;
+
+impl Play<Call, View> for Looks {
+    ghost then = { has_passed };
+}
+
+/// An operation ends.
+pub struct Ends;
+
+impl Play<Call, View> for Ends {
+    ghost then = { has_ended };
+}
+
 /// A word of a free slot is written.
 pub struct Drafts;
 
@@ -108,4 +145,11 @@ pub struct Makes;
 
 impl Play<Call, View> for Makes {
     ghost then = { has_made };
+}
+
+/// The root that was written becomes one of the machine's, or doesn't.
+pub struct MakesRoot;
+
+impl Play<Call, View> for MakesRoot {
+    ghost then = { has_made_root };
 }

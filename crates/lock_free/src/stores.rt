@@ -3,11 +3,14 @@
 ghost use Rattle.std.specs.Prelude.{◌≡◌, ◌<◌};
 ghost use Rattle.lock_free.specs.Loading.{IsSound};
 ghost use Rattle.lock_free.specs.Places.{part_of, slots_in, taken_word, words_in, AreSizes};
-ghost use Rattle.lock_free.specs.Storing.{drafted, HasMade, HasTaken, IsAtMake, IsOwnWord};
+ghost use Rattle.lock_free.specs.Storing.{drafted, HasMade, HasMadeRoot, HasTaken, IsAtMake, IsAtMakeRoot, IsOwnWord};
 
 use crate::loads::{Actor, Words};
-use crate::rules::{Drafts, Makes, Takes};
+use crate::rules::{Drafts, Makes, MakesRoot, Takes};
 use crate::sizes::Sizes;
+
+/// How many generations were given out stands in this word.
+const GENERATION: usize = 16;
 
 /// What came of trying to take a slot.
 #[derive(Clone, Copy, Drop)]
@@ -71,4 +74,17 @@ pub fn make(words: &Words, actor: &mut Actor, word: usize, value: u64)
     ensures made { HasMade actor.old.me.0 word value actor.new.me.0 }
 {
     words.store::<Makes>(actor, word, value);
+}
+
+/// Makes the root that the seat has written in the last of its free slots with this generation, if that is the next one to be given
+/// out. Returns whether it was.
+pub fn make_root(words: &Words, actor: &mut Actor, generation: u64) -> bool
+    requires table { actor.old.table_id ≡ words.now.table_id }
+    requires sound { IsSound words.now.table_id.words actor.old.me.0 }
+    requires making { IsAtMakeRoot actor.old.me.0 generation }
+    ensures table { actor.new.table_id ≡ actor.old.table_id }
+    ensures sound { IsSound words.now.table_id.words actor.new.me.0 }
+    ensures made { HasMadeRoot actor.old.me.0 generation result actor.new.me.0 }
+{
+    words.compare_exchange::<MakesRoot>(actor, GENERATION, generation, generation + 1) == generation
 }

@@ -23,7 +23,16 @@ pub enum Swapped {
 }
 
 /// The SWAP of the fresh main node in this slot for the one to which this link of the indirection leads.
-pub fn swap<R: Wait, A: AsksRoot>(rt: &R, asker: &A, words: &Words, actor: &mut Actor, way: Way, indirection: u32, link: Link, fresh: u32) -> Swapped
+pub fn swap<R: Wait, A: AsksRoot>(
+    rt: &R,
+    asker: &A,
+    words: &Words,
+    actor: &mut Actor,
+    way: Way,
+    indirection: u32,
+    link: Link,
+    fresh: u32,
+) -> Swapped
     requires table { actor.old.table_id ≡ words.now.table_id }
     requires sound { IsSound words.now.table_id.words actor.old.me.0 }
     requires way { IsOnWay actor.old.me.0 way }
@@ -35,7 +44,13 @@ pub fn swap<R: Wait, A: AsksRoot>(rt: &R, asker: &A, words: &Words, actor: &mut 
     if !publish(words, actor, indirection, link, fresh) {
         return Swapped::Misses;
     }
-    let swapped = Link { generation: link.generation, main: Name { slot: fresh, own: true } };
+    let swapped = Link {
+        generation: link.generation,
+        main: Name {
+            slot: fresh,
+            own: true,
+        },
+    };
     read(rt, asker, words, actor, way, indirection, Some(swapped));
     match read_header(words, actor, fresh).previous {
         Previous::None => Swapped::Commits,

@@ -10,7 +10,8 @@ use Rattle.trie_words.specs.declared.headers.Previous.TheVariants as previous
 use Rattle.trie_words.specs.declared.headers.Shape.{Shape}
 use Rattle.trie_words.specs.declared.headers.Shape.TheVariants.{Branch, Tomb, List as Listed}
 use Rattle.trie_words.specs.declared.headers.Header.{Header}
-use Rattle.trie_words.specs.Codes.{bit, IsName, name_code, name_of, IsEntry, entry_code, entry_of, IsPrevious, previous_code, previous_of, IsShape, low_code, kind_code, shape_of, IsHeader, header_code, header_of, IsLink, link_code, link_of, IsPair, pair_code, pair_of}
+use Rattle.trie_words.specs.Codes.{bit, IsName, name_code, name_of, IsEntry, entry_code, entry_of, IsPrevious, previous_code, previous_of, IsShape, low_code, kind_code, shape_of, IsHeader}
+use Rattle.trie_words.specs.Codes.{header_code, header_of, IsLink, link_code, link_of, IsPair, pair_code, pair_of}
 
 bit_small : (b : Bool) → bit b < 2
 bit_small true = omega arith

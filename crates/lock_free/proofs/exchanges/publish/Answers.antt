@@ -1,7 +1,6 @@
-use Rattle.std.proofs.Common.{◌+◌, ◌*◌, ◌==◌, true, [], ◌∷◌, Contains, sym, subst, ap, arith, ◌∙◌}
+use Rattle.std.proofs.Common.{◌*◌, true, [], ◌∷◌, Contains, sym, subst, arith}
 use Rattle.std.proofs.lemmas.List.Elements.{Contains-get_or}
 use Rattle.trie_words.specs.Codes.{link_code}
-use Rattle.lock_free.specs.Exchanging.{HasPublished}
 use Rattle.lock_free.specs.Loading.{IsSound}
 use Rattle.lock_free.proofs.Asked.{links_of, mains_of, link_stands, main_stands}
 use Rattle.lock_free.proofs.PublishStep.{publish_by, publish_allowed, publish_told}
@@ -28,8 +27,10 @@ compare_exchange-requires c =
       c.requires.table,
       (both_inside c.args.words.now.table_id.words v c.requires.sound i c.args.indirection live place).0,
       publish_by c.args.words.now.key c.args.words.now.table_id.slots c.args.actor.now.id c.args.actor.now.me (2 * c.args.indirection) (link_code c.args.link)
-      (link_code (record { generation = c.args.link.generation; main = record { slot = c.args.fresh; own = true } })) c.to_word-before.result c.to_word-swapped.result c.to_word-before.ensures c.to_word-swapped.ensures
-      (publish_allowed c.args.words.now.key c.args.words.now.table_id.slots c.args.actor.now.id c.args.actor.now.me c.args.indirection c.args.link c.requires.fits c.args.fresh c.requires.publishing),
+          (link_code (record { generation = c.args.link.generation; main = record { slot = c.args.fresh; own = true } })) c.to_word-before.result c.to_word-swapped.result c.to_word-before.ensures
+              c.to_word-swapped.ensures
+          (publish_allowed c.args.words.now.key c.args.words.now.table_id.slots c.args.actor.now.id c.args.actor.now.me c.args.indirection c.args.link c.requires.fits c.args.fresh
+              c.requires.publishing),
     )
 
 pub returns-clause-published : goal.returns-clause-published

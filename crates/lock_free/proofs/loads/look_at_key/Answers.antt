@@ -1,4 +1,4 @@
-use Rattle.std.proofs.Common.{◌+◌, ◌*◌, refl, sym, subst}
+use Rattle.std.proofs.Common.{◌*◌, refl, sym, subst}
 use Rattle.lock_free.specs.Loading.{IsSound}
 use Rattle.lock_free.proofs.Asked.{looked_at_lives}
 use Rattle.lock_free.proofs.Definition.{IsReading}

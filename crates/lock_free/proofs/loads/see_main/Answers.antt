@@ -1,4 +1,4 @@
-use Rattle.std.proofs.Common.{◌+◌, ◌*◌, ◌/◌, refl, sym, subst}
+use Rattle.std.proofs.Common.{◌*◌, refl, sym, subst}
 use Rattle.lock_free.specs.Loading.{IsSound, HasSeenMain}
 use Rattle.lock_free.proofs.Looking.{saw, seen_main}
 use Rattle.lock_free.proofs.Moments.{load_allowed}
@@ -8,7 +8,8 @@ use Rattle.lock_free.proofs.loads.see_main.Goals as goal
 pub load-requires : goal.load-requires
 load-requires c = (
   c.requires.table,
-  (both_inside c.args.words.now.table_id.words c.args.actor.now.me.0 c.requires.sound c.requires.held.0 c.args.main (held_lives c.args.actor.now.me.0 c.requires.held.0 c.requires.held.1) c.requires.held.2).0,
+  (both_inside c.args.words.now.table_id.words c.args.actor.now.me.0 c.requires.sound c.requires.held.0 c.args.main
+      (held_lives c.args.actor.now.me.0 c.requires.held.0 c.requires.held.1) c.requires.held.2).0,
   load_allowed c.args.words.now.key c.args.words.now.table_id.slots c.args.actor.now.id c.args.actor.now.me (2 * c.args.main),
 )
 

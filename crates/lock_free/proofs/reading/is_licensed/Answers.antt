@@ -1,6 +1,4 @@
-use Rattle.std.proofs.Common.{Some, None, false, refl, sym, ap, subst, ◌∙◌}
-use Rattle.history.specs.declared.calls.Access.TheVariants.{Writable, ReadOnly}
-use Rattle.machine_model.specs.declared.reading.After.TheVariants.{Goes}
+use Rattle.std.proofs.Common.{None, refl, sym, subst, ◌∙◌}
 use Rattle.machine_model.specs.declared.reading.ReadLine.TheVariants as read
 use Rattle.lock_free.specs.Passing.{IsReading, pending_line}
 use Rattle.lock_free.proofs.Comings.{stays_there}

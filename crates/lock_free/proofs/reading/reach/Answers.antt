@@ -1,4 +1,4 @@
-use Rattle.std.proofs.Common.{Some, None, subst, sym}
+use Rattle.std.proofs.Common.{Some, subst}
 use Rattle.machine_model.specs.declared.reading.ReadLine.TheVariants as read
 use Rattle.lock_free.specs.Passing.{IsFrom, GoesFrom}
 use Rattle.lock_free.proofs.Comings.{reading_one, stays_there}

@@ -1,4 +1,4 @@
-use Rattle.std.proofs.Common.{refl, sym, ◌∙◌}
+use Rattle.std.proofs.Common.{refl, ◌∙◌}
 use Rattle.lock_free.specs.declared.reading.Passed.TheVariants as passed
 use Rattle.lock_free.proofs.OnePass.{none_yet, more, one_more}
 use Rattle.lock_free.proofs.reading.read_within.Goals as goal
@@ -23,12 +23,14 @@ returns-in-Gives-clause-table g c = c.pass.ensures.table ∙ c.loop.invariant.0
 
 pub returns-in-Gives-clause-passed : goal.returns-in-Gives-clause-passed
 returns-in-Gives-clause-passed g c =
-    more c.args.words.now.table_id.words c.args.way c.args.indirection c.args.actor.now.me.0 c.loop.actor.me.0 c.loop.next c.loop.invariant.1 c.pass.new.actor.me.0 (passed.Gives c.in-Gives.given) (c.in-Gives.ensures {u = tt}).passed
+    more c.args.words.now.table_id.words c.args.way c.args.indirection c.args.actor.now.me.0 c.loop.actor.me.0 c.loop.next c.loop.invariant.1 c.pass.new.actor.me.0 (passed.Gives c.in-Gives.given)
+        (c.in-Gives.ensures {u = tt}).passed
 
 pub loop-preserved : goal.loop-preserved
 loop-preserved g c = (
   c.pass.ensures.table ∙ c.loop.invariant.0,
-  one_more c.args.words.now.table_id.words c.args.way c.args.indirection c.args.actor.now.me.0 c.loop.actor.me.0 c.loop.next c.loop.invariant.1 c.pass.new.actor.me.0 c.in-Again.from c.pass.ensures.sound (c.in-Again.ensures {u = tt}).passed,
+  one_more c.args.words.now.table_id.words c.args.way c.args.indirection c.args.actor.now.me.0 c.loop.actor.me.0 c.loop.next c.loop.invariant.1 c.pass.new.actor.me.0 c.in-Again.from
+      c.pass.ensures.sound (c.in-Again.ensures {u = tt}).passed,
 )
 
 pub returns-clause-table : goal.returns-clause-table

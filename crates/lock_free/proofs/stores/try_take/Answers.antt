@@ -1,9 +1,9 @@
-use Rattle.std.proofs.Common.{◌+◌, ◌*◌, ◌<◌, ◌≤◌, ◌==◌, sym, ap, subst, arith, ◌∙◌}
+use Rattle.std.proofs.Common.{◌+◌, ◌*◌, ◌<◌, ◌==◌, sym, ap, subst, arith, ◌∙◌}
 use mathlib.Core.Option.{none}
 use prog.Atomic.{either}
 use Rattle.atomic_table.specs.Table.{Allows, step}
 use Rattle.lock_free.specs.Loading.{IsSound}
-use Rattle.lock_free.specs.Places.{part_of, slots_in, words_in, taken_word, words_of, first_slot_word}
+use Rattle.lock_free.specs.Places.{part_of, slots_in, words_in}
 use Rattle.lock_free.specs.Rules.{IsKept}
 use Rattle.lock_free.specs.Storing.{has_taken}
 use Rattle.lock_free.proofs.OwnSlots.{take_allowed, taken_sound}
@@ -15,13 +15,12 @@ compare_exchange-requires c =
     let size = c.requires.sound.size in
     let class = c.requires.class in
     let word = c.taken_word_of-word.ensures in
-    let me = c.args.actor.now.me in
-    (
+    let me = c.args.actor.now.me in (
       c.requires.table,
       omega (arith, size, class, word),
       subst (λ w. Allows (IsKept c.args.words.now.key) c.args.words.now.table_id.slots c.args.actor.now.id me w (λ n. either (n == c.peek-count.result) (c.peek-count.result + 1) n)
-      (has_taken (step c.args.words.now.table_id.slots w c.peek-count.result (c.peek-count.result + 1) none) me)) (sym word)
-      (take_allowed c.args.words.now.key c.args.words.now.table_id.slots c.args.actor.now.id me c.args.class c.requires.class c.peek-count.result few),
+          (has_taken (step c.args.words.now.table_id.slots w c.peek-count.result (c.peek-count.result + 1) none) me)) (sym word)
+          (take_allowed c.args.words.now.key c.args.words.now.table_id.slots c.args.actor.now.id me c.args.class c.requires.class c.peek-count.result few),
     )
 
 pub returns-clause-sound : goal.returns-clause-sound
@@ -31,5 +30,6 @@ returns-clause-sound c =
     let few = subst (λ n. c.peek-count.result < n) (c.from.ensures ∙ c.slots.ensures ∙ ap (λ z. slots_in z c.args.class) (sym c.requires.sizes)) c.if-count-from.false in
     let slot = c.slot.ensures ∙ ap (λ z. part_of z c.args.class + words_in c.args.class * c.peek-count.result) (sym c.requires.sizes) in
     let found = c.if-compare_exchange-count.false in
-    let is = c.compare_exchange.ensures.2.0 found c.args.class c.slot.result c.requires.class c.taken_word_of-word.ensures (slot ∙ ap (λ m. part_of v.sizes c.args.class + words_in c.args.class * m) (sym found)) in
+    let is = c.compare_exchange.ensures.2.0 found c.args.class c.slot.result c.requires.class c.taken_word_of-word.ensures
+        (slot ∙ ap (λ m. part_of v.sizes c.args.class + words_in c.args.class * m) (sym found)) in
     subst (λ w. IsSound n w) (sym (ap (λ me. me.0) is)) (taken_sound n v c.args.class c.peek-count.result c.slot.result c.requires.class few slot c.requires.sound)

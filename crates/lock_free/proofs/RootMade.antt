@@ -1,0 +1,139 @@
+-- The exchange of the count of generations makes the root that is written in a free slot: the operation's step, where it finds the generation that was written.
+use Rattle.history.specs.declared.calls.Call.{Call}
+use Rattle.std.proofs.Common.{◌≡◌, ◌≢◌, ◌+◌, ◌*◌, ◌<◌, ◌≤◌, ◌==◌, ℕ, inl, inr, Bool, true, false, List, [], ◌∷◌, ◌++◌, Contains, set, get_or, slice_index, Some, None, refl, sym, ap, subst, ◌∙◌}
+use Rattle.std.proofs.Common.{arith, eq-eqb, ne_eqb}
+use Rattle.std.proofs.lemmas.Bool.{cases_eq, true≢false}
+use Rattle.std.proofs.lemmas.List.Elements.{Contains-append_left}
+use Rattle.std.proofs.lemmas.Option.{same_Some}
+use mathlib.Core.Option.{some, none}
+use lib.ListN.{get_elem?}
+use prog.Atomic.{either}
+use Rattle.atomic_table.specs.Table.{Me, Allows, step}
+use Rattle.atomic_table.specs.Table as Table
+use Rattle.atomic_table.proofs.Lists.{set_again}
+use Rattle.trie_words.specs.Codes.{link_code}
+use Rattle.machine_model.specs.Beneath.slot_arena.specs.declared.refs.Ref.{Ref}
+use Rattle.machine_model.specs.Beneath.slot_arena.specs.declared.nodes.Node.{Node}
+use Rattle.machine_model.specs.Beneath.slot_arena.specs.declared.nodes.Node.TheVariants.{Indirection}
+use Rattle.machine_model.specs.Beneath.slot_arena.specs.Refs.{slot_of}
+use Rattle.machine_model.specs.declared.actions.Action.TheVariants as act
+use Rattle.machine_model.specs.declared.operations.Operation.{Operation}
+use Rattle.machine_model.specs.Acting.{operation_after}
+use Rattle.machine_model.specs.Operations.{action_of}
+use Rattle.machine_model.specs.States.{State}
+use Rattle.lock_free.specs.declared.accounts.Account.{Account}
+use Rattle.lock_free.specs.declared.rules.View.{View}
+use Rattle.lock_free.specs.declared.sizes.Sizes.{Sizes}
+use Rattle.lock_free.specs.Accounts.{state_of, place_of, running}
+use Rattle.lock_free.specs.Loading.{now, IsAt, IsSound, Took}
+use Rattle.lock_free.specs.Making.{over_of, AreDrafted, DraftsNode, made_at, made_by, Makes}
+use Rattle.lock_free.specs.Nodes.{class_of}
+use Rattle.lock_free.specs.Places.{generation_word, words_in, words_of}
+use Rattle.lock_free.specs.Rules.{pool_of, IsFree, IsKept}
+use Rattle.lock_free.specs.Storing.{WritesRoot, IsAtMakeRoot, HasMadeRoot, has_made_root}
+use Rattle.lock_free.proofs.Exchanged.{words_hit, words_miss}
+use Rattle.lock_free.proofs.MadeKept.{root_made, make_root_kept}
+use Rattle.lock_free.proofs.Moments.{allowed, waited_so, same_place, free_inside}
+use Rattle.lock_free.proofs.OneStep.Makes as making
+use Rattle.lock_free.proofs.Pools.{pool_else}
+
+module _ (v : View) (generation : ℕ) (main : Ref) (rest : List ℕ) (name : ℕ) (own : Bool) (p : IsAt v (act.MakeRoot main)) (w : WritesRoot v generation main rest name own)
+    (s : Table.State Call View) (kept : IsKept v.sizes s) (id : ℕ) (at : get_elem? s.views id ≡ some v) where
+  abbrev there : Account
+  there = kept.account
+
+  abbrev state : State
+  state = state_of v.sizes there
+
+  abbrev root : Node
+  root = Indirection generation main
+
+  stays : (mark : Bool) × running v.sizes there v.actor (record p.operation { is_marked = mark }) × (action_of state (record p.operation { is_marked = mark }) ≡ action_of (now v) p.operation)
+  stays = (waited_so v s kept id at).stays p.operation p.runs
+
+  abbrev o : Operation
+  o = record p.operation { is_marked = stays.0 }
+
+  acts : action_of state o ≡ act.MakeRoot main
+  acts = stays.2 ∙ p.acts
+
+  abbrev after : View
+  after = made_by v 0 name rest own root there
+
+  module _ (found : slice_index s.words generation_word ≡ generation) where
+    next_is : state.generations ≡ generation
+    next_is = sym kept.generations ∙ found
+
+    makes : Makes v.sizes there (made_at v.actor name own root there) v.actor o root 1
+    makes =
+        subst (λ g. Makes v.sizes there (made_at v.actor name own (Indirection g main) there) v.actor o (Indirection g main) 1) next_is
+        (making.root_makes v.sizes there kept.bounds v.actor o stays.1 kept.quiet kept.counted kept.roots.stood name own main acts)
+
+    place : place_of v.account main ≡ place_of there main
+    place = sym (same_place v s kept id at (slot_of main) w.used.0 w.used.1)
+
+    drafted : DraftsNode there state.heap (over_of o.line) (AreDrafted v.drafts) name own root
+    drafted = (w.small, subst (λ n. Contains v.drafts (2 * name, link_code (record { generation = generation; main = record { slot = n; own = own } }))) place w.drafts)
+
+    unopened : (handle : ℕ) → v.opens ≡ Some handle → class_of root ≢ 1
+    unopened handle is e = absurd (omega (arith, e))
+
+    pub kept_after : IsKept v.sizes (record { words = set s.words generation_word (slice_index s.words generation_word + 1); homes = s.homes; views = set s.views id after })
+    kept_after = make_root_kept v.sizes s kept id v at o stays.1 name own root rest w.last (omega arith) unopened makes drafted
+
+    was_free : (b n : ℕ) → IsFree after b n → IsFree v b n
+    was_free b n free = elim (cases_eq b 0) [
+      | inl same ↦
+          (let there_is = subst (λ c. Contains (pool_of after.pool c) n) same free.1 in
+          (free.0, subst (λ c. Contains (pool_of v.pool c) n) (sym same) (subst (λ xs. Contains xs n) (sym w.last) (Contains-append_left rest (name ∷ []) n there_is))))
+      | inr other ↦ (free.0, subst (λ xs. Contains xs n) (pool_else v.pool 0 b rest (omega arith) free.0 other) free.1)
+    ]
+
+    pub sound_after : IsSound (words_of v.sizes) after
+    sound_after =
+        let all = root_made v.sizes s kept id v at o stays.1 name own root rest w.last (omega arith) unopened makes drafted in
+        record {
+          size = refl;
+          range = kept.range.within;
+          bounds = all.bounds;
+          counted = all.counted;
+          inside = all.nodes.inside;
+          free = λ b n f. (let g = was_free b n f in free_inside v s kept id at b n g);
+        }
+
+    pub took_after : Took v there after
+    took_after q runs = makes.own ∙ ap (λ x. Some (operation_after state x)) (same_Some o q (sym stays.1 ∙ runs))
+
+abbrev AllowsRoot : Sizes → ℕ → ℕ → Me Call View → ℕ → Type 0
+AllowsRoot sizes size id me generation =
+    Allows (IsKept sizes) size id me generation_word (λ n. either (n == generation) (generation + 1) n) (has_made_root (step size generation_word generation (generation + 1) none) me)
+
+pub root_allowed : (sizes : Sizes) (size id : ℕ) (me : Me Call View) (generation : ℕ) → IsAtMakeRoot me.0 generation → AllowsRoot sizes size id me generation
+root_allowed sizes size id me generation (main, rest, name, own, p, w) =
+    allowed sizes size id me generation_word (λ n. either (n == generation) (generation + 1) n) (has_made_root (step size generation_word generation (generation + 1) none) me)
+    (λ s kept at. elim (cases_eq (slice_index s.words generation_word) generation) [
+      | inl e ↦ (
+          made_by me.0 0 name rest own (Indirection generation main) kept.account,
+          subst (λ ws. IsKept me.0.sizes (record { words = ws; homes = s.homes; views = set s.views id (made_by me.0 0 name rest own (Indirection generation main) kept.account) }))
+          (ap (λ n. set s.words generation_word (n + 1)) e ∙ words_hit me.0 s kept id at generation_word generation (generation + 1) e generation_word refl)
+          (kept_after me.0 generation main rest name own p w s kept id at e),
+          (
+            (
+              λ h. (kept.account, waited_so me.0 s kept id at, took_after me.0 generation main rest name own p w s kept id at e, (main, rest, name, own, p, w, refl)),
+              λ h. absurd (true≢false (sym (eq-eqb (slice_index s.words generation_word) generation e) ∙ h)),
+            ),
+            λ h. sound_after me.0 generation main rest name own p w s kept id at e,
+            refl,
+          ),
+        )
+      | inr differs ↦ (
+          me.0,
+          subst (λ ws. IsKept me.0.sizes (record { words = ws; homes = s.homes; views = set s.views id me.0 })) (words_miss me.0 s kept id at generation_word generation (generation + 1) differs)
+          (subst (λ vs. IsKept me.0.sizes (record { words = s.words; homes = s.homes; views = vs })) (sym (set_again s.views id me.0 at)) kept),
+          (
+            (λ h. absurd (true≢false (sym h ∙ ne_eqb (slice_index s.words generation_word) generation differs)), λ h. refl),
+            λ h. h,
+            refl,
+          ),
+        )
+    ])

@@ -1,0 +1,68 @@
+-- What stores to a seat's own word ask and tell.
+use Rattle.history.specs.declared.calls.Call.{Call}
+use Rattle.history.specs.declared.replies.Reply.{Reply}
+use Rattle.std.specs.Prelude.{◌≡◌, ◌+◌, ◌==◌, ◌||◌, ℕ, Bool, true, false, Option, Some, None, if◌then◌else◌}
+use Rattle.atomic_table.specs.Table.{Me, Step}
+use Rattle.trie_words.specs.Codes.{pin_of}
+use Rattle.trie_words.specs.declared.pins.Pin.{Pin}
+use Rattle.machine_model.specs.declared.actions.Action.TheVariants as act
+use Rattle.machine_model.specs.States.{operation_of}
+use Rattle.lock_free.specs.declared.accounts.Account.{Account}
+use Rattle.lock_free.specs.declared.rules.Closing.{Closing}
+use Rattle.lock_free.specs.declared.rules.View.{View}
+use Rattle.lock_free.specs.Accounts.{gone_on}
+use Rattle.lock_free.specs.Loading.{now, IsAt, IsSound, Waited}
+use Rattle.lock_free.specs.Places.{pin_word, words_of}
+
+-- the seat runs nothing
+abbrev pub IsIdle : View → Type 0
+IsIdle v = operation_of (now v) v.actor ≡ None
+
+-- ---- the store by which a seat pins itself, or goes out of a call that it hasn't begun
+
+abbrev pub pinned_to : View → Option Pin → View
+pinned_to v pin = record v { pin = pin; entered = None }
+
+abbrev pub has_pinned : Step Call → Me Call View → ℕ → Me Call View → Type 0
+has_pinned step before found after = after ≡ (pinned_to before.0 (pin_of step.first), before.1)
+
+-- ---- the store of 0 by which an operation ends
+
+-- its operation, which has opened no handle, is to end
+abbrev pub IsAtEnd : View → Type 0
+IsAtEnd v = (answer : Reply) × IsAt v (act.End answer) × (v.opens ≡ None)
+
+abbrev pub once_ended : View → Account → View
+once_ended v account = record v { account = gone_on v.actor account; pin = None; entered = None; opening = None }
+
+abbrev pub HasEnded : View → View → Type 0
+HasEnded before after = (account : Account) × Waited before account × (after ≡ once_ended before account) × IsIdle after
+
+abbrev pub has_ended : Step Call → Me Call View → ℕ → Me Call View → Type 0
+has_ended step before found after = HasEnded before.0 after.0 × IsSound (words_of before.0.sizes) after.0 × (after.1 ≡ before.1)
+
+-- ---- a seat that would close a handle looks at the pins of all seats
+
+-- a seat with this pin has no call on the handle
+abbrev pub is_out : ℕ → Option Pin → Bool
+is_out handle None = true
+is_out handle (Some pin) = if pin.handle == handle then false else true
+
+-- so many have none on it
+abbrev pub closes : ℕ → ℕ → Closing
+closes handle looked = record { handle = handle; looked = looked }
+
+abbrev pub passing : View → ℕ → ℕ → View
+passing v handle looked = record v { closing = Some (closes handle (looked + 1)) }
+
+abbrev pub HasPassed : View → ℕ → ℕ → Bool → View → Type 0
+HasPassed before handle looked out after = (out ≡ true → after ≡ passing before handle looked) × (out ≡ false → after ≡ before)
+
+-- the next one has none, or is the seat itself
+abbrev pub is_passed : View → ℕ → ℕ → ℕ → Bool
+is_passed v handle looked found = is_out handle (pin_of found) || (looked + 1 == v.actor)
+
+abbrev pub has_passed : Step Call → Me Call View → ℕ → Me Call View → Type 0
+has_passed step before found after =
+    ((handle looked : ℕ) → before.0.closing ≡ Some (closes handle looked) → step.word ≡ pin_word (looked + 1) → HasPassed before.0 handle looked (is_passed before.0 handle looked found) after.0)
+    × (after.1 ≡ before.1)

@@ -1,0 +1,101 @@
+//! Seats' own words.
+
+ghost use Rattle.std.specs.Prelude.{◌≡◌, ◌==◌, ◌||◌, ◌+◌, ◌<◌, ◌≤◌, Some, None};
+ghost use Rattle.trie_words.specs.Codes.{IsPin};
+ghost use Rattle.lock_free.specs.Loading.{IsSound};
+ghost use Rattle.lock_free.specs.Places.{pin_word};
+ghost use Rattle.lock_free.specs.SeatWords.{IsAtEnd, IsIdle, HasEnded, HasPassed, closes, is_out, pinned_to};
+
+use crate::loads::{Actor, Words};
+use crate::rules::{Ends, Looks, Pins};
+use trie_words::Pin;
+
+/// Which word is this seat's own.
+fn pin_word_of(seat: u8) -> usize
+    ensures { result ≡ pin_word seat }
+{
+    336 + 16 * seat as usize
+}
+
+/// Pins this seat, which runs nothing.
+pub fn pin(words: &Words, actor: &mut Actor, seat: u8, pin: Pin)
+    requires table { actor.old.table_id ≡ words.now.table_id }
+    requires sound { IsSound words.now.table_id.words actor.old.me.0 }
+    requires its { actor.old.me.0.actor ≡ seat }
+    requires few { actor.old.me.0.actor ≤ actor.old.me.0.sizes.seats }
+    requires idle { IsIdle actor.old.me.0 }
+    requires fits { IsPin pin }
+    ensures table { actor.new.table_id ≡ actor.old.table_id }
+    ensures sound { IsSound words.now.table_id.words actor.new.me.0 }
+    ensures pinned { actor.new.me ≡ (pinned_to actor.old.me.0 (Some pin), actor.old.me.1) }
+{
+    words.store::<Pins>(actor, pin_word_of(seat), pin.to_word());
+}
+
+/// Takes the pin of this seat away, which runs nothing.
+pub fn unpin(words: &Words, actor: &mut Actor, seat: u8)
+    requires table { actor.old.table_id ≡ words.now.table_id }
+    requires sound { IsSound words.now.table_id.words actor.old.me.0 }
+    requires its { actor.old.me.0.actor ≡ seat }
+    requires few { actor.old.me.0.actor ≤ actor.old.me.0.sizes.seats }
+    requires idle { IsIdle actor.old.me.0 }
+    ensures table { actor.new.table_id ≡ actor.old.table_id }
+    ensures sound { IsSound words.now.table_id.words actor.new.me.0 }
+    ensures unpinned { actor.new.me ≡ (pinned_to actor.old.me.0 None, actor.old.me.1) }
+{
+    words.store::<Pins>(actor, pin_word_of(seat), 0);
+}
+
+/// Ends the operation of this seat, which is pinned no more.
+pub fn finish(words: &Words, actor: &mut Actor, seat: u8)
+    requires table { actor.old.table_id ≡ words.now.table_id }
+    requires sound { IsSound words.now.table_id.words actor.old.me.0 }
+    requires its { actor.old.me.0.actor ≡ seat }
+    requires few { actor.old.me.0.actor ≤ actor.old.me.0.sizes.seats }
+    requires ending { IsAtEnd actor.old.me.0 }
+    ensures table { actor.new.table_id ≡ actor.old.table_id }
+    ensures sound { IsSound words.now.table_id.words actor.new.me.0 }
+    ensures ended { HasEnded actor.old.me.0 actor.new.me.0 }
+{
+    words.store::<Ends>(actor, pin_word_of(seat), 0);
+}
+
+/// Whether a seat with this pin has no call on the handle.
+fn has_no_call(pin: &Option<Pin>, handle: u16) -> bool
+    ensures { result ≡ is_out handle pin.now }
+{
+    match pin {
+        None => true,
+        Some(pin) => pin.handle != handle,
+    }
+}
+
+/// Whether this seat with this pin has no call on the handle, or is the one that would close it.
+fn is_no_hindrance(pin: &Option<Pin>, handle: u16, seat: u8, own: u8) -> bool
+    ensures { result ≡ (is_out handle pin.now || (seat == own)) }
+{
+    if seat == own {
+        true
+    } else {
+        has_no_call(pin, handle)
+    }
+}
+
+/// Looks at the pin of the next seat, where this one, `own`, would close the handle, has marked it, and has found that so many seats
+/// have no call on it. Returns whether the next one has none either, or is this one.
+pub fn pass(words: &Words, actor: &mut Actor, own: u8, handle: u16, looked: u8) -> bool
+    requires table { actor.old.table_id ≡ words.now.table_id }
+    requires sound { IsSound words.now.table_id.words actor.old.me.0 }
+    requires its { actor.old.me.0.actor ≡ own }
+    requires low { handle < 256 }
+    requires small { looked + 1 < 256 }
+    requires few { looked + 1 ≤ actor.old.me.0.sizes.seats }
+    requires closing { actor.old.me.0.closing ≡ Some (closes handle looked) }
+    ensures table { actor.new.table_id ≡ actor.old.table_id }
+    ensures sound { IsSound words.now.table_id.words actor.new.me.0 }
+    ensures passed { HasPassed actor.old.me.0 handle looked result actor.new.me.0 }
+{
+    let next = looked + 1;
+    let found = words.load::<Looks>(actor, pin_word_of(next));
+    is_no_hindrance(&Pin::of_word(found), handle, next, own)
+}
