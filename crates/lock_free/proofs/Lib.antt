@@ -69,3 +69,4 @@ mod PinStep
 mod EnterStep
 mod MarkStep
 mod PassStep
+mod CloseStep

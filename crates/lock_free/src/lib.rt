@@ -15,11 +15,11 @@ mod stores;
 
 pub use accounts::{Account, Known, Owned};
 pub use exchanges::{decide, publish, restore};
-pub use handles::{enter, mark, see_root};
+pub use handles::{close, enter, mark, see_root};
 pub use loads::{Actor, Words, look_at_key, look_at_link, look_at_main, look_at_value, read_header, read_link, see_key, see_link, see_main, see_pair, see_value};
 pub use offers::{abort, complete};
 pub use pins::{finish, pass, pin, unpin};
 pub use reading::{AsksRoot, Given, Passed, Way, read_within};
-pub use rules::{Closing, Completes, Drafts, Ends, Enters, Goes, Looks, Makes, Marks, Pins, Pool, Publishes, Rule, Sees, Takes, View};
+pub use rules::{Closing, Completes, Drafts, Ends, Enters, Goes, Looks, Makes, Marks, Pins, Pool, Publishes, Rule, Sees, Shuts, Takes, View};
 pub use sizes::Sizes;
 pub use stores::{Tried, draft, make, try_take};
