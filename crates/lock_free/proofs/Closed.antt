@@ -158,7 +158,7 @@ module _ (sizes : Sizes) (s : Table.State Call View) (kept : IsKept sizes s) (id
         subst HasNoSweeps (append_assoc kept.account.steps (step.Begin v.actor (Close handle) None ∷ []) (step.Go v.actor ∷ []))
         (quiet_more (kept.account.steps ++ step.Begin v.actor (Close handle) None ∷ []) (step.Go v.actor) (quiet_more kept.account.steps (step.Begin v.actor (Close handle) None) kept.quiet tt) tt)
 
-    all_then : AllStand sizes account_then kept.stands words_then
+    pub all_then : AllStand sizes account_then kept.stands words_then
     all_then = record {
       bounds = closes.leaves.bounds;
       keys = All-append FitsKey kept.account.steps both kept.keys

@@ -72,3 +72,4 @@ mod PinStep
 mod EnterStep
 mod MarkStep
 mod PassStep
+mod CloseStep

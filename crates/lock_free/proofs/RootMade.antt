@@ -113,27 +113,27 @@ root_allowed sizes size id me generation (main, rest, name, own, p, w) =
     allowed sizes size id me generation_word (λ n. either (n == generation) (generation + 1) n) (has_made_root (step size generation_word generation (generation + 1) none) me)
     (λ s kept at. elim (cases_eq (slice_index s.words generation_word) generation) [
       | inl e ↦ (
-          made_by me.0 0 name rest own (Indirection generation main) kept.account,
-          subst (λ ws. IsKept me.0.sizes (record { words = ws; homes = s.homes; views = set s.views id (made_by me.0 0 name rest own (Indirection generation main) kept.account) }))
-          (ap (λ n. set s.words generation_word (n + 1)) e ∙ words_hit me.0 s kept id at generation_word generation (generation + 1) e generation_word refl)
-          (kept_after me.0 generation main rest name own p w s kept id at e),
+        made_by me.0 0 name rest own (Indirection generation main) kept.account,
+        subst (λ ws. IsKept me.0.sizes (record { words = ws; homes = s.homes; views = set s.views id (made_by me.0 0 name rest own (Indirection generation main) kept.account) }))
+            (ap (λ n. set s.words generation_word (n + 1)) e ∙ words_hit me.0 s kept id at generation_word generation (generation + 1) e generation_word refl)
+            (kept_after me.0 generation main rest name own p w s kept id at e),
+        (
           (
-            (
-              λ h. (kept.account, waited_so me.0 s kept id at, took_after me.0 generation main rest name own p w s kept id at e, (main, rest, name, own, p, w, refl)),
-              λ h. absurd (true≢false (sym (eq-eqb (slice_index s.words generation_word) generation e) ∙ h)),
-            ),
-            λ h. sound_after me.0 generation main rest name own p w s kept id at e,
-            refl,
+            λ h. (kept.account, waited_so me.0 s kept id at, took_after me.0 generation main rest name own p w s kept id at e, (main, rest, name, own, p, w, refl)),
+            λ h. absurd (true≢false (sym (eq-eqb (slice_index s.words generation_word) generation e) ∙ h)),
           ),
-        )
+          λ h. sound_after me.0 generation main rest name own p w s kept id at e,
+          refl,
+        ),
+      )
       | inr differs ↦ (
-          me.0,
-          subst (λ ws. IsKept me.0.sizes (record { words = ws; homes = s.homes; views = set s.views id me.0 })) (words_miss me.0 s kept id at generation_word generation (generation + 1) differs)
-          (subst (λ vs. IsKept me.0.sizes (record { words = s.words; homes = s.homes; views = vs })) (sym (set_again s.views id me.0 at)) kept),
-          (
-            (λ h. absurd (true≢false (sym h ∙ ne_eqb (slice_index s.words generation_word) generation differs)), λ h. refl),
-            λ h. h,
-            refl,
-          ),
-        )
+        me.0,
+        subst (λ ws. IsKept me.0.sizes (record { words = ws; homes = s.homes; views = set s.views id me.0 })) (words_miss me.0 s kept id at generation_word generation (generation + 1) differs)
+            (subst (λ vs. IsKept me.0.sizes (record { words = s.words; homes = s.homes; views = vs })) (sym (set_again s.views id me.0 at)) kept),
+        (
+          (λ h. absurd (true≢false (sym h ∙ ne_eqb (slice_index s.words generation_word) generation differs)), λ h. refl),
+          λ h. h,
+          refl,
+        ),
+      )
     ])

@@ -1,6 +1,6 @@
 -- What accesses of handles' words ask and tell.
 use Rattle.history.specs.declared.calls.Call.{Call}
-use Rattle.std.specs.Prelude.{◌≡◌, ◌==◌, ◌<◌, ◌+◌, ◌*◌, ◌≤◌, ◌⊎◌, ℕ, Bool, true, false, Contains, Some, None}
+use Rattle.std.specs.Prelude.{◌≡◌, ◌==◌, ◌+◌, ◌*◌, ◌≤◌, ◌⊎◌, ℕ, Bool, true, false, Contains, Some, None}
 use Rattle.atomic_table.specs.Table.{Me, Step}
 use Rattle.trie_words.specs.Codes.{IsRootWord, root_of}
 use Rattle.trie_words.specs.declared.pins.Pin.{Pin}
@@ -14,9 +14,11 @@ use Rattle.lock_free.specs.declared.rules.Closing.{Closing}
 use Rattle.lock_free.specs.declared.rules.View.{View}
 use Rattle.lock_free.specs.declared.sizes.Sizes.{Sizes}
 use Rattle.lock_free.specs.Accounts.{state_of}
-use Rattle.lock_free.specs.Loading.{Saw}
+use Rattle.lock_free.specs.Beginning.{closed_by}
+use Rattle.lock_free.specs.Loading.{IsSound, Saw, Waited}
 use Rattle.lock_free.specs.Places.{words_of, words_in, root_word}
 use Rattle.lock_free.specs.Roots.{SaysPlain}
+use Rattle.lock_free.specs.SeatWords.{IsIdle, closes}
 
 -- an offer for this handle was made in this slot
 pub record HasOffer (sizes : Sizes) (account : Account) (handle slot : ℕ) : Type 0 where
@@ -96,3 +98,18 @@ HasMarked before handle made after = (made ≡ true → after ≡ marking before
 
 abbrev pub has_marked : Step Call → Me Call View → ℕ → Me Call View → Type 0
 has_marked step before found after = ((handle : ℕ) → step.word ≡ root_word handle → HasMarked before.0 handle (found == step.first) after.0) × (after.1 ≡ before.1)
+
+-- ---- a handle is closed
+
+abbrev pub once_closed : View → ℕ → Account → View
+once_closed v handle account = record v { account = closed_by v.actor handle account; closing = None }
+
+-- the call that closes it has begun and ended, or the word was another
+abbrev pub HasClosed : View → ℕ → Bool → View → Type 0
+HasClosed before handle closed after =
+    (closed ≡ true → (account : Account) × Waited before account × (after ≡ once_closed before handle account) × IsIdle after) × (closed ≡ false → after ≡ before)
+
+abbrev pub has_closed : Step Call → Me Call View → ℕ → Me Call View → Type 0
+has_closed step before found after =
+    ((handle looked : ℕ) → before.0.closing ≡ Some (closes handle looked) → HasClosed before.0 handle (found == step.first) after.0)
+    × (IsSound (words_of before.0.sizes) before.0 → IsSound (words_of before.0.sizes) after.0) × (after.1 ≡ before.1)

@@ -1,14 +1,15 @@
 //! Handles' words.
 
-ghost use Rattle.std.specs.Prelude.{◌≡◌, ◌<◌, true, None, Some};
-ghost use Rattle.trie_words.specs.Codes.{IsRootWord};
-ghost use Rattle.lock_free.specs.HandleWords.{is_unmarked, marked_by, HasEntered, HasMarked, HasSeenRoot};
+ghost use Rattle.std.specs.Prelude.{◌≡◌, ◌≢◌, ◌<◌, ◌≤◌, true, None, Some};
+ghost use Rattle.trie_words.specs.Codes.{IsRootWord, root_code};
+ghost use Rattle.lock_free.specs.HandleWords.{is_unmarked, marked_by, HasClosed, HasEntered, HasMarked, HasSeenRoot};
 ghost use Rattle.lock_free.specs.Loading.{IsSound};
 ghost use Rattle.lock_free.specs.Places.{root_word};
-ghost use Rattle.lock_free.specs.SeatWords.{IsIdle};
+ghost use Rattle.lock_free.specs.Rules.{SaysClosing};
+ghost use Rattle.lock_free.specs.SeatWords.{IsIdle, closes};
 
 use crate::loads::{Actor, Words};
-use crate::rules::{Enters, Marks, Sees};
+use crate::rules::{Enters, Marks, Sees, Shuts};
 use trie_words::{Pin, RootWord};
 
 /// Which word is this handle's.
@@ -80,4 +81,24 @@ pub fn mark(words: &Words, actor: &mut Actor, handle: u16, word: RootWord, seat:
     let open = word.to_word();
     let marked = once_marked(word, seat).to_word();
     words.compare_exchange::<Marks>(actor, root_word_of(handle), open, marked) == open
+}
+
+/// Closes the handle, which the seat has marked so, and on which it has found no other seat in a call, if its word is this one still.
+/// Returns whether it was.
+pub fn close(words: &Words, actor: &mut Actor, handle: u16, word: RootWord, looked: u8) -> bool
+    requires table { actor.old.table_id ≡ words.now.table_id }
+    requires sound { IsSound words.now.table_id.words actor.old.me.0 }
+    requires low { handle < 256 }
+    requires fits { IsRootWord word }
+    requires marked { SaysClosing (root_code word) actor.old.me.0.actor }
+    requires closing { actor.old.me.0.closing ≡ Some (closes handle looked) }
+    requires all { actor.old.me.0.sizes.seats ≤ looked }
+    requires outside { actor.old.me.0.entered ≢ Some handle }
+    requires idle { IsIdle actor.old.me.0 }
+    ensures table { actor.new.table_id ≡ actor.old.table_id }
+    ensures sound { IsSound words.now.table_id.words actor.new.me.0 }
+    ensures closed { HasClosed actor.old.me.0 handle result actor.new.me.0 }
+{
+    let open = word.to_word();
+    words.compare_exchange::<Shuts>(actor, root_word_of(handle), open, 0) == open
 }

@@ -16,7 +16,7 @@ mod swapping;
 
 pub use accounts::{Account, Known, Owned};
 pub use exchanges::{decide, publish, restore};
-pub use handles::{enter, mark, see_root};
+pub use handles::{close, enter, mark, see_root};
 pub use loads::{
     Actor, Words, look_at_key, look_at_link, look_at_main, look_at_value, read_header, read_link,
     see_key, see_link, see_main, see_pair, see_value,
@@ -26,7 +26,7 @@ pub use pins::{finish, pass, pin, unpin};
 pub use reading::{AsksRoot, Given, Passed, Way, read, read_within};
 pub use rules::{
     Closing, Completes, Drafts, Ends, Enters, Goes, Looks, Makes, MakesRoot, Marks, Pins, Pool,
-    Publishes, Rule, Sees, Takes, View,
+    Publishes, Rule, Sees, Shuts, Takes, View,
 };
 pub use sizes::Sizes;
 pub use stores::{Tried, draft, make, make_root, try_take};

@@ -3,7 +3,7 @@
 ghost use Rattle.lock_free.specs.Rules.{IsKept, first_view};
 ghost use Rattle.lock_free.specs.Loading.{has_seen, has_gone};
 ghost use Rattle.lock_free.specs.Exchanging.{has_published};
-ghost use Rattle.lock_free.specs.HandleWords.{has_entered, has_marked};
+ghost use Rattle.lock_free.specs.HandleWords.{has_closed, has_entered, has_marked};
 ghost use Rattle.lock_free.specs.OfferWords.{has_completed};
 ghost use Rattle.lock_free.specs.SeatWords.{has_ended, has_passed, has_pinned};
 ghost use Rattle.lock_free.specs.Storing.{has_drafted, has_made, has_made_root, has_taken};
@@ -117,6 +117,13 @@ pub struct Looks;
 
 impl Play<Call, View> for Looks {
     ghost then = { has_passed };
+}
+
+/// A handle is closed, or isn't.
+pub struct Shuts;
+
+impl Play<Call, View> for Shuts {
+    ghost then = { has_closed };
 }
 
 /// An operation ends.
