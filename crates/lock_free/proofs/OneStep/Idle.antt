@@ -20,7 +20,7 @@ none_by None h = refl
 none_by (Some o) h = absurd (h o refl)
 
 not_own : (actor : ℕ) (s : Step) → IsOfOther actor s → IsOf actor s → ⊥
-not_own actor (step.Begin other call) h own = h own
+not_own actor (step.Begin other call number) h own = h own
 not_own actor (step.Go other) h own = h own
 not_own actor (step.GiveUp other) h own = h own
 not_own actor step.Sweep h own = h
