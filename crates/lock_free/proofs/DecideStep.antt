@@ -92,7 +92,7 @@ module _ (v : View) (i main replaced : Ref) (told : Option ℕ) (p : IsAt v (act
 
     module _ (d : Decides v.sizes there v.actor (o v word found m i main replaced told p its_word header fits over) main replaced)
         (verdict : d.verdict ≡ (if is_licensed (state_of v.sizes there).heap i told then prev.None else prev.Failed replaced))
-            (same : d.slot ≡ (main_is v word found m i main replaced told p its_word header fits over).0.slot)
+        (same : d.slot ≡ (main_is v word found m i main replaced told p its_word header fits over).0.slot)
         (stands : main_at (state_of v.sizes there).heap i ≡ main) where
       here : kept.stands (slot_of main) ≡ true
       here = kept.nodes.live main (main_is v word found m i main replaced told p its_word header fits over).0.lives
@@ -123,7 +123,7 @@ module _ (v : View) (i main replaced : Ref) (told : Option ℕ) (p : IsAt v (act
       decided_so e = (
         subst (λ ws. IsKept v.sizes (record { words = ws; homes = s.homes; views = set s.views id after })) (words_hit v s kept id at word old new e (2 * place_of there main) at_place)
             (decide_kept v.sizes s kept id v at (o v word found m i main replaced told p its_word header fits over)
-                (runs v word found m i main replaced told p its_word header fits over) main replaced d here is_main new says),
+            (runs v word found m i main replaced told p its_word header fits over) main replaced d here is_main new says),
         (
           sound_by v s kept id at (gone_on v.actor there) kept.stands _
               (all_then v.sizes there v.actor (o v word found m i main replaced told p its_word header fits over) main replaced d kept.stands s.words (all_stand v.sizes s kept) here is_main new says),
@@ -175,7 +175,7 @@ decide_told before name header fits licensed is_at found after g = (
   λ i main replaced told p.
       (let same = ap decided_of (same_action before (act.Decide is_at.0 is_at.1 is_at.2 is_at.3) (act.Decide i main replaced told) is_at.4 p) in
       let result : (is_pending (prev_at (state_of before.sizes g.0.kept.account).heap is_at.1) is_at.2 ≡ (found == header_code header)) ×
-          (is_licensed (state_of before.sizes g.0.kept.account).heap is_at.0 is_at.3 ≡ is_licensed (now before).heap is_at.0 is_at.3) = (
+      (is_licensed (state_of before.sizes g.0.kept.account).heap is_at.0 is_at.3 ≡ is_licensed (now before).heap is_at.0 is_at.3) = (
         stood_by before is_at.0 is_at.1 is_at.2 is_at.3 is_at.4 name is_at.5 header fits is_at.6 licensed is_at.7 g.0.table g.0.kept g.0.id g.0.at ∙ ap (λ n. n == header_code header) g.0.finds,
         same_license before is_at.0 is_at.1 is_at.2 is_at.3 is_at.4 name is_at.5 header fits is_at.6 licensed is_at.7 g.0.table g.0.kept g.0.id g.0.at,
       ) in

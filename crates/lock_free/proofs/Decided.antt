@@ -43,7 +43,7 @@ use Rattle.lock_free.proofs.Waiting.{quiet_more}
 module _ (account later : Account) (before after : State) (words changed : List ℕ) (p k : ℕ) (slot : Slot) (verdict : Prev)
     (entries : (xs : List Ref) → AreEntries account before.heap (InTable words) p xs → AreEntries later after.heap (InTable changed) p xs)
     (header : (found : ℕ) → slice_index words (2 * p) ≡ found → SaysHeader account before k slot found → (word : ℕ) × (slice_index changed (2 * p) ≡ word) × SaysHeader later after k
-        (record slot { prev = verdict }) word) where
+    (record slot { prev = verdict }) word) where
   pub decided_stands : (node : Node) → is_main_node node ≡ true → StandsAs account before (InTable words) p k slot node → StandsAs later after (InTable changed) p k
       (record slot { prev = verdict }) node
   decided_stands (Indirection generation main) is h = absurd (true≢false (sym is))

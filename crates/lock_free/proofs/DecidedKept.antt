@@ -36,6 +36,6 @@ module _ (sizes : Sizes) (s : Table.State Call View) (kept : IsKept sizes s) (id
   })
   decide_kept =
       node_word_kept sizes s kept id v at operation runs (slot_of main) decides.slot (here, decides.is) (2 * place_of kept.account main)
-          (first_word decides.slot.node (place_of kept.account main)) value []
+      (first_word decides.slot.node (place_of kept.account main)) value []
       (all_then sizes kept.account v.actor operation main replaced decides kept.stands s.words all here is_main value says)
       (spare_then sizes kept.account v.actor operation main replaced decides kept.stands s.words all here is_main value says) decides.roots decides.others decides.own decides.tries

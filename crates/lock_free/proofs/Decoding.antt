@@ -60,7 +60,7 @@ module _ (v : View) (s : Table.State Call View) (kept : IsKept v.sizes s) where
       from_operation h.actor h.operation a h.runs tt
       (Contains-append_left (refs_of_claims (line_claims state h.operation)) h.operation.private a
       (subst (λ (l : Line). Contains (refs_of_claims (line_claims state (record h.operation { line = l }))) a) (sym h.on)
-          (Contains-get_or (refs_of_claims (line_claims state (record h.operation { line = line.Swap h.why (swapping i a f) }))) 1 a (omega arith))))
+      (Contains-get_or (refs_of_claims (line_claims state (record h.operation { line = line.Swap h.why (swapping i a f) }))) 1 a (omega arith))))
 
   module _ (r : Ref) (slot : Slot) (live : IsLive state r) (is : get_or state.heap.slots (slot_of r) None ≡ Some slot) where
     prev_small : (p : Prev) (q : Ref) → p ≡ slot.prev → Contains (refs_of_prev p) q → place_of there q < 2 ^ 27
@@ -75,10 +75,10 @@ module _ (v : View) (s : Table.State Call View) (kept : IsKept v.sizes s) where
     shape_fits : (n : Node) (says : Shape) → n ≡ slot.node → SaysShape there (slot_of r) n says → IsShape says
     shape_fits n says same (of_branch bitmap entries) =
         ltb-true bitmap (2 ^ 32) (and_parts (nat_lt bitmap (2 ^ 32)) (nat_le (count_ones bitmap) (length entries.items))
-            (ap is_formed same ∙ is_well_formed v.sizes there kept.bounds (slot_of r) slot is)).0
+        (ap is_formed same ∙ is_well_formed v.sizes there kept.bounds (slot_of r) slot is)).0
     shape_fits n says same (of_tomb single own owned) =
         place_small single (node_lives r single slot live is (Contains-append_left (refs_of_node slot.node) (refs_of_prev slot.prev) single
-            (subst (λ x. Contains (refs_of_node x) single) same (Contains-get_or (single ∷ []) 0 single (omega arith)))))
+        (subst (λ x. Contains (refs_of_node x) single) same (Contains-get_or (single ∷ []) 0 single (omega arith)))))
     shape_fits n says same (of_list singles) =
         let few = subst (λ x. length (entries_of x) ≤ 32) (sym same) (kept.nodes.small (slot_of r) slot (kept.nodes.live r live, is)) in omega (arith, few)
 
@@ -88,8 +88,16 @@ module _ (v : View) (s : Table.State Call View) (kept : IsKept v.sizes s) where
         let header : Header = record { previous = h.previous; shape = h.shape } in
         let fits : IsHeader header = (previous_fits slot.prev h.previous refl h.is_previous, shape_fits slot.node h.shape refl h.is_shape) in
         subst (λ x. HasHeader there state r x) (sym (ap header_of h.code ∙ header_back header fits))
-        (record { slot = slot; stores = is; is_main = main; is_previous = h.is_previous; is_shape = h.is_shape; fits = fits; used = λ q c. live_in_use v.sizes there kept.bounds q
-            (node_lives r q slot live is c) })
+        (record {
+          slot = slot;
+          stores = is;
+          is_main = main;
+          is_previous = h.is_previous;
+          is_shape = h.is_shape;
+          fits = fits;
+          used = λ q c. live_in_use v.sizes there kept.bounds q
+              (node_lives r q slot live is c);
+        })
 
     -- and so does the link
     pub link_found : (found generation : ℕ) (main : Ref) (own : Bool) → slot.node ≡ Indirection generation main → generation < 2 ^ 36 → OwnIs there.owned (slot_of r) (slot_of main) own →

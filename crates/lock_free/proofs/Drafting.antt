@@ -101,7 +101,7 @@ module _ (sizes : Sizes) (s : Table.State Call View) (kept : IsKept sizes s) (id
   own_then : IsSeat sizes kept.account kept.stands words_then view_then
   own_then =
       own_still sizes s kept id v at words_then stays (numbers_so sizes s kept kept.account words_then (no_tries kept.account.offers (state_of sizes kept.account)) refl root_same id v at)
-          (pin_same v.actor (omega (arith, seat.top, seat.most))) v.pool view_then.drafts
+      (pin_same v.actor (omega (arith, seat.top, seat.most))) v.pool view_then.drafts
       (λ b other f. (let y = seat.spare b other f in (taken_then b other f.0 y.0, y.1))) seat.once (λ d c. drafted d (which j x v.drafts d c)) (λ handle slot y. (root_same handle y.low, y.free.1))
 
   closings_then : (handle who : ℕ) → handle < handle_limit → SaysClosing (slice_index words_then (root_word handle)) who → IsClosing (set s.views id view_then) handle who
@@ -114,4 +114,4 @@ module _ (sizes : Sizes) (s : Table.State Call View) (kept : IsKept sizes s) (id
       assembled sizes s kept id v at view_then refl refl kept.account kept.stands words_then all_then closings_then own_then (other_kept sizes s kept id v at kept.account kept.stands words_then stays)
       (λ b n f. inl f)
       (numbers_stay sizes s kept id v at view_then refl refl kept.account words_then (no_tries kept.account.offers (state_of sizes kept.account)) (λ slot none. none) root_same refl
-          (λ slot handle e free. free))
+      (λ slot handle e free. free))

@@ -1,7 +1,7 @@
 -- The store of 0 to a seat's own word ends its operation.
 use Rattle.history.specs.declared.calls.Call.{Call}
 use Rattle.history.specs.declared.replies.Reply.{Reply}
-use Rattle.std.proofs.Common.{◌≡◌, ◌+◌, ◌*◌, ◌<◌, ◌≤◌, ℕ, Bool, List, Contains, set, slice_index, Option, Some, None, refl, sym, ap, subst, ◌∙◌, arith}
+use Rattle.std.proofs.Common.{◌≡◌, ◌<◌, ◌≤◌, ℕ, Bool, set, Some, None, refl, sym, ◌∙◌, arith}
 use Rattle.std.proofs.lemmas.Option.{none-some}
 use mathlib.Core.Option.{some, none}
 use lib.ListN.{get_elem?}
@@ -14,12 +14,12 @@ use Rattle.machine_model.specs.States.{operation_of}
 use Rattle.lock_free.specs.declared.accounts.Account.{Account}
 use Rattle.lock_free.specs.declared.rules.View.{View}
 use Rattle.lock_free.specs.declared.sizes.Sizes.{Sizes}
-use Rattle.lock_free.specs.Accounts.{state_of, running, gone_on}
+use Rattle.lock_free.specs.Accounts.{running}
 use Rattle.lock_free.specs.Beginning.{Ends}
 use Rattle.lock_free.specs.Loading.{now, seen, IsAt, IsSound}
 use Rattle.lock_free.specs.Places.{pin_word, words_of}
 use Rattle.lock_free.specs.Rules.{IsKept}
-use Rattle.lock_free.specs.SeatWords.{IsAtEnd, once_ended, HasEnded, has_ended}
+use Rattle.lock_free.specs.SeatWords.{IsAtEnd, once_ended, has_ended}
 use Rattle.lock_free.proofs.Ended.{all_then, end_kept}
 use Rattle.lock_free.proofs.Moments.{allowed, waited_so, free_inside}
 use Rattle.lock_free.proofs.OneStep.Sitting.{ends_of}
@@ -55,9 +55,11 @@ pub end_allowed : (sizes : Sizes) (size id : ℕ) (me : Me Call View) → IsAtEn
     Allows (IsKept sizes) size id me (pin_word me.0.actor) (λ n. 0) (λ n. has_ended (step size (pin_word me.0.actor) 0 0 none) me 0)
 end_allowed sizes size id me (answer, p, opens) =
     allowed sizes size id me (pin_word me.0.actor) (λ n. 0) (λ n. has_ended (step size (pin_word me.0.actor) 0 0 none) me 0)
-    (λ s kept at.
-    (once_ended me.0 kept.account, kept_after me.0 answer p opens s kept id at,
-    ((kept.account, waited_so me.0 s kept id at, refl, idle_after me.0 answer p opens s kept id at), sound_after me.0 answer p opens s kept id at, refl)))
+    (λ s kept at. (
+      once_ended me.0 kept.account,
+      kept_after me.0 answer p opens s kept id at,
+      ((kept.account, waited_so me.0 s kept id at, refl, idle_after me.0 answer p opens s kept id at), sound_after me.0 answer p opens s kept id at, refl),
+    ))
 
 -- the word is one of the table's
 pub pin_inside : (words : ℕ) (v : View) → IsSound words v → v.actor ≤ v.sizes.seats → pin_word v.actor < words

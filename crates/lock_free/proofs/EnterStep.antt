@@ -1,6 +1,6 @@
 -- A load of a handle's word enters the handle to which the seat has pinned itself, where it finds it open.
 use Rattle.history.specs.declared.calls.Call.{Call}
-use Rattle.std.proofs.Common.{◌≡◌, ◌≢◌, ◌+◌, ◌<◌, ◌⊎◌, ℕ, inl, inr, Bool, true, false, List, set, slice_index, is_some, Option, Some, None, refl, sym, ap, subst, ◌∙◌, arith}
+use Rattle.std.proofs.Common.{◌≡◌, ◌<◌, ℕ, inl, inr, Bool, true, false, List, set, slice_index, is_some, Option, Some, refl, sym, ap, subst, ◌∙◌, arith}
 use Rattle.std.proofs.lemmas.Bool.{true≢false, false≢true}
 use Rattle.std.proofs.lemmas.List.{set-get_or}
 use Rattle.std.proofs.lemmas.Option.{same_Some}
@@ -13,7 +13,7 @@ use Rattle.trie_words.specs.declared.pins.Pin.{Pin}
 use Rattle.trie_words.specs.declared.roots.RootWord.{RootWord}
 use Rattle.trie_words.specs.declared.roots.RootWord.TheVariants as word
 use Rattle.machine_model.specs.declared.roots.Root.{Root}
-use Rattle.machine_model.specs.States.{operation_of, root_at}
+use Rattle.machine_model.specs.States.{root_at}
 use Rattle.lock_free.specs.declared.accounts.Account.{Account}
 use Rattle.lock_free.specs.declared.rules.View.{View}
 use Rattle.lock_free.specs.declared.sizes.Sizes.{Sizes}
@@ -26,7 +26,6 @@ use Rattle.lock_free.specs.Rules.{SaysClosing, IsKept}
 use Rattle.lock_free.specs.SeatWords.{IsIdle}
 use Rattle.lock_free.proofs.Assembling.{closing_at}
 use Rattle.lock_free.proofs.Entering.{seat_kept, enter_kept}
-use Rattle.lock_free.proofs.Geometry.{root_apart}
 use Rattle.lock_free.proofs.Moments.{allowed}
 use Rattle.lock_free.proofs.OneStep.Idle.{idle_stays}
 use Rattle.lock_free.proofs.RootCodes.{kind, root_back, same_kind}
@@ -68,21 +67,23 @@ module _ (v : View) (pin : Pin) (low : pin.handle < 256) (pinned : v.pin ≡ Som
 
   enters_by : (b : Bool) → is_open_word (root_of found) ≡ b → (w : View) × Enters w
   enters_by true e =
-      let is = ap is_open_word (sym what_is) ∙ e in
-      (
+      let is = ap is_open_word (sym what_is) ∙ e in (
         entering v handle,
-        (enter_kept v.sizes s kept id v at handle low pin pinned refl (idle_stays v.sizes v.actor v.account kept.account (kept.seats id v at).waited kept.bounds idle)
-        (open_says kept.account s.words handle (root_at (state_of v.sizes kept.account) handle) means.what is means.says)
-            (λ who h. not_marked means.what found who means.fits means.code (open_kind means.what is) h),
-        (λ x. refl, λ x. absurd (true≢false (sym e ∙ x)))),
+        (
+          enter_kept v.sizes s kept id v at handle low pin pinned refl (idle_stays v.sizes v.actor v.account kept.account (kept.seats id v at).waited kept.bounds idle)
+              (open_says kept.account s.words handle (root_at (state_of v.sizes kept.account) handle) means.what is means.says)
+              (λ who h. not_marked means.what found who means.fits means.code (open_kind means.what is) h),
+          (λ x. refl, λ x. absurd (true≢false (sym e ∙ x))),
+        ),
       )
-  enters_by false e =
-      (
-        v,
-        (seat_kept v.sizes s kept id v at v.entered v.closing (kept.seats id v at).entered (kept.seats id v at).calls
-        (λ g who below h. closing_at v.sizes s kept id v at v refl refl g who (λ x. x) (λ c x y z. x) (kept.closings g who below h)),
-        (λ x. absurd (true≢false (sym x ∙ e)), λ x. refl)),
-      )
+  enters_by false e = (
+    v,
+    (
+      seat_kept v.sizes s kept id v at v.entered v.closing (kept.seats id v at).entered (kept.seats id v at).calls
+          (λ g who below h. closing_at v.sizes s kept id v at v refl refl g who (λ x. x) (λ c x y z. x) (kept.closings g who below h)),
+      (λ x. absurd (true≢false (sym x ∙ e)), λ x. refl),
+    ),
+  )
 
   pub enters : (w : View) × Enters w
   enters = enters_by (is_open_word (root_of found)) refl
@@ -91,8 +92,7 @@ pub enter_allowed : (sizes : Sizes) (size id : ℕ) (me : Me Call View) (pin : P
     Allows (IsKept sizes) size id me (root_word pin.handle) (λ n. n) (has_entered (step size (root_word pin.handle) 0 0 none) me)
 enter_allowed sizes size id me pin low pinned idle =
     allowed sizes size id me (root_word pin.handle) (λ n. n) (has_entered (step size (root_word pin.handle) 0 0 none) me)
-    (λ s kept at. (let x = enters me.0 pin low pinned idle s kept id at in
-    (
+    (λ s kept at. (let x = enters me.0 pin low pinned idle s kept id at in (
       x.0,
       subst (λ ws. IsKept me.0.sizes (record { words = ws; homes = s.homes; views = set s.views id x.0 })) (sym (set-get_or s.words (root_word pin.handle) 0)) x.1.0,
       (λ other is same. subst (λ (p : Pin). HasEntered me.0 p.handle (root_of (slice_index s.words (root_word pin.handle))) x.0) (same_Some pin other (sym pinned ∙ is)) x.1.1, refl),

@@ -58,8 +58,14 @@ module _ (v : View) (s : Table.State Call View) (kept : IsKept v.sizes s) (id : 
     subst (λ ws. IsKept v.sizes (record { words = ws; homes = s.homes; views = set s.views id (seen v (gone_on v.actor kept.account)) })) (words_miss differs)
         (kept_then v.sizes s kept id v at o runs reads),
     (
-      record { size = refl; range = kept.range.within; bounds = reads.bounds; counted = kept.counted ∙ sym reads.births; inside = λ k slot e. kept.nodes.inside k slot (sym (reads.nodes k) ∙ e);
-          free = free_inside v s kept id at },
+      record {
+        size = refl;
+        range = kept.range.within;
+        bounds = reads.bounds;
+        counted = kept.counted ∙ sym reads.births;
+        inside = λ k slot e. kept.nodes.inside k slot (sym (reads.nodes k) ∙ e);
+        free = free_inside v s kept id at;
+      },
       took_by v s kept id at o runs (gone_on v.actor kept.account) reads.own,
     ),
   )

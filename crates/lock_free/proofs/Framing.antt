@@ -226,7 +226,7 @@ module _ (sizes : Sizes) (account : Account) (stands : Standing) (words : List �
       differs
       (all.nodes.apart j k another slot h stood
       (slots_apart sizes words all.taken (class_of another.node) (class_of slot.node) (place_at account j) (place_at account k) i (class_small another.node) (class_small slot.node)
-          (all.nodes.within j another h)
+      (all.nodes.within j another h)
       (all.nodes.within k slot stood) (subst (λ m. IsWordOf (class_of another.node) (place_at account j) m) same w) its).1)
 
   pub not_of_any_offer : (o : Known) → Contains account.offers o → (n : ℕ) → IsWordOf 1 o.slot n → n ≢ i
@@ -239,7 +239,7 @@ module _ (sizes : Sizes) (account : Account) (stands : Standing) (words : List �
   not_of_spare b name small taken spare n w same =
       spare.0 k slot stood
       (sym (slots_apart sizes words all.taken b (class_of slot.node) name (place_at account k) i small (class_small slot.node) taken (all.nodes.within k slot stood)
-          (subst (λ m. IsWordOf b name m) same w) its).1)
+      (subst (λ m. IsWordOf b name m) same w) its).1)
 
   pub root_beside : (handle : ℕ) → handle < handle_limit → slice_index (set words i x) (root_word handle) ≡ slice_index words (root_word handle)
   root_beside handle low = let where_it_is = root_below handle low in below_word sizes account words all.taken i node_far x (root_word handle) (omega (arith, where_it_is.1))
@@ -295,5 +295,5 @@ module _ (sizes : Sizes) (account : Account) (stands : Standing) (words : List �
     marks = marks_over account words i x no_offer (state_of sizes account) roots.marks;
     pending = λ k c stands.
         pending_kept words (set words i x) k (λ handle low. else_word account words i x (root_word handle) (no_root handle low))
-            (roots.pending k c (sym (first_of_offer account words i x no_offer k c) ∙ stands));
+        (roots.pending k c (sym (first_of_offer account words i x no_offer k c) ∙ stands));
   }

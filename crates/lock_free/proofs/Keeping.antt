@@ -153,7 +153,7 @@ module _ (sizes : Sizes) (s : Table.State Call View) (kept : IsKept sizes s) (id
     written = λ k slot h.
         (let was = stood k slot h in
         stands_kept kept.account account_then.steps kept.account.offers dropped now next_state (same_nodes now next_state leads.nodes) leads.aheads leads.still s.words
-            (place_at kept.account k) k slot slot.node was.1 (kept.nodes.written k slot was.0));
+        (place_at kept.account k) k slot slot.node was.1 (kept.nodes.written k slot was.0));
     inside = λ k slot e. kept.nodes.inside k slot (sym (leads.nodes k) ∙ e);
     owners = owners_kept kept.account account_then now next_state refl refl leads.aheads kept.nodes.owners;
     live = λ r h. (let x = leads.live r h in live_then (dropped (slot_of r)) (slot_of r) refl x.1 (kept.nodes.live r x.0));
@@ -249,8 +249,8 @@ module _ (sizes : Sizes) (s : Table.State Call View) (kept : IsKept sizes s) (id
     own_then : IsSeat sizes account_then stands_then s.words view_then
     own_then =
         own_kept sizes s kept id v at account_then stands_then s.words stays operation next runs leads.own same_call same_opens
-            (numbers_so sizes s kept account_then s.words leads.tries leads.roots (λ handle low. refl) id v at) all_then.counted refl pool v.opening
-                (λ handle slot o n. (n, λ x. (refl, more 1 slot x.free.0 x.free.1))) v.drafts spare_own once
+        (numbers_so sizes s kept account_then s.words leads.tries leads.roots (λ handle low. refl) id v at) all_then.counted refl pool v.opening
+        (λ handle slot o n. (n, λ x. (refl, more 1 slot x.free.0 x.free.1))) v.drafts spare_own once
         (λ d c. drafts_kept sizes s kept id v at account_then stands_then s.words stays view_then d (seat.drafts d c) (λ b name free. ((free.0, more b name free.0 free.1), λ j its_word. refl)))
 
     -- the rule holds
@@ -260,7 +260,7 @@ module _ (sizes : Sizes) (s : Table.State Call View) (kept : IsKept sizes s) (id
         (λ handle who low says. closing_stays sizes s kept id v at view_then refl refl (λ h e. e) refl handle who (kept.closings handle who low says)) own_then
         (other_kept sizes s kept id v at account_then stands_then s.words stays) not_others
         (numbers_stay sizes s kept id v at view_then refl refl account_then s.words leads.tries (λ slot none. none) (λ handle low. refl) refl
-            (λ slot handle e free. (free.0, more 1 slot free.0 free.1)))
+        (λ slot handle e free. (free.0, more 1 slot free.0 free.1)))
 
 -- ---- reads
 

@@ -144,8 +144,13 @@ module _ (v w : View) (l : Later v w) where
       }
 
   pub pending_later : (i main replaced : Ref) (header : Header) → KnowsPending v i main replaced header → KnowsPending w i main replaced header
-  pending_later i main replaced header k = record { main_is = main_later main header k.main_is; name = k.name; says = k.says; names = named_later i replaced k.name k.used k.names;
-      used = used_later replaced k.used }
+  pending_later i main replaced header k = record {
+    main_is = main_later main header k.main_is;
+    name = k.name;
+    says = k.says;
+    names = named_later i replaced k.name k.used k.names;
+    used = used_later replaced k.used;
+  }
 
 pub pending_over : (v : View) (i main replaced : Ref) (header : Header) → KnowsPending v i main replaced header → IsPendingOver v i main replaced header
 pending_over v i main replaced header k = record { name = k.name; says = k.says; names = k.names; slot = k.main_is.slot; stores = k.main_is.used; is_shape = k.main_is.is_shape }

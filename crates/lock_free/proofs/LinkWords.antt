@@ -107,7 +107,7 @@ module _ (v : View) (word found : ℕ) (m : Moment v word found) (does : Action)
   current_lives =
       node_lives v m.table m.kept i current i_there.0.slot i_there.0.lives i_there.0.used
       (Contains-append_left (refs_of_node i_there.0.slot.node) (refs_of_prev i_there.0.slot.prev) current
-          (subst (λ n. Contains (refs_of_node n) current) (sym i_there.3) (Contains-get_or (current ∷ []) 0 current (omega arith))))
+      (subst (λ n. Contains (refs_of_node n) current) (sym i_there.3) (Contains-get_or (current ∷ []) 0 current (omega arith))))
 
   pub miss : main_at state.heap i ≢ main → found ≢ link_code link
   miss other e =
@@ -116,5 +116,5 @@ module _ (v : View) (word found : ℕ) (m : Moment v word found) (does : Action)
       (ap (λ g. link_code (record { generation = g; main = record { slot = place_of account current; own = says.1.0 } })) (sym generation_now) ∙ sym says.1.2 ∙ e) in
       let used = live_in_use v.sizes account m.kept.bounds current current_lives in
       let one = m.kept.nodes.apart (slot_of current) (slot_of main) used.0 main_there_is.slot (m.kept.nodes.live current current_lives, used.1)
-          (m.kept.nodes.live main main_there_is.lives, main_there_is.used) (places ∙ sym place_now) in
+      (m.kept.nodes.live main main_there_is.lives, main_there_is.used) (places ∙ sym place_now) in
       other (stands_there_now ∙ slots_tell v.sizes account m.kept.bounds current main current_lives main_there_is.lives one)

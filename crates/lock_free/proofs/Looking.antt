@@ -81,10 +81,10 @@ module _ (v : View) (word found : ℕ) (m : Moment v word found) where
 
     pub link_at : word ≡ 2 * place_of v.account r → (generation : ℕ) (main : Ref) → h.slot.node ≡ Indirection generation main →
         (generation < 2 ^ 36) × ((own : Bool) × OwnIs account.owned (slot_of r) (slot_of main) own ×
-            (found ≡ link_code (record { generation = generation; main = record { slot = place_of account main; own = own } })))
+        (found ≡ link_code (record { generation = generation; main = record { slot = place_of account main; own = own } })))
     link_at its generation main node =
         let link = subst (λ n. StandsAs account state (InTable m.table.words) (place_of v.account r) (slot_of r) h.slot n) node stands in
-            (link.0, (link.1.0, link.1.1, sym (is_found (2 * place_of v.account r) its) ∙ link.1.2))
+        (link.0, (link.1.0, link.1.1, sym (is_found (2 * place_of v.account r) its) ∙ link.1.2))
 
     pub says_main : word ≡ 2 * place_of v.account r → SaysMain account state r (header_of found)
     says_main its slot is main =
@@ -100,12 +100,12 @@ module _ (v : View) (word found : ℕ) (m : Moment v word found) where
     pub says_key : word ≡ 2 * place_of v.account r → SaysKey state r found
     says_key its slot key value is node =
         let single = subst (λ n. StandsAs account state (InTable m.table.words) (place_of v.account r) (slot_of r) slot n) node (stands_so slot is) in sym (is_found (2 * place_of v.account r) its) ∙
-            single.0
+        single.0
 
     pub says_value : word ≡ 2 * place_of v.account r + 1 → SaysValue state r found
     says_value its slot key value is node =
         let single = subst (λ n. StandsAs account state (InTable m.table.words) (place_of v.account r) (slot_of r) slot n) node (stands_so slot is) in sym
-            (is_found (2 * place_of v.account r + 1) its) ∙ single.1
+        (is_found (2 * place_of v.account r + 1) its) ∙ single.1
 
     pub says_pair : (position : ℕ) → word ≡ 2 * place_of v.account r + 1 + position / 2 → SaysPair account state r position (pair_of found)
     says_pair position its slot n e is kind same at =
@@ -164,7 +164,7 @@ module _ (before : View) (name word found : ℕ) (after : View) (g : HasGone bef
   same_slots does reading p =
       let o = o_there before word found g.0 does p in
       let reads = reads_of before.sizes g.0.kept.account g.0.kept.bounds before.actor (record p.operation { is_marked = o.0 }) o.1
-          (subst IsReading (sym (acts_there before word found g.0 does p)) reading) in
+      (subst IsReading (sym (acts_there before word found g.0 does p)) reading) in
       subst (λ (x : View). SameSlots (state_of before.sizes g.0.kept.account) (now x)) (sym g.1) reads.nodes
 
   -- where it was to do that to the node in this slot
@@ -202,9 +202,11 @@ module _ (before : View) (name word found : ℕ) (after : View) (g : HasGone bef
   pub link_read : IsAtSlot before act.ReadMain name → word ≡ 2 * name → (r : Ref) → IsAt before (act.ReadMain r) →
       HasLink g.0.kept.account (state_of before.sizes g.0.kept.account) r (link_of found) × SameSlots (state_of before.sizes g.0.kept.account) (now after)
   link_read is_at its r p =
-      let there = link_there before word found g.0 (act.ReadMain r) r (one_named r) p in
-      (says_link before word found g.0 r there.0 (its ∙ ap (λ n. 2 * n) (its_slot act.ReadMain (λ q. refl) is_at r p)) there.0.slot there.1 there.2 there.0.used there.3, same_slots
-          (act.ReadMain r) tt p)
+      let there = link_there before word found g.0 (act.ReadMain r) r (one_named r) p in (
+        says_link before word found g.0 r there.0 (its ∙ ap (λ n. 2 * n) (its_slot act.ReadMain (λ q. refl) is_at r p)) there.0.slot there.1 there.2 there.0.used there.3,
+        same_slots
+            (act.ReadMain r) tt p,
+      )
 
 -- by none
 module _ (before : View) (name word found : ℕ) (after : View) (h : HasSeen before word found after) where

@@ -147,7 +147,7 @@ module _ (sizes : Sizes) (account : Account) (actor : ℕ) (operation : Operatio
   shape_kept k n says refs (of_branch bitmap entries) = of_branch bitmap entries
   shape_kept k n says refs (of_tomb single b is) =
       subst (λ p. SaysShape after k (Tomb single) (shape.Tomb (record { slot = p; own = b; is_single = true })))
-          (same_place single (refs single (Contains-get_or (single ∷ []) 0 single (omega arith))))
+      (same_place single (refs single (Contains-get_or (single ∷ []) 0 single (omega arith))))
       (of_tomb single b (owns k (slot_of single) b is))
   shape_kept k n says refs (of_list singles) = of_list singles
 

@@ -124,7 +124,7 @@ module _ (sizes : Sizes) (account : Account) (actor : ℕ) (operation : Operatio
   meaning_then handle found =
       means_kept account later words words handle (root_at (state_of sizes account) handle)
       (λ access q is. sym (place_then q (makes.names_not.roots handle q (subst (λ x. Contains (refs_of_root x) q) (sym is) (Contains-get_or (q ∷ []) 0 q (omega arith)))))) (λ k c. (c, refl))
-          (λ slot none. none) found
+      (λ slot none. none) found
 
   second_then : (o : Option Ref) → ((r : Ref) → Contains (refs_of_option o) r → slot_of r ≢ k0) → second_of account o ≡ second_of later o
   second_then None refs = refl

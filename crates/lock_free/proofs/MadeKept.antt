@@ -90,7 +90,7 @@ module _ (sizes : Sizes) (s : Table.State Call View) (kept : IsKept sizes s) (id
     slot_same : (b other : ℕ) → b < 3 → other ≢ name → IsTaken sizes s.words b other → (j : ℕ) → IsWordOf b other j → slice_index words_then j ≡ slice_index s.words j
     slot_same b other small_b differs taken j its =
         else_same j (λ same. differs (slots_apart sizes s.words kept.taken b (class_of node) other name last small_b (class_small node) taken is_spare.0
-            (subst (λ n. IsWordOf b other n) same its) inside_it).1)
+        (subst (λ n. IsWordOf b other n) same its) inside_it).1)
 
     -- the rule holds
     pub make_kept : IsKept sizes (record { words = words_then; homes = s.homes; views = set s.views id (made_by v (class_of node) name rest own node kept.account) })
@@ -117,7 +117,7 @@ module _ (sizes : Sizes) (s : Table.State Call View) (kept : IsKept sizes s) (id
     root_drafted : DraftsNode kept.account (state_of sizes kept.account).heap (over_of operation.line) (InTable s.words) name own node
     root_drafted =
         drafts_in kept.account (state_of sizes kept.account).heap (over_of operation.line) (AreDrafted v.drafts) (InTable s.words) name own node
-            (λ j w c. ((kept.seats id v at).drafts (j, w) c).0) drafted
+        (λ j w c. ((kept.seats id v at).drafts (j, w) c).0) drafted
 
     root_nodes : NodesStand sizes (made_at v.actor name own node kept.account) (stands_too (length kept.account.names) kept.stands) s.words
     root_nodes = nodes_then sizes kept.account v.actor operation name own node 1 makes kept.stands s.words all root_spare.0 root_spare.1 small root_drafted
@@ -137,11 +137,11 @@ module _ (sizes : Sizes) (s : Table.State Call View) (kept : IsKept sizes s) (id
         (length-set s.words generation_word (given_out + 1) ∙ kept.size)
         (λ c low. subst (λ n. n ≤ slots_in sizes c) (sym (beside (taken_word c) (λ e. absurd (omega (arith, e))))) (kept.taken c low))
         (let size = kept.size in let same = get_or-set_same s.words generation_word (given_out + 1) 0 (omega (arith, size)) in let before = kept.generations in let one = makes.generations in omega
-            (arith, same, before, one))
+        (arith, same, before, one))
         (nodes_below sizes (made_at v.actor name own node kept.account) (stands_too (length kept.account.names) kept.stands) s.words kept.taken root_nodes root_roots generation_word before_slots
-            (given_out + 1) root_taken)
+        (given_out + 1) root_taken)
         (roots_below sizes (made_at v.actor name own node kept.account) (stands_too (length kept.account.names) kept.stands) s.words kept.taken root_nodes root_roots generation_word before_slots
-            (given_out + 1) root_taken
+        (given_out + 1) root_taken
         (λ handle low e. (let where_it_is = root_below handle low in absurd (omega (arith, e, where_it_is.0)))))
 
     -- the rule holds
@@ -150,4 +150,4 @@ module _ (sizes : Sizes) (s : Table.State Call View) (kept : IsKept sizes s) (id
         made_kept sizes s kept id v at operation runs name own node 1 makes rest pool root_words root_made (λ a most. beside (pin_word a) (λ e. absurd (omega (arith, e))))
         (λ handle below. (let where_it_is = root_below handle below in beside (root_word handle) (λ e. absurd (omega (arith, e, where_it_is.0))))) root_taken
         (λ b other low differs taken j its. beside j (no_slot sizes kept.account kept.stands s.words kept.taken kept.nodes kept.roots generation_word before_slots
-            (given_out + 1) root_taken b other low taken j its)) unopened
+        (given_out + 1) root_taken b other low taken j its)) unopened

@@ -70,7 +70,7 @@ module _ (sizes : Sizes) (s : Table.State Call View) (kept : IsKept sizes s) (id
       subst (λ owned. HasWaited actor before (record { steps = kept.account.steps ++ step.Go v.actor ∷ []; names = kept.account.names ++ name ∷ []; owned = owned; offers = kept.account.offers }))
       (owned_is node)
       (waited_more actor before kept.account (step.Go v.actor ∷ []) (name ∷ []) (owned_more node) []
-          (All-cons (IsOfOther actor) (step.Go v.actor) [] (λ e. differs (sym e)) (All-nil (IsOfOther actor))) h)
+      (All-cons (IsOfOther actor) (step.Go v.actor) [] (λ e. differs (sym e)) (All-nil (IsOfOther actor))) h)
     where
       owned_more : Node → List Owned
       owned_more n = owned_with [] (length kept.account.names) own n
@@ -129,7 +129,7 @@ module _ (sizes : Sizes) (s : Table.State Call View) (kept : IsKept sizes s) (id
     pub made_kept : IsKept sizes (record { words = words_then; homes = s.homes; views = set s.views id view_then })
     made_kept =
         assembled sizes s kept id v at view_then refl refl account_then stands_then words_then made_all closings_then own_then
-            (other_kept sizes s kept id v at account_then stands_then words_then stays)
+        (other_kept sizes s kept id v at account_then stands_then words_then stays)
         (λ b other f. inl (was_free b other f).0)
         (numbers_stay sizes s kept id v at view_then refl refl account_then words_then (as_before makes.tries) (λ slot none. none) root_same refl
         (λ slot handle e free. (free.0, pool_still handle e slot free)))

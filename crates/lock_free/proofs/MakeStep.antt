@@ -59,8 +59,13 @@ module _ (before after : Account) (first later : Heap) (has : Has) (name : ℕ) 
     shape_stays (Listed singles) places = refl
 
     header_stays : (n : Node) (word : ℕ) → ((r : Ref) → Contains (refs_of_node n) r → place_of after r ≡ place_of before r) → DraftsHeader before over own n word → DraftsHeader after over own n word
-    header_stays n word places h = record { previous = h.previous; is_previous = over_stays over h.previous over_places h.is_previous; shape = h.shape; is_shape = shape_stays n places ∙ h.is_shape;
-        code = h.code }
+    header_stays n word places h = record {
+      previous = h.previous;
+      is_previous = over_stays over h.previous over_places h.is_previous;
+      shape = h.shape;
+      is_shape = shape_stays n places ∙ h.is_shape;
+      code = h.code;
+    }
 
     entries_stay : (entries : List Ref) → ((r : Ref) → Contains entries r → (place_of after r ≡ place_of before r) × (is_single (node_at later r) ≡ is_single (node_at first r))) →
         AreEntries before first has name entries → AreEntries after later has name entries
@@ -79,9 +84,11 @@ module _ (before after : Account) (first later : Heap) (has : Has) (name : ℕ) 
     pub drafts_stay : (n : Node) → ((r : Ref) → Contains (refs_of_node n) r → (place_of after r ≡ place_of before r) × (is_single (node_at later r) ≡ is_single (node_at first r))) →
         DraftsNode before first over has name own n →
         DraftsNode after later over has name own n
-    drafts_stay (Indirection generation main) same h =
-        (h.0, subst (λ p. has (2 * name) (link_code (record { generation = generation; main = record { slot = p; own = own } })))
-            (sym (same main (Contains-get_or (main ∷ []) 0 main (omega arith))).0) h.1)
+    drafts_stay (Indirection generation main) same h = (
+      h.0,
+      subst (λ p. has (2 * name) (link_code (record { generation = generation; main = record { slot = p; own = own } })))
+          (sym (same main (Contains-get_or (main ∷ []) 0 main (omega arith))).0) h.1,
+    )
     drafts_stay (Single key value) same h = h
     drafts_stay (Branch bitmap entries) same h = ((h.0.0, h.0.1, header_stays (Branch bitmap entries) h.0.0 (λ r c. (same r c).0) h.0.2), entries_stay entries.items same h.1)
     drafts_stay (Tomb single) same h = (h.0, h.1, header_stays (Tomb single) h.0 (λ r c. (same r c).0) h.2)
@@ -153,8 +160,15 @@ module _ (v : View) (word value : ℕ) (node : Node) (rest : List ℕ) (name : �
   pub sound_after : IsSound (words_of v.sizes) after
   sound_after =
       let all = all_made v.sizes s kept id v at o stays.1 name own node rest w.last w.small unopened makes word value inside_it drafts_there in
-      record { size = refl; range = kept.range.within; bounds = all.bounds; counted = all.counted; inside = all.nodes.inside; free = λ b n f.
-          (let g = was_free b n f in free_inside v s kept id at b n g) }
+      record {
+        size = refl;
+        range = kept.range.within;
+        bounds = all.bounds;
+        counted = all.counted;
+        inside = all.nodes.inside;
+        free = λ b n f.
+            (let g = was_free b n f in free_inside v s kept id at b n g);
+      }
 
   pub took_after : Took v there after
   took_after q runs = makes.own ∙ ap (λ x. Some (operation_after state x)) (same_Some o q (sym stays.1 ∙ runs))
@@ -166,8 +180,11 @@ make_allowed sizes size id me word value (node, rest, name, own, p, w) =
     (λ s kept at. (
       made_by me.0 (class_of node) name rest own node kept.account,
       kept_after me.0 word value node rest name own p w s kept id at,
-      ((kept.account, waited_so me.0 s kept id at, took_after me.0 word value node rest name own p w s kept id at, (node, rest, name, own, p, w, refl)),
-          sound_after me.0 word value node rest name own p w s kept id at, refl),
+      (
+        (kept.account, waited_so me.0 s kept id at, took_after me.0 word value node rest name own p w s kept id at, (node, rest, name, own, p, w, refl)),
+        sound_after me.0 word value node rest name own p w s kept id at,
+        refl,
+      ),
     ))
 
 -- its last word is free for the seat till then

@@ -1,6 +1,6 @@
 -- The exchange by which a seat marks a handle that it would close.
 use Rattle.history.specs.declared.calls.Call.{Call}
-use Rattle.std.proofs.Common.{◌≡◌, ◌≢◌, ◌==◌, ◌<◌, ◌^◌, inl, inr, ℕ, Bool, true, false, set, slice_index, Some, None, refl, sym, ap, subst, ◌∙◌, eq-eqb}
+use Rattle.std.proofs.Common.{◌≡◌, ◌==◌, ◌<◌, ◌^◌, inl, inr, ℕ, Bool, true, false, set, slice_index, None, refl, sym, ap, subst, ◌∙◌, eq-eqb}
 use Rattle.std.proofs.lemmas.Bool.{cases_eq, ne_eqb, true≢false, false≢true}
 use mathlib.Core.Option.{some, none}
 use lib.ListN.{get_elem?}
@@ -61,12 +61,12 @@ module _ (v : View) (handle : ℕ) (low : handle < 256) (small : v.actor < 2 ^ 8
   hits (word.Writable slot) fits plain e =
       let x = says (word.Writable slot) fits e in
       mark_kept v.sizes s kept id v at handle low Writable x.root x.is (word.ClosingWritable slot v.actor) (fits, small)
-          (subst (λ n. IsPlainWord Writable (place_of kept.account x.root) (word.ClosingWritable n v.actor)) (sym x.place) (is_closing_writable refl v.actor))
+      (subst (λ n. IsPlainWord Writable (place_of kept.account x.root) (word.ClosingWritable n v.actor)) (sym x.place) (is_closing_writable refl v.actor))
       (λ who h. says_who (word.ClosingWritable slot v.actor) who (fits, small) h) not_yet
   hits (word.ReadOnly slot) fits plain e =
       let x = says (word.ReadOnly slot) fits e in
       mark_kept v.sizes s kept id v at handle low ReadOnly x.root x.is (word.ClosingReadOnly slot v.actor) (fits, small)
-          (subst (λ n. IsPlainWord ReadOnly (place_of kept.account x.root) (word.ClosingReadOnly n v.actor)) (sym x.place) (is_closing_read_only refl v.actor))
+      (subst (λ n. IsPlainWord ReadOnly (place_of kept.account x.root) (word.ClosingReadOnly n v.actor)) (sym x.place) (is_closing_read_only refl v.actor))
       (λ who h. says_who (word.ClosingReadOnly slot v.actor) who (fits, small) h) not_yet
   hits w fits plain e = absurd (false≢true plain)
 
@@ -87,24 +87,22 @@ module _ (v : View) (handle : ℕ) (low : handle < 256) (small : v.actor < 2 ^ 8
 
     pub marks : (x : View) × Marked x
     marks = elim (cases_eq found old) [
-      | inl e ↦
-          (
-            marking v handle,
-            (
-              subst (λ ws. IsKept v.sizes (record { words = ws; homes = s.homes; views = set s.views id (marking v handle) }))
-                  (words_hit v s kept id at (root_word handle) old new e (root_word handle) refl)
+      | inl e ↦ (
+        marking v handle,
+        (
+          subst (λ ws. IsKept v.sizes (record { words = ws; homes = s.homes; views = set s.views id (marking v handle) }))
+              (words_hit v s kept id at (root_word handle) old new e (root_word handle) refl)
               (hits w fits plain e),
-              (λ x. refl, λ x. absurd (true≢false (sym (eq-eqb found old e) ∙ x))),
-            ),
-          )
-      | inr differs ↦
-          (
-            v,
-            (
-              subst (λ ws. IsKept v.sizes (record { words = ws; homes = s.homes; views = set s.views id v })) (words_miss v s kept id at (root_word handle) old new differs) misses,
-              (λ x. absurd (true≢false (sym x ∙ ne_eqb found old differs)), λ x. refl),
-            ),
-          )
+          (λ x. refl, λ x. absurd (true≢false (sym (eq-eqb found old e) ∙ x))),
+        ),
+      )
+      | inr differs ↦ (
+        v,
+        (
+          subst (λ ws. IsKept v.sizes (record { words = ws; homes = s.homes; views = set s.views id v })) (words_miss v s kept id at (root_word handle) old new differs) misses,
+          (λ x. absurd (true≢false (sym x ∙ ne_eqb found old differs)), λ x. refl),
+        ),
+      )
     ]
 
 pub mark_allowed : (sizes : Sizes) (size id : ℕ) (me : Me Call View) (handle : ℕ) → handle < 256 → me.0.actor < 2 ^ 8 → me.0.closing ≡ None → (w : RootWord) → IsRootWord w → is_unmarked w ≡ true →

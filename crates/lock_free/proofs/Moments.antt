@@ -210,7 +210,7 @@ module _ (v : View) (s : Table.State Call View) (kept : IsKept v.sizes s) (id : 
       (λ handle who low says. closing_stays v.sizes s kept id v at seen_view refl refl (λ h e. e) refl handle who (kept.closings handle who low says)) seen_seat
       (λ other w e apart. kept.seats other w e) (λ b n f. inl f)
       (numbers_stay v.sizes s kept id v at seen_view refl refl there s.words (no_tries there.offers (state_of v.sizes there)) (λ slot none. none) (λ handle low. refl) refl
-          (λ slot handle e free. free))
+      (λ slot handle e free. free))
 
   -- ---- a load that is the operation's step
 
@@ -231,8 +231,15 @@ module _ (v : View) (s : Table.State Call View) (kept : IsKept v.sizes s) (id : 
     gone_kept = kept_then v.sizes s kept id v at o_there here.1 reads
 
     pub gone_sound : IsSound (words_of v.sizes) gone_view
-    gone_sound = record { size = refl; range = kept.range.within; bounds = reads.bounds; counted = kept.counted ∙ sym reads.births; inside = λ k slot e. kept.nodes.inside k slot
-        (sym (reads.nodes k) ∙ e); free = free_inside }
+    gone_sound = record {
+      size = refl;
+      range = kept.range.within;
+      bounds = reads.bounds;
+      counted = kept.counted ∙ sym reads.births;
+      inside = λ k slot e. kept.nodes.inside k slot
+          (sym (reads.nodes k) ∙ e);
+      free = free_inside;
+    }
 
     pub gone_took : Took v there gone_view
     gone_took = took_by o_there here.1 (gone_on v.actor there) reads.own

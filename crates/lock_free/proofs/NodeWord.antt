@@ -86,9 +86,9 @@ module _ (sizes : Sizes) (s : Table.State Call View) (kept : IsKept sizes s) (id
   own_then =
       let seat = kept.seats id v at in
       own_kept sizes s kept id v at account_then kept.stands words_then stays operation (operation_after (state_of sizes kept.account) operation) runs own refl refl
-          (numbers_so sizes s kept account_then words_then (as_before tries) roots root_same id v at) all_then.counted
+      (numbers_so sizes s kept account_then words_then (as_before tries) roots root_same id v at) all_then.counted
       (pin_beside sizes kept.account kept.stands s.words all k slot stood i its value v.actor (omega (arith, seat.top, seat.most))) v.pool v.opening
-          (λ handle slot o n. (n, λ x. (root_same handle x.low, x.free.1))) v.drafts
+      (λ handle slot o n. (n, λ x. (root_same handle x.low, x.free.1))) v.drafts
       (λ b name free. (let x = seat.spare b name free in (stays.taken b name free.0 x.0, (spare_stays id v b name at free).0))) seat.once
       (λ d c. drafts_kept sizes s kept id v at account_then kept.stands words_then stays view_then d (seat.drafts d c) (λ b name free. (free, (spare_stays id v b name at free).1)))
 

@@ -61,8 +61,11 @@ module _ (sizes : Sizes) (size id : ℕ) (me : Me Call View) (class : ℕ) (smal
 
   module _ (s : Table.State Call View) (kept : IsKept v.sizes s) (at : get_elem? s.views id ≡ some v) where
     abbrev Taken : Type 0
-    Taken = (w : View) × IsKept v.sizes (record { words = set s.words word (either (slice_index s.words word == count) (count + 1) (slice_index s.words word)); homes = s.homes;
-        views = set s.views id w })
+    Taken = (w : View) × IsKept v.sizes (record {
+      words = set s.words word (either (slice_index s.words word == count) (count + 1) (slice_index s.words word));
+      homes = s.homes;
+      views = set s.views id w;
+    })
         × has_taken (step size word count (count + 1) none) me (slice_index s.words word) (w, me.1)
 
     took : slice_index s.words word ≡ count → Taken

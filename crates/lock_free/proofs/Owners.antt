@@ -117,9 +117,9 @@ module _ (sizes : Sizes) (account : Account) (actor : ℕ) (operation : Operatio
   with_held r there same =
       let low = makes.refs r there in
       owners_more account after (state_of sizes account) next h (record { holder = length account.names; held = slot_of r; is_own = own }) same (λ n below. omega (arith, below, longer))
-          (omega (arith, longer))
+      (omega (arith, longer))
       (omega (arith, low, longer)) (λ b o. (let made = (h.made (length account.names) (slot_of r) b o).0 in absurd (omega (arith, made))))
-          (λ i a f ahead. (not_named r there i a f ahead, not_said i a f ahead))
+      (λ i a f ahead. (not_named r there i a f ahead, not_said i a f ahead))
 
   owners_by : (n : Node) → n ≡ node → AreOwners after next
   owners_by (Indirection generation main) is =
@@ -128,7 +128,7 @@ module _ (sizes : Sizes) (account : Account) (actor : ℕ) (operation : Operatio
   owners_by (Single key value) is = nothing_more (ap (λ m. owned_with account.owned (length account.names) own m) (sym is))
   owners_by (Tomb single) is =
       with_held single (subst (λ m. Contains (refs_of_node m) single) is (Contains-get_or (single ∷ []) 0 single (omega arith)))
-          (ap (λ m. owned_with account.owned (length account.names) own m) (sym is))
+      (ap (λ m. owned_with account.owned (length account.names) own m) (sym is))
   owners_by (Listed singles) is = nothing_more (ap (λ m. owned_with account.owned (length account.names) own m) (sym is))
 
   pub owners_made : AreOwners after next

@@ -1,7 +1,7 @@
 -- The load of the next seat's pin, by a seat that would close a handle.
 use Rattle.history.specs.declared.calls.Call.{Call}
-use Rattle.std.proofs.Common.{◌≡◌, ◌≢◌, ◌==◌, ◌||◌, ◌<◌, ◌≤◌, ◌+◌, ◌⊎◌, inl, inr, ℕ, Bool, true, false, set, slice_index, Option, Some, None, refl, sym, ap, subst, ◌∙◌, eq-eqb, arith, if◌then◌else◌}
-use Rattle.std.proofs.lemmas.Bool.{cases_eq, ne_eqb, true≢false, false≢true}
+use Rattle.std.proofs.Common.{◌≡◌, ◌==◌, ◌||◌, ◌<◌, ◌≤◌, ◌+◌, ◌⊎◌, inl, inr, ℕ, Bool, true, false, set, slice_index, Some, refl, sym, ap, subst, ◌∙◌, eq-eqb, arith, if◌then◌else◌}
+use Rattle.std.proofs.lemmas.Bool.{cases_eq, ne_eqb, true≢false}
 use Rattle.std.proofs.lemmas.List.{set-get_or}
 use Rattle.std.proofs.lemmas.Option.{same_Some}
 use mathlib.Core.Option.{some, none}
@@ -51,15 +51,14 @@ module _ (v : View) (handle looked : ℕ) (low : handle < 256) (would : v.closin
 
   passes_by : (b : Bool) → is_passed v handle looked found ≡ b → (w : View) × Passed w
   passes_by true e = (passing v handle looked, (pass_kept v.sizes s kept id v at handle looked would (nobody e), (λ x. refl, λ x. absurd (true≢false (sym e ∙ x)))))
-  passes_by false e =
-      (
-        v,
-        (
-          seat_kept v.sizes s kept id v at v.entered v.closing (kept.seats id v at).entered (kept.seats id v at).calls
+  passes_by false e = (
+    v,
+    (
+      seat_kept v.sizes s kept id v at v.entered v.closing (kept.seats id v at).entered (kept.seats id v at).calls
           (λ g who below h. closing_at v.sizes s kept id v at v refl refl g who (λ x. x) (λ c x y z. x) (kept.closings g who below h)),
-          (λ x. absurd (true≢false (sym x ∙ e)), λ x. refl),
-        ),
-      )
+      (λ x. absurd (true≢false (sym x ∙ e)), λ x. refl),
+    ),
+  )
 
   pub passes : (w : View) × Passed w
   passes = passes_by (is_passed v handle looked found) refl
@@ -68,12 +67,14 @@ pub pass_allowed : (sizes : Sizes) (size id : ℕ) (me : Me Call View) (handle l
     Allows (IsKept sizes) size id me (pin_word (looked + 1)) (λ n. n) (has_passed (step size (pin_word (looked + 1)) 0 0 none) me)
 pass_allowed sizes size id me handle looked low would =
     allowed sizes size id me (pin_word (looked + 1)) (λ n. n) (has_passed (step size (pin_word (looked + 1)) 0 0 none) me)
-    (λ s kept at. (let x = passes me.0 handle looked low would s kept id at in
-    (
+    (λ s kept at. (let x = passes me.0 handle looked low would s kept id at in (
       x.0,
       subst (λ ws. IsKept me.0.sizes (record { words = ws; homes = s.homes; views = set s.views id x.0 })) (sym (set-get_or s.words (pin_word (looked + 1)) 0)) x.1.0,
-      (λ g n is here. subst (λ (c : Closing). HasPassed me.0 c.handle c.looked (is_passed me.0 c.handle c.looked (slice_index s.words (pin_word (looked + 1)))) x.0)
-      (same_Some (closes handle looked) (closes g n) (sym would ∙ is)) x.1.1, refl),
+      (
+        λ g n is here. subst (λ (c : Closing). HasPassed me.0 c.handle c.looked (is_passed me.0 c.handle c.looked (slice_index s.words (pin_word (looked + 1)))) x.0)
+            (same_Some (closes handle looked) (closes g n) (sym would ∙ is)) x.1.1,
+        refl,
+      ),
     )))
 
 -- what is sound stays so

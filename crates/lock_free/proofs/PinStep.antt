@@ -1,6 +1,6 @@
 -- A store to a seat's own word pins the seat, or takes its pin away.
 use Rattle.history.specs.declared.calls.Call.{Call}
-use Rattle.std.proofs.Common.{◌≡◌, ◌≢◌, ◌+◌, ◌-◌, ◌*◌, ◌/◌, ◌%◌, ◌^◌, ◌==◌, ◌<◌, ◌≤◌, ℕ, Bool, List, set, Option, Some, None, refl, sym, ap, subst, ◌∙◌, arith, ne_eqb, if◌then◌else◌}
+use Rattle.std.proofs.Common.{◌≡◌, ◌≢◌, ◌+◌, ◌-◌, ◌*◌, ◌/◌, ◌%◌, ◌^◌, ◌<◌, ℕ, set, Option, Some, None, refl, sym, ap, subst, ◌∙◌, arith, ne_eqb, if◌then◌else◌}
 use mathlib.Core.Option.{some, none}
 use lib.ListN.{get_elem?}
 use Rattle.atomic_table.specs.Table.{Me, Allows, step}
@@ -11,7 +11,7 @@ use Rattle.machine_model.specs.States.{operation_of}
 use Rattle.lock_free.specs.declared.rules.View.{View}
 use Rattle.lock_free.specs.declared.sizes.Sizes.{Sizes}
 use Rattle.lock_free.specs.Accounts.{state_of}
-use Rattle.lock_free.specs.Loading.{now, IsSound}
+use Rattle.lock_free.specs.Loading.{IsSound}
 use Rattle.lock_free.specs.Places.{pin_word}
 use Rattle.lock_free.specs.Rules.{IsKept, pin_word_of}
 use Rattle.lock_free.specs.SeatWords.{IsIdle, pinned_to, has_pinned}
@@ -41,10 +41,12 @@ pub pin_allowed : (sizes : Sizes) (size id : ℕ) (me : Me Call View) (pin : Opt
     Allows (IsKept sizes) size id me (pin_word me.0.actor) (λ n. value) (λ n. has_pinned (step size (pin_word me.0.actor) value 0 none) me value)
 pin_allowed sizes size id me pin value code back idle =
     allowed sizes size id me (pin_word me.0.actor) (λ n. value) (λ n. has_pinned (step size (pin_word me.0.actor) value 0 none) me value)
-    (λ s kept at.
-    (pinned_to me.0 pin,
-    subst (λ x. IsKept me.0.sizes (record { words = set s.words (pin_word me.0.actor) x; homes = s.homes; views = set s.views id (pinned_to me.0 pin) })) code
-    (pin_kept me.0.sizes s kept id me.0 at (idle_there me.0 s kept id at idle) pin), ap (λ p. (pinned_to me.0 p, me.1)) (sym back)))
+    (λ s kept at. (
+      pinned_to me.0 pin,
+      subst (λ x. IsKept me.0.sizes (record { words = set s.words (pin_word me.0.actor) x; homes = s.homes; views = set s.views id (pinned_to me.0 pin) })) code
+          (pin_kept me.0.sizes s kept id me.0 at (idle_there me.0 s kept id at idle) pin),
+      ap (λ p. (pinned_to me.0 p, me.1)) (sym back),
+    ))
 
 -- what is sound stays so
 pub pin_sound : (words : ℕ) (v : View) (pin : Option Pin) → IsSound words v → IsSound words (pinned_to v pin)

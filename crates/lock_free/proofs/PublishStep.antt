@@ -158,7 +158,7 @@ module _ (v : View) (i replaced made : Ref) (p : IsAt v (act.Publish i replaced 
     free_then b n low (inl old) = free_inside v s kept id at b n (low, old)
     free_then b n low (inr w) =
         subst (λ c. 2 * n + words_in c ≤ words_of v.sizes) w.class (subst (λ x. 2 * x + words_in (class_of w.slot.node) ≤ words_of v.sizes) w.place
-            (kept.nodes.inside (slot_of w.node) w.slot w.stood.1))
+        (kept.nodes.inside (slot_of w.node) w.slot w.stood.1))
 
     module _ (leads : Leads v.sizes there (gone_on v.actor there) v.actor (is_one_of o.private) (operation_after state o)) where
       abbrev GivenUp : ℕ → ℕ → Type 0
@@ -173,11 +173,17 @@ module _ (v : View) (i replaced made : Ref) (p : IsAt v (act.Publish i replaced 
       drops differs = (
         subst (λ ws. IsKept v.sizes (record { words = ws; homes = s.homes; views = set s.views id dropped })) (words_miss v s kept id at word old new differs)
             (drop_kept v.sizes s kept id v at o (operation_after state o) runs (machine.Go v.actor) tt (λ a d e. d (sym e)) (is_one_of o.private) leads refl refl
-                (given_back state there o.private v.pool) fit.once fit.more
+            (given_back state there o.private v.pool) fit.once fit.more
             (λ b n low c. was_given b n (fit.which b n low c))),
         (
-          record { size = refl; range = kept.range.within; bounds = leads.bounds; counted = kept.counted ∙ sym leads.births; inside = λ k slot e. kept.nodes.inside k slot (sym (leads.nodes k) ∙ e);
-              free = λ b n f. free_then b n f.0 (fit.which b n f.0 f.1) },
+          record {
+            size = refl;
+            range = kept.range.within;
+            bounds = leads.bounds;
+            counted = kept.counted ∙ sym leads.births;
+            inside = λ k slot e. kept.nodes.inside k slot (sym (leads.nodes k) ∙ e);
+            free = λ b n f. free_then b n f.0 (fit.which b n f.0 f.1);
+          },
           λ q runs_q. leads.own ∙ ap (λ x. Some (operation_after state x)) (same_Some o q (sym runs ∙ runs_q)),
         ),
       )
@@ -204,7 +210,7 @@ published_in action = (no_ref, (no_ref, no_ref))
 
 swapped_so : (before : View) (account : Account) (stood : Bool) (after : View) (i replaced made : Ref) (p : IsAt before (act.Publish i replaced made)) →
     (main_at (now (seen before account)).heap i == replaced) ≡ stood → (stood ≡ true → after ≡ seen before (swapped_in before.actor i made account)) →
-        (stood ≡ false → after ≡ given_up before account p.operation.private) →
+    (stood ≡ false → after ≡ given_up before account p.operation.private) →
     HasSwapped before account stood after
 swapped_so before account stood after i replaced made p first hit_is miss_is j other g q =
     let same = ap published_in (same_action before (act.Publish i replaced made) (act.Publish j other g) p q) in (

@@ -74,8 +74,11 @@ module _ (sizes : Sizes) (account : Account) (actor : ℕ) (operation : Operatio
 
   pub not_of_offer : (x : Known) → Contains account.offers x → (j : ℕ) → IsWordOf 1 x.slot j → j ≢ its_word
   not_of_offer x c j w same =
-      absurd (omega (arith, (slots_apart sizes words all.taken 1 0 x.slot (place_of account i) its_word (omega arith) (omega arith) (all.roots.blocks x c) link_taken
-          (subst (λ n. IsWordOf 1 x.slot n) same w) its_slot).0))
+      absurd (omega (
+        arith,
+        (slots_apart sizes words all.taken 1 0 x.slot (place_of account i) its_word (omega arith) (omega arith) (all.roots.blocks x c) link_taken
+            (subst (λ n. IsWordOf 1 x.slot n) same w) its_slot).0,
+      ))
 
   -- what stands then stood before: the indirection, the fresh node, or another one
   pub data Which (k : ℕ) (slot : Slot) : Type 0 where
@@ -102,9 +105,13 @@ module _ (sizes : Sizes) (account : Account) (actor : ℕ) (operation : Operatio
     ap (λ (x : Slot). class_of x.node) is ∙ sym link_class,
     ap (λ (x : Slot). length (entries_of x.node)) is ∙ sym (ap (λ n. length (entries_of n)) publishes.link_node),
   )
-  before k slot (is_fresh at_fresh is) =
-      (publishes.fresh, ap (λ n. get_or (state_of sizes account).heap.slots n None) at_fresh ∙ publishes.fresh_is, ap (λ (x : Slot). class_of x.node) is, ap
-          (λ (x : Slot). length (entries_of x.node)) is)
+  before k slot (is_fresh at_fresh is) = (
+    publishes.fresh,
+    ap (λ n. get_or (state_of sizes account).heap.slots n None) at_fresh ∙ publishes.fresh_is,
+    ap (λ (x : Slot). class_of x.node) is,
+    ap
+        (λ (x : Slot). length (entries_of x.node)) is,
+  )
   before k slot (is_else other another e) = (slot, e, refl, refl)
 
   inside_words : its_word < length words
@@ -121,7 +128,7 @@ module _ (sizes : Sizes) (account : Account) (actor : ℕ) (operation : Operatio
   written_by k slot h (is_link at_link is) =
       subst (λ (x : Slot). StandsAs later (state_of sizes later) (InTable words_then) (place_at later k) k x x.node) (sym is)
       (subst (λ n. StandsAs later (state_of sizes later) (InTable words_then) (place_at later n) n (with_main_of publishes.link publishes.generation f) (Indirection publishes.generation f))
-          (sym at_link)
+      (sym at_link)
       (link_written.0, (true, first _ account.owned, get_or-set_same words its_word new_word 0 inside_words)))
   written_by k slot h (is_fresh at_fresh is) =
       let stood : Stands stands (state_of sizes account) (slot_of f) publishes.fresh = (ap stands (sym at_fresh) ∙ h, publishes.fresh_is) in
@@ -167,9 +174,12 @@ module _ (sizes : Sizes) (account : Account) (actor : ℕ) (operation : Operatio
       record {
         means = λ handle low.
             subst (λ rs. MeansRoot later words_then handle (slice_index words_then (root_word handle)) (get_or rs handle None)) (sym publishes.roots)
-                (meaning_then handle _ (root_at (state_of sizes account) handle) (roots.means handle low));
-        offers = λ k c. (let h = roots.offers k c in record { olds = h.olds; news = h.news ∙ ap (λ n. pair_code (record { low = place_of account k.offer.successor; high = n }))
-            (second_then k.offer.second) });
+            (meaning_then handle _ (root_at (state_of sizes account) handle) (roots.means handle low));
+        offers = λ k c. (let h = roots.offers k c in record {
+          olds = h.olds;
+          news = h.news ∙ ap (λ n. pair_code (record { low = place_of account k.offer.successor; high = n }))
+              (second_then k.offer.second);
+        });
         blocks = roots.blocks;
         single = roots.single;
         pending = roots.pending;

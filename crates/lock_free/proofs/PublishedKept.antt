@@ -40,6 +40,6 @@ module _ (sizes : Sizes) (s : Table.State Call View) (kept : IsKept sizes s) (id
   })
   publish_kept =
       node_word_kept sizes s kept id v at operation runs (slot_of i) publishes.link (link_stands sizes kept.account v.actor operation i a f publishes kept.stands s.words all here)
-          (2 * place_of kept.account i)
+      (2 * place_of kept.account i)
       (first_word publishes.link.node (place_of kept.account i)) (new_word sizes kept.account v.actor operation i a f publishes kept.stands s.words all here) (owned_now i f ∷ [])
       (all_then sizes kept.account v.actor operation i a f publishes kept.stands s.words all here) spare_then publishes.roots publishes.others publishes.own publishes.tries

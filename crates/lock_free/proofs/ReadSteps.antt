@@ -118,8 +118,12 @@ module _ (state : State) (operation : Operation) where
   completes : (offer : Descriptor) (l : CompleteLine) (r : Read) → completing_read offer l ≡ Some r → IsRead (line.Root (root.Completing (record { offer = offer; line = l }))) r
   completes offer (complete.Reading x) r is =
       by_same _ (record { indirection = offer.root; line = x }) r is
-      (record { acts = refl; leads = root_leads offer (complete.Reading x) (out_of (record { indirection = offer.root; line = x })); generation = root_generation offer
-          (out_of (record { indirection = offer.root; line = x })) })
+      (record {
+        acts = refl;
+        leads = root_leads offer (complete.Reading x) (out_of (record { indirection = offer.root; line = x }));
+        generation = root_generation offer
+            (out_of (record { indirection = offer.root; line = x }));
+      })
   completes offer (complete.Swap main) r is = absurd (none-some r is)
 
   climb_completes : (c : Climb) (offer : Descriptor) (l : CompleteLine) (r : Read) → completing_read offer l ≡ Some r →

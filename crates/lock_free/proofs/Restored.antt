@@ -209,9 +209,12 @@ module _ (sizes : Sizes) (account : Account) (actor : ℕ) (operation : Operatio
       record {
         means = λ handle low.
             subst (λ rs. MeansRoot account_then words_then handle (slice_index words_then (root_word handle)) (get_or rs handle None)) (sym restores.roots)
-                (meaning_then handle _ (root_at now handle) (over.means handle low));
-        offers = λ k c. (let h = over.offers k c in record { olds = h.olds; news = h.news ∙ ap (λ n. pair_code (record { low = place_of account k.offer.successor; high = n }))
-            (second_then k.offer.second) });
+            (meaning_then handle _ (root_at now handle) (over.means handle low));
+        offers = λ k c. (let h = over.offers k c in record {
+          olds = h.olds;
+          news = h.news ∙ ap (λ n. pair_code (record { low = place_of account k.offer.successor; high = n }))
+              (second_then k.offer.second);
+        });
         blocks = over.blocks;
         single = over.single;
         pending = over.pending;

@@ -75,7 +75,7 @@ module _ (before middle : View) (way : Way) (link : Link) (header : Header) (lic
         come_on before middle after (read.Decide main replaced told.0) (after_decide main (verdict_by licensed stood)) told.1
         (came middle after i (read.Decide main replaced told.0) deciding its_later g.0 (after_decide main (verdict_by licensed stood))
         (λ o r. ap (λ a. after_decide main (verdict_by a (is_pending (prev_at (now (seen middle g.0.account)).heap main) replaced))) (x.1 ∙ told.2) ∙ ap
-            (λ b. after_decide main (verdict_by licensed b)) x.0))
+        (λ b. after_decide main (verdict_by licensed b)) x.0))
 
     link_then : KnowsLink after i main link
     link_then = link_later middle after its_later i main link link_now
@@ -180,7 +180,7 @@ module _ (before : View) (indirection : ℕ) (link : Link) (former : Name) (f : 
         let used = f.7.0 in
         let o = at_it.operation in
         let stands = main_stands before.sizes before.account sound.bounds before.actor o at_it.runs old
-            (subst (λ a. Contains (mains_of a) old) (sym at_it.acts) (Contains-get_or (main0 ∷ old ∷ []) 1 old (omega arith))) in
+        (subst (λ a. Contains (mains_of a) old) (sym at_it.acts) (Contains-get_or (main0 ∷ old ∷ []) 1 old (omega arith))) in
         let is = same_Some stands.1.0 used.0 (sym stands.1.1 ∙ used.1) in
         let v = seen before g.0.account in
         let x = later0.nodes old used.0 used.1 in

@@ -56,8 +56,12 @@ module _ (why : Purpose) (i a f : Ref) where
   -- it swaps the fresh node in, or doesn't
   abbrev published : State → Operation → Bool → Bool → Operation
   published state o mark stood =
-      record o { private = []; is_marked = mark; line = after_swap state (record o { is_marked = mark; line = at_line swap.Publish }) why
-          (record { indirection = i; replaced = a; fresh = f; line = swap.Publish }) (on_line (record { indirection = i; replaced = a; fresh = f; line = swap.Publish }) (after_publish f stood)) }
+      record o {
+        private = [];
+        is_marked = mark;
+        line = after_swap state (record o { is_marked = mark; line = at_line swap.Publish }) why
+            (record { indirection = i; replaced = a; fresh = f; line = swap.Publish }) (on_line (record { indirection = i; replaced = a; fresh = f; line = swap.Publish }) (after_publish f stood));
+      }
 
   first_step : (state : State) (o : Operation) (mark stood : Bool) → o.line ≡ at_line swap.Publish → (main_at state.heap i == a) ≡ stood → operation_after state
       (record o { is_marked = mark }) ≡ published state o mark stood
@@ -77,7 +81,11 @@ module _ (why : Purpose) (i a f : Ref) where
   pub checks : (state : State) (o : Operation) (mark : Bool) (done : Bool) → is_none (prev_at state.heap f) ≡ done →
       operation_after state (record (swap_on why i a f swap.Check o) { is_marked = mark }) ≡ record (swap_done why (node_at state.heap f) done o) { is_marked = mark }
   checks state o mark done is =
-      ap (λ z. record o { private = []; is_marked = mark; line = after_swap state (record (swap_on why i a f swap.Check o) { is_marked = mark }) why
-          (record { indirection = i; replaced = a; fresh = f; line = swap.Check }) (on_line (record { indirection = i; replaced = a; fresh = f; line = swap.Check }) z) })
+      ap (λ z. record o {
+        private = [];
+        is_marked = mark;
+        line = after_swap state (record (swap_on why i a f swap.Check o) { is_marked = mark }) why
+            (record { indirection = i; replaced = a; fresh = f; line = swap.Check }) (on_line (record { indirection = i; replaced = a; fresh = f; line = swap.Check }) z);
+      })
       (check_gives (prev_at state.heap f) ∙ ap Gives is)
       ∙ ap (λ l. record o { private = []; is_marked = mark; line = l }) (same_call why (node_at state.heap f) done o [] (at_line swap.Check) mark)

@@ -130,8 +130,11 @@ module _ (sizes : Sizes) (s : Table.State Call View) (kept : IsKept sizes s) (id
   own_spare : (b other : ℕ) → IsFree view_then b other → IsTaken sizes words_then b other × IsSpare sizes kept.account kept.stands other
   own_spare b other free = elim (was_free v.pool class name small b other free.0 free.1) [
     | inl old ↦ (let x = seat.spare b other (free.0, old) in (taken_then b other free.0 x.0, x.1))
-    | inr new ↦ (subst (λ n. IsTaken sizes words_then b n) new.1 (subst (λ c. IsTaken sizes words_then c name) (sym new.0) new_taken), subst
-        (λ n. IsSpare sizes kept.account kept.stands n) new.1 new_spare)
+    | inr new ↦ (
+      subst (λ n. IsTaken sizes words_then b n) new.1 (subst (λ c. IsTaken sizes words_then c name) (sym new.0) new_taken),
+      subst
+          (λ n. IsSpare sizes kept.account kept.stands n) new.1 new_spare,
+    )
   ]
 
   drafted : (d : ℕ × ℕ) → AreDrafts s.words v d → AreDrafts words_then view_then d
@@ -145,9 +148,9 @@ module _ (sizes : Sizes) (s : Table.State Call View) (kept : IsKept sizes s) (id
   own_then : IsSeat sizes kept.account kept.stands words_then view_then
   own_then =
       own_still sizes s kept id v at words_then stays (numbers_so sizes s kept kept.account words_then (no_tries kept.account.offers (state_of sizes kept.account)) refl root_same id v at)
-          (pin_same v.actor) view_then.pool v.drafts own_spare
+      (pin_same v.actor) view_then.pool v.drafts own_spare
       (once_with v.pool class name small seat.once (λ c. not_taken class small (seat.spare class name (small, c)).0)) (λ d c. drafted d (seat.drafts d c))
-          (λ handle slot y. (root_same handle y.low, free_still v.pool class name small 1 slot y.free.0 y.free.1))
+      (λ handle slot y. (root_same handle y.low, free_still v.pool class name small 1 slot y.free.0 y.free.1))
 
   free_then : (b other : ℕ) → IsFree view_then b other → IsFree v b other ⊎ ((n : ℕ) (w : View) (c : ℕ) → get_elem? s.views n ≡ some w → (n ≡ id → ⊥) → IsFree w c other → ⊥)
   free_then b other free = elim (was_free v.pool class name small b other free.0 free.1) [
@@ -165,4 +168,4 @@ module _ (sizes : Sizes) (s : Table.State Call View) (kept : IsKept sizes s) (id
       assembled sizes s kept id v at view_then refl refl kept.account kept.stands words_then all_then closings_then own_then (other_kept sizes s kept id v at kept.account kept.stands words_then stays)
       free_then
       (numbers_stay sizes s kept id v at view_then refl refl kept.account words_then (no_tries kept.account.offers (state_of sizes kept.account)) (λ slot none. none) root_same refl
-          (λ slot handle e free. (free.0, free_still v.pool class name small 1 slot free.0 free.1)))
+      (λ slot handle e free. (free.0, free_still v.pool class name small 1 slot free.0 free.1)))

@@ -132,7 +132,7 @@ module _ (v : View) (word found : ℕ) (m : Moment v word found) (i main replace
   places r c =
       live_place v m.table m.kept m.id m.at r
       (from_slot main r main_is.0.was_live (subst (λ x. Contains (refs_of_slot x) r) (sym over.stores)
-          (Contains-append_left (refs_of_node over.slot.node) (refs_of_prev over.slot.prev) r (subst (λ n. Contains (refs_of_node n) r) same_node c))))
+      (Contains-append_left (refs_of_node over.slot.node) (refs_of_prev over.slot.prev) r (subst (λ n. Contains (refs_of_node n) r) same_node c))))
 
   -- it is what the header says
   pub shape_now : (s : Shape) → SaysShape account (slot_of main) slot.node s → s ≡ header.shape
@@ -146,7 +146,7 @@ module _ (v : View) (word found : ℕ) (m : Moment v word found) (i main replace
   previous_now says is stands h =
       let x = pending_says account state (slot_of main) slot.prev says replaced is h in
       let own = m.kept.nodes.owners.once (slot_of i) (slot_of replaced) x.0 over.name.own (x.1 i (ap slot_of stands))
-          (still_own v m.table m.kept m.id m.at (slot_of i) (slot_of replaced) over.name.own over.names.is_own) in
+      (still_own v m.table m.kept m.id m.at (slot_of i) (slot_of replaced) over.name.own over.names.is_own) in
       x.2 ∙ ap (λ n. previous.Pending (record { slot = n; own = x.0 })) (its_place v m.table m.kept m.id m.at replaced former_is ∙ over.names.place)
       ∙ ap (λ b. previous.Pending (record { slot = over.name.slot; own = b })) own ∙ sym over.says
 

@@ -109,4 +109,4 @@ HasPublished before stood after = (account : Account) × Waited before account �
 abbrev pub has_published : Step Call → Me Call View → ℕ → Me Call View → Type 0
 has_published step before found after =
     ((m : Moment before.0 step.word found) × Took before.0 m.kept.account after.0 × HasSwapped before.0 m.kept.account (found == step.first) after.0) × IsSound (words_of before.0.sizes) after.0 ×
-        (after.1 ≡ before.1)
+    (after.1 ≡ before.1)

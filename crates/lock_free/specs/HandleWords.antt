@@ -1,6 +1,6 @@
 -- What accesses of handles' words ask and tell.
 use Rattle.history.specs.declared.calls.Call.{Call}
-use Rattle.std.specs.Prelude.{◌≡◌, ◌==◌, ◌<◌, ◌+◌, ◌*◌, ◌≤◌, ◌⊎◌, ℕ, Bool, true, false, Contains, Some, None}
+use Rattle.std.specs.Prelude.{◌≡◌, ◌==◌, ◌+◌, ◌*◌, ◌≤◌, ◌⊎◌, ℕ, Bool, true, false, Contains, Some, None}
 use Rattle.atomic_table.specs.Table.{Me, Step}
 use Rattle.trie_words.specs.Codes.{IsRootWord, root_of}
 use Rattle.trie_words.specs.declared.pins.Pin.{Pin}

@@ -145,7 +145,7 @@ SaysValue state r found = (slot : Slot) (key value : ℕ) → Stores state r slo
 abbrev pub SaysPair : Account → State → Ref → ℕ → Pair → Type 0
 SaysPair account state r position pair =
     (slot : Slot) (n : ℕ) (e : Ref) → Stores state r slot → is_branch_or_list slot.node ≡ true → n / 2 ≡ position / 2 → slice_get (entries_of slot.node) n ≡ Some e → IsEntryOf account state.heap e
-        (half_in pair n)
+    (half_in pair n)
 
 -- ---- what loads ask and tell
 

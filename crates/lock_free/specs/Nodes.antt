@@ -104,7 +104,7 @@ pub record SaysHeader (account : Account) (state : State) (k : ℕ) (slot : Slot
 abbrev pub StandsAs : Account → State → Has → ℕ → ℕ → Slot → Node → Type 0
 StandsAs account state has name k slot (Indirection generation main) =
     (generation < 2 ^ 36) × ((own : Bool) × OwnIs account.owned k (slot_of main) own × has (2 * name)
-        (link_code (record { generation = generation; main = record { slot = place_of account main; own = own } })))
+    (link_code (record { generation = generation; main = record { slot = place_of account main; own = own } })))
 StandsAs account state has name k slot (Single key value) = has (2 * name) key × has (2 * name + 1) value
 StandsAs account state has name k slot (Branch bitmap entries) =
     ((word : ℕ) × has (2 * name) word × SaysHeader account state k slot word) × AreEntries account state.heap has name entries.items

@@ -145,7 +145,7 @@ HasLicense before way link licensed after = (i main replaced : Ref) → IsReadin
 abbrev pub IsAsking : View → ℕ → Type 0
 IsAsking v handle =
     (i : Ref) × (main : Ref) × (replaced : Ref) × (operation : Operation) × Runs v operation × (read_of operation.line ≡ Some (record { indirection = i; line = read.AskRoot main replaced })) ×
-        (handle_of operation.call ≡ handle)
+    (handle_of operation.call ≡ handle)
 
 abbrev pub HasAsked : View → Option ℕ → View → Type 0
 HasAsked before told after = (i main replaced : Ref) → IsReading before i (read.AskRoot main replaced) → HasCome (Goes (read.Decide main replaced told)) before after

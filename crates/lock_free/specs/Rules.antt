@@ -34,8 +34,19 @@ abbrev pub first_account : Account
 first_account = record { steps = []; names = []; owned = []; offers = [] }
 
 abbrev pub first_view : Sizes → View
-first_view sizes = record { sizes = sizes; actor = 1; last = sizes.seats; account = first_account; pin = None; entered = None; closing = None; opens = None; opening = None;
-    pool = record { small = []; medium = []; wide = [] }; drafts = [] }
+first_view sizes = record {
+  sizes = sizes;
+  actor = 1;
+  last = sizes.seats;
+  account = first_account;
+  pin = None;
+  entered = None;
+  closing = None;
+  opens = None;
+  opening = None;
+  pool = record { small = []; medium = []; wide = [] };
+  drafts = [];
+}
 
 -- no number stands twice
 abbrev pub Once : List ℕ → Type 0

@@ -50,4 +50,4 @@ abbrev pub HasSwapDone : View → Swapped → View → Type 0
 HasSwapDone before result after =
     LeavesOwn before result after
     × ((why : Purpose) (i replaced made : Ref) → IsSwapping before why i replaced made → (o : Operation) → Runs before o → Runs after
-        (swap_done why (node_at (now before).heap made) (is_done result) o))
+    (swap_done why (node_at (now before).heap made) (is_done result) o))

@@ -1,13 +1,11 @@
 -- While others take steps, an actor that runs nothing runs nothing.
-use Rattle.std.proofs.Common.{◌≡◌, ◌+◌, ◌++◌, ℕ, zero, suc, length, List, [], ◌∷◌, All, Option, Some, None, get_or, refl, sym, ap, subst, ◌∙◌, append-nil}
+use Rattle.std.proofs.Common.{◌≡◌, ◌+◌, ◌++◌, ℕ, zero, suc, length, List, [], ◌∷◌, All, Option, Some, None, refl, sym, ap, subst, ◌∙◌, append-nil}
 use Rattle.std.proofs.lemmas.List.Elements.{All-head, All-tail}
 use Rattle.std.proofs.lemmas.Option.{none-some}
 use Rattle.machine_model.specs.declared.operations.Operation.{Operation}
-use Rattle.machine_model.specs.declared.steps.Outcome.{Outcome}
 use Rattle.machine_model.specs.declared.steps.Step.{Step}
 use Rattle.machine_model.specs.declared.steps.Step.TheVariants as step
 use Rattle.machine_model.specs.Machine.{AreBounds, run, run_from, next_state}
-use Rattle.machine_model.specs.Moves.{Moves}
 use Rattle.machine_model.specs.States.{State, operation_of}
 use Rattle.machine_model.proofs.Actors.{IsOf, of_others}
 use Rattle.machine_model.proofs.Along.{run-append, kept_by_moves}

@@ -21,14 +21,14 @@ compare_exchange-requires c =
           (header_code (decided_header c.args.is_licensed c.args.header))
           c.to_word-pending.result c.to_word-decided.result c.to_word-pending.ensures (c.to_word-decided.ensures ∙ ap header_code c.once_decided.ensures)
           (decide_allowed c.args.words.now.key c.args.words.now.table_id.slots c.args.actor.now.id c.args.actor.now.me c.args.main c.args.header c.requires.fits c.args.is_licensed
-              c.requires.deciding),
+          c.requires.deciding),
     )
 
 pub returns-clause-decided : goal.returns-clause-decided
 returns-clause-decided c =
     subst (λ n. HasDecided c.args.actor.now.me.0 (c.compare_exchange.result == n) c.compare_exchange.new.seat.me.0) (sym c.to_word-pending.ensures)
     (decide_told c.args.actor.now.me.0 c.args.main c.args.header c.requires.fits c.args.is_licensed c.requires.deciding c.compare_exchange.result c.compare_exchange.new.seat.me.0
-        c.compare_exchange.ensures.2.0)
+    c.compare_exchange.ensures.2.0)
 
 pub returns-clause-sound : goal.returns-clause-sound
 returns-clause-sound c = subst (λ n. IsSound n c.compare_exchange.new.seat.me.0) (sym c.requires.sound.size) c.compare_exchange.ensures.2.1

@@ -28,9 +28,9 @@ compare_exchange-requires c =
       (both_inside c.args.words.now.table_id.words v c.requires.sound i c.args.indirection live place).0,
       publish_by c.args.words.now.key c.args.words.now.table_id.slots c.args.actor.now.id c.args.actor.now.me (2 * c.args.indirection) (link_code c.args.link)
           (link_code (record { generation = c.args.link.generation; main = record { slot = c.args.fresh; own = true } })) c.to_word-before.result c.to_word-swapped.result c.to_word-before.ensures
-              c.to_word-swapped.ensures
+          c.to_word-swapped.ensures
           (publish_allowed c.args.words.now.key c.args.words.now.table_id.slots c.args.actor.now.id c.args.actor.now.me c.args.indirection c.args.link c.requires.fits c.args.fresh
-              c.requires.publishing),
+          c.requires.publishing),
     )
 
 pub returns-clause-published : goal.returns-clause-published

@@ -20,14 +20,14 @@ compare_exchange-requires c =
       exchange_by c.args.words.now.key c.args.words.now.table_id.slots c.args.actor.now.id c.args.actor.now.me (2 * c.args.indirection) (link_code c.args.link)
           (link_code (record { generation = c.args.link.generation; main = c.args.former })) c.to_word-failed.result c.to_word-restored.result c.to_word-failed.ensures c.to_word-restored.ensures
           (restore_allowed c.args.words.now.key c.args.words.now.table_id.slots c.args.actor.now.id c.args.actor.now.me c.args.indirection c.args.link c.requires.fits c.args.former
-              c.requires.restoring),
+          c.requires.restoring),
     )
 
 pub returns-clause-restored : goal.returns-clause-restored
 returns-clause-restored c =
     subst (λ n. HasRestored c.args.actor.now.me.0 (c.compare_exchange.result == n) c.compare_exchange.new.seat.me.0) (sym c.to_word-failed.ensures)
     (restore_told c.args.actor.now.me.0 c.args.indirection c.args.link c.requires.fits c.args.former c.requires.restoring c.compare_exchange.result c.compare_exchange.new.seat.me.0
-        c.compare_exchange.ensures.2.0)
+    c.compare_exchange.ensures.2.0)
 
 pub returns-clause-sound : goal.returns-clause-sound
 returns-clause-sound c = subst (λ n. IsSound n c.compare_exchange.new.seat.me.0) (sym c.requires.sound.size) c.compare_exchange.ensures.2.1

@@ -23,8 +23,10 @@ returns-clause-read c =
     let after = c.load.new.seat.me.0 in
     let word = 2 * c.args.indirection in
     let gone = c.load.ensures.2.0 in
-    subst (λ x. HasLookedAtLink v x after) (sym c.of_word.ensures) (went v c.args.indirection word c.load.result after gone,
-        looked_link v c.args.indirection word c.load.result after gone c.requires.looking refl)
+    subst (λ x. HasLookedAtLink v x after) (sym c.of_word.ensures) (
+      went v c.args.indirection word c.load.result after gone,
+      looked_link v c.args.indirection word c.load.result after gone c.requires.looking refl,
+    )
 
 pub returns-clause-sound : goal.returns-clause-sound
 returns-clause-sound c = subst (λ n. IsSound n c.load.new.seat.me.0) (sym c.requires.sound.size) c.load.ensures.2.1

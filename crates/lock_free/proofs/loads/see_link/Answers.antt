@@ -19,8 +19,10 @@ returns-clause-seen c =
     let after = c.load.new.seat.me.0 in
     let word = 2 * c.args.indirection in
     let seen = c.load.ensures.2.0 in
-    subst (λ x. HasSeenLink v c.args.indirection x after) (sym c.of_word.ensures) (saw v c.args.indirection word c.load.result after seen,
-        seen_link v c.args.indirection word c.load.result after seen refl)
+    subst (λ x. HasSeenLink v c.args.indirection x after) (sym c.of_word.ensures) (
+      saw v c.args.indirection word c.load.result after seen,
+      seen_link v c.args.indirection word c.load.result after seen refl,
+    )
 
 pub returns-clause-sound : goal.returns-clause-sound
 returns-clause-sound c = subst (λ n. IsSound n c.load.new.seat.me.0) (sym c.requires.sound.size) c.load.ensures.2.1

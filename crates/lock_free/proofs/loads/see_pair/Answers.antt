@@ -19,7 +19,7 @@ returns-clause-seen c =
     let word = 2 * c.args.main + 1 + c.args.position / 2 in
     let seen = c.load.ensures.2.0 in
     subst (λ x. HasSeenPair v c.args.main c.args.position x after) (sym c.of_word.ensures)
-        (saw v c.args.main word c.load.result after seen, seen_pair v c.args.main word c.load.result after seen c.args.position refl)
+    (saw v c.args.main word c.load.result after seen, seen_pair v c.args.main word c.load.result after seen c.args.position refl)
 
 pub returns-clause-sound : goal.returns-clause-sound
 returns-clause-sound c = subst (λ n. IsSound n c.load.new.seat.me.0) (sym c.requires.sound.size) c.load.ensures.2.1

@@ -22,7 +22,7 @@ store-requires c =
       c.requires.table,
       subst (λ n. n < c.args.words.now.table_id.words) (sym word_is) (pin_inside c.args.words.now.table_id.words me.0 c.requires.sound c.requires.few),
       subst (λ n. Allows (IsKept sizes) slots id me n (λ x. value) (λ x. has_pinned (step slots n value 0 none) me value)) (sym word_is)
-      (pin_allowed sizes slots id me (Some c.args.pin) value (sym c.to_word.ensures) back c.requires.idle),
+          (pin_allowed sizes slots id me (Some c.args.pin) value (sym c.to_word.ensures) back c.requires.idle),
     )
 
 pub returns-clause-sound : goal.returns-clause-sound

@@ -11,14 +11,14 @@ pub restore-requires-clause-restoring : goal.restore-requires-clause-restoring
 restore-requires-clause-restoring c =
     let n = c.args.words.now.table_id.words in
     restore_ready c.args.actor.now.me.0 c.args.indirection c.args.link c.args.former c.requires.failed n n c.see_main-header.new.actor.me.0 c.requires.sound c.see_main-header.ensures.sound
-        c.see_main-header.result
+    c.see_main-header.result
     c.see_main-header.ensures.seen
 
 pub returns-then-restore-clause-passed : goal.returns-then-restore-clause-passed
 returns-then-restore-clause-passed c =
     let n = c.args.words.now.table_id.words in
     puts_back c.args.actor.now.me.0 c.args.indirection c.args.link c.args.former c.requires.failed n n c.see_main-header.new.actor.me.0 c.requires.sound c.see_main-header.ensures.sound
-        c.see_main-header.result
+    c.see_main-header.result
     c.see_main-header.ensures.seen n c.restore.new.actor.me.0 c.restore.ensures.sound c.restore.result c.restore.ensures.restored c.if-restore.true
 
 pub returns-else-restore-clause-passed : goal.returns-else-restore-clause-passed
@@ -26,5 +26,5 @@ returns-else-restore-clause-passed c =
     let n = c.args.words.now.table_id.words in
     λ j x is.
     missed_it c.args.actor.now.me.0 c.args.indirection c.args.link c.args.former c.requires.failed n n c.see_main-header.new.actor.me.0 c.requires.sound c.see_main-header.ensures.sound
-        c.see_main-header.result
+    c.see_main-header.result
     c.see_main-header.ensures.seen n c.restore.new.actor.me.0 c.restore.ensures.sound c.restore.result c.restore.ensures.restored c.if-restore.false

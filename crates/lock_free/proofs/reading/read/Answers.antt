@@ -24,7 +24,7 @@ returns-in-Gives-clause-table g c = c.pass.ensures.table ∙ c.loop.invariant.2
 pub returns-in-Gives-clause-given : goal.returns-in-Gives-clause-given
 returns-in-Gives-clause-given g c =
     more c.args.words.now.table_id.words c.args.way c.args.indirection c.args.actor.now.me.0 c.loop.actor.me.0 c.loop.next c.loop.invariant.3 c.pass.new.actor.me.0 (passed.Gives c.in-Gives.given)
-        (c.in-Gives.ensures {u = tt}).passed
+    (c.in-Gives.ensures {u = tt}).passed
 
 pub loop-preserved : goal.loop-preserved
 loop-preserved g c = (

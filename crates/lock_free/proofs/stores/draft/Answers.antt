@@ -13,4 +13,4 @@ store-requires c = (
 pub returns-clause-sound : goal.returns-clause-sound
 returns-clause-sound c =
     subst (λ v. IsSound c.args.words.now.table_id.words v) (sym (ap (λ me. me.0) c.store.ensures.2))
-        (drafted_sound c.args.words.now.table_id.words c.args.actor.now.me.0 c.args.word c.args.value c.requires.sound)
+    (drafted_sound c.args.words.now.table_id.words c.args.actor.now.me.0 c.args.word c.args.value c.requires.sound)

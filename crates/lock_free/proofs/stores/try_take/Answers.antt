@@ -31,5 +31,5 @@ returns-clause-sound c =
     let slot = c.slot.ensures ∙ ap (λ z. part_of z c.args.class + words_in c.args.class * c.peek-count.result) (sym c.requires.sizes) in
     let found = c.if-compare_exchange-count.false in
     let is = c.compare_exchange.ensures.2.0 found c.args.class c.slot.result c.requires.class c.taken_word_of-word.ensures
-        (slot ∙ ap (λ m. part_of v.sizes c.args.class + words_in c.args.class * m) (sym found)) in
+    (slot ∙ ap (λ m. part_of v.sizes c.args.class + words_in c.args.class * m) (sym found)) in
     subst (λ w. IsSound n w) (sym (ap (λ me. me.0) is)) (taken_sound n v c.args.class c.peek-count.result c.slot.result c.requires.class few slot c.requires.sound)
