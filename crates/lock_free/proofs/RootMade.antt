@@ -1,6 +1,6 @@
 -- The exchange of the count of generations makes the root that is written in a free slot: the operation's step, where it finds the generation that was written.
 use Rattle.history.specs.declared.calls.Call.{Call}
-use Rattle.std.proofs.Common.{◌≡◌, ◌≢◌, ◌+◌, ◌*◌, ◌<◌, ◌≤◌, ◌==◌, ℕ, inl, inr, Bool, true, false, List, [], ◌∷◌, ◌++◌, Contains, set, get_or, slice_index, Some, None, refl, sym, ap, subst, ◌∙◌}
+use Rattle.std.proofs.Common.{◌≡◌, ◌≢◌, ◌+◌, ◌*◌, ◌==◌, ℕ, inl, inr, Bool, List, [], ◌∷◌, Contains, set, slice_index, Some, refl, sym, ap, subst, ◌∙◌}
 use Rattle.std.proofs.Common.{arith, eq-eqb, ne_eqb}
 use Rattle.std.proofs.lemmas.Bool.{cases_eq, true≢false}
 use Rattle.std.proofs.lemmas.List.Elements.{Contains-append_left}
@@ -28,9 +28,9 @@ use Rattle.lock_free.specs.Accounts.{state_of, place_of, running}
 use Rattle.lock_free.specs.Loading.{now, IsAt, IsSound, Took}
 use Rattle.lock_free.specs.Making.{over_of, AreDrafted, DraftsNode, made_at, made_by, Makes}
 use Rattle.lock_free.specs.Nodes.{class_of}
-use Rattle.lock_free.specs.Places.{generation_word, words_in, words_of}
+use Rattle.lock_free.specs.Places.{generation_word, words_of}
 use Rattle.lock_free.specs.Rules.{pool_of, IsFree, IsKept}
-use Rattle.lock_free.specs.Storing.{WritesRoot, IsAtMakeRoot, HasMadeRoot, has_made_root}
+use Rattle.lock_free.specs.Storing.{WritesRoot, IsAtMakeRoot, has_made_root}
 use Rattle.lock_free.proofs.Exchanged.{words_hit, words_miss}
 use Rattle.lock_free.proofs.MadeKept.{root_made, make_root_kept}
 use Rattle.lock_free.proofs.Moments.{allowed, waited_so, same_place, free_inside}

@@ -66,7 +66,7 @@ header_back header h =
     let parts = parts_back (low_code header.shape) (previous_code header.previous) (kind_code header.shape) (low_small header.shape h.1) (previous_small header.previous h.0) in
     let before : previous_of ((header_code header / 2 ^ 32) % 2 ^ 30) ≡ header.previous = ap previous_of parts.1 ∙ previous_back header.previous h.0 in
     let shape : shape_of (header_code header % 2 ^ 32) (header_code header / 2 ^ 62) ≡ header.shape =
-        ap (λ x. shape_of x (header_code header / 2 ^ 62)) parts.0 ∙ ap (λ x. shape_of (low_code header.shape) x) parts.2 ∙ shape_back header.shape h.1 in
+    ap (λ x. shape_of x (header_code header / 2 ^ 62)) parts.0 ∙ ap (λ x. shape_of (low_code header.shape) x) parts.2 ∙ shape_back header.shape h.1 in
     ap (λ x. record { previous = x; shape = shape_of (header_code header % 2 ^ 32) (header_code header / 2 ^ 62) }) before ∙ ap (λ x. record { previous = header.previous; shape = x }) shape
 
 pub link_back : (link : Link) → IsLink link → link_of (link_code link) ≡ link

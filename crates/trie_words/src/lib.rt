@@ -12,7 +12,10 @@ mod roots;
 
 pub use entries::{Entry, Pair};
 pub use headers::{Header, Previous, Shape};
-pub use laws::{entries_come_back, headers_come_back, links_come_back, names_come_back, pairs_come_back, pins_come_back, roots_come_back};
+pub use laws::{
+    entries_come_back, headers_come_back, links_come_back, names_come_back, pairs_come_back,
+    pins_come_back, roots_come_back,
+};
 pub use links::Link;
 pub use names::Name;
 pub use pins::Pin;

@@ -1,6 +1,6 @@
 -- What is left by a step that makes a node.
 use Rattle.std.proofs.Common.{◌≡◌, ◌≢◌, ◌⊎◌, ◌+◌, ◌<◌, ℕ, Bool, [], ◌∷◌, Contains, length, get_or, Option, Some, None, refl, sym, ap, subst, ◌∙◌, inl, inr, arith}
-use Rattle.std.proofs.lemmas.List.Elements.{Contains-append_left, Contains-get_or}
+use Rattle.std.proofs.lemmas.List.Elements.{Contains-get_or}
 use Rattle.std.proofs.lemmas.Option.{none-some, same_Some}
 use Rattle.machine_model.specs.Beneath.slot_arena.specs.declared.refs.Ref.{Ref}
 use Rattle.machine_model.specs.Beneath.slot_arena.specs.declared.nodes.Node.{Node}
@@ -49,7 +49,7 @@ use Rattle.lock_free.specs.declared.accounts.Account.{Account}
 use Rattle.lock_free.specs.declared.accounts.Known.{Known}
 use Rattle.lock_free.specs.declared.sizes.Sizes.{Sizes}
 use Rattle.lock_free.specs.Accounts.{bounds_for, state_of, running, HasStood}
-use Rattle.lock_free.specs.Live.{IsLive, IsKnown, refs_of_claims}
+use Rattle.lock_free.specs.Live.{IsLive, IsKnown}
 use Rattle.lock_free.specs.Making.{over_of, made_at, NamesNot, Makes}
 use Rattle.lock_free.specs.Nodes.{IsAhead}
 use Rattle.lock_free.proofs.OneStep.Aheads.{ahead_of, ahead_acts, goes_ahead}

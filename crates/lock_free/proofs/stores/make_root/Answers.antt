@@ -1,6 +1,5 @@
-use Rattle.std.proofs.Common.{◌<◌, ◌^◌, ◌*◌, sym, subst, arith}
+use Rattle.std.proofs.Common.{sym, subst, arith}
 use Rattle.lock_free.specs.Loading.{IsSound}
-use Rattle.lock_free.specs.Places.{words_of}
 use Rattle.lock_free.proofs.RootMade.{root_allowed}
 use Rattle.lock_free.proofs.stores.make_root.Goals as goal
 
