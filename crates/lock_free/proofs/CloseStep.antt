@@ -1,6 +1,6 @@
 -- The exchange by which a seat closes a handle.
 use Rattle.history.specs.declared.calls.Call.{Call}
-use Rattle.std.proofs.Common.{◌≡◌, ◌≢◌, ◌==◌, ◌<◌, ◌≤◌, inl, inr, ℕ, true, false, set, slice_index, is_some, Option, Some, None, refl, sym, ap, subst, ◌∙◌, eq-eqb, arith}
+use Rattle.std.proofs.Common.{◌≡◌, ◌≢◌, ◌==◌, ◌<◌, ◌≤◌, inl, inr, ℕ, true, set, slice_index, is_some, Option, Some, None, refl, sym, subst, ◌∙◌, eq-eqb, arith}
 use Rattle.std.proofs.lemmas.Bool.{cases_eq, ne_eqb, true≢false, false≢true}
 use Rattle.std.proofs.lemmas.Option.{same_Some}
 use mathlib.Core.Option.{some, none}
@@ -87,8 +87,8 @@ module _ (v : View) (handle looked : ℕ) (low : handle < 256) (would : v.closin
   misses : found ≢ old → Shut v
   misses differs = (
     subst (λ ws. IsKept v.sizes (record { words = ws; homes = s.homes; views = set s.views id v })) (words_miss v s kept id at (root_word handle) old 0 differs)
-    (seat_kept v.sizes s kept id v at v.entered v.closing seat.entered seat.calls
-    (λ g who below h. closing_at v.sizes s kept id v at v refl refl g who (λ x. x) (λ c x y z. x) (kept.closings g who below h))),
+        (seat_kept v.sizes s kept id v at v.entered v.closing seat.entered seat.calls
+        (λ g who below h. closing_at v.sizes s kept id v at v refl refl g who (λ x. x) (λ c x y z. x) (kept.closings g who below h))),
     (λ x. absurd (true≢false (sym x ∙ ne_eqb found old differs)), λ x. refl),
     λ x. x,
   )
@@ -101,8 +101,7 @@ pub close_allows : (sizes : Sizes) (size id : ℕ) (me : Me Call View) (handle l
     Allows (IsKept sizes) size id me (root_word handle) (λ n. either (n == root_code w) 0 n) (has_closed (step size (root_word handle) (root_code w) 0 none) me)
 close_allows sizes size id me handle looked low would all_looked outside idle w mine =
     allowed sizes size id me (root_word handle) (λ n. either (n == root_code w) 0 n) (has_closed (step size (root_word handle) (root_code w) 0 none) me)
-    (λ s kept at. (let x = shuts me.0 handle looked low would all_looked outside idle w mine s kept id at in
-    (
+    (λ s kept at. (let x = shuts me.0 handle looked low would all_looked outside idle w mine s kept id at in (
       x.0,
       x.1.0,
       (λ g n is. subst (λ (c : Closing). HasClosed me.0 c.handle (slice_index s.words (root_word handle) == root_code w) x.0) (same_Some (closes handle looked) (closes g n) (sym would ∙ is)) x.1.1, x.1.2, refl),
