@@ -1,6 +1,6 @@
 -- The exchange by which a seat closes a handle.
 use Rattle.history.specs.declared.calls.Call.{Call}
-use Rattle.std.proofs.Common.{◌≡◌, ◌≢◌, ◌==◌, ◌<◌, ◌≤◌, inl, inr, ℕ, true, false, set, slice_index, is_some, Option, Some, None, refl, sym, ap, subst, ◌∙◌, eq-eqb, arith}
+use Rattle.std.proofs.Common.{◌≡◌, ◌≢◌, ◌==◌, ◌<◌, ◌≤◌, inl, inr, ℕ, true, set, slice_index, is_some, Option, Some, None, refl, sym, subst, ◌∙◌, eq-eqb, arith}
 use Rattle.std.proofs.lemmas.Bool.{cases_eq, ne_eqb, true≢false, false≢true}
 use Rattle.std.proofs.lemmas.Option.{same_Some}
 use mathlib.Core.Option.{some, none}
@@ -34,7 +34,8 @@ some_of : {A : Type 0} (r : Option A) → is_some r ≡ true → (a : A) × (r �
 some_of (Some a) e = (a, refl)
 some_of None e = absurd (false≢true e)
 
-module _ (v : View) (handle looked : ℕ) (low : handle < 256) (would : v.closing ≡ Some (closes handle looked)) (all_looked : v.sizes.seats ≤ looked) (outside : v.entered ≢ Some handle) (idle : IsIdle v)
+module _ (v : View) (handle looked : ℕ) (low : handle < 256) (would : v.closing ≡ Some (closes handle looked)) (all_looked : v.sizes.seats ≤ looked) (outside : v.entered ≢ Some handle)
+    (idle : IsIdle v)
     (w : RootWord) (mine : SaysClosing (root_code w) v.actor) (s : Table.State Call View) (kept : IsKept v.sizes s) (id : ℕ) (at : get_elem? s.views id ≡ some v) where
   abbrev found : ℕ
   found = slice_index s.words (root_word handle)
@@ -104,5 +105,6 @@ close_allows sizes size id me handle looked low would all_looked outside idle w 
     (λ s kept at. (let x = shuts me.0 handle looked low would all_looked outside idle w mine s kept id at in (
       x.0,
       x.1.0,
-      (λ g n is. subst (λ (c : Closing). HasClosed me.0 c.handle (slice_index s.words (root_word handle) == root_code w) x.0) (same_Some (closes handle looked) (closes g n) (sym would ∙ is)) x.1.1, x.1.2, refl),
+      (λ g n is. subst (λ (c : Closing). HasClosed me.0 c.handle (slice_index s.words (root_word handle) == root_code w) x.0)
+      (same_Some (closes handle looked) (closes g n) (sym would ∙ is)) x.1.1, x.1.2, refl),
     )))

@@ -28,7 +28,8 @@ module _ (v : View) (answer : Reply) (p : IsAt v (act.End answer)) (opens : v.op
   abbrev there : Account
   there = kept.account
 
-  stays : (mark : Bool) × running v.sizes there v.actor (record p.operation { is_marked = mark }) × (action_of (now (seen v there)) (record p.operation { is_marked = mark }) ≡ action_of (now v) p.operation)
+  stays : (mark : Bool) × running v.sizes there v.actor (record p.operation { is_marked = mark })
+      × (action_of (now (seen v there)) (record p.operation { is_marked = mark }) ≡ action_of (now v) p.operation)
   stays = (waited_so v s kept id at).stays p.operation p.runs
 
   abbrev o : Operation

@@ -22,7 +22,8 @@ load-found-requires c =
 pub returns-clause-passed : goal.returns-clause-passed
 returns-clause-passed c =
     subst (λ b. HasPassed c.args.actor.now.me.0 c.args.handle c.args.looked b c.load-found.new.seat.me.0)
-    (sym (c.is_no_hindrance.ensures ∙ ap (λ p. is_out c.args.handle p || (c.args.looked + 1 == c.args.own)) c.of_word.ensures ∙ ap (λ n. is_out c.args.handle (pin_of c.load-found.result) || (c.args.looked + 1 == n)) (sym c.requires.its)))
+    (sym (c.is_no_hindrance.ensures ∙ ap (λ p. is_out c.args.handle p || (c.args.looked + 1 == c.args.own)) c.of_word.ensures
+    ∙ ap (λ n. is_out c.args.handle (pin_of c.load-found.result) || (c.args.looked + 1 == n)) (sym c.requires.its)))
     (c.load-found.ensures.2.0 c.args.handle c.args.looked c.requires.closing c.pin_word_of.ensures)
 
 pub returns-clause-sound : goal.returns-clause-sound

@@ -27,4 +27,5 @@ store-requires c =
 
 pub returns-clause-sound : goal.returns-clause-sound
 returns-clause-sound c =
-    subst (λ v. IsSound c.args.words.now.table_id.words v) (sym (ap (λ me. me.0) c.store.ensures.2)) (pin_sound c.args.words.now.table_id.words c.args.actor.now.me.0 (pin_of c.to_word.result) c.requires.sound)
+    subst (λ v. IsSound c.args.words.now.table_id.words v) (sym (ap (λ me. me.0) c.store.ensures.2))
+    (pin_sound c.args.words.now.table_id.words c.args.actor.now.me.0 (pin_of c.to_word.result) c.requires.sound)
