@@ -105,6 +105,10 @@ close_allows sizes size id me handle looked low would all_looked outside idle w 
     (λ s kept at. (let x = shuts me.0 handle looked low would all_looked outside idle w mine s kept id at in (
       x.0,
       x.1.0,
-      (λ g n is. subst (λ (c : Closing). HasClosed me.0 c.handle (slice_index s.words (root_word handle) == root_code w) x.0)
-      (same_Some (closes handle looked) (closes g n) (sym would ∙ is)) x.1.1, x.1.2, refl),
+      (
+        λ g n is. subst (λ (c : Closing). HasClosed me.0 c.handle (slice_index s.words (root_word handle) == root_code w) x.0)
+            (same_Some (closes handle looked) (closes g n) (sym would ∙ is)) x.1.1,
+        x.1.2,
+        refl,
+      ),
     )))

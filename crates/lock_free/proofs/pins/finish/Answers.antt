@@ -17,7 +17,7 @@ store-requires c =
       c.requires.table,
       subst (λ n. n < c.args.words.now.table_id.words) (sym word_is) (pin_inside c.args.words.now.table_id.words me.0 c.requires.sound c.requires.few),
       subst (λ n. Allows (IsKept sizes) slots c.args.actor.now.id me n (λ x. 0) (λ x. has_ended (step slots n 0 0 none) me 0)) (sym word_is)
-      (end_allowed sizes slots c.args.actor.now.id me c.requires.ending),
+          (end_allowed sizes slots c.args.actor.now.id me c.requires.ending),
     )
 
 pub returns-clause-sound : goal.returns-clause-sound
