@@ -66,3 +66,5 @@ mod Allowed
 mod AbortStep
 mod CompleteStep
 mod SeenRoots
+mod KeyMoves
+mod MainLooks

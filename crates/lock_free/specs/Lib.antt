@@ -21,3 +21,4 @@ pub mod HandleWords
 pub mod OfReads
 pub mod Passing
 pub mod Swaps
+pub mod GoingDown
