@@ -68,3 +68,6 @@ mod CompleteStep
 mod SeenRoots
 mod KeyMoves
 mod MainLooks
+mod EntryLooks
+mod EntryMeets
+mod LinkMeets

@@ -1,11 +1,12 @@
 -- KEY's look at a main node.
-use Rattle.std.proofs.Common.{◌≡◌, ◌<◌, ℕ, Bool, true, false, List, [], get_or, Some, None, refl, sym, ap, subst, ◌∙◌, arith, if◌then◌else◌}
-use Rattle.std.proofs.lemmas.Option.{same_Some}
+use Rattle.std.proofs.Common.{ltb-true, count_ones, nat_le, ◌≡◌, ◌<◌, ◌^◌, ◌*◌, ℕ, Bool, true, false, List, [], get_or, Some, None, refl, sym, ap, subst, ◌∙◌, arith, if◌then◌else◌}
+use Rattle.std.proofs.lemmas.Bool.{le-leb}
+use Rattle.trie_words.specs.Codes.{IsShape}
 use Rattle.trie_words.specs.declared.entries.Entry.{Entry}
 use Rattle.trie_words.specs.declared.headers.Header.{Header}
 use Rattle.trie_words.specs.declared.headers.Shape.{Shape}
 use Rattle.trie_words.specs.declared.headers.Shape.TheVariants as shape
-use Rattle.machine_model.specs.Beneath.ctrie_base.specs.Paths.{position_of}
+use Rattle.machine_model.specs.Beneath.ctrie_base.specs.Paths.{index_at, position_of}
 use Rattle.machine_model.specs.Beneath.slot_arena.specs.declared.refs.Ref.{Ref}
 use Rattle.machine_model.specs.Beneath.slot_arena.specs.declared.nodes.Node.{Node}
 use Rattle.machine_model.specs.Beneath.slot_arena.specs.declared.nodes.Node.TheVariants.{Branch, Tomb, List as Listed}
@@ -18,11 +19,15 @@ use Rattle.machine_model.specs.declared.lines.Line.{Line}
 use Rattle.machine_model.specs.declared.lines.Line.TheVariants as line
 use Rattle.machine_model.specs.declared.operations.Operation.{Operation}
 use Rattle.machine_model.specs.Finding.{absent, after_tomb, key_after_main}
-use Rattle.machine_model.specs.Paths.{flag_in}
+use Rattle.machine_model.specs.Calls.{key_of}
+use Rattle.machine_model.specs.Beneath.ctrie_base.specs.Hashes.{hash_of}
+use Rattle.machine_model.specs.Paths.{depth_of, flag_in}
 use Rattle.machine_model.specs.States.{State}
 use Rattle.nodes.specs.Levels.{has_flag}
 use Rattle.proof_memory.specs.Wants.{AllHold, is_main_node, place_wants, AMain, flag_on}
 use Rattle.proof_memory.proofs.Claims.Uses.{safe_of, meets_of}
+use Rattle.proof_memory.proofs.Heap.Ones.{ones_most}
+use Rattle.proof_memory.proofs.Lines.Shared.{position_within}
 use Rattle.lock_free.specs.declared.accounts.Account.{Account}
 use Rattle.lock_free.specs.declared.finding.Turn.{Turn}
 use Rattle.lock_free.specs.declared.finding.Turn.TheVariants as turn
@@ -127,6 +132,14 @@ module _ (n m : ℕ) (before after : View) (sound : IsSound n before) (last : Is
         (λ o mark runs.
         ap (λ f. by_flag bitmap f o) (flag_is o runs) ∙ ap (λ (b : Bool). if b then line.Key (key.Entry path main (position_of flag bitmap)) else absent o path main) has
         ∙ ap (λ p. line.Key (key.Entry path main p)) (sym is)))
+
+    pub within : (position : ℕ) → position ≡ position_of flag bitmap → has_flag bitmap flag ≡ true → position < 32
+    within position is has =
+        let index = index_at (hash_of before.sizes.hash (key_of at.0.call)) (5 * depth_of path) in
+        let flag_so : flag ≡ 2 ^ index = is_at.4 at.0 at.1 in
+        let small : bitmap < 2 ^ 32 = subst IsShape e h.fits.1 in
+        let low = position_within bitmap index 32 (subst (λ f. has_flag bitmap f ≡ true) flag_so has) (le-leb (count_ones bitmap) 32 (ones_most bitmap small)) in
+        subst (λ p. p < 32) (ap (λ f. position_of f bitmap) (sym flag_so) ∙ sym is) (ltb-true (position_of (2 ^ index) bitmap) 32 low)
 
     pub finds_none : has_flag bitmap flag ≡ false → HasTurned before turn.Absent after
     finds_none has =

@@ -1,12 +1,15 @@
 //! KEY: the way down to a key, in single accesses.
 
-ghost use Rattle.std.specs.Prelude.{◌≡◌, ◌<◌};
-ghost use Rattle.lock_free.specs.GoingDown.{HasTurned, IsAtMain};
+ghost use Rattle.std.specs.Prelude.{◌≡◌, ◌<◌, true, false};
+ghost use Rattle.lock_free.specs.GoingDown.{HasMet, HasMetLink, HasReadKey, HasSeenEntry, HasTurned, IsAtEntry, IsAtLink, IsAtMain, IsAtNode, IsOnKey, IsWithin};
 ghost use Rattle.lock_free.specs.Loading.{IsSound};
+ghost use Rattle.lock_free.specs.Passing.{IsOnWay};
 
-use crate::loads::{Actor, Words, look_at_main};
+use crate::loads::{Actor, Words, look_at_key, look_at_link, look_at_main, look_at_value, see_key, see_pair};
+use crate::reading::{AsksRoot, Given, Way, read};
 use nodes::{has_flag, position_of};
-use trie_words::Shape;
+use std::sync::Wait;
+use trie_words::{Entry, Link, Shape};
 
 /// Where the way to a key goes on from a main node.
 #[derive(Clone, Copy, Drop)]
@@ -30,6 +33,7 @@ pub fn turn_at(words: &Words, actor: &mut Actor, main: u32, flag: u32) -> Turn
     ensures table { actor.new.table_id ≡ actor.old.table_id }
     ensures sound { IsSound words.now.table_id.words actor.new.me.0 }
     ensures turned { HasTurned actor.old.me.0 result actor.new.me.0 }
+    ensures within { IsWithin result }
 {
     match look_at_main(words, actor, main).shape {
         Shape::Branch(bitmap) => {
@@ -42,4 +46,75 @@ pub fn turn_at(words: &Words, actor: &mut Actor, main: u32, flag: u32) -> Turn
         Shape::Tomb(_) => Turn::Tomb,
         Shape::List(_) => Turn::List,
     }
+}
+
+/// Reads the main node of the indirection in this slot, to which the way to a key has come, and looks where it goes on by the key's
+/// flag.
+pub fn read_turn<R: Wait, A: AsksRoot>(rt: &R, asker: &A, words: &Words, actor: &mut Actor, way: Way, indirection: u32, flag: u32) -> (Given, Turn)
+    requires table { actor.old.table_id ≡ words.now.table_id }
+    requires sound { IsSound words.now.table_id.words actor.old.me.0 }
+    requires way { IsOnWay actor.old.me.0 way }
+    requires some { 0 < flag }
+    requires at { IsAtLink actor.old.me.0 indirection flag }
+    ensures table { actor.new.table_id ≡ actor.old.table_id }
+    ensures sound { IsSound words.now.table_id.words actor.new.me.0 }
+    ensures turned { HasReadKey actor.old.me.0 result actor.new.me.0 }
+    ensures within { IsWithin result.1 }
+{
+    let given = read(rt, asker, words, actor, way, indirection, None);
+    let turn = turn_at(words, actor, given.link.main.slot, flag);
+    (given, turn)
+}
+
+/// What the way to a key meets in a single.
+#[derive(Clone, Copy, Drop)]
+pub enum Met {
+    /// Its key, with this value.
+    Found(u64),
+    /// Another key.
+    Other,
+}
+
+/// The entry at this position of the branch in this slot, to which the way goes on.
+pub fn see_entry(words: &Words, actor: &mut Actor, main: u32, position: u32) -> Entry
+    requires table { actor.old.table_id ≡ words.now.table_id }
+    requires sound { IsSound words.now.table_id.words actor.old.me.0 }
+    requires within { position < 32 }
+    requires at { IsAtEntry actor.old.me.0 main position }
+    ensures table { actor.new.table_id ≡ actor.old.table_id }
+    ensures sound { IsSound words.now.table_id.words actor.new.me.0 }
+    ensures seen { HasSeenEntry actor.old.me.0 position result actor.new.me.0 }
+{
+    let pair = see_pair(words, actor, main, position);
+    if position % 2 == 0 { Entry::of_half(pair.low) } else { Entry::of_half(pair.high) }
+}
+
+/// Looks at the single in this slot, to which the way to this key has come.
+pub fn meet_single(words: &Words, actor: &mut Actor, key: u64, single: u32) -> Met
+    requires table { actor.old.table_id ≡ words.now.table_id }
+    requires sound { IsSound words.now.table_id.words actor.old.me.0 }
+    requires key { IsOnKey actor.old.me.0 key }
+    requires at { IsAtNode actor.old.me.0 single true }
+    ensures table { actor.new.table_id ≡ actor.old.table_id }
+    ensures sound { IsSound words.now.table_id.words actor.new.me.0 }
+    ensures met { HasMet actor.old.me.0 result actor.new.me.0 }
+{
+    if see_key(words, actor, single) == key {
+        Met::Found(look_at_value(words, actor, single))
+    } else {
+        look_at_key(words, actor, single);
+        Met::Other
+    }
+}
+
+/// Looks at the indirection in this slot, to which the way has come.
+pub fn meet_link(words: &Words, actor: &mut Actor, indirection: u32) -> Link
+    requires table { actor.old.table_id ≡ words.now.table_id }
+    requires sound { IsSound words.now.table_id.words actor.old.me.0 }
+    requires at { IsAtNode actor.old.me.0 indirection false }
+    ensures table { actor.new.table_id ≡ actor.old.table_id }
+    ensures sound { IsSound words.now.table_id.words actor.new.me.0 }
+    ensures met { HasMetLink actor.old.me.0 result actor.new.me.0 }
+{
+    look_at_link(words, actor, indirection)
 }

@@ -16,7 +16,7 @@ mod swapping;
 
 pub use accounts::{Account, Known, Owned};
 pub use exchanges::{decide, publish, restore};
-pub use finding::{Turn, turn_at};
+pub use finding::{Met, Turn, meet_link, meet_single, read_turn, see_entry, turn_at};
 pub use handles::see_root;
 pub use loads::{Actor, Words, look_at_key, look_at_link, look_at_main, look_at_value, read_header, read_link, see_key, see_link, see_main, see_pair, see_value};
 pub use offers::{abort, complete};

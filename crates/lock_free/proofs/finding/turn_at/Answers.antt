@@ -1,5 +1,5 @@
 use Rattle.std.proofs.Common.{sym, ◌∙◌}
-use Rattle.lock_free.proofs.MainLooks.{enters, finds_none, at_tomb, at_list}
+use Rattle.lock_free.proofs.MainLooks.{enters, within, finds_none, at_tomb, at_list}
 use Rattle.lock_free.proofs.finding.turn_at.Goals as goal
 
 pub returns-then-has_flag-clause-turned : goal.returns-then-has_flag-clause-turned
@@ -23,3 +23,9 @@ pub returns-in-List-clause-turned : goal.returns-in-List-clause-turned
 returns-in-List-clause-turned c =
     let n = c.args.words.now.table_id.words in
     at_list n n c.args.actor.now.me.0 c.look_at_main.new.actor.me.0 c.requires.sound c.look_at_main.ensures.sound c.args.main c.args.flag c.requires.at c.look_at_main.result c.look_at_main.ensures.read c.in-List.field-0 c.in-List.is
+
+pub returns-then-has_flag-clause-within : goal.returns-then-has_flag-clause-within
+returns-then-has_flag-clause-within c =
+    let n = c.args.words.now.table_id.words in
+    within n n c.args.actor.now.me.0 c.look_at_main.new.actor.me.0 c.requires.sound c.look_at_main.ensures.sound c.args.main c.args.flag c.requires.at c.look_at_main.result c.look_at_main.ensures.read c.in-Branch.bitmap c.in-Branch.is
+    c.position_of.result c.position_of.ensures.position (sym c.has_flag.ensures ∙ c.if-has_flag.true)
