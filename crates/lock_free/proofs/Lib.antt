@@ -71,3 +71,4 @@ mod MainLooks
 mod EntryLooks
 mod EntryMeets
 mod LinkMeets
+mod ReadTurns
