@@ -67,8 +67,7 @@ module _ (v : View) (l : KeyLine) (at : IsAtKey v l) where
         comes : (o : Operation) → Runs v o → Runs w (record o { line = next o })
         comes o (mark, runs) =
             let there = went.waited.stays (record o { is_marked = mark }) runs in
-            let o_there : Operation = record o { is_marked = there.0 } in
-            (
+            let o_there : Operation = record o { is_marked = there.0 } in (
               there.0,
               went.took o_there there.1 ∙ ap Some (key_step state o_there l r (line_is o (mark, runs)) looks ∙ ap (λ z. record o_there { line = z }) (is o there.0 (mark, runs))),
             )

@@ -104,7 +104,7 @@ module _ (n : ℕ) (before after : View) (sound : IsSound n before) (name : ℕ)
     pub meets_link : HasMetLink before link after
     meets_link p m q other =
         let here = moved before (key.Entry path main position) at after (went_later n before sound n after last g.0) g.0 (entry_at state.heap main position)
-            (line_below (now before) path main position link.generation) refl
-            (λ o mark r. ap (key_after_entry state (record o { is_marked = mark }) path main position) node_then ∙ next_same o) in
+        (line_below (now before) path main position link.generation) refl
+        (λ o mark r. ap (key_after_entry state (record o { is_marked = mark }) path main position) node_then ∙ next_same o) in
         let same = ap parts_of (sym (line_is before (key.Entry path main position) at other.0 other.1) ∙ other.2) in
         subst (λ (x : List Ref × Ref × ℕ). HasMoved (line_below (now before) x.0 x.1 x.2 link.generation) before after) same here

@@ -5,7 +5,9 @@ ghost use Rattle.lock_free.specs.GoingDown.{HasMet, HasMetLink, HasReadKey, HasS
 ghost use Rattle.lock_free.specs.Loading.{IsSound};
 ghost use Rattle.lock_free.specs.Passing.{IsOnWay};
 
-use crate::loads::{Actor, Words, look_at_key, look_at_link, look_at_main, look_at_value, see_key, see_pair};
+use crate::loads::{
+    Actor, Words, look_at_key, look_at_link, look_at_main, look_at_value, see_key, see_pair,
+};
 use crate::reading::{AsksRoot, Given, Way, read};
 use nodes::{has_flag, position_of};
 use std::sync::Wait;
@@ -50,7 +52,15 @@ pub fn turn_at(words: &Words, actor: &mut Actor, main: u32, flag: u32) -> Turn
 
 /// Reads the main node of the indirection in this slot, to which the way to a key has come, and looks where it goes on by the key's
 /// flag.
-pub fn read_turn<R: Wait, A: AsksRoot>(rt: &R, asker: &A, words: &Words, actor: &mut Actor, way: Way, indirection: u32, flag: u32) -> (Given, Turn)
+pub fn read_turn<R: Wait, A: AsksRoot>(
+    rt: &R,
+    asker: &A,
+    words: &Words,
+    actor: &mut Actor,
+    way: Way,
+    indirection: u32,
+    flag: u32,
+) -> (Given, Turn)
     requires table { actor.old.table_id ≡ words.now.table_id }
     requires sound { IsSound words.now.table_id.words actor.old.me.0 }
     requires way { IsOnWay actor.old.me.0 way }
@@ -86,7 +96,11 @@ pub fn see_entry(words: &Words, actor: &mut Actor, main: u32, position: u32) -> 
     ensures seen { HasSeenEntry actor.old.me.0 position result actor.new.me.0 }
 {
     let pair = see_pair(words, actor, main, position);
-    if position % 2 == 0 { Entry::of_half(pair.low) } else { Entry::of_half(pair.high) }
+    if position % 2 == 0 {
+        Entry::of_half(pair.low)
+    } else {
+        Entry::of_half(pair.high)
+    }
 }
 
 /// Looks at the single in this slot, to which the way to this key has come.
