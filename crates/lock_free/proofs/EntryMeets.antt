@@ -57,7 +57,7 @@ module _ (s t : State) (path : List Ref) (main : Ref) (position value : ℕ) (sa
   removing_same (Single k v) = refl
   removing_same (Tomb single) = refl
 
-  found_same : (w : WhenFound) → found_so s path main position value w ≡ found_so t path main position value w
+  pub found_same : (w : WhenFound) → found_so s path main position value w ≡ found_so t path main position value w
   found_same (Answers answer) = refl
   found_same Sets = refl
   found_same Removes = removing_same (node_at s.heap main) ∙ ap (removing t path main position value) same

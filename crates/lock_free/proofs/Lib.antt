@@ -72,3 +72,4 @@ mod EntryLooks
 mod EntryMeets
 mod LinkMeets
 mod ReadTurns
+mod EntryTurns

@@ -15,6 +15,8 @@ use Rattle.machine_model.specs.Reading.{reading}
 use Rattle.machine_model.specs.Renewing.{renew_next}
 use Rattle.machine_model.specs.States.{State}
 use Rattle.proof_memory.specs.Wants.{flag_on}
+use Rattle.lock_free.specs.declared.finding.Entered.{Entered}
+use Rattle.lock_free.specs.declared.finding.Entered.TheVariants as entered
 use Rattle.lock_free.specs.declared.finding.Met.{Met}
 use Rattle.lock_free.specs.declared.finding.Met.TheVariants as met
 use Rattle.lock_free.specs.declared.finding.Turn.{Turn}
@@ -119,3 +121,12 @@ line_below state path main position generation operation =
 
 abbrev pub HasMetLink : View → Link → View → Type 0
 HasMetLink before link after = (path : List Ref) (main : Ref) (position : ℕ) → IsAtKey before (key.Entry path main position) → HasMoved (line_below (now before) path main position link.generation) before after
+
+-- what it has met in the entry: a single, or an indirection that is in this slot
+abbrev pub EnteredAt : View → List Ref → Ref → ℕ → Entered → View → Type 0
+EnteredAt before path main position (entered.Single m) after = HasMoved (line_met (now before) path main position m) before after
+EnteredAt before path main position (entered.Below name link) after =
+    HasMoved (line_below (now before) path main position link.generation) before after × IsPlaced after (entry_in before main position) name
+
+abbrev pub HasEntered : View → Entered → View → Type 0
+HasEntered before result after = (path : List Ref) (main : Ref) (position : ℕ) → IsAtKey before (key.Entry path main position) → EnteredAt before path main position result after

@@ -1,7 +1,7 @@
 //! KEY: the way down to a key, in single accesses.
 
 ghost use Rattle.std.specs.Prelude.{◌≡◌, ◌<◌, true, false};
-ghost use Rattle.lock_free.specs.GoingDown.{HasMet, HasMetLink, HasReadKey, HasSeenEntry, HasTurned, IsAtEntry, IsAtLink, IsAtMain, IsAtNode, IsOnKey, IsWithin};
+ghost use Rattle.lock_free.specs.GoingDown.{HasEntered, HasMet, HasMetLink, HasReadKey, HasSeenEntry, HasTurned, IsAtEntry, IsAtLink, IsAtMain, IsAtNode, IsOnKey, IsWithin};
 ghost use Rattle.lock_free.specs.Loading.{IsSound};
 ghost use Rattle.lock_free.specs.Passing.{IsOnWay};
 
@@ -131,4 +131,32 @@ pub fn meet_link(words: &Words, actor: &mut Actor, indirection: u32) -> Link
     ensures met { HasMetLink actor.old.me.0 result actor.new.me.0 }
 {
     look_at_link(words, actor, indirection)
+}
+
+/// What the way to a key meets in an entry of a branch.
+#[derive(Clone, Copy, Drop)]
+pub enum Entered {
+    /// A single.
+    Single(Met),
+    /// The indirection in this slot, with this word.
+    Below(u32, Link),
+}
+
+/// Looks at the entry at this position of the branch in this slot, to which the way to this key has come.
+pub fn enter(words: &Words, actor: &mut Actor, key: u64, main: u32, position: u32) -> Entered
+    requires table { actor.old.table_id ≡ words.now.table_id }
+    requires sound { IsSound words.now.table_id.words actor.old.me.0 }
+    requires within { position < 32 }
+    requires key { IsOnKey actor.old.me.0 key }
+    requires at { IsAtEntry actor.old.me.0 main position }
+    ensures table { actor.new.table_id ≡ actor.old.table_id }
+    ensures sound { IsSound words.now.table_id.words actor.new.me.0 }
+    ensures entered { HasEntered actor.old.me.0 result actor.new.me.0 }
+{
+    let entry = see_entry(words, actor, main, position);
+    if entry.is_single {
+        Entered::Single(meet_single(words, actor, key, entry.slot))
+    } else {
+        Entered::Below(entry.slot, meet_link(words, actor, entry.slot))
+    }
 }

@@ -16,12 +16,19 @@ mod swapping;
 
 pub use accounts::{Account, Known, Owned};
 pub use exchanges::{decide, publish, restore};
-pub use finding::{Met, Turn, meet_link, meet_single, read_turn, see_entry, turn_at};
+pub use finding::{
+    Entered, Met, Turn, enter, meet_link, meet_single, read_turn, see_entry, turn_at,
+};
 pub use handles::see_root;
-pub use loads::{Actor, Words, look_at_key, look_at_link, look_at_main, look_at_value, read_header, read_link, see_key, see_link, see_main, see_pair, see_value};
+pub use loads::{
+    Actor, Words, look_at_key, look_at_link, look_at_main, look_at_value, read_header, read_link,
+    see_key, see_link, see_main, see_pair, see_value,
+};
 pub use offers::{abort, complete};
 pub use reading::{AsksRoot, Given, Passed, Way, read, read_within};
-pub use rules::{Closing, Completes, Drafts, Goes, Makes, Pool, Publishes, Rule, Sees, Takes, View};
+pub use rules::{
+    Closing, Completes, Drafts, Goes, Makes, Pool, Publishes, Rule, Sees, Takes, View,
+};
 pub use sizes::Sizes;
 pub use stores::{Tried, draft, make, try_take};
 pub use swapping::{Swapped, swap};
