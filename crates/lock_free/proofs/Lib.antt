@@ -73,3 +73,4 @@ mod EntryMeets
 mod LinkMeets
 mod ReadTurns
 mod EntryTurns
+mod Levels

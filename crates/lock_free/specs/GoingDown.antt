@@ -17,6 +17,8 @@ use Rattle.machine_model.specs.States.{State}
 use Rattle.proof_memory.specs.Wants.{flag_on}
 use Rattle.lock_free.specs.declared.finding.Entered.{Entered}
 use Rattle.lock_free.specs.declared.finding.Entered.TheVariants as entered
+use Rattle.lock_free.specs.declared.finding.Level.{Level}
+use Rattle.lock_free.specs.declared.finding.Level.TheVariants as level
 use Rattle.lock_free.specs.declared.finding.Met.{Met}
 use Rattle.lock_free.specs.declared.finding.Met.TheVariants as met
 use Rattle.lock_free.specs.declared.finding.Turn.{Turn}
@@ -130,3 +132,15 @@ EnteredAt before path main position (entered.Below name link) after =
 
 abbrev pub HasEntered : View → Entered → View → Type 0
 HasEntered before result after = (path : List Ref) (main : Ref) (position : ℕ) → IsAtKey before (key.Entry path main position) → EnteredAt before path main position result after
+
+-- ---- a level
+
+-- what it has come to by the main node: where there is an entry for its key it has looked at that
+abbrev pub LevelAt : View → List Ref → Ref → Level → View → Type 0
+LevelAt before path main (level.Entry position e) after = (at : View) × HasMoved (line_at path main (turn.Entry position)) before at × EnteredAt at path main position e after
+LevelAt before path main level.Absent after = HasMoved (line_at path main turn.Absent) before after
+LevelAt before path main level.List after = HasMoved (line_at path main turn.List) before after
+LevelAt before path main level.Tomb after = HasMoved (line_at path main turn.Tomb) before after
+
+abbrev pub HasGoneDown : View → Level → View → Type 0
+HasGoneDown before result after = (path : List Ref) (i : Ref) → IsAtKey before (key.Read path (reading i)) → (main : Ref) × LevelAt before path main result after

@@ -1,7 +1,7 @@
 //! KEY: the way down to a key, in single accesses.
 
 ghost use Rattle.std.specs.Prelude.{◌≡◌, ◌<◌, true, false};
-ghost use Rattle.lock_free.specs.GoingDown.{HasEntered, HasMet, HasMetLink, HasReadKey, HasSeenEntry, HasTurned, IsAtEntry, IsAtLink, IsAtMain, IsAtNode, IsOnKey, IsWithin};
+ghost use Rattle.lock_free.specs.GoingDown.{HasEntered, HasGoneDown, HasMet, HasMetLink, HasReadKey, HasSeenEntry, HasTurned, IsAtEntry, IsAtLink, IsAtMain, IsAtNode, IsOnKey, IsWithin};
 ghost use Rattle.lock_free.specs.Loading.{IsSound};
 ghost use Rattle.lock_free.specs.Passing.{IsOnWay};
 
@@ -158,5 +158,39 @@ pub fn enter(words: &Words, actor: &mut Actor, key: u64, main: u32, position: u3
         Entered::Single(meet_single(words, actor, key, entry.slot))
     } else {
         Entered::Below(entry.slot, meet_link(words, actor, entry.slot))
+    }
+}
+
+/// What the way to a key comes to at an indirection.
+#[derive(Clone, Copy, Drop)]
+pub enum Level {
+    /// The entry at this position of the branch, and what stands in it.
+    Entry(usize, Entered),
+    /// No entry for it.
+    Absent,
+    /// A list of singles.
+    List,
+    /// A tomb.
+    Tomb,
+}
+
+/// The way to this key from the indirection in this slot, as far as the next one or to its end in the main node there.
+pub fn go_down<R: Wait, A: AsksRoot>(rt: &R, asker: &A, words: &Words, actor: &mut Actor, way: Way, key: u64, indirection: u32, flag: u32) -> Level
+    requires table { actor.old.table_id ≡ words.now.table_id }
+    requires sound { IsSound words.now.table_id.words actor.old.me.0 }
+    requires way { IsOnWay actor.old.me.0 way }
+    requires some { 0 < flag }
+    requires key { IsOnKey actor.old.me.0 key }
+    requires at { IsAtLink actor.old.me.0 indirection flag }
+    ensures table { actor.new.table_id ≡ actor.old.table_id }
+    ensures sound { IsSound words.now.table_id.words actor.new.me.0 }
+    ensures gone { HasGoneDown actor.old.me.0 result actor.new.me.0 }
+{
+    let (given, turn) = read_turn(rt, asker, words, actor, way, indirection, flag);
+    match turn {
+        Turn::Entry(position) => Level::Entry(position, enter(words, actor, key, given.link.main.slot, position as u32)),
+        Turn::Absent => Level::Absent,
+        Turn::List => Level::List,
+        Turn::Tomb => Level::Tomb,
     }
 }
