@@ -1,5 +1,6 @@
 -- What an operation that is at an entry of a branch has at hand, and what it sees there.
-use Rattle.std.proofs.Common.{◌≡◌, ◌+◌, ◌*◌, ◌/◌, ◌%◌, ◌^◌, ◌<◌, ◌≤◌, ◌==◌, ◌++◌, inl, inr, ℕ, Bool, true, false, List, [], ◌∷◌, Contains, get_or, slice_get, length, Some, None, refl, sym, ap, subst, ◌∙◌, arith, ltb-true, if◌then◌else◌}
+use Rattle.std.proofs.Common.{◌≡◌, ◌+◌, ◌*◌, ◌/◌, ◌%◌, ◌^◌, ◌<◌, ◌≤◌, ◌==◌, ◌++◌, inl, inr, ℕ, Bool, true}
+use Rattle.std.proofs.Common.{false, List, [], ◌∷◌, Contains, get_or, length, Some, refl, sym, ap, subst, ◌∙◌, arith, ltb-true, if◌then◌else◌}
 use Rattle.std.proofs.lemmas.Bool.{true≢false}
 use Rattle.std.proofs.lemmas.List.Elements.{Contains-get_or, Contains-append_left, Contains-append_right}
 use Rattle.std.proofs.lemmas.Option.{slice_get-get_or}
@@ -109,7 +110,8 @@ module _ (v : View) (path : List Ref) (main : Ref) (position : ℕ) (at : IsAtKe
   holds_entry = (its, at.1.1, inr (main, main_used.0, main_at_hand, main_used.1, entry_inside))
 
 -- the entry is the same at all times
-pub entry_same : (v w : View) (l : Later v w) (path : List Ref) (main : Ref) (position n : ℕ) (sound : IsSound n v) → IsAtKey v (key.Entry path main position) → node_at (now w).heap main ≡ node_at (now v).heap main
+pub entry_same : (v w : View) (l : Later v w) (path : List Ref) (main : Ref) (position n : ℕ) (sound : IsSound n v) → IsAtKey v (key.Entry path main position) → node_at (now w).heap main ≡
+    node_at (now v).heap main
 entry_same v w l path main position n sound at =
     let used = main_used v path main position at n sound in
     let y = l.nodes main used.0 used.1 in

@@ -148,7 +148,8 @@ module _ (n : ℕ) (before middle : View) (sound : IsSound n before) (name : ℕ
 
       comes_by : (result : Met) → ((o : Operation) → Runs middle o → by_key single.0 single.1 (key_of o.call) o ≡ line_met (now before) path main position result o) → HasMet before result after
       comes_by result is p m q other =
-          let goes = moved middle (key.Entry path main position) at_mid after (went_later n middle last n after end w) w (entry_at state.heap main position) (line_met (now before) path main position result) refl
+          let goes = moved middle (key.Entry path main position) at_mid after (went_later n middle last n after end w) w (entry_at state.heap main position) (line_met (now before) path main
+          position result) refl
           (λ o mark r. ap (key_after_entry state (record o { is_marked = mark }) path main position) node_then ∙ is o r) in
           let here : HasMoved (line_met (now before) path main position result) before after = record { later = later_last; comes = λ o r. goes.comes o (stayed.comes o r) } in
           let same = ap parts_of (sym (line_is before (key.Entry path main position) at other.0 other.1) ∙ other.2) in

@@ -76,7 +76,8 @@ module _ (n : ℕ) (before middle : View) (sound : IsSound n before) (name posit
     pub single_met : (m : Met) → HasMet middle m after → HasEntered before (entered.Single m) after
     single_met m h =
         elsewhere (λ q c k. HasMoved (line_met (now before) q c k m) before after)
-        (onward (line_met (now middle) path main position m) (line_met (now before) path main position m) (met_same (now middle) (now before) path main position same m) (h path main position at_mid))
+        (onward (line_met (now middle) path main position m) (line_met (now before) path main position m) (met_same (now middle) (now before) path main position same m) (h path main position
+        at_mid))
 
     pub link_met : (link : Link) → HasMetLink middle link after → HasEntered before (entered.Below entry.slot link) after
     link_met link h =

@@ -61,7 +61,8 @@ module _ (v : View) (l : KeyLine) (at : IsAtKey v l) where
     abbrev state : State
     state = now (seen v went.account)
 
-    pub moved : (next : Operation → Line) → key_action state l ≡ act.Look r → ((o : Operation) (mark : Bool) → Runs v o → key_after state (record o { is_marked = mark }) l ≡ next o) → HasMoved next v w
+    pub moved : (next : Operation → Line) → key_action state l ≡ act.Look r → ((o : Operation) (mark : Bool) → Runs v o → key_after state (record o { is_marked = mark }) l ≡ next o) → HasMoved
+        next v w
     moved next looks is = record { later = later; comes = comes }
       where
         comes : (o : Operation) → Runs v o → Runs w (record o { line = next o })

@@ -19,7 +19,8 @@ use Rattle.lock_free.specs.Passing.{IsPlaced}
 use Rattle.lock_free.proofs.Comings.{runs_one}
 
 -- at an entry that it has turned to
-at_entry : (before after : View) (path : List Ref) (i main : Ref) (position : ℕ) → IsAtKey before (key.Read path (reading i)) → HasMoved (line_at path main (turn.Entry position)) before after → IsAtKey after (key.Entry path main position)
+at_entry : (before after : View) (path : List Ref) (i main : Ref) (position : ℕ) → IsAtKey before (key.Read path (reading i)) → HasMoved (line_at path main (turn.Entry position)) before after →
+    IsAtKey after (key.Entry path main position)
 at_entry before after path i main position at m = (record at.0 { line = line.Key (key.Entry path main position) }, m.comes at.0 at.1, refl)
 
 module _ (before middle : View) (name flag : ℕ) (is_at : IsAtLink before name flag) (given : Given) (t : Turn) (g : HasReadKey before (given, t) middle) where

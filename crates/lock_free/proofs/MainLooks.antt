@@ -77,7 +77,8 @@ abbrev place_in : Line → List Ref × Ref
 place_in (line.Key (key.Main path main)) = (path, main)
 place_in l = ([], no_ref)
 
-module _ (n m : ℕ) (before after : View) (sound : IsSound n before) (last : IsSound m after) (name flag : ℕ) (is_at : IsAtMain before name flag) (header : Header) (g : HasLookedAtMain before header after) where
+module _ (n m : ℕ) (before after : View) (sound : IsSound n before) (last : IsSound m after) (name flag : ℕ) (is_at : IsAtMain before name flag) (header : Header) (g : HasLookedAtMain before
+    header after) where
   abbrev path : List Ref
   path = is_at.0
 
@@ -105,7 +106,8 @@ module _ (n m : ℕ) (before after : View) (sound : IsSound n before) (last : Is
       let slot = live_in_use before.sizes account w.waited.sound.bounds main (safe_of claims.1.1.0) in
       (g.1 main (at_look before (key.Main path main) at main refl)).0 slot.0 slot.1 (subst (λ x. is_main_node x ≡ true) (node_is state main slot.0 slot.1) (meets_of claims.1.1.0))
 
-  comes_by : (node : Node) (next : Operation → Line) → h.slot.node ≡ node → ((o : Operation) (mark : Bool) → Runs before o → key_after_main state (record o { is_marked = mark }) path main node ≡ next o) → HasMoved next before after
+  comes_by : (node : Node) (next : Operation → Line) → h.slot.node ≡ node → ((o : Operation) (mark : Bool) → Runs before o → key_after_main state (record o { is_marked = mark }) path main node ≡
+      next o) → HasMoved next before after
   comes_by node next is by =
       moved before (key.Main path main) at after (went_later n before sound m after last w) w main next refl
       (λ o mark runs. ap (key_after_main state (record o { is_marked = mark }) path main) (node_is state main h.slot h.stores ∙ is) ∙ by o mark runs)

@@ -67,7 +67,8 @@ module _ (before middle : View) (name flag : ℕ) (is_at : IsAtLink before name 
     -- each operation comes to the main node
     comes : (o : Operation) → Runs before o → Runs middle (record o { line = line.Key (key.Main path main) })
     comes o r =
-        subst (λ l. Runs middle (read_to (Gives main) (record o { line = l })) → Runs middle (record o { line = line.Key (key.Main path main) })) (sym (line_is before (key.Read path (reading i)) at o r)) (λ x. x) (gives.come.comes o r)
+        subst (λ l. Runs middle (read_to (Gives main) (record o { line = l })) → Runs middle (record o { line = line.Key (key.Main path main) })) (sym (line_is before (key.Read path (reading i))
+        at o r)) (λ x. x) (gives.come.comes o r)
 
     at_main : IsAtKey middle (key.Main path main)
     at_main = (record at.0 { line = line.Key (key.Main path main) }, comes at.0 at.1, refl)
@@ -93,7 +94,10 @@ module _ (before middle : View) (name flag : ℕ) (is_at : IsAtLink before name 
             main = main;
             moved = record {
               later = later_both before middle after gives.come.later moves.later;
-              comes = λ o r. subst (λ l. Runs after (record o { line = l })) (line_same path main t o (line.Key (key.Main path main))) (moves.comes (record o { line = line.Key (key.Main path main) }) (comes o r));
+              comes = λ o r. subst (λ l. Runs after (record o { line = l })) (line_same path main t o (line.Key (key.Main path main))) (moves.comes (record o {
+                line = line.Key (key.Main path
+                    main);
+              }) (comes o r));
             };
             link = link_later middle after moves.later i main given.link gives.link;
             header = main_later middle after moves.later main given.header gives.header;

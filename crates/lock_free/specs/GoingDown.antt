@@ -122,7 +122,8 @@ line_below state path main position generation operation =
     if is_passable operation generation then going_down path (entry_at state.heap main position) else renew_next state path main []
 
 abbrev pub HasMetLink : View → Link → View → Type 0
-HasMetLink before link after = (path : List Ref) (main : Ref) (position : ℕ) → IsAtKey before (key.Entry path main position) → HasMoved (line_below (now before) path main position link.generation) before after
+HasMetLink before link after = (path : List Ref) (main : Ref) (position : ℕ) → IsAtKey before (key.Entry path main position) → HasMoved (line_below (now before) path main position
+    link.generation) before after
 
 -- what it has met in the entry: a single, or an indirection that is in this slot
 abbrev pub EnteredAt : View → List Ref → Ref → ℕ → Entered → View → Type 0

@@ -175,7 +175,16 @@ pub enum Level {
 }
 
 /// The way to this key from the indirection in this slot, as far as the next one or to its end in the main node there.
-pub fn go_down<R: Wait, A: AsksRoot>(rt: &R, asker: &A, words: &Words, actor: &mut Actor, way: Way, key: u64, indirection: u32, flag: u32) -> Level
+pub fn go_down<R: Wait, A: AsksRoot>(
+    rt: &R,
+    asker: &A,
+    words: &Words,
+    actor: &mut Actor,
+    way: Way,
+    key: u64,
+    indirection: u32,
+    flag: u32,
+) -> Level
     requires table { actor.old.table_id ≡ words.now.table_id }
     requires sound { IsSound words.now.table_id.words actor.old.me.0 }
     requires way { IsOnWay actor.old.me.0 way }
@@ -188,7 +197,10 @@ pub fn go_down<R: Wait, A: AsksRoot>(rt: &R, asker: &A, words: &Words, actor: &m
 {
     let (given, turn) = read_turn(rt, asker, words, actor, way, indirection, flag);
     match turn {
-        Turn::Entry(position) => Level::Entry(position, enter(words, actor, key, given.link.main.slot, position as u32)),
+        Turn::Entry(position) => Level::Entry(
+            position,
+            enter(words, actor, key, given.link.main.slot, position as u32),
+        ),
         Turn::Absent => Level::Absent,
         Turn::List => Level::List,
         Turn::Tomb => Level::Tomb,

@@ -14,7 +14,8 @@ enter-requires-clause-at g c =
 pub returns-in-Entry-clause-gone : goal.returns-in-Entry-clause-gone
 returns-in-Entry-clause-gone g c =
     let x = c.read_turn-turn in
-    entered_it c.args.actor.now.me.0 x.new.actor.me.0 c.args.indirection c.args.flag c.requires.at x.result.0 x.result.1 x.ensures.turned c.in-Entry.position c.in-Entry.is c.enter.new.actor.me.0 c.enter.result
+    entered_it c.args.actor.now.me.0 x.new.actor.me.0 c.args.indirection c.args.flag c.requires.at x.result.0 x.result.1 x.ensures.turned c.in-Entry.position c.in-Entry.is c.enter.new.actor.me.0
+    c.enter.result
     c.enter.ensures.entered
 
 pub returns-in-Absent-clause-gone : goal.returns-in-Absent-clause-gone

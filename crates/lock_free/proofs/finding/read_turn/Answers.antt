@@ -10,4 +10,5 @@ turn_at-turn-requires-clause-at g c =
 
 pub returns-clause-turned : goal.returns-clause-turned
 returns-clause-turned g c =
-    read_turned c.args.actor.now.me.0 c.read-given.new.actor.me.0 c.args.indirection c.args.flag c.requires.at c.read-given.result c.read-given.ensures.given c.turn_at-turn.new.actor.me.0 c.turn_at-turn.result c.turn_at-turn.ensures.turned
+    read_turned c.args.actor.now.me.0 c.read-given.new.actor.me.0 c.args.indirection c.args.flag c.requires.at c.read-given.result c.read-given.ensures.given c.turn_at-turn.new.actor.me.0
+    c.turn_at-turn.result c.turn_at-turn.ensures.turned
