@@ -1,6 +1,6 @@
 -- What an operation that is at an entry of a branch has at hand, and what it sees there.
-use Rattle.std.proofs.Common.{◌≡◌, ◌+◌, ◌*◌, ◌/◌, ◌%◌, ◌^◌, ◌<◌, ◌≤◌, ◌==◌, ◌++◌, inl, inr, ℕ, Bool, true}
-use Rattle.std.proofs.Common.{false, List, [], ◌∷◌, Contains, get_or, length, Some, refl, sym, ap, subst, ◌∙◌, arith, ltb-true, if◌then◌else◌}
+use Rattle.std.proofs.Common.{◌≡◌, ◌^◌, ◌<◌, inl, inr, ℕ, true}
+use Rattle.std.proofs.Common.{List, [], ◌∷◌, Contains, get_or, length, Some, refl, sym, ap, subst, ◌∙◌, arith, ltb-true}
 use Rattle.std.proofs.lemmas.Bool.{true≢false}
 use Rattle.std.proofs.lemmas.List.Elements.{Contains-get_or, Contains-append_left, Contains-append_right}
 use Rattle.std.proofs.lemmas.Option.{slice_get-get_or}
@@ -12,23 +12,22 @@ use Rattle.machine_model.specs.Beneath.slot_arena.specs.declared.refs.Ref.{Ref}
 use Rattle.machine_model.specs.Beneath.slot_arena.specs.declared.nodes.Node.{Node}
 use Rattle.machine_model.specs.Beneath.slot_arena.specs.declared.nodes.Node.TheVariants.{Indirection, Branch, Single, Tomb, List as Listed}
 use Rattle.machine_model.specs.Beneath.slot_arena.specs.declared.nodes.Slot.{Slot}
-use Rattle.machine_model.specs.Beneath.slot_arena.specs.Heaps.{no_ref, node_at, entry_at, entries_of}
+use Rattle.machine_model.specs.Beneath.slot_arena.specs.Heaps.{no_ref, node_at, entries_of}
 use Rattle.machine_model.specs.Beneath.slot_arena.specs.Refs.{slot_of}
 use Rattle.machine_model.specs.declared.finding.KeyLine.TheVariants as key
 use Rattle.machine_model.specs.declared.lines.Line.{Line}
 use Rattle.machine_model.specs.declared.lines.Line.TheVariants as line
 use Rattle.machine_model.specs.declared.operations.Operation.{Operation}
-use Rattle.proof_memory.specs.Laws.{SameNode}
 use Rattle.proof_memory.specs.Wants.{AllHold, is_main_node, is_branch, is_branch_or_list, key_wants}
 use Rattle.proof_memory.proofs.Claims.Uses.{safe_of, meets_of}
 use Rattle.lock_free.specs.declared.rules.View.{View}
 use Rattle.lock_free.specs.Accounts.{place_of}
 use Rattle.lock_free.specs.GoingDown.{IsAtKey, HasStayed, entry_in, IsEntryIn, IsAtEntry, HasSeenEntry}
 use Rattle.lock_free.specs.Live.{IsLive, line_claims, refs_of_claims, at_hand}
-use Rattle.lock_free.specs.Loading.{now, seen, Runs, IsUsed, IsSound, Holds, HasPosition, Saw, HasSeenPair}
+use Rattle.lock_free.specs.Loading.{now, seen, IsUsed, IsSound, Holds, HasPosition, HasSeenPair}
 use Rattle.lock_free.specs.Nodes.{class_of, half_in, is_single}
-use Rattle.lock_free.specs.Passing.{Later, IsPlaced}
-use Rattle.lock_free.specs.Places.{words_in, words_of}
+use Rattle.lock_free.specs.Passing.{Later}
+use Rattle.lock_free.specs.Places.{words_of}
 use Rattle.lock_free.proofs.Asked.{live_in_use}
 use Rattle.lock_free.proofs.Comings.{saw_runs}
 use Rattle.lock_free.proofs.Framing.{class_small}

@@ -1,13 +1,11 @@
 -- KEY's look at an entry of a branch: a single, or an indirection.
-use Rattle.std.proofs.Common.{◌≡◌, ◌==◌, ◌-◌, ℕ, Bool, true, false, List, [], get_or, length, nat_lt, Some, None, refl, sym, ap, subst, ◌∙◌, arith, if◌then◌else◌}
-use Rattle.std.proofs.lemmas.Bool.{true≢false, eqb-true}
-use Rattle.trie_words.specs.declared.links.Link.{Link}
+use Rattle.std.proofs.Common.{◌≡◌, ◌==◌, ◌-◌, ℕ, Bool, true, false, List, [], get_or, length, Some, refl, sym, ap, subst, ◌∙◌, if◌then◌else◌}
+use Rattle.std.proofs.lemmas.Bool.{true≢false}
 use Rattle.machine_model.specs.Beneath.slot_arena.specs.declared.refs.Ref.{Ref}
 use Rattle.machine_model.specs.Beneath.slot_arena.specs.declared.nodes.Node.{Node}
 use Rattle.machine_model.specs.Beneath.slot_arena.specs.declared.nodes.Node.TheVariants.{Indirection, Branch, Single, Tomb, List as Listed}
 use Rattle.machine_model.specs.Beneath.slot_arena.specs.declared.nodes.Slot.{Slot}
 use Rattle.machine_model.specs.Beneath.slot_arena.specs.Heaps.{no_ref, node_at, entry_at, entries_of, with_main_word}
-use Rattle.machine_model.specs.Beneath.slot_arena.specs.Refs.{slot_of}
 use Rattle.machine_model.specs.declared.actions.Action.TheVariants as act
 use Rattle.machine_model.specs.declared.building.BuildLine.TheVariants as build
 use Rattle.machine_model.specs.declared.building.Change.TheVariants as change
@@ -18,17 +16,16 @@ use Rattle.machine_model.specs.declared.lines.Line.{Line}
 use Rattle.machine_model.specs.declared.lines.Line.TheVariants as line
 use Rattle.machine_model.specs.declared.operations.Operation.{Operation}
 use Rattle.machine_model.specs.Calls.{key_of, when_found}
-use Rattle.machine_model.specs.Finding.{found, found_so, removing, absent_beside, key_after, key_after_entry}
+use Rattle.machine_model.specs.Finding.{found, found_so, removing, absent_beside, key_after_entry}
 use Rattle.machine_model.specs.States.{State}
 use Rattle.lock_free.specs.declared.accounts.Account.{Account}
 use Rattle.lock_free.specs.declared.finding.Met.{Met}
 use Rattle.lock_free.specs.declared.finding.Met.TheVariants as met
 use Rattle.lock_free.specs.declared.rules.View.{View}
-use Rattle.lock_free.specs.GoingDown.{IsAtKey, HasMoved, HasStayed, entry_in, IsEntryIn, IsAtNode, IsOnKey, line_met, HasMet}
-use Rattle.lock_free.specs.Loading.{now, seen, Runs, IsUsed, IsSound, IsAtSlot, HoldsSlot, Went, Saw, HasSeenKey, HasLookedAtValue, HasLookedAtKey}
+use Rattle.lock_free.specs.GoingDown.{IsAtKey, HasMoved, HasStayed, entry_in, IsAtNode, IsOnKey, line_met, HasMet}
+use Rattle.lock_free.specs.Loading.{now, seen, Runs, IsUsed, IsSound, IsAtSlot, HoldsSlot, Went, HasSeenKey, HasLookedAtValue}
 use Rattle.lock_free.specs.Nodes.{is_single}
-use Rattle.lock_free.specs.Passing.{Later, IsPlaced}
-use Rattle.lock_free.specs.Places.{words_of}
+use Rattle.lock_free.specs.Passing.{Later}
 use Rattle.lock_free.proofs.Comings.{runs_one, saw_runs}
 use Rattle.lock_free.proofs.EntryLooks.{stays_at, entry_same, holds_entry}
 use Rattle.lock_free.proofs.GivenBack.{node_is}

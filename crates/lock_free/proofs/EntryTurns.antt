@@ -1,9 +1,9 @@
 -- KEY meets what stands in an entry of a branch.
-use Rattle.std.proofs.Common.{◌≡◌, ℕ, Bool, true, false, List, [], length, get_or, nat_lt, refl, sym, ap, subst, ◌∙◌, if◌then◌else◌}
+use Rattle.std.proofs.Common.{◌≡◌, ℕ, Bool, List, [], length, get_or, nat_lt, refl, sym, ap, subst, ◌∙◌, if◌then◌else◌}
 use Rattle.trie_words.specs.declared.entries.Entry.{Entry}
 use Rattle.trie_words.specs.declared.links.Link.{Link}
 use Rattle.machine_model.specs.Beneath.slot_arena.specs.declared.refs.Ref.{Ref}
-use Rattle.machine_model.specs.Beneath.slot_arena.specs.Heaps.{no_ref, node_at, entry_at, entries_of}
+use Rattle.machine_model.specs.Beneath.slot_arena.specs.Heaps.{no_ref, node_at, entries_of}
 use Rattle.machine_model.specs.declared.finding.KeyLine.TheVariants as key
 use Rattle.machine_model.specs.declared.lines.Line.{Line}
 use Rattle.machine_model.specs.declared.lines.Line.TheVariants as line
@@ -12,14 +12,13 @@ use Rattle.machine_model.specs.declared.repairs.RenewLine.TheVariants as renew
 use Rattle.machine_model.specs.Calls.{key_of, when_found}
 use Rattle.machine_model.specs.Finding.{going_down, is_passable}
 use Rattle.machine_model.specs.States.{State}
-use Rattle.lock_free.specs.declared.finding.Entered.{Entered}
 use Rattle.lock_free.specs.declared.finding.Entered.TheVariants as entered
 use Rattle.lock_free.specs.declared.finding.Met.{Met}
 use Rattle.lock_free.specs.declared.finding.Met.TheVariants as met
 use Rattle.lock_free.specs.declared.rules.View.{View}
-use Rattle.lock_free.specs.GoingDown.{IsAtKey, HasMoved, HasStayed, entry_in, IsEntryIn, IsAtEntry, IsAtNode, IsOnKey, HasSeenEntry, line_met, HasMet, line_below, HasMetLink, HasEntered}
+use Rattle.lock_free.specs.GoingDown.{IsAtKey, HasMoved, entry_in, IsEntryIn, IsAtEntry, IsAtNode, IsOnKey, HasSeenEntry, line_met, HasMet, line_below, HasMetLink, HasEntered}
 use Rattle.lock_free.specs.Loading.{now, Runs, IsSound}
-use Rattle.lock_free.specs.Passing.{Later, IsPlaced}
+use Rattle.lock_free.specs.Passing.{IsPlaced}
 use Rattle.lock_free.proofs.Comings.{runs_one}
 use Rattle.lock_free.proofs.EntryLooks.{stays_at, entry_same}
 use Rattle.lock_free.proofs.EntryMeets.{found_same, parts_of}

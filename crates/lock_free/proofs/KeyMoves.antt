@@ -1,8 +1,6 @@
 -- KEY comes from line to line: each of its steps, but those of a READ, looks at a node.
-use Rattle.std.proofs.Common.{◌≡◌, ℕ, Bool, List, Contains, get_or, Some, None, refl, sym, ap, subst, ◌∙◌}
+use Rattle.std.proofs.Common.{◌≡◌, ℕ, Bool, Some, sym, ap, subst, ◌∙◌}
 use Rattle.machine_model.specs.Beneath.slot_arena.specs.declared.refs.Ref.{Ref}
-use Rattle.machine_model.specs.Beneath.slot_arena.specs.declared.nodes.Slot.{Slot}
-use Rattle.machine_model.specs.Beneath.slot_arena.specs.Refs.{slot_of}
 use Rattle.machine_model.specs.declared.actions.Action.{Action}
 use Rattle.machine_model.specs.declared.actions.Action.TheVariants as act
 use Rattle.machine_model.specs.declared.finding.KeyLine.{KeyLine}
@@ -21,10 +19,10 @@ use Rattle.lock_free.specs.declared.sizes.Sizes.{Sizes}
 use Rattle.lock_free.specs.Accounts.{bounds_for, state_of}
 use Rattle.lock_free.specs.GoingDown.{IsAtKey, HasMoved}
 use Rattle.lock_free.specs.Live.{IsLive}
-use Rattle.lock_free.specs.Loading.{now, seen, Runs, IsAt, IsSound, Went, Saw}
+use Rattle.lock_free.specs.Loading.{now, seen, Runs, IsAt, IsSound, Went}
 use Rattle.lock_free.specs.Passing.{Later}
 use Rattle.lock_free.proofs.Asked.{line_stands}
-use Rattle.lock_free.proofs.Comings.{runs_one, saw_runs}
+use Rattle.lock_free.proofs.Comings.{runs_one}
 
 -- keys are hashed the same way at all times
 pub hash_is : (sizes : Sizes) (account : Account) → (state_of sizes account).limits.hash ≡ sizes.hash

@@ -1,5 +1,5 @@
 -- KEY goes down from an indirection to the next.
-use Rattle.std.proofs.Common.{◌≡◌, ◌<◌, ℕ, List, refl, sym, ap, subst, ◌∙◌}
+use Rattle.std.proofs.Common.{◌≡◌, ◌<◌, ℕ, List, refl, ap, subst, ◌∙◌}
 use Rattle.machine_model.specs.Beneath.slot_arena.specs.declared.refs.Ref.{Ref}
 use Rattle.machine_model.specs.declared.finding.KeyLine.TheVariants as key
 use Rattle.machine_model.specs.declared.lines.Line.TheVariants as line
@@ -7,15 +7,12 @@ use Rattle.machine_model.specs.declared.operations.Operation.{Operation}
 use Rattle.machine_model.specs.Calls.{key_of}
 use Rattle.machine_model.specs.Reading.{reading}
 use Rattle.lock_free.specs.declared.finding.Entered.{Entered}
-use Rattle.lock_free.specs.declared.finding.Level.{Level}
 use Rattle.lock_free.specs.declared.finding.Level.TheVariants as level
 use Rattle.lock_free.specs.declared.finding.Turn.{Turn}
 use Rattle.lock_free.specs.declared.finding.Turn.TheVariants as turn
 use Rattle.lock_free.specs.declared.reading.Given.{Given}
 use Rattle.lock_free.specs.declared.rules.View.{View}
-use Rattle.lock_free.specs.GoingDown.{IsAtKey, HasMoved, IsAtEntry, IsOnKey, line_at, IsWithin, IsAtLink, HasReadTurn, HasReadKey, HasEntered, LevelAt, HasGoneDown}
-use Rattle.lock_free.specs.Loading.{Runs}
-use Rattle.lock_free.specs.Passing.{IsPlaced}
+use Rattle.lock_free.specs.GoingDown.{IsAtKey, HasMoved, IsAtEntry, IsOnKey, line_at, IsWithin, IsAtLink, HasReadTurn, HasReadKey, HasEntered, HasGoneDown}
 use Rattle.lock_free.proofs.Comings.{runs_one}
 
 -- at an entry that it has turned to

@@ -1,5 +1,5 @@
 -- KEY's look at a main node.
-use Rattle.std.proofs.Common.{ltb-true, count_ones, nat_le, ◌≡◌, ◌<◌, ◌^◌, ◌*◌, ℕ, Bool, true, false, List, [], get_or, Some, None, refl, sym, ap, subst, ◌∙◌, arith, if◌then◌else◌}
+use Rattle.std.proofs.Common.{ltb-true, count_ones, ◌≡◌, ◌<◌, ◌^◌, ◌*◌, ℕ, Bool, true, false, List, [], refl, sym, ap, subst, ◌∙◌, arith, if◌then◌else◌}
 use Rattle.std.proofs.lemmas.Bool.{le-leb}
 use Rattle.trie_words.specs.Codes.{IsShape}
 use Rattle.trie_words.specs.declared.entries.Entry.{Entry}
@@ -10,21 +10,19 @@ use Rattle.machine_model.specs.Beneath.ctrie_base.specs.Paths.{index_at, positio
 use Rattle.machine_model.specs.Beneath.slot_arena.specs.declared.refs.Ref.{Ref}
 use Rattle.machine_model.specs.Beneath.slot_arena.specs.declared.nodes.Node.{Node}
 use Rattle.machine_model.specs.Beneath.slot_arena.specs.declared.nodes.Node.TheVariants.{Branch, Tomb, List as Listed}
-use Rattle.machine_model.specs.Beneath.slot_arena.specs.declared.nodes.Slot.{Slot}
-use Rattle.machine_model.specs.Beneath.slot_arena.specs.Heaps.{no_ref, node_at}
+use Rattle.machine_model.specs.Beneath.slot_arena.specs.Heaps.{no_ref}
 use Rattle.machine_model.specs.Beneath.slot_arena.specs.Refs.{slot_of}
-use Rattle.machine_model.specs.declared.finding.KeyLine.{KeyLine}
 use Rattle.machine_model.specs.declared.finding.KeyLine.TheVariants as key
 use Rattle.machine_model.specs.declared.lines.Line.{Line}
 use Rattle.machine_model.specs.declared.lines.Line.TheVariants as line
 use Rattle.machine_model.specs.declared.operations.Operation.{Operation}
-use Rattle.machine_model.specs.Finding.{absent, after_tomb, key_after_main}
+use Rattle.machine_model.specs.Finding.{absent, key_after_main}
 use Rattle.machine_model.specs.Calls.{key_of}
 use Rattle.machine_model.specs.Beneath.ctrie_base.specs.Hashes.{hash_of}
 use Rattle.machine_model.specs.Paths.{depth_of, flag_in}
 use Rattle.machine_model.specs.States.{State}
 use Rattle.nodes.specs.Levels.{has_flag}
-use Rattle.proof_memory.specs.Wants.{AllHold, is_main_node, place_wants, AMain, flag_on}
+use Rattle.proof_memory.specs.Wants.{is_main_node, flag_on}
 use Rattle.proof_memory.proofs.Claims.Uses.{safe_of, meets_of}
 use Rattle.proof_memory.proofs.Heap.Ones.{ones_most}
 use Rattle.proof_memory.proofs.Lines.Shared.{position_within}
@@ -32,11 +30,9 @@ use Rattle.lock_free.specs.declared.accounts.Account.{Account}
 use Rattle.lock_free.specs.declared.finding.Turn.{Turn}
 use Rattle.lock_free.specs.declared.finding.Turn.TheVariants as turn
 use Rattle.lock_free.specs.declared.rules.View.{View}
-use Rattle.lock_free.specs.GoingDown.{IsAtKey, HasMoved, IsFlag, IsAtMain, line_at, HasTurned}
-use Rattle.lock_free.specs.Live.{IsLive}
+use Rattle.lock_free.specs.GoingDown.{IsAtKey, HasMoved, IsAtMain, line_at, HasTurned}
 use Rattle.lock_free.specs.Loading.{now, seen, Runs, IsSound, Went, HasHeader, HasLookedAtMain}
 use Rattle.lock_free.specs.Nodes.{SaysShape, of_branch, of_tomb, of_list}
-use Rattle.lock_free.specs.Passing.{Later}
 use Rattle.lock_free.specs.Places.{words_of}
 use Rattle.lock_free.proofs.Asked.{live_in_use}
 use Rattle.lock_free.proofs.GivenBack.{node_is}

@@ -1,13 +1,12 @@
 -- KEY reads an indirection, and turns at its main node.
-use Rattle.std.proofs.Common.{◌≡◌, ℕ, Option, None, refl, sym, ap, subst, ◌∙◌, List, []}
+use Rattle.std.proofs.Common.{◌≡◌, ℕ, None, refl, sym, ap, subst, ◌∙◌, List, []}
 use Rattle.machine_model.specs.Beneath.slot_arena.specs.declared.refs.Ref.{Ref}
 use Rattle.machine_model.specs.Beneath.slot_arena.specs.Heaps.{no_ref}
 use Rattle.machine_model.specs.declared.finding.KeyLine.TheVariants as key
 use Rattle.machine_model.specs.declared.lines.Line.{Line}
 use Rattle.machine_model.specs.declared.lines.Line.TheVariants as line
 use Rattle.machine_model.specs.declared.operations.Operation.{Operation}
-use Rattle.machine_model.specs.declared.reading.After.TheVariants.{Goes, Gives}
-use Rattle.machine_model.specs.declared.reading.Read.{Read}
+use Rattle.machine_model.specs.declared.reading.After.TheVariants.{Gives}
 use Rattle.machine_model.specs.declared.reading.ReadLine.TheVariants as read
 use Rattle.machine_model.specs.Operations.{read_of}
 use Rattle.machine_model.specs.Reading.{reading}
@@ -20,7 +19,7 @@ use Rattle.lock_free.specs.declared.rules.View.{View}
 use Rattle.lock_free.specs.GoingDown.{IsAtKey, HasMoved, IsFlag, IsAtMain, line_at, HasTurned, IsAtLink, HasReadTurn, HasReadKey}
 use Rattle.lock_free.specs.Loading.{Runs}
 use Rattle.lock_free.specs.OfReads.{read_to}
-use Rattle.lock_free.specs.Passing.{Later, HasCome, IsReading, KnowsLink, IsPlaced, IsPassing, HasGiven, HasPassed}
+use Rattle.lock_free.specs.Passing.{IsReading, IsPassing, HasGiven, HasPassed}
 use Rattle.lock_free.proofs.Comings.{runs_one}
 use Rattle.lock_free.proofs.KeyMoves.{line_is}
 use Rattle.lock_free.proofs.Laters.{later_both, link_later, main_later}

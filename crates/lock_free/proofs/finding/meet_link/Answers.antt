@@ -1,4 +1,4 @@
-use Rattle.lock_free.proofs.LinkMeets.{link_ready, meets_link}
+use Rattle.lock_free.proofs.LinkMeets.{meets_link}
 use Rattle.lock_free.proofs.finding.meet_link.Goals as goal
 
 pub returns-clause-met : goal.returns-clause-met
