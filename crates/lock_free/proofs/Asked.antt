@@ -15,14 +15,14 @@ use Rattle.machine_model.specs.declared.reading.ReadLine.TheVariants as read
 use Rattle.machine_model.specs.Operations.{action_of, read_of}
 use Rattle.machine_model.specs.Reading.{is_licensed}
 use Rattle.proof_memory.specs.Laws.{SameNode}
-use Rattle.proof_memory.specs.Wants.{is_main_node, is_formed}
+use Rattle.proof_memory.specs.Wants.{AllHold, is_main_node, is_formed}
 use Rattle.proof_waiting.specs.Beneath.proof_slots.specs.Unswept.{HasNoSweeps}
 use Rattle.lock_free.specs.declared.accounts.Account.{Account}
 use Rattle.lock_free.specs.declared.accounts.Known.{Known}
 use Rattle.lock_free.specs.declared.sizes.Sizes.{Sizes}
 use Rattle.lock_free.specs.Accounts.{bounds_for, state_of, HasWaited, running, gone_on, HasStood}
 use Rattle.lock_free.specs.Deciding.{Decides}
-use Rattle.lock_free.specs.Live.{IsLive}
+use Rattle.lock_free.specs.Live.{line_claims, IsLive}
 use Rattle.lock_free.proofs.OneStep.Found as found
 use Rattle.lock_free.proofs.OneStep.Decides as decides
 use Rattle.lock_free.proofs.OneStep.Giving as giving
@@ -56,6 +56,10 @@ module _ (sizes : Sizes) (account : Account) (bounds : AreBounds (bounds_for siz
   slots_tell = found.slots_tell sizes account bounds
 
   module _ (actor : ℕ) (operation : Operation) (runs : running sizes account actor operation) where
+    -- what its line names is live, and what it is taken for
+    pub line_stands : AllHold (IsLive (state_of sizes account)) (state_of sizes account).heap (line_claims (state_of sizes account) operation)
+    line_stands = found.line_stands sizes account bounds actor operation runs
+
     -- what an action names is live, and what it is taken for
     pub link_stands : (i : Ref) → Contains (links_of (action_of (state_of sizes account) operation)) i →
         IsLive (state_of sizes account) i × ((slot : Slot) × (generation : ℕ) × (main : Ref) × (get_or (state_of sizes account).heap.slots (slot_of i) None ≡ Some slot)

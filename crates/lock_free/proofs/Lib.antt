@@ -73,3 +73,11 @@ mod EnterStep
 mod MarkStep
 mod PassStep
 mod CloseStep
+mod KeyMoves
+mod MainLooks
+mod EntryLooks
+mod EntryMeets
+mod LinkMeets
+mod ReadTurns
+mod EntryTurns
+mod Levels

@@ -26,3 +26,4 @@ pub mod Met
 pub mod Makes
 pub mod Openers
 pub mod GivesUp
+pub mod Entries

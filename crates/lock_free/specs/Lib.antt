@@ -22,3 +22,4 @@ pub mod OfReads
 pub mod Passing
 pub mod Swaps
 pub mod SeatWords
+pub mod GoingDown

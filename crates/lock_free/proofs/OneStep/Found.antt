@@ -32,7 +32,7 @@ use Rattle.proof_memory.proofs.Safety.States.{IsSafe}
 use Rattle.proof_garbage.proofs.Claims.{Are, none_in, one_in, both_in}
 use Rattle.proof_garbage.proofs.Fresh.{reading_stands}
 use Rattle.proof_garbage.proofs.Gone.{failed_gone}
-use Rattle.proof_garbage.proofs.Known.{known_used, action_known}
+use Rattle.proof_garbage.proofs.Known.{known_used, line_known, action_known}
 use Rattle.proof_garbage.proofs.Restoring.{failed_over, last, known}
 use Rattle.proof_garbage.proofs.Restoring.{states as states_in}
 use Rattle.proof_commits.proofs.Words.Along.{protocol}
@@ -46,7 +46,7 @@ use Rattle.proof_waiting.specs.Beneath.proof_slots.proofs.Unswept.Kept.{nothing_
 use Rattle.lock_free.specs.declared.accounts.Account.{Account}
 use Rattle.lock_free.specs.declared.sizes.Sizes.{Sizes}
 use Rattle.lock_free.specs.Accounts.{bounds_for, state_of, HasWaited, running, gone_on}
-use Rattle.lock_free.specs.Live.{IsLive}
+use Rattle.lock_free.specs.Live.{line_claims, IsLive}
 use Rattle.lock_free.specs.Nodes.{IsAhead}
 use Rattle.lock_free.proofs.OneStep.Longer.{run_longer, bounds_less}
 use Rattle.lock_free.proofs.OneStep.Widened.{slot_in}
@@ -173,6 +173,10 @@ module _ (sizes : Sizes) (account : Account) (bounds : AreBounds (bounds_for siz
   module _ (actor : ℕ) (operation : Operation) (runs : running sizes account actor operation) where
     claims : AllHold (IsLive state) state.heap (action_wants (action_of state operation))
     claims = action_known state safe (λ id. Unit {0}) actor operation runs tt
+
+    -- what its line names is live, and what it is taken for
+    pub line_stands : AllHold (IsLive state) state.heap (line_claims state operation)
+    line_stands = line_known state safe (λ id. Unit {0}) actor operation runs tt
 
     -- what an action names is live, and what it is taken for
     pub link_stands : (i : Ref) → Contains (links_of (action_of state operation)) i →
