@@ -17,7 +17,7 @@ mod swapping;
 
 pub use accounts::{Account, Known, Owned};
 pub use exchanges::{decide, publish, restore};
-pub use finding::{Entered, Met, Turn, meet_link, meet_single, read_turn, see_entry, turn_at};
+pub use finding::{Entered, Level, Met, go_down};
 pub use handles::{close, enter, mark, see_root};
 pub use loads::{
     Actor, Words, look_at_key, look_at_link, look_at_main, look_at_value, read_header, read_link,
