@@ -6,6 +6,7 @@ mod accounts;
 mod exchanges;
 mod finding;
 mod handles;
+mod holding;
 mod loads;
 mod offers;
 mod pins;
