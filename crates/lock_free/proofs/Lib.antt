@@ -83,3 +83,4 @@ mod EntryTurns
 mod Levels
 mod Counts
 mod HeldEntries
+mod OnLines
