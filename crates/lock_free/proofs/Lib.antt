@@ -84,3 +84,5 @@ mod Levels
 mod Counts
 mod HeldEntries
 mod OnLines
+mod NextEntries
+mod RepairLooks

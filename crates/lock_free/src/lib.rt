@@ -3,6 +3,7 @@
 #![tactic(auto)]
 
 mod accounts;
+mod cleaning;
 mod exchanges;
 mod finding;
 mod handles;
@@ -11,6 +12,7 @@ mod loads;
 mod offers;
 mod pins;
 mod reading;
+mod renewing;
 mod rules;
 mod sizes;
 mod stores;
