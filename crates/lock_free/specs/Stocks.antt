@@ -51,18 +51,21 @@ abbrev pub put_back : List Made → Pool → Pool
 put_back [] pool = pool
 put_back (m ∷ ms) pool = put_back ms (with_slot pool m.class m.slot)
 
--- a slot of each class has room for it, and for all that was made
+-- so many slots of a class are kept at most, with those of all that was made
 abbrev pub most_kept : ℕ
 most_kept = 128
 
-pub record AreFew (stock : Stocked) : Type 0 where
-  pub small : length stock.pool.small + length stock.made ≤ most_kept
-  pub medium : length stock.pool.medium + length stock.made ≤ most_kept
-  pub wide : length stock.pool.wide + length stock.made ≤ most_kept
+abbrev pub AreFew : Pool → List Made → Type 0
+AreFew pool made = (class : ℕ) → length (pool_of pool class) + length made ≤ most_kept
 
--- so have so many slots more
+-- there is room for so many more
 abbrev pub HasRoom : Stocked → ℕ → Type 0
-HasRoom stock more = (class : ℕ) → class < 3 → length (pool_of stock.pool class) + length stock.made + more ≤ most_kept
+HasRoom stock more = (class : ℕ) → length (pool_of stock.pool class) + length stock.made + more ≤ most_kept
+
+-- the last one of the class is free no more
+abbrev pub IsPopped : Pool → ℕ → Option ℕ → Pool → Type 0
+IsPopped before class None after = (pool_of before class ≡ []) × (after ≡ before)
+IsPopped before class (Some name) after = (rest : List ℕ) × (pool_of before class ≡ rest ++ name ∷ []) × (after ≡ with_slots before class rest)
 
 -- the last free slot of the class has become that of a node
 abbrev pub NotesLast : Stocked → ℕ → Stocked → Type 0

@@ -7,11 +7,13 @@ mod exchanges;
 mod finding;
 mod handles;
 mod loads;
+mod makes;
 mod offers;
 mod pins;
 mod reading;
 mod rules;
 mod sizes;
+mod stock;
 mod stores;
 mod swapping;
 

@@ -1,10 +1,10 @@
 //! What a seat owns in plain memory: slots that are free for it, and those of the nodes that its operation has made.
 
-ghost use Rattle.std.specs.Prelude.{◌≡◌, ◌<◌, [], ◌→◌, IsTrue, OnSome, Some, None};
+ghost use Rattle.std.specs.Prelude.{◌≡◌, ℕ, ◌<◌, ◌≤◌, [], IsTrue, OnSome, length};
 ghost use Rattle.lock_free.specs.Loading.{IsSound};
 ghost use Rattle.lock_free.specs.Making.{with_slot};
 ghost use Rattle.lock_free.specs.Rules.{pool_of};
-ghost use Rattle.lock_free.specs.Stocks.{HasRoom, HasSlotOrNone, IsLast, IsStock, NotesLast, put_back};
+ghost use Rattle.lock_free.specs.Stocks.{HasRoom, HasSlotOrNone, IsLast, IsPopped, IsStock, NotesLast, put_back};
 
 use crate::loads::{Actor, Words};
 use crate::sizes::Sizes;
@@ -25,14 +25,86 @@ pub struct Made {
     pub slot: u32,
 }
 
+/// Free slots by class, the next one last.
+#[derive(Drop)]
+struct Free {
+    small: ArrayVec<u32, 128>,
+    medium: ArrayVec<u32, 128>,
+    wide: ArrayVec<u32, 128>,
+}
+
+impl Model for Free {
+    ghost use Rattle.lock_free.specs.declared.rules.Pool.{Pool};
+
+    ghost Value = { Pool };
+
+    ghost view = { λ s. record { small = s.small.items; medium = s.medium.items; wide = s.wide.items } };
+}
+
+impl Free {
+    fn new() -> Free
+        ensures small { result.small ≡ [] }
+        ensures medium { result.medium ≡ [] }
+        ensures wide { result.wide ≡ [] }
+    {
+        Free {
+            small: ArrayVec::new(),
+            medium: ArrayVec::new(),
+            wide: ArrayVec::new(),
+        }
+    }
+
+    /// The last one of this class.
+    fn last(&self, class: u32) -> Option<u32>
+        ensures { IsLast (pool_of self.now class) result }
+    {
+        match class {
+            0 => self.small.last().copied(),
+            1 => self.medium.last().copied(),
+            _ => self.wide.last().copied(),
+        }
+    }
+
+    /// How many there are of the class that has most.
+    fn most(&self) -> usize
+        ensures most { (class : ℕ) → length (pool_of self.now class) ≤ result }
+        ensures fits { result ≤ 128 }
+    {
+        self.small
+            .len()
+            .max(self.medium.len())
+            .max(self.wide.len())
+    }
+
+    /// One slot more, the next one of its class.
+    fn add(&mut self, class: u32, slot: u32)
+        requires { length (pool_of self.old class) < 128 }
+        ensures { self.new ≡ with_slot self.old class slot }
+    {
+        match class {
+            0 => self.small.push(slot),
+            1 => self.medium.push(slot),
+            _ => self.wide.push(slot),
+        }
+    }
+
+    /// The last one of this class isn't free any more.
+    fn pop(&mut self, class: u32) -> Option<u32>
+        ensures { IsPopped self.old class result self.new }
+    {
+        match class {
+            0 => self.small.pop(),
+            1 => self.medium.pop(),
+            _ => self.wide.pop(),
+        }
+    }
+}
+
 /// What a seat owns. It takes no memory but its own.
 #[derive(Drop)]
 pub struct Stock {
     sizes: Sizes,
-    /// Free slots, the next one last.
-    small: ArrayVec<u32, 128>,
-    medium: ArrayVec<u32, 128>,
-    wide: ArrayVec<u32, 128>,
+    free: Free,
     /// What its operation has made, in order.
     made: ArrayVec<Made, 128>,
 }
@@ -42,17 +114,9 @@ impl Model for Stock {
 
     ghost Value = { Stocked };
 
-    ghost view = { λ s. record {
-      sizes = s.sizes;
-      pool = record { small = s.small.items; medium = s.medium.items; wide = s.wide.items };
-      made = s.made.items;
-    } };
+    ghost view = { λ s. record { sizes = s.sizes; pool = s.free; made = s.made.items } };
 
-    ghost invariant = { λ s. AreFew (record {
-      sizes = s.sizes;
-      pool = record { small = s.small.items; medium = s.medium.items; wide = s.wide.items };
-      made = s.made.items;
-    }) };
+    ghost invariant = { λ s. AreFew s.free s.made.items };
 }
 
 impl Stock {
@@ -66,64 +130,42 @@ impl Stock {
     {
         Stock {
             sizes,
-            small: ArrayVec::new(),
-            medium: ArrayVec::new(),
-            wide: ArrayVec::new(),
+            free: Free::new(),
             made: ArrayVec::new(),
         }
     }
 
     /// The last free slot of this class.
-    pub fn last(&self, class: u32) -> Option<u32>
+    fn last(&self, class: u32) -> Option<u32>
         ensures { IsLast (pool_of self.now.pool class) result }
     {
-        match class {
-            0 => self.small.last().copied(),
-            1 => self.medium.last().copied(),
-            _ => self.wide.last().copied(),
-        }
+        self.free.last(class)
     }
 
     /// Whether two slots more can be kept.
     fn has_room(&self) -> bool
         ensures { IsTrue result → HasRoom self.now 2 }
     {
-        let most = self
-            .small
-            .len()
-            .max(self.medium.len())
-            .max(self.wide.len());
-        self.made.len() + most + 2 <= MOST_KEPT
+        self.made.len() + self.free.most() + 2 <= MOST_KEPT
     }
 
     /// One slot more is free.
     fn add(&mut self, class: u32, slot: u32)
-        requires class { class < 3 }
         requires room { HasRoom self.old 1 }
         ensures sizes { self.new.sizes ≡ self.old.sizes }
         ensures pool { self.new.pool ≡ with_slot self.old.pool class slot }
         ensures made { self.new.made ≡ self.old.made }
     {
-        match class {
-            0 => self.small.push(slot),
-            1 => self.medium.push(slot),
-            _ => self.wide.push(slot),
-        }
+        self.free.add(class, slot);
     }
 
     /// A node was made in the last free slot of this class.
     pub fn note(&mut self, class: u32)
-        requires class { class < 3 }
         requires room { HasRoom self.old 1 }
         ensures sizes { self.new.sizes ≡ self.old.sizes }
         ensures noted { NotesLast self.old class self.new }
     {
-        let last = match class {
-            0 => self.small.pop(),
-            1 => self.medium.pop(),
-            _ => self.wide.pop(),
-        };
-        if let Some(slot) = last {
+        if let Some(slot) = self.free.pop(class) {
             self.made.push(Made { class, slot });
         }
     }
@@ -136,7 +178,7 @@ impl Stock {
     {
         for n in 0..self.made.len() {
             let made = self.made[n];
-            self.add(made.class, made.slot);
+            self.free.add(made.class, made.slot);
         }
         self.made.clear();
     }
