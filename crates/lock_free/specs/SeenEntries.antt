@@ -1,5 +1,5 @@
 -- The entries of main nodes, as a seat has them in plain memory.
-use Rattle.std.specs.Prelude.{◌≡◌, ℕ, ◌+◌, ◌*◌, ◌<◌, ◌≤◌, Bool, true, false, List, All, Contains, length, map, Option, Some, None, slice_get}
+use Rattle.std.specs.Prelude.{◌≡◌, ℕ, ◌+◌, ◌*◌, ◌<◌, ◌≤◌, Bool, true, false, List, [], All, Contains, length, map, Option, Some, None, slice_get}
 use Rattle.trie_words.specs.Codes.{entry_code, pair_code, IsEntry}
 use Rattle.trie_words.specs.declared.entries.Entry.{Entry}
 use Rattle.trie_words.specs.declared.headers.Previous.{Previous}

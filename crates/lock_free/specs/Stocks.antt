@@ -4,10 +4,14 @@ use Rattle.machine_model.specs.Beneath.slot_arena.specs.declared.refs.Ref.{Ref}
 use Rattle.machine_model.specs.Beneath.slot_arena.specs.Heaps.{node_at}
 use Rattle.machine_model.specs.declared.operations.Operation.{Operation}
 use Rattle.machine_model.specs.States.{operation_of}
+use Rattle.machine_model.specs.declared.lines.Purpose.{Purpose}
+use Rattle.lock_free.specs.declared.swapping.Swapped.{Swapped}
+use Rattle.lock_free.specs.Becoming.{HasBecome}
+use Rattle.lock_free.specs.Swaps.{swap_done, is_done, IsSwapping}
 use Rattle.lock_free.specs.declared.rules.Pool.{Pool}
 use Rattle.lock_free.specs.declared.rules.View.{View}
 use Rattle.lock_free.specs.declared.sizes.Sizes.{Sizes}
-use Rattle.lock_free.specs.declared.stock.Made.{Made}
+use Rattle.lock_free.specs.declared.stock.OwnNode.{OwnNode}
 use Rattle.lock_free.specs.Accounts.{place_of}
 use Rattle.lock_free.specs.Loading.{now}
 use Rattle.lock_free.specs.Making.{with_slots, with_slot}
@@ -18,7 +22,7 @@ use Rattle.lock_free.specs.Rules.{pool_of}
 pub record Stocked : Type 0 where
   pub sizes : Sizes
   pub pool : Pool
-  pub made : List Made
+  pub made : List OwnNode
 
 -- ---- what it says of a view
 
@@ -30,7 +34,7 @@ own_of (Some operation) = operation.private
 abbrev pub own_nodes : View → List Ref
 own_nodes v = own_of (operation_of (now v) v.actor)
 
-abbrev pub made_of : View → Ref → Made
+abbrev pub made_of : View → Ref → OwnNode
 made_of v r = record { class = class_of (node_at (now v).heap r); slot = place_of v.account r }
 
 -- the stock is this seat's
@@ -47,7 +51,7 @@ IsLast names None = names ≡ []
 IsLast names (Some name) = (rest : List ℕ) × (names ≡ rest ++ name ∷ [])
 
 -- all that was made is free again, in the order in which it was made
-abbrev pub put_back : List Made → Pool → Pool
+abbrev pub put_back : List OwnNode → Pool → Pool
 put_back [] pool = pool
 put_back (m ∷ ms) pool = put_back ms (with_slot pool m.class m.slot)
 
@@ -55,7 +59,7 @@ put_back (m ∷ ms) pool = put_back ms (with_slot pool m.class m.slot)
 abbrev pub most_kept : ℕ
 most_kept = 128
 
-abbrev pub AreFew : Pool → List Made → Type 0
+abbrev pub AreFew : Pool → List OwnNode → Type 0
 AreFew pool made = (class : ℕ) → length (pool_of pool class) + length made ≤ most_kept
 
 -- there is room for so many more
@@ -83,3 +87,9 @@ pub record HasSlot (before : View) (class name : ℕ) (after : View) : Type 0 wh
 abbrev pub HasSlotOrNone : View → ℕ → Option ℕ → View → Type 0
 HasSlotOrNone before class None after = after ≡ before
 HasSlotOrNone before class (Some name) after = HasSlot before class name after
+
+-- ---- a SWAP of what was made
+
+abbrev pub HasSwapped : View → Swapped → View → Type 0
+HasSwapped before result after = (why : Purpose) (i replaced made : Ref) → IsSwapping before why i replaced made →
+    HasBecome (swap_done why (node_at (now before).heap made) (is_done result)) before after

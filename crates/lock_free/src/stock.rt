@@ -18,7 +18,7 @@ const MOST_KEPT: usize = 128;
 
 /// A node that the seat's operation has made and nobody else knows.
 #[derive(Clone, Copy, Default, Drop)]
-pub struct Made {
+pub struct OwnNode {
     /// The class of its slot, below 3.
     pub class: u32,
     /// Its slot.
@@ -106,7 +106,7 @@ pub struct Stock {
     sizes: Sizes,
     free: Free,
     /// What its operation has made, in order.
-    made: ArrayVec<Made, 128>,
+    made: ArrayVec<OwnNode, 128>,
 }
 
 impl Model for Stock {
@@ -166,7 +166,7 @@ impl Stock {
         ensures noted { NotesLast self.old class self.new }
     {
         if let Some(slot) = self.free.pop(class) {
-            self.made.push(Made { class, slot });
+            self.made.push(OwnNode { class, slot });
         }
     }
 
