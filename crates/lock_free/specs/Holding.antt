@@ -1,4 +1,4 @@
--- Entries of a branch or a list that an operation holds; and an operation on a line, whichever program it belongs to.
+-- An operation on a line, whichever program it belongs to, and a main node that it holds.
 use Rattle.std.specs.Prelude.{◌≡◌, ℕ, ◌<◌, true, length}
 use Rattle.trie_words.specs.declared.entries.Entry.{Entry}
 use Rattle.machine_model.specs.Beneath.slot_arena.specs.declared.refs.Ref.{Ref}
@@ -29,11 +29,3 @@ pub record HoldsEntry (v : View) (main : Ref) (position : ℕ) : Type 0 where
   pub kind : is_branch_or_list slot.node ≡ true
   pub inside : position < length (entries_of slot.node)
   pub entry_used : (other : Slot) × IsUsed v (entry_in v main position) other
-
-abbrev pub HoldsEntryAt : View → ℕ → ℕ → Type 0
-HoldsEntryAt v name position = (main : Ref) × HoldsEntry v main position × (place_of v.account main ≡ name)
-
-abbrev pub HasSeenHeld : View → ℕ → ℕ → Entry → View → Type 0
-HasSeenHeld before name position entry after =
-    HasStayed before after
-    × ((main : Ref) → HoldsEntry before main position → place_of before.account main ≡ name → IsEntryIn after main position entry.slot entry.is_single)

@@ -22,6 +22,9 @@ pub mod OfReads
 pub mod Passing
 pub mod Swaps
 pub mod SeatWords
+pub mod Becoming
+pub mod Stocks
+pub mod SeenEntries
 pub mod GoingDown
 pub mod Holding
 pub mod Repairing
