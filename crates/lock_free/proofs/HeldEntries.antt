@@ -1,29 +1,17 @@
 -- A main node that an operation holds, and its entries, are the same at all times.
-use Rattle.std.proofs.Common.{◌≡◌, ◌<◌, ℕ, true, get_or, length, Some, refl, sym, ap, subst, ◌∙◌}
-use Rattle.std.proofs.lemmas.Option.{slice_get-get_or}
-use Rattle.trie_words.specs.Codes.{entry_of}
-use Rattle.trie_words.specs.declared.entries.Entry.{Entry}
-use Rattle.trie_words.specs.declared.entries.Pair.{Pair}
-use Rattle.trie_words.proofs.Parts.{entry_back}
+use Rattle.std.proofs.Common.{◌≡◌, ℕ, get_or, sym, ap, ◌∙◌}
 use Rattle.machine_model.specs.Beneath.slot_arena.specs.declared.refs.Ref.{Ref}
 use Rattle.machine_model.specs.Beneath.slot_arena.specs.declared.nodes.Slot.{Slot}
 use Rattle.machine_model.specs.Beneath.slot_arena.specs.Heaps.{no_ref, node_at, entries_of}
-use Rattle.proof_memory.specs.Wants.{is_branch_or_list}
 use Rattle.lock_free.specs.declared.rules.View.{View}
-use Rattle.lock_free.specs.Accounts.{place_of}
-use Rattle.lock_free.specs.Holding.{HoldsEntry, HoldsEntryAt, HasSeenHeld}
-use Rattle.lock_free.specs.GoingDown.{HasStayed, entry_in, IsEntryIn}
-use Rattle.lock_free.specs.Loading.{now, seen, IsUsed, IsSound, HasPosition, HasSeenPair}
-use Rattle.lock_free.specs.Nodes.{half_in, is_single}
+use Rattle.lock_free.specs.GoingDown.{entry_in}
+use Rattle.lock_free.specs.Holding.{HoldsEntry}
+use Rattle.lock_free.specs.Loading.{now, IsUsed}
 use Rattle.lock_free.specs.Passing.{Later}
-use Rattle.lock_free.specs.Places.{words_of}
-use Rattle.lock_free.proofs.Comings.{saw_runs}
-use Rattle.lock_free.proofs.EntryLooks.{slot_small}
 use Rattle.lock_free.proofs.GivenBack.{node_is}
-use Rattle.lock_free.proofs.Laters.{main_kind, saw_later, used_later, waited_later}
+use Rattle.lock_free.proofs.Laters.{main_kind}
 use Rattle.lock_free.proofs.Verdicts.{main_same}
 
--- a main node that is held is the same at all times
 module _ (v : View) (main : Ref) (position : ℕ) (h : HoldsEntry v main position) where
   pub held_node : node_at (now v).heap main ≡ h.slot.node
   held_node = node_is (now v) main h.slot h.used

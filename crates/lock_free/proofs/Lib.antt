@@ -87,3 +87,6 @@ mod HeldEntries
 mod OnLines
 mod NextEntries
 mod RepairLooks
+mod EntriesTo
+mod TombSingles
+mod CleanEntries

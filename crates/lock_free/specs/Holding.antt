@@ -1,6 +1,5 @@
 -- An operation on a line, whichever program it belongs to, and a main node that it holds.
 use Rattle.std.specs.Prelude.{◌≡◌, ℕ, ◌<◌, true, length}
-use Rattle.trie_words.specs.declared.entries.Entry.{Entry}
 use Rattle.machine_model.specs.Beneath.slot_arena.specs.declared.refs.Ref.{Ref}
 use Rattle.machine_model.specs.Beneath.slot_arena.specs.declared.nodes.Slot.{Slot}
 use Rattle.machine_model.specs.Beneath.slot_arena.specs.Heaps.{entries_of}
@@ -8,8 +7,7 @@ use Rattle.machine_model.specs.declared.lines.Line.{Line}
 use Rattle.machine_model.specs.declared.operations.Operation.{Operation}
 use Rattle.proof_memory.specs.Wants.{is_main_node, is_branch_or_list}
 use Rattle.lock_free.specs.declared.rules.View.{View}
-use Rattle.lock_free.specs.Accounts.{place_of}
-use Rattle.lock_free.specs.GoingDown.{HasMoved, HasStayed, entry_in, IsEntryIn}
+use Rattle.lock_free.specs.GoingDown.{HasMoved, entry_in}
 use Rattle.lock_free.specs.Loading.{now, Runs, IsUsed, Holds}
 
 -- the operation that runs is on this line

@@ -1,10 +1,9 @@
 -- RENEW and CLEAN go over the entries of a branch, one after another.
-use Rattle.std.specs.Prelude.{◌≡◌, ◌≢◌, ℕ, Bool, true, false, List, [], ◌∷◌, ◌++◌, length, Some, if◌then◌else◌}
+use Rattle.std.specs.Prelude.{◌≡◌, ℕ, ◌==◌, Bool, true, false, not, List, [], ◌∷◌, ◌++◌, length, Some}
 use Rattle.arrayvec.specs.ArrayVec.{ArrayVec}
 use Rattle.trie_words.specs.declared.entries.Entry.{Entry}
 use Rattle.machine_model.specs.Beneath.slot_arena.specs.declared.refs.Ref.{Ref}
 use Rattle.machine_model.specs.Beneath.slot_arena.specs.declared.nodes.Node.TheVariants.{Branch}
-use Rattle.machine_model.specs.Beneath.slot_arena.specs.declared.nodes.Slot.{Slot}
 use Rattle.machine_model.specs.Beneath.slot_arena.specs.Heaps.{node_at}
 use Rattle.machine_model.specs.declared.operations.Operation.{Operation}
 use Rattle.machine_model.specs.declared.repairs.CleanLine.TheVariants as clean
@@ -20,27 +19,9 @@ use Rattle.lock_free.specs.declared.cleaning.Cleaned.{Cleaned}
 use Rattle.lock_free.specs.declared.rules.View.{View}
 use Rattle.lock_free.specs.GoingDown.{IsEntryIn}
 use Rattle.lock_free.specs.Holding.{IsOn, HasComeTo}
-use Rattle.lock_free.specs.Loading.{now, Runs, IsUsed}
-use Rattle.lock_free.specs.Nodes.{is_single}
+use Rattle.lock_free.specs.Loading.{now, Runs}
 use Rattle.lock_free.specs.Passing.{IsPlaced}
-
--- ---- nodes, as entries name them
-
--- the entry names the node, and says whether it is a single
-pub record IsNamedBy (v : View) (r : Ref) (e : Entry) : Type 0 where
-  pub placed : IsPlaced v r e.slot
-  pub kind : is_single (node_at (now v).heap r) ≡ e.is_single
-
--- one after another
-abbrev pub AreNamedBy : View → List Ref → List Entry → Type 0
-AreNamedBy v [] [] = Unit {0}
-AreNamedBy v [] (e ∷ es) = ⊥
-AreNamedBy v (r ∷ rs) [] = ⊥
-AreNamedBy v (r ∷ rs) (e ∷ es) = IsNamedBy v r e × AreNamedBy v rs es
-
--- the branch has this bitmap
-abbrev pub IsBranch : View → Ref → ℕ → Type 0
-IsBranch v main bitmap = (slot : Slot) × (entries : ArrayVec Ref) × IsUsed v main slot × (slot.node ≡ Branch bitmap entries)
+use Rattle.lock_free.specs.SeenEntries.{AreEntriesTo, entry_to, unowned}
 
 -- the operation began its try in this generation
 abbrev pub HasStart : View → ℕ → Type 0
@@ -72,3 +53,40 @@ IsAtCleaned v e = (path : List Ref) × (main : Ref) × (done : List Ref) × IsOn
 abbrev pub HasLookedOver : View → Bool → View → Type 0
 HasLookedOver before single after =
     (path : List Ref) (main : Ref) (done : List Ref) → IsOn before (line.Clean (clean.Entry path main done)) → HasComeTo (clean_looked (now before) path main done single) before after
+
+-- the node that has come to the place of the next entry, and whether it is another one
+pub record CleanedTo (before : View) (path : List Ref) (main : Ref) (done : List Ref) (result : Cleaned) (after : View) : Type 0 where
+  pub one : Ref
+  pub come : HasComeTo (clean_next (now before) path main (done ++ one ∷ [])) before after
+  pub names : unowned result.entry ≡ entry_to after one
+  pub changed : result.is_changed ≡ not (one == next_entry (now before) main done)
+
+abbrev pub HasCleaned : View → Cleaned → View → Type 0
+HasCleaned before result after =
+    (path : List Ref) (main : Ref) (done : List Ref) → IsOn before (line.Clean (clean.Entry path main done)) → CleanedTo before path main done result after
+
+-- ---- all entries in a CLEAN
+
+-- it is to look at the branch in this slot, which has these entries
+pub record IsCleaning (v : View) (name : ℕ) (entries : List Entry) : Type 0 where
+  pub path : List Ref
+  pub main : Ref
+  pub on : IsOn v (line.Clean (clean.Main path main))
+  pub placed : IsPlaced v main name
+  pub bitmap : ℕ
+  pub refs : ArrayVec Ref
+  pub node : node_at (now v).heap main ≡ Branch bitmap refs
+  pub names : AreEntriesTo v entries refs.items
+
+-- all are done: where any has changed the branch is made anew
+abbrev pub clean_end : List Ref → Ref → List Ref → Bool → Line
+clean_end path main done true = line.Clean (clean.Contracted path main done)
+clean_end path main done false = new_try
+
+pub record CleanedAll (before : View) (path : List Ref) (main : Ref) (entries : List Entry) (changed : Bool) (after : View) : Type 0 where
+  pub done : List Ref
+  pub come : HasComeTo (clean_end path main done changed) before after
+  pub names : AreEntriesTo after entries done
+
+abbrev pub HasCleanedAll : View → List Entry → Bool → View → Type 0
+HasCleanedAll before entries changed after = (path : List Ref) (main : Ref) → IsOn before (line.Clean (clean.Main path main)) → CleanedAll before path main entries changed after
