@@ -90,3 +90,5 @@ mod RepairLooks
 mod EntriesTo
 mod TombSingles
 mod CleanEntries
+mod GoingOver
+mod CleanAll
