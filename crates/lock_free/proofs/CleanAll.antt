@@ -1,5 +1,5 @@
 -- CLEAN goes over the entries of a branch.
-use Rattle.std.proofs.Common.{◌≡◌, ◌≤◌, ◌<◌, ◌==◌, ◌&&◌, ◌||◌, ◌++◌, ℕ, suc, Bool, true, false, not, List, [], ◌∷◌, All, take, length, length-append, get_or, Contains, nat_eq, nat_lt, refl, sym, ap, ap₂, subst, ◌∙◌, arith, if◌then◌else◌}
+use Rattle.std.proofs.Common.{◌≡◌, ◌≤◌, ◌<◌, ◌==◌, ◌&&◌, ◌||◌, ◌++◌, ◌+◌, ℕ, suc, Bool, true, false, not, List, [], ◌∷◌, All, take, length, length-append, get_or, Contains, nat_eq, nat_lt, refl, sym, ap, ap₂, subst, ◌∙◌, arith, if◌then◌else◌}
 use Rattle.std.proofs.Math.Seq.{take-suc, take-length}
 use Rattle.std.specs.Cmp.Lexicographic.{pointwise}
 use Rattle.std.proofs.lemmas.Bool.{true≢false, lt-ltb, le-ltb}
@@ -113,13 +113,16 @@ module _ (words : ℕ) (way : Way) (v0 : View) (sound0 : IsSound words v0) (on0 
     none_yet : Going v0 v1 path main 0 [] false
     none_yet = record { done = []; count = refl; come = begins; names = refl; changed_is = refl }
 
-    pub goes_first : GoesOver words way v0 v1 name entries 0 [] false
-    goes_first = record {
+    first : GoesOver words way v0 v1 name entries 0 [] false
+    first = record {
       sound = sound1;
       on = way_on v0 v1 l0 (λ o. clean_next (now v0) path main []) way at.on begins on0;
       size = refl;
       going = λ other. subst (λ (x : List Ref × Ref). Going v0 v1 x.0 x.1 0 [] false) (same_place other) none_yet;
     }
+
+    pub goes_first : (none : List Entry) → none ≡ [] → GoesOver words way v0 v1 name entries 0 none false
+    goes_first none is = subst (λ xs. GoesOver words way v0 v1 name entries 0 xs false) (sym is) first
 
   -- ---- it goes on
 
@@ -211,13 +214,18 @@ module _ (words : ℕ) (way : Way) (v0 : View) (sound0 : IsSound words v0) (on0 
           changed_is = more_changed;
         }
 
-        pub goes_on : GoesOver words way v0 w name entries (suc n) (so_far ++ next.entry ∷ []) (changed || next.is_changed)
-        goes_on = record {
+        goes_more : GoesOver words way v0 w name entries (suc n) (so_far ++ next.entry ∷ []) (changed || next.is_changed)
+        goes_more = record {
           sound = sound;
           on = way_on v0 w l0 (λ o. clean_next (now v0) path main (it.done ++ to.one ∷ [])) way at.on more_come on0;
           size = (let k = length-append so_far (next.entry ∷ []) in let c = g.size in omega (arith, k, c));
           going = λ other. subst (λ (x : List Ref × Ref). Going v0 w x.0 x.1 (suc n) (so_far ++ next.entry ∷ []) (changed || next.is_changed)) (same_place other) one_done;
         }
+
+        pub goes_on : (more : List Entry) → more ≡ so_far ++ next.entry ∷ [] → GoesOver words way v0 w name entries (n + 1) more (changed || next.is_changed)
+        goes_on more is =
+            subst (λ xs. GoesOver words way v0 w name entries (n + 1) xs (changed || next.is_changed)) (sym is)
+            (subst (λ k. GoesOver words way v0 w name entries k (so_far ++ next.entry ∷ []) (changed || next.is_changed)) (omega arith) goes_more)
 
     -- ---- all are done
 

@@ -12,7 +12,7 @@ pub loop-n-init : goal.loop-n-init
 loop-n-init g c = (
   c.look_at_main.ensures.table,
   goes_first c.args.words.now.table_id.words c.args.way c.args.actor.now.me.0 c.requires.sound c.requires.way c.args.main c.args.entries.now.items c.requires.at c.look_at_main.new.actor.me.0
-      c.look_at_main.ensures.sound c.look_at_main.result c.look_at_main.ensures.read,
+      c.look_at_main.ensures.sound c.look_at_main.result c.look_at_main.ensures.read c.new-cleaned.result.items c.new-cleaned.ensures,
 )
 
 pub clean_entry-next-requires-clause-at : goal.clean_entry-next-requires-clause-at
@@ -29,11 +29,8 @@ loop-n-preserved g c =
     let d : Entry = record { slot = 0; own = false; is_single = false } in
     (
       c.clean_entry-next.ensures.table ∙ c.loop-n.invariant.0,
-      subst
-          (λ xs. GoesOver c.args.words.now.table_id.words c.args.way c.args.actor.now.me.0 c.clean_entry-next.new.actor.me.0 c.args.main c.args.entries.now.items (suc c.loop-n.n) xs _)
-          (sym c.push.ensures.items)
-          (goes_on c.args.words.now.table_id.words c.args.way c.args.actor.now.me.0 c.requires.sound c.requires.way c.args.main c.args.entries.now.items c.requires.at c.loop-n.actor.me.0 c.loop-n.n
-          c.loop-n.cleaned.items c.loop-n.is_changed c.loop-n.invariant.1 few d c.clean_entry-next.new.actor.me.0 c.clean_entry-next.ensures.sound next c.clean_entry-next.ensures.cleaned),
+      goes_on c.args.words.now.table_id.words c.args.way c.args.actor.now.me.0 c.requires.sound c.requires.way c.args.main c.args.entries.now.items c.requires.at c.loop-n.actor.me.0 c.loop-n.n
+          c.loop-n.cleaned.items c.loop-n.is_changed c.loop-n.invariant.1 few d c.clean_entry-next.new.actor.me.0 c.clean_entry-next.ensures.sound next c.clean_entry-next.ensures.cleaned c.push.new.self.items c.push.ensures.items,
     )
 
 pub returns-clause-cleaned : goal.returns-clause-cleaned
