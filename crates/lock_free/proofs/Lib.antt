@@ -23,6 +23,7 @@ mod RestoreStep
 mod GivenBack
 mod PublishStep
 mod OwnSlots
+mod Added
 mod MakeStep
 mod RootMade
 mod ReadSteps
