@@ -24,6 +24,7 @@ mod GivenBack
 mod PublishStep
 mod OwnSlots
 mod Added
+mod MadeLines
 mod MakeStep
 mod RootMade
 mod ReadSteps
@@ -76,6 +77,7 @@ mod MarkStep
 mod PassStep
 mod CloseStep
 mod KeyMoves
+mod NewNodes
 mod MainLooks
 mod EntryLooks
 mod EntryMeets
