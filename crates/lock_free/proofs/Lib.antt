@@ -78,6 +78,7 @@ mod PassStep
 mod CloseStep
 mod KeyMoves
 mod NewNodes
+mod OwnMakes
 mod MainLooks
 mod EntryLooks
 mod EntryMeets
