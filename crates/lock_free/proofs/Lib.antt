@@ -79,6 +79,7 @@ mod CloseStep
 mod KeyMoves
 mod NewNodes
 mod OwnMakes
+mod WrittenEntries
 mod MainLooks
 mod EntryLooks
 mod EntryMeets

@@ -79,7 +79,7 @@ AreFit entries = All IsEntry entries
 
 -- the slot is free for the seat, and has room for so many entries
 abbrev pub IsOwnSlot : View → ℕ → ℕ → Type 0
-IsOwnSlot v name count = (class : ℕ) × IsFree v class name × (entry_word name count < 2 * name + words_in class)
+IsOwnSlot v name count = (class : ℕ) × IsFree v class name × (count + 2 ≤ 2 * words_in class)
 
 -- the half of the entry at this position, or nothing
 abbrev pub half_for : Option Entry → ℕ
@@ -89,11 +89,11 @@ half_for (Some entry) = entry_code entry
 abbrev pub half_at : List Entry → ℕ → ℕ
 half_at entries position = half_for (slice_get entries position)
 
--- they are written there
-pub record HasWritten (before : View) (name : ℕ) (entries : List Entry) (after : View) : Type 0 where
+-- those in the first so many words are written there
+pub record HasWritten (before : View) (name : ℕ) (entries : List Entry) (n : ℕ) (after : View) : Type 0 where
   pub is : after ≡ record before { drafts = after.drafts }
-  pub words : (n : ℕ) → 2 * n < length entries →
-      Contains after.drafts (2 * name + 1 + n, pair_code (record { low = half_at entries (2 * n); high = half_at entries (2 * n + 1) }))
+  pub words : (k : ℕ) → k < n → 2 * k < length entries →
+      Contains after.drafts (2 * name + 1 + k, pair_code (record { low = half_at entries (2 * k); high = half_at entries (2 * k + 1) }))
 
 -- ---- what came of it
 
