@@ -80,6 +80,7 @@ mod KeyMoves
 mod NewNodes
 mod OwnMakes
 mod WrittenEntries
+mod MainMakes
 mod MainLooks
 mod EntryLooks
 mod EntryMeets

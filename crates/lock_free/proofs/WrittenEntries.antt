@@ -1,12 +1,11 @@
 -- Entries are written two in a word, and read again from there.
-use Rattle.std.proofs.Common.{◌≡◌, ◌≢◌, ◌<◌, ◌≤◌, ◌*◌, ◌+◌, ◌∷◌, ◌==◌, ◌⊎◌, ℕ, inl, inr, Bool, true, false, not, List, [], refl, sym, ap, subst, ◌∙◌, length, Contains, filter, cond, arith, ne_eqb}
+use Rattle.std.proofs.Common.{◌≡◌, ◌≢◌, ◌<◌, ◌*◌, ◌+◌, ◌∷◌, ◌==◌, ◌⊎◌, ℕ, inl, inr, Bool, true, false, not, List, [], refl, sym, ap, subst, ◌∙◌, length, Contains, filter, cond, arith, ne_eqb}
 use Rattle.std.proofs.lemmas.Bool.{cases_eq}
 use Rattle.trie_words.specs.Codes.{pair_code}
 use Rattle.trie_words.specs.declared.entries.Entry.{Entry}
 use Rattle.trie_words.specs.declared.entries.Pair.{Pair}
 use Rattle.lock_free.specs.declared.rules.View.{View}
 use Rattle.lock_free.specs.Making.{with_draft, others_than}
-use Rattle.lock_free.specs.Places.{words_in}
 use Rattle.lock_free.specs.SeenEntries.{half_at, IsOwnSlot, HasWritten}
 use Rattle.lock_free.specs.Storing.{IsOwnWord, drafted}
 use Rattle.lock_free.proofs.Pools.{first_there, more_there, first_or_more}

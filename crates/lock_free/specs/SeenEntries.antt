@@ -1,6 +1,6 @@
 -- The entries of main nodes, as a seat has them in plain memory.
 use Rattle.std.specs.Prelude.{◌≡◌, ℕ, ◌+◌, ◌*◌, ◌<◌, ◌≤◌, Bool, true, false, List, [], All, Contains, length, map, Option, Some, None, slice_get}
-use Rattle.trie_words.specs.Codes.{entry_code, pair_code, IsEntry}
+use Rattle.trie_words.specs.Codes.{entry_code, pair_code, IsEntry, IsShape}
 use Rattle.trie_words.specs.declared.entries.Entry.{Entry}
 use Rattle.trie_words.specs.declared.headers.Previous.{Previous}
 use Rattle.trie_words.specs.declared.headers.Shape.{Shape}
@@ -17,7 +17,7 @@ use Rattle.lock_free.specs.Accounts.{place_of}
 use Rattle.lock_free.specs.Becoming.{HasNew}
 use Rattle.lock_free.specs.Loading.{now, IsUsed, IsAt, Runs, Holds, Saw}
 use Rattle.lock_free.specs.Making.{over_of, IsOverBy, shape_with}
-use Rattle.lock_free.specs.Nodes.{is_single, entry_word}
+use Rattle.lock_free.specs.Nodes.{is_single}
 use Rattle.lock_free.specs.Places.{words_in}
 use Rattle.lock_free.specs.Rules.{IsFree}
 
@@ -68,6 +68,7 @@ pub record IsAtMain (v : View) (shape : Shape) (entries : List Entry) : Type 0 w
   pub making : IsAt v (act.Make node)
   pub own : Bool
   pub is_shape : shape_with v.account own node ≡ Some shape
+  pub fits : IsShape shape
   pub few : length entries ≤ 32
   pub entries_to : AreEntriesTo v entries (written_of node)
 

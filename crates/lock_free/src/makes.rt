@@ -6,6 +6,7 @@ ghost use Rattle.machine_model.specs.Beneath.slot_arena.specs.declared.refs.Ref.
 ghost use Rattle.machine_model.specs.Beneath.slot_arena.specs.declared.nodes.Node.TheVariants.{Indirection, Single, Tomb};
 ghost use Rattle.lock_free.specs.Loading.{IsAt, IsSound};
 ghost use Rattle.lock_free.specs.Passing.{IsPlaced};
+ghost use Rattle.lock_free.specs.Places.{class_for};
 ghost use Rattle.lock_free.specs.SeenEntries.{half_at, AreFit, HasMadeNext, HasWritten, IsAtBranch, IsAtList, IsAtMain, IsOver, IsOwnSlot};
 ghost use Rattle.lock_free.specs.Stocks.{IsStock};
 
@@ -16,7 +17,9 @@ use std::sync::Wait;
 use trie_words::{Entry, Header, Link, Name, Pair, Previous, Shape};
 
 /// The class of the slot of a main node with so many entries.
-fn class_for(entries: usize) -> u32 {
+fn class_for(entries: usize) -> u32
+    ensures { result ≡ class_for entries }
+{
     match entries {
         0..=2 => 0,
         3..=14 => 1,
