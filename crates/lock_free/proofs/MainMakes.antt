@@ -1,5 +1,5 @@
 -- A main node is written in the last free slot of its class: its entries, and its header last.
-use Rattle.std.proofs.Common.{◌≡◌, ◌<◌, ◌≤◌, ◌*◌, ◌+◌, ◌/◌, ◌%◌, ◌^◌, ◌==◌, ◌≢◌, ℕ, Bool, true, false, List, Option, Some, None, refl, sym, ap, subst, ◌∙◌, length, Contains, get_or, arith, nat_le, if◌then◌else◌}
+use Rattle.std.proofs.Common.{◌≡◌, ◌<◌, ◌≤◌, ◌*◌, ◌+◌, ◌/◌, ◌%◌, ◌^◌, ◌==◌, ◌≢◌, ℕ, Bool, true, false, List, [], Option, Some, None, refl, sym, ap, subst, ◌∙◌, length, Contains, get_or, arith, nat_le, take, take_all, if◌then◌else◌}
 use Rattle.std.proofs.lemmas.Bool.{leb-true, eqb-true, eqb-false}
 use Rattle.std.proofs.lemmas.List.{length-map}
 use Rattle.std.proofs.lemmas.List.Elements.{All-get_or, All-from_get_or}
@@ -9,19 +9,22 @@ use Rattle.trie_words.specs.Codes.{entry_code, pair_code, header_code, bit, IsEn
 use Rattle.trie_words.specs.declared.entries.Entry.{Entry}
 use Rattle.trie_words.specs.declared.headers.Previous.{Previous}
 use Rattle.trie_words.specs.declared.headers.Shape.{Shape}
+use Rattle.trie_words.specs.declared.headers.Shape.TheVariants as shape
+use Rattle.trie_words.specs.declared.names.Name.{Name}
 use Rattle.trie_words.proofs.Parts.{pair_back}
 use Rattle.machine_model.specs.Beneath.slot_arena.specs.declared.refs.Ref.{Ref}
 use Rattle.machine_model.specs.Beneath.slot_arena.specs.declared.nodes.Node.{Node}
 use Rattle.machine_model.specs.Beneath.slot_arena.specs.declared.nodes.Node.TheVariants.{Indirection, Branch, Single, Tomb, List as Listed}
 use Rattle.machine_model.specs.Beneath.slot_arena.specs.declared.nodes.Slot.{Slot}
-use Rattle.machine_model.specs.Beneath.slot_arena.specs.Heaps.{refs_of_node, entries_of}
+use Rattle.machine_model.specs.Beneath.slot_arena.specs.Heaps.{entries_from, refs_of_node, entries_of}
 use Rattle.machine_model.specs.declared.actions.Action.TheVariants as act
 use Rattle.lock_free.specs.declared.rules.View.{View}
 use Rattle.lock_free.specs.Loading.{now, IsAt, IsSound, IsUsed}
 use Rattle.lock_free.specs.Making.{over_of, Drafted, DraftsHeader, DraftsNode, IsOverBy, shape_with}
 use Rattle.lock_free.specs.Nodes.{class_of, half_in, half_of, AreEntries}
+use Rattle.lock_free.specs.Passing.{IsPlaced}
 use Rattle.lock_free.specs.Places.{class_for, words_in}
-use Rattle.lock_free.specs.SeenEntries.{entry_to, unowned, AreEntriesTo, AreFit, half_for, half_at, HasWritten, IsAtMain, IsOver, IsOwnSlot, written_of}
+use Rattle.lock_free.specs.SeenEntries.{entry_to, unowned, AreEntriesTo, AreFit, half_for, half_at, HasWritten, IsAtBranch, IsAtList, IsAtMain, IsOver, IsOwnSlot, written_of}
 use Rattle.lock_free.specs.Stocks.{HasSlot}
 use Rattle.lock_free.specs.Storing.{IsAtMake}
 use Rattle.lock_free.proofs.Asked.{live_in_use, made_names_live, over_lives}
@@ -210,3 +213,43 @@ module _ (n : ℕ) (before : View) (sound : IsSound n before) (what : Shape) (en
           ready before (class_for (length entries)) name mid slot d w.is m.node p class_is (2 * name) value m.own few_entries (omega arith) (some_words name (length entries))
           (subst (λ (x : View). DraftsNode x.account (now x).heap (over_of p.operation.line) has name m.own m.node)
           (sym (moved before (class_for (length entries)) name mid slot d w.is)) the_node)
+
+-- ---- branches, lists and tombs
+
+module _ (v : View) (entries : List Entry) (few : length entries ≤ 32) where
+  all_kept : (refs : List Ref) → AreEntriesTo v entries refs → take 32 refs ≡ refs
+  all_kept refs to = take_all 32 refs (subst (λ k. k ≤ 32) (same_length v entries refs to) few)
+
+  pub branch_at : (bitmap : ℕ) → bitmap < 2 ^ 32 → IsAtBranch v bitmap entries → IsAtMain v (shape.Branch bitmap) entries
+  branch_at bitmap small (refs, p, to) = record {
+    node = Branch bitmap (entries_from refs);
+    making = p;
+    own = true;
+    is_shape = refl;
+    fits = small;
+    few = few;
+    entries_to = subst (AreEntriesTo v entries) (sym (all_kept refs to)) to;
+  }
+
+  pub list_at : IsAtList v entries → IsAtMain v (shape.List (length entries)) entries
+  list_at (refs, p, to) = record {
+    node = Listed (entries_from refs);
+    making = p;
+    own = true;
+    is_shape = ap (λ rs. Some (shape.List (length rs))) (all_kept refs to) ∙ ap (λ k. Some (shape.List k)) (sym (same_length v entries refs to));
+    fits = omega (arith, few);
+    few = few;
+    entries_to = subst (AreEntriesTo v entries) (sym (all_kept refs to)) to;
+  }
+
+pub tomb_at : (n : ℕ) (v : View) → IsSound n v → (r : Ref) (single : Name) → IsAt v (act.Make (Tomb r)) → IsPlaced v r single.slot →
+    IsAtMain v (shape.Tomb (record { slot = single.slot; own = single.own; is_single = true })) []
+tomb_at n v sound r single p placed = record {
+  node = Tomb r;
+  making = p;
+  own = single.own;
+  is_shape = ap (λ k. Some (shape.Tomb (record { slot = k; own = single.own; is_single = true }))) placed.1;
+  fits = subst (λ k. k < 2 ^ 27) placed.1 (slot_small n v sound r placed.0.0 placed.0.1);
+  few = omega arith;
+  entries_to = refl;
+}
