@@ -23,6 +23,8 @@ mod RestoreStep
 mod GivenBack
 mod PublishStep
 mod OwnSlots
+mod Added
+mod MadeLines
 mod MakeStep
 mod RootMade
 mod ReadSteps
@@ -75,6 +77,10 @@ mod MarkStep
 mod PassStep
 mod CloseStep
 mod KeyMoves
+mod NewNodes
+mod OwnMakes
+mod WrittenEntries
+mod MainMakes
 mod MainLooks
 mod EntryLooks
 mod EntryMeets
