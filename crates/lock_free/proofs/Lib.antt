@@ -98,3 +98,4 @@ mod TombSingles
 mod CleanEntries
 mod GoingOver
 mod CleanAll
+mod BecomesOn

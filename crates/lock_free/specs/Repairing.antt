@@ -1,6 +1,8 @@
 -- RENEW and CLEAN go over the entries of a branch, one after another.
-use Rattle.std.specs.Prelude.{◌≡◌, ℕ, ◌==◌, Bool, true, false, not, List, [], ◌∷◌, ◌++◌, length, Some}
+use Rattle.std.specs.Prelude.{◌≡◌, ℕ, ◌==◌, Bool, true, false, not, List, [], ◌∷◌, ◌++◌, length, Option, Some, None}
 use Rattle.arrayvec.specs.ArrayVec.{ArrayVec}
+use Rattle.history.specs.declared.replies.Reply.{Reply}
+use Rattle.history.specs.declared.replies.Reply.TheVariants as reply
 use Rattle.trie_words.specs.declared.entries.Entry.{Entry}
 use Rattle.machine_model.specs.Beneath.slot_arena.specs.declared.refs.Ref.{Ref}
 use Rattle.machine_model.specs.Beneath.slot_arena.specs.declared.nodes.Node.TheVariants.{Branch}
@@ -11,12 +13,14 @@ use Rattle.machine_model.specs.declared.repairs.RenewLine.TheVariants as renew
 use Rattle.machine_model.specs.declared.lines.Line.{Line}
 use Rattle.machine_model.specs.declared.lines.Line.TheVariants as line
 use Rattle.machine_model.specs.Cleaning.{clean_next}
+use Rattle.machine_model.specs.GivingUp.{given_up}
 use Rattle.machine_model.specs.Lines.{new_try}
 use Rattle.machine_model.specs.Reading.{reading}
 use Rattle.machine_model.specs.Renewing.{renew_next, next_entry}
 use Rattle.machine_model.specs.States.{State}
 use Rattle.lock_free.specs.declared.cleaning.Cleaned.{Cleaned}
 use Rattle.lock_free.specs.declared.rules.View.{View}
+use Rattle.lock_free.specs.Becoming.{Follows, HasBecome}
 use Rattle.lock_free.specs.GoingDown.{IsEntryIn}
 use Rattle.lock_free.specs.Holding.{IsOn, HasComeTo}
 use Rattle.lock_free.specs.Loading.{now, Runs}
@@ -90,3 +94,53 @@ pub record CleanedAll (before : View) (path : List Ref) (main : Ref) (entries : 
 
 abbrev pub HasCleanedAll : View → List Entry → Bool → View → Type 0
 HasCleanedAll before entries changed after = (path : List Ref) (main : Ref) → IsOn before (line.Clean (clean.Main path main)) → CleanedAll before path main entries changed after
+
+-- ---- an operation that has no slot
+
+-- It may give up, and then answers this.
+pub record GivesUp (answer : Operation → Reply) (v w : View) : Type 0 where
+  pub follows : Follows v w
+  pub runs : (operation : Operation) → Runs v operation →
+      (private : List Ref) × (l : Line) × Runs w (record operation { private = private; line = l }) × (given_up operation.call l ≡ Some (answer operation))
+
+-- ---- an entry in a RENEW that makes an indirection
+
+-- the node that has come to the place of the next entry
+pub record RenewedTo (before : View) (path : List Ref) (main : Ref) (done : List Ref) (result : Entry) (after : View) : Type 0 where
+  pub one : Ref
+  pub more : List Ref
+  pub become : HasBecome (λ o. record o { private = o.private ++ more; line = renew_next (now before) path main (done ++ one ∷ []) }) before after
+  pub names : unowned result ≡ entry_to after one
+
+abbrev pub RenewedOrNot : View → List Ref → Ref → List Ref → Option Entry → View → Type 0
+RenewedOrNot before path main done (Some entry) after = RenewedTo before path main done entry after
+RenewedOrNot before path main done None after = GivesUp (λ o. reply.NoSlots) before after
+
+abbrev pub HasRenewed : View → Option Entry → View → Type 0
+HasRenewed before result after =
+    (path : List Ref) (main : Ref) (done : List Ref) → IsOn before (line.Renew (renew.Entry path main done)) → RenewedOrNot before path main done result after
+
+-- ---- all entries in a RENEW
+
+-- it is to look at the first entry of a branch that has these
+pub record IsRenewing (v : View) (entries : List Entry) : Type 0 where
+  pub path : List Ref
+  pub main : Ref
+  pub on : IsOn v (line.Renew (renew.Entry path main []))
+  pub bitmap : ℕ
+  pub refs : ArrayVec Ref
+  pub node : node_at (now v).heap main ≡ Branch bitmap refs
+  pub names : AreEntriesTo v entries refs.items
+
+pub record RenewedAll (before : View) (path : List Ref) (main : Ref) (entries : List Entry) (after : View) : Type 0 where
+  pub done : List Ref
+  pub more : List Ref
+  pub become : HasBecome (λ o. record o { private = o.private ++ more; line = line.Renew (renew.Branch path main done) }) before after
+  pub names : AreEntriesTo after entries done
+
+abbrev pub AllRenewedOrNot : View → List Ref → Ref → Option (ArrayVec Entry) → View → Type 0
+AllRenewedOrNot before path main (Some entries) after = RenewedAll before path main entries.items after
+AllRenewedOrNot before path main None after = GivesUp (λ o. reply.NoSlots) before after
+
+abbrev pub HasRenewedAll : View → Option (ArrayVec Entry) → View → Type 0
+HasRenewedAll before result after = (path : List Ref) (main : Ref) → IsOn before (line.Renew (renew.Entry path main [])) → AllRenewedOrNot before path main result after
