@@ -99,3 +99,4 @@ mod CleanEntries
 mod GoingOver
 mod CleanAll
 mod BecomesOn
+mod RenewEntries
