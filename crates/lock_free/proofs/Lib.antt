@@ -100,3 +100,4 @@ mod GoingOver
 mod CleanAll
 mod BecomesOn
 mod RenewEntries
+mod RenewAll
