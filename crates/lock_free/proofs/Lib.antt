@@ -81,6 +81,8 @@ mod NewNodes
 mod OwnMakes
 mod WrittenEntries
 mod MainMakes
+mod SwapsMade
+mod AllEntries
 mod MainLooks
 mod EntryLooks
 mod EntryMeets
