@@ -1,10 +1,10 @@
 -- The entries of a main node, word after word.
-use Rattle.std.proofs.Common.{◌≡◌, ◌<◌, ◌≤◌, ◌*◌, ◌+◌, ◌/◌, ◌++◌, ◌∷◌, ◌⊎◌, ◌^◌, ℕ, Bool, true, false, inl, inr, List, [], Some, None, refl, sym, ap, subst, ◌∙◌, length, map, take, take_all, get_or, slice_get, Contains, arith, length-append}
+use Rattle.std.proofs.Common.{◌≡◌, ◌<◌, ◌*◌, ◌+◌, ◌/◌, ◌++◌, ◌∷◌, ◌⊎◌, ℕ, Bool, true, false, inl, inr, List, [], refl, sym, ap, subst, ◌∙◌, length, map, take, take_all, get_or, slice_get, Contains, arith, length-append, min, ◌%◌, if◌then◌else◌, eq-eqb, ne_eqb}
 use Rattle.std.proofs.lemmas.Bool.{true≢false}
 use Rattle.std.proofs.lemmas.List.{map-append, take_more, length-take, get_or-take}
 use Rattle.std.proofs.lemmas.List.Elements.{Contains-get_or}
 use Rattle.std.proofs.lemmas.Option.{slice_get-get_or}
-use Rattle.trie_words.specs.Codes.{entry_code, entry_of}
+use Rattle.trie_words.specs.Codes.{entry_of}
 use Rattle.trie_words.specs.declared.entries.Entry.{Entry}
 use Rattle.trie_words.specs.declared.entries.Pair.{Pair}
 use Rattle.trie_words.proofs.Parts.{entry_back}
@@ -21,8 +21,8 @@ use Rattle.lock_free.specs.declared.rules.View.{View}
 use Rattle.lock_free.specs.Accounts.{place_of}
 use Rattle.lock_free.specs.Becoming.{Follows}
 use Rattle.lock_free.specs.GoingDown.{HasStayed}
-use Rattle.lock_free.specs.Live.{refs_of_claims, IsLive}
-use Rattle.lock_free.specs.Loading.{now, seen, Runs, IsSound, IsUsed, Holds, HasPosition, HasSeenPair, SaysPair}
+use Rattle.lock_free.specs.Live.{refs_of_claims}
+use Rattle.lock_free.specs.Loading.{now, seen, IsSound, IsUsed, Holds, HasPosition, HasSeenPair, SaysPair}
 use Rattle.lock_free.specs.Nodes.{half_in, is_single}
 use Rattle.lock_free.specs.Passing.{Later}
 use Rattle.lock_free.specs.SeenEntries.{entry_to, unowned, AreEntriesTo, HasEntries, HasSeenEntries}
@@ -174,3 +174,32 @@ module _ (n : ℕ) (before : View) (sound : IsSound n before) (name count : ℕ)
   pub all_seen : (v : View) (entries : List Entry) → SeenSome before name count v entries → length entries ≡ count → HasSeenEntries before name count entries v
   all_seen v entries s all = (s.stayed, λ r slot h u kind is place.
       s.entries_to r slot h u kind is place ∙ ap (λ rs. map (entry_to v) rs) (take_all (length entries) (entries_of slot.node) (omega (arith, all, is))))
+
+-- ---- a word of them
+
+low_half : (pair : Pair) (n : ℕ) → half_in pair (2 * n) ≡ pair.low
+low_half pair n = ap (λ (b : Bool). if b then pair.low else pair.high) (eq-eqb ((2 * n) % 2) 0 (omega arith))
+
+high_half : (pair : Pair) (n : ℕ) → half_in pair (2 * n + 1) ≡ pair.high
+high_half pair n = ap (λ (b : Bool). if b then pair.low else pair.high) (ne_eqb ((2 * n + 1) % 2) 0 (λ e. absurd (omega (arith, e))))
+
+module _ (size : ℕ) (before : View) (sound : IsSound size before) (name count : ℕ) (v : View) (sound_v : IsSound size v) (entries : List Entry) (s : SeenSome before name count v entries)
+    (w : View) (sound_w : IsSound size w) (n : ℕ) (pair : Pair) (g : HasSeenPair v name (2 * n) pair w) (few : 2 * n < count) (here : length entries ≡ min (2 * n) count) where
+  here_is : length entries ≡ 2 * n
+  here_is = omega (arith, few, here)
+
+  pub low_seen : (low : Entry) → unowned low ≡ unowned (entry_of pair.low) → SeenSome before name count w (entries ++ low ∷ [])
+  low_seen low is =
+      one_more size before sound name count w entries (seen_still size before sound name count v sound_v entries s w sound_w (2 * n) pair g) (omega (arith, few, here)) low
+      (λ r slot h u kind count_is place.
+      half_seen size before sound name count v sound_v entries s w sound_w (2 * n) pair g (2 * n) refl few low (is ∙ ap (λ m. unowned (entry_of m)) (sym (low_half pair n))) r slot h u kind count_is place
+      ∙ ap (λ k. entry_to w (get_or (entries_of slot.node) k 0)) (sym here_is))
+
+  pub high_seen : (low high : Entry) → unowned low ≡ unowned (entry_of pair.low) → unowned high ≡ unowned (entry_of pair.high) → 2 * n + 1 < count →
+      SeenSome before name count w ((entries ++ low ∷ []) ++ high ∷ [])
+  high_seen low high is_low is_high more =
+      one_more size before sound name count w (entries ++ low ∷ []) (low_seen low is_low) (omega (arith, more, length-append entries (low ∷ []), here_is)) high
+      (λ r slot h u kind count_is place.
+      half_seen size before sound name count v sound_v entries s w sound_w (2 * n) pair g (2 * n + 1) (omega arith) more high (is_high ∙ ap (λ m. unowned (entry_of m)) (sym (high_half pair n))) r slot
+      h u kind count_is place
+      ∙ ap (λ k. entry_to w (get_or (entries_of slot.node) k 0)) (sym (length-append entries (low ∷ []) ∙ ap (λ k. k + 1) here_is)))
