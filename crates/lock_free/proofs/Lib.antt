@@ -83,6 +83,7 @@ mod WrittenEntries
 mod MainMakes
 mod SwapsMade
 mod AllEntries
+mod StockStays
 mod MainLooks
 mod EntryLooks
 mod EntryMeets
