@@ -91,3 +91,8 @@ mod LinkMeets
 mod ReadTurns
 mod EntryTurns
 mod Levels
+mod Counts
+mod HeldEntries
+mod OnLines
+mod NextEntries
+mod RepairLooks

@@ -26,3 +26,5 @@ pub mod Becoming
 pub mod Stocks
 pub mod SeenEntries
 pub mod GoingDown
+pub mod Holding
+pub mod Repairing

@@ -3,15 +3,18 @@
 #![tactic(auto)]
 
 mod accounts;
+mod cleaning;
 mod entries;
 mod exchanges;
 mod finding;
 mod handles;
+mod holding;
 mod loads;
 mod makes;
 mod offers;
 mod pins;
 mod reading;
+mod renewing;
 mod rules;
 mod sizes;
 mod stock;
