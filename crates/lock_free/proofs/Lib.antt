@@ -81,6 +81,9 @@ mod NewNodes
 mod OwnMakes
 mod WrittenEntries
 mod MainMakes
+mod SwapsMade
+mod AllEntries
+mod StockStays
 mod MainLooks
 mod EntryLooks
 mod EntryMeets
