@@ -104,3 +104,4 @@ mod CleanAll
 mod BecomesOn
 mod RenewEntries
 mod RenewAll
+mod Contracted

@@ -28,3 +28,4 @@ pub mod SeenEntries
 pub mod GoingDown
 pub mod Holding
 pub mod Repairing
+pub mod Contracting

@@ -4,6 +4,7 @@
 
 mod accounts;
 mod cleaning;
+mod contracting;
 mod entries;
 mod exchanges;
 mod finding;
