@@ -105,3 +105,5 @@ mod BecomesOn
 mod RenewEntries
 mod RenewAll
 mod Contracted
+mod Replaces
+mod CleanBranches

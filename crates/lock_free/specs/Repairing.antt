@@ -4,10 +4,13 @@ use Rattle.arrayvec.specs.ArrayVec.{ArrayVec}
 use Rattle.history.specs.declared.replies.Reply.{Reply}
 use Rattle.history.specs.declared.replies.Reply.TheVariants as reply
 use Rattle.trie_words.specs.declared.entries.Entry.{Entry}
+use Rattle.trie_words.specs.declared.links.Link.{Link}
 use Rattle.machine_model.specs.Beneath.slot_arena.specs.declared.refs.Ref.{Ref}
 use Rattle.machine_model.specs.Beneath.slot_arena.specs.declared.nodes.Node.TheVariants.{Branch}
+use Rattle.machine_model.specs.Beneath.slot_arena.specs.declared.nodes.Slot.{Slot}
 use Rattle.machine_model.specs.Beneath.slot_arena.specs.Heaps.{node_at}
 use Rattle.machine_model.specs.declared.operations.Operation.{Operation}
+use Rattle.machine_model.specs.declared.finding.KeyLine.TheVariants as key
 use Rattle.machine_model.specs.declared.repairs.CleanLine.TheVariants as clean
 use Rattle.machine_model.specs.declared.repairs.RenewLine.TheVariants as renew
 use Rattle.machine_model.specs.declared.lines.Line.{Line}
@@ -15,16 +18,19 @@ use Rattle.machine_model.specs.declared.lines.Line.TheVariants as line
 use Rattle.machine_model.specs.Cleaning.{clean_next}
 use Rattle.machine_model.specs.GivingUp.{given_up}
 use Rattle.machine_model.specs.Lines.{new_try}
+use Rattle.machine_model.specs.Paths.{current, is_below_root}
 use Rattle.machine_model.specs.Reading.{reading}
 use Rattle.machine_model.specs.Renewing.{renew_next, next_entry}
 use Rattle.machine_model.specs.States.{State}
 use Rattle.lock_free.specs.declared.cleaning.Cleaned.{Cleaned}
+use Rattle.lock_free.specs.declared.renewing.Renewed.{Renewed}
+use Rattle.lock_free.specs.declared.renewing.Renewed.TheVariants as renewed
 use Rattle.lock_free.specs.declared.rules.View.{View}
 use Rattle.lock_free.specs.Becoming.{Follows, HasBecome}
 use Rattle.lock_free.specs.GoingDown.{IsEntryIn}
 use Rattle.lock_free.specs.Holding.{IsOn, HasComeTo}
-use Rattle.lock_free.specs.Loading.{now, Runs}
-use Rattle.lock_free.specs.Passing.{IsPlaced}
+use Rattle.lock_free.specs.Loading.{now, Runs, IsUsed}
+use Rattle.lock_free.specs.Passing.{IsPlaced, KnowsLink}
 use Rattle.lock_free.specs.SeenEntries.{AreEntriesTo, entry_to, unowned}
 
 -- the operation began its try in this generation
@@ -144,3 +150,54 @@ AllRenewedOrNot before path main None after = GivesUp (λ o. reply.NoSlots) befo
 
 abbrev pub HasRenewedAll : View → Option (ArrayVec Entry) → View → Type 0
 HasRenewedAll before result after = (path : List Ref) (main : Ref) → IsOn before (line.Renew (renew.Entry path main [])) → AllRenewedOrNot before path main result after
+
+-- ---- a repair as a whole
+
+-- it has come to this line, whatever it has of its own then
+pub record HasEndedAt (l : Line) (v w : View) : Type 0 where
+  pub follows : Follows v w
+  pub comes : (operation : Operation) → Runs v operation → (private : List Ref) × Runs w (record operation { private = private; line = l })
+
+-- the branch has this bitmap
+abbrev pub IsBranch : View → Ref → ℕ → Type 0
+IsBranch v main bitmap = (slot : Slot) × (entries : ArrayVec Ref) × IsUsed v main slot × (slot.node ≡ Branch bitmap entries)
+
+-- the branch that stands in the indirection in this slot, with this bitmap
+pub record IsBranchBelow (v : View) (path : List Ref) (main : Ref) (name : ℕ) (link : Link) (bitmap : ℕ) : Type 0 where
+  pub placed : IsPlaced v (current path) name
+  pub link_is : KnowsLink v (current path) main link
+  pub branch : IsBranch v main bitmap
+
+-- it is to look at that one, in a CLEAN
+abbrev pub IsAtCleanedBranch : View → ℕ → Link → ℕ → Bool → Type 0
+IsAtCleanedBranch v name link bitmap below =
+    (path : List Ref) × (main : Ref) × IsOn v (line.Clean (clean.Main path main)) × IsBranchBelow v path main name link bitmap × (is_below_root path ≡ below)
+
+-- it begins anew afterwards, or has no slot
+abbrev pub AgainOrNot : View → Bool → View → Type 0
+AgainOrNot before true after = HasEndedAt new_try before after
+AgainOrNot before false after = GivesUp (λ o. reply.NoSlots) before after
+
+abbrev pub HasCleanedBranch : View → Bool → View → Type 0
+HasCleanedBranch before result after = (path : List Ref) (main : Ref) → IsOn before (line.Clean (clean.Main path main)) → AgainOrNot before result after
+
+-- it is to clean below the indirection in this slot, which is the root or isn't
+abbrev pub IsAtClean : View → ℕ → Bool → Type 0
+IsAtClean v name below =
+    (path : List Ref) × IsOn v (line.Clean (clean.Read path (reading (current path)))) × IsPlaced v (current path) name × (is_below_root path ≡ below)
+
+abbrev pub HasCleanedBelow : View → Bool → View → Type 0
+HasCleanedBelow before result after = (path : List Ref) → IsOn before (line.Clean (clean.Read path (reading (current path)))) → AgainOrNot before result after
+
+-- it is to look at the first entry of that branch, in a RENEW
+abbrev pub IsAtRenew : View → ℕ → Link → ℕ → Type 0
+IsAtRenew v name link bitmap = (path : List Ref) × (main : Ref) × IsOn v (line.Renew (renew.Entry path main [])) × IsBranchBelow v path main name link bitmap
+
+-- the branch is renewed, so it is read again; or it isn't any more the one that stands there; or no slot is had
+abbrev pub RenewedBy : View → List Ref → Renewed → View → Type 0
+RenewedBy before path renewed.Reads after = HasEndedAt (line.Key (key.Read path (reading (current path)))) before after
+RenewedBy before path renewed.Again after = HasEndedAt new_try before after
+RenewedBy before path renewed.Full after = GivesUp (λ o. reply.NoSlots) before after
+
+abbrev pub HasRenewedBranch : View → Renewed → View → Type 0
+HasRenewedBranch before result after = (path : List Ref) (main : Ref) → IsOn before (line.Renew (renew.Entry path main [])) → RenewedBy before path result after
