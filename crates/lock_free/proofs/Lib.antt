@@ -107,3 +107,4 @@ mod RenewAll
 mod Contracted
 mod Replaces
 mod CleanBranches
+mod CleanBelow
