@@ -58,7 +58,7 @@ single_kinds (Tomb single) = refl
 single_kinds (Listed singles) = refl
 
 -- a stock stays while the operation stays
-stay_moves : (v w : View) (l : Line) (at : IsOn v l) → HasStayed v w → HasComeTo l v w
+pub stay_moves : (v w : View) (l : Line) (at : IsOn v l) → HasStayed v w → HasComeTo l v w
 stay_moves v w l at s = record { later = s.later; comes = λ o runs. subst (λ x. Runs w (record o { line = x })) (line_is v l at o runs) (s.comes o runs) }
 
 module _ (n : ℕ) (v0 : View) (sound0 : IsSound n v0) (name : ℕ) (link : Link) (bitmap : ℕ) (may : Bool) (is_at : IsAtCleanedBranch v0 name link bitmap may) where

@@ -108,3 +108,4 @@ mod Contracted
 mod Replaces
 mod CleanBranches
 mod CleanBelow
+mod RenewBranches
