@@ -34,6 +34,7 @@ use Rattle.lock_free.proofs.Framing.{below_word, entries_else, stands_over, stil
 use Rattle.lock_free.proofs.Geometry.{IsWordOf}
 use Rattle.lock_free.specs.Trying.{as_before}
 use Rattle.lock_free.proofs.Meanings.{marks_kept, stood_still}
+use Rattle.lock_free.proofs.OneStep.Reached.{reached_kept}
 use Rattle.lock_free.proofs.Keeping.{SameNodes, stands_kept, entries_kept, shape_kept, over_kept, meaning_kept, written_kept}
 use Rattle.lock_free.proofs.Made.{is_pending}
 use Rattle.lock_free.proofs.Owners.{owners_kept}
@@ -190,6 +191,7 @@ module _ (sizes : Sizes) (account : Account) (actor : ℕ) (operation : Operatio
     inside = λ k slot e. (let b = before k slot (which k slot e) in subst (λ n. 2 * place_at account k + words_in (class_of n) ≤ words_of sizes) (sym b.2) (all.nodes.inside k b.0 b.1));
     owners = owners_kept account account_then now next refl refl decides.aheads all.nodes.owners;
     live = λ r h. all.nodes.live r (decides.live r h);
+    reached = reached_kept sizes account account_then (step.Go actor) refl stands stands all.nodes.reached (λ r h. all.nodes.live r (decides.live r h)) (λ r was h. h);
   }
 
   roots_then : RootsStand sizes account_then words_then

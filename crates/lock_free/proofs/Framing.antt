@@ -195,6 +195,7 @@ module _ (sizes : Sizes) (account : Account) (stands : Standing) (words : List â
     inside = all.nodes.inside;
     owners = all.nodes.owners;
     live = all.nodes.live;
+    reached = all.nodes.reached;
   }
 
   pub all_over : AllStand sizes account stands stored
@@ -269,6 +270,7 @@ module _ (sizes : Sizes) (account : Account) (stands : Standing) (words : List â
     inside = nodes.inside;
     owners = nodes.owners;
     live = nodes.live;
+    reached = nodes.reached;
   }
 
   -- what a word of a handle means, and what is written of offers

@@ -33,6 +33,7 @@ use Rattle.lock_free.proofs.Meanings.{means_kept, marks_kept, stood_still}
 use Rattle.lock_free.proofs.Geometry.{IsWordOf, slots_apart, above, inside}
 use Rattle.lock_free.proofs.Owners.{owners_published}
 use Rattle.lock_free.proofs.Published.{differ, else_stands, fresh_stands}
+use Rattle.lock_free.proofs.OneStep.Reached.{reached_kept}
 use Rattle.lock_free.proofs.Waiting.{quiet_more}
 
 module _ (sizes : Sizes) (account : Account) (actor : ℕ) (operation : Operation) (i a f : Ref) (publishes : Publishes sizes account (swapped_in actor i f account) actor operation i a f)
@@ -159,6 +160,7 @@ module _ (sizes : Sizes) (account : Account) (actor : ℕ) (operation : Operatio
     owners = owners_published sizes account actor operation i a f publishes all.nodes.owners (made_before (slot_of i) publishes.link publishes.link_is)
         (made_before (slot_of f) publishes.fresh publishes.fresh_is);
     live = λ r h. all.nodes.live r (publishes.live r h);
+    reached = reached_kept sizes account later (step.Go actor) refl stands stands all.nodes.reached (λ r h. all.nodes.live r (publishes.live r h)) (λ r was h. h);
   }
 
   meaning_then : (handle found : ℕ) (r : Option Root) → MeansRoot account words_then handle found r → MeansRoot later words_then handle found r

@@ -44,6 +44,7 @@ use Rattle.lock_free.proofs.Geometry.{IsWordOf}
 use Rattle.lock_free.proofs.Made.{is_pending, is_failed}
 use Rattle.lock_free.proofs.Owners.{owners_kept}
 use Rattle.lock_free.proofs.NodeWord.{node_word_kept}
+use Rattle.lock_free.proofs.OneStep.Reached.{reached_kept}
 use Rattle.lock_free.proofs.Waiting.{quiet_more}
 
 module _ (sizes : Sizes) (account : Account) (actor : ℕ) (operation : Operation) (i main former : Ref) (restores : Restores sizes account actor operation i main former) (stands : Standing)
@@ -194,6 +195,7 @@ module _ (sizes : Sizes) (account : Account) (actor : ℕ) (operation : Operatio
     inside = λ k slot e. (let b = before k slot (which k slot e) in subst (λ c. 2 * place_at account k + words_in c ≤ words_of sizes) (sym b.2) (all.nodes.inside k b.0 b.1));
     owners = owners_kept account account_then now next refl refl restores.aheads all.nodes.owners;
     live = λ r h. all.nodes.live r (restores.live r h);
+    reached = reached_kept sizes account account_then (step.Go actor) refl stands stands all.nodes.reached (λ r h. all.nodes.live r (restores.live r h)) (λ r was h. h);
   }
 
   meaning_then : (handle found : ℕ) (r : Option Root) → MeansRoot account words_then handle found r → MeansRoot account_then words_then handle found r

@@ -56,6 +56,10 @@ module _ (sizes : Sizes) (account : Account) (steps : List Step) (offers : List 
     inside = λ k slot e. nodes.inside k slot (sym (leaves.nodes k) ∙ e);
     owners = owners_kept account later now next refl refl leaves.aheads nodes.owners;
     live = λ r h. nodes.live r (leaves.live r h);
+    reached = λ r h. elim (leaves.reached r h) [
+      | inl was ↦ nodes.reached r was
+      | inr live ↦ nodes.live r live
+    ];
   }
 
   pub written_left : (k : Known) → IsWritten account words k → IsWritten later words k

@@ -120,6 +120,7 @@ module _ (sizes : Sizes) (s : Table.State Call View) (kept : IsKept sizes s) (id
     inside = kept.nodes.inside;
     owners = kept.nodes.owners;
     live = kept.nodes.live;
+    reached = kept.nodes.reached;
   }
 
   nodes_then : NodesStand sizes account_then kept.stands words_then

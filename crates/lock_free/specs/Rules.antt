@@ -25,7 +25,7 @@ use Rattle.lock_free.specs.declared.accounts.Account.{Account}
 use Rattle.lock_free.specs.declared.accounts.Known.{Known}
 use Rattle.lock_free.specs.declared.rules.View.{View}
 use Rattle.lock_free.specs.declared.sizes.Sizes.{Sizes}
-use Rattle.lock_free.specs.Accounts.{bounds_for, state_of, place_at, HasWaited, HasStood}
+use Rattle.lock_free.specs.Accounts.{bounds_for, state_of, place_at, HasWaited, HasStood, WasReached}
 use Rattle.lock_free.specs.Nodes.{StandsAs, InTable, AreOwners, class_of}
 use Rattle.lock_free.specs.Places.{AreSizes, words_of, words_in, IsTaken, HaveTaken, generation_word, pin_word, root_word}
 use Rattle.lock_free.specs.Roots.{MeansRoot, IsWritten, NoOffer, AreMarked, IsPending, fate, undecided}
@@ -75,6 +75,8 @@ pub record NodesStand (sizes : Sizes) (account : Account) (stands : Standing) (w
   pub owners : AreOwners account (state_of sizes account)
   -- what a root or an operation leads to stands there
   pub live : (r : Ref) → IsLive (state_of sizes account) r → stands (slot_of r) ≡ true
+  -- and what a root led to once
+  pub reached : (r : Ref) → WasReached sizes account r → stands (slot_of r) ≡ true
 
 -- ---- handles
 

@@ -132,6 +132,10 @@ both_leave sizes a b c x y = record {
   nodes = λ k. y.nodes k ∙ x.nodes k;
   births = y.births ∙ x.births;
   live = λ r k. x.live r (y.live r k);
+  reached = λ r h. elim (y.reached r h) [
+    | inl was ↦ x.reached r was
+    | inr live ↦ inr (x.live r live)
+  ];
   generations = y.generations ∙ x.generations;
   aheads = λ i a f h. x.aheads i a f (y.aheads i a f h);
   still = λ i a f h. y.still i a f (x.still i a f h);
