@@ -34,13 +34,14 @@ use Rattle.lock_free.specs.Accounts.{state_of, place_at, place_of, HasWaited, Is
 use Rattle.lock_free.specs.Live.{IsLive}
 use Rattle.lock_free.specs.Nodes.{StandsAs, class_of, IsAhead, IsOver, is_single, SaysPrevious, decided, ahead, pending, failed, SaysHeader, SaysShape, of_branch, of_tomb, of_list, IsEntryOf}
 use Rattle.lock_free.specs.Nodes.{AreEntries, half_of, InTable}
-use Rattle.lock_free.specs.Roots.{MeansRoot, IsWritten, second_of}
+use Rattle.lock_free.specs.Roots.{MeansRoot, IsWritten, second_of, fate}
 use Rattle.lock_free.specs.Rules.{Standing, Stands, NodesStand, RootsStand, Once, pool_of, IsFree, IsSpare, IsSeat, IsKept}
 use Rattle.lock_free.specs.Steps.{Dropped, nothing, Leads, Reads}
 use Rattle.lock_free.proofs.Assembling.{AllStand, closing_stays, numbers_stay, assembled}
 use Rattle.lock_free.proofs.Meanings.{means_kept, marks_kept, stood_still}
 use Rattle.lock_free.proofs.Seats.{ran_so, numbers_so, Stays, other_kept, own_kept, drafts_kept}
 use Rattle.lock_free.proofs.Owners.{owners_kept}
+use Rattle.lock_free.proofs.Fates.{fate_kept, words_same}
 use Rattle.lock_free.proofs.OneStep.Reached.{reached_kept}
 use Rattle.lock_free.proofs.Waiting.{waited_more, quiet_more, other_quiet}
 
@@ -179,6 +180,7 @@ module _ (sizes : Sizes) (s : Table.State Call View) (kept : IsKept sizes s) (id
     tries = kept.roots.tries;
     stood = λ k c. stood_still sizes kept.account account_then (taken ∷ []) refl k.offer (kept.roots.stood k c);
     marks = marks_kept kept.account.offers now next_state leads.tries s.words s.words (λ k c. refl) kept.roots.marks;
+    fates = λ k c. fate_kept sizes kept.account account_then taken refl k (fate s.words k) (λ e. words_same now next_state leads.roots k.handle ∙ e) (kept.roots.fates k c);
   }
 
   all_then : AllStand sizes account_then stands_then s.words

@@ -23,7 +23,7 @@ use Rattle.lock_free.specs.Nodes.{StandsAs, InTable, class_of}
 use Rattle.lock_free.specs.Making.{over_of, DraftsNode, made_at, refs_of_offer, Makes}
 use Rattle.lock_free.specs.Live.{IsLive}
 use Rattle.lock_free.specs.Places.{IsTaken, words_in, root_word, words_of, HaveTaken, generation_word}
-use Rattle.lock_free.specs.Roots.{MeansRoot, IsWritten, second_of}
+use Rattle.lock_free.specs.Roots.{MeansRoot, IsWritten, second_of, fate}
 use Rattle.lock_free.specs.Rules.{Standing, Stands, NodesStand, RootsStand, IsSpare}
 use Rattle.lock_free.specs.Trying.{as_before}
 use Rattle.lock_free.proofs.Meanings.{means_kept, marks_kept, stood_still}
@@ -32,6 +32,7 @@ use Rattle.lock_free.proofs.Framing.{class_small}
 use Rattle.lock_free.proofs.Geometry.{end_inside}
 use Rattle.lock_free.proofs.Owners.{owners_made}
 use Rattle.lock_free.proofs.Made.{place_else, place_last, same_place, stands_too, stands_new, stands_else, stood_stands, new_stands}
+use Rattle.lock_free.proofs.Fates.{fate_kept, words_same}
 use Rattle.lock_free.proofs.OneStep.Reached.{reached_kept}
 use Rattle.lock_free.proofs.Waiting.{quiet_more}
 
@@ -162,6 +163,7 @@ module _ (sizes : Sizes) (account : Account) (actor : ℕ) (operation : Operatio
     tries = all.roots.tries;
     stood = λ k c. stood_still sizes account later (step.Go actor ∷ []) refl k.offer (all.roots.stood k c);
     marks = marks_kept account.offers (state_of sizes account) (state_of sizes later) (as_before makes.tries) words words (λ k c. refl) all.roots.marks;
+    fates = λ k c. fate_kept sizes account later (step.Go actor) refl k (fate words k) (λ e. words_same (state_of sizes account) (state_of sizes later) makes.roots k.handle ∙ e) (all.roots.fates k c);
   }
 
   -- with the words that were exchanged since, before all slots

@@ -15,7 +15,7 @@ use Rattle.lock_free.specs.declared.accounts.Account.{Account}
 use Rattle.lock_free.specs.declared.accounts.Known.{Known}
 use Rattle.lock_free.specs.declared.rules.View.{View}
 use Rattle.lock_free.specs.declared.sizes.Sizes.{Sizes}
-use Rattle.lock_free.specs.Accounts.{bounds_for, state_of, place_of, WasReached}
+use Rattle.lock_free.specs.Accounts.{bounds_for, state_of, place_of, HasStood, WasReached}
 use Rattle.lock_free.specs.Live.{IsLive}
 use Rattle.lock_free.specs.Making.{with_slots}
 use Rattle.lock_free.specs.Nodes.{IsAhead}
@@ -62,6 +62,7 @@ pub record Offers (sizes : Sizes) (account : Account) (actor slot : ℕ) (operat
   -- by a new try of this operation alone, none of which was carried out
   pub its_try : IsItsTry (operation_after (state_of sizes account) operation) offer
   pub fresh : (k : Known) → Contains account.offers k → IsItsTry (operation_after (state_of sizes account) operation) k.offer → ⊥
+  pub never : HasStood sizes account offer → ⊥
   pub alone : (a : ℕ) (o : Operation) → a ≢ actor → operation_of (state_of sizes account) a ≡ Some o → o.id ≢ offer.operation
   pub unmarked : operation.is_marked ≡ false
   pub still_unmarked : (operation_after (state_of sizes account) operation).is_marked ≡ false

@@ -142,6 +142,7 @@ module _ (sizes : Sizes) (account : Account) (bounds : AreBounds (bounds_for siz
           opens = mine.number;
           its_try = record { its = sym mine.its; now = next_attempt ∙ sym mine.at_try };
           fresh = fresh;
+          never = λ h. (let tried = (known_once sizes account bounds offer h).tried place.0 operation place.2 (sym mine.its) in let at_try = mine.at_try in omega (arith, tried, at_try));
           alone = λ a o differs e same.
               (let p = place_of_actor state a o e in
               let one = (has sizes account bounds).0.ids.distinct p.0 place.0 o operation p.2 place.2 (same ∙ mine.its) in

@@ -33,7 +33,7 @@ reached_wide more m state (from_slot q r k c) =
 -- ---- one step more
 
 -- what leads to some of the steps leads to some of those before the last one, or to all of them
-parted : (steps : List Step) (s : Step) (done more : List Step) → steps ++ s ∷ [] ≡ done ++ more → ((rest : List Step) × (steps ≡ done ++ rest)) ⊎ (done ≡ steps ++ s ∷ [])
+pub parted : (steps : List Step) (s : Step) (done more : List Step) → steps ++ s ∷ [] ≡ done ++ more → ((rest : List Step) × (steps ≡ done ++ rest)) ⊎ (done ≡ steps ++ s ∷ [])
 parted steps s [] more e = inl (steps, refl)
 parted [] s (x ∷ []) more e = inr (cc e)
 parted [] s (x ∷ y ∷ xs) more e = absurd (cc e)
