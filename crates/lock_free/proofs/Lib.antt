@@ -68,6 +68,8 @@ mod Allowed
 mod AbortStep
 mod CompleteStep
 mod SeenRoots
+mod RootAsked
+mod FormerRoots
 mod EndStep
 mod PinStep
 mod EnterStep

@@ -19,6 +19,7 @@ pub mod Exchanging
 pub mod Storing
 pub mod OfferWords
 pub mod HandleWords
+pub mod RootWords
 pub mod OfReads
 pub mod Passing
 pub mod Swaps

@@ -3,6 +3,7 @@
 #![tactic(auto)]
 
 mod accounts;
+mod asking;
 mod exchanges;
 mod finding;
 mod handles;
@@ -16,18 +17,19 @@ mod stores;
 mod swapping;
 
 pub use accounts::{Account, Known, Owned};
+pub use asking::{Named, ask_word, see_generation};
 pub use exchanges::{decide, publish, restore};
 pub use finding::{Entered, Level, Met, go_down};
-pub use handles::{close, enter, mark, see_root};
+pub use handles::{clean, close, enter, mark, see_root};
 pub use loads::{
     Actor, Words, look_at_key, look_at_link, look_at_main, look_at_value, read_header, read_link,
     see_key, see_link, see_main, see_pair, see_value,
 };
-pub use offers::{abort, complete};
+pub use offers::{Fate, abort, complete, meet_offer, see_news, see_olds};
 pub use pins::{finish, pass, pin, unpin};
 pub use reading::{AsksRoot, Given, Passed, Way, read, read_within};
 pub use rules::{
-    Closing, Completes, Drafts, Ends, Enters, Goes, Looks, Makes, MakesRoot, Marks, Pins, Pool,
+    Asks, Cleans, Closing, Completes, Drafts, Ends, Enters, Goes, Looks, Makes, MakesRoot, Marks, Meets, Pins, Pool,
     Publishes, Rule, Sees, Shuts, Takes, View,
 };
 pub use sizes::Sizes;
