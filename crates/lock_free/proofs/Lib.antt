@@ -70,6 +70,8 @@ mod CompleteStep
 mod SeenRoots
 mod RootAsked
 mod FormerRoots
+mod OfferMet
+mod OfferSeen
 mod EndStep
 mod PinStep
 mod EnterStep
