@@ -72,6 +72,7 @@ mod RootAsked
 mod FormerRoots
 mod OfferMet
 mod OfferSeen
+mod CleanStep
 mod EndStep
 mod PinStep
 mod EnterStep

@@ -19,6 +19,7 @@ use Rattle.lock_free.specs.HandleWords.{HasOffer}
 use Rattle.lock_free.specs.Loading.{Moment, now, seen, Holds, IsSound, IsUsed, HasSeen}
 use Rattle.lock_free.specs.Making.{refs_of_offer}
 use Rattle.lock_free.specs.Nodes.{class_of}
+use Rattle.lock_free.specs.Passing.{IsPlaced}
 use Rattle.lock_free.specs.Places.{words_of}
 use Rattle.lock_free.specs.Roots.{IsWritten, second_of}
 use Rattle.lock_free.specs.RootWords.{SaysOlds, HasSeenNews, HasSeenOlds}
@@ -101,8 +102,7 @@ module _ (before : View) (word found : ℕ) (m : Moment before word found) (k : 
 
     pub olds_said : SaysOlds before there k (pair_of found)
     olds_said = record {
-      root = ap (λ (p : Pair). p.low) olds_found;
-      root_used = used k.offer.root root_in;
+      root = (used k.offer.root root_in, sym (ap (λ (p : Pair). p.low) olds_found));
       expected = ap (λ (p : Pair). p.high) olds_found;
       only = λ r holds e. only_it r holds (e ∙ ap (λ (p : Pair). p.high) olds_found);
     }
@@ -113,13 +113,13 @@ module _ (before : View) (word found : ℕ) (m : Moment before word found) (k : 
     abbrev news : Pair
     news = record { low = place_of there k.offer.successor; high = second_of there k.offer.second }
 
-    pub news_said : (pair_of found).low ≡ place_of there k.offer.successor
+    pub news_said : IsPlaced (seen before there) k.offer.successor (pair_of found).low
     news_said =
         let fits : IsPair news = (
           small k.offer.successor successor_in,
           second_small k.offer.second (λ r d. Contains-append_right (k.offer.root ∷ k.offer.expected ∷ k.offer.successor ∷ []) (refs_of_option k.offer.second) r d),
         ) in
-        ap (λ (p : Pair). p.low) (ap pair_of (sym m.finds ∙ ap (slice_index m.table.words) its_word ∙ written.news) ∙ pair_back news fits)
+        (used k.offer.successor successor_in, sym (ap (λ (p : Pair). p.low) (ap pair_of (sym m.finds ∙ ap (slice_index m.table.words) its_word ∙ written.news) ∙ pair_back news fits)))
 
 -- what the seat is told
 pub olds_told : (before : View) (name found : ℕ) (after : View) → HasSeen before (2 * name + 1) found after → HasSeenOlds before name (pair_of found) after

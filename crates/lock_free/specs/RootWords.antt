@@ -1,7 +1,7 @@
 -- What accesses ask and tell by which an operation asks for the root of its handle, and meets the offer that stands there.
 use Rattle.history.specs.declared.calls.Call.{Call}
 use Rattle.history.specs.declared.calls.Access.{Access}
-use Rattle.std.specs.Prelude.{◌≡◌, ◌==◌, ◌<◌, ℕ, Bool, true, false, Contains, if◌then◌else◌}
+use Rattle.std.specs.Prelude.{◌≡◌, ◌==◌, ℕ, Bool, true, false, Contains, if◌then◌else◌}
 use Rattle.atomic_table.specs.Table.{Me, Step}
 use Rattle.trie_words.specs.Codes.{root_of}
 use Rattle.trie_words.specs.declared.entries.Pair.{Pair}
@@ -16,7 +16,7 @@ use Rattle.machine_model.specs.declared.actions.Action.TheVariants as act
 use Rattle.machine_model.specs.declared.roots.Descriptor.{Descriptor}
 use Rattle.machine_model.specs.declared.roots.RootWord.TheVariants.{Plain, Offer}
 use Rattle.machine_model.specs.Calls.{handle_of}
-use Rattle.machine_model.specs.States.{root_at, handle_limit}
+use Rattle.machine_model.specs.States.{root_at}
 use Rattle.lock_free.specs.declared.accounts.Account.{Account}
 use Rattle.lock_free.specs.declared.accounts.Known.{Known}
 use Rattle.lock_free.specs.declared.asking.Named.{Named}
@@ -28,6 +28,7 @@ use Rattle.lock_free.specs.Accounts.{place_of, WasReached}
 use Rattle.lock_free.specs.Fates.{HasSettled}
 use Rattle.lock_free.specs.HandleWords.{HasOffer}
 use Rattle.lock_free.specs.Loading.{now, seen, Holds, IsAt, IsUsed, Saw, Went, SameSlots, HasSeen, HasGone, IsSound}
+use Rattle.lock_free.specs.Passing.{IsPlaced}
 use Rattle.lock_free.specs.Places.{words_of}
 use Rattle.lock_free.specs.Roots.{open_with, undecided, carried_out, taken_back}
 
@@ -123,8 +124,7 @@ HasMetOffer before handle name fate.TakenBack after = HasSeenSettled before name
 
 -- the old root and its main node; of what the operation holds only that one is in its slot
 pub record SaysOlds (before : View) (account : Account) (k : Known) (pair : Pair) : Type 0 where
-  pub root : pair.low ≡ place_of account k.offer.root
-  pub root_used : (slot : Slot) × IsUsed (seen before account) k.offer.root slot
+  pub root : IsPlaced (seen before account) k.offer.root pair.low
   pub expected : pair.high ≡ place_of account k.offer.expected
   pub only : (r : Ref) → Holds before r → place_of before.account r ≡ pair.high → r ≡ k.offer.expected
 
@@ -137,7 +137,7 @@ HasSeenOlds before name pair after = (s : Saw before after) × ((k : Known) → 
 -- the new root
 abbrev pub HasSeenNews : View → ℕ → Pair → View → Type 0
 HasSeenNews before name pair after =
-    (s : Saw before after) × ((k : Known) → Contains before.account.offers k → k.slot ≡ name → pair.low ≡ place_of s.account k.offer.successor)
+    (s : Saw before after) × ((k : Known) → Contains before.account.offers k → k.slot ≡ name → IsPlaced (seen before s.account) k.offer.successor pair.low)
 
 -- ---- it is taken out of the word
 
@@ -146,11 +146,10 @@ abbrev pub settled_root : ℕ → Descriptor → Ref
 settled_root n offer = if n == carried_out then offer.successor else offer.root
 
 pub record IsAtClean (v : View) (handle offer root : ℕ) : Type 0 where
-  pub low : handle < handle_limit
   pub its : HasOffer v.sizes v.account handle offer
   pub outcome : ℕ
   pub settled : HasSettled v.sizes v.account its.its outcome
-  pub place : place_of v.account (settled_root outcome its.its.offer) ≡ root
+  pub place : IsPlaced v (settled_root outcome its.its.offer) root
 
 -- nothing of it concerns the seat
 abbrev pub has_cleaned : Step Call → Me Call View → ℕ → Me Call View → Type 0
