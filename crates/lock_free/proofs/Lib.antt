@@ -73,6 +73,9 @@ mod FormerRoots
 mod OfferMet
 mod OfferSeen
 mod CleanStep
+mod CompleteLines
+mod OffersLater
+mod Completions
 mod EndStep
 mod PinStep
 mod EnterStep

@@ -23,5 +23,6 @@ pub mod RootWords
 pub mod OfReads
 pub mod Passing
 pub mod Swaps
+pub mod Rooting
 pub mod SeatWords
 pub mod GoingDown

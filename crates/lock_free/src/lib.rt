@@ -11,6 +11,7 @@ mod loads;
 mod offers;
 mod pins;
 mod reading;
+mod rooting;
 mod rules;
 mod sizes;
 mod stores;
@@ -28,6 +29,7 @@ pub use loads::{
 pub use offers::{Fate, abort, complete, meet_offer, see_news, see_olds};
 pub use pins::{finish, pass, pin, unpin};
 pub use reading::{AsksRoot, Given, Passed, Way, read, read_within};
+pub use rooting::{Root, clean_settled, complete_offer};
 pub use rules::{
     Asks, Cleans, Closing, Completes, Drafts, Ends, Enters, Goes, Looks, Makes, MakesRoot, Marks, Meets, Pins, Pool,
     Publishes, Rule, Sees, Shuts, Takes, View,
