@@ -76,6 +76,7 @@ mod CleanStep
 mod CompleteLines
 mod OffersLater
 mod Completions
+mod Cleanings
 mod EndStep
 mod PinStep
 mod EnterStep

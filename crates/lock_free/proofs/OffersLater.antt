@@ -20,7 +20,7 @@ module _ (v w : View) (l : Later v w) where
   pub sizes_same : w.sizes ≡ v.sizes
   sizes_same = ap (λ (x : View). x.sizes) l.is
 
-  pub offer_later : (handle slot : ℕ) → HasOffer v.sizes v.account handle slot → HasOffer w.sizes w.account handle slot
+  abbrev pub offer_later : (handle slot : ℕ) → HasOffer v.sizes v.account handle slot → HasOffer w.sizes w.account handle slot
   offer_later handle slot h = record {
     its = h.its;
     here = l.offers h.its h.here;
