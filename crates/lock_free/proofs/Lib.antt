@@ -77,6 +77,7 @@ mod CompleteLines
 mod OffersLater
 mod Completions
 mod Cleanings
+mod Licenses
 mod EndStep
 mod PinStep
 mod EnterStep

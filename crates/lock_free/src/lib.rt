@@ -7,6 +7,7 @@ mod asking;
 mod exchanges;
 mod finding;
 mod handles;
+mod licensing;
 mod loads;
 mod offers;
 mod pins;
@@ -22,6 +23,7 @@ pub use asking::{Named, ask_word, see_generation};
 pub use exchanges::{decide, publish, restore};
 pub use finding::{Entered, Level, Met, go_down};
 pub use handles::{clean, close, enter, mark, see_root};
+pub use licensing::Asker;
 pub use loads::{
     Actor, Words, look_at_key, look_at_link, look_at_main, look_at_value, read_header, read_link,
     see_key, see_link, see_main, see_pair, see_value,
@@ -31,8 +33,8 @@ pub use pins::{finish, pass, pin, unpin};
 pub use reading::{AsksRoot, Given, Passed, Way, read, read_within};
 pub use rooting::{Root, clean_settled, complete_offer};
 pub use rules::{
-    Asks, Cleans, Closing, Completes, Drafts, Ends, Enters, Goes, Looks, Makes, MakesRoot, Marks, Meets, Pins, Pool,
-    Publishes, Rule, Sees, Shuts, Takes, View,
+    Asks, Cleans, Closing, Completes, Drafts, Ends, Enters, Goes, Looks, Makes, MakesRoot, Marks,
+    Meets, Pins, Pool, Publishes, Rule, Sees, Shuts, Takes, View,
 };
 pub use sizes::Sizes;
 pub use stores::{Tried, draft, make, make_root, try_take};
