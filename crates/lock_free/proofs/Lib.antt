@@ -78,6 +78,8 @@ mod OffersLater
 mod Completions
 mod Cleanings
 mod Licenses
+mod RootLines
+mod Rootings
 mod EndStep
 mod PinStep
 mod EnterStep

@@ -116,7 +116,7 @@ module _ (n : ℕ) (v : View) (sound : IsSound n v) (handle offer : ℕ) (knows 
 
 -- ---- the root
 
-module _ (n : ℕ) (v : View) (sound : IsSound n v) (handle name : ℕ) (asking : IsAsking v handle) (w : View) (then : IsSound n w) (found : HasFoundRoot v handle name w) where
+module _ (n : ℕ) (v : View) (sound : IsSound n v) (handle name : ℕ) (w : View) (then : IsSound n w) (found : HasFoundRoot v handle name w) where
   later_w : Later v w
   later_w = went_later n v sound n w then found.went
 
@@ -129,29 +129,29 @@ module _ (n : ℕ) (v : View) (sound : IsSound n v) (handle name : ℕ) (asking 
       let used = found.at.used in
       generation_is (now w) found.root found.at.slot used ∙ sym (generation_is state_w found.root found.at.slot (sym (found.same _) ∙ used))
 
-  abbrev told : Option ℕ
-  told = Some (generation_at state_w.heap found.root)
-
-  asked_by_step : (i main replaced : Ref) → IsReading v i (read.AskRoot main replaced) → HasCome (Goes (read.Decide main replaced told)) v w
-  asked_by_step i main replaced reading =
-      came v w i (read.AskRoot main replaced) reading later_w found.went (Goes (read.Decide main replaced told))
-      (λ o runs. ap (after_ask state_w.heap main replaced) (ap (word_at state_w) (asked_handle v handle asking o runs) ∙ ap word_of found.is))
-
   module _ (z : View) (generation : ℕ) (seen_it : HasSeenGeneration w name generation z) where
     later_z : Later w z
     later_z = saw_later n w then z seen_it.0
 
-    told_is : told ≡ Some generation
-    told_is =
-        ap Some
-        (sym generation_then ∙ sym (generation_later w z later_z found.root (found.at.slot, found.at.used)) ∙ seen_it.1 found.root found.at)
+    -- the one that is seen
+    pub same_generation : generation_at state_w.heap found.root ≡ generation
+    same_generation = sym generation_then ∙ sym (generation_later w z later_z found.root (found.at.slot, found.at.used)) ∙ seen_it.1 found.root found.at
 
-    pub generation_asked : HasAsked v (Some generation) z
-    generation_asked i main replaced reading =
-        let first = asked_by_step i main replaced reading in
-        subst (λ t. HasCome (Goes (read.Decide main replaced t)) v z) told_is
-        (come_on v w z (read.Decide main replaced told) (Goes (read.Decide main replaced told)) first
-        (saw_come w z i (read.Decide main replaced told) (reading_then v w i (read.AskRoot main replaced) (read.Decide main replaced told) reading first) later_z seen_it.0))
+    abbrev told : Option ℕ
+    told = Some (generation_at state_w.heap found.root)
+
+    module _ (asking : IsAsking v handle) where
+      asked_by_step : (i main replaced : Ref) → IsReading v i (read.AskRoot main replaced) → HasCome (Goes (read.Decide main replaced told)) v w
+      asked_by_step i main replaced reading =
+          came v w i (read.AskRoot main replaced) reading later_w found.went (Goes (read.Decide main replaced told))
+          (λ o runs. ap (after_ask state_w.heap main replaced) (ap (word_at state_w) (asked_handle v handle asking o runs) ∙ ap word_of found.is))
+
+      pub generation_asked : HasAsked v (Some generation) z
+      generation_asked i main replaced reading =
+          let first = asked_by_step i main replaced reading in
+          subst (λ t. HasCome (Goes (read.Decide main replaced t)) v z) (ap Some same_generation)
+          (come_on v w z (read.Decide main replaced told) (Goes (read.Decide main replaced told)) first
+          (saw_come w z i (read.Decide main replaced told) (reading_then v w i (read.AskRoot main replaced) (read.Decide main replaced told) reading first) later_z seen_it.0))
 
 -- ---- look after look
 

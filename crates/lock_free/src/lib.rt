@@ -31,7 +31,7 @@ pub use loads::{
 pub use offers::{Fate, abort, complete, meet_offer, see_news, see_olds};
 pub use pins::{finish, pass, pin, unpin};
 pub use reading::{AsksRoot, Given, Passed, Way, read, read_within};
-pub use rooting::{Root, clean_settled, complete_offer};
+pub use rooting::{Rooted, clean_settled, complete_offer, root};
 pub use rules::{
     Asks, Cleans, Closing, Completes, Drafts, Ends, Enters, Goes, Looks, Makes, MakesRoot, Marks,
     Meets, Pins, Pool, Publishes, Rule, Sees, Shuts, Takes, View,

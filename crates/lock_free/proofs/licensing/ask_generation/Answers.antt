@@ -29,8 +29,8 @@ returns-in-Root-clause-asked g c =
     let v = c.loop.actor.me.0 in
     let w = c.ask_word.new.actor.me.0 in
     last_look n c.args.handle c.args.actor.now.me.0 v c.see_generation.new.actor.me.0 (Some c.see_generation.result) c.loop.invariant.3
-    (generation_asked n v c.loop.invariant.3.sound c.args.handle c.in-Root.root c.loop.invariant.3.asking w c.ask_word.ensures.sound (c.in-Root.ensures {u = tt}).asked c.see_generation.new.actor.me.0
-    c.see_generation.result c.see_generation.ensures.seen)
+    (generation_asked n v c.loop.invariant.3.sound c.args.handle c.in-Root.root w c.ask_word.ensures.sound (c.in-Root.ensures {u = tt}).asked c.see_generation.new.actor.me.0
+    c.see_generation.result c.see_generation.ensures.seen c.loop.invariant.3.asking)
 
 pub put_aside-requires-clause-table : goal.put_aside-requires-clause-table
 put_aside-requires-clause-table g c = c.ask_word.ensures.table ∙ c.loop.invariant.2 ∙ c.requires.table
