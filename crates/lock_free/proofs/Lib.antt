@@ -21,6 +21,7 @@ mod Verdicts
 mod DecideStep
 mod RestoreStep
 mod GivenBack
+mod Abandoned
 mod PublishStep
 mod OwnSlots
 mod MakeStep

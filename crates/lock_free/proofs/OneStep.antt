@@ -13,6 +13,7 @@ pub mod Marking
 pub mod Settles
 pub mod Settling
 pub mod Offering
+pub mod Missing
 pub mod Sitting
 pub mod Beginning
 pub mod Idle

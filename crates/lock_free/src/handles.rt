@@ -13,7 +13,7 @@ use crate::rules::{Enters, Marks, Sees, Shuts};
 use trie_words::{Pin, RootWord};
 
 /// Which word is this handle's.
-fn root_word_of(handle: u16) -> usize
+pub(crate) fn root_word_of(handle: u16) -> usize
     requires { handle < 256 }
     ensures { result ≡ root_word handle }
 {

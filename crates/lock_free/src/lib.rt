@@ -10,6 +10,7 @@ mod loads;
 mod offers;
 mod pins;
 mod reading;
+mod root_offers;
 mod rules;
 mod sizes;
 mod stores;
@@ -26,9 +27,10 @@ pub use loads::{
 pub use offers::{abort, complete};
 pub use pins::{finish, pass, pin, unpin};
 pub use reading::{AsksRoot, Given, Passed, Way, read, read_within};
+pub use root_offers::{Proposed, propose, yields};
 pub use rules::{
     Closing, Completes, Drafts, Ends, Enters, Goes, Looks, Makes, MakesRoot, Marks, Pins, Pool,
-    Publishes, Rule, Sees, Shuts, Takes, View,
+    Proposes, Publishes, Rule, Sees, Shuts, Takes, View, Yields,
 };
 pub use sizes::Sizes;
 pub use stores::{Tried, draft, make, make_root, try_take};
