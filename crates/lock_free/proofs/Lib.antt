@@ -68,6 +68,8 @@ mod Allowed
 mod AbortStep
 mod CompleteStep
 mod SeenRoots
+mod OfferMisses
+mod OfferStep
 mod EndStep
 mod PinStep
 mod EnterStep
