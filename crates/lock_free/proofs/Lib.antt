@@ -70,6 +70,7 @@ mod CompleteStep
 mod SeenRoots
 mod OfferMisses
 mod OfferStep
+mod YieldStep
 mod EndStep
 mod PinStep
 mod EnterStep

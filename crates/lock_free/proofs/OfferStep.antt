@@ -4,7 +4,7 @@ use Rattle.std.proofs.Common.{◌≡◌, ◌≢◌, ◌+◌, ◌*◌, ◌<◌, �
 use Rattle.std.proofs.Common.{append-nil}
 use Rattle.std.proofs.lemmas.Bool.{cases_eq}
 use Rattle.std.proofs.lemmas.List.{append_cancel_right, length_push}
-use Rattle.std.proofs.lemmas.List.Elements.{Contains-append_left, Contains-append_right, Contains-get_or}
+use Rattle.std.proofs.lemmas.List.Elements.{Contains-append_left, Contains-append_right, Contains-get_or, Contains-push}
 use Rattle.std.proofs.lemmas.Option.{same_Some}
 use mathlib.Core.Option.{some, none}
 use lib.ListN.{get_elem?}
@@ -43,7 +43,7 @@ use Rattle.lock_free.specs.declared.rules.View.{View}
 use Rattle.lock_free.specs.declared.sizes.Sizes.{Sizes}
 use Rattle.lock_free.specs.Accounts.{state_of, place_of, running, gone_on}
 use Rattle.lock_free.specs.Exchanging.{given_up}
-use Rattle.lock_free.specs.Live.{refs_of_claims, at_hand, from_root, IsLive}
+use Rattle.lock_free.specs.Live.{refs_of_claims, at_hand, from_root, from_operation, IsLive}
 use Rattle.lock_free.specs.HandleWords.{HasSeenRoot}
 use Rattle.lock_free.specs.Loading.{Moment, now, seen, IsAt, IsSound, Runs, Took}
 use Rattle.lock_free.specs.Making.{refs_of_offer}
@@ -64,7 +64,7 @@ use Rattle.lock_free.proofs.RootCodes.{kind, same_kind, root_back}
 use Rattle.lock_free.proofs.SeenRoots.{root_told}
 use Rattle.lock_free.proofs.Spending as spending
 use Rattle.lock_free.proofs.Framing.{class_small}
-use Rattle.lock_free.proofs.Within.{two_words}
+use Rattle.lock_free.proofs.Within.{both_inside, two_words}
 
 last_of : (xs ys : List ℕ) (a b : ℕ) → xs ++ a ∷ [] ≡ ys ++ b ∷ [] → a ≡ b
 last_of [] [] a b e = ap (λ ns. slice_index ns 0) e
@@ -159,7 +159,7 @@ module _ (v : View) (root slot : ℕ) (offer : Descriptor) (rest : List ℕ) (p 
 
     same_root : (q : Ref) → root_at state handle ≡ open_with Writable (Plain q) → place_of there q ≡ root → q ≡ offer.root
     same_root q plain place =
-        let live = from_root handle q (subst (λ r. Contains (refs_of_root r) q) (sym plain) (Contains-get_or (q ∷ []) 0 q (omega arith))) in
+        let live : IsLive state q = from_root handle q (subst (λ r. Contains (refs_of_root r) q) (sym plain) (Contains-get_or (q ∷ []) 0 q (omega arith))) in
         let mine = (lives offer.root (named 0 (omega arith))).1 in
         let a = stands_so q live in
         let b = stands_so offer.root mine in
@@ -324,3 +324,14 @@ offer_allowed sizes size id me named root slot (offer, rest, p, w, on) =
         refl,
       ),
     ))))
+
+-- both slots are in range
+pub offer_fits : (words : ℕ) (v : View) (named root slot : ℕ) → IsSound words v → IsToOffer v named root slot → (root < 2 ^ 27) × (slot < 2 ^ 27)
+offer_fits words v named root slot sound (offer, rest, p, w, on) =
+    let first = Contains-get_or (refs_of_offer offer) 0 offer.root (omega arith) in
+    let live = from_operation v.actor p.operation offer.root p.runs tt (held v root slot offer rest p w offer.root first) in
+    let inside = (both_inside words v sound offer.root root live w.place).0 in
+    let free = sound.free 1 slot (omega arith, subst (λ xs. Contains xs slot) (sym w.last) (Contains-push rest slot)) in
+    let size = sound.size in
+    let range = sound.range in
+    (omega (arith, inside, size, range), omega (arith, free, range))
