@@ -92,7 +92,7 @@ module _ (n : ℕ) (v : View) (sound : IsSound n v) where
   pub saw_later : (after : View) (s : Saw v after) → Later v after
   saw_later after s = subst (λ x. Later v x) (sym s.after_is) (waited_later s.account s.waited)
 
-  gone_later : (account : Account) → Waited v account → AreBounds (bounds_for v.sizes (gone_on v.actor account).steps) → Later v (seen v (gone_on v.actor account))
+  pub gone_later : (account : Account) → Waited v account → AreBounds (bounds_for v.sizes (gone_on v.actor account).steps) → Later v (seen v (gone_on v.actor account))
   gone_later account w bounds =
       let first = waited_later account w in
       record {

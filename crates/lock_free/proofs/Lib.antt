@@ -85,3 +85,4 @@ mod LinkMeets
 mod ReadTurns
 mod EntryTurns
 mod Levels
+mod CopyReads

@@ -3,6 +3,7 @@
 #![tactic(auto)]
 
 mod accounts;
+mod copying;
 mod exchanges;
 mod finding;
 mod handles;
@@ -17,6 +18,7 @@ mod stores;
 mod swapping;
 
 pub use accounts::{Account, Known, Owned};
+pub use copying::{complete_own, read_original};
 pub use exchanges::{decide, publish, restore};
 pub use finding::{Entered, Level, Met, go_down};
 pub use handles::{close, enter, mark, see_root};
