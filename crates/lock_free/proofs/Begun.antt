@@ -64,7 +64,7 @@ module _ (sizes : Sizes) (s : Table.State Call View) (kept : IsKept sizes s) (id
   all_by : (words : List ℕ) → ((k : Known) → Contains kept.account.offers k → fate words k ≡ fate s.words k) → AllStand sizes kept.account kept.stands words → AllStand sizes account_then
       kept.stands words
   all_by words fates standing =
-      root.all_left sizes kept.account (taken ∷ []) begins.leaves kept.stands words
+      root.all_left sizes kept.account taken begins.leaves kept.stands words
       (All-append FitsKey kept.account.steps (taken ∷ []) kept.keys (All-cons FitsKey taken [] begins.fits (All-nil FitsKey)))
       (quiet_more kept.account.steps taken kept.quiet (other_quiet (v.actor + 1) taken (begins.its (v.actor + 1) (λ e. omega (arith, e))))) begins.roots (marks_then words fates) standing
 

@@ -4,6 +4,7 @@ mod Asked
 mod Geometry
 mod RootCodes
 mod Meanings
+mod Fates
 mod Owners
 mod Assembling
 mod Waiting

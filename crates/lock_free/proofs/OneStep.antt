@@ -8,6 +8,7 @@ pub mod Changing
 pub mod Leading
 pub mod Found
 pub mod Giving
+pub mod Reached
 pub mod Standing
 pub mod Marking
 pub mod Settles

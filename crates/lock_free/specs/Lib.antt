@@ -4,6 +4,7 @@ pub mod Live
 pub mod Nodes
 pub mod Roots
 pub mod Trying
+pub mod Fates
 pub mod Rules
 pub mod Steps
 pub mod Loading
