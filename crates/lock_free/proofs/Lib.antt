@@ -68,8 +68,9 @@ mod AbortStep
 mod CompleteStep
 mod SeenRoots
 mod EndStep
+mod Asking
 mod PinStep
-mod EnterStep
+mod BeginStep
 mod MarkStep
 mod PassStep
 mod CloseStep

@@ -16,6 +16,7 @@ pub mod Offering
 pub mod Sitting
 pub mod Beginning
 pub mod Idle
+pub mod Telling
 pub mod Restores
 pub mod Decides
 pub mod Publishes

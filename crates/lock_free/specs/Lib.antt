@@ -18,6 +18,7 @@ pub mod Exchanging
 pub mod Storing
 pub mod OfferWords
 pub mod HandleWords
+pub mod Calling
 pub mod OfReads
 pub mod Passing
 pub mod Swaps

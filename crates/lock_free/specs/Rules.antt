@@ -40,6 +40,7 @@ first_view sizes = record {
   last = sizes.seats;
   account = first_account;
   pin = None;
+  asks = None;
   entered = None;
   closing = None;
   opens = None;
