@@ -73,8 +73,9 @@ mod OfferMisses
 mod OfferStep
 mod YieldStep
 mod EndStep
+mod Asking
 mod PinStep
-mod EnterStep
+mod BeginStep
 mod MarkStep
 mod PassStep
 mod CloseStep

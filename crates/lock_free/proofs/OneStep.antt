@@ -18,6 +18,7 @@ pub mod Missing
 pub mod Sitting
 pub mod Beginning
 pub mod Idle
+pub mod Telling
 pub mod Restores
 pub mod Decides
 pub mod Publishes

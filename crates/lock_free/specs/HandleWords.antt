@@ -2,8 +2,7 @@
 use Rattle.history.specs.declared.calls.Call.{Call}
 use Rattle.std.specs.Prelude.{◌≡◌, ◌==◌, ◌+◌, ◌*◌, ◌≤◌, ◌⊎◌, ℕ, Bool, true, false, Contains, Some, None}
 use Rattle.atomic_table.specs.Table.{Me, Step}
-use Rattle.trie_words.specs.Codes.{IsRootWord, root_of}
-use Rattle.trie_words.specs.declared.pins.Pin.{Pin}
+use Rattle.trie_words.specs.Codes.{IsRootWord}
 use Rattle.trie_words.specs.declared.roots.RootWord.{RootWord}
 use Rattle.trie_words.specs.declared.roots.RootWord.TheVariants as word
 use Rattle.history.specs.declared.calls.Access.TheVariants.{Writable, ReadOnly}
@@ -50,26 +49,6 @@ TellsRoot sizes account handle (word.Opening slot) = HasOpening sizes account ha
 -- it has seen the word of this handle
 abbrev pub HasSeenRoot : View → ℕ → RootWord → View → Type 0
 HasSeenRoot before handle found after = (s : Saw before after) × IsRootWord found × TellsRoot before.sizes s.account handle found
-
--- ---- a handle is entered
-
--- it is open, and nobody would close it
-abbrev pub is_open_word : RootWord → Bool
-is_open_word (word.Writable slot) = true
-is_open_word (word.ReadOnly slot) = true
-is_open_word (word.Offered slot) = true
-is_open_word w = false
-
-abbrev pub entering : View → ℕ → View
-entering v handle = record v { entered = Some handle }
-
--- a seat enters the handle to which it has pinned itself, where it finds it so
-abbrev pub HasEntered : View → ℕ → RootWord → View → Type 0
-HasEntered before handle found after = (is_open_word found ≡ true → after ≡ entering before handle) × (is_open_word found ≡ false → after ≡ before)
-
-abbrev pub has_entered : Step Call → Me Call View → ℕ → Me Call View → Type 0
-has_entered step before found after =
-    ((pin : Pin) → before.0.pin ≡ Some pin → step.word ≡ root_word pin.handle → HasEntered before.0 pin.handle (root_of found) after.0) × (after.1 ≡ before.1)
 
 -- ---- a handle is marked, which a seat would close
 

@@ -20,6 +20,7 @@ pub mod Storing
 pub mod OfferWords
 pub mod HandleWords
 pub mod RootOffers
+pub mod Calling
 pub mod OfReads
 pub mod Passing
 pub mod Swaps

@@ -41,6 +41,7 @@ first_view sizes = record {
   last = sizes.seats;
   account = first_account;
   pin = None;
+  asks = None;
   entered = None;
   closing = None;
   opens = None;

@@ -2,6 +2,7 @@
 use Rattle.history.specs.declared.calls.Call.{Call}
 use Rattle.history.specs.declared.replies.Reply.{Reply}
 use Rattle.std.specs.Prelude.{◌≡◌, ◌+◌, ◌==◌, ◌||◌, ℕ, Bool, true, false, Option, Some, None, if◌then◌else◌}
+use mathlib.Core.Option.{some}
 use Rattle.atomic_table.specs.Table.{Me, Step}
 use Rattle.trie_words.specs.Codes.{pin_of}
 use Rattle.trie_words.specs.declared.pins.Pin.{Pin}
@@ -18,13 +19,21 @@ use Rattle.lock_free.specs.Places.{pin_word, words_of}
 abbrev pub IsIdle : View → Type 0
 IsIdle v = operation_of (now v) v.actor ≡ None
 
--- ---- the store by which a seat pins itself, or goes out of a call that it hasn't begun
+-- ---- the exchange by which a seat pins itself for a call
 
-abbrev pub pinned_to : View → Option Pin → View
-pinned_to v pin = record v { pin = pin; entered = None }
+abbrev pub asking : View → Pin → Call → View
+asking v pin call = record v { pin = Some pin; asks = Some call; entered = None }
 
-abbrev pub has_pinned : Step Call → Me Call View → ℕ → Me Call View → Type 0
-has_pinned step before found after = after ≡ (pinned_to before.0 (pin_of step.first), before.1)
+abbrev pub has_asked : Step Call → Me Call View → ℕ → Me Call View → Type 0
+has_asked step before found after = (pin : Pin) (call : Call) → pin_of step.second ≡ Some pin → step.said ≡ some call → after ≡ (asking before.0 pin call, before.1)
+
+-- ---- the store of 0 by which it goes out of one that it hasn't begun
+
+abbrev pub unpinned : View → View
+unpinned v = record v { pin = None; entered = None }
+
+abbrev pub has_unpinned : Step Call → Me Call View → ℕ → Me Call View → Type 0
+has_unpinned step before found after = after ≡ (unpinned before.0, before.1)
 
 -- ---- the store of 0 by which an operation ends
 

@@ -2,15 +2,15 @@
 
 ghost use Rattle.std.specs.Prelude.{◌≡◌, ◌≢◌, ◌<◌, ◌≤◌, true, None, Some};
 ghost use Rattle.trie_words.specs.Codes.{IsRootWord, root_code};
-ghost use Rattle.lock_free.specs.HandleWords.{is_unmarked, marked_by, HasClosed, HasEntered, HasMarked, HasSeenRoot};
+ghost use Rattle.lock_free.specs.HandleWords.{is_unmarked, marked_by, HasClosed, HasMarked, HasSeenRoot};
 ghost use Rattle.lock_free.specs.Loading.{IsSound};
 ghost use Rattle.lock_free.specs.Places.{root_word};
 ghost use Rattle.lock_free.specs.Rules.{SaysClosing};
 ghost use Rattle.lock_free.specs.SeatWords.{IsIdle, closes};
 
 use crate::loads::{Actor, Words};
-use crate::rules::{Enters, Marks, Sees, Shuts};
-use trie_words::{Pin, RootWord};
+use crate::rules::{Marks, Sees, Shuts};
+use trie_words::RootWord;
 
 /// Which word is this handle's.
 pub(crate) fn root_word_of(handle: u16) -> usize
@@ -34,22 +34,6 @@ pub fn see_root(words: &Words, actor: &mut Actor, handle: u16) -> RootWord
     ensures seen { HasSeenRoot actor.old.me.0 handle result actor.new.me.0 }
 {
     let found = words.load::<Sees>(actor, root_word_of(handle));
-    RootWord::of_word(found)
-}
-
-/// Enters the handle to which the seat has pinned itself, if that is open and nobody would close it: from then on nobody closes it
-/// while the seat is pinned. Returns what its word says.
-pub fn enter(words: &Words, actor: &mut Actor, pin: &Pin) -> RootWord
-    requires table { actor.old.table_id ≡ words.now.table_id }
-    requires sound { IsSound words.now.table_id.words actor.old.me.0 }
-    requires low { pin.now.handle < 256 }
-    requires pinned { actor.old.me.0.pin ≡ Some pin.now }
-    requires idle { IsIdle actor.old.me.0 }
-    ensures table { actor.new.table_id ≡ actor.old.table_id }
-    ensures sound { IsSound words.now.table_id.words actor.new.me.0 }
-    ensures entered { HasEntered actor.old.me.0 pin.now.handle result actor.new.me.0 }
-{
-    let found = words.load::<Enters>(actor, root_word_of(pin.handle));
     RootWord::of_word(found)
 }
 

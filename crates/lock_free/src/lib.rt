@@ -3,6 +3,7 @@
 #![tactic(auto)]
 
 mod accounts;
+mod calling;
 mod copying;
 mod exchanges;
 mod finding;
@@ -18,10 +19,11 @@ mod stores;
 mod swapping;
 
 pub use accounts::{Account, Known, Owned};
+pub use calling::{Denial, Started, begin};
 pub use copying::{complete_own, read_original};
 pub use exchanges::{decide, publish, restore};
 pub use finding::{Entered, Level, Met, go_down};
-pub use handles::{close, enter, mark, see_root};
+pub use handles::{close, mark, see_root};
 pub use loads::{
     Actor, Words, look_at_key, look_at_link, look_at_main, look_at_value, read_header, read_link,
     see_key, see_link, see_main, see_pair, see_value,
@@ -31,8 +33,8 @@ pub use pins::{finish, pass, pin, unpin};
 pub use reading::{AsksRoot, Given, Passed, Way, read, read_within};
 pub use root_offers::{Proposed, propose, yields};
 pub use rules::{
-    Closing, Completes, Drafts, Ends, Enters, Goes, Looks, Makes, MakesRoot, Marks, Pins, Pool,
-    Proposes, Publishes, Rule, Sees, Shuts, Takes, View, Yields,
+    Asks, Closing, Completes, Drafts, Ends, Goes, Looks, Makes, MakesRoot, Marks, Pool, Proposes,
+    Publishes, Rule, Sees, Shuts, Starts, Takes, Unpins, View, Yields,
 };
 pub use sizes::Sizes;
 pub use stores::{Tried, draft, make, make_root, try_take};

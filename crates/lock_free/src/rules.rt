@@ -2,11 +2,12 @@
 
 ghost use Rattle.lock_free.specs.Rules.{IsKept, first_view};
 ghost use Rattle.lock_free.specs.Loading.{has_seen, has_gone};
+ghost use Rattle.lock_free.specs.Calling.{has_started};
 ghost use Rattle.lock_free.specs.Exchanging.{has_published};
-ghost use Rattle.lock_free.specs.HandleWords.{has_closed, has_entered, has_marked};
+ghost use Rattle.lock_free.specs.HandleWords.{has_closed, has_marked};
 ghost use Rattle.lock_free.specs.OfferWords.{has_completed};
 ghost use Rattle.lock_free.specs.RootOffers.{has_proposed, has_yielded};
-ghost use Rattle.lock_free.specs.SeatWords.{has_ended, has_passed, has_pinned};
+ghost use Rattle.lock_free.specs.SeatWords.{has_asked, has_ended, has_passed, has_unpinned};
 ghost use Rattle.lock_free.specs.Storing.{has_drafted, has_made, has_made_root, has_taken};
 
 use crate::accounts::Account;
@@ -42,6 +43,8 @@ pub struct View {
     pub account: Account,
     /// What its own word says.
     pub pin: Option<Pin>,
+    /// The call for which it has pinned itself last.
+    pub asks: Option<Call>,
     /// The handle that it has found open since it pinned itself to it: so nobody closes it.
     pub entered: Option<u16>,
     /// What it would close.
@@ -92,18 +95,25 @@ impl Play<Call, View> for Completes {
     ghost then = { has_completed };
 }
 
-/// A seat pins itself, or takes its pin away.
-pub struct Pins;
+/// A seat pins itself for the call that is said.
+pub struct Asks;
 
-impl Play<Call, View> for Pins {
-    ghost then = { has_pinned };
+impl Play<Call, View> for Asks {
+    ghost then = { has_asked };
 }
 
-/// A handle is entered, if it is open.
-pub struct Enters;
+/// It takes its pin away.
+pub struct Unpins;
 
-impl Play<Call, View> for Enters {
-    ghost then = { has_entered };
+impl Play<Call, View> for Unpins {
+    ghost then = { has_unpinned };
+}
+
+/// The operation begins for which a seat has pinned itself, if its handle is open for it.
+pub struct Starts;
+
+impl Play<Call, View> for Starts {
+    ghost then = { has_started };
 }
 
 /// A handle is marked, which a seat would close, or isn't.

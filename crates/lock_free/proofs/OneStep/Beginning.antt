@@ -1,6 +1,6 @@
 -- What is left by a step that begins an operation, and by the two that close a handle.
 use Rattle.std.proofs.Common.{Option, ◌≡◌, ◌≢◌, ◌+◌, ◌-◌, ◌<◌, ◌≤◌, ◌++◌, ℕ, zero, suc, Bool, true, false, []}
-use Rattle.std.proofs.Common.{◌∷◌, length, Contains, Some, None, get_or, set, refl, sym, ap, subst, ◌∙◌, inl, inr, arith}
+use Rattle.std.proofs.Common.{◌∷◌, length, Contains, Some, None, get_or, is_some, set, refl, sym, ap, subst, ◌∙◌, inl, inr, arith}
 use Rattle.std.proofs.Common.{append_assoc}
 use Rattle.std.specs.Prelude.{if◌then◌else◌}
 use Rattle.std.proofs.lemmas.Bool.{cases_eq}
@@ -46,6 +46,11 @@ first_ahead (Entries h) = refl
 first_ahead (Count h) = refl
 first_ahead (Close h) = refl
 first_ahead call = refl
+
+-- it is to open the chosen handle, if one is chosen
+pub number_is : (state : State) (number : Option ℕ) (opens : Bool) → opens ≡ is_some number → (if opens then Some (number_for state number) else None) ≡ number
+number_is state None opens e = ap (λ b. if b then Some (number_for state None) else None) e
+number_is state (Some n) opens e = ap (λ b. if b then Some n else None) e
 
 module _ (sizes : Sizes) (account : Account) (bounds : AreBounds (bounds_for sizes account.steps)) (actor : ℕ) (call : Call) (number : Option ℕ) (most : actor ≤ sizes.seats)
     (idle : operation_of (state_of sizes account) actor ≡ None)
@@ -109,11 +114,11 @@ module _ (sizes : Sizes) (account : Account) (bounds : AreBounds (bounds_for siz
   pub begin_roots : (state_of sizes (taking (step.Begin actor call number) account)).roots ≡ (handle_closed now call).roots
   begin_roots = ap (λ (s : State). s.roots) begin_whole
 
-  -- a call that neither opens nor closes a handle
-  pub begins_of : (opens_none : opens_handle call ≡ false) → (closes_none : is_close call ≡ false) → FitsKey (step.Begin actor call number) →
+  -- a call that doesn't close its handle
+  pub begins_of : opens_handle call ≡ is_some number → (closes_none : is_close call ≡ false) → FitsKey (step.Begin actor call number) →
       ((k : Known) → Contains account.offers k → HasStood sizes account k.offer) →
-      Begins sizes account actor (step.Begin actor call number) call None
-  begins_of opens_none closes_none fits stood = record {
+      Begins sizes account actor (step.Begin actor call number) call number
+  begins_of opens closes_none fits stood = record {
     leaves = begin_leaves;
     fits = fits;
     its = λ a differs e. differs (sym e);
@@ -122,7 +127,7 @@ module _ (sizes : Sizes) (account : Account) (bounds : AreBounds (bounds_for siz
     operation = operation;
     own = begin_own;
     its_call = refl;
-    its_opens = ap (λ b. if b then Some (number_for now number) else None) opens_none;
+    its_opens = number_is now number (opens_handle call) opens;
     unmarked = refl;
     fresh = λ k c its. (let known = known_once sizes account bounds k.offer (stood k c) in let begun = known.has_begun in let same = its.its in omega (arith, begun, same));
   }
