@@ -65,7 +65,7 @@ module _ (v : View) (offer : Descriptor) (p : IsAt v (act.Offer offer)) (s : Tab
     dropped = given_up v kept.account p.operation.private
 
     leads : Leads v.sizes there (gone_on v.actor there) v.actor (is_one_of ran.private) (operation_after state ran)
-    leads = offer_given_up v.sizes there kept.bounds v.actor ran ran_runs offer ran_acts kept.roots.stood another
+    leads = offer_given_up v.sizes there kept.bounds v.actor ran ran_runs offer ran_acts kept.roots.stood kept.quiet another
 
     pub dropped_kept : IsKept v.sizes (record { words = s.words; homes = s.homes; views = set s.views id dropped })
     dropped_kept = abandon_kept v s kept id at ran (operation_after state ran) ran_runs (machine.Go v.actor) tt (λ a d e. d (sym e)) leads refl refl
