@@ -1,7 +1,7 @@
 -- A step by which the seat's operation gives up all that it has made, and that changes no word, keeps the rule: the slots are free for the seat.
 use Rattle.history.specs.declared.calls.Call.{Call}
-use Rattle.std.proofs.Common.{◌≡◌, ◌≢◌, ◌+◌, ◌*◌, ◌<◌, ◌≤◌, ◌⊎◌, ℕ, inl, inr, Contains, set, refl, sym, subst, ◌∙◌, arith}
-use Rattle.std.proofs.lemmas.List.Elements.{Contains-append_right}
+use Rattle.std.proofs.Common.{◌≡◌, ◌≢◌, ◌+◌, ◌*◌, ◌<◌, ◌≤◌, ◌⊎◌, ℕ, inl, inr, [], ◌∷◌, Contains, set, refl, sym, subst, ◌∙◌, arith}
+use Rattle.std.proofs.lemmas.List.Elements.{All-cons, All-nil, All-append, Contains-append_right}
 use mathlib.Core.Option.{some}
 use lib.ListN.{get_elem?}
 use Rattle.atomic_table.specs.Table as Table
@@ -73,6 +73,7 @@ module _ (v : View) (s : Table.State Call View) (kept : IsKept v.sizes s) (id : 
     size = refl;
     range = kept.range.within;
     bounds = leads.bounds;
+    keys = All-append FitsKey kept.account.steps (taken ∷ []) kept.keys (All-cons FitsKey taken [] fits (All-nil FitsKey));
     counted = kept.counted ∙ sym leads.births;
     inside = λ k slot e. kept.nodes.inside k slot (sym (leads.nodes k) ∙ e);
     free = λ b n f. free_then b n f.0 (fit.which b n f.0 f.1);

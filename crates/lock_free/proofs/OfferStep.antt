@@ -189,6 +189,7 @@ module _ (v : View) (root slot : ℕ) (offer : Descriptor) (rest : List ℕ) (p 
             size = refl;
             range = kept.range.within;
             bounds = all.bounds;
+            keys = all.keys;
             counted = all.counted;
             inside = all.nodes.inside;
             free = λ b n f. free_inside v s kept id at b n (spending.was_free v.sizes s kept id v at 1 (omega arith) slot rest w.last b n f.0 f.1).0;
