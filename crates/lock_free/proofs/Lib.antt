@@ -72,8 +72,13 @@ mod SeenRoots
 mod OfferMisses
 mod OfferStep
 mod YieldStep
+mod RootAsked
+mod FormerRoots
+mod OfferMet
+mod OfferSeen
+mod CleanStep
 mod EndStep
-mod Asking
+mod CallSaid
 mod PinStep
 mod BeginStep
 mod MarkStep

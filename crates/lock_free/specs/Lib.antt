@@ -21,6 +21,7 @@ pub mod OfferWords
 pub mod HandleWords
 pub mod RootOffers
 pub mod Calling
+pub mod RootWords
 pub mod OfReads
 pub mod Passing
 pub mod Swaps

@@ -7,6 +7,7 @@ ghost use Rattle.lock_free.specs.Exchanging.{has_published};
 ghost use Rattle.lock_free.specs.HandleWords.{has_closed, has_marked};
 ghost use Rattle.lock_free.specs.OfferWords.{has_completed};
 ghost use Rattle.lock_free.specs.RootOffers.{has_proposed, has_yielded};
+ghost use Rattle.lock_free.specs.RootWords.{has_cleaned, has_found_root, has_met};
 ghost use Rattle.lock_free.specs.SeatWords.{has_asked, has_ended, has_passed, has_unpinned};
 ghost use Rattle.lock_free.specs.Storing.{has_drafted, has_made, has_made_root, has_taken};
 
@@ -86,6 +87,27 @@ pub struct Publishes;
 
 impl Play<Call, View> for Publishes {
     ghost then = { has_published };
+}
+
+/// The root of a handle is read, where its word names it, or that word is looked at.
+pub struct FindsRoot;
+
+impl Play<Call, View> for FindsRoot {
+    ghost then = { has_found_root };
+}
+
+/// The offer that stands for a root is found, where it is undecided, or its first word is looked at.
+pub struct Meets;
+
+impl Play<Call, View> for Meets {
+    ghost then = { has_met };
+}
+
+/// A settled offer is taken out of the word of a handle, or isn't.
+pub struct Cleans;
+
+impl Play<Call, View> for Cleans {
+    ghost then = { has_cleaned };
 }
 
 /// An offer is settled, or was.
