@@ -43,13 +43,9 @@ use Rattle.lock_free.proofs.Moments.{allowed, free_inside, seen_kept, seen_view,
 use Rattle.lock_free.proofs.OneStep.Beginning.{begins_of, begin_own, number_is}
 use Rattle.lock_free.proofs.OneStep.Idle.{idle_stays}
 use Rattle.lock_free.proofs.OneStep.Telling.{begin_told}
-use Rattle.lock_free.proofs.RootCodes.{kind, root_back, same_kind}
+use Rattle.lock_free.proofs.OpenHandles.{not_closing}
+use Rattle.lock_free.proofs.RootCodes.{kind, root_back}
 use Rattle.lock_free.proofs.SeenRoots.{tells_by}
-
--- a word without a mark
-not_marked : (w : RootWord) (found who : ℕ) → IsRootWord w → found ≡ root_code w → kind w < 6 → SaysClosing found who → ⊥
-not_marked w found who fits code few (inl h) = let same = same_kind w (word.ClosingWritable h.0 who) fits h.1 (sym code ∙ h.2) in omega (arith, same, few)
-not_marked w found who fits code few (inr h) = let same = same_kind w (word.ClosingReadOnly h.0 who) fits h.1 (sym code ∙ h.2) in omega (arith, same, few)
 
 -- nobody in the list has reserved the number
 nobody_has : (n : ℕ) (xs : List (Option Operation)) → ((k : ℕ) (o : Operation) → get_or xs k None ≡ Some o → reserved_by (Some o) ≡ Some n → ⊥) → list_any (λ o. is_number n (reserved_by o)) xs ≡ false
@@ -171,7 +167,7 @@ module _ (v : View) (call : Call) (b : IsBeginner v call) (low : handle_of call 
       runs : Starts (started.Runs w)
       runs = (
         once_begun v call there,
-        begin_kept v.sizes s kept id v at (taken.Begin v.actor call v.opens) call begins idle b.pin b.pinned b.its low (ap is_some is_open) (λ who h. not_marked w found who fits code few h),
+        begin_kept v.sizes s kept id v at (taken.Begin v.actor call v.opens) call begins idle b.pin b.pinned b.its low (ap is_some is_open) (λ who h. not_closing w who fits few (subst (λ n. SaysClosing n who) code h)),
         has_begun,
         sound,
       )

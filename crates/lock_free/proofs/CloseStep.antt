@@ -1,6 +1,6 @@
 -- The exchange by which a seat closes a handle.
 use Rattle.history.specs.declared.calls.Call.{Call}
-use Rattle.std.proofs.Common.{◌≡◌, ◌≢◌, ◌==◌, ◌<◌, ◌≤◌, inl, inr, ℕ, true, set, slice_index, is_some, Option, Some, None, refl, sym, subst, ◌∙◌, eq-eqb, arith}
+use Rattle.std.proofs.Common.{◌≡◌, ◌≢◌, ◌==◌, ◌<◌, ◌≤◌, inl, inr, ℕ, true, List, ◌∷◌, get_or, set, slice_index, is_some, Option, Some, None, refl, sym, ap, subst, ◌∙◌, eq-eqb, arith}
 use Rattle.std.proofs.lemmas.Bool.{cases_eq, ne_eqb, true≢false, false≢true}
 use Rattle.std.proofs.lemmas.Option.{same_Some}
 use mathlib.Core.Option.{some, none}
@@ -20,11 +20,11 @@ use Rattle.lock_free.specs.HandleWords.{once_closed, HasClosed, has_closed}
 use Rattle.lock_free.specs.Loading.{IsSound}
 use Rattle.lock_free.specs.Places.{root_word, words_of}
 use Rattle.lock_free.specs.Rules.{SaysClosing, IsSeat, IsKept}
-use Rattle.lock_free.specs.SeatWords.{IsIdle, closes}
+use Rattle.lock_free.specs.SeatWords.{IsIdle, WouldClose, closes}
 use Rattle.lock_free.proofs.Allowed.{close_allowed}
 use Rattle.lock_free.proofs.Assembling.{closing_at}
 use Rattle.lock_free.proofs.Closed as closed
-use Rattle.lock_free.proofs.Entering.{seat_kept}
+use Rattle.lock_free.proofs.Closers.{seat_kept}
 use Rattle.lock_free.proofs.Exchanged.{words_then, words_hit, words_miss}
 use Rattle.lock_free.proofs.Moments.{allowed, waited_so, free_inside}
 use Rattle.lock_free.proofs.OneStep.Beginning.{closes_of}
@@ -34,7 +34,7 @@ some_of : {A : Type 0} (r : Option A) → is_some r ≡ true → (a : A) × (r �
 some_of (Some a) e = (a, refl)
 some_of None e = absurd (false≢true e)
 
-module _ (v : View) (handle looked : ℕ) (low : handle < 256) (would : v.closing ≡ Some (closes handle looked)) (all_looked : v.sizes.seats ≤ looked) (outside : v.entered ≢ Some handle)
+module _ (v : View) (handle looked : ℕ) (low : handle < 256) (others : List Closing) (would : v.closing ≡ closes handle looked ∷ others) (all_looked : v.sizes.seats ≤ looked) (outside : v.entered ≢ Some handle)
     (idle : IsIdle v)
     (w : RootWord) (mine : SaysClosing (root_code w) v.actor) (s : Table.State Call View) (kept : IsKept v.sizes s) (id : ℕ) (at : get_elem? s.views id ≡ some v) where
   abbrev found : ℕ
@@ -66,16 +66,16 @@ module _ (v : View) (handle looked : ℕ) (low : handle < 256) (would : v.closin
 
     closes_it : Closes v.sizes kept.account v.actor handle
     closes_it =
-        let root = some_of (root_at (state_of v.sizes kept.account) handle) (closed.is_open v.sizes s kept id v at handle low looked would all_looked says outside idle_there) in
+        let root = some_of (root_at (state_of v.sizes kept.account) handle) (closed.is_open v.sizes s kept id v at handle low looked others would all_looked says outside idle_there) in
         closes_of v.sizes kept.account kept.bounds v.actor handle few low idle_there
-        (close_allowed v.sizes s kept id v at idle_there handle root.0 root.1 (closed.nobody_runs v.sizes s kept id v at handle low looked would all_looked says outside idle_there))
+        (close_allowed v.sizes s kept id v at idle_there handle root.0 root.1 (closed.nobody_runs v.sizes s kept id v at handle low looked others would all_looked says outside idle_there))
 
     kept_after : IsKept v.sizes (record { words = set s.words (root_word handle) 0; homes = s.homes; views = set s.views id after })
-    kept_after = closed.close_kept v.sizes s kept id v at handle low looked would all_looked says outside idle_there closes_it
+    kept_after = closed.close_kept v.sizes s kept id v at handle low looked others would all_looked says outside idle_there closes_it
 
     sound_after : IsSound (words_of v.sizes) after
     sound_after =
-        let all = closed.all_then v.sizes s kept id v at handle low looked would all_looked says outside idle_there closes_it in
+        let all = closed.all_then v.sizes s kept id v at handle low looked others would all_looked says outside idle_there closes_it in
         record { size = refl; range = kept.range.within; bounds = all.bounds; counted = all.counted; inside = all.nodes.inside; free = free_inside v s kept id at }
 
     hits : Shut after
@@ -97,17 +97,17 @@ module _ (v : View) (handle looked : ℕ) (low : handle < 256) (would : v.closin
   pub shuts : (x : View) × Shut x
   shuts = elim (cases_eq found old) [ inl e ↦ (after, hits e) | inr differs ↦ (v, misses differs) ]
 
-pub close_allows : (sizes : Sizes) (size id : ℕ) (me : Me Call View) (handle looked : ℕ) → handle < 256 → me.0.closing ≡ Some (closes handle looked) → me.0.sizes.seats ≤ looked →
+pub close_allows : (sizes : Sizes) (size id : ℕ) (me : Me Call View) (handle looked : ℕ) → handle < 256 → WouldClose me.0 handle looked → me.0.sizes.seats ≤ looked →
     me.0.entered ≢ Some handle → IsIdle me.0 → (w : RootWord) → SaysClosing (root_code w) me.0.actor →
     Allows (IsKept sizes) size id me (root_word handle) (λ n. either (n == root_code w) 0 n) (has_closed (step size (root_word handle) (root_code w) 0 none) me)
-close_allows sizes size id me handle looked low would all_looked outside idle w mine =
+close_allows sizes size id me handle looked low (others, would) all_looked outside idle w mine =
     allowed sizes size id me (root_word handle) (λ n. either (n == root_code w) 0 n) (has_closed (step size (root_word handle) (root_code w) 0 none) me)
-    (λ s kept at. (let x = shuts me.0 handle looked low would all_looked outside idle w mine s kept id at in (
+    (λ s kept at. (let x = shuts me.0 handle looked low others would all_looked outside idle w mine s kept id at in (
       x.0,
       x.1.0,
       (
         λ g n is. subst (λ (c : Closing). HasClosed me.0 c.handle (slice_index s.words (root_word handle) == root_code w) x.0)
-            (same_Some (closes handle looked) (closes g n) (sym would ∙ is)) x.1.1,
+            (ap (λ marks. get_or marks 0 (closes handle looked)) (sym would ∙ is.1)) x.1.1,
         x.1.2,
         refl,
       ),

@@ -55,7 +55,7 @@ mod Offered
 mod Tries
 mod Settled
 mod Rewritten
-mod Entering
+mod Closers
 mod OpenHandles
 mod Pinning
 mod Ended

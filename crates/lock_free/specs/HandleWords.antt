@@ -1,6 +1,6 @@
 -- What accesses of handles' words ask and tell.
 use Rattle.history.specs.declared.calls.Call.{Call}
-use Rattle.std.specs.Prelude.{◌≡◌, ◌==◌, ◌+◌, ◌*◌, ◌≤◌, ◌⊎◌, ℕ, Bool, true, false, Contains, Some, None}
+use Rattle.std.specs.Prelude.{◌≡◌, ◌==◌, ◌+◌, ◌*◌, ◌≤◌, ◌⊎◌, ℕ, Bool, true, false, ◌∷◌, Contains, Some, None}
 use Rattle.atomic_table.specs.Table.{Me, Step}
 use Rattle.trie_words.specs.Codes.{IsRootWord}
 use Rattle.trie_words.specs.declared.roots.RootWord.{RootWord}
@@ -17,7 +17,7 @@ use Rattle.lock_free.specs.Beginning.{closed_by}
 use Rattle.lock_free.specs.Loading.{IsSound, Saw, Waited}
 use Rattle.lock_free.specs.Places.{words_of, words_in, root_word}
 use Rattle.lock_free.specs.Roots.{SaysPlain}
-use Rattle.lock_free.specs.SeatWords.{IsIdle, closes}
+use Rattle.lock_free.specs.SeatWords.{IsIdle, WouldClose}
 
 -- an offer for this handle was made in this slot
 pub record HasOffer (sizes : Sizes) (account : Account) (handle slot : ℕ) : Type 0 where
@@ -69,7 +69,7 @@ abbrev pub begins_with : ℕ → Closing
 begins_with handle = record { handle = handle; looked = 0 }
 
 abbrev pub marking : View → ℕ → View
-marking v handle = record v { closing = Some (begins_with handle) }
+marking v handle = record v { closing = begins_with handle ∷ v.closing }
 
 -- the mark was made, or the word was another
 abbrev pub HasMarked : View → ℕ → Bool → View → Type 0
@@ -81,7 +81,7 @@ has_marked step before found after = ((handle : ℕ) → step.word ≡ root_word
 -- ---- a handle is closed
 
 abbrev pub once_closed : View → ℕ → Account → View
-once_closed v handle account = record v { account = closed_by v.actor handle account; closing = None }
+once_closed v handle account = record v { account = closed_by v.actor handle account }
 
 -- the call that closes it has begun and ended, or the word was another
 abbrev pub HasClosed : View → ℕ → Bool → View → Type 0
@@ -90,5 +90,5 @@ HasClosed before handle closed after =
 
 abbrev pub has_closed : Step Call → Me Call View → ℕ → Me Call View → Type 0
 has_closed step before found after =
-    ((handle looked : ℕ) → before.0.closing ≡ Some (closes handle looked) → HasClosed before.0 handle (found == step.first) after.0)
+    ((handle looked : ℕ) → WouldClose before.0 handle looked → HasClosed before.0 handle (found == step.first) after.0)
     × (IsSound (words_of before.0.sizes) before.0 → IsSound (words_of before.0.sizes) after.0) × (after.1 ≡ before.1)

@@ -1,7 +1,7 @@
 -- What stores to a seat's own word ask and tell.
 use Rattle.history.specs.declared.calls.Call.{Call}
 use Rattle.history.specs.declared.replies.Reply.{Reply}
-use Rattle.std.specs.Prelude.{◌≡◌, ◌+◌, ◌==◌, ◌||◌, ℕ, Bool, true, false, Option, Some, None, if◌then◌else◌}
+use Rattle.std.specs.Prelude.{◌≡◌, ◌+◌, ◌==◌, ◌||◌, ℕ, Bool, true, false, List, ◌∷◌, Option, Some, None, if◌then◌else◌}
 use mathlib.Core.Option.{some}
 use Rattle.atomic_table.specs.Table.{Me, Step}
 use Rattle.trie_words.specs.Codes.{pin_of}
@@ -61,8 +61,12 @@ is_out handle (Some pin) = if pin.handle == handle then false else true
 abbrev pub closes : ℕ → ℕ → Closing
 closes handle looked = record { handle = handle; looked = looked }
 
+-- it has marked the handle last, and has looked at so many since
+abbrev pub WouldClose : View → ℕ → ℕ → Type 0
+WouldClose v handle looked = (others : List Closing) × (v.closing ≡ closes handle looked ∷ others)
+
 abbrev pub passing : View → ℕ → ℕ → View
-passing v handle looked = record v { closing = Some (closes handle (looked + 1)) }
+passing v handle looked = record v { closing = closes handle (looked + 1) ∷ v.closing }
 
 abbrev pub HasPassed : View → ℕ → ℕ → Bool → View → Type 0
 HasPassed before handle looked out after = (out ≡ true → after ≡ passing before handle looked) × (out ≡ false → after ≡ before)
@@ -73,5 +77,5 @@ is_passed v handle looked found = is_out handle (pin_of found) || (looked + 1 ==
 
 abbrev pub has_passed : Step Call → Me Call View → ℕ → Me Call View → Type 0
 has_passed step before found after =
-    ((handle looked : ℕ) → before.0.closing ≡ Some (closes handle looked) → step.word ≡ pin_word (looked + 1) → HasPassed before.0 handle looked (is_passed before.0 handle looked found) after.0)
+    ((handle looked : ℕ) → WouldClose before.0 handle looked → step.word ≡ pin_word (looked + 1) → HasPassed before.0 handle looked (is_passed before.0 handle looked found) after.0)
     × (after.1 ≡ before.1)

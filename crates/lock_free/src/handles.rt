@@ -1,12 +1,12 @@
 //! Handles' words.
 
-ghost use Rattle.std.specs.Prelude.{◌≡◌, ◌≢◌, ◌<◌, ◌≤◌, true, None, Some};
+ghost use Rattle.std.specs.Prelude.{◌≡◌, ◌≢◌, ◌<◌, ◌≤◌, true, Some};
 ghost use Rattle.trie_words.specs.Codes.{IsRootWord, root_code};
 ghost use Rattle.lock_free.specs.HandleWords.{is_unmarked, marked_by, HasClosed, HasMarked, HasSeenRoot};
 ghost use Rattle.lock_free.specs.Loading.{IsSound};
 ghost use Rattle.lock_free.specs.Places.{root_word};
 ghost use Rattle.lock_free.specs.Rules.{SaysClosing};
-ghost use Rattle.lock_free.specs.SeatWords.{IsIdle, closes};
+ghost use Rattle.lock_free.specs.SeatWords.{IsIdle, WouldClose};
 
 use crate::loads::{Actor, Words};
 use crate::rules::{Marks, Sees, Shuts};
@@ -57,7 +57,6 @@ pub fn mark(words: &Words, actor: &mut Actor, handle: u16, word: RootWord, seat:
     requires fits { IsRootWord word }
     requires unmarked { is_unmarked word ≡ true }
     requires own { seat ≡ actor.old.me.0.actor }
-    requires one { actor.old.me.0.closing ≡ None }
     ensures table { actor.new.table_id ≡ actor.old.table_id }
     ensures sound { IsSound words.now.table_id.words actor.new.me.0 }
     ensures marked { HasMarked actor.old.me.0 handle result actor.new.me.0 }
@@ -75,7 +74,7 @@ pub fn close(words: &Words, actor: &mut Actor, handle: u16, word: RootWord, look
     requires low { handle < 256 }
     requires fits { IsRootWord word }
     requires marked { SaysClosing (root_code word) actor.old.me.0.actor }
-    requires closing { actor.old.me.0.closing ≡ Some (closes handle looked) }
+    requires closing { WouldClose actor.old.me.0 handle looked }
     requires all { actor.old.me.0.sizes.seats ≤ looked }
     requires outside { actor.old.me.0.entered ≢ Some handle }
     requires idle { IsIdle actor.old.me.0 }

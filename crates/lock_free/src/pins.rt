@@ -4,7 +4,7 @@ ghost use Rattle.std.specs.Prelude.{◌≡◌, ◌==◌, ◌||◌, ◌+◌, ◌<
 ghost use Rattle.trie_words.specs.Codes.{IsPin};
 ghost use Rattle.lock_free.specs.Loading.{IsSound};
 ghost use Rattle.lock_free.specs.Places.{pin_word};
-ghost use Rattle.lock_free.specs.SeatWords.{IsAtEnd, IsIdle, HasEnded, HasPassed, asking, closes, is_out, unpinned};
+ghost use Rattle.lock_free.specs.SeatWords.{IsAtEnd, IsIdle, HasEnded, HasPassed, WouldClose, asking, is_out, unpinned};
 
 use crate::loads::{Actor, Words};
 use crate::rules::{Asks, Ends, Looks, Unpins};
@@ -96,7 +96,7 @@ pub fn pass(words: &Words, actor: &mut Actor, own: u8, handle: u16, looked: u8) 
     requires low { handle < 256 }
     requires small { looked + 1 < 256 }
     requires few { looked + 1 ≤ actor.old.me.0.sizes.seats }
-    requires closing { actor.old.me.0.closing ≡ Some (closes handle looked) }
+    requires closing { WouldClose actor.old.me.0 handle looked }
     ensures table { actor.new.table_id ≡ actor.old.table_id }
     ensures sound { IsSound words.now.table_id.words actor.new.me.0 }
     ensures passed { HasPassed actor.old.me.0 handle looked result actor.new.me.0 }

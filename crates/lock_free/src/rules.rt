@@ -46,8 +46,8 @@ pub struct View {
     pub asks: Option<Call>,
     /// The handle that it has found open since it pinned itself to it: so nobody closes it.
     pub entered: Option<u16>,
-    /// What it would close.
-    pub closing: Option<Closing>,
+    /// The handles that it has marked, since it would close them, the latest first.
+    pub closing: LinkedList<Closing>,
     /// The number that it has reserved.
     pub opens: Option<u16>,
     /// The slot of the offer that it writes, which the word of that number names already.
