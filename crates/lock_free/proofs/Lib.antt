@@ -21,6 +21,7 @@ mod Verdicts
 mod DecideStep
 mod RestoreStep
 mod GivenBack
+mod GivesBack
 mod PublishStep
 mod OwnSlots
 mod MakeStep
@@ -71,6 +72,7 @@ mod EndStep
 mod Asking
 mod PinStep
 mod BeginStep
+mod GiveUpStep
 mod MarkStep
 mod PassStep
 mod CloseStep

@@ -17,7 +17,7 @@ mod stores;
 mod swapping;
 
 pub use accounts::{Account, Known, Owned};
-pub use calling::{Denial, Started, begin};
+pub use calling::{Denial, Started, begin, give_up};
 pub use exchanges::{decide, publish, restore};
 pub use finding::{Entered, Level, Met, go_down};
 pub use handles::{close, mark, see_root};
@@ -29,7 +29,7 @@ pub use offers::{abort, complete};
 pub use pins::{finish, pass, pin, unpin};
 pub use reading::{AsksRoot, Given, Passed, Way, read, read_within};
 pub use rules::{
-    Asks, Closing, Completes, Drafts, Ends, Goes, Looks, Makes, MakesRoot, Marks, Pool, Publishes,
+    Abandons, Asks, Closing, Completes, Drafts, Ends, Goes, Looks, Makes, MakesRoot, Marks, Pool, Publishes,
     Rule, Sees, Shuts, Starts, Takes, Unpins, View,
 };
 pub use sizes::Sizes;

@@ -2,7 +2,7 @@
 
 ghost use Rattle.lock_free.specs.Rules.{IsKept, first_view};
 ghost use Rattle.lock_free.specs.Loading.{has_seen, has_gone};
-ghost use Rattle.lock_free.specs.Calling.{has_started};
+ghost use Rattle.lock_free.specs.Calling.{has_given_up, has_started};
 ghost use Rattle.lock_free.specs.Exchanging.{has_published};
 ghost use Rattle.lock_free.specs.HandleWords.{has_closed, has_marked};
 ghost use Rattle.lock_free.specs.OfferWords.{has_completed};
@@ -141,6 +141,13 @@ pub struct Ends;
 
 impl Play<Call, View> for Ends {
     ghost then = { has_ended };
+}
+
+/// An operation gives up.
+pub struct Abandons;
+
+impl Play<Call, View> for Abandons {
+    ghost then = { has_given_up };
 }
 
 /// A word of a free slot is written.
