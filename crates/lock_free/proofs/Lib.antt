@@ -62,6 +62,8 @@ mod Pinning
 mod Ended
 mod Begun
 mod Reserved
+mod Reserving
+mod NumberSteps
 mod Closed
 mod Stood
 mod Allowed

@@ -19,6 +19,7 @@ pub mod Storing
 pub mod OfferWords
 pub mod HandleWords
 pub mod Calling
+pub mod Numbers
 pub mod OfReads
 pub mod Passing
 pub mod Swaps

@@ -8,6 +8,7 @@ mod exchanges;
 mod finding;
 mod handles;
 mod loads;
+mod numbers;
 mod offers;
 mod pins;
 mod reading;
@@ -25,12 +26,13 @@ pub use loads::{
     Actor, Words, look_at_key, look_at_link, look_at_main, look_at_value, read_header, read_link,
     see_key, see_link, see_main, see_pair, see_value,
 };
+pub use numbers::{give_back, name, reserve};
 pub use offers::{abort, complete};
 pub use pins::{finish, pass, pin, unpin};
 pub use reading::{AsksRoot, Given, Passed, Way, read, read_within};
 pub use rules::{
-    Abandons, Asks, Closing, Completes, Drafts, Ends, Goes, Looks, Makes, MakesRoot, Marks, Pool, Publishes,
-    Rule, Sees, Shuts, Starts, Takes, Unpins, View,
+    Abandons, Asks, Closing, Completes, Drafts, Ends, Goes, Looks, Makes, MakesRoot, Marks, Names, Pool, Publishes,
+    Reserves, Returns, Rule, Sees, Shuts, Starts, Takes, Unpins, View,
 };
 pub use sizes::Sizes;
 pub use stores::{Tried, draft, make, make_root, try_take};

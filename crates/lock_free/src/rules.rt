@@ -5,6 +5,7 @@ ghost use Rattle.lock_free.specs.Loading.{has_seen, has_gone};
 ghost use Rattle.lock_free.specs.Calling.{has_given_up, has_started};
 ghost use Rattle.lock_free.specs.Exchanging.{has_published};
 ghost use Rattle.lock_free.specs.HandleWords.{has_closed, has_marked};
+ghost use Rattle.lock_free.specs.Numbers.{has_given_back, has_named, has_reserved};
 ghost use Rattle.lock_free.specs.OfferWords.{has_completed};
 ghost use Rattle.lock_free.specs.SeatWords.{has_asked, has_ended, has_passed, has_unpinned};
 ghost use Rattle.lock_free.specs.Storing.{has_drafted, has_made, has_made_root, has_taken};
@@ -141,6 +142,27 @@ pub struct Ends;
 
 impl Play<Call, View> for Ends {
     ghost then = { has_ended };
+}
+
+/// A number is reserved for a handle that a call opens, or isn't.
+pub struct Reserves;
+
+impl Play<Call, View> for Reserves {
+    ghost then = { has_reserved };
+}
+
+/// Its word names the offer that is to open it.
+pub struct Names;
+
+impl Play<Call, View> for Names {
+    ghost then = { has_named };
+}
+
+/// It is given back.
+pub struct Returns;
+
+impl Play<Call, View> for Returns {
+    ghost then = { has_given_back };
 }
 
 /// An operation gives up.
