@@ -1,8 +1,8 @@
 -- The exchange by which a seat closes a handle.
 use Rattle.history.specs.declared.calls.Call.{Call}
+use Rattle.history.specs.declared.calls.Call.TheVariants.{Close}
 use Rattle.std.proofs.Common.{◌≡◌, ◌≢◌, ◌==◌, ◌<◌, ◌≤◌, inl, inr, ℕ, true, List, ◌∷◌, get_or, set, slice_index, is_some, Option, Some, None, refl, sym, ap, subst, ◌∙◌, eq-eqb, arith}
 use Rattle.std.proofs.lemmas.Bool.{cases_eq, ne_eqb, true≢false, false≢true}
-use Rattle.std.proofs.lemmas.Option.{same_Some}
 use mathlib.Core.Option.{some, none}
 use lib.ListN.{get_elem?}
 use prog.Atomic.{either}
@@ -10,13 +10,14 @@ use Rattle.atomic_table.specs.Table.{Me, Allows, step}
 use Rattle.atomic_table.specs.Table as Table
 use Rattle.trie_words.specs.Codes.{root_code}
 use Rattle.trie_words.specs.declared.roots.RootWord.{RootWord}
+use Rattle.machine_model.specs.Machine.{begin_denial}
 use Rattle.machine_model.specs.States.{operation_of, root_at}
 use Rattle.lock_free.specs.declared.rules.Closing.{Closing}
 use Rattle.lock_free.specs.declared.rules.View.{View}
 use Rattle.lock_free.specs.declared.sizes.Sizes.{Sizes}
 use Rattle.lock_free.specs.Accounts.{state_of}
 use Rattle.lock_free.specs.Beginning.{Closes}
-use Rattle.lock_free.specs.HandleWords.{once_closed, HasClosed, has_closed}
+use Rattle.lock_free.specs.HandleWords.{once_closed, HasClosed, ShutBy, has_closed}
 use Rattle.lock_free.specs.Loading.{IsSound}
 use Rattle.lock_free.specs.Places.{root_word, words_of}
 use Rattle.lock_free.specs.Rules.{SaysClosing, IsSeat, IsKept}
@@ -27,7 +28,7 @@ use Rattle.lock_free.proofs.Closed as closed
 use Rattle.lock_free.proofs.Closers.{seat_kept}
 use Rattle.lock_free.proofs.Exchanged.{words_then, words_hit, words_miss}
 use Rattle.lock_free.proofs.Moments.{allowed, waited_so, free_inside}
-use Rattle.lock_free.proofs.OneStep.Beginning.{closes_of}
+use Rattle.lock_free.proofs.OneStep.Beginning.{close_told, closes_of}
 use Rattle.lock_free.proofs.OneStep.Idle.{idle_stays}
 
 some_of : {A : Type 0} (r : Option A) → is_some r ≡ true → (a : A) × (r ≡ Some a)
@@ -64,11 +65,13 @@ module _ (v : View) (handle looked : ℕ) (low : handle < 256) (others : List Cl
     says : SaysClosing found v.actor
     says = subst (λ n. SaysClosing n v.actor) (sym e) mine
 
-    closes_it : Closes v.sizes kept.account v.actor handle
-    closes_it =
+    may : begin_denial (state_of v.sizes kept.account) v.actor (Close handle) None ≡ None
+    may =
         let root = some_of (root_at (state_of v.sizes kept.account) handle) (closed.is_open v.sizes s kept id v at handle low looked others would all_looked says outside idle_there) in
-        closes_of v.sizes kept.account kept.bounds v.actor handle few low idle_there
-        (close_allowed v.sizes s kept id v at idle_there handle root.0 root.1 (closed.nobody_runs v.sizes s kept id v at handle low looked others would all_looked says outside idle_there))
+        close_allowed v.sizes s kept id v at idle_there handle root.0 root.1 (closed.nobody_runs v.sizes s kept id v at handle low looked others would all_looked says outside idle_there)
+
+    closes_it : Closes v.sizes kept.account v.actor handle
+    closes_it = closes_of v.sizes kept.account kept.bounds v.actor handle few low idle_there may
 
     kept_after : IsKept v.sizes (record { words = set s.words (root_word handle) 0; homes = s.homes; views = set s.views id after })
     kept_after = closed.close_kept v.sizes s kept id v at handle low looked others would all_looked says outside idle_there closes_it
@@ -78,10 +81,20 @@ module _ (v : View) (handle looked : ℕ) (low : handle < 256) (others : List Cl
         let all = closed.all_then v.sizes s kept id v at handle low looked others would all_looked says outside idle_there closes_it in
         record { size = refl; range = kept.range.within; bounds = all.bounds; counted = all.counted; inside = all.nodes.inside; free = free_inside v s kept id at }
 
+    shut_by : ShutBy v handle after
+    shut_by = record {
+      account = kept.account;
+      waited = waited_so v s kept id at;
+      after_is = refl;
+      idle = closes_it.operations v.actor ∙ idle_there;
+      id = (state_of v.sizes kept.account).begun;
+      told = close_told v.sizes kept.account kept.bounds v.actor handle few low idle_there may;
+    }
+
     hits : Shut after
     hits = (
       subst (λ ws. IsKept v.sizes (record { words = ws; homes = s.homes; views = set s.views id after })) (words_hit v s kept id at (root_word handle) old 0 e (root_word handle) refl) kept_after,
-      (λ x. (kept.account, waited_so v s kept id at, refl, closes_it.operations v.actor ∙ idle_there), λ x. absurd (true≢false (sym (eq-eqb found old e) ∙ x))),
+      (λ x. shut_by, λ x. absurd (true≢false (sym (eq-eqb found old e) ∙ x))),
       λ x. sound_after,
     )
 

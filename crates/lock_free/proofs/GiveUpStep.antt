@@ -1,7 +1,7 @@
 -- A load lets a seat's operation give up.
 use Rattle.history.specs.declared.calls.Call.{Call}
 use Rattle.history.specs.declared.replies.Reply.{Reply}
-use Rattle.std.proofs.Common.{◌≡◌, ◌<◌, ℕ, Bool, true, set, slice_index, Some, refl, sym, ap, subst, ◌∙◌, arith}
+use Rattle.std.proofs.Common.{◌≡◌, ◌<◌, ℕ, Bool, set, Some, refl, sym, ap, subst, ◌∙◌, arith}
 use Rattle.std.proofs.lemmas.List.{set-get_or}
 use Rattle.std.proofs.lemmas.Option.{same_Some}
 use mathlib.Core.Option.{some, none}
@@ -17,7 +17,7 @@ use Rattle.lock_free.specs.declared.rules.View.{View}
 use Rattle.lock_free.specs.declared.sizes.Sizes.{Sizes}
 use Rattle.lock_free.specs.Accounts.{running}
 use Rattle.lock_free.specs.Beginning.{taking}
-use Rattle.lock_free.specs.Calling.{GaveUp, HasGivenUp, MayGiveUp, once_given_up, has_given_up}
+use Rattle.lock_free.specs.Calling.{HasGivenUp, MayGiveUp, once_given_up, has_given_up}
 use Rattle.lock_free.specs.Loading.{now, seen, IsSound, Runs, Waited}
 use Rattle.lock_free.specs.Places.{epoch_word, words_of}
 use Rattle.lock_free.specs.Rules.{IsKept}

@@ -1,6 +1,6 @@
 -- A step by which an operation gives up all that it made changes no word; the slots of these nodes are free for its seat then.
 use Rattle.history.specs.declared.calls.Call.{Call}
-use Rattle.std.proofs.Common.{◌≡◌, ◌≢◌, ◌⊎◌, ◌+◌, ◌*◌, ◌<◌, ◌≤◌, ℕ, inl, inr, true, Contains, set, Some, refl, sym, subst, ◌∙◌}
+use Rattle.std.proofs.Common.{◌≡◌, ◌≢◌, ◌⊎◌, ◌+◌, ◌*◌, ◌<◌, ◌≤◌, ℕ, inl, inr, Contains, set, refl, sym, subst, ◌∙◌}
 use Rattle.std.proofs.lemmas.List.Elements.{Contains-append_right}
 use mathlib.Core.Option.{some}
 use lib.ListN.{get_elem?}
@@ -14,7 +14,7 @@ use Rattle.machine_model.specs.Keys.{FitsKey}
 use Rattle.machine_model.specs.States.{State}
 use Rattle.lock_free.specs.declared.accounts.Account.{Account}
 use Rattle.lock_free.specs.declared.rules.View.{View}
-use Rattle.lock_free.specs.Accounts.{state_of, place_of, running, IsOfOther}
+use Rattle.lock_free.specs.Accounts.{state_of, running, IsOfOther}
 use Rattle.lock_free.specs.Beginning.{taking}
 use Rattle.lock_free.specs.Exchanging.{given_back}
 use Rattle.lock_free.specs.Live.{from_operation, line_claims, refs_of_claims, IsLive}

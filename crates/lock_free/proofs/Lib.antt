@@ -76,8 +76,10 @@ mod PinStep
 mod BeginStep
 mod GiveUpStep
 mod MarkStep
+mod UnmarkStep
 mod PassStep
 mod CloseStep
+mod Shutting
 mod KeyMoves
 mod MainLooks
 mod EntryLooks

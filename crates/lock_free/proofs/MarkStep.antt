@@ -1,6 +1,6 @@
 -- The exchange by which a seat marks a handle that it would close.
 use Rattle.history.specs.declared.calls.Call.{Call}
-use Rattle.std.proofs.Common.{◌≡◌, ◌==◌, ◌<◌, ◌^◌, inl, inr, ℕ, Bool, true, false, set, slice_index, None, refl, sym, ap, subst, ◌∙◌, eq-eqb}
+use Rattle.std.proofs.Common.{◌≡◌, ◌==◌, ◌<◌, ◌^◌, inl, inr, ℕ, Bool, true, false, set, slice_index, refl, sym, ap, subst, ◌∙◌, eq-eqb}
 use Rattle.std.proofs.lemmas.Bool.{cases_eq, ne_eqb, true≢false, false≢true}
 use mathlib.Core.Option.{some, none}
 use lib.ListN.{get_elem?}

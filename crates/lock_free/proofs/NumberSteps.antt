@@ -1,6 +1,6 @@
 -- Accesses of the word of a number that a call is to open.
 use Rattle.history.specs.declared.calls.Call.{Call}
-use Rattle.std.proofs.Common.{◌≡◌, ◌≢◌, ◌==◌, ◌+◌, ◌*◌, ◌≤◌, arith, ◌<◌, ◌^◌, inl, inr, ℕ, Bool, true, false, Contains, set, slice_index, Option, Some, None, refl, sym, ap, subst, ◌∙◌, eq-eqb}
+use Rattle.std.proofs.Common.{◌≡◌, ◌≢◌, ◌==◌, arith, ◌<◌, ◌^◌, inl, inr, ℕ, Bool, true, false, Contains, set, slice_index, Option, Some, None, refl, sym, ap, subst, ◌∙◌, eq-eqb}
 use Rattle.std.proofs.lemmas.Bool.{cases_eq, ne_eqb, true≢false}
 use Rattle.std.proofs.lemmas.Option.{none-some, same_Some}
 use mathlib.Core.Option.{some, none}
@@ -8,16 +8,12 @@ use lib.ListN.{get_elem?}
 use prog.Atomic.{either}
 use Rattle.atomic_table.specs.Table.{Me, Allows, step}
 use Rattle.atomic_table.specs.Table as Table
-use Rattle.trie_words.specs.Codes.{root_code, root_of, IsRootWord}
-use Rattle.trie_words.specs.declared.roots.RootWord.{RootWord}
+use Rattle.trie_words.specs.Codes.{root_code, IsRootWord}
 use Rattle.trie_words.specs.declared.roots.RootWord.TheVariants as word
 use Rattle.machine_model.specs.declared.copying.CopyLine.TheVariants as copy
-use Rattle.machine_model.specs.declared.lines.Line.{Line}
 use Rattle.machine_model.specs.declared.lines.Line.TheVariants as line
 use Rattle.machine_model.specs.declared.operations.Operation.{Operation}
 use Rattle.machine_model.specs.declared.roots.Complete.{Complete}
-use Rattle.machine_model.specs.declared.roots.Descriptor.{Descriptor}
-use Rattle.machine_model.specs.States.{State, operation_of}
 use Rattle.lock_free.specs.declared.accounts.Known.{Known}
 use Rattle.lock_free.specs.declared.rules.View.{View}
 use Rattle.lock_free.specs.declared.sizes.Sizes.{Sizes}

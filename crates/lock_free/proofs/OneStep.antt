@@ -14,9 +14,9 @@ pub mod Settles
 pub mod Settling
 pub mod Offering
 pub mod Sitting
+pub mod Telling
 pub mod Beginning
 pub mod Idle
-pub mod Telling
 pub mod Restores
 pub mod Decides
 pub mod Publishes

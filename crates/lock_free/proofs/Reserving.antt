@@ -1,6 +1,6 @@
 -- A seat that runs nothing reserves a number: an exchange of the word of a handle that is closed, and no step.
 use Rattle.history.specs.declared.calls.Call.{Call}
-use Rattle.std.proofs.Common.{◌≡◌, ◌≢◌, ℕ, ◌<◌, ◌≤◌, inl, inr, List, Contains, is_some, set, slice_index, Some, None, refl, sym, ap, subst, ◌∙◌, arith}
+use Rattle.std.proofs.Common.{◌≡◌, ◌≢◌, ℕ, ◌<◌, ◌≤◌, inl, inr, List, set, slice_index, Some, None, refl, sym, ap, subst, ◌∙◌, arith}
 use Rattle.std.proofs.lemmas.Bool.{cases_eq}
 use Rattle.std.proofs.lemmas.Option.{none-some, same_Some}
 use mathlib.Core.Option.{some}
@@ -18,7 +18,7 @@ use Rattle.lock_free.specs.Roots.{NoOffer}
 use Rattle.lock_free.specs.Rules.{IsFree, IsHeld, Reserves, IsOpening, IsSeat, IsKept, SaysClosing}
 use Rattle.lock_free.proofs.Assembling.{AllStand, all_stand, closing_stays, opening_stays, Numbers, assembled}
 use Rattle.lock_free.proofs.OpenHandles.{not_closing}
-use Rattle.lock_free.proofs.RootCodes.{kind, same_kind}
+use Rattle.lock_free.proofs.RootCodes.{same_kind}
 use Rattle.lock_free.proofs.RootFound.{said}
 use Rattle.lock_free.proofs.RootSteps as root
 use Rattle.lock_free.proofs.Seats.{ran_so, Stays, StaysSpare, other_kept, own_else}

@@ -18,6 +18,7 @@ pub mod Exchanging
 pub mod Storing
 pub mod OfferWords
 pub mod HandleWords
+pub mod Closing
 pub mod Calling
 pub mod Numbers
 pub mod OfReads

@@ -4,6 +4,7 @@
 
 mod accounts;
 mod calling;
+mod closing;
 mod exchanges;
 mod finding;
 mod handles;
@@ -19,9 +20,10 @@ mod swapping;
 
 pub use accounts::{Account, Known, Owned};
 pub use calling::{Denial, Started, begin, give_up};
+pub use closing::{Shut, close_handle};
 pub use exchanges::{decide, publish, restore};
 pub use finding::{Entered, Level, Met, go_down};
-pub use handles::{close, mark, see_root};
+pub use handles::{close, mark, see_root, unmark};
 pub use loads::{
     Actor, Words, look_at_key, look_at_link, look_at_main, look_at_value, read_header, read_link,
     see_key, see_link, see_main, see_pair, see_value,
@@ -32,7 +34,7 @@ pub use pins::{finish, pass, pin, unpin};
 pub use reading::{AsksRoot, Given, Passed, Way, read, read_within};
 pub use rules::{
     Abandons, Asks, Closing, Completes, Drafts, Ends, Goes, Looks, Makes, MakesRoot, Marks, Names, Pool, Publishes,
-    Reserves, Returns, Rule, Sees, Shuts, Starts, Takes, Unpins, View,
+    Reserves, Returns, Rule, Sees, Shuts, Starts, Takes, Unmarks, Unpins, View,
 };
 pub use sizes::Sizes;
 pub use stores::{Tried, draft, make, make_root, try_take};

@@ -4,7 +4,7 @@ ghost use Rattle.lock_free.specs.Rules.{IsKept, first_view};
 ghost use Rattle.lock_free.specs.Loading.{has_seen, has_gone};
 ghost use Rattle.lock_free.specs.Calling.{has_given_up, has_started};
 ghost use Rattle.lock_free.specs.Exchanging.{has_published};
-ghost use Rattle.lock_free.specs.HandleWords.{has_closed, has_marked};
+ghost use Rattle.lock_free.specs.HandleWords.{has_closed, has_marked, has_unmarked};
 ghost use Rattle.lock_free.specs.Numbers.{has_given_back, has_named, has_reserved};
 ghost use Rattle.lock_free.specs.OfferWords.{has_completed};
 ghost use Rattle.lock_free.specs.SeatWords.{has_asked, has_ended, has_passed, has_unpinned};
@@ -121,6 +121,13 @@ pub struct Marks;
 
 impl Play<Call, View> for Marks {
     ghost then = { has_marked };
+}
+
+/// A mark is taken away, or isn't.
+pub struct Unmarks;
+
+impl Play<Call, View> for Unmarks {
+    ghost then = { has_unmarked };
 }
 
 /// A seat that would close a handle looks at the next seat's pin.

@@ -1,4 +1,4 @@
-use Rattle.std.proofs.Common.{◌<◌, sym, subst}
+use Rattle.std.proofs.Common.{sym, subst}
 use Rattle.lock_free.specs.Loading.{IsSound}
 use Rattle.lock_free.proofs.GiveUpStep.{give_up_allowed, epoch_inside}
 use Rattle.lock_free.proofs.calling.give_up.Goals as goal

@@ -1,10 +1,10 @@
 use Rattle.std.proofs.Common.{◌<◌, ◌∙◌, ap, sym, subst, Some}
 use mathlib.Core.Option.{none}
 use Rattle.atomic_table.specs.Table.{Allows, step}
-use Rattle.trie_words.specs.Codes.{root_code, root_of}
+use Rattle.trie_words.specs.Codes.{root_of}
 use Rattle.trie_words.specs.declared.roots.RootWord.TheVariants as word
 use Rattle.lock_free.specs.Loading.{IsSound}
-use Rattle.lock_free.specs.Numbers.{has_named, naming}
+use Rattle.lock_free.specs.Numbers.{has_named}
 use Rattle.lock_free.specs.Places.{root_word}
 use Rattle.lock_free.specs.Rules.{IsKept}
 use Rattle.lock_free.proofs.NumberSteps.{name_allowed, opens_sound, slot_in_range}

@@ -1,7 +1,6 @@
-use Rattle.std.proofs.Common.{◌≡◌, ◌∙◌, ap, refl, sym, subst, None}
+use Rattle.std.proofs.Common.{◌∙◌, ap, refl, sym, subst}
 use Rattle.lock_free.specs.declared.rules.View.{View}
 use Rattle.lock_free.specs.Loading.{IsSound}
-use Rattle.lock_free.specs.Numbers.{reserving}
 use Rattle.lock_free.specs.SeatWords.{IsIdle}
 use Rattle.lock_free.proofs.numbers.reserve.Goals as goal
 
