@@ -161,7 +161,7 @@ module _ (v : View) (call : Call) (b : IsBeginner v call) (low : handle_of call 
       sound : IsSound (words_of v.sizes) (once_begun v call there)
       sound =
           let all = all_then v.sizes s kept id v at (taken.Begin v.actor call v.opens) call begins idle in
-          record { size = refl; range = kept.range.within; bounds = all.bounds; counted = all.counted; inside = all.nodes.inside; free = free_inside v s kept id at }
+          record { size = refl; range = kept.range.within; bounds = all.bounds; keys = all.keys; counted = all.counted; inside = all.nodes.inside; free = free_inside v s kept id at }
 
       runs : Starts (started.Runs w)
       runs = (

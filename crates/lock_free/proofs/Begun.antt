@@ -58,7 +58,7 @@ module _ (sizes : Sizes) (s : Table.State Call View) (kept : IsKept sizes s) (id
 
   pub all_then : AllStand sizes account_then kept.stands s.words
   all_then =
-      root.all_left sizes kept.account (taken ∷ []) begins.leaves kept.stands s.words
+      root.all_left sizes kept.account taken begins.leaves kept.stands s.words
       (All-append FitsKey kept.account.steps (taken ∷ []) kept.keys (All-cons FitsKey taken [] begins.fits (All-nil FitsKey)))
       (quiet_more kept.account.steps taken kept.quiet (other_quiet (v.actor + 1) taken (begins.its (v.actor + 1) (λ e. omega (arith, e))))) begins.roots marks_then all
 

@@ -18,7 +18,9 @@ use Rattle.machine_model.specs.declared.steps.Step.{Step}
 use Rattle.machine_model.specs.declared.steps.Step.TheVariants as step
 use Rattle.machine_model.specs.Calls.{handle_of}
 use Rattle.machine_model.specs.Keys.{FitsKey}
-use Rattle.machine_model.specs.States.{State, operation_of, handle_limit, root_at}
+use Rattle.machine_model.specs.declared.roots.Descriptor.{Descriptor}
+use Rattle.machine_model.specs.declared.roots.RootWord.TheVariants.{Offer}
+use Rattle.machine_model.specs.States.{State, operation_of, handle_limit, root_at, word_at, word_of}
 use Rattle.proof_waiting.specs.Beneath.proof_slots.specs.Unswept.{HasNoSweeps}
 use Rattle.lock_free.specs.declared.accounts.Account.{Account}
 use Rattle.lock_free.specs.declared.accounts.Known.{Known}
@@ -27,18 +29,21 @@ use Rattle.lock_free.specs.declared.rules.View.{View}
 use Rattle.lock_free.specs.declared.sizes.Sizes.{Sizes}
 use Rattle.lock_free.specs.Accounts.{state_of, HasWaited, IsOfOther}
 use Rattle.lock_free.specs.Beginning.{Closes, closed_by}
+use Rattle.lock_free.specs.Fates.{TellsFate}
 use Rattle.lock_free.specs.Places.{pin_word, root_word}
 use Rattle.lock_free.specs.Roots.{MeansRoot, IsPending, NoOffer, fate, undecided}
 use Rattle.lock_free.specs.Rules.{IsClosing, SaysClosing, IsFree, IsHeld, Reserves, Names, IsOpening, IsSeat, IsKept, latest}
 use Rattle.lock_free.specs.Trying.{try_of, KeepsTries, as_before}
 use Rattle.lock_free.proofs.Assembling.{AllStand, all_stand, closing_at, opening_stays, assembled}
 use Rattle.lock_free.proofs.Closers.{newest}
+use Rattle.lock_free.proofs.Fates.{fate_said}
 use Rattle.lock_free.proofs.Keeping.{meaning_kept}
 use Rattle.lock_free.proofs.Meanings.{ran, reserved, reserves_on, marks_kept, stood_still}
 use Rattle.lock_free.proofs.RootCodes.{kind, same_kind}
 use Rattle.lock_free.proofs.RootFound.{said, slot_fits}
 use Rattle.lock_free.proofs.RootSteps as root
 use Rattle.lock_free.proofs.Seats.{ran_so, Stays, StaysSpare, other_kept, own_else}
+use Rattle.lock_free.proofs.Stood.{plain_not}
 use Rattle.lock_free.proofs.Waiting.{waited_none, waited_more, quiet_more}
 
 module _ (sizes : Sizes) (s : Table.State Call View) (kept : IsKept sizes s) (id : ℕ) (v : View) (at : get_elem? s.views id ≡ some v) (handle : ℕ) (low : handle < handle_limit) (looked : ℕ)
@@ -89,6 +94,16 @@ module _ (sizes : Sizes) (s : Table.State Call View) (kept : IsKept sizes s) (id
 
   pub is_open : is_some (root_at now handle) ≡ true
   is_open = open_by says
+
+  -- its root stands by no offer
+  no_offer_by : (d : Descriptor) → SaysClosing (slice_index s.words (root_word handle)) v.actor → word_at now handle ≡ Offer d → ⊥
+  no_offer_by d (inl h) e =
+      let x = said sizes kept.account s.words kept.roots handle low (word.ClosingWritable h.0 v.actor) h.1 h.2 in plain_not x.root d (sym (ap word_of x.is) ∙ e)
+  no_offer_by d (inr h) e =
+      let x = said sizes kept.account s.words kept.roots handle low (word.ClosingReadOnly h.0 v.actor) h.1 h.2 in plain_not x.root d (sym (ap word_of x.is) ∙ e)
+
+  no_offer_here : (d : Descriptor) → word_at now handle ≡ Offer d → ⊥
+  no_offer_here d = no_offer_by d says
 
   not_closed : (g : ℕ) → root_at now g ≡ None → g ≢ handle
   not_closed g shut same = true≢false (sym is_open ∙ ap (λ n. is_some (root_at now n)) (sym same) ∙ ap is_some shut)
@@ -154,6 +169,11 @@ module _ (sizes : Sizes) (s : Table.State Call View) (kept : IsKept sizes s) (id
         root.pending_rooted sizes kept.account kept.stands s.words all handle low (root_code word.Closed) k (λ is. not_kind (word.Offered k.slot) (k_fits k c) (omega arith) says is)
         (λ is. not_kind (word.Opening k.slot) (k_fits k c) (omega arith) says is) (kept.roots.pending k c (sym (fates k c) ∙ stands))
 
+    fates_all : (k : Known) → Contains kept.account.offers k → TellsFate sizes account_then k (fate words_then k)
+    fates_all k c =
+        fate_said sizes account_then k (fate s.words k) (fate words_then k) (fates k c)
+        (closes.fates k (fate s.words k) (λ e same. no_offer_here k.offer (ap (word_at now) (sym same) ∙ e)) (kept.roots.fates k c))
+
     quiet : HasNoSweeps (kept.account.steps ++ both)
     quiet =
         subst HasNoSweeps (append_assoc kept.account.steps (step.Begin v.actor (Close handle) None ∷ []) (step.Go v.actor ∷ []))
@@ -181,6 +201,7 @@ module _ (sizes : Sizes) (s : Table.State Call View) (kept : IsKept sizes s) (id
         tries = kept.roots.tries;
         stood = λ k c. stood_still sizes kept.account account_then both refl k.offer (kept.roots.stood k c);
         marks = marks_kept kept.account.offers now next keeps s.words words_then fates kept.roots.marks;
+        fates = fates_all;
         pending = pending_all;
       };
     }

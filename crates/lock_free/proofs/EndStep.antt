@@ -66,7 +66,7 @@ module _ (v : View) (answer : Reply) (p : IsAt v (act.End answer)) (s : Table.St
   pub sound_after : IsSound (words_of v.sizes) after
   sound_after =
       let all = all_then v.sizes s kept id v at o stays.1 ends (left_by stays.0 v.opens) (keeps_by stays.0 v.opens) (drops_by stays.0 v.opens) in
-      record { size = refl; range = kept.range.within; bounds = all.bounds; counted = all.counted; inside = all.nodes.inside; free = free_inside v s kept id at }
+      record { size = refl; range = kept.range.within; bounds = all.bounds; keys = all.keys; counted = all.counted; inside = all.nodes.inside; free = free_inside v s kept id at }
 
   its_own : (x : Operation) → Runs v x → o ≡ record x { is_marked = o.is_marked }
   its_own x (mark, runs) =

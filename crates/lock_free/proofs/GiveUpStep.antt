@@ -23,7 +23,7 @@ use Rattle.lock_free.specs.Places.{epoch_word, words_of}
 use Rattle.lock_free.specs.Rules.{IsKept}
 use Rattle.lock_free.specs.Steps.{Leads}
 use Rattle.lock_free.proofs.Asked.{is_one_of}
-use Rattle.lock_free.proofs.GivesBack.{back_kept, back_sound}
+use Rattle.lock_free.proofs.Abandoned.{abandon_kept, abandon_sound}
 use Rattle.lock_free.proofs.Moments.{allowed, waited_so}
 use Rattle.lock_free.proofs.OneStep.GivesUp.{gives_up}
 
@@ -43,16 +43,16 @@ module _ (v : View) (operation : Operation) (answer : Reply) (runs : Runs v oper
   o = record operation { is_marked = stays.0 }
 
   leads : Leads v.sizes there (taking (machine.GiveUp v.actor) there) v.actor (is_one_of o.private) (gave_up o answer)
-  leads = gives_up v.sizes there kept.bounds v.actor o stays.1 answer may
+  leads = gives_up v.sizes there kept.bounds v.actor o stays.1 answer may kept.quiet
 
   abbrev pub after : View
   after = once_given_up v there operation.private
 
   pub kept_after : IsKept v.sizes (record { words = s.words; homes = s.homes; views = set s.views id after })
-  kept_after = back_kept v s kept id at o stays.1 (gave_up o answer) (machine.GiveUp v.actor) tt (λ a differs e. differs (sym e)) leads refl refl
+  kept_after = abandon_kept v s kept id at o (gave_up o answer) stays.1 (machine.GiveUp v.actor) tt (λ a differs e. differs (sym e)) leads refl refl
 
   pub sound_after : IsSound (words_of v.sizes) after
-  sound_after = back_sound v s kept id at o stays.1 (gave_up o answer) (machine.GiveUp v.actor) tt (λ a differs e. differs (sym e)) leads refl refl
+  sound_after = abandon_sound v s kept id at o (gave_up o answer) stays.1 (machine.GiveUp v.actor) tt (λ a differs e. differs (sym e)) leads refl refl
 
   -- whichever operation the seat's is said to be
   pub has_given_up_so : HasGivenUp v after

@@ -4,6 +4,7 @@ mod Asked
 mod Geometry
 mod RootCodes
 mod Meanings
+mod Fates
 mod Owners
 mod Assembling
 mod Waiting
@@ -21,7 +22,7 @@ mod Verdicts
 mod DecideStep
 mod RestoreStep
 mod GivenBack
-mod GivesBack
+mod Abandoned
 mod PublishStep
 mod OwnSlots
 mod MakeStep
@@ -70,6 +71,9 @@ mod Allowed
 mod AbortStep
 mod CompleteStep
 mod SeenRoots
+mod OfferMisses
+mod OfferStep
+mod YieldStep
 mod EndStep
 mod Asking
 mod PinStep
@@ -88,3 +92,4 @@ mod LinkMeets
 mod ReadTurns
 mod EntryTurns
 mod Levels
+mod CopyReads

@@ -121,7 +121,7 @@ give_back_allowed sizes size id me number idle opens =
 -- ---- what is sound stays so
 
 pub opens_sound : (words : ℕ) (v : View) (opens opening : Option ℕ) → IsSound words v → IsSound words (record v { opens = opens; opening = opening })
-opens_sound words v opens opening h = record { size = h.size; range = h.range; bounds = h.bounds; counted = h.counted; inside = h.inside; free = h.free }
+opens_sound words v opens opening h = record { size = h.size; range = h.range; bounds = h.bounds; keys = h.keys; counted = h.counted; inside = h.inside; free = h.free }
 
 pub tried_sound : (words : ℕ) (before : View) (number : ℕ) (made : Bool) (after : View) → HasTried before number made after → IsSound words before → IsSound words after
 tried_sound words before number true after h sound = subst (IsSound words) (sym (h.0 refl)) (opens_sound words before (Some number) None sound)

@@ -8,11 +8,13 @@ pub mod Changing
 pub mod Leading
 pub mod Found
 pub mod Giving
+pub mod Reached
 pub mod Standing
 pub mod Marking
 pub mod Settles
 pub mod Settling
 pub mod Offering
+pub mod Missing
 pub mod Sitting
 pub mod Telling
 pub mod Beginning

@@ -79,7 +79,7 @@ unpin_allowed sizes size id me idle =
 
 -- what is sound stays so
 pub pin_sound : (words : ℕ) (v : View) (pin : Pin) (call : Call) → IsSound words v → IsSound words (asking v pin call)
-pin_sound words v pin call h = record { size = h.size; range = h.range; bounds = h.bounds; counted = h.counted; inside = h.inside; free = h.free }
+pin_sound words v pin call h = record { size = h.size; range = h.range; bounds = h.bounds; keys = h.keys; counted = h.counted; inside = h.inside; free = h.free }
 
 pub unpin_sound : (words : ℕ) (v : View) → IsSound words v → IsSound words (unpinned v)
-unpin_sound words v h = record { size = h.size; range = h.range; bounds = h.bounds; counted = h.counted; inside = h.inside; free = h.free }
+unpin_sound words v h = record { size = h.size; range = h.range; bounds = h.bounds; keys = h.keys; counted = h.counted; inside = h.inside; free = h.free }

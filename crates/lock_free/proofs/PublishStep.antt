@@ -34,7 +34,7 @@ use Rattle.lock_free.specs.Steps.{Leads}
 use Rattle.lock_free.proofs.Asked.{links_of, mains_of, is_one_of, publishes_or_not}
 use Rattle.lock_free.proofs.Assembling.{all_stand}
 use Rattle.lock_free.proofs.Exchanged.{LeavesAt, words_hit, words_miss, sound_by}
-use Rattle.lock_free.proofs.GivesBack.{back_kept, back_sound}
+use Rattle.lock_free.proofs.Abandoned.{abandon_kept, abandon_sound}
 use Rattle.lock_free.proofs.LinkWords.{i_there, generation_now, hit, miss}
 use Rattle.lock_free.proofs.Looking.{main_there, o_there, acts_there, same_action}
 use Rattle.lock_free.proofs.Moments.{IsThere, allowed, took_by, waited_so, its_place}
@@ -144,9 +144,9 @@ module _ (v : View) (i replaced made : Ref) (p : IsAt v (act.Publish i replaced 
       drops : found ≢ old → Left dropped
       drops differs = (
         subst (λ ws. IsKept v.sizes (record { words = ws; homes = s.homes; views = set s.views id dropped })) (words_miss v s kept id at word old new differs)
-            (back_kept v s kept id at o runs (operation_after state o) (machine.Go v.actor) tt (λ a d e. d (sym e)) leads refl refl),
+            (abandon_kept v s kept id at o (operation_after state o) runs (machine.Go v.actor) tt (λ a d e. d (sym e)) leads refl refl),
         (
-          back_sound v s kept id at o runs (operation_after state o) (machine.Go v.actor) tt (λ a d e. d (sym e)) leads refl refl,
+          abandon_sound v s kept id at o (operation_after state o) runs (machine.Go v.actor) tt (λ a d e. d (sym e)) leads refl refl,
           λ q runs_q. leads.own ∙ ap (λ x. Some (operation_after state x)) (same_Some o q (sym runs ∙ runs_q)),
         ),
       )

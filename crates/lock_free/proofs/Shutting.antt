@@ -15,7 +15,7 @@ use Rattle.lock_free.proofs.OneStep.Idle.{idle_stays}
 
 -- what is sound stays so with other marks
 pub marks_sound : (words : ℕ) (v : View) (marks : List Closing) → IsSound words v → IsSound words (with_marks v marks)
-marks_sound words v marks h = record { size = h.size; range = h.range; bounds = h.bounds; counted = h.counted; inside = h.inside; free = h.free }
+marks_sound words v marks h = record { size = h.size; range = h.range; bounds = h.bounds; keys = h.keys; counted = h.counted; inside = h.inside; free = h.free }
 
 -- ---- it looks at pins
 

@@ -168,6 +168,7 @@ module _ (v : View) (name : ℕ) (link : Link) (fresh : ℕ) (is_at : IsAtSwap v
                 (let x = seen_later.nodes r slot u in
                 let y = nodes_go v.sizes v.actor account bounds_then (slot_of r) x.0 x.1 in
                 (y.0, y.1, same_both slot.node x.0.node y.0.node x.2 y.2));
+            offers = seen_later.offers;
           })
 
       swapped_link : Link

@@ -4,6 +4,7 @@ pub mod Live
 pub mod Nodes
 pub mod Roots
 pub mod Trying
+pub mod Fates
 pub mod Rules
 pub mod Steps
 pub mod Loading
@@ -19,6 +20,7 @@ pub mod Storing
 pub mod OfferWords
 pub mod HandleWords
 pub mod Closing
+pub mod RootOffers
 pub mod Calling
 pub mod Numbers
 pub mod OfReads
@@ -26,3 +28,4 @@ pub mod Passing
 pub mod Swaps
 pub mod SeatWords
 pub mod GoingDown
+pub mod CopySteps

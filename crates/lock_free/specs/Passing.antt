@@ -21,6 +21,7 @@ use Rattle.machine_model.specs.Operations.{read_of}
 use Rattle.machine_model.specs.Reading.{is_licensed}
 use Rattle.proof_memory.specs.Laws.{SameNode}
 use Rattle.proof_memory.specs.Wants.{is_main_node}
+use Rattle.lock_free.specs.declared.accounts.Known.{Known}
 use Rattle.lock_free.specs.declared.reading.Given.{Given}
 use Rattle.lock_free.specs.declared.reading.Passed.{Passed}
 use Rattle.lock_free.specs.declared.reading.Passed.TheVariants as passed
@@ -34,12 +35,13 @@ use Rattle.lock_free.specs.OfReads.{read_to}
 
 -- ---- how what a seat knows goes on
 
--- it has seen more happen, and what it knew of nodes is so
+-- it has seen more happen, and what it knew of nodes and offers is so
 pub record Later (v w : View) : Type 0 where
   pub is : w ≡ seen v w.account
   pub places : (r : Ref) (slot : Slot) → IsUsed v r slot → place_of w.account r ≡ place_of v.account r
   pub owns : (a b : Ref) (c : Bool) → IsOwn v.account a b c → IsOwn w.account a b c
   pub nodes : (r : Ref) (slot : Slot) → IsUsed v r slot → (later : Slot) × IsUsed w r later × SameNode slot.node later.node
+  pub offers : (k : Known) → Contains v.account.offers k → Contains w.account.offers k
 
 -- the operation's READ has come to this
 pub record HasCome (out : After ReadLine Ref) (v w : View) : Type 0 where

@@ -25,7 +25,8 @@ use Rattle.lock_free.specs.declared.accounts.Account.{Account}
 use Rattle.lock_free.specs.declared.accounts.Known.{Known}
 use Rattle.lock_free.specs.declared.rules.View.{View}
 use Rattle.lock_free.specs.declared.sizes.Sizes.{Sizes}
-use Rattle.lock_free.specs.Accounts.{bounds_for, state_of, place_at, HasWaited, HasStood}
+use Rattle.lock_free.specs.Accounts.{bounds_for, state_of, place_at, HasWaited, HasStood, WasReached}
+use Rattle.lock_free.specs.Fates.{TellsFate}
 use Rattle.lock_free.specs.Nodes.{StandsAs, InTable, AreOwners, class_of}
 use Rattle.lock_free.specs.Places.{AreSizes, words_of, words_in, IsTaken, HaveTaken, generation_word, pin_word, root_word}
 use Rattle.lock_free.specs.Roots.{MeansRoot, IsWritten, NoOffer, AreMarked, IsPending, fate, undecided}
@@ -76,6 +77,8 @@ pub record NodesStand (sizes : Sizes) (account : Account) (stands : Standing) (w
   pub owners : AreOwners account (state_of sizes account)
   -- what a root or an operation leads to stands there
   pub live : (r : Ref) → IsLive (state_of sizes account) r → stands (slot_of r) ≡ true
+  -- and what a root led to once
+  pub reached : (r : Ref) → WasReached sizes account r → stands (slot_of r) ≡ true
 
 -- ---- handles
 
@@ -89,6 +92,7 @@ pub record RootsStand (sizes : Sizes) (account : Account) (words : List ℕ) : T
   pub tries : (k l : Known) → Contains account.offers k → Contains account.offers l → k.offer.operation ≡ l.offer.operation → k.offer.attempt ≡ l.offer.attempt → k ≡ l
   pub stood : (k : Known) → Contains account.offers k → HasStood sizes account k.offer
   pub marks : AreMarked (state_of sizes account) words account.offers
+  pub fates : (k : Known) → Contains account.offers k → TellsFate sizes account k (fate words k)
   pub pending : (k : Known) → Contains account.offers k → fate words k ≡ undecided → IsPending words k
 
 -- the seat's last mark of this handle

@@ -5,6 +5,7 @@
 mod accounts;
 mod calling;
 mod closing;
+mod copying;
 mod exchanges;
 mod finding;
 mod handles;
@@ -13,6 +14,7 @@ mod numbers;
 mod offers;
 mod pins;
 mod reading;
+mod root_offers;
 mod rules;
 mod sizes;
 mod stores;
@@ -21,6 +23,7 @@ mod swapping;
 pub use accounts::{Account, Known, Owned};
 pub use calling::{Denial, Started, begin, give_up};
 pub use closing::{Shut, close_handle};
+pub use copying::{complete_own, read_original};
 pub use exchanges::{decide, publish, restore};
 pub use finding::{Entered, Level, Met, go_down};
 pub use handles::{close, mark, see_root, unmark};
@@ -32,9 +35,11 @@ pub use numbers::{give_back, name, reserve};
 pub use offers::{abort, complete};
 pub use pins::{finish, pass, pin, unpin};
 pub use reading::{AsksRoot, Given, Passed, Way, read, read_within};
+pub use root_offers::{Proposed, propose, yields};
 pub use rules::{
-    Abandons, Asks, Closing, Completes, Drafts, Ends, Goes, Looks, Makes, MakesRoot, Marks, Names, Pool, Publishes,
-    Reserves, Returns, Rule, Sees, Shuts, Starts, Takes, Unmarks, Unpins, View,
+    Abandons, Asks, Closing, Completes, Drafts, Ends, Goes, Looks, Makes, MakesRoot, Marks, Names,
+    Pool, Proposes, Publishes, Reserves, Returns, Rule, Sees, Shuts, Starts, Takes, Unmarks, Unpins,
+    View, Yields,
 };
 pub use sizes::Sizes;
 pub use stores::{Tried, draft, make, make_root, try_take};

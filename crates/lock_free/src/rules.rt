@@ -7,6 +7,7 @@ ghost use Rattle.lock_free.specs.Exchanging.{has_published};
 ghost use Rattle.lock_free.specs.HandleWords.{has_closed, has_marked, has_unmarked};
 ghost use Rattle.lock_free.specs.Numbers.{has_given_back, has_named, has_reserved};
 ghost use Rattle.lock_free.specs.OfferWords.{has_completed};
+ghost use Rattle.lock_free.specs.RootOffers.{has_proposed, has_yielded};
 ghost use Rattle.lock_free.specs.SeatWords.{has_asked, has_ended, has_passed, has_unpinned};
 ghost use Rattle.lock_free.specs.Storing.{has_drafted, has_made, has_made_root, has_taken};
 
@@ -205,4 +206,18 @@ pub struct MakesRoot;
 
 impl Play<Call, View> for MakesRoot {
     ghost then = { has_made_root };
+}
+
+/// An offer comes to stand, or doesn't.
+pub struct Proposes;
+
+impl Play<Call, View> for Proposes {
+    ghost then = { has_proposed };
+}
+
+/// An offer that was met is undecided, or isn't.
+pub struct Yields;
+
+impl Play<Call, View> for Yields {
+    ghost then = { has_yielded };
 }

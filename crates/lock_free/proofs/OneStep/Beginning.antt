@@ -19,7 +19,8 @@ use Rattle.machine_model.specs.Keys.{FitsKey}
 use Rattle.machine_model.specs.Machine.{AreBounds, next, next_state, state_after, begin_denial, begin_unless, begun_operation, with_begin, handle_closed, number_for}
 use Rattle.machine_model.specs.Moves.{Moves, Begins as Begun}
 use Rattle.machine_model.specs.Operations.{first_line}
-use Rattle.machine_model.specs.States.{State, operation_of, root_at, with_root}
+use Rattle.machine_model.specs.declared.roots.RootWord.TheVariants.{Offer}
+use Rattle.machine_model.specs.States.{State, operation_of, root_at, word_at, word_of, with_root}
 use Rattle.machine_model.proofs.Actors.{begin_actors, begin_counts}
 use Rattle.machine_model.proofs.Found.{found_elsewhere}
 use Rattle.machine_model.proofs.HeapMoves.{begin_heap}
@@ -33,7 +34,9 @@ use Rattle.lock_free.specs.declared.accounts.Known.{Known}
 use Rattle.lock_free.specs.declared.sizes.Sizes.{Sizes}
 use Rattle.lock_free.specs.Accounts.{bounds_for, past_of, state_of, gone_on, HasStood}
 use Rattle.lock_free.specs.Beginning.{Begins, Ends, Closes, closed_by, taking}
+use Rattle.lock_free.specs.Fates.{TellsFate}
 use Rattle.lock_free.specs.Offering.{LeavesNodes}
+use Rattle.lock_free.proofs.Fates.{fate_kept, words_same}
 use Rattle.lock_free.proofs.OneStep.Aheads.{ahead_of}
 use Rattle.lock_free.proofs.OneStep.Longer.{bounds_more}
 use Rattle.lock_free.proofs.OneStep.Sitting.{whole, leaves_nodes, ends_of}
@@ -139,6 +142,10 @@ both_leave sizes a b c x y = record {
   nodes = λ k. y.nodes k ∙ x.nodes k;
   births = y.births ∙ x.births;
   live = λ r k. x.live r (y.live r k);
+  reached = λ r h. elim (y.reached r h) [
+    | inl was ↦ x.reached r was
+    | inr live ↦ inr (x.live r live)
+  ];
   generations = y.generations ∙ x.generations;
   aheads = λ i a f h. x.aheads i a f (y.aheads i a f h);
   still = λ i a f h. y.still i a f (x.still i a f h);
@@ -149,6 +156,7 @@ record Shuts (sizes : Sizes) (account last : Account) (handle : ℕ) : Type 0 wh
   leaves : LeavesNodes sizes account last
   closed : root_at (state_of sizes last) handle ≡ None
   roots : (g : ℕ) → g ≢ handle → root_at (state_of sizes last) g ≡ root_at (state_of sizes account) g
+  fates : (k : Known) (n : ℕ) → (word_at (state_of sizes account) k.handle ≡ Offer k.offer → k.handle ≢ handle) → TellsFate sizes account k n → TellsFate sizes last k n
   operations : (n : ℕ) → operation_of (state_of sizes last) n ≡ operation_of (state_of sizes account) n
 
 module _ (sizes : Sizes) (account : Account) (bounds : AreBounds (bounds_for sizes account.steps)) (actor handle : ℕ) (most : actor ≤ sizes.seats) (low : handle < 256)
@@ -184,6 +192,10 @@ module _ (sizes : Sizes) (account : Account) (bounds : AreBounds (bounds_for siz
     closed = ap (λ rs. get_or rs handle None) (ends.roots ∙ middle_roots)
         ∙ get_or-set_same state.roots handle None None (let long = (sizes_stay (bounds_for sizes account.steps) account.steps).0 in omega (arith, long, low));
     roots = λ g differs. ap (λ rs. get_or rs g None) (ends.roots ∙ middle_roots) ∙ found_elsewhere state.roots handle g None differs;
+    fates = λ k n elsewhere h.
+        fate_kept sizes middle last (step.Go actor) refl k n (λ e. words_same (state_of sizes middle) (state_of sizes last) ends.roots k.handle ∙ e)
+        (fate_kept sizes account middle (step.Begin actor (Close handle) None) refl k n
+        (λ e. ap (λ rs. word_of (get_or rs k.handle None)) middle_roots ∙ ap word_of (found_elsewhere state.roots handle k.handle None (elsewhere e)) ∙ e) h);
     operations = λ n. elim (cases_eq n actor) [
       | inl own ↦ ap (operation_of (state_of sizes last)) own ∙ ends.own ∙ sym idle ∙ ap (operation_of state) (sym own)
       | inr other ↦ ends.others n other ∙ begin_other sizes account bounds actor (Close handle) None most idle allowed n other
@@ -198,4 +210,4 @@ module _ (sizes : Sizes) (account : Account) (bounds : AreBounds (bounds_for siz
       ∙ append_assoc (past_of sizes account).events (event.Begin state.begun actor (Close handle) None ∷ []) (event.End state.begun reply.Closed ∷ [])
 
   pub closes_of : Closes sizes account actor handle
-  closes_of = let x = subst (λ a. Shuts sizes account a handle) (sym same_steps) shuts in record { leaves = x.leaves; closed = x.closed; roots = x.roots; operations = x.operations }
+  closes_of = let x = subst (λ a. Shuts sizes account a handle) (sym same_steps) shuts in record { leaves = x.leaves; closed = x.closed; roots = x.roots; fates = x.fates; operations = x.operations }

@@ -27,7 +27,7 @@ use Rattle.proof_garbage.specs.Beneath.proof_generations.proofs.Offers.Standing.
 use Rattle.lock_free.specs.declared.accounts.Account.{Account}
 use Rattle.lock_free.specs.declared.accounts.Known.{Known}
 use Rattle.lock_free.specs.declared.sizes.Sizes.{Sizes}
-use Rattle.lock_free.specs.Accounts.{bounds_for, state_of, running, gone_on, HasStood}
+use Rattle.lock_free.specs.Accounts.{bounds_for, state_of, running, gone_on, HasStood, WasReached}
 use Rattle.lock_free.specs.Live.{IsLive}
 use Rattle.lock_free.specs.Making.{over_of}
 use Rattle.lock_free.specs.Offering.{Offers}
@@ -123,6 +123,7 @@ module _ (sizes : Sizes) (account : Account) (bounds : AreBounds (bounds_for siz
             nodes = leaves.nodes;
             births = leaves.births;
             live = leaves.live;
+            reached = λ r h. leaves.reached r (record { steps = h.steps; more = h.more; goes_on = h.goes_on; reached = h.reached });
             generations = leaves.generations;
             aheads = leaves.aheads;
             still = leaves.still;
@@ -135,6 +136,7 @@ module _ (sizes : Sizes) (account : Account) (bounds : AreBounds (bounds_for siz
           opens = mine.number;
           its_try = record { its = sym mine.its; now = next_attempt ∙ sym mine.at_try };
           fresh = fresh;
+          never = λ h. (let tried = (known_once sizes account bounds offer h).tried place.0 operation place.2 (sym mine.its) in let at_try = mine.at_try in omega (arith, tried, at_try));
           alone = λ a o differs e same.
               (let p = place_of_actor state a o e in
               let one = (has sizes account bounds).0.ids.distinct p.0 place.0 o operation p.2 place.2 (same ∙ mine.its) in
@@ -145,7 +147,8 @@ module _ (sizes : Sizes) (account : Account) (bounds : AreBounds (bounds_for siz
 
   -- ---- another stands there
 
-  module _ (another : is_plain (word_at state h) offer.root ≡ false) (dropped : Dropped) (kept : (r : Ref) → IsLive after r → dropped (slot_of r) ≡ false) where
+  module _ (another : is_plain (word_at state h) offer.root ≡ false) (dropped : Dropped) (kept : (r : Ref) → IsLive after r → dropped (slot_of r) ≡ false)
+      (once : (r : Ref) → WasReached sizes account r → dropped (slot_of r) ≡ false) where
     pub offer_misses : Leads sizes account (gone_on actor account) actor dropped next
     offer_misses =
         let gone_is = gone_by false another in
@@ -155,6 +158,7 @@ module _ (sizes : Sizes) (account : Account) (bounds : AreBounds (bounds_for siz
           nodes = leaves.nodes;
           births = leaves.births;
           live = λ r live. (leaves.live r live, kept r live);
+          reached = once;
           roots = roots_then sizes account bounds actor operation runs goes (ap (λ (s : State). s.roots) gone_is);
           generations = leaves.generations;
           others = others_then;
