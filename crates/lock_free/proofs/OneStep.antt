@@ -16,9 +16,9 @@ pub mod Settling
 pub mod Offering
 pub mod Missing
 pub mod Sitting
+pub mod Telling
 pub mod Beginning
 pub mod Idle
-pub mod Telling
 pub mod Restores
 pub mod Decides
 pub mod Publishes
