@@ -79,6 +79,10 @@ mod FormerRoots
 mod OfferMet
 mod OfferSeen
 mod CleanStep
+mod CompleteLines
+mod OffersLater
+mod Completions
+mod Cleanings
 mod EndStep
 mod CallSaid
 mod PinStep

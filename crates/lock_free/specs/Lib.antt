@@ -27,6 +27,7 @@ pub mod Numbers
 pub mod OfReads
 pub mod Passing
 pub mod Swaps
+pub mod Rooting
 pub mod SeatWords
 pub mod GoingDown
 pub mod CopySteps
