@@ -150,5 +150,5 @@ module _ (n : ℕ) (v0 : View) (sound0 : IsSound n v0) (way : Way) (offer : ℕ)
         comes = λ o runs. saw_runs v2 v3 olds3.0 (read_to (Gives main) o) (gives.come.comes o (saw_runs v0 v1 olds.0 o runs));
       }
 
-      pub helped : (carried : Bool) (after : View) → HasCompleted v3 carried after → HasHelped v0 carried after
-      helped carried after h = (main, v3, come3, h)
+      pub helped : (carried : Bool) (after : View) → HasCompleted v3 carried after → IsSound n v3 → HasHelped v0 carried after
+      helped carried after h sound3 = (main, v3, come3, h, subst (λ k. IsSound k v3) sound0.size sound3)

@@ -74,6 +74,7 @@ mod SeenRoots
 mod OfferMisses
 mod OfferStep
 mod YieldStep
+mod OfferTries
 mod RootAsked
 mod FormerRoots
 mod OfferMet

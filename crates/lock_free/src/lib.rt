@@ -38,7 +38,7 @@ pub use numbers::{give_back, name, reserve};
 pub use offers::{Fate, abort, complete, meet_offer, see_news, see_olds};
 pub use pins::{finish, pass, pin, unpin};
 pub use reading::{AsksRoot, Given, Passed, Way, read, read_within};
-pub use root_offers::{Proposed, propose, yields};
+pub use root_offers::{Proposed, offer, propose, yields};
 pub use rooting::{Root, clean_settled, complete_offer};
 pub use rules::{
     Abandons, Asks, Cleans, Closing, Completes, Drafts, Ends, FindsRoot, Goes, Looks, Makes, MakesRoot,
