@@ -28,7 +28,7 @@ use Rattle.lock_free.specs.RootWords.{IsAtClean, has_cleaned, settled_root}
 use Rattle.lock_free.specs.Rules.{IsKept}
 use Rattle.lock_free.proofs.AbortStep.{known_there}
 use Rattle.lock_free.proofs.Assembling.{closing_at}
-use Rattle.lock_free.proofs.Entering.{seat_kept}
+use Rattle.lock_free.proofs.Closers.{seat_kept}
 use Rattle.lock_free.proofs.Exchanged.{words_then, words_hit, words_miss}
 use Rattle.lock_free.proofs.Fates.{settled_decides, settled_still}
 use Rattle.lock_free.proofs.Framing.{class_small}

@@ -9,7 +9,6 @@ use Rattle.machine_model.specs.declared.reading.ReadLine.TheVariants as read
 use Rattle.machine_model.specs.declared.roots.CompleteLine.TheVariants as complete
 use Rattle.machine_model.specs.declared.operations.Operation.{Operation}
 use Rattle.machine_model.specs.Calls.{handle_of}
-use Rattle.machine_model.specs.Machine.{AreBounds}
 use Rattle.machine_model.specs.Swapping.{completing}
 use Rattle.trie_words.specs.declared.entries.Pair.{Pair}
 use Rattle.lock_free.specs.declared.accounts.Known.{Known}
@@ -17,7 +16,7 @@ use Rattle.lock_free.specs.declared.reading.Given.{Given}
 use Rattle.lock_free.specs.declared.reading.Passed.TheVariants as passed
 use Rattle.lock_free.specs.declared.reading.Way.{Way}
 use Rattle.lock_free.specs.declared.rules.View.{View}
-use Rattle.lock_free.specs.Accounts.{bounds_for, place_of}
+use Rattle.lock_free.specs.Accounts.{place_of}
 use Rattle.lock_free.specs.HandleWords.{HasOffer}
 use Rattle.lock_free.specs.Live.{refs_of_claims, line_claims}
 use Rattle.lock_free.specs.Loading.{now, Holds, IsAt, IsSound, Runs, Saw}
@@ -28,7 +27,7 @@ use Rattle.lock_free.specs.Rooting.{HasHelped, IsCompleting, completing_of}
 use Rattle.lock_free.specs.RootWords.{HasSeenOlds, KnowsOffer, SaysOlds}
 use Rattle.lock_free.proofs.Comings.{runs_one, saw_runs}
 use Rattle.lock_free.proofs.CompleteLines.{completing_acts, completing_given, completing_holds, completing_reads, swap_holds}
-use Rattle.lock_free.proofs.Laters.{gone_later, later_both, saw_later}
+use Rattle.lock_free.proofs.Laters.{later_both, saw_later}
 use Rattle.lock_free.proofs.OffersLater.{offer_later}
 
 -- who sees something is on the same way
@@ -149,12 +148,5 @@ module _ (n : ℕ) (v0 : View) (sound0 : IsSound n v0) (way : Way) (offer : ℕ)
         comes = λ o runs. saw_runs v2 v3 olds3.0 (read_to (Gives main) o) (gives.come.comes o (saw_runs v0 v1 olds.0 o runs));
       }
 
-      pub helped : IsSound n v3 → (carried : Bool) (after : View) → IsSound n after → HasCompleted v3 carried after → HasHelped v0 carried after
-      helped sound3 carried after last h = (
-        main,
-        v3,
-        come3,
-        h,
-        subst (Later v3) (sym h.2)
-            (gone_later n v3 sound3 h.0 h.1 (subst (λ (x : View). AreBounds (bounds_for x.sizes x.account.steps)) h.2 last.bounds)),
-      )
+      pub helped : (carried : Bool) (after : View) → HasCompleted v3 carried after → IsSound n v3 → HasHelped v0 carried after
+      helped carried after h sound3 = (main, v3, come3, h, subst (λ k. IsSound k v3) sound0.size sound3)

@@ -16,6 +16,7 @@ use Rattle.machine_model.specs.declared.steps.Step.TheVariants as step
 use Rattle.proof_memory.specs.Laws.{SameNode}
 use Rattle.proof_memory.specs.Wants.{is_main_node}
 use Rattle.lock_free.specs.declared.accounts.Account.{Account}
+use Rattle.lock_free.specs.declared.accounts.Known.{Known}
 use Rattle.lock_free.specs.declared.rules.View.{View}
 use Rattle.lock_free.specs.Accounts.{bounds_for, place_of, OwnIs, IsOwn, gone_on}
 use Rattle.lock_free.specs.Exchanging.{IsNamed, IsPendingOver}
@@ -85,6 +86,9 @@ module _ (n : ℕ) (v : View) (sound : IsSound n v) where
     owns_then : (a b : Ref) (c : Bool) → IsOwn v.account a b c → IsOwn account a b c
     owns_then a b c h = subst (λ xs. OwnIs xs (slot_of a) (slot_of b) c) (sym w.waited.more_owned) (owns_in_front w.waited.owned v.account.owned (slot_of a) (slot_of b) c h)
 
+    offers_then : (k : Known) → Contains v.account.offers k → Contains account.offers k
+    offers_then k c = subst (λ xs. Contains xs k) (sym w.waited.more_offers) (Contains-append_right w.waited.offers v.account.offers k c)
+
     pub waited_later : Later v (seen v account)
     waited_later = record {
       is = refl;
@@ -92,7 +96,7 @@ module _ (n : ℕ) (v : View) (sound : IsSound n v) where
       owns = owns_then;
       nodes = λ r slot is. nodes_stay v.sizes v.actor v.account account w.waited w.sound.bounds (slot_of r) slot is;
       goes_on = (w.waited.steps, w.waited.goes_on);
-      offers = λ k c. subst (λ xs. Contains xs k) (sym w.waited.more_offers) (Contains-append_right w.waited.offers v.account.offers k c);
+      offers = offers_then;
     }
 
   pub saw_later : (after : View) (s : Saw v after) → Later v after

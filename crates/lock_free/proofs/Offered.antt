@@ -303,7 +303,7 @@ module _ (sizes : Sizes) (s : Table.State Call View) (kept : IsKept sizes s) (id
     | inr old ↦ kept.nodes.offers x old k n h
   ]
 
-  all_then : AllStand sizes account_then kept.stands words_then
+  pub all_then : AllStand sizes account_then kept.stands words_then
   all_then = record {
     bounds = offers.leaves.bounds;
     keys = All-append FitsKey kept.account.steps (step.Go v.actor ∷ []) kept.keys (All-cons FitsKey (step.Go v.actor) [] tt (All-nil FitsKey));

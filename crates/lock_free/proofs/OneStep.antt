@@ -14,7 +14,9 @@ pub mod Marking
 pub mod Settles
 pub mod Settling
 pub mod Offering
+pub mod Missing
 pub mod Sitting
+pub mod Telling
 pub mod Beginning
 pub mod Idle
 pub mod Restores

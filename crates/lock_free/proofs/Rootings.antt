@@ -1,5 +1,5 @@
 -- ROOT, look after look.
-use Rattle.std.proofs.Common.{◌≡◌, ℕ, Bool, Some, refl, ap, subst, ◌∙◌}
+use Rattle.std.proofs.Common.{◌≡◌, ℕ, Bool, Some, refl, ap, subst, ◌∙◌, sym}
 use Rattle.machine_model.specs.Beneath.slot_arena.specs.declared.refs.Ref.{Ref}
 use Rattle.machine_model.specs.declared.reading.After.TheVariants.{Gives}
 use Rattle.machine_model.specs.declared.repairs.ClimbLine.TheVariants as climb
@@ -11,20 +11,23 @@ use Rattle.machine_model.specs.declared.lines.Line.{Line}
 use Rattle.machine_model.specs.declared.lines.Line.TheVariants as line
 use Rattle.machine_model.specs.declared.operations.Operation.{Operation}
 use Rattle.machine_model.specs.Calls.{handle_of}
+use Rattle.machine_model.specs.Machine.{AreBounds}
 use Rattle.machine_model.specs.States.{State, word_at, word_of}
 use Rattle.machine_model.specs.Swapping.{completing}
 use Rattle.lock_free.specs.declared.accounts.Known.{Known}
 use Rattle.lock_free.specs.declared.reading.Way.{Way}
 use Rattle.lock_free.specs.declared.rules.View.{View}
+use Rattle.lock_free.specs.Accounts.{bounds_for}
 use Rattle.lock_free.specs.GoingDown.{HasStayed}
 use Rattle.lock_free.specs.HandleWords.{HasOffer}
 use Rattle.lock_free.specs.Loading.{now, seen, IsSound, Runs, Saw}
 use Rattle.lock_free.specs.OfReads.{read_to}
 use Rattle.lock_free.specs.Passing.{IsOnWay, Later}
+use Rattle.lock_free.specs.Places.{words_of}
 use Rattle.lock_free.specs.Rooting.{HasHelped, HasLookedSome, HasRooted, IsAtRoot, IsCompleting, rooted, rooting_of, rooting_on}
 use Rattle.lock_free.specs.RootWords.{AsksAt, HasFoundOffer, HasFoundRoot, HasSeenGeneration}
 use Rattle.lock_free.proofs.Comings.{runs_one, saw_runs}
-use Rattle.lock_free.proofs.Laters.{later_both, later_self, saw_later, went_later}
+use Rattle.lock_free.proofs.Laters.{gone_later, later_both, later_self, saw_later, went_later}
 use Rattle.lock_free.proofs.Licenses.{same_generation}
 use Rattle.lock_free.proofs.OffersLater.{offer_later, root_later}
 use Rattle.lock_free.proofs.RootLines.{completes_offer, completing_on, finds_offer, finds_root, rooting_acts, rooting_again, rooting_completes, rooting_still, rooting_there}
@@ -108,7 +111,7 @@ module _ (n : ℕ) (v : View) (sound : IsSound n v) (way : Way) (at : IsAtRoot v
   way_now = on_then v w way at.0 at.1 (on_line at.0) (goes at.0 at.1) refl refl on
 
   -- and then it is settled, and the operation is where it was
-  module _ (carried : Bool) (z : View) (h : HasHelped w carried z) where
+  module _ (carried : Bool) (k : ℕ) (z : View) (last : IsSound k z) (h : HasHelped w carried z) where
     abbrev main : Ref
     main = h.0
 
@@ -138,8 +141,13 @@ module _ (n : ℕ) (v : View) (sound : IsSound n v) (way : Way) (at : IsAtRoot v
         let leads = completes_offer (now (seen middle h.3.0)) q_there its.offer main q.line swap_line in
         subst (λ l. Runs z (record o { line = l })) (back o is) (subst (λ x. Runs z x) leads (h.3.3 q_there there.1))
 
+    settled_later : Later middle z
+    settled_later =
+        subst (Later middle) (sym h.3.2)
+        (gone_later (words_of w.sizes) middle h.4 h.3.0 h.3.1 (subst (λ (x : View). AreBounds (bounds_for x.sizes x.account.steps)) h.3.2 last.bounds))
+
     pub helped_stays : HasStayed v z
-    helped_stays = record { later = later_both v w z later (later_both w middle z h.2.later h.4); comes = settles }
+    helped_stays = record { later = later_both v w z later (later_both w middle z h.2.later settled_later); comes = settles }
 
 -- ---- the root
 

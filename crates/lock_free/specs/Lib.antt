@@ -19,10 +19,15 @@ pub mod Exchanging
 pub mod Storing
 pub mod OfferWords
 pub mod HandleWords
+pub mod Closing
+pub mod Calling
 pub mod RootWords
+pub mod RootOffers
+pub mod Numbers
 pub mod OfReads
 pub mod Passing
 pub mod Swaps
 pub mod Rooting
 pub mod SeatWords
 pub mod GoingDown
+pub mod CopySteps

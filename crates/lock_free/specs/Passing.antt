@@ -36,7 +36,7 @@ use Rattle.lock_free.specs.OfReads.{read_to}
 
 -- ---- how what a seat knows goes on
 
--- it has seen more happen, and what it knew of nodes is so
+-- it has seen more happen, and what it knew of nodes and offers is so
 pub record Later (v w : View) : Type 0 where
   pub is : w ≡ seen v w.account
   pub places : (r : Ref) (slot : Slot) → IsUsed v r slot → place_of w.account r ≡ place_of v.account r

@@ -27,6 +27,7 @@ use Rattle.lock_free.specs.HandleWords.{HasOffer}
 use Rattle.lock_free.specs.Loading.{now, IsSound, Runs}
 use Rattle.lock_free.specs.OfferWords.{HasCompleted, outcome_by}
 use Rattle.lock_free.specs.Passing.{HasCome, IsOnWay, Later}
+use Rattle.lock_free.specs.Places.{words_of}
 use Rattle.lock_free.specs.RootWords.{IsRootAt}
 
 -- ---- an offer that is settled
@@ -65,7 +66,7 @@ pub record IsCompleting (v : View) (handle offer : ℕ) : Type 0 where
 
 -- it has read the root's main node, and then settled the offer, or found it settled
 abbrev pub HasHelped : View → Bool → View → Type 0
-HasHelped before carried after = (main : Ref) × (middle : View) × HasCome (Gives main) before middle × HasCompleted middle carried after × Later middle after
+HasHelped before carried after = (main : Ref) × (middle : View) × HasCome (Gives main) before middle × HasCompleted middle carried after × IsSound (words_of before.sizes) middle
 
 -- ---- ROOT
 

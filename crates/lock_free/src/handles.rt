@@ -1,17 +1,17 @@
 //! Handles' words.
 
-ghost use Rattle.std.specs.Prelude.{◌≡◌, ◌≢◌, ◌<◌, ◌≤◌, true, None, Some};
+ghost use Rattle.std.specs.Prelude.{◌≡◌, ◌≢◌, ◌<◌, ◌≤◌, true, Some};
 ghost use Rattle.trie_words.specs.Codes.{IsRootWord, root_code};
-ghost use Rattle.lock_free.specs.HandleWords.{is_unmarked, marked_by, HasClosed, HasEntered, HasMarked, HasSeenRoot};
+ghost use Rattle.lock_free.specs.HandleWords.{is_marked, is_unmarked, marked_by, without_mark, HasClosed, HasMarked, HasSeenRoot};
 ghost use Rattle.lock_free.specs.Loading.{IsSound};
 ghost use Rattle.lock_free.specs.Places.{root_word};
 ghost use Rattle.lock_free.specs.RootWords.{IsAtClean};
 ghost use Rattle.lock_free.specs.Rules.{SaysClosing};
-ghost use Rattle.lock_free.specs.SeatWords.{IsIdle, closes};
+ghost use Rattle.lock_free.specs.SeatWords.{IsIdle, WouldClose};
 
 use crate::loads::{Actor, Words};
-use crate::rules::{Cleans, Enters, Marks, Sees, Shuts};
-use trie_words::{Pin, RootWord};
+use crate::rules::{Cleans, Marks, Sees, Shuts, Unmarks};
+use trie_words::RootWord;
 
 /// Which word is this handle's.
 pub(crate) fn root_word_of(handle: u16) -> usize
@@ -52,24 +52,8 @@ pub fn clean(words: &Words, actor: &mut Actor, handle: u16, offer: u32, root: u3
     words.compare_exchange::<Cleans>(actor, root_word_of(handle), offered, plain);
 }
 
-/// Enters the handle to which the seat has pinned itself, if that is open and nobody would close it: from then on nobody closes it
-/// while the seat is pinned. Returns what its word says.
-pub fn enter(words: &Words, actor: &mut Actor, pin: &Pin) -> RootWord
-    requires table { actor.old.table_id ≡ words.now.table_id }
-    requires sound { IsSound words.now.table_id.words actor.old.me.0 }
-    requires low { pin.now.handle < 256 }
-    requires pinned { actor.old.me.0.pin ≡ Some pin.now }
-    requires idle { IsIdle actor.old.me.0 }
-    ensures table { actor.new.table_id ≡ actor.old.table_id }
-    ensures sound { IsSound words.now.table_id.words actor.new.me.0 }
-    ensures entered { HasEntered actor.old.me.0 pin.now.handle result actor.new.me.0 }
-{
-    let found = words.load::<Enters>(actor, root_word_of(pin.handle));
-    RootWord::of_word(found)
-}
-
 /// This word of an open handle, with the mark of a seat that would close it.
-fn once_marked(word: RootWord, seat: u8) -> RootWord
+pub(crate) fn once_marked(word: RootWord, seat: u8) -> RootWord
     ensures { result ≡ marked_by seat word }
 {
     match word {
@@ -88,7 +72,6 @@ pub fn mark(words: &Words, actor: &mut Actor, handle: u16, word: RootWord, seat:
     requires fits { IsRootWord word }
     requires unmarked { is_unmarked word ≡ true }
     requires own { seat ≡ actor.old.me.0.actor }
-    requires one { actor.old.me.0.closing ≡ None }
     ensures table { actor.new.table_id ≡ actor.old.table_id }
     ensures sound { IsSound words.now.table_id.words actor.new.me.0 }
     ensures marked { HasMarked actor.old.me.0 handle result actor.new.me.0 }
@@ -106,7 +89,7 @@ pub fn close(words: &Words, actor: &mut Actor, handle: u16, word: RootWord, look
     requires low { handle < 256 }
     requires fits { IsRootWord word }
     requires marked { SaysClosing (root_code word) actor.old.me.0.actor }
-    requires closing { actor.old.me.0.closing ≡ Some (closes handle looked) }
+    requires closing { WouldClose actor.old.me.0 handle looked }
     requires all { actor.old.me.0.sizes.seats ≤ looked }
     requires outside { actor.old.me.0.entered ≢ Some handle }
     requires idle { IsIdle actor.old.me.0 }
@@ -116,4 +99,31 @@ pub fn close(words: &Words, actor: &mut Actor, handle: u16, word: RootWord, look
 {
     let open = word.to_word();
     words.compare_exchange::<Shuts>(actor, root_word_of(handle), open, 0) == open
+}
+
+/// This word of an open handle, without the mark of the seat that would close it.
+fn once_unmarked(word: RootWord) -> RootWord
+    ensures { result ≡ without_mark word }
+{
+    match word {
+        RootWord::ClosingWritable { root, .. } => RootWord::Writable(root),
+        RootWord::ClosingReadOnly { root, .. } => RootWord::ReadOnly(root),
+        other => other,
+    }
+}
+
+/// Takes the mark of a seat, this one or another, that would close the handle out of its word, if that is this one still. So a seat
+/// that would enter the handle goes on, and who would close it finds it busy.
+pub fn unmark(words: &Words, actor: &mut Actor, handle: u16, word: RootWord)
+    requires table { actor.old.table_id ≡ words.now.table_id }
+    requires sound { IsSound words.now.table_id.words actor.old.me.0 }
+    requires low { handle < 256 }
+    requires fits { IsRootWord word }
+    requires marked { is_marked word ≡ true }
+    ensures table { actor.new.table_id ≡ actor.old.table_id }
+    ensures same { actor.new.me ≡ actor.old.me }
+{
+    let marked = word.to_word();
+    let open = once_unmarked(word).to_word();
+    words.compare_exchange::<Unmarks>(actor, root_word_of(handle), marked, open);
 }

@@ -38,7 +38,8 @@ clean_settled-requires-in-TakenBack-clause-settled g c =
 pub returns-in-Undecided-clause-stays : goal.returns-in-Undecided-clause-stays
 returns-in-Undecided-clause-stays g c =
     helped_stays c.args.words.now.table_id.words c.args.actor.now.me.0 c.requires.sound c.args.way c.requires.at c.requires.way c.args.offer c.requires.known c.meet_offer.new.actor.me.0
-    c.meet_offer.ensures.sound (c.in-Undecided.ensures {u = tt}).met c.complete_offer.result c.complete_offer.new.actor.me.0 c.complete_offer.ensures.helped
+    c.meet_offer.ensures.sound (c.in-Undecided.ensures {u = tt}).met c.complete_offer.result c.args.words.now.table_id.words c.complete_offer.new.actor.me.0
+    c.complete_offer.ensures.sound c.complete_offer.ensures.helped
 
 pub returns-in-CarriedOut-clause-stays : goal.returns-in-CarriedOut-clause-stays
 returns-in-CarriedOut-clause-stays g c =
