@@ -25,6 +25,7 @@ pub mod Publishes
 pub mod Taking
 pub mod MadeMains
 pub mod Offers
+pub mod Roots
 pub mod Met
 pub mod Makes
 pub mod Openers

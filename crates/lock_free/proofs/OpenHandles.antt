@@ -29,6 +29,7 @@ use Rattle.lock_free.specs.Live.{from_root}
 use Rattle.lock_free.specs.Nodes.{class_of}
 use Rattle.lock_free.specs.Places.{root_word}
 use Rattle.lock_free.specs.Roots.{fate, undecided, carried_out, meant, opened_by, open_with}
+use Rattle.lock_free.specs.RootWords.{settled_root}
 use Rattle.lock_free.specs.Rules.{IsClosing, SaysClosing, IsSeat, IsKept}
 use Rattle.lock_free.proofs.Asked.{live_in_use}
 use Rattle.lock_free.proofs.Assembling.{all_stand, here, closing_at}
@@ -40,9 +41,6 @@ use Rattle.lock_free.proofs.RootSteps as root
 use Rattle.lock_free.proofs.Rewritten.{IsPlainWord, rewrite_kept}
 
 -- ---- which root a settled offer leaves
-
-abbrev pub settled_root : ℕ → Descriptor → Ref
-settled_root n offer = if n == carried_out then offer.successor else offer.root
 
 plain_if : (b : Bool) (x y : Ref) → (if b then Plain x else Plain y) ≡ Plain (if b then x else y)
 plain_if true x y = refl

@@ -23,9 +23,11 @@ pub mod Closing
 pub mod RootOffers
 pub mod Calling
 pub mod Numbers
+pub mod RootWords
 pub mod OfReads
 pub mod Passing
 pub mod Swaps
+pub mod Rooting
 pub mod SeatWords
 pub mod GoingDown
 pub mod CopySteps

@@ -23,11 +23,11 @@ IsIdle v = operation_of (now v) v.actor ≡ None
 
 -- ---- the exchange by which a seat pins itself for a call
 
-abbrev pub asking : View → Pin → Call → View
-asking v pin call = record v { pin = Some pin; asks = Some call; entered = None }
+abbrev pub pinned_for : View → Pin → Call → View
+pinned_for v pin call = record v { pin = Some pin; asks = Some call; entered = None }
 
-abbrev pub has_asked : Step Call → Me Call View → ℕ → Me Call View → Type 0
-has_asked step before found after = (pin : Pin) (call : Call) → pin_of step.second ≡ Some pin → step.said ≡ some call → after ≡ (asking before.0 pin call, before.1)
+abbrev pub has_pinned : Step Call → Me Call View → ℕ → Me Call View → Type 0
+has_pinned step before found after = (pin : Pin) (call : Call) → pin_of step.second ≡ Some pin → step.said ≡ some call → after ≡ (pinned_for before.0 pin call, before.1)
 
 -- ---- the store of 0 by which it goes out of one that it hasn't begun
 

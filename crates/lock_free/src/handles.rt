@@ -5,11 +5,12 @@ ghost use Rattle.trie_words.specs.Codes.{IsRootWord, root_code};
 ghost use Rattle.lock_free.specs.HandleWords.{is_marked, is_unmarked, marked_by, without_mark, HasClosed, HasMarked, HasSeenRoot};
 ghost use Rattle.lock_free.specs.Loading.{IsSound};
 ghost use Rattle.lock_free.specs.Places.{root_word};
+ghost use Rattle.lock_free.specs.RootWords.{IsAtClean};
 ghost use Rattle.lock_free.specs.Rules.{SaysClosing};
 ghost use Rattle.lock_free.specs.SeatWords.{IsIdle, WouldClose};
 
 use crate::loads::{Actor, Words};
-use crate::rules::{Marks, Sees, Shuts, Unmarks};
+use crate::rules::{Cleans, Marks, Sees, Shuts, Unmarks};
 use trie_words::RootWord;
 
 /// Which word is this handle's.
@@ -35,6 +36,20 @@ pub fn see_root(words: &Words, actor: &mut Actor, handle: u16) -> RootWord
 {
     let found = words.load::<Sees>(actor, root_word_of(handle));
     RootWord::of_word(found)
+}
+
+/// Takes the settled offer in this slot out of the word of its handle, if that names it still: the root that it leaves is in this one.
+pub fn clean(words: &Words, actor: &mut Actor, handle: u16, offer: u32, root: u32)
+    requires table { actor.old.table_id ≡ words.now.table_id }
+    requires sound { IsSound words.now.table_id.words actor.old.me.0 }
+    requires low { handle < 256 }
+    requires cleaning { IsAtClean actor.old.me.0 handle offer root }
+    ensures table { actor.new.table_id ≡ actor.old.table_id }
+    ensures same { actor.new.me ≡ actor.old.me }
+{
+    let offered = RootWord::Offered(offer).to_word();
+    let plain = RootWord::Writable(root).to_word();
+    words.compare_exchange::<Cleans>(actor, root_word_of(handle), offered, plain);
 }
 
 /// This word of an open handle, with the mark of a seat that would close it.

@@ -3,6 +3,7 @@
 #![tactic(auto)]
 
 mod accounts;
+mod asking;
 mod calling;
 mod closing;
 mod copying;
@@ -15,31 +16,34 @@ mod offers;
 mod pins;
 mod reading;
 mod root_offers;
+mod rooting;
 mod rules;
 mod sizes;
 mod stores;
 mod swapping;
 
 pub use accounts::{Account, Known, Owned};
+pub use asking::{Named, ask_word, see_generation};
 pub use calling::{Denial, Started, begin, give_up};
 pub use closing::{Shut, close_handle};
 pub use copying::{complete_own, read_original};
 pub use exchanges::{decide, publish, restore};
 pub use finding::{Entered, Level, Met, go_down};
-pub use handles::{close, mark, see_root, unmark};
+pub use handles::{clean, close, mark, see_root, unmark};
 pub use loads::{
     Actor, Words, look_at_key, look_at_link, look_at_main, look_at_value, read_header, read_link,
     see_key, see_link, see_main, see_pair, see_value,
 };
 pub use numbers::{give_back, name, reserve};
-pub use offers::{abort, complete};
+pub use offers::{Fate, abort, complete, meet_offer, see_news, see_olds};
 pub use pins::{finish, pass, pin, unpin};
 pub use reading::{AsksRoot, Given, Passed, Way, read, read_within};
 pub use root_offers::{Proposed, propose, yields};
+pub use rooting::{Root, clean_settled, complete_offer};
 pub use rules::{
-    Abandons, Asks, Closing, Completes, Drafts, Ends, Goes, Looks, Makes, MakesRoot, Marks, Names,
-    Pool, Proposes, Publishes, Reserves, Returns, Rule, Sees, Shuts, Starts, Takes, Unmarks, Unpins,
-    View, Yields,
+    Abandons, Asks, Cleans, Closing, Completes, Drafts, Ends, Goes, Looks, Makes, MakesRoot, Marks,
+    Meets, Names, Pins, Pool, Proposes, Publishes, Reserves, Returns, Rule, Sees, Shuts, Starts, Takes,
+    Unmarks, Unpins, View, Yields,
 };
 pub use sizes::Sizes;
 pub use stores::{Tried, draft, make, make_root, try_take};

@@ -8,7 +8,8 @@ ghost use Rattle.lock_free.specs.HandleWords.{has_closed, has_marked, has_unmark
 ghost use Rattle.lock_free.specs.Numbers.{has_given_back, has_named, has_reserved};
 ghost use Rattle.lock_free.specs.OfferWords.{has_completed};
 ghost use Rattle.lock_free.specs.RootOffers.{has_proposed, has_yielded};
-ghost use Rattle.lock_free.specs.SeatWords.{has_asked, has_ended, has_passed, has_unpinned};
+ghost use Rattle.lock_free.specs.RootWords.{has_asked, has_cleaned, has_met};
+ghost use Rattle.lock_free.specs.SeatWords.{has_ended, has_passed, has_pinned, has_unpinned};
 ghost use Rattle.lock_free.specs.Storing.{has_drafted, has_made, has_made_root, has_taken};
 
 use crate::accounts::Account;
@@ -89,6 +90,27 @@ impl Play<Call, View> for Publishes {
     ghost then = { has_published };
 }
 
+/// The root of a handle is read, where its word names it, or that word is looked at.
+pub struct Asks;
+
+impl Play<Call, View> for Asks {
+    ghost then = { has_asked };
+}
+
+/// The offer that stands for a root is found, where it is undecided, or its first word is looked at.
+pub struct Meets;
+
+impl Play<Call, View> for Meets {
+    ghost then = { has_met };
+}
+
+/// A settled offer is taken out of the word of a handle, or isn't.
+pub struct Cleans;
+
+impl Play<Call, View> for Cleans {
+    ghost then = { has_cleaned };
+}
+
 /// An offer is settled, or was.
 pub struct Completes;
 
@@ -97,10 +119,10 @@ impl Play<Call, View> for Completes {
 }
 
 /// A seat pins itself for the call that is said.
-pub struct Asks;
+pub struct Pins;
 
-impl Play<Call, View> for Asks {
-    ghost then = { has_asked };
+impl Play<Call, View> for Pins {
+    ghost then = { has_pinned };
 }
 
 /// It takes its pin away.
