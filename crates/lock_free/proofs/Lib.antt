@@ -87,6 +87,7 @@ mod EndStep
 mod PinnedFor
 mod PinStep
 mod BeginStep
+mod Beginners
 mod GiveUpStep
 mod MarkStep
 mod UnmarkStep

@@ -24,7 +24,7 @@ mod swapping;
 
 pub use accounts::{Account, Known, Owned};
 pub use asking::{Named, ask_word, see_generation};
-pub use calling::{Denial, Started, begin, give_up};
+pub use calling::{Denial, Started, begin, give_up, try_begin};
 pub use closing::{Shut, close_handle};
 pub use copying::{complete_own, read_original};
 pub use exchanges::{decide, publish, restore};
