@@ -27,18 +27,24 @@ use Rattle.lock_free.specs.declared.rules.View.{View}
 use Rattle.lock_free.specs.declared.sizes.Sizes.{Sizes}
 use Rattle.lock_free.specs.Accounts.{bounds_for, state_of, place_at, HasWaited, HasStood}
 use Rattle.lock_free.specs.Nodes.{StandsAs, InTable, AreOwners, class_of}
-use Rattle.lock_free.specs.Places.{AreSizes, words_of, words_in, IsTaken, HaveTaken, generation_word, pin_word, root_word}
+use Rattle.lock_free.specs.Places.{AreSizes, branch_slot, root_slot, words_of, words_in, IsTaken, HaveTaken, generation_word, pin_word, root_word}
 use Rattle.lock_free.specs.Roots.{MeansRoot, IsWritten, NoOffer, AreMarked, IsPending, fate, undecided}
 
-abbrev pub first_account : Account
-first_account = record { steps = []; names = []; owned = []; offers = [] }
+-- nothing has happened yet: there are the first branch and the root over it
+abbrev pub first_account : Sizes → Account
+first_account sizes = record {
+  steps = [];
+  names = branch_slot sizes ∷ root_slot sizes ∷ [];
+  owned = record { holder = 1; held = 0; is_own = true } ∷ [];
+  offers = [];
+}
 
 abbrev pub first_view : Sizes → View
 first_view sizes = record {
   sizes = sizes;
   actor = 1;
   last = sizes.seats;
-  account = first_account;
+  account = first_account sizes;
   pin = None;
   entered = None;
   closing = None;
