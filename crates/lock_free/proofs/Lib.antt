@@ -81,3 +81,5 @@ mod LinkMeets
 mod ReadTurns
 mod EntryTurns
 mod Levels
+mod FirstState
+mod Opens

@@ -23,3 +23,4 @@ pub mod Passing
 pub mod Swaps
 pub mod SeatWords
 pub mod GoingDown
+pub mod Opening

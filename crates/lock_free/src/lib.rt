@@ -8,6 +8,7 @@ mod finding;
 mod handles;
 mod loads;
 mod offers;
+mod opening;
 mod pins;
 mod reading;
 mod rules;
@@ -24,6 +25,7 @@ pub use loads::{
     see_key, see_link, see_main, see_pair, see_value,
 };
 pub use offers::{abort, complete};
+pub use opening::{Board, OpenError, open};
 pub use pins::{finish, pass, pin, unpin};
 pub use reading::{AsksRoot, Given, Passed, Way, read, read_within};
 pub use rules::{
