@@ -127,7 +127,7 @@ module _ (sizes : Sizes) (s : Table.State Call View) (kept : IsKept sizes s) (id
 
     own_then : IsSeat sizes account_then kept.stands s.words view_then
     own_then =
-        own_else sizes s kept id v at account_then kept.stands s.words stays account_then (waited_none v.actor account_then) all_then.counted v.pin (Some (handle_of call)) v.closing v.opens
+        own_else sizes s kept id v at account_then kept.stands s.words stays account_then (waited_none v.actor account_then) (λ a above below. waited_none a account_then) all_then.counted v.pin (Some (handle_of call)) v.closing v.opens
         v.opening seat.pinned
         (λ g e. (let same = same_Some (handle_of call) g e in
         (subst (λ n. n < handle_limit) same low, ap (λ n. is_some (root_at next n)) (sym same) ∙ ap is_some (root_then (handle_of call)) ∙ is_open, (pin, pinned, its ∙ same))))
@@ -220,7 +220,7 @@ module _ (sizes : Sizes) (s : Table.State Call View) (kept : IsKept sizes s) (id
 
     own_reserving : IsSeat sizes account_then kept.stands reserved_words reserving
     own_reserving =
-        own_else sizes s kept id v at account_then kept.stands reserved_words stays_by account_then (waited_none v.actor account_then) all_reserved.counted v.pin v.entered v.closing (Some o) None
+        own_else sizes s kept id v at account_then kept.stands reserved_words stays_by account_then (waited_none v.actor account_then) (λ a above below. waited_none a account_then) all_reserved.counted v.pin v.entered v.closing (Some o) None
         (pin_same v.actor seat.low ∙ seat.pinned) (λ g e. (let x = seat.entered g e in (x.0, ap is_some (root_then g) ∙ x.1, x.2)))
         (λ p e. inside ∙ ap (λ c. Some (handle_of c)) (sym begins.its_call) ∙ ap (λ (x : Operation). Some (handle_of x.call)) (sym (own_call p e))) (λ g r. held_own g r.0)
         (λ p e. sym its_number ∙ sym begins.its_opens ∙ ap (λ (x : Operation). x.opens) (sym (own_call p e))) (λ g slot p n. absurd (none-some slot n)) (λ b name free. spare_by id v b name at free)

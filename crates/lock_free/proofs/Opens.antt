@@ -255,6 +255,7 @@ module _ (sizes : Sizes) where
       most = omega arith;
       waited = waited_none 1 account;
       counts = sym (births_are sizes);
+      rested = λ a above most. waited_none a account;
       rests = λ a above most. (nobody_runs sizes a, no_pin a (omega (arith, above)) most);
       pinned = no_pin 1 (omega arith) ok.some;
       entered = λ handle e. absurd (none-some handle e);

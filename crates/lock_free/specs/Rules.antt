@@ -159,7 +159,8 @@ pub record IsSeat (sizes : Sizes) (account : Account) (stands : Standing) (words
   pub most : v.last ≤ sizes.seats
   pub waited : HasWaited v.actor v.account account
   pub counts : length v.account.names ≡ (state_of sizes v.account).heap.births
-  -- the actors after it run nothing
+  -- the actors after it have taken no step since then either, and run nothing
+  pub rested : (a : ℕ) → v.actor < a → a ≤ v.last → HasWaited a v.account account
   pub rests : (a : ℕ) → v.actor < a → a ≤ v.last → (operation_of (state_of sizes account) a ≡ None) × (slice_index words (pin_word a) ≡ 0)
   pub pinned : slice_index words (pin_word v.actor) ≡ pin_word_of v.pin
   pub entered : (handle : ℕ) → v.entered ≡ Some handle →
