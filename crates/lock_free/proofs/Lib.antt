@@ -83,3 +83,5 @@ mod EntryTurns
 mod Levels
 mod FirstState
 mod Opens
+mod Idle
+mod SplitSeats

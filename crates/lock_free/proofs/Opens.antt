@@ -30,9 +30,10 @@ use Rattle.lock_free.specs.Nodes.{IsAhead, AreOwners, StandsAs, InTable, class_o
 use Rattle.lock_free.specs.Opening.{counted_words, first_words, first_link, first_handle}
 use Rattle.lock_free.specs.Places.{AreSizes, HaveTaken, IsTaken, branch_slot, root_slot, words_of, words_in, generation_word, taken_word, root_word, pin_word}
 use Rattle.lock_free.specs.Roots.{MeansRoot}
-use Rattle.lock_free.specs.Rules.{first_account, first_view, Standing, NodesStand, RootsStand, SaysClosing, IsFree, Once, pool_of, IsSeat, IsKept}
+use Rattle.lock_free.specs.Rules.{first_account, first_view, Standing, NodesStand, RootsStand, SaysClosing, IsSeat, IsKept}
 use Rattle.lock_free.proofs.Geometry.{next_root}
 use Rattle.lock_free.proofs.FirstState.{IsFirst, branch, link, births_are, generations_are, node_found, root_is, no_root, nobody_runs, none_runs}
+use Rattle.lock_free.proofs.Idle.{empty_has, none_free, none_twice}
 use Rattle.lock_free.proofs.RootCodes.{kind, same_kind}
 use Rattle.lock_free.proofs.Waiting.{waited_none}
 
@@ -40,9 +41,6 @@ zeros : (n k : ℕ) → slice_index (replicate n 0) k ≡ 0
 zeros zero k = refl
 zeros (suc n) zero = refl
 zeros (suc n) (suc k) = zeros n k
-
-none_in : {X : Type 0} (x : X) → Contains [] x → ⊥
-none_in x c = omega (arith, c.1)
 
 only_view : (v w : View) (id : ℕ) → get_elem? (v ∷ []) id ≡ some w → (id ≡ 0) × (v ≡ w)
 only_view v w zero e = (refl, some-injective v w e)
@@ -183,7 +181,7 @@ module _ (sizes : Sizes) where
       within = λ k slot s. taken_at k slot (node_found sizes k slot s.1);
       small = λ k slot s. few_at k slot (node_found sizes k slot s.1);
       apart = λ j k x y s t e. apart_at j k x y (node_found sizes j x s.1) (node_found sizes k y t.1) e;
-      offers = λ x c. absurd (none_in x c);
+      offers = λ x c. absurd (empty_has x c);
       written = λ k slot s. written_at k slot (node_found sizes k slot s.1);
       inside = λ k slot s. inside_at k slot (node_found sizes k slot s);
       owners = owners_are;
@@ -211,13 +209,13 @@ module _ (sizes : Sizes) where
     roots_are : RootsStand sizes account (first_words sizes)
     roots_are = record {
       means = means_at;
-      offers = λ k c. absurd (none_in k c);
-      blocks = λ k c. absurd (none_in k c);
-      single = λ k l c. absurd (none_in k c);
-      tries = λ k l c. absurd (none_in k c);
-      stood = λ k c. absurd (none_in k c);
-      marks = λ k c. absurd (none_in k c);
-      pending = λ k c. absurd (none_in k c);
+      offers = λ k c. absurd (empty_has k c);
+      blocks = λ k c. absurd (empty_has k c);
+      single = λ k l c. absurd (empty_has k c);
+      tries = λ k l c. absurd (empty_has k c);
+      stood = λ k c. absurd (empty_has k c);
+      marks = λ k c. absurd (empty_has k c);
+      pending = λ k c. absurd (empty_has k c);
     }
 
     -- the word says that the handle has a root, or is closed
@@ -231,18 +229,6 @@ module _ (sizes : Sizes) where
     no_closing handle seat low (inr h) = omega (arith, plain_at handle low (word.ClosingReadOnly h.0 seat) h.1 h.2)
 
     -- ---- seats
-
-    none_free : (class name : ℕ) → IsFree (first_view sizes) class name → ⊥
-    none_free zero name free = none_in name free.1
-    none_free (suc zero) name free = none_in name free.1
-    none_free (suc (suc zero)) name free = none_in name free.1
-    none_free (suc (suc (suc class))) name free = omega (arith, free.0)
-
-    none_twice : (class : ℕ) → class < 3 → Once (pool_of (first_view sizes).pool class)
-    none_twice zero small = tt
-    none_twice (suc zero) small = tt
-    none_twice (suc (suc zero)) small = tt
-    none_twice (suc (suc (suc class))) small = absurd (omega (arith, small))
 
     no_pin : (a : ℕ) → 1 ≤ a → a ≤ sizes.seats → slice_index (first_words sizes) (pin_word a) ≡ 0
     no_pin a low most = zero_is (pin_word a) (λ e. omega (arith, e, low, most)) (λ e. omega (arith, e, low)) (λ e. omega (arith, e, low)) (λ e. omega (arith, e, low))
@@ -263,9 +249,9 @@ module _ (sizes : Sizes) where
       opens = λ handle r. absurd (none-some handle r.0);
       reserves = λ o e. absurd (none_runs sizes 1 o e);
       opening = λ handle slot e. absurd (none-some handle e);
-      spare = λ class name free. absurd (none_free class name free);
-      once = none_twice;
-      drafts = λ d c. absurd (none_in d c);
+      spare = λ class name free. absurd (none_free sizes 1 sizes.seats account class name free);
+      once = none_twice sizes 1 sizes.seats account;
+      drafts = λ d c. absurd (empty_has d c);
     }
 
     abbrev its : (w : View) (id : ℕ) → get_elem? (first_view sizes ∷ []) id ≡ some w → (id ≡ 0) × (first_view sizes ≡ w)
@@ -301,5 +287,5 @@ module _ (sizes : Sizes) where
       bounds = bounds_are;
       counted = sym (births_are sizes);
       inside = λ k slot s. inside_at k slot (node_found sizes k slot s);
-      free = λ class name free. absurd (none_free class name free);
+      free = λ class name free. absurd (none_free sizes 1 sizes.seats account class name free);
     }

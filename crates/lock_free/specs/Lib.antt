@@ -24,3 +24,4 @@ pub mod Swaps
 pub mod SeatWords
 pub mod GoingDown
 pub mod Opening
+pub mod Splitting

@@ -39,12 +39,13 @@ first_account sizes = record {
   offers = [];
 }
 
-abbrev pub first_view : Sizes → View
-first_view sizes = record {
+-- the view of a seat that has these actors and no slots, and makes no call
+abbrev pub idle_view : Sizes → ℕ → ℕ → Account → View
+idle_view sizes actor last account = record {
   sizes = sizes;
-  actor = 1;
-  last = sizes.seats;
-  account = first_account sizes;
+  actor = actor;
+  last = last;
+  account = account;
   pin = None;
   entered = None;
   closing = None;
@@ -53,6 +54,9 @@ first_view sizes = record {
   pool = record { small = []; medium = []; wide = [] };
   drafts = [];
 }
+
+abbrev pub first_view : Sizes → View
+first_view sizes = idle_view sizes 1 sizes.seats (first_account sizes)
 
 -- no number stands twice
 abbrev pub Once : List ℕ → Type 0

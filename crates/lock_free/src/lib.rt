@@ -25,11 +25,11 @@ pub use loads::{
     see_key, see_link, see_main, see_pair, see_value,
 };
 pub use offers::{abort, complete};
-pub use opening::{Board, OpenError, open};
+pub use opening::{Board, OpenError, open, split};
 pub use pins::{finish, pass, pin, unpin};
 pub use reading::{AsksRoot, Given, Passed, Way, read, read_within};
 pub use rules::{
-    Closing, Completes, Drafts, Ends, Enters, Goes, Looks, Makes, MakesRoot, Marks, Pins, Pool,
+    Closing, Completes, Drafts, Ends, Enters, Goes, Looks, Makes, MakesRoot, Marks, Parts, Pins, Pool,
     Publishes, Rule, Sees, Shuts, Takes, View,
 };
 pub use sizes::Sizes;

@@ -1,13 +1,14 @@
-//! The words of a new map.
+//! The words of a new map, and seats at them.
 
-ghost use Rattle.std.specs.Prelude.{◌≡◌, [], IfOk, IfErr, OnOk};
+ghost use Rattle.std.specs.Prelude.{◌≡◌, ◌<◌, [], IfOk, IfErr, OnOk};
 ghost use Rattle.lock_free.specs.Loading.{IsSound};
 ghost use Rattle.lock_free.specs.Opening.{first_words, Refuses};
 ghost use Rattle.lock_free.specs.Places.{AreSizes, words_of};
 ghost use Rattle.lock_free.specs.Rules.{first_view};
+ghost use Rattle.lock_free.specs.Splitting.{of_last, without_last};
 
-use crate::loads::Actor;
-use crate::rules::{Rule, View};
+use crate::loads::{Actor, Words};
+use crate::rules::{Parts, Rule, View};
 use crate::sizes::Sizes;
 use atomic_table::Table;
 use history::Call;
@@ -66,4 +67,17 @@ fn words_for(alloc: Global, sizes: &Sizes) -> Result<Vec<u64>, AllocError>
     words[80] = RootWord::Writable(root).to_word();
     words[2 * root as usize] = link.to_word();
     Ok(words)
+}
+
+/// A seat for another thread, which gets the last of this seat's actors.
+pub fn split(words: &Words, actor: &mut Actor) -> Actor
+    requires table { actor.old.table_id ≡ words.now.table_id }
+    requires sound { IsSound words.now.table_id.words actor.old.me.0 }
+    requires more { actor.old.me.0.actor < actor.old.me.0.last }
+    ensures table { (actor.new.table_id ≡ actor.old.table_id) × (result.table_id ≡ actor.old.table_id) }
+    ensures sound { IsSound words.now.table_id.words actor.new.me.0 × IsSound words.now.table_id.words result.me.0 }
+    ensures left { actor.new.me ≡ (without_last actor.old.me.0, actor.old.me.1) }
+    ensures right { result.me ≡ (of_last actor.old.me.0, []) }
+{
+    words.split_seat::<Parts>(actor)
 }
