@@ -76,7 +76,7 @@ module _ (v : View) (handle looked : ℕ) (low : handle < 256) (would : v.closin
     sound_after : IsSound (words_of v.sizes) after
     sound_after =
         let all = closed.all_then v.sizes s kept id v at handle low looked would all_looked says outside idle_there closes_it in
-        record { size = refl; range = kept.range.within; bounds = all.bounds; counted = all.counted; inside = all.nodes.inside; free = free_inside v s kept id at }
+        record { size = refl; range = kept.range.within; bounds = all.bounds; keys = all.keys; counted = all.counted; inside = all.nodes.inside; free = free_inside v s kept id at }
 
     hits : Shut after
     hits = (

@@ -47,7 +47,7 @@ module _ (v : View) (answer : Reply) (p : IsAt v (act.End answer)) (opens : v.op
   pub sound_after : IsSound (words_of v.sizes) (once_ended v there)
   sound_after =
       let all = all_then v.sizes s kept id v at o stays.1 ends v.opens (λ g e. none_open g e) (λ g e. none_open g e) in
-      record { size = refl; range = kept.range.within; bounds = all.bounds; counted = all.counted; inside = all.nodes.inside; free = free_inside v s kept id at }
+      record { size = refl; range = kept.range.within; bounds = all.bounds; keys = all.keys; counted = all.counted; inside = all.nodes.inside; free = free_inside v s kept id at }
 
   pub idle_after : operation_of (now (once_ended v there)) v.actor ≡ None
   idle_after = ends.own

@@ -102,7 +102,7 @@ enter_allowed sizes size id me pin low pinned idle =
 by_word : (words : ℕ) (before : View) (handle : ℕ) (w : RootWord) (after : View) → HasEntered before handle w after → IsSound words before → (b : Bool) → is_open_word w ≡ b → IsSound words after
 by_word words before which w after h sound true e =
     subst (IsSound words) (sym (h.0 e))
-    (record { size = sound.size; range = sound.range; bounds = sound.bounds; counted = sound.counted; inside = sound.inside; free = sound.free })
+    (record { size = sound.size; range = sound.range; bounds = sound.bounds; keys = sound.keys; counted = sound.counted; inside = sound.inside; free = sound.free })
 by_word words before which w after h sound false e = subst (IsSound words) (sym (h.1 e)) sound
 
 pub enter_sound : (words : ℕ) (before : View) (handle : ℕ) (w : RootWord) (after : View) → HasEntered before handle w after → IsSound words before → IsSound words after

@@ -18,7 +18,7 @@ use Rattle.lock_free.specs.Places.{words_of}
 use Rattle.lock_free.specs.Rules.{IsKept}
 use Rattle.lock_free.specs.Steps.{Reads}
 use Rattle.lock_free.proofs.Assembling.{AllStand}
-use Rattle.lock_free.proofs.Keeping.{kept_then}
+use Rattle.lock_free.proofs.Keeping.{keys_gone, kept_then}
 use Rattle.lock_free.proofs.Moments.{free_inside, took_by}
 
 -- ---- what an exchange writes
@@ -34,7 +34,7 @@ pub sound_by : (v : View) (s : Table.State Call View) (kept : IsKept v.sizes s) 
     AllStand v.sizes account stands words →
     IsSound (words_of v.sizes) (seen v account)
 sound_by v s kept id at account stands words all =
-    record { size = refl; range = kept.range.within; bounds = all.bounds; counted = all.counted; inside = all.nodes.inside; free = free_inside v s kept id at }
+    record { size = refl; range = kept.range.within; bounds = all.bounds; keys = all.keys; counted = all.counted; inside = all.nodes.inside; free = free_inside v s kept id at }
 
 -- what it leaves of the words, and of the seat
 module _ (v : View) (s : Table.State Call View) (kept : IsKept v.sizes s) (id : ℕ) (at : get_elem? s.views id ≡ some v) (word old new : ℕ) where
@@ -62,6 +62,7 @@ module _ (v : View) (s : Table.State Call View) (kept : IsKept v.sizes s) (id : 
         size = refl;
         range = kept.range.within;
         bounds = reads.bounds;
+        keys = keys_gone kept.account.steps v.actor kept.keys;
         counted = kept.counted ∙ sym reads.births;
         inside = λ k slot e. kept.nodes.inside k slot (sym (reads.nodes k) ∙ e);
         free = free_inside v s kept id at;

@@ -18,7 +18,7 @@ use Rattle.machine_model.specs.declared.operations.Operation.{Operation}
 use Rattle.machine_model.specs.declared.steps.Step.{Step}
 use Rattle.machine_model.specs.declared.steps.Step.TheVariants as step
 use Rattle.machine_model.specs.Acting.{operation_after}
-use Rattle.machine_model.specs.Keys.{FitsKey}
+use Rattle.machine_model.specs.Keys.{FitsKey, KeysFit}
 use Rattle.machine_model.specs.declared.roots.Root.{Root}
 use Rattle.trie_words.specs.Codes.{entry_code, pair_code}
 use Rattle.trie_words.specs.declared.headers.Previous.{Previous}
@@ -41,6 +41,10 @@ use Rattle.lock_free.proofs.Meanings.{means_kept, marks_kept, stood_still}
 use Rattle.lock_free.proofs.Seats.{ran_so, numbers_so, Stays, other_kept, own_kept, drafts_kept}
 use Rattle.lock_free.proofs.Owners.{owners_kept}
 use Rattle.lock_free.proofs.Waiting.{waited_more, quiet_more, other_quiet}
+
+-- an operation's step names no key
+pub keys_gone : (steps : List Step) (actor : ℕ) → KeysFit steps → KeysFit (steps ++ step.Go actor ∷ [])
+keys_gone steps actor fit = All-append FitsKey steps (step.Go actor ∷ []) fit (All-cons FitsKey (step.Go actor) [] tt (All-nil FitsKey))
 
 -- each node is what it was
 abbrev pub SameNodes : State → State → Type 0

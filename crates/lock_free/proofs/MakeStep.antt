@@ -164,6 +164,7 @@ module _ (v : View) (word value : ℕ) (node : Node) (rest : List ℕ) (name : �
         size = refl;
         range = kept.range.within;
         bounds = all.bounds;
+        keys = all.keys;
         counted = all.counted;
         inside = all.nodes.inside;
         free = λ b n f.

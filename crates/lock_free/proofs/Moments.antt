@@ -39,7 +39,7 @@ use Rattle.lock_free.proofs.Assembling.{all_stand, closing_stays, numbers_stay, 
 use Rattle.lock_free.proofs.Meanings.{no_tries}
 use Rattle.lock_free.proofs.Definition.{IsReading, reads_of, waits, bounds_before}
 use Rattle.lock_free.proofs.Geometry.{end_inside}
-use Rattle.lock_free.proofs.Keeping.{kept_then}
+use Rattle.lock_free.proofs.Keeping.{keys_gone, kept_then}
 use Rattle.lock_free.proofs.Waiting.{waited_none}
 
 -- An access is allowed where the rule holds after it, by the sizes that the seat knows.
@@ -121,7 +121,7 @@ module _ (v : View) (s : Table.State Call View) (kept : IsKept v.sizes s) (id : 
   pub waited_so : Waited v there
   waited_so = record {
     waited = seat.waited;
-    sound = record { size = refl; range = kept.range.within; bounds = kept.bounds; counted = kept.counted; inside = kept.nodes.inside; free = free_inside };
+    sound = record { size = refl; range = kept.range.within; bounds = kept.bounds; keys = kept.keys; counted = kept.counted; inside = kept.nodes.inside; free = free_inside };
     stays = λ o runs. waits v.sizes v.actor v.account there seat.waited kept.bounds o runs;
   }
 
@@ -236,6 +236,7 @@ module _ (v : View) (s : Table.State Call View) (kept : IsKept v.sizes s) (id : 
       size = refl;
       range = kept.range.within;
       bounds = reads.bounds;
+      keys = keys_gone there.steps v.actor kept.keys;
       counted = kept.counted ∙ sym reads.births;
       inside = λ k slot e. kept.nodes.inside k slot
           (sym (reads.nodes k) ∙ e);

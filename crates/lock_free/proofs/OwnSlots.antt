@@ -29,7 +29,7 @@ draft_allowed sizes size id me word value (class, name, free, low, high) =
     (λ s kept at. (drafted me.0 word value, draft_kept me.0.sizes s kept id me.0 at class name free word (record { low = low; high = high }) value, refl))
 
 pub drafted_sound : (words : ℕ) (v : View) (word value : ℕ) → IsSound words v → IsSound words (drafted v word value)
-drafted_sound words v word value h = record { size = h.size; range = h.range; bounds = h.bounds; counted = h.counted; inside = h.inside; free = h.free }
+drafted_sound words v word value h = record { size = h.size; range = h.range; bounds = h.bounds; keys = h.keys; counted = h.counted; inside = h.inside; free = h.free }
 
 pub own_word_inside : (words : ℕ) (v : View) (word : ℕ) → IsSound words v → IsOwnWord v word → word < words
 own_word_inside words v word h (class, name, free, low, high) = let end = h.free class name free in let size = h.size in omega (arith, end, size, high)
@@ -106,7 +106,7 @@ module _ (sizes : Sizes) (size id : ℕ) (me : Me Call View) (class : ℕ) (smal
 pub taken_sound : (words : ℕ) (v : View) (class count name : ℕ) → class < 3 → count < slots_in v.sizes class → 2 * name ≡ part_of v.sizes class + words_in class * count → IsSound words v →
     IsSound words (with_free v class name)
 taken_sound words v class count name small few is h =
-    record { size = h.size; range = h.range; bounds = h.bounds; counted = h.counted; inside = h.inside; free = λ b n f. free_then b n f.0 (was_free v.pool class name small b n f.0 f.1) }
+    record { size = h.size; range = h.range; bounds = h.bounds; keys = h.keys; counted = h.counted; inside = h.inside; free = λ b n f. free_then b n f.0 (was_free v.pool class name small b n f.0 f.1) }
   where
     free_then : (b n : ℕ) → b < 3 → Contains (pool_of v.pool b) n ⊎ ((b ≡ class) × (name ≡ n)) → 2 * n + words_in b ≤ words_of v.sizes
     free_then b n low (inl old) = h.free b n (low, old)

@@ -50,4 +50,4 @@ pin_allowed sizes size id me pin value code back idle =
 
 -- what is sound stays so
 pub pin_sound : (words : ℕ) (v : View) (pin : Option Pin) → IsSound words v → IsSound words (pinned_to v pin)
-pin_sound words v pin h = record { size = h.size; range = h.range; bounds = h.bounds; counted = h.counted; inside = h.inside; free = h.free }
+pin_sound words v pin h = record { size = h.size; range = h.range; bounds = h.bounds; keys = h.keys; counted = h.counted; inside = h.inside; free = h.free }

@@ -38,7 +38,7 @@ use Rattle.lock_free.proofs.Asked.{links_of, mains_of, is_one_of, publishes_or_n
 use Rattle.lock_free.proofs.Assembling.{all_stand}
 use Rattle.lock_free.proofs.Exchanged.{LeavesAt, words_hit, words_miss, sound_by}
 use Rattle.lock_free.proofs.GivenBack.{WasOf, Fits, all_fit, one_of}
-use Rattle.lock_free.proofs.Keeping.{IsGivenUp, drop_kept}
+use Rattle.lock_free.proofs.Keeping.{IsGivenUp, keys_gone, drop_kept}
 use Rattle.lock_free.proofs.LinkWords.{i_there, generation_now, hit, miss}
 use Rattle.lock_free.proofs.Looking.{main_there, o_there, acts_there, same_action}
 use Rattle.lock_free.proofs.Moments.{IsThere, free_inside, allowed, took_by, waited_so, its_place}
@@ -180,6 +180,7 @@ module _ (v : View) (i replaced made : Ref) (p : IsAt v (act.Publish i replaced 
             size = refl;
             range = kept.range.within;
             bounds = leads.bounds;
+            keys = keys_gone kept.account.steps v.actor kept.keys;
             counted = kept.counted ∙ sym leads.births;
             inside = λ k slot e. kept.nodes.inside k slot (sym (leads.nodes k) ∙ e);
             free = λ b n f. free_then b n f.0 (fit.which b n f.0 f.1);

@@ -96,6 +96,7 @@ module _ (v : View) (generation : ℕ) (main : Ref) (rest : List ℕ) (name : �
           size = refl;
           range = kept.range.within;
           bounds = all.bounds;
+          keys = all.keys;
           counted = all.counted;
           inside = all.nodes.inside;
           free = λ b n f. (let g = was_free b n f in free_inside v s kept id at b n g);

@@ -18,6 +18,7 @@ use Rattle.machine_model.specs.declared.actions.Action.{Action}
 use Rattle.machine_model.specs.declared.actions.Action.TheVariants as act
 use Rattle.machine_model.specs.declared.operations.Operation.{Operation}
 use Rattle.machine_model.specs.Acting.{operation_after}
+use Rattle.machine_model.specs.Keys.{KeysFit}
 use Rattle.machine_model.specs.Machine.{AreBounds}
 use Rattle.machine_model.specs.Operations.{action_of}
 use Rattle.machine_model.specs.States.{State}
@@ -57,11 +58,12 @@ Runs v operation = (mark : Bool) × running v.sizes v.account v.actor (record op
 abbrev pub IsUsed : View → Ref → Slot → Type 0
 IsUsed v r slot = slice_index_or (now v).heap.slots (slot_of r) None ≡ Some slot
 
--- The machine never runs out, and the slots of all nodes are the table's, which has so many words.
+-- The machine never runs out, keys are of 64 bits, and the slots of all nodes are the table's, which has so many words.
 pub record IsSound (words : ℕ) (v : View) : Type 0 where
   pub size : words ≡ words_of v.sizes
   pub range : words_of v.sizes ≤ 2 ^ 28
   pub bounds : AreBounds (bounds_for v.sizes v.account.steps)
+  pub keys : KeysFit v.account.steps
   pub counted : length v.account.names ≡ (now v).heap.births
   pub inside : (k : ℕ) (slot : Slot) → slice_index_or (now v).heap.slots k None ≡ Some slot → 2 * place_at v.account k + words_in (class_of slot.node) ≤ words_of v.sizes
   -- and so are those that are free for the seat
