@@ -85,3 +85,5 @@ mod FirstState
 mod Opens
 mod Idle
 mod SplitSeats
+mod SameSteps
+mod HistoriesOn

@@ -285,6 +285,7 @@ module _ (sizes : Sizes) where
       size = size;
       range = ok.within;
       bounds = bounds_are;
+      keys = All-nil FitsKey;
       counted = sym (births_are sizes);
       inside = λ k slot s. inside_at k slot (node_found sizes k slot s);
       free = λ class name free. absurd (none_free sizes 1 sizes.seats account class name free);

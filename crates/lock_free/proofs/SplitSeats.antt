@@ -227,8 +227,8 @@ pub splits : (sizes : Sizes) (id : ℕ) (v : View) → v.actor < v.last → Spli
 splits sizes id v more s kept at = split_kept sizes s kept id v at more
 
 pub left_sound : (words : ℕ) (v : View) → IsSound words v → IsSound words (without_last v)
-left_sound words v h = record { size = h.size; range = h.range; bounds = h.bounds; counted = h.counted; inside = h.inside; free = h.free }
+left_sound words v h = record { size = h.size; range = h.range; bounds = h.bounds; keys = h.keys; counted = h.counted; inside = h.inside; free = h.free }
 
 pub right_sound : (words : ℕ) (v : View) → IsSound words v → IsSound words (of_last v)
 right_sound words v h =
-    record { size = h.size; range = h.range; bounds = h.bounds; counted = h.counted; inside = h.inside; free = λ b name free. absurd (none_free v.sizes v.last v.last v.account b name free) }
+    record { size = h.size; range = h.range; bounds = h.bounds; keys = h.keys; counted = h.counted; inside = h.inside; free = λ b name free. absurd (none_free v.sizes v.last v.last v.account b name free) }

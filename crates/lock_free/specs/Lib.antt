@@ -25,3 +25,4 @@ pub mod SeatWords
 pub mod GoingDown
 pub mod Opening
 pub mod Splitting
+pub mod Telling

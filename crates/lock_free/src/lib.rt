@@ -6,6 +6,7 @@ mod accounts;
 mod exchanges;
 mod finding;
 mod handles;
+mod laws;
 mod loads;
 mod offers;
 mod opening;
@@ -20,6 +21,7 @@ pub use accounts::{Account, Known, Owned};
 pub use exchanges::{decide, publish, restore};
 pub use finding::{Entered, Level, Met, go_down};
 pub use handles::{close, enter, mark, see_root};
+pub use laws::{histories_go_on, seats_are_explained};
 pub use loads::{
     Actor, Words, look_at_key, look_at_link, look_at_main, look_at_value, read_header, read_link,
     see_key, see_link, see_main, see_pair, see_value,
