@@ -103,3 +103,9 @@ mod ReadTurns
 mod EntryTurns
 mod Levels
 mod CopyReads
+mod FirstState
+mod Opens
+mod Idle
+mod SplitSeats
+mod SameSteps
+mod HistoriesOn

@@ -10,11 +10,12 @@ ghost use Rattle.lock_free.specs.OfferWords.{has_completed};
 ghost use Rattle.lock_free.specs.RootOffers.{has_proposed, has_yielded};
 ghost use Rattle.lock_free.specs.RootWords.{has_asked, has_cleaned, has_met};
 ghost use Rattle.lock_free.specs.SeatWords.{has_ended, has_passed, has_pinned, has_unpinned};
+ghost use Rattle.lock_free.specs.Splitting.{without_last, of_last};
 ghost use Rattle.lock_free.specs.Storing.{has_drafted, has_made, has_made_root, has_taken};
 
 use crate::accounts::Account;
 use crate::sizes::Sizes;
-use atomic_table::{Play, TableRule};
+use atomic_table::{Play, Split, TableRule};
 use history::Call;
 use std::collections::LinkedList;
 use trie_words::Pin;
@@ -67,6 +68,15 @@ impl TableRule<Call, View, Sizes> for Rule {
     ghost holds = { IsKept };
 
     ghost first = { first_view };
+}
+
+/// The last actor of a seat gets a seat of its own.
+pub struct Parts;
+
+impl Split<View> for Parts {
+    ghost left = { without_last };
+
+    ghost right = { of_last };
 }
 
 /// Something is looked at, and no step is taken.

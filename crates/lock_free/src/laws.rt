@@ -1,0 +1,18 @@
+//! Laws of what seats have seen.
+
+ghost use Rattle.lock_free.specs.Telling.{HistoriesGoOn, SeatsAreExplained};
+
+use proof_linearizable::every_order_is_legal;
+
+/// A law: whatever a seat has seen, there is an order that explains the history so far, in which an operation that ended before
+/// another one began comes first, and which leads to what handles show.
+pub fn seats_are_explained()
+    ensures { SeatsAreExplained }
+{
+    every_order_is_legal();
+}
+
+/// A law: a history goes on, and never changes what it has told.
+pub fn histories_go_on()
+    ensures { HistoriesGoOn }
+{}
