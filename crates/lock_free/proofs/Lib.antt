@@ -109,3 +109,4 @@ mod Idle
 mod SplitSeats
 mod SameSteps
 mod HistoriesOn
+mod Answered

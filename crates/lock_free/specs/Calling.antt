@@ -24,13 +24,14 @@ use Rattle.lock_free.specs.declared.calling.Denial.TheVariants as denial
 use Rattle.lock_free.specs.declared.calling.Started.{Started}
 use Rattle.lock_free.specs.declared.calling.Started.TheVariants as started
 use Rattle.lock_free.specs.declared.rules.View.{View}
-use Rattle.lock_free.specs.Accounts.{past_of, running}
+use Rattle.lock_free.specs.Accounts.{running}
 use Rattle.lock_free.specs.Beginning.{taking}
 use Rattle.lock_free.specs.Exchanging.{given_back}
 use Rattle.lock_free.specs.HandleWords.{is_marked, HasSeenRoot, TellsRoot}
 use Rattle.lock_free.specs.Loading.{now, seen, IsSound, Runs, Saw, Waited}
 use Rattle.lock_free.specs.Places.{root_word, words_of}
 use Rattle.lock_free.specs.SeatWords.{IsIdle}
+use Rattle.lock_free.specs.Telling.{history_of}
 
 -- The seat runs nothing, has pinned itself for this call, and has reserved a number if it opens a handle.
 pub record IsBeginner (v : View) (call : Call) : Type 0 where
@@ -82,7 +83,7 @@ pub record HasBegun (before : View) (call : Call) (found : RootWord) (after : Vi
   pub fits : IsRootWord found
   pub tells : TellsRoot before.sizes account (handle_of call) found
   -- and the history has its begin
-  pub told : (past_of after.sizes after.account).events ≡ (past_of before.sizes account).events ++ event.Begin (first_operation before account call).id before.actor call before.opens ∷ []
+  pub told : history_of after.sizes after.account ≡ history_of before.sizes account ++ event.Begin (first_operation before account call).id before.actor call before.opens ∷ []
 
 -- ---- or it doesn't
 

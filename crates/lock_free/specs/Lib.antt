@@ -34,3 +34,4 @@ pub mod CopySteps
 pub mod Opening
 pub mod Splitting
 pub mod Telling
+pub mod Answering

@@ -32,7 +32,7 @@ pub use copying::{complete_own, read_original};
 pub use exchanges::{decide, publish, restore};
 pub use finding::{Entered, Level, Met, go_down};
 pub use handles::{clean, close, mark, see_root, unmark};
-pub use laws::{histories_go_on, seats_are_explained};
+pub use laws::{calls_are_answered, closes_are_answered, histories_go_on, seats_are_explained};
 pub use loads::{
     Actor, Words, look_at_key, look_at_link, look_at_main, look_at_value, read_header, read_link,
     see_key, see_link, see_main, see_pair, see_value,
