@@ -88,9 +88,10 @@ mod Licenses
 mod RootLines
 mod Rootings
 mod EndStep
-mod CallSaid
+mod PinnedFor
 mod PinStep
 mod BeginStep
+mod Beginners
 mod GiveUpStep
 mod MarkStep
 mod UnmarkStep
@@ -106,3 +107,10 @@ mod ReadTurns
 mod EntryTurns
 mod Levels
 mod CopyReads
+mod FirstState
+mod Opens
+mod Idle
+mod SplitSeats
+mod SameSteps
+mod HistoriesOn
+mod Answered

@@ -31,7 +31,7 @@ use Rattle.lock_free.specs.HandleWords.{TellsRoot}
 use Rattle.lock_free.specs.Loading.{now, seen, HasGone, HasSeen, IsSound, SameSlots}
 use Rattle.lock_free.specs.Places.{root_word, words_of}
 use Rattle.lock_free.specs.Roots.{MeansRoot, SaysRoot, SaysPlain}
-use Rattle.lock_free.specs.RootWords.{AsksAt, IsRootAt, HasFoundRoot, HasAskedRoot, LoadedAs, has_found_root, named_by}
+use Rattle.lock_free.specs.RootWords.{AsksAt, IsRootAt, HasFoundRoot, HasAskedRoot, LoadedAs, has_asked, named_by}
 use Rattle.lock_free.specs.Rules.{IsKept}
 use Rattle.lock_free.proofs.Definition.{IsReading}
 use Rattle.lock_free.proofs.Looking.{saw, same_slots, went}
@@ -76,9 +76,9 @@ module _ (v : View) (handle : ℕ) (asks : AsksAt v handle) (s : Table.State Cal
   asks_as named.Nothing = (seen_view v s kept id at, saw_it)
 
 pub ask_allowed : (sizes : Sizes) (size id : ℕ) (me : Me Call View) (handle : ℕ) → AsksAt me.0 handle →
-    Allows (IsKept sizes) size id me (root_word handle) (λ n. n) (has_found_root (step size (root_word handle) 0 0 none) me)
+    Allows (IsKept sizes) size id me (root_word handle) (λ n. n) (has_asked (step size (root_word handle) 0 0 none) me)
 ask_allowed sizes size id me handle asks =
-    allowed sizes size id me (root_word handle) (λ n. n) (has_found_root (step size (root_word handle) 0 0 none) me)
+    allowed sizes size id me (root_word handle) (λ n. n) (has_asked (step size (root_word handle) 0 0 none) me)
     (λ s kept at. (let x = asks_as me.0 handle asks s kept id at (named_by (root_of (slice_index s.words (root_word handle)))) in (
       x.0,
       subst (λ ws. IsKept me.0.sizes (record { words = ws; homes = s.homes; views = set s.views id x.0 })) (sym (set-get_or s.words (root_word handle) 0)) x.1.0,

@@ -31,3 +31,7 @@ pub mod Rooting
 pub mod SeatWords
 pub mod GoingDown
 pub mod CopySteps
+pub mod Opening
+pub mod Splitting
+pub mod Telling
+pub mod Answering

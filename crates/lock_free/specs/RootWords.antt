@@ -56,8 +56,8 @@ LoadedAs (named.Root slot) before word found after = HasGone before word found a
 LoadedAs (named.Offer slot) before word found after = HasSeen before word found after
 LoadedAs named.Nothing before word found after = HasSeen before word found after
 
-abbrev pub has_found_root : Step Call → Me Call View → ℕ → Me Call View → Type 0
-has_found_root step before found after =
+abbrev pub has_asked : Step Call → Me Call View → ℕ → Me Call View → Type 0
+has_asked step before found after =
     LoadedAs (named_by (root_of found)) before.0 step.word found after.0 × IsSound (words_of before.0.sizes) after.0 × (after.1 ≡ before.1)
 
 -- a root of some handle has stood in this slot, and stands there for ever

@@ -6,7 +6,7 @@ ghost use Rattle.lock_free.specs.RootWords.{AsksAt, HasAskedRoot, HasSeenGenerat
 
 use crate::handles::root_word_of;
 use crate::loads::{Actor, Words};
-use crate::rules::{FindsRoot, Sees};
+use crate::rules::{Asks, Sees};
 use trie_words::{Link, RootWord};
 
 /// What the word of a handle says of its root.
@@ -45,7 +45,7 @@ pub fn ask_word(words: &Words, actor: &mut Actor, handle: u16) -> Named
     ensures sound { IsSound words.now.table_id.words actor.new.me.0 }
     ensures asked { HasAskedRoot actor.old.me.0 handle result actor.new.me.0 }
 {
-    let found = words.load::<FindsRoot>(actor, root_word_of(handle));
+    let found = words.load::<Asks>(actor, root_word_of(handle));
     named_of(RootWord::of_word(found))
 }
 
