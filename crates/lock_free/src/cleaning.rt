@@ -173,7 +173,7 @@ fn clean_branch<R: Wait, A: AsksRoot>(
 
 /// CLEAN below the indirection in this slot, which is below the root or is the root: each tomb there gives way to its single. Afterwards
 /// the operation begins its try anew, whatever has come of it. Returns false where no slot is had: then the operation gives up.
-pub fn clean<R: Wait, A: AsksRoot>(
+pub fn clean_below<R: Wait, A: AsksRoot>(
     rt: &R,
     asker: &A,
     words: &Words,

@@ -1,6 +1,6 @@
 use Rattle.std.proofs.Common.{ap, arith}
 use Rattle.lock_free.proofs.CleanBelow.{kind_of, below_stock, below_way, branch_ready, branch_cleaned, main_ready, other_stock, other_cleaned}
-use Rattle.lock_free.proofs.cleaning.clean.Goals as goal
+use Rattle.lock_free.proofs.cleaning.clean_below.Goals as goal
 
 pub clean_branch-requires-clause-stock : goal.clean_branch-requires-clause-stock
 clean_branch-requires-clause-stock g c =
