@@ -153,10 +153,13 @@ HasRenewedAll before result after = (path : List Ref) (main : Ref) → IsOn befo
 
 -- ---- a repair as a whole
 
--- it has come to this line, whatever it has of its own then
-pub record HasEndedAt (l : Line) (v w : View) : Type 0 where
+-- it has come to another line, whatever it has of its own then
+pub record HasEndedBy (next : Operation → Line) (v w : View) : Type 0 where
   pub follows : Follows v w
-  pub comes : (operation : Operation) → Runs v operation → (private : List Ref) × Runs w (record operation { private = private; line = l })
+  pub comes : (operation : Operation) → Runs v operation → (private : List Ref) × Runs w (record operation { private = private; line = next operation })
+
+abbrev pub HasEndedAt : Line → View → View → Type 0
+HasEndedAt l v w = HasEndedBy (λ operation. l) v w
 
 -- the branch has this bitmap
 abbrev pub IsBranch : View → Ref → ℕ → Type 0

@@ -44,7 +44,7 @@ fn look_over(words: &Words, actor: &mut Actor, entry: Entry)
 
 /// The single of the tomb to which this link leads, as an entry: it is the tomb's own only where that is its indirection's, and this is
 /// of the generation in which the operation began its try.
-fn single_in(link: Link, single: Entry, start: u64) -> Entry
+pub fn single_in(link: Link, single: Entry, start: u64) -> Entry
     ensures { unowned result ≡ unowned single }
 {
     let is_own = link.main.own && link.generation == start;
