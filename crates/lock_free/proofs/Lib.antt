@@ -134,6 +134,7 @@ mod Replaces
 mod CleanBranches
 mod CleanBelow
 mod RenewBranches
+mod SamePlaces
 mod CopyReads
 mod FirstState
 mod Opens

@@ -1,5 +1,5 @@
 -- CLIMB: a tombed indirection gives way to the tomb's single in the parent, and so on upwards.
-use Rattle.std.specs.Prelude.{◌≡◌, ◌<◌, ◌==◌, ℕ, Bool, true, false, List, length, slice_set}
+use Rattle.std.specs.Prelude.{◌≡◌, ◌<◌, ◌==◌, ℕ, Bool, true, false, List, [], ◌∷◌, length, slice_set}
 use Rattle.arrayvec.specs.ArrayVec.{ArrayVec}
 use Rattle.trie_words.specs.declared.entries.Entry.{Entry}
 use Rattle.trie_words.specs.declared.links.Link.{Link}
@@ -23,7 +23,6 @@ use Rattle.lock_free.specs.declared.climbing.Climbed.{Climbed}
 use Rattle.lock_free.specs.declared.climbing.Climbed.TheVariants as outcome
 use Rattle.lock_free.specs.declared.rules.View.{View}
 use Rattle.lock_free.specs.Accounts.{place_of}
-use Rattle.lock_free.specs.Descending.{AreAt}
 use Rattle.lock_free.specs.GoingDown.{HasMoved, HasStayed}
 use Rattle.lock_free.specs.Holding.{IsOn}
 use Rattle.lock_free.specs.Loading.{now, Runs, IsUsed, Holds}
@@ -131,15 +130,24 @@ HasContracted before result after = (c : Climb) (main : Ref) → IsOn before (li
 abbrev pub IsAskingAgain : View → Type 0
 IsAskingAgain v = (c : Climb) × IsOn v (line.Climb (climb.Root c root.Read))
 
--- whether the root is still that of the operation's try
-abbrev pub again_or_ends : Climb → Bool → Operation → Line
-again_or_ends c true operation = climbing operation c
-again_or_ends c false operation = climbed operation c.former
+-- it climbs there again where the root is still that of the operation's try
+abbrev pub AskedBy : View → Climb → Climbed → View → Type 0
+AskedBy before c outcome.Again after = HasMoved (λ o. climbing o c) before after
+AskedBy before c outcome.Ends after = HasMoved (λ o. climbed o c.former) before after
+AskedBy before c (outcome.Higher single) after = ⊥
+AskedBy before c outcome.Full after = ⊥
 
-abbrev pub HasAskedAgain : View → Bool → View → Type 0
-HasAskedAgain before result after = (c : Climb) → IsOn before (line.Climb (climb.Root c root.Read)) → HasMoved (again_or_ends c result) before after
+abbrev pub HasAskedAgain : View → Climbed → View → Type 0
+HasAskedAgain before result after = (c : Climb) → IsOn before (line.Climb (climb.Root c root.Read)) → AskedBy before c result after
 
 -- ---- as a whole
+
+-- the references stand in these slots, each in its own
+abbrev pub AreAt : View → List Ref → List ℕ → Type 0
+AreAt v [] [] = Unit {0}
+AreAt v [] (slot ∷ slots) = ⊥
+AreAt v (r ∷ rs) [] = ⊥
+AreAt v (r ∷ rs) (slot ∷ slots) = IsPlaced v r slot × AreAt v rs slots
 
 -- it climbs from the last of these indirections, with the tomb's single
 pub record IsClimbing (v : View) (path : List ℕ) (hash : ℕ) (single : Entry) : Type 0 where

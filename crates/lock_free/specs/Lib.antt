@@ -36,6 +36,7 @@ pub mod GoingDown
 pub mod Holding
 pub mod Repairing
 pub mod Contracting
+pub mod Climbs
 pub mod CopySteps
 pub mod Opening
 pub mod Splitting

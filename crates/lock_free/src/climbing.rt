@@ -1,9 +1,11 @@
 //! CLIMB: after a removal that left a tomb, that gives way to its single in the parent, and so on upwards.
 
-ghost use Rattle.std.specs.Prelude.{◌≡◌, ◌<◌, length, slice_set};
+ghost use Rattle.std.specs.Prelude.{◌≡◌, ◌<◌, ◌==◌, ◌&&◌, length, slice_set};
 ghost use Rattle.lock_free.specs.Climbs.{HasAskedAgain, HasClimbed, HasClimbedBranch, HasClimbedUp, HasCompared, HasContracted, HasSeenIt, IsAskingAgain, IsAtParent, IsAtParentBranch, IsAtTombed, IsClimbing, IsContracting};
 ghost use Rattle.lock_free.specs.Loading.{HasPosition, HoldsSlot, IsSound};
+ghost use Rattle.lock_free.specs.Nodes.{half_in};
 ghost use Rattle.lock_free.specs.Passing.{IsOnWay};
+ghost use Rattle.trie_words.specs.Codes.{entry_of};
 ghost use Rattle.lock_free.specs.Repairing.{HasStart};
 ghost use Rattle.lock_free.specs.Stocks.{IsStock};
 
@@ -34,6 +36,17 @@ pub enum Climbed {
     Full,
 }
 
+/// The entry of this position in the word of these halves.
+fn entry_in(pair: Pair, position: u32) -> Entry
+    ensures { result ≡ entry_of (half_in pair position) }
+{
+    if position % 2 == 0 {
+        Entry::of_half(pair.low)
+    } else {
+        Entry::of_half(pair.high)
+    }
+}
+
 /// Whether the entry at this position of the branch in the first slot is the indirection in the other one.
 fn leads_to(
     words: &Words,
@@ -51,13 +64,7 @@ fn leads_to(
     ensures compared { HasCompared actor.old.me.0 main position indirection result actor.new.me.0 }
 {
     let found = words.load::<Sees>(actor, 2 * main as usize + 1 + position as usize / 2);
-    let pair = Pair::of_word(found);
-    let half = if position % 2 == 0 {
-        pair.low
-    } else {
-        pair.high
-    };
-    Entry::of_half(half).slot == indirection
+    entry_in(Pair::of_word(found), position).slot == indirection
 }
 
 /// Whether the entry of this flag, in the branch with this bitmap in the first slot, is the indirection in the other one.
@@ -91,15 +98,23 @@ fn put(entries: &mut ArrayVec<Entry, 32>, place: usize, entry: Entry)
     entries[place] = entry;
 }
 
-/// Asks whether the root is still of the generation in which the operation began its try.
-fn is_same_root<R: Wait, A: AsksRoot>(
+/// Whether a tomb is made of these entries.
+fn entombs(may_entomb: bool, entries: &ArrayVec<Entry, 32>) -> bool
+    ensures { result ≡ (may_entomb && (length entries.now.items == 1)) }
+{
+    may_entomb && entries.len() == 1
+}
+
+/// Another main node stood in the parent, or the swap was refused: the climb tries again there, if the root is still of the generation
+/// in which the operation began its try.
+fn ask_again<R: Wait, A: AsksRoot>(
     rt: &R,
     asker: &A,
     words: &Words,
     actor: &mut Actor,
     way: Way,
     start: u64,
-) -> bool
+) -> Climbed
     requires table { actor.old.table_id ≡ words.now.table_id }
     requires sound { IsSound words.now.table_id.words actor.old.me.0 }
     requires way { IsOnWay actor.old.me.0 way }
@@ -109,7 +124,12 @@ fn is_same_root<R: Wait, A: AsksRoot>(
     ensures sound { IsSound words.now.table_id.words actor.new.me.0 }
     ensures asked { HasAskedAgain actor.old.me.0 result actor.new.me.0 }
 {
-    root(rt, asker, words, actor, way).generation == start
+    let rooted = root(rt, asker, words, actor, way);
+    if rooted.generation == start {
+        Climbed::Again
+    } else {
+        Climbed::Ends
+    }
 }
 
 /// Makes the parent's main node with these entries, and swaps it in where the one of this link and bitmap stands.
@@ -143,17 +163,16 @@ fn contract<R: Wait, A: AsksRoot>(
     let Some(fresh) = make_contracted(rt, words, actor, stock, may_entomb, bitmap, entries, over) else {
         return Climbed::Full;
     };
-    let swapped = swap_made(rt, asker, words, actor, stock, way, parent, link, fresh);
-    if let Swapped::Commits = swapped {
-        if may_entomb && entries.len() == 1 {
-            Climbed::Higher(single)
-        } else {
-            Climbed::Ends
+    match swap_made(rt, asker, words, actor, stock, way, parent, link, fresh) {
+        Swapped::Commits => {
+            if entombs(may_entomb, entries) {
+                Climbed::Higher(single)
+            } else {
+                Climbed::Ends
+            }
         }
-    } else if is_same_root(rt, asker, words, actor, way, start) {
-        Climbed::Again
-    } else {
-        Climbed::Ends
+        Swapped::Fails => ask_again(rt, asker, words, actor, way, start),
+        Swapped::Misses => ask_again(rt, asker, words, actor, way, start),
     }
 }
 

@@ -6,6 +6,7 @@ mod accounts;
 mod asking;
 mod calling;
 mod cleaning;
+mod climbing;
 mod closing;
 mod contracting;
 mod copying;
