@@ -135,6 +135,8 @@ mod CleanBranches
 mod CleanBelow
 mod RenewBranches
 mod SamePlaces
+mod ClimbLooks
+mod ClimbContracts
 mod CopyReads
 mod FirstState
 mod Opens

@@ -45,7 +45,7 @@ module _ (s t : State) (path : List Ref) (main : Ref) (same : node_at s.heap mai
       ap (λ x. if nat_lt (length done) (length (entries_of x)) then line.Clean (clean.Entry path main done)
       else (if pointwise nat_eq done (entries_of x) then new_try else line.Clean (clean.Contracted path main done))) same
 
-eqb_swap : (a b : ℕ) → (a == b) ≡ (b == a)
+pub eqb_swap : (a b : ℕ) → (a == b) ≡ (b == a)
 eqb_swap a b = by_test (a == b) refl
   where
     by_test : (c : Bool) → (a == b) ≡ c → (a == b) ≡ (b == a)

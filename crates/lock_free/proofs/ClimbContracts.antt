@@ -1,0 +1,244 @@
+-- CLIMB makes the parent's main node anew.
+use Rattle.std.proofs.Common.{◌≡◌, ◌<◌, ◌==◌, ◌&&◌, ℕ, Bool, true, false, List, [], ◌∷◌, length, length-set, slice_set, Option, None, Some, refl, sym, ap, ap₂, subst, ◌∙◌, arith, eq-eqb, eqb-true, ne_eqb}
+use Rattle.std.proofs.lemmas.Bool.{true≢false}
+use Rattle.nodes.specs.Builders.{contracted, renewed}
+use Rattle.trie_words.specs.declared.entries.Entry.{Entry}
+use Rattle.trie_words.specs.declared.headers.Previous.TheVariants as previous
+use Rattle.trie_words.specs.declared.links.Link.{Link}
+use Rattle.machine_model.specs.Beneath.slot_arena.specs.declared.refs.Ref.{Ref}
+use Rattle.machine_model.specs.Beneath.slot_arena.specs.declared.nodes.Node.{Node}
+use Rattle.machine_model.specs.Beneath.slot_arena.specs.declared.nodes.Node.TheVariants.{Branch, Tomb}
+use Rattle.machine_model.specs.Beneath.slot_arena.specs.Heaps.{no_ref, node_at, entries_of, bitmap_of}
+use Rattle.machine_model.specs.declared.actions.Action.TheVariants as act
+use Rattle.machine_model.specs.declared.lines.Line.{Line}
+use Rattle.machine_model.specs.declared.lines.Line.TheVariants as line
+use Rattle.machine_model.specs.declared.lines.Purpose.TheVariants as purpose
+use Rattle.machine_model.specs.declared.operations.Operation.{Operation}
+use Rattle.machine_model.specs.declared.repairs.Climb.{Climb}
+use Rattle.machine_model.specs.declared.repairs.ClimbLine.TheVariants as climb
+use Rattle.machine_model.specs.declared.roots.RootLine.TheVariants as root
+use Rattle.machine_model.specs.Calls.{changed_reply}
+use Rattle.machine_model.specs.Climbing.{climbed, climbing, higher, place_in}
+use Rattle.machine_model.specs.GivingUp.{given_up}
+use Rattle.machine_model.specs.Operations.{swapped, climbed_on}
+use Rattle.machine_model.specs.Paths.{above, current, is_below_root}
+use Rattle.lock_free.specs.declared.climbing.Climbed.{Climbed}
+use Rattle.lock_free.specs.declared.climbing.Climbed.TheVariants as outcome
+use Rattle.lock_free.specs.declared.reading.Way.{Way}
+use Rattle.lock_free.specs.declared.rules.View.{View}
+use Rattle.lock_free.specs.declared.swapping.Swapped.{Swapped}
+use Rattle.lock_free.specs.declared.swapping.Swapped.TheVariants.{Commits, Fails, Misses}
+use Rattle.lock_free.specs.Becoming.{Follows, HasBecome, HasNew, made_on}
+use Rattle.lock_free.specs.Climbs.{IsContracting, ContractsParent, HasContracted, ClimbedBy, IsAskingAgain, AskedBy, HasAskedAgain}
+use Rattle.lock_free.specs.Contracting.{IsAtContracted}
+use Rattle.lock_free.specs.GoingDown.{HasMoved}
+use Rattle.lock_free.specs.Holding.{IsOn}
+use Rattle.lock_free.specs.Loading.{now, Runs, IsSound}
+use Rattle.lock_free.specs.Nodes.{is_single}
+use Rattle.lock_free.specs.Passing.{IsOnWay}
+use Rattle.lock_free.specs.Repairing.{GivesUp, HasEndedBy, HasStart}
+use Rattle.lock_free.specs.SeenEntries.{AreEntriesTo, HasMadeNext, HasNewOrNone, IsOver}
+use Rattle.lock_free.specs.Stocks.{Stocked, IsStock, HasSwapped}
+use Rattle.lock_free.specs.Swaps.{IsAtSwap, is_done, swap_done}
+use Rattle.lock_free.proofs.BecomesOn.{stock_moved, start_become, way_become}
+use Rattle.lock_free.proofs.EntriesTo.{Used, entry_to_on}
+use Rattle.lock_free.proofs.Followings.{follows_self, follows_both, follows_later, become_both, used_on}
+use Rattle.lock_free.proofs.GoingOver.{as_many}
+use Rattle.lock_free.proofs.OnLines.{line_is}
+use Rattle.lock_free.proofs.Replaces.{at_make, is_over, is_swapping, at_swap, swap_way, swap_follows, swap_comes}
+
+abbrev no_climb : Climb
+no_climb = record { path = []; single = no_ref; former = None }
+
+abbrev contracted_parts : Line → Climb × Ref
+contracted_parts (line.Climb (climb.Contracted c main)) = (c, main)
+contracted_parts l = (no_climb, no_ref)
+
+-- where one alone is left, it is the one that was put there
+lone_put : (xs : List Ref) (k : ℕ) (x r : Ref) → k < length xs → slice_set xs k x ≡ r ∷ [] → r ≡ x
+lone_put [] k x r low is = absurd (omega (arith, low))
+lone_put (y ∷ []) k x r low is = one k low is
+  where
+    head : Ref → List Ref → Ref
+    head d [] = d
+    head d (z ∷ zs) = z
+
+    one : (k : ℕ) → k < 1 → slice_set (y ∷ []) k x ≡ r ∷ [] → r ≡ x
+    one k low is = sym (ap (head x) (ap (λ j. slice_set (y ∷ []) j x) (sym zero_is) ∙ is))
+      where
+        zero_is : k ≡ 0
+        zero_is = omega (arith, low)
+lone_put (y ∷ z ∷ zs) k x r low is = absurd (omega (arith, (ap length is), (length-set (y ∷ z ∷ zs) k x)))
+
+-- which of both is made
+tomb_made : (may : Bool) (bitmap : ℕ) (refs : List Ref) (x : Ref) → (may && (length refs == 1)) ≡ true → ((r : Ref) → refs ≡ r ∷ [] → r ≡ x) → contracted may bitmap refs ≡ Tomb x
+tomb_made true bitmap [] x is lone = absurd (true≢false (sym is))
+tomb_made true bitmap (r ∷ []) x is lone = ap Tomb (lone r refl)
+tomb_made true bitmap (r ∷ q ∷ rs) x is lone = absurd (omega (arith, (eqb-true (length (r ∷ q ∷ rs)) 1 is)))
+tomb_made false bitmap refs x is lone = absurd (true≢false (sym is))
+
+branch_made : (may : Bool) (bitmap : ℕ) (refs : List Ref) → (may && (length refs == 1)) ≡ false → contracted may bitmap refs ≡ renewed bitmap refs
+branch_made true bitmap [] is = refl
+branch_made true bitmap (r ∷ []) is = absurd (true≢false is)
+branch_made true bitmap (r ∷ q ∷ rs) is = refl
+branch_made false bitmap refs is = refl
+
+and_true : (b : Bool) → b ≡ (b && true)
+and_true true = refl
+and_true false = refl
+
+module _ (n : ℕ) (v0 : View) (sound0 : IsSound n v0) (parent : ℕ) (link : Link) (bitmap : ℕ) (entries : List Entry) (single : Entry) (may : Bool) (is_at : IsContracting v0 parent link bitmap entries single
+    may) where
+  abbrev c : Climb
+  c = is_at.0
+
+  abbrev main : Ref
+  main = is_at.1
+
+  abbrev l0 : Line
+  l0 = line.Climb (climb.Contracted c main)
+
+  abbrev at0 : IsOn v0 l0
+  at0 = is_at.2
+
+  abbrev k : ContractsParent v0 c main parent link bitmap entries single may
+  k = is_at.3
+
+  abbrev refs : List Ref
+  refs = slice_set k.refs.items k.place c.single
+
+  abbrev node : Node
+  node = contracted may bitmap refs
+
+  lone : (r : Ref) → refs ≡ r ∷ [] → r ≡ c.single
+  lone r is = lone_put k.refs.items k.place c.single r k.inside is
+
+  abbrev its : Operation
+  its = record at0.0 { is_marked = at0.1.0 }
+
+  abbrev makes : Bool → Node → ℕ → Node
+  makes b x place = contracted b (bitmap_of x) (slice_set (entries_of x) place c.single)
+
+  pub its_making : IsAtContracted v0 may bitmap entries
+  its_making = record {
+    refs = refs;
+    entombs = may;
+    making = at_make v0 l0 at0 (act.Make node) (ap act.Make (ap (λ p. makes (is_below_root (above c.path)) (node_at (now v0).heap main) p) (k.place_is its (at0.1.0, at0.1.1))
+        ∙ ap₂ (λ b x. makes b x k.place) k.below_is k.node));
+    names = k.entries_are;
+    lone = λ r is.
+        (let same = lone r is in
+        let alone : is_single (node_at (now v0).heap c.single) ≡ true = sym (ap (λ (x : Entry). x.is_single) k.names) ∙ k.alone in (
+          subst (λ x. Used v0 x) (sym same) k.used,
+          and_true may ∙ ap (λ b. may && b) (sym (ap (λ x. is_single (node_at (now v0).heap x)) same ∙ alone)),
+        ));
+  }
+
+  pub its_over : IsOver v0 (previous.Pending link.main)
+  its_over = is_over v0 l0 at0 (current (above c.path)) main link refl k.link_is
+
+  elsewhere : (result : Climbed) (w : View) → ClimbedBy v0 c result w → HasContracted v0 result w
+  elsewhere result w here d m other = subst (λ (x : Climb × Ref). ClimbedBy v0 x.0 result w) (ap contracted_parts (sym (line_is v0 l0 at0 other.0 other.1) ∙ other.2)) here
+
+  module _ (v1 : View) (result : Option ℕ) (made : HasMadeNext v0 result v1) where
+    new : HasNewOrNone v0 node result v1
+    unfolding its_making
+    new = made node its_making.making
+
+    pub gives_up : result ≡ None → HasContracted v0 outcome.Full v1
+    gives_up none =
+        let same : v1 ≡ v0 = subst (λ r. HasNewOrNone v0 node r v1) none new in
+        elsewhere outcome.Full v1 (subst (λ x. GivesUp (λ o. changed_reply o.call c.former) v0 x) (sym same) (record {
+          follows = follows_self v0;
+          runs = λ o runs. (o.private, o.line, runs, ap (λ l. given_up o.call l) (line_is v0 l0 at0 o runs));
+        }))
+
+    module _ (fresh : ℕ) (had : result ≡ Some fresh) where
+      it : HasNew v0 node fresh v1
+      it = subst (λ r. HasNewOrNone v0 node r v1) had new
+
+      pub its_swap : IsAtSwap v1 parent link fresh
+      its_swap = at_swap v0 l0 at0 (purpose.Climb c) (current (above c.path)) main node v1 fresh it (λ o. refl) parent link k.parent_at k.link_is
+
+      pub its_way : (way : Way) → IsOnWay v0 way → IsOnWay v1 way
+      its_way way on = swap_way v0 l0 at0 (purpose.Climb c) (current (above c.path)) main node v1 fresh it (λ o. refl) way on
+
+      module _ (r : Swapped) (v2 : View) (s : HasSwapped v1 r v2) where
+        follows2 : Follows v0 v2
+        follows2 = swap_follows v0 l0 at0 (purpose.Climb c) (current (above c.path)) main node v1 fresh it (λ o. refl) r v2 s
+
+        comes2 : (o : Operation) → Runs v0 o → Runs v2 (record o { private = []; line = swapped o node (purpose.Climb c) (is_done r) })
+        comes2 o runs = swap_comes v0 l0 at0 (purpose.Climb c) (current (above c.path)) main node v1 fresh it (λ o. refl) r v2 s o runs
+
+        ends : (next : Operation → Line) → ((o : Operation) → swapped o node (purpose.Climb c) (is_done r) ≡ next o) → HasEndedBy next v0 v2
+        ends next same = record { follows = follows2; comes = λ o runs. ([], subst (λ x. Runs v2 (record o { private = []; line = x })) (same o) (comes2 o runs)) }
+
+        module _ (commits : r ≡ Commits) where
+          done_so : (o : Operation) → swapped o node (purpose.Climb c) (is_done r) ≡ climbed_on o c node
+          done_so o = ap (λ q. swapped o node (purpose.Climb c) (is_done q)) commits
+
+          many : length entries ≡ length refs
+          many = as_many v0 entries refs k.entries_are
+
+          pub goes_higher : (may && (length entries == 1)) ≡ true → HasContracted v0 (outcome.Higher single) v2
+          goes_higher is =
+              let tomb = tomb_made may bitmap refs c.single (ap (λ x. may && (x == 1)) (sym many) ∙ is) lone in
+              elsewhere (outcome.Higher single) v2 (record {
+                one = c.single;
+                ended = ends (λ o. climbing o (higher c c.single)) (λ o. done_so o ∙ ap (climbed_on o c) tomb);
+                names = k.names ∙ sym (entry_to_on v0 v2 follows2 c.single k.used);
+                used = used_on v0 v2 follows2 c.single k.used;
+                alone = k.alone;
+              })
+
+          pub ends_there : (may && (length entries == 1)) ≡ false → HasContracted v0 outcome.Ends v2
+          ends_there is =
+              elsewhere outcome.Ends v2
+              (ends (λ o. climbed o c.former) (λ o. done_so o ∙ ap (climbed_on o c) (branch_made may bitmap refs (ap (λ x. may && (x == 1)) (sym many) ∙ is))))
+
+        module _ (fails : is_done r ≡ false) where
+          abbrev l2 : Line
+          l2 = line.Climb (climb.Root c root.Read)
+
+          next : Operation → Operation
+          next o = record o { private = []; line = l2 }
+
+          become2 : HasBecome (λ o. record o { private = []; line = l2 }) v0 v2
+          become2 = record { follows = follows2; comes = λ o runs. subst (λ x. Runs v2 (record o { private = []; line = swapped o node (purpose.Climb c) x })) fails (comes2 o runs) }
+
+          pub is_asking : IsAskingAgain v2
+          is_asking = (c, (record at0.0 { private = []; line = l2 }, become2.comes at0.0 at0.1, refl))
+
+          pub ask_way : (way : Way) → IsOnWay v0 way → IsOnWay v2 way
+          ask_way way on = way_become v0 v2 (λ o. record o { private = []; line = l2 }) become2 l0 at0 way (λ o. refl) (λ o. refl) on
+
+          pub ask_start : (start : ℕ) → HasStart v0 start → HasStart v2 start
+          ask_start start begun = start_become v0 v2 (λ o. record o { private = []; line = l2 }) become2 l0 at0 start (λ o. refl) begun
+
+          module _ (sound2 : IsSound n v2) (v3 : View) (asked : Climbed) (a : HasAskedAgain v2 asked v3) where
+            at2 : IsOn v2 l2
+            at2 = (record at0.0 { private = []; line = l2 }, become2.comes at0.0 at0.1, refl)
+
+            by_moves : (f : Operation → Line) → ((o : Operation) → f (record o { private = []; line = l2 }) ≡ f o) → HasMoved f v2 v3 → HasEndedBy f v0 v3
+            by_moves f same m = record {
+              follows = follows_both v0 v2 v3 follows2 (follows_later v2 v3 m.later);
+              comes = λ o runs. ([], subst (λ x. Runs v3 (record o { private = []; line = x })) (same o) (m.comes (record o { private = []; line = l2 }) (become2.comes o runs)));
+            }
+
+            ended_by : (x : Climbed) → AskedBy v2 c x v3 → ClimbedBy v0 c x v3
+            ended_by outcome.Again m = by_moves (λ o. climbing o c) (λ o. refl) m
+            ended_by outcome.Ends m = by_moves (λ o. climbed o c.former) (λ o. refl) m
+            ended_by (outcome.Higher e) m = absurd m
+            ended_by outcome.Full m = absurd m
+
+            pub asked_there : HasContracted v0 asked v3
+            asked_there = elsewhere asked v3 (ended_by asked (a c at2))
+
+            stock_by : (stock : Stocked) → IsStock stock v2 → (x : Climbed) → AskedBy v2 c x v3 → IsStock stock v3
+            stock_by stock is outcome.Again m = stock_moved n v2 v3 sound2 l2 at2 (λ o. climbing o c) m stock is
+            stock_by stock is outcome.Ends m = stock_moved n v2 v3 sound2 l2 at2 (λ o. climbed o c.former) m stock is
+            stock_by stock is (outcome.Higher e) m = absurd m
+            stock_by stock is outcome.Full m = absurd m
+
+            pub asked_stock : (stock : Stocked) → IsStock stock v2 → IsStock stock v3
+            asked_stock stock is = stock_by stock is asked (a c at2)
