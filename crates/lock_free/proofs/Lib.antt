@@ -137,6 +137,7 @@ mod RenewBranches
 mod SamePlaces
 mod ClimbLooks
 mod ClimbContracts
+mod ClimbBranches
 mod CopyReads
 mod FirstState
 mod Opens
