@@ -138,6 +138,7 @@ mod SamePlaces
 mod ClimbLooks
 mod ClimbContracts
 mod ClimbBranches
+mod ClimbOver
 mod CopyReads
 mod FirstState
 mod Opens
