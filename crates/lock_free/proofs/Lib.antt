@@ -139,6 +139,7 @@ mod ClimbLooks
 mod ClimbContracts
 mod ClimbBranches
 mod ClimbOver
+mod ClimbsUp
 mod CopyReads
 mod FirstState
 mod Opens

@@ -36,6 +36,7 @@ pub use accounts::{Account, Known, Owned};
 pub use asking::{Named, ask_word, see_generation};
 pub use calling::{Denial, Started, begin, give_up, try_begin};
 pub use cleaning::clean_below;
+pub use climbing::climb;
 pub use closing::{Shut, close_handle};
 pub use copying::{complete_own, read_original};
 pub use entries::see_entries;
