@@ -23,10 +23,19 @@ use Rattle.lock_free.specs.Loading.{now, seen, Runs, IsAt, IsSound, Went}
 use Rattle.lock_free.specs.Passing.{Later}
 use Rattle.lock_free.proofs.Asked.{line_stands}
 use Rattle.lock_free.proofs.Comings.{runs_one}
+use Rattle.lock_free.proofs.Laters.{later_both}
 
 -- keys are hashed the same way at all times
 pub hash_is : (sizes : Sizes) (account : Account) → (state_of sizes account).limits.hash ≡ sizes.hash
 hash_is sizes account = ap (λ l. l.hash) (limits_along (bounds_for sizes account.steps) account.steps)
+
+-- a line of KEY is one
+abbrev key_line_in : KeyLine → Line → KeyLine
+key_line_in other (line.Key l) = l
+key_line_in other l = other
+
+pub key_of_line : {a b : KeyLine} → line.Key a ≡ line.Key b → a ≡ b
+key_of_line {a} is = ap (key_line_in a) is
 
 -- a look changes the line alone
 by_action : State → Operation → Line → Action → Operation
@@ -70,3 +79,11 @@ module _ (v : View) (l : KeyLine) (at : IsAtKey v l) where
               there.0,
               went.took o_there there.1 ∙ ap Some (key_step state o_there l r (line_is o (mark, runs)) looks ∙ ap (λ z. record o_there { line = z }) (is o there.0 (mark, runs))),
             )
+
+-- ---- to a line that is known
+
+pub moved_as : (v w : View) (f g : Operation → Line) → HasMoved f v w → ((o : Operation) → Runs v o → f o ≡ g o) → HasMoved g v w
+moved_as v w f g m is = record { later = m.later; comes = λ o r. subst (λ x. Runs w (record o { line = x })) (is o r) (m.comes o r) }
+
+pub moved_on : (u v w : View) (f : Operation → Line) (l : Line) → HasMoved f u v → HasMoved (λ o. l) v w → HasMoved (λ o. l) u w
+moved_on u v w f l p q = record { later = later_both u v w p.later q.later; comes = λ o r. q.comes (record o { line = f o }) (p.comes o r) }

@@ -74,10 +74,10 @@ mod MarkStep
 mod PassStep
 mod CloseStep
 mod KeyMoves
+mod KeyHolds
 mod MainLooks
+mod Holding
 mod EntryLooks
 mod EntryMeets
 mod LinkMeets
 mod ReadTurns
-mod EntryTurns
-mod Levels

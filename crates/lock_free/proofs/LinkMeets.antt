@@ -18,16 +18,22 @@ use Rattle.machine_model.specs.States.{State}
 use Rattle.proof_memory.specs.Wants.{is_entry}
 use Rattle.lock_free.specs.declared.accounts.Account.{Account}
 use Rattle.lock_free.specs.declared.rules.View.{View}
-use Rattle.lock_free.specs.GoingDown.{IsAtKey, HasMoved, entry_in, IsAtNode, line_below, HasMetLink}
+use Rattle.lock_free.specs.Entries.{entry_in}
+use Rattle.lock_free.specs.GoingDown.{IsAtKey, HasMoved, IsAtBelow, line_below, HasMetLink}
 use Rattle.lock_free.specs.Loading.{now, seen, IsUsed, IsSound, IsAtSlot, HasLink, HasLookedAtLink}
 use Rattle.lock_free.specs.Nodes.{is_single}
 use Rattle.lock_free.specs.Passing.{Later}
-use Rattle.lock_free.proofs.EntryLooks.{entry_same}
-use Rattle.lock_free.proofs.EntryMeets.{parts_of}
+use Rattle.lock_free.proofs.EntryLooks.{node_stays}
 use Rattle.lock_free.proofs.GivenBack.{node_is}
+use Rattle.lock_free.proofs.KeyHolds.{looks_in_entry}
 use Rattle.lock_free.proofs.KeyMoves.{line_is, at_look, finds_now, moved}
 use Rattle.lock_free.proofs.Laters.{went_later, waited_later}
 use Rattle.lock_free.proofs.OneStep.Entries.{entry_stands}
+
+-- which entry a line is at
+abbrev parts_of : Line → List Ref × Ref × ℕ
+parts_of (line.Key (key.Entry path main position)) = (path, main, position)
+parts_of l = ([], no_ref, 0)
 
 -- an entry that is no single is an indirection
 link_of : (node : Node) → is_entry node ≡ true → is_single node ≡ false → (generation : ℕ) × (main : Ref) × (node ≡ Indirection generation main)
@@ -37,7 +43,7 @@ link_of (Branch bitmap entries) is no_single = absurd (true≢false (sym is))
 link_of (Tomb single) is no_single = absurd (true≢false (sym is))
 link_of (Listed singles) is no_single = absurd (true≢false (sym is))
 
-module _ (n : ℕ) (before after : View) (sound : IsSound n before) (name : ℕ) (is_at : IsAtNode before name false) where
+module _ (n : ℕ) (before after : View) (sound : IsSound n before) (name : ℕ) (is_at : IsAtBelow before name) where
   abbrev path : List Ref
   path = is_at.0
 
@@ -72,7 +78,7 @@ module _ (n : ℕ) (before after : View) (sound : IsSound n before) (name : ℕ)
     later = waited_later n before sound account g.0.waited
 
     main_then : node_at state.heap main ≡ node_at (now before).heap main
-    main_then = entry_same before (seen before account) later path main position n sound at
+    main_then = let looks = looks_in_entry before path main position at n sound in node_stays before (seen before account) later main looks.slot looks.used looks.is_main
 
     entry_then : entry_at state.heap main position ≡ e
     entry_then = ap (λ x. get_or (entries_of x) position no_ref) main_then

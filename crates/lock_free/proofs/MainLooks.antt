@@ -1,6 +1,7 @@
 -- KEY's look at a main node.
-use Rattle.std.proofs.Common.{ltb-true, count_ones, ◌≡◌, ◌<◌, ◌^◌, ◌*◌, ℕ, Bool, true, false, List, [], refl, sym, ap, subst, ◌∙◌, arith, if◌then◌else◌}
+use Rattle.std.proofs.Common.{ltb-true, count_ones, ◌≡◌, ◌<◌, ◌^◌, ◌*◌, ℕ, Bool, true, false, List, [], ◌∷◌, Contains, get_or, Some, refl, sym, ap, subst, ◌∙◌, arith, if◌then◌else◌}
 use Rattle.std.proofs.lemmas.Bool.{le-leb}
+use Rattle.std.proofs.lemmas.List.Elements.{Contains-append_left, Contains-get_or}
 use Rattle.trie_words.specs.Codes.{IsShape}
 use Rattle.trie_words.specs.declared.entries.Entry.{Entry}
 use Rattle.trie_words.specs.declared.headers.Header.{Header}
@@ -10,7 +11,8 @@ use Rattle.machine_model.specs.Beneath.ctrie_base.specs.Paths.{index_at, positio
 use Rattle.machine_model.specs.Beneath.slot_arena.specs.declared.refs.Ref.{Ref}
 use Rattle.machine_model.specs.Beneath.slot_arena.specs.declared.nodes.Node.{Node}
 use Rattle.machine_model.specs.Beneath.slot_arena.specs.declared.nodes.Node.TheVariants.{Branch, Tomb, List as Listed}
-use Rattle.machine_model.specs.Beneath.slot_arena.specs.Heaps.{no_ref}
+use Rattle.machine_model.specs.Beneath.slot_arena.specs.Heaps.{no_ref, node_at, entries_of, refs_of_node, refs_of_slot, refs_of_prev}
+use Rattle.machine_model.specs.Beneath.slot_arena.specs.declared.nodes.Slot.{Slot}
 use Rattle.machine_model.specs.Beneath.slot_arena.specs.Refs.{slot_of}
 use Rattle.machine_model.specs.declared.finding.KeyLine.TheVariants as key
 use Rattle.machine_model.specs.declared.lines.Line.{Line}
@@ -22,7 +24,7 @@ use Rattle.machine_model.specs.Beneath.ctrie_base.specs.Hashes.{hash_of}
 use Rattle.machine_model.specs.Paths.{depth_of, flag_in}
 use Rattle.machine_model.specs.States.{State}
 use Rattle.nodes.specs.Levels.{has_flag}
-use Rattle.proof_memory.specs.Wants.{is_main_node, flag_on}
+use Rattle.proof_memory.specs.Wants.{is_list, is_main_node, flag_on}
 use Rattle.proof_memory.proofs.Claims.Uses.{safe_of, meets_of}
 use Rattle.proof_memory.proofs.Heap.Ones.{ones_most}
 use Rattle.proof_memory.proofs.Lines.Shared.{position_within}
@@ -30,8 +32,10 @@ use Rattle.lock_free.specs.declared.accounts.Account.{Account}
 use Rattle.lock_free.specs.declared.finding.Turn.{Turn}
 use Rattle.lock_free.specs.declared.finding.Turn.TheVariants as turn
 use Rattle.lock_free.specs.declared.rules.View.{View}
-use Rattle.lock_free.specs.GoingDown.{IsAtKey, HasMoved, IsAtMain, line_at, HasTurned}
-use Rattle.lock_free.specs.Loading.{now, seen, Runs, IsSound, Went, HasHeader, HasLookedAtMain}
+use Rattle.lock_free.specs.Accounts.{place_of}
+use Rattle.lock_free.specs.GoingDown.{IsAtKey, HasMoved, IsAtMain, line_at, Tells, HasTurned}
+use Rattle.lock_free.specs.Loading.{now, seen, Runs, Stores, IsUsed, IsSound, Went, HasHeader, HasLookedAtMain}
+use Rattle.lock_free.specs.Passing.{IsPlaced}
 use Rattle.lock_free.specs.Nodes.{SaysShape, of_branch, of_tomb, of_list}
 use Rattle.lock_free.specs.Places.{words_of}
 use Rattle.lock_free.proofs.Asked.{live_in_use}
@@ -46,6 +50,10 @@ kind_in (shape.Branch bitmap) = 0
 kind_in (shape.Tomb entry) = 1
 kind_in (shape.List count) = 2
 
+abbrev slot_in : Shape → ℕ
+slot_in (shape.Tomb entry) = entry.slot
+slot_in s = 0
+
 abbrev bitmap_in : Shape → ℕ
 bitmap_in (shape.Branch bitmap) = bitmap
 bitmap_in s = 0
@@ -56,9 +64,9 @@ module _ (account : Account) (k : ℕ) where
   branch_says n s bitmap e (of_tomb single own is) = absurd (omega (arith, (ap kind_in e)))
   branch_says n s bitmap e (of_list singles) = absurd (omega (arith, (ap kind_in e)))
 
-  tomb_says : (n : Node) (s : Shape) (entry : Entry) → s ≡ shape.Tomb entry → SaysShape account k n s → (single : Ref) × (n ≡ Tomb single)
+  tomb_says : (n : Node) (s : Shape) (entry : Entry) → s ≡ shape.Tomb entry → SaysShape account k n s → (single : Ref) × (n ≡ Tomb single) × (place_of account single ≡ entry.slot)
   tomb_says n s entry e (of_branch b entries) = absurd (omega (arith, (ap kind_in e)))
-  tomb_says n s entry e (of_tomb single own is) = (single, refl)
+  tomb_says n s entry e (of_tomb single own is) = (single, refl, ap slot_in e)
   tomb_says n s entry e (of_list singles) = absurd (omega (arith, (ap kind_in e)))
 
   list_says : (n : Node) (s : Shape) (count : ℕ) → s ≡ shape.List count → SaysShape account k n s → (singles : _) × (n ≡ Listed singles)
@@ -115,10 +123,17 @@ module _ (n m : ℕ) (before after : View) (sound : IsSound n before) (last : Is
   by_flag bitmap f o = if has_flag bitmap f then line.Key (key.Entry path main (position_of f bitmap)) else absent o path main
 
   -- it is at no other one
-  elsewhere : (t : Turn) → HasMoved (line_at path main t) before after → HasTurned before t after
-  elsewhere t moves p q other =
+  elsewhere : (t : Turn) → HasMoved (line_at path main t) before after → Tells after main t → HasTurned before t after
+  elsewhere t moves tells p q other =
       let same = ap place_in (sym (line_is before (key.Main path main) at other.0 other.1) ∙ other.2) in
-      subst (λ (x : List Ref × Ref). HasMoved (line_at x.0 x.1 t) before after) same moves
+      subst (λ (x : List Ref × Ref). HasMoved (line_at x.0 x.1 t) before after × Tells after x.1 t) same (moves, tells)
+
+  -- what stood there stands there after the step
+  stays : (r : Ref) (slot : Slot) → Stores state r slot → IsUsed after r slot
+  stays r slot is = (g.1 main (at_look before (key.Main path main) at main refl)).1 (slot_of r) ∙ is
+
+  main_after : node_at (now after).heap main ≡ h.slot.node
+  main_after = node_is (now after) main h.slot (stays main h.slot h.stores)
 
   module _ (bitmap : ℕ) (e : header.shape ≡ shape.Branch bitmap) where
     says : (entries : _) × (h.slot.node ≡ Branch bitmap entries)
@@ -129,7 +144,7 @@ module _ (n m : ℕ) (before after : View) (sound : IsSound n before) (last : Is
         elsewhere (turn.Entry position) (comes_by (Branch bitmap says.0) (line_at path main (turn.Entry position)) says.1
         (λ o mark runs.
         ap (λ f. by_flag bitmap f o) (flag_is o runs) ∙ ap (λ (b : Bool). if b then line.Key (key.Entry path main (position_of flag bitmap)) else absent o path main) has
-        ∙ ap (λ p. line.Key (key.Entry path main p)) (sym is)))
+        ∙ ap (λ p. line.Key (key.Entry path main p)) (sym is))) tt
 
     pub within : (position : ℕ) → position ≡ position_of flag bitmap → has_flag bitmap flag ≡ true → position < 32
     within position is has =
@@ -143,14 +158,21 @@ module _ (n m : ℕ) (before after : View) (sound : IsSound n before) (last : Is
     finds_none has =
         elsewhere turn.Absent (comes_by (Branch bitmap says.0) (line_at path main turn.Absent) says.1
         (λ o mark runs.
-        ap (λ f. by_flag bitmap f o) (flag_is o runs) ∙ ap (λ (b : Bool). if b then line.Key (key.Entry path main (position_of flag bitmap)) else absent o path main) has))
+        ap (λ f. by_flag bitmap f o) (flag_is o runs) ∙ ap (λ (b : Bool). if b then line.Key (key.Entry path main (position_of flag bitmap)) else absent o path main) has)) tt
 
-  pub at_tomb : (entry : Entry) → header.shape ≡ shape.Tomb entry → HasTurned before turn.Tomb after
+  pub at_tomb : (entry : Entry) → header.shape ≡ shape.Tomb entry → HasTurned before (turn.Tomb entry.slot) after
   at_tomb entry e =
       let says = tomb_says account (slot_of main) h.slot.node header.shape entry e h.is_shape in
-      elsewhere turn.Tomb (comes_by (Tomb says.0) (line_at path main turn.Tomb) says.1 (λ o mark runs. refl))
+      let names : Contains (refs_of_slot (Some h.slot)) says.0 =
+      Contains-append_left (refs_of_node h.slot.node) (refs_of_prev h.slot.prev) says.0
+      (subst (λ x. Contains (refs_of_node x) says.0) (sym says.1) (Contains-get_or (says.0 ∷ []) 0 says.0 (omega arith))) in
+      let used = h.used says.0 names in
+      let placed : IsPlaced after says.0 entry.slot =
+      ((used.0, stays says.0 used.0 used.1), ap (λ (x : View). place_of x.account says.0) w.after_is ∙ says.2) in
+      elsewhere (turn.Tomb entry.slot) (comes_by (Tomb says.0) (line_at path main (turn.Tomb entry.slot)) says.1 (λ o mark runs. refl))
+      (subst (λ r. IsPlaced after r entry.slot) (sym (ap (λ x. get_or (entries_of x) 0 no_ref) (main_after ∙ says.1))) placed)
 
   pub at_list : (count : ℕ) → header.shape ≡ shape.List count → HasTurned before turn.List after
   at_list count e =
       let says = list_says account (slot_of main) h.slot.node header.shape count e h.is_shape in
-      elsewhere turn.List (comes_by (Listed says.0) (line_at path main turn.List) says.1 (λ o mark runs. refl))
+      elsewhere turn.List (comes_by (Listed says.0) (line_at path main turn.List) says.1 (λ o mark runs. refl)) (ap is_list (main_after ∙ says.1))

@@ -29,7 +29,7 @@ line_same : (path : List Ref) (main : Ref) (t : Turn) (o : Operation) (l : Line)
 line_same path main (turn.Entry position) o l = refl
 line_same path main turn.Absent o l = refl
 line_same path main turn.List o l = refl
-line_same path main turn.Tomb o l = refl
+line_same path main (turn.Tomb single) o l = refl
 
 -- which path it reads on
 abbrev path_in : Line → List Ref
@@ -85,7 +85,7 @@ module _ (before middle : View) (name flag : ℕ) (is_at : IsAtLink before name 
 
     module _ (after : View) (t : Turn) (turned : HasTurned middle t after) where
       moves : HasMoved (line_at path main t) middle after
-      moves = turned path main at_main
+      moves = (turned path main at_main).0
 
       pub read_turned : HasReadKey before (given, t) after
       read_turned q j other =
@@ -98,6 +98,7 @@ module _ (before middle : View) (name flag : ℕ) (is_at : IsAtLink before name 
                     main);
               }) (comes o r));
             };
+            tells = (turned path main at_main).1;
             link = link_later middle after moves.later i main given.link gives.link;
             header = main_later middle after moves.later main given.header gives.header;
           } in

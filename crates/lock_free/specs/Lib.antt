@@ -20,6 +20,8 @@ pub mod OfferWords
 pub mod HandleWords
 pub mod OfReads
 pub mod Passing
+pub mod Entries
 pub mod Swaps
 pub mod SeatWords
 pub mod GoingDown
+pub mod Descending

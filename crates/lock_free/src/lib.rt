@@ -3,6 +3,8 @@
 #![tactic(auto)]
 
 mod accounts;
+mod descending;
+mod entries;
 mod exchanges;
 mod finding;
 mod handles;
@@ -14,10 +16,12 @@ mod rules;
 mod sizes;
 mod stores;
 mod swapping;
+mod tasks;
 
 pub use accounts::{Account, Known, Owned};
 pub use exchanges::{decide, publish, restore};
-pub use finding::{Entered, Level, Met, go_down};
+pub use descending::{Found, Path, descend};
+pub use entries::see_entry;
 pub use handles::{close, enter, mark, see_root};
 pub use loads::{
     Actor, Words, look_at_key, look_at_link, look_at_main, look_at_value, read_header, read_link,
@@ -33,3 +37,4 @@ pub use rules::{
 pub use sizes::Sizes;
 pub use stores::{Tried, draft, make, make_root, try_take};
 pub use swapping::{Swapped, swap};
+pub use tasks::Task;
