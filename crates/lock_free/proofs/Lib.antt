@@ -81,3 +81,5 @@ mod EntryLooks
 mod EntryMeets
 mod LinkMeets
 mod ReadTurns
+mod Counts
+mod OnLines

@@ -25,3 +25,4 @@ pub mod Swaps
 pub mod SeatWords
 pub mod GoingDown
 pub mod Descending
+pub mod Holding

@@ -8,9 +8,8 @@ ghost use Rattle.lock_free.specs.declared.descending.Found.TheVariants as what;
 ghost use Rattle.lock_free.specs.Descending.{absent_found, entries_in, HasFound, HasPassedLevel, IsAtEntry, IsAtList, IsAtSibling, IsAtTomb, IsFoundAt, IsHere, IsOnPath, IsRemovingAt, IsTask};
 ghost use Rattle.lock_free.specs.Loading.{IsSound};
 
-use crate::entries::see_entry;
 use crate::finding::{Met, Turn, meet_link, meet_single, read_turn};
-use crate::loads::{Actor, Words, look_at_key, look_at_link};
+use crate::loads::{Actor, Words, look_at_key, look_at_link, see_entry};
 use crate::reading::{AsksRoot, Given};
 use crate::tasks::{Task, absent_reply, inserts, when_found};
 use arrayvec::ArrayVec;

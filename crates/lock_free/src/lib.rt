@@ -4,7 +4,6 @@
 
 mod accounts;
 mod descending;
-mod entries;
 mod exchanges;
 mod finding;
 mod handles;
@@ -21,11 +20,10 @@ mod tasks;
 pub use accounts::{Account, Known, Owned};
 pub use exchanges::{decide, publish, restore};
 pub use descending::{Found, Path, descend};
-pub use entries::see_entry;
 pub use handles::{close, enter, mark, see_root};
 pub use loads::{
     Actor, Words, look_at_key, look_at_link, look_at_main, look_at_value, read_header, read_link,
-    see_key, see_link, see_main, see_pair, see_value,
+    see_entry, see_key, see_link, see_main, see_pair, see_value,
 };
 pub use offers::{abort, complete};
 pub use pins::{finish, pass, pin, unpin};

@@ -1,7 +1,7 @@
 use Rattle.std.proofs.Common.{sym, ap, ◌∙◌, ◌%◌, Bool, if◌then◌else◌, eq-eqb, ne_eqb}
 use Rattle.trie_words.specs.Codes.{entry_of}
 use Rattle.lock_free.proofs.EntryLooks.{sees}
-use Rattle.lock_free.proofs.entries.see_entry.Goals as goal
+use Rattle.lock_free.proofs.loads.see_entry.Goals as goal
 
 pub returns-then-position-eq0-clause-seen : goal.returns-then-position-eq0-clause-seen
 returns-then-position-eq0-clause-seen c =
