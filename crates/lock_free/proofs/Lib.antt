@@ -83,3 +83,7 @@ mod LinkMeets
 mod ReadTurns
 mod Counts
 mod OnLines
+mod Crowds
+mod Descents
+mod Siblings
+mod Removals

@@ -1,5 +1,5 @@
 -- KEY as a whole: the way down to a key, from the root to what it comes to.
-use Rattle.std.specs.Prelude.{◌≡◌, ◌<◌, ◌&&◌, ℕ, nat_le, nat_lt, true, List, [], ◌∷◌, count_ones, length, Some, None, if◌then◌else◌}
+use Rattle.std.specs.Prelude.{◌≡◌, ◌<◌, ◌==◌, ◌&&◌, ℕ, nat_le, nat_lt, true, List, [], ◌∷◌, count_ones, length, Some, None, if◌then◌else◌}
 use Rattle.history.specs.declared.calls.Access.{Access}
 use Rattle.history.specs.declared.calls.Call.{Call}
 use Rattle.history.specs.declared.replies.Reply.TheVariants as reply
@@ -25,6 +25,8 @@ use Rattle.machine_model.specs.Reading.{reading}
 use Rattle.proof_memory.specs.Wants.{is_list}
 use Rattle.lock_free.specs.declared.descending.Found.{Found}
 use Rattle.lock_free.specs.declared.descending.Found.TheVariants as found
+use Rattle.lock_free.specs.declared.descending.Rest.{Rest}
+use Rattle.lock_free.specs.declared.descending.Rest.TheVariants as rest
 use Rattle.lock_free.specs.declared.descending.Stage.{Stage}
 use Rattle.lock_free.specs.declared.descending.Stage.TheVariants as stage
 use Rattle.lock_free.specs.declared.tasks.Task.{Task}
@@ -32,6 +34,7 @@ use Rattle.lock_free.specs.declared.reading.Given.{Given}
 use Rattle.lock_free.specs.declared.rules.View.{View}
 use Rattle.lock_free.specs.Entries.{entry_in}
 use Rattle.lock_free.specs.GoingDown.{HasMoved, IsAtKey}
+use Rattle.lock_free.specs.Holding.{IsOn}
 use Rattle.lock_free.specs.Loading.{now, Runs}
 use Rattle.lock_free.specs.Passing.{IsPlaced, KnowsLink, KnowsMain}
 
@@ -60,10 +63,6 @@ pub record IsPlace (v : View) (slots : List ℕ) (given : Given) (path : List Re
   pub link : KnowsLink v (current path) main given.link
   pub header : KnowsMain v main given.header
 
--- the operation is on this line
-abbrev pub IsOnLine : View → Line → Type 0
-IsOnLine v l = (operation : Operation) × Runs v operation × (operation.line ≡ l)
-
 -- it is there, by the path and the main node
 abbrev pub IsHere : View → List ℕ → Given → (List Ref → Ref → Type 0) → Type 0
 IsHere v slots given At = (path : List Ref) × (main : Ref) × IsPlace v slots given path main × At path main
@@ -73,6 +72,12 @@ abbrev pub entries_in : Shape → ℕ
 entries_in (shape.Branch bitmap) = count_ones bitmap
 entries_in (shape.Tomb single) = 1
 entries_in (shape.List count) = count
+
+-- what is left in it without one of them, in the last of so many indirections
+abbrev pub rest_in : Shape → ℕ → Rest
+rest_in (shape.Branch bitmap) indirections = if nat_lt 1 indirections && (count_ones bitmap == 2) then rest.Entry else rest.Any
+rest_in (shape.Tomb single) indirections = rest.Any
+rest_in (shape.List count) indirections = if count == 2 then rest.Single else rest.Any
 
 abbrev pub IsInside : View → Ref → ℕ → Type 0
 IsInside v main position = position < length (entries_of (node_at (now v).heap main))
@@ -101,15 +106,15 @@ IsAtList v path main = (is_list (node_at (now v).heap main) ≡ true) × IsAtKey
 
 -- a tomb, whose single is in this slot
 abbrev pub IsAtTomb : View → Access → ℕ → List Ref → Ref → Type 0
-IsAtTomb v access single path main = IsPlaced v (entry_in v main 0) single × IsOnLine v (after_tomb access path main)
+IsAtTomb v access single path main = IsPlaced v (entry_in v main 0) single × IsOn v (after_tomb access path main)
 
 -- its key stands at this position, with this value
 abbrev pub IsFoundAt : View → Call → ℕ → ℕ → List Ref → Ref → Type 0
-IsFoundAt v call position value path main = IsInside v main position × IsOnLine v (found_so (now v) path main position value (when_found call value))
+IsFoundAt v call position value path main = IsInside v main position × IsOn v (found_so (now v) path main position value (when_found call value))
 
 -- and is to be taken out
 abbrev pub IsRemovingAt : View → ℕ → ℕ → List Ref → Ref → Type 0
-IsRemovingAt v position former path main = IsInside v main position × IsOnLine v (removing (now v) path main position former (node_at (now v).heap main))
+IsRemovingAt v position former path main = IsInside v main position × IsOn v (removing (now v) path main position former (node_at (now v).heap main))
 
 -- of two entries
 abbrev pub IsAtSibling : View → ℕ → ℕ → List Ref → Ref → Type 0

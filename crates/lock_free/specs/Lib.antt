@@ -24,5 +24,5 @@ pub mod Entries
 pub mod Swaps
 pub mod SeatWords
 pub mod GoingDown
-pub mod Descending
 pub mod Holding
+pub mod Descending

@@ -5,7 +5,7 @@ ghost use Rattle.history.specs.declared.replies.Reply.TheVariants as reply;
 ghost use Rattle.machine_model.specs.declared.building.Site.TheVariants as place;
 ghost use Rattle.machine_model.specs.Calls.{inserts};
 ghost use Rattle.lock_free.specs.declared.descending.Found.TheVariants as what;
-ghost use Rattle.lock_free.specs.Descending.{absent_found, entries_in, HasFound, HasPassedLevel, IsAtEntry, IsAtList, IsAtSibling, IsAtTomb, IsFoundAt, IsHere, IsOnPath, IsRemovingAt, IsTask};
+ghost use Rattle.lock_free.specs.Descending.{absent_found, entries_in, rest_in, HasFound, HasPassedLevel, IsAtEntry, IsAtList, IsAtSibling, IsAtTomb, IsFoundAt, IsHere, IsOnPath, IsRemovingAt, IsTask};
 ghost use Rattle.lock_free.specs.Loading.{IsSound};
 
 use crate::finding::{Met, Turn, meet_link, meet_single, read_turn};
@@ -131,6 +131,40 @@ fn remove_beside(
     }
 }
 
+/// What is left in a main node without one of its entries.
+#[derive(Clone, Copy, Drop)]
+pub enum Rest {
+    /// The other entry of a branch alone, below the root.
+    Entry,
+    /// The other single of a list alone.
+    Single,
+    /// Anything else.
+    Any,
+}
+
+/// What is left in a main node of this shape, in the last of this many indirections.
+fn rest_in(shape: Shape, indirections: usize) -> Rest
+    ensures { result ≡ rest_in shape indirections }
+{
+    match shape {
+        Shape::Branch(bitmap) => {
+            if indirections > 1 && bitmap.count_ones() == 2 {
+                Rest::Entry
+            } else {
+                Rest::Any
+            }
+        }
+        Shape::List(count) => {
+            if count == 2 {
+                Rest::Single
+            } else {
+                Rest::Any
+            }
+        }
+        Shape::Tomb(_) => Rest::Any,
+    }
+}
+
 /// Takes the key at this position, which has this value, out of the main node.
 fn remove(
     words: &Words,
@@ -147,17 +181,14 @@ fn remove(
     ensures sound { IsSound words.now.table_id.words actor.new.me.0 }
     ensures found { HasFound actor.old.me.0 path.now result actor.new.me.0 }
 {
-    let leaves_one = entries_in(given.header.shape) == 2;
-    match given.header.shape {
-        Shape::Branch(_) if leaves_one && path.len() > 1 => {
-            remove_beside(words, actor, path, given, position, former)
-        }
-        Shape::List(_) if leaves_one => Found::Entombs {
+    match rest_in(given.header.shape, path.len()) {
+        Rest::Entry => remove_beside(words, actor, path, given, position, former),
+        Rest::Single => Found::Entombs {
             single: see_entry(words, actor, given.link.main.slot, 1 - position as u32),
             former,
             given,
         },
-        _ => Found::Removes {
+        Rest::Any => Found::Removes {
             position,
             former,
             given,

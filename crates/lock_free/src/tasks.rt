@@ -1,6 +1,6 @@
 //! What a try of a call on a key goes by.
 
-ghost use Rattle.std.specs.Prelude.{◌≡◌};
+ghost use Rattle.std.specs.Prelude.{◌≡◌, ◌==◌};
 ghost use Rattle.machine_model.specs.Beneath.ctrie_base.specs.Hashes.{hash_of};
 ghost use Rattle.machine_model.specs.Calls.{absent_reply, handle_of, inserts, key_of, when_found};
 ghost use Rattle.machine_model.specs.Finding.{passes};
