@@ -87,3 +87,4 @@ mod Crowds
 mod Descents
 mod Siblings
 mod Removals
+mod KeyFound

@@ -1,16 +1,11 @@
-use Rattle.std.proofs.Common.{rules, ◌≡◌, ◌<◌, ◌&&◌, nat_le, length, if◌then◌else◌, ℕ, ◌+◌, ◌-◌, ◌*◌, ◌≤◌, ◌/◌, ◌%◌, Bool, true, false, nat_eq, nat_lt, List, [], ◌∷◌, ◌++◌, slice_index_or, slice_set, bit_and, bit_or, Fits, w8, w32, w64, Bor, MutBor}
-use Rattle.history.specs.declared.replies.Reply.TheVariants as reply
-use Rattle.machine_model.specs.declared.building.Site.TheVariants as place
-use Rattle.machine_model.specs.Calls.{inserts}
-use Rattle.lock_free.specs.declared.descending.Found.TheVariants as what
-use Rattle.lock_free.specs.Descending.{absent_found, entries_in, rest_in, HasFound, HasPassedLevel, IsAtEntry, IsAtList, IsAtSibling, IsAtTomb, IsFoundAt, IsHere, IsOnPath, IsRemovingAt, IsTask}
-use Rattle.lock_free.specs.Loading.{IsSound}
+use Rattle.std.proofs.Common.{sym, ◌∙◌}
+use Rattle.lock_free.proofs.KeyFound.{answers, sets}
 use Rattle.lock_free.proofs.descending.at_key.Goals as goal
 
--- src/descending.rt:200:1
 pub returns-in-Answers-clause-found : goal.returns-in-Answers-clause-found
-returns-in-Answers-clause-found c = ?
+returns-in-Answers-clause-found c =
+    answers c.args.actor.now.me.0 c.args.call c.args.path.now c.args.given c.args.position c.args.value c.requires.at c.in-Answers.reply (sym c.in-Answers.is ∙ c.when_found.ensures)
 
--- src/descending.rt:200:1
 pub returns-in-Sets-clause-found : goal.returns-in-Sets-clause-found
-returns-in-Sets-clause-found c = ?
+returns-in-Sets-clause-found c =
+    sets c.args.actor.now.me.0 c.args.call c.args.path.now c.args.given c.args.position c.args.value c.requires.at (sym c.in-Sets.is ∙ c.when_found.ensures)
