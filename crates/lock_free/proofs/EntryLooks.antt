@@ -14,6 +14,7 @@ use Rattle.machine_model.specs.Beneath.slot_arena.specs.declared.nodes.Slot.{Slo
 use Rattle.machine_model.specs.Beneath.slot_arena.specs.Heaps.{no_ref, node_at, entries_of}
 use Rattle.machine_model.specs.Beneath.slot_arena.specs.Refs.{slot_of}
 use Rattle.proof_memory.specs.Wants.{is_main_node, is_branch_or_list}
+use Rattle.proof_memory.proofs.Claims.Nodes.{both_main}
 use Rattle.lock_free.specs.declared.rules.View.{View}
 use Rattle.lock_free.specs.Accounts.{place_of}
 use Rattle.lock_free.specs.Entries.{HasStayed, entry_in, IsEntryIn, HoldsEntry, HasSeenEntry}
@@ -38,13 +39,6 @@ slot_small n v sound r slot used =
     let two = two_words (class_of slot.node) (class_small slot.node) in
     let range = sound.range in
     omega (arith, inside, two, range)
-
-pub branch_or_list_main : (node : Node) → is_branch_or_list node ≡ true → is_main_node node ≡ true
-branch_or_list_main (Branch bitmap entries) is = refl
-branch_or_list_main (Listed singles) is = refl
-branch_or_list_main (Indirection generation main) is = absurd (true≢false (sym is))
-branch_or_list_main (Single key value) is = absurd (true≢false (sym is))
-branch_or_list_main (Tomb single) is = absurd (true≢false (sym is))
 
 -- a main node stays what it is
 pub main_stays : (v w : View) (l : Later v w) (main : Ref) (slot : Slot) → IsUsed v main slot → is_main_node slot.node ≡ true → (later : Slot) × IsUsed w main later × (later.node ≡ slot.node)
@@ -77,7 +71,7 @@ module _ (n : ℕ) (before after : View) (sound : IsSound n before) (name positi
       its_entry main h placed =
           let u = seen before g.0.account in
           let sound_u = g.0.waited.sound in
-          let there = main_stays before u (waited_later n before sound g.0.account g.0.waited) main h.slot h.used (branch_or_list_main h.slot.node h.kind) in
+          let there = main_stays before u (waited_later n before sound g.0.account g.0.waited) main h.slot h.used (both_main h.slot.node h.kind) in
           let kind = subst (λ x. is_branch_or_list x ≡ true) (sym there.2) h.kind in
           let inside = subst (λ x. position < length (entries_of x)) (sym there.2) h.inside in
           let lives = held_then before g.0.account g.0.waited main h.holds in

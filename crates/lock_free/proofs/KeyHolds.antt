@@ -19,6 +19,7 @@ use Rattle.machine_model.specs.declared.lines.Line.{Line}
 use Rattle.machine_model.specs.declared.lines.Line.TheVariants as line
 use Rattle.machine_model.specs.declared.operations.Operation.{Operation}
 use Rattle.proof_memory.specs.Wants.{AllHold, Holds as Claims, Is, Wanted, ABranch, ASingle, BranchOrList, WithEntry, change_wants, flag_on, line_wants, listed, meets, is_main_node, is_branch, is_branch_or_list, is_entry}
+use Rattle.proof_memory.proofs.Claims.Nodes.{branch_main, branch_both, both_main}
 use Rattle.proof_memory.proofs.Claims.Uses.{safe_of, meets_of}
 use Rattle.lock_free.specs.declared.rules.View.{View}
 use Rattle.lock_free.specs.Accounts.{place_of}
@@ -30,18 +31,11 @@ use Rattle.lock_free.specs.Live.{IsLive, line_claims, refs_of_claims, at_hand}
 use Rattle.lock_free.specs.Loading.{now, IsUsed, IsSound, Holds, HasPosition}
 use Rattle.lock_free.proofs.Asked.{live_in_use}
 use Rattle.lock_free.specs.Nodes.{is_single}
-use Rattle.lock_free.proofs.EntryLooks.{branch_or_list_main, entry_inside, entry_used}
+use Rattle.lock_free.proofs.EntryLooks.{entry_inside, entry_used}
 use Rattle.lock_free.proofs.GivenBack.{node_is}
 use Rattle.lock_free.proofs.KeyMoves.{hash_is}
 use Rattle.lock_free.proofs.OnLines.{finds_now}
 use Rattle.lock_free.proofs.OneStep.Entries.{entry_stands}
-
-branch_main : (node : Node) → is_branch node ≡ true → is_main_node node ≡ true
-branch_main (Branch bitmap entries) is = refl
-branch_main (Indirection generation main) is = absurd (true≢false (sym is))
-branch_main (Single key value) is = absurd (true≢false (sym is))
-branch_main (Tomb single) is = absurd (true≢false (sym is))
-branch_main (Listed singles) is = absurd (true≢false (sym is))
 
 listed_main : (access : Access) (node : Node) → meets (listed access) node ≡ true → is_main_node node ≡ true
 listed_main access (Branch bitmap entries) is = refl
@@ -131,7 +125,7 @@ looks_in_change v path main c former position at n sound inside =
     let l = line.Build (build.Main path main c former) in
     let is = claims v l at n sound in
     looks_by v l at n sound main position BranchOrList
-    (named_after v l at n sound path (refs_of_claims (change_wants main (flag_on v.sizes.hash at.0.call path) former c)) main refl) branch_or_list_main is.1.1.0 inside
+    (named_after v l at n sound path (refs_of_claims (change_wants main (flag_on v.sizes.hash at.0.call path) former c)) main refl) both_main is.1.1.0 inside
 
 single_so : (node : Node) → meets ASingle node ≡ true → is_single node ≡ true
 single_so (Single key value) is = refl
@@ -158,22 +152,15 @@ looks_in v (key.Sibling path m p former) main position at is n sound = absurd (n
 
 -- ---- in a branch, and in a list
 
-branch_kind : (node : Node) → is_branch node ≡ true → is_branch_or_list node ≡ true
-branch_kind (Branch bitmap entries) is = refl
-branch_kind (Indirection generation main) is = absurd (true≢false (sym is))
-branch_kind (Single key value) is = absurd (true≢false (sym is))
-branch_kind (Tomb single) is = absurd (true≢false (sym is))
-branch_kind (Listed singles) is = absurd (true≢false (sym is))
-
 pub entry_branch : (v : View) (path : List Ref) (main : Ref) (position : ℕ) → IsAtKey v (key.Entry path main position) → (n : ℕ) → IsSound n v → (slot : Slot) → IsUsed v main slot →
     is_branch_or_list slot.node ≡ true
 entry_branch v path main position at n sound slot used =
-    branch_kind slot.node (subst (λ x. is_branch x ≡ true) (node_is (now v) main slot used) (meets_of (claims v (line.Key (key.Entry path main position)) at n sound).1.1.0))
+    branch_both slot.node (subst (λ x. is_branch x ≡ true) (node_is (now v) main slot used) (meets_of (claims v (line.Key (key.Entry path main position)) at n sound).1.1.0))
 
 pub sibling_branch : (v : View) (path : List Ref) (main : Ref) (position former : ℕ) → IsAtKey v (key.Sibling path main position former) → (n : ℕ) → IsSound n v → (slot : Slot) →
     IsUsed v main slot → is_branch_or_list slot.node ≡ true
 sibling_branch v path main position former at n sound slot used =
-    branch_kind slot.node (subst (λ x. is_branch x ≡ true) (node_is (now v) main slot used) (meets_of (claims v (line.Key (key.Sibling path main position former)) at n sound).1.1.0))
+    branch_both slot.node (subst (λ x. is_branch x ≡ true) (node_is (now v) main slot used) (meets_of (claims v (line.Key (key.Sibling path main position former)) at n sound).1.1.0))
 
 -- the other entry of two is an indirection or a single
 pub sibling_entry : (v : View) (path : List Ref) (main : Ref) (position former : ℕ) → IsAtKey v (key.Sibling path main position former) → (n : ℕ) → IsSound n v →

@@ -88,3 +88,5 @@ mod Descents
 mod Siblings
 mod Removals
 mod KeyFound
+mod OfTasks
+mod BranchEntries

@@ -167,10 +167,8 @@ module _ (n m : ℕ) (before after : View) (sound : IsSound n before) (last : Is
       Contains-append_left (refs_of_node h.slot.node) (refs_of_prev h.slot.prev) says.0
       (subst (λ x. Contains (refs_of_node x) says.0) (sym says.1) (Contains-get_or (says.0 ∷ []) 0 says.0 (omega arith))) in
       let used = h.used says.0 names in
-      let placed : IsPlaced after says.0 entry.slot =
-      ((used.0, stays says.0 used.0 used.1), ap (λ (x : View). place_of x.account says.0) w.after_is ∙ says.2) in
       elsewhere (turn.Tomb entry.slot) (comes_by (Tomb says.0) (line_at path main (turn.Tomb entry.slot)) says.1 (λ o mark runs. refl))
-      (subst (λ r. IsPlaced after r entry.slot) (sym (ap (λ x. get_or (entries_of x) 0 no_ref) (main_after ∙ says.1))) placed)
+      (says.0, main_after ∙ says.1, ((used.0, stays says.0 used.0 used.1), ap (λ (x : View). place_of x.account says.0) w.after_is ∙ says.2))
 
   pub at_list : (count : ℕ) → header.shape ≡ shape.List count → HasTurned before turn.List after
   at_list count e =

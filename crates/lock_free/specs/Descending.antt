@@ -32,8 +32,8 @@ use Rattle.lock_free.specs.declared.descending.Stage.TheVariants as stage
 use Rattle.lock_free.specs.declared.tasks.Task.{Task}
 use Rattle.lock_free.specs.declared.reading.Given.{Given}
 use Rattle.lock_free.specs.declared.rules.View.{View}
-use Rattle.lock_free.specs.Entries.{entry_in}
-use Rattle.lock_free.specs.GoingDown.{HasMoved, IsAtKey}
+use Rattle.lock_free.specs.Entries.{IsEntryIn}
+use Rattle.lock_free.specs.GoingDown.{HasMoved, IsAtKey, IsTombOf}
 use Rattle.lock_free.specs.Holding.{IsOn}
 use Rattle.lock_free.specs.Loading.{now, Runs}
 use Rattle.lock_free.specs.Passing.{IsPlaced, KnowsLink, KnowsMain}
@@ -104,9 +104,13 @@ IsAtEntry v position path main = (position < 32) × IsAtKey v (key.Entry path ma
 abbrev pub IsAtList : View → List Ref → Ref → Type 0
 IsAtList v path main = (is_list (node_at (now v).heap main) ≡ true) × IsAtKey v (key.Listed path main 0)
 
+-- the entry at this position is the single in this slot
+abbrev pub IsAtOne : View → ℕ → ℕ → List Ref → Ref → Type 0
+IsAtOne v position single path main = IsEntryIn v main position single true × IsAtKey v (key.Entry path main position)
+
 -- a tomb, whose single is in this slot
 abbrev pub IsAtTomb : View → Access → ℕ → List Ref → Ref → Type 0
-IsAtTomb v access single path main = IsPlaced v (entry_in v main 0) single × IsOn v (after_tomb access path main)
+IsAtTomb v access single path main = IsTombOf v main single × IsOn v (after_tomb access path main)
 
 -- its key stands at this position, with this value
 abbrev pub IsFoundAt : View → Call → ℕ → ℕ → List Ref → Ref → Type 0

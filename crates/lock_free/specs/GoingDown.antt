@@ -2,6 +2,7 @@
 use Rattle.std.specs.Prelude.{◌≡◌, ◌<◌, ◌+◌, ℕ, nat_lt, true, false, List, [], length, Option, Some, None, if◌then◌else◌}
 use Rattle.trie_words.specs.declared.links.Link.{Link}
 use Rattle.machine_model.specs.Beneath.slot_arena.specs.declared.refs.Ref.{Ref}
+use Rattle.machine_model.specs.Beneath.slot_arena.specs.declared.nodes.Node.TheVariants.{Tomb}
 use Rattle.machine_model.specs.Beneath.slot_arena.specs.Heaps.{node_at, entry_at, entries_of}
 use Rattle.machine_model.specs.declared.finding.KeyLine.{KeyLine}
 use Rattle.machine_model.specs.declared.finding.KeyLine.TheVariants as key
@@ -20,7 +21,7 @@ use Rattle.lock_free.specs.declared.finding.Turn.{Turn}
 use Rattle.lock_free.specs.declared.finding.Turn.TheVariants as turn
 use Rattle.lock_free.specs.declared.reading.Given.{Given}
 use Rattle.lock_free.specs.declared.rules.View.{View}
-use Rattle.lock_free.specs.Entries.{entry_in, IsEntryIn}
+use Rattle.lock_free.specs.Entries.{IsEntryIn}
 use Rattle.lock_free.specs.Loading.{now, Runs}
 use Rattle.lock_free.specs.Passing.{Later, IsPlaced, KnowsLink, KnowsMain}
 
@@ -49,12 +50,16 @@ line_at path main turn.Absent operation = absent operation path main
 line_at path main turn.List operation = line.Key (key.Listed path main 0)
 line_at path main (turn.Tomb single) operation = after_tomb operation.access path main
 
--- what it tells of the main node: it is a list, or a tomb whose single is in this slot
+-- the main node is a tomb, whose single is in this slot
+abbrev pub IsTombOf : View → Ref → ℕ → Type 0
+IsTombOf v main name = (single : Ref) × (node_at (now v).heap main ≡ Tomb single) × IsPlaced v single name
+
+-- what it tells of the main node: it is a list, or a tomb
 abbrev pub Tells : View → Ref → Turn → Type 0
 Tells v main (turn.Entry position) = Unit {0}
 Tells v main turn.Absent = Unit {0}
 Tells v main turn.List = is_list (node_at (now v).heap main) ≡ true
-Tells v main (turn.Tomb single) = IsPlaced v (entry_in v main 0) single
+Tells v main (turn.Tomb single) = IsTombOf v main single
 
 abbrev pub HasTurned : View → Turn → View → Type 0
 HasTurned before turn after = (path : List Ref) (main : Ref) → IsAtKey before (key.Main path main) → HasMoved (line_at path main turn) before after × Tells after main turn

@@ -5,7 +5,7 @@ ghost use Rattle.history.specs.declared.replies.Reply.TheVariants as reply;
 ghost use Rattle.machine_model.specs.declared.building.Site.TheVariants as place;
 ghost use Rattle.machine_model.specs.Calls.{inserts};
 ghost use Rattle.lock_free.specs.declared.descending.Found.TheVariants as what;
-ghost use Rattle.lock_free.specs.Descending.{absent_found, entries_in, rest_in, HasFound, HasPassedLevel, IsAtEntry, IsAtList, IsAtSibling, IsAtTomb, IsFoundAt, IsHere, IsOnPath, IsRemovingAt, IsTask};
+ghost use Rattle.lock_free.specs.Descending.{absent_found, entries_in, rest_in, HasFound, HasPassedLevel, IsAtEntry, IsAtList, IsAtOne, IsAtSibling, IsAtTomb, IsFoundAt, IsHere, IsOnPath, IsRemovingAt, IsTask};
 ghost use Rattle.lock_free.specs.Loading.{IsSound};
 
 use crate::finding::{Met, Turn, meet_link, meet_single, read_turn};
@@ -269,6 +269,30 @@ fn at_tomb(words: &Words, actor: &mut Actor, task: &Task, path: &[u32], given: G
     }
 }
 
+/// At the single in this slot, the entry at this position of a branch.
+fn at_single(
+    words: &Words,
+    actor: &mut Actor,
+    task: &Task,
+    path: &[u32],
+    given: Given,
+    position: usize,
+    single: u32,
+) -> Found
+    requires table { actor.old.table_id ≡ words.now.table_id }
+    requires sound { IsSound words.now.table_id.words actor.old.me.0 }
+    requires task { IsTask actor.old.me.0 task.now }
+    requires at { IsHere actor.old.me.0 path.now given (IsAtOne actor.old.me.0 position single) }
+    ensures table { actor.new.table_id ≡ actor.old.table_id }
+    ensures sound { IsSound words.now.table_id.words actor.new.me.0 }
+    ensures found { HasFound actor.old.me.0 path.now result actor.new.me.0 }
+{
+    match meet_single(words, actor, task.key, single) {
+        Met::Found(value) => at_key(words, actor, task.call, path, given, position, value),
+        Met::Other => absent(task.call, Site::Beside { position }, given),
+    }
+}
+
 /// At the entry at this position of a branch: the way goes on below an indirection, and ends at a single, or at an indirection that is
 /// to be renewed.
 fn at_entry(
@@ -289,10 +313,7 @@ fn at_entry(
 {
     let entry = see_entry(words, actor, given.link.main.slot, position as u32);
     if entry.is_single {
-        return Stage::Here(match meet_single(words, actor, task.key, entry.slot) {
-            Met::Found(value) => at_key(words, actor, task.call, path, given, position, value),
-            Met::Other => absent(task.call, Site::Beside { position }, given),
-        });
+        return Stage::Here(at_single(words, actor, task, path, given, position, entry.slot));
     }
     let link = meet_link(words, actor, entry.slot);
     if task.passes(link.generation) {
