@@ -33,10 +33,10 @@ use Rattle.lock_free.specs.Holding.{IsOn}
 use Rattle.lock_free.specs.Loading.{now, Runs, IsSound, HasPosition}
 use Rattle.lock_free.specs.Passing.{IsPlaced}
 use Rattle.lock_free.proofs.Descents.{as_long, place_later, inside_later, known_stays, task_stayed, found_after, found_stayed}
-use Rattle.lock_free.proofs.EntryMeets.{found_same}
 use Rattle.lock_free.proofs.GivenBack.{node_is}
 use Rattle.lock_free.proofs.KeyFound.{absent_here}
 use Rattle.lock_free.proofs.KeyHolds.{LooksIn, looks_in_entry, entry_branch, has_position_in, holds_entry_in}
+use Rattle.lock_free.proofs.KeyMet.{key_ready, key_done}
 use Rattle.lock_free.proofs.KeyMoves.{moved_as}
 use Rattle.lock_free.proofs.Laters.{placed_later}
 use Rattle.lock_free.proofs.OnLines.{moves_on, stayed_moved}
@@ -65,32 +65,11 @@ module _ (v w : View) (task : Task) (t : IsTask v task) (slots : List ℕ) (give
     inside = subst (λ x. position < length (entries_of x)) (sym (node_is (now v) main looks.slot looks.used)) looks.inside
 
     module _ (value : ℕ) (g : HasMet v (met.Found value) w) where
-      abbrev l : Line
-      l = found_so (now v) path main position value (when_found task.call value)
+      pub one_found : IsHere w slots given (IsFoundAt w task.call position value)
+      one_found = key_ready v w task t slots given path main position is_at.2 inside (key.Entry path main position) at value g (λ o. refl)
 
-      moved : HasMoved (λ o. l) v w
-      moved =
-          moved_as v w (line_met (now v) (key.Entry path main position) (met.Found value)) (λ o. l) (g (key.Entry path main position) at)
-          (λ o r. ap (λ c. found_so (now v) path main position value (when_found c value)) (t.calls o r).0)
-
-      place_then : IsPlace w slots given path main
-      place_then = place_later v w moved.later slots given path main is_at.2
-
-      pub key_ready : IsHere w slots given (IsFoundAt w task.call position value)
-      key_ready = (
-        path,
-        main,
-        place_then,
-        (
-          inside_later v w moved.later main given.header position is_at.2.header inside,
-          subst (λ x. IsOn w x)
-              (found_same (now v) (now w) path main position value (sym (known_stays v w moved.later main given.header is_at.2.header)) (when_found task.call value))
-              (moves_on v (line.Key (key.Entry path main position)) at w l moved),
-        ),
-      )
-
-      pub key_done : (after : View) (result : Found) → HasFound w slots result after → HasFound v slots result after
-      key_done after result h = found_after v w after (λ o. l) slots result moved h
+      pub one_found_done : (after : View) (result : Found) → HasFound w slots result after → HasFound v slots result after
+      one_found_done = key_done v w task t slots given path main position is_at.2 inside (key.Entry path main position) at value g (λ o. refl)
 
     module _ (g : HasMet v met.Other w) where
       abbrev beside : Line

@@ -71,6 +71,10 @@ task_stayed v w task o r s t = record {
   hash = t.hash ∙ ap (λ (x : View). hash_of x.sizes.hash task.key) (sym s.later.is);
 }
 
+-- it is where it was
+pub moved_self : (v : View) (l : Line) → IsOn v l → HasMoved (λ o. l) v v
+moved_self v l on = record { later = later_self v; comes = λ o r. subst (λ x. Runs v (record o { line = x })) (line_is v l on o r) r }
+
 -- ---- what it comes to
 
 -- it is there already
@@ -80,10 +84,7 @@ found_here v slots result path main other l on is knows = record {
   path = path;
   main = main;
   other = other;
-  moved = record {
-    later = later_self v;
-    comes = λ o r. subst (λ x. Runs v (record o { line = x })) (line_is v l on o r ∙ is) r;
-  };
+  moved = moved_self v (line_found path main other result) (subst (IsOn v) is on);
   knows = knows;
 }
 

@@ -18,7 +18,7 @@ use Rattle.machine_model.specs.declared.finding.KeyLine.TheVariants as key
 use Rattle.machine_model.specs.declared.lines.Line.{Line}
 use Rattle.machine_model.specs.declared.lines.Line.TheVariants as line
 use Rattle.machine_model.specs.declared.operations.Operation.{Operation}
-use Rattle.proof_memory.specs.Wants.{AllHold, Holds as Claims, Is, Wanted, ABranch, ASingle, BranchOrList, WithEntry, change_wants, flag_on, line_wants, listed, meets, is_main_node, is_branch, is_branch_or_list, is_entry}
+use Rattle.proof_memory.specs.Wants.{AllHold, Holds as Claims, Is, Wanted, ABranch, ASingle, BranchOrList, TombOrList, WithEntry, change_wants, flag_on, line_wants, listed, meets, is_main_node, is_branch, is_branch_or_list, is_entry}
 use Rattle.proof_memory.proofs.Claims.Nodes.{branch_main, branch_both, both_main}
 use Rattle.proof_memory.proofs.Claims.Uses.{safe_of, meets_of}
 use Rattle.lock_free.specs.declared.rules.View.{View}
@@ -35,7 +35,7 @@ use Rattle.lock_free.proofs.EntryLooks.{entry_inside, entry_used}
 use Rattle.lock_free.proofs.GivenBack.{node_is}
 use Rattle.lock_free.proofs.KeyMoves.{hash_is}
 use Rattle.lock_free.proofs.OnLines.{finds_now}
-use Rattle.lock_free.proofs.OneStep.Entries.{entry_stands}
+use Rattle.lock_free.proofs.OneStep.Entries.{entry_stands, listed_stands}
 
 listed_main : (access : Access) (node : Node) → meets (listed access) node ≡ true → is_main_node node ≡ true
 listed_main access (Branch bitmap entries) is = refl
@@ -167,6 +167,13 @@ pub sibling_entry : (v : View) (path : List Ref) (main : Ref) (position former :
     is_entry (node_at (now v).heap (entry_in v main (1 - position))) ≡ true
 sibling_entry v path main position former at n sound =
     let c = claims v (line.Key (key.Sibling path main position former)) at n sound in entry_stands v.sizes v.account sound.bounds main (1 - position) c.1.1.0 c.1.1.1.0
+
+-- an entry of a list or a tomb is a single
+pub listed_single : (v : View) (path : List Ref) (main : Ref) (position : ℕ) → IsAtKey v (key.Listed path main position) → (n : ℕ) → IsSound n v →
+    meets TombOrList (node_at (now v).heap main) ≡ true → is_single (node_at (now v).heap (entry_in v main position)) ≡ true
+listed_single v path main position at n sound kind =
+    let c = claims v (line.Key (key.Listed path main position)) at n sound in
+    single_so (node_at (now v).heap (entry_in v main position)) (listed_stands v.sizes v.account sound.bounds main position (Claims.is (safe_of c.1.1.0) kind) c.1.1.1.0)
 
 -- so it can be seen
 module _ (v : View) (main : Ref) (position : ℕ) (looks : LooksIn v main position) (kind : is_branch_or_list looks.slot.node ≡ true) where

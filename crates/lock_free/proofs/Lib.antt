@@ -89,4 +89,7 @@ mod Siblings
 mod Removals
 mod KeyFound
 mod OfTasks
+mod KeyMet
 mod BranchEntries
+mod KeyTombs
+mod KeyLists

@@ -176,3 +176,26 @@ pub record HasGoneBelow (before : View) (slots : List ℕ) (slot : ℕ) (after :
 abbrev pub HasPassedLevel : View → List ℕ → Stage → View → Type 0
 HasPassedLevel before slots (stage.Below slot) after = HasGoneBelow before slots slot after
 HasPassedLevel before slots (stage.Here result) after = HasFound before slots result after
+
+-- ---- along a list
+
+-- it has come to the single after so many others of a list of so many, or to its end
+pub record IsSearching (before : View) (task : Task) (slots : List ℕ) (given : Given) (singles others : ℕ) (after : View) : Type 0 where
+  pub path : List Ref
+  pub main : Ref
+  pub moved : HasMoved (λ operation. line_listed task.call singles others path main) before after
+  pub place : IsPlace after slots given path main
+  pub lists : is_list (node_at (now after).heap main) ≡ true
+  pub count : length (entries_of (node_at (now after).heap main)) ≡ singles
+  pub on : IsOn after (line_listed task.call singles others path main)
+  pub its : IsTask after task
+
+-- ---- from level to level
+
+-- it has come to the indirection at the end of this path
+pub record IsDescending (before : View) (task : Task) (slots : List ℕ) (after : View) : Type 0 where
+  pub path : List Ref
+  pub moved : HasMoved (λ operation. line.Key (key.Read path (reading (current path)))) before after
+  pub places : AreAt after path slots
+  pub some : 0 < length slots
+  pub its : IsTask after task

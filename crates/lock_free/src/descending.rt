@@ -243,8 +243,11 @@ fn search_list(
     let singles = entries_in(given.header.shape);
     for position in 0..singles {
         let entry = see_entry(words, actor, given.link.main.slot, position as u32);
-        if let Met::Found(value) = meet_single(words, actor, task.key, entry.slot) {
-            return at_key(words, actor, task.call, path, given, position, value);
+        match meet_single(words, actor, task.key, entry.slot) {
+            Met::Found(value) => {
+                return at_key(words, actor, task.call, path, given, position, value);
+            }
+            Met::Other => {}
         }
     }
     absent_listed(task.call, singles, given)
