@@ -93,3 +93,4 @@ mod KeyMet
 mod BranchEntries
 mod KeyTombs
 mod KeyLists
+mod LevelPassed
