@@ -1,5 +1,5 @@
 -- KEY at an entry of a branch.
-use Rattle.std.proofs.Common.{◌≡◌, ◌<◌, ◌≤◌, ◌+◌, ◌==◌, ℕ, Bool, true, false, get_or, length, nat_lt, List, [], ◌∷◌, ◌++◌, None, Some, refl, sym, ap, subst, ◌∙◌, arith, if◌then◌else◌}
+use Rattle.std.proofs.Common.{◌≡◌, ◌<◌, ◌≤◌, ◌==◌, ℕ, Bool, true, false, length, List, [], ◌∷◌, ◌++◌, refl, sym, ap, subst, ◌∙◌, arith, if◌then◌else◌}
 use Rattle.std.proofs.lemmas.Bool.{lt-ltb}
 use Rattle.std.proofs.lemmas.List.{length-append}
 use Rattle.trie_words.specs.declared.entries.Entry.{Entry}
@@ -12,34 +12,29 @@ use Rattle.machine_model.specs.declared.repairs.RenewLine.TheVariants as renew
 use Rattle.machine_model.specs.declared.lines.Line.{Line}
 use Rattle.machine_model.specs.declared.lines.Line.TheVariants as line
 use Rattle.machine_model.specs.declared.operations.Operation.{Operation}
-use Rattle.machine_model.specs.Calls.{when_found}
-use Rattle.machine_model.specs.Finding.{absent_beside, found, found_so, going_down, passes}
+use Rattle.machine_model.specs.Finding.{going_down, passes}
 use Rattle.machine_model.specs.Renewing.{renew_next}
 use Rattle.proof_memory.specs.Wants.{is_branch_or_list}
 use Rattle.proof_linearizable.specs.Beneath.proof_shape.specs.Sites.At.{way_of}
 use Rattle.proof_linearizable.specs.Beneath.proof_shape.proofs.Sites.Mains.{paths_are_short}
 use Rattle.lock_free.specs.declared.descending.Found.{Found}
 use Rattle.lock_free.specs.declared.descending.Found.TheVariants as what
-use Rattle.lock_free.specs.declared.finding.Met.{Met}
 use Rattle.lock_free.specs.declared.finding.Met.TheVariants as met
 use Rattle.lock_free.specs.declared.reading.Given.{Given}
 use Rattle.lock_free.specs.declared.rules.View.{View}
 use Rattle.lock_free.specs.declared.tasks.Task.{Task}
 use Rattle.lock_free.specs.Accounts.{bounds_for}
 use Rattle.lock_free.specs.Descending.{IsTask, IsPlace, IsInside, IsHere, IsAtEntry, IsAtOne, IsFoundAt, absent_in, absent_found, HasFound, HasGoneBelow}
-use Rattle.lock_free.specs.Entries.{HasStayed, entry_in, IsEntryIn, HasSeenEntry}
+use Rattle.lock_free.specs.Entries.{entry_in, IsEntryIn, HasSeenEntry}
 use Rattle.lock_free.specs.GoingDown.{IsAtKey, HasMoved, IsAtBelow, IsAtSingle, line_met, HasMet, line_below, HasMetLink}
-use Rattle.lock_free.specs.Holding.{IsOn}
-use Rattle.lock_free.specs.Loading.{now, Runs, IsSound, HasPosition}
-use Rattle.lock_free.specs.Passing.{IsPlaced}
-use Rattle.lock_free.proofs.Descents.{as_long, place_later, inside_later, known_stays, task_stayed, found_after, found_stayed}
+use Rattle.lock_free.specs.Loading.{now, IsSound, HasPosition}
+use Rattle.lock_free.proofs.Descents.{as_long, place_later, inside_later, task_stayed, found_after, found_stayed}
 use Rattle.lock_free.proofs.GivenBack.{node_is}
 use Rattle.lock_free.proofs.KeyFound.{absent_here}
 use Rattle.lock_free.proofs.KeyHolds.{LooksIn, looks_in_entry, entry_branch, has_position_in, holds_entry_in}
 use Rattle.lock_free.proofs.KeyMet.{key_ready, key_done}
-use Rattle.lock_free.proofs.KeyMoves.{moved_as}
 use Rattle.lock_free.proofs.Laters.{placed_later}
-use Rattle.lock_free.proofs.OnLines.{moves_on, stayed_moved}
+use Rattle.lock_free.proofs.OnLines.{moved_so, moves_on, stayed_moved}
 use Rattle.lock_free.proofs.OfTasks.{passable}
 
 -- ---- at a single
@@ -77,8 +72,8 @@ module _ (v w : View) (task : Task) (t : IsTask v task) (slots : List ℕ) (give
 
       moved_beside : HasMoved (λ o. beside) v w
       moved_beside =
-          moved_as v w (line_met (now v) (key.Entry path main position) met.Other) (λ o. beside) (g (key.Entry path main position) at)
-          (λ o r. ap (λ c. absent_in c (site.Beside position) path main) (t.calls o r).0)
+          moved_so v w (line_met (now v) (key.Entry path main position) met.Other) (λ o. beside) (λ o r. ap (λ c. absent_in c (site.Beside position) path main) (t.calls o r).0)
+          (g (key.Entry path main position) at)
 
       pub absent_done : HasFound v slots (absent_found task.call (site.Beside position) given) w
       absent_done =
@@ -137,8 +132,9 @@ module _ (n : ℕ) (before : View) (sound : IsSound n before) (task : Task) (t :
 
       by_pass : (b : Bool) → passes task.access (task.start == link.generation) ≡ b → HasMoved (λ o. if b then going_down way e else renew_next (now middle) way branch []) middle after
       by_pass b is =
-          moved_as middle after (line_below (now middle) way branch position link.generation) (λ o. if b then going_down way e else renew_next (now middle) way branch []) (m way branch position on_mid)
+          moved_so middle after (line_below (now middle) way branch position link.generation) (λ o. if b then going_down way e else renew_next (now middle) way branch [])
           (λ o r. ap (λ c. if c then going_down way e else renew_next (now middle) way branch []) (passable middle task task_mid link.generation o r ∙ is))
+          (m way branch position on_mid)
 
       module _ (is : passes task.access (task.start == link.generation) ≡ true) where
         down : HasMoved (λ o. going_down way e) middle after
@@ -170,9 +166,10 @@ module _ (n : ℕ) (before : View) (sound : IsSound n before) (task : Task) (t :
 
         renews : HasMoved (λ o. line.Renew (renew.Entry way branch [])) middle after
         renews =
-            moved_as middle after (λ o. renew_next (now middle) way branch []) (λ o. line.Renew (renew.Entry way branch [])) (by_pass false is)
+            moved_so middle after (λ o. renew_next (now middle) way branch []) (λ o. line.Renew (renew.Entry way branch []))
             (λ o r. ap (λ b. if b then line.Renew (renew.Entry way branch []) else line.Renew (renew.Branch way branch []))
             (lt-ltb 0 (length (entries_of (node_at (now middle).heap branch))) some))
+            (by_pass false is)
 
         pub renews_here : HasFound before slots (what.Renews given) after
         renews_here =

@@ -1,5 +1,5 @@
 -- A branch has an entry for each one of its bitmap, and 32 at most.
-use Rattle.std.proofs.Common.{◌≡◌, ◌≤◌, ℕ, List, [], ◌∷◌, take, length, Option, Some, None, is_some, cond, count_by, count_ones, refl, sym, ap, ◌∙◌, subst, arith}
+use Rattle.std.proofs.Common.{◌≡◌, ◌≤◌, ℕ, List, [], ◌∷◌, length, Option, Some, None, is_some, cond, count_by, count_ones, refl, sym, ap, ◌∙◌, arith}
 use Rattle.std.proofs.lemmas.List.Sums.{sum_by-cons}
 use Rattle.std.proofs.lemmas.Simd.{ones-mask_l}
 use Rattle.arrayvec.specs.ArrayVec.{ArrayVec}

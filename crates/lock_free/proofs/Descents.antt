@@ -20,7 +20,7 @@ use Rattle.lock_free.specs.Passing.{Later, KnowsMain}
 use Rattle.lock_free.proofs.Comings.{runs_one}
 use Rattle.lock_free.proofs.EntryLooks.{node_stays}
 use Rattle.lock_free.proofs.KeyMoves.{moved_on}
-use Rattle.lock_free.proofs.Laters.{later_self, later_both, placed_later, link_later, main_later}
+use Rattle.lock_free.proofs.Laters.{later_self, placed_later, link_later, main_later}
 use Rattle.lock_free.proofs.OnLines.{line_is, stayed_moved}
 
 -- ---- what is known

@@ -1,6 +1,5 @@
 -- What an operation sees of an entry of a main node that it holds.
 use Rattle.std.proofs.Common.{◌≡◌, ◌^◌, ◌<◌, ℕ, true, Contains, get_or, length, Some, refl, sym, ap, subst, ◌∙◌, arith}
-use Rattle.std.proofs.lemmas.Bool.{true≢false}
 use Rattle.std.proofs.lemmas.List.Elements.{Contains-get_or}
 use Rattle.std.proofs.lemmas.Option.{slice_get-get_or}
 use Rattle.trie_words.specs.Codes.{entry_of}
@@ -8,8 +7,6 @@ use Rattle.trie_words.specs.declared.entries.Entry.{Entry}
 use Rattle.trie_words.specs.declared.entries.Pair.{Pair}
 use Rattle.trie_words.proofs.Parts.{entry_back}
 use Rattle.machine_model.specs.Beneath.slot_arena.specs.declared.refs.Ref.{Ref}
-use Rattle.machine_model.specs.Beneath.slot_arena.specs.declared.nodes.Node.{Node}
-use Rattle.machine_model.specs.Beneath.slot_arena.specs.declared.nodes.Node.TheVariants.{Indirection, Branch, Single, Tomb, List as Listed}
 use Rattle.machine_model.specs.Beneath.slot_arena.specs.declared.nodes.Slot.{Slot}
 use Rattle.machine_model.specs.Beneath.slot_arena.specs.Heaps.{no_ref, node_at, entries_of}
 use Rattle.machine_model.specs.Beneath.slot_arena.specs.Refs.{slot_of}

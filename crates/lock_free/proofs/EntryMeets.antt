@@ -1,5 +1,5 @@
 -- KEY's look at a single: an entry of a branch, one of a list, or a tomb's.
-use Rattle.std.proofs.Common.{◌≡◌, ◌==◌, ◌-◌, ℕ, Bool, true, false, get_or, length, List, Some, None, refl, sym, ap, subst, ◌∙◌, if◌then◌else◌}
+use Rattle.std.proofs.Common.{◌≡◌, ◌==◌, ◌-◌, ℕ, Bool, true, false, get_or, length, List, Some, refl, sym, ap, subst, ◌∙◌, if◌then◌else◌}
 use Rattle.std.proofs.lemmas.Bool.{true≢false}
 use Rattle.std.proofs.lemmas.Option.{none-some, same_Some}
 use Rattle.machine_model.specs.Beneath.slot_arena.specs.declared.refs.Ref.{Ref}
@@ -32,7 +32,8 @@ use Rattle.lock_free.proofs.Comings.{runs_one, saw_runs}
 use Rattle.lock_free.proofs.EntryLooks.{node_stays}
 use Rattle.lock_free.proofs.GivenBack.{node_is}
 use Rattle.lock_free.proofs.KeyHolds.{LooksIn, looks_in}
-use Rattle.lock_free.proofs.KeyMoves.{key_of_line, line_is, at_look, moved}
+use Rattle.lock_free.proofs.KeyMoves.{key_of_line}
+use Rattle.lock_free.proofs.OnLines.{line_is, at_look, moved}
 use Rattle.lock_free.proofs.Laters.{later_both, went_later, saw_later, waited_later, placed_later}
 
 -- a single stays what it is
@@ -175,7 +176,7 @@ module _ (n : ℕ) (before middle : View) (sound : IsSound n before) (name : ℕ
     looks_mid = looks_there (now middle) main position l is_at.4 ∙ ap act.Look (entry_then middle stayed.later)
 
     pub single_ready : IsAtSlot middle act.Look name
-    single_ready = (e, at_look middle l at_mid e looks_mid, (placed_later before middle stayed.later e name is_at.5.placed).1)
+    single_ready = (e, at_look middle (line.Key l) at_mid e (λ o. looks_mid), (placed_later before middle stayed.later e name is_at.5.placed).1)
 
     module _ (sought : ℕ) (on : IsOnKey before sought) (after : View) (end : IsSound n after) (w : Went middle after) where
       abbrev state : State
@@ -197,13 +198,13 @@ module _ (n : ℕ) (before middle : View) (sound : IsSound n before) (name : ℕ
 
       comes_by : (result : Met) → ((o : Operation) → Runs middle o → by_key state main position l single.0 single.1 o ≡ line_met state l result o) → HasMet before result after
       comes_by result is k other =
-          let goes = moved middle l at_mid after (went_later n middle last n after end w) w (entry_at state.heap main position) (line_met (now before) l result)
-          (looks_there state main position l is_at.4)
+          let goes = moved middle (line.Key l) at_mid after (went_later n middle last n after end w) w (entry_at state.heap main position) (line_met (now before) l result)
+          (λ o. (looks_there state main position l is_at.4)) (λ o. refl)
           (λ o mark r.
           after_single state main position l single.0 single.1 is_at.4 node_then (record o { is_marked = mark }) ∙ by_marked state main position l single.0 single.1 o mark ∙ is o r
           ∙ met_same state (now before) l main position is_at.4 (main_then (seen middle w.account) later_then) result o) in
           let here : HasMoved (line_met (now before) l result) before after = record { later = later_last; comes = λ o r. goes.comes o (stayed.comes o r) } in
-          subst (λ (x : KeyLine). HasMoved (line_met (now before) x result) before after) (key_of_line (sym (line_is before l at other.0 other.1) ∙ other.2)) here
+          subst (λ (x : KeyLine). HasMoved (line_met (now before) x result) before after) (key_of_line (sym (line_is before (line.Key l) at other.0 other.1) ∙ other.2)) here
 
       abbrev choice : Bool → Operation → Line
       choice b o = if b then line_met state l (met.Found single.1) o else line_met state l met.Other o
@@ -220,4 +221,4 @@ module _ (n : ℕ) (before middle : View) (sound : IsSound n before) (name : ℕ
     pub value_is : (value : ℕ) (after : View) (g2 : HasLookedAtValue middle value after) → value ≡ single.1
     value_is value after g2 =
         let x = single_then (seen middle g2.0.account) (later_both before middle (seen middle g2.0.account) stayed.later (waited_later n middle last g2.0.account g2.0.waited)) in
-        (g2.1 e (at_look middle l at_mid e looks_mid)).0 x.0 single.0 single.1 x.1 x.2
+        (g2.1 e (at_look middle (line.Key l) at_mid e (λ o. looks_mid))).0 x.0 single.0 single.1 x.1 x.2

@@ -1,5 +1,5 @@
 -- What an operation holds is live, and stays so while others take steps.
-use Rattle.std.proofs.Common.{◌≡◌, inl, inr, Contains, Some, sym, ap, subst}
+use Rattle.std.proofs.Common.{inl, inr, Contains, sym, subst}
 use Rattle.machine_model.specs.Beneath.slot_arena.specs.declared.refs.Ref.{Ref}
 use Rattle.machine_model.specs.Beneath.slot_arena.specs.Refs.{slot_of}
 use Rattle.machine_model.specs.declared.operations.Operation.{Operation}

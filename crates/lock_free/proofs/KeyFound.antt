@@ -1,5 +1,5 @@
 -- KEY has found its key, or that it is absent.
-use Rattle.std.proofs.Common.{◌≡◌, ◌&&◌, ℕ, Bool, true, false, nat_le, List, None, Some, refl, sym, ap, subst, ◌∙◌, if◌then◌else◌}
+use Rattle.std.proofs.Common.{◌≡◌, ◌&&◌, ℕ, Bool, true, false, nat_le, List, None, Some, refl, sym, subst, if◌then◌else◌}
 use Rattle.history.specs.declared.calls.Call.{Call}
 use Rattle.history.specs.declared.replies.Reply.{Reply}
 use Rattle.history.specs.declared.replies.Reply.TheVariants as reply
@@ -10,15 +10,13 @@ use Rattle.machine_model.specs.declared.building.Site.{Site}
 use Rattle.machine_model.specs.declared.building.Site.TheVariants as site
 use Rattle.machine_model.specs.declared.finding.WhenFound.{WhenFound}
 use Rattle.machine_model.specs.declared.finding.WhenFound.TheVariants.{Answers, Sets, Removes}
-use Rattle.machine_model.specs.declared.lines.Line.{Line}
 use Rattle.machine_model.specs.declared.lines.Line.TheVariants as line
 use Rattle.machine_model.specs.Calls.{absent_reply, inserts, when_found}
 use Rattle.machine_model.specs.Finding.{found_so}
-use Rattle.lock_free.specs.declared.descending.Found.{Found}
 use Rattle.lock_free.specs.declared.descending.Found.TheVariants as found
 use Rattle.lock_free.specs.declared.reading.Given.{Given}
 use Rattle.lock_free.specs.declared.rules.View.{View}
-use Rattle.lock_free.specs.Descending.{IsPlace, IsInside, IsSite, IsFoundAt, IsRemovingAt, IsHere, absent_in, absent_at_end, absent_found, line_found, KnowsFound, HasFound}
+use Rattle.lock_free.specs.Descending.{IsPlace, IsSite, IsFoundAt, IsRemovingAt, IsHere, absent_in, absent_at_end, absent_found, line_found, KnowsFound, HasFound}
 use Rattle.lock_free.specs.Holding.{IsOn}
 use Rattle.lock_free.specs.Loading.{now}
 use Rattle.lock_free.proofs.Descents.{found_here}

@@ -1,5 +1,5 @@
 -- KEY holds the main node at an entry of which it looks.
-use Rattle.std.proofs.Common.{◌≡◌, ◌<◌, ◌-◌, inl, inr, ℕ, Bool, true, List, [], ◌∷◌, ◌++◌, Contains, get_or, length, Option, Some, None, refl, sym, ap, subst, ◌∙◌, arith, ltb-true}
+use Rattle.std.proofs.Common.{◌≡◌, ◌<◌, ◌-◌, inl, inr, ℕ, true, List, [], ◌∷◌, ◌++◌, Contains, length, Option, Some, refl, sym, subst, arith, ltb-true}
 use Rattle.std.proofs.lemmas.Bool.{true≢false}
 use Rattle.std.proofs.lemmas.List.Elements.{Contains-get_or, Contains-append_left, Contains-append_right}
 use Rattle.std.proofs.lemmas.Option.{none-some, same_Some}
@@ -18,7 +18,8 @@ use Rattle.machine_model.specs.declared.finding.KeyLine.TheVariants as key
 use Rattle.machine_model.specs.declared.lines.Line.{Line}
 use Rattle.machine_model.specs.declared.lines.Line.TheVariants as line
 use Rattle.machine_model.specs.declared.operations.Operation.{Operation}
-use Rattle.proof_memory.specs.Wants.{AllHold, Holds as Claims, Is, Wanted, ABranch, ASingle, BranchOrList, TombOrList, WithEntry, change_wants, flag_on, line_wants, listed, meets, is_main_node, is_branch, is_branch_or_list, is_entry}
+use Rattle.proof_memory.specs.Wants.{AllHold, Holds as Claims, Is, Wanted, ABranch, ASingle, BranchOrList, TombOrList, WithEntry}
+use Rattle.proof_memory.specs.Wants.{change_wants, flag_on, line_wants, listed, meets, is_main_node, is_branch, is_branch_or_list, is_entry}
 use Rattle.proof_memory.proofs.Claims.Nodes.{branch_main, branch_both, both_main}
 use Rattle.proof_memory.proofs.Claims.Uses.{safe_of, meets_of}
 use Rattle.lock_free.specs.declared.rules.View.{View}
@@ -73,7 +74,8 @@ module _ (v : View) (l : Line) (at : IsOn v l) (n : ℕ) (sound : IsSound n v) w
       (subst (λ (x : Line). Contains (refs_of_claims (line_claims (now v) (record its { line = x }))) main) (sym at.2)
       (subst (λ h. Contains (refs_of_claims (line_wants h at.0.call at.0.access l)) main) (sym (hash_is v.sizes v.account)) c))
 
-  looks_by : (main : Ref) (position : ℕ) (wanted : Wanted) → Named main → ((node : Node) → meets wanted node ≡ true → is_main_node node ≡ true) → Claims (IsLive (now v)) (now v).heap (Is main wanted) →
+  looks_by : (main : Ref) (position : ℕ) (wanted : Wanted) → Named main → ((node : Node) → meets wanted node ≡ true → is_main_node node ≡ true) → Claims (IsLive (now v)) (now v).heap
+      (Is main wanted) →
       IsInside v main position → LooksIn v main position
   looks_by main position wanted named as_main there within =
       let lives = safe_of there in

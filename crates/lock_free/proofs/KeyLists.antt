@@ -1,7 +1,6 @@
 -- KEY along the singles of a list.
-use Rattle.std.proofs.Common.{◌≡◌, ◌&&◌, ◌+◌, ◌<◌, ◌≤◌, ℕ, Bool, true, false, get_or, length, nat_le, nat_lt, List, [], None, Some, refl, sym, ap, subst, ◌∙◌, arith, if◌then◌else◌}
+use Rattle.std.proofs.Common.{◌≡◌, ◌&&◌, ◌+◌, ◌<◌, ◌≤◌, ℕ, true, length, nat_le, List, refl, sym, ap, subst, ◌∙◌, arith, if◌then◌else◌}
 use Rattle.std.proofs.lemmas.Bool.{true≢false, lt-ltb, le-ltb}
-use Rattle.arrayvec.specs.ArrayVec.{ArrayVec}
 use Rattle.history.specs.declared.replies.Reply.TheVariants as reply
 use Rattle.trie_words.specs.declared.entries.Entry.{Entry}
 use Rattle.machine_model.specs.Beneath.slot_arena.specs.declared.refs.Ref.{Ref}
@@ -12,7 +11,6 @@ use Rattle.machine_model.specs.Beneath.slot_arena.specs.Heaps.{node_at, entries_
 use Rattle.machine_model.specs.declared.finding.KeyLine.TheVariants as key
 use Rattle.machine_model.specs.declared.lines.Line.{Line}
 use Rattle.machine_model.specs.declared.lines.Line.TheVariants as line
-use Rattle.machine_model.specs.declared.operations.Operation.{Operation}
 use Rattle.machine_model.specs.Calls.{inserts}
 use Rattle.proof_memory.specs.Wants.{TombOrList, is_branch_or_list, is_list, meets}
 use Rattle.lock_free.specs.declared.descending.Found.{Found}
@@ -23,18 +21,18 @@ use Rattle.lock_free.specs.declared.rules.View.{View}
 use Rattle.lock_free.specs.declared.tasks.Task.{Task}
 use Rattle.machine_model.specs.declared.building.Site.TheVariants as site
 use Rattle.lock_free.specs.Descending.{IsTask, IsPlace, IsInside, IsHere, IsAtList, IsFoundAt, IsSearching, entries_in, line_listed, absent_at_end, absent_found, HasFound}
-use Rattle.lock_free.specs.Entries.{entry_in, IsEntryIn, HasSeenEntry}
+use Rattle.lock_free.specs.Entries.{IsEntryIn, HasSeenEntry}
 use Rattle.lock_free.specs.GoingDown.{IsAtKey, HasMoved, IsAtSingle, after_other, line_met, HasMet}
 use Rattle.lock_free.specs.Holding.{IsOn}
-use Rattle.lock_free.specs.Loading.{now, Runs, IsUsed, IsSound, HasPosition}
+use Rattle.lock_free.specs.Loading.{now, IsUsed, IsSound, HasPosition}
 use Rattle.lock_free.proofs.Crowds.{counted, list_few}
 use Rattle.lock_free.proofs.Descents.{place_later, known_stays, task_moved, task_stayed, moved_self, found_after, found_stayed}
 use Rattle.lock_free.proofs.GivenBack.{node_is}
 use Rattle.lock_free.proofs.KeyFound.{ends_here}
 use Rattle.lock_free.proofs.KeyHolds.{LooksIn, looks_in_list, listed_single, has_position_in, holds_entry_in}
 use Rattle.lock_free.proofs.KeyMet.{key_ready, key_done}
-use Rattle.lock_free.proofs.KeyMoves.{moved_as, moved_on}
-use Rattle.lock_free.proofs.OnLines.{moves_on, stayed_moved}
+use Rattle.lock_free.proofs.KeyMoves.{moved_on}
+use Rattle.lock_free.proofs.OnLines.{moved_so, moves_on, stayed_moved}
 
 list_kind : (node : Node) → is_list node ≡ true → (is_branch_or_list node ≡ true) × (meets TombOrList node ≡ true)
 list_kind (Listed singles) is = (refl, refl)
@@ -155,8 +153,9 @@ module _ (n : ℕ) (before : View) (task : Task) (slots : List ℕ) (given : Giv
 
         moved : HasMoved (λ o. next) middle w
         moved =
-            moved_as middle w (line_met (now middle) (key.Listed path main others) met.Other) (λ o. next) (m (key.Listed path main others) at_mid)
+            moved_so middle w (line_met (now middle) (key.Listed path main others) met.Other) (λ o. next)
             (λ o r. ap (λ k. after_other o path main others k) count_mid ∙ ap (λ c. line_listed c singles (others + 1) path main) (task_mid.calls o r).0)
+            (m (key.Listed path main others) at_mid)
 
         pub next_one : IsSearching before task slots given singles (others + 1) w
         next_one =

@@ -18,8 +18,7 @@ use Rattle.lock_free.specs.Holding.{IsOn}
 use Rattle.lock_free.specs.Loading.{now}
 use Rattle.lock_free.proofs.Descents.{place_later, inside_later, known_stays, found_after}
 use Rattle.lock_free.proofs.EntryMeets.{found_same}
-use Rattle.lock_free.proofs.KeyMoves.{moved_as}
-use Rattle.lock_free.proofs.OnLines.{moves_on}
+use Rattle.lock_free.proofs.OnLines.{moved_so, moves_on}
 
 module _ (v w : View) (task : Task) (t : IsTask v task) (slots : List ℕ) (given : Given) (path : List Ref) (main : Ref) (position : ℕ) (place : IsPlace v slots given path main)
     (inside : IsInside v main position) (l : KeyLine) (at : IsAtKey v l) (value : ℕ) (g : HasMet v (met.Found value) w)
@@ -29,8 +28,8 @@ module _ (v w : View) (task : Task) (t : IsTask v task) (slots : List ℕ) (give
 
   moved : HasMoved (λ o. next) v w
   moved =
-      moved_as v w (line_met (now v) l (met.Found value)) (λ o. next) (g l at)
-      (λ o r. is_found o ∙ ap (λ c. found_so (now v) path main position value (when_found c value)) (t.calls o r).0)
+      moved_so v w (line_met (now v) l (met.Found value)) (λ o. next) (λ o r. is_found o ∙ ap (λ c. found_so (now v) path main position value (when_found c value)) (t.calls o r).0)
+      (g l at)
 
   pub key_ready : IsHere w slots given (IsFoundAt w task.call position value)
   key_ready = (

@@ -1,17 +1,16 @@
 -- KEY at a tomb.
-use Rattle.std.proofs.Common.{◌≡◌, ◌&&◌, ◌+◌, ◌<◌, ℕ, Bool, true, false, get_or, length, nat_le, nat_lt, List, [], None, Some, refl, sym, ap, subst, ◌∙◌, ltb-true, if◌then◌else◌}
+use Rattle.std.proofs.Common.{◌≡◌, ◌&&◌, ◌+◌, ℕ, Bool, true, false, get_or, length, nat_le, nat_lt, List, None, Some, refl, sym, ap, subst, ◌∙◌, ltb-true, if◌then◌else◌}
 use Rattle.history.specs.declared.calls.Access.TheVariants.{Writable, ReadOnly}
 use Rattle.history.specs.declared.replies.Reply.{Reply}
 use Rattle.history.specs.declared.replies.Reply.TheVariants as reply
 use Rattle.machine_model.specs.Beneath.slot_arena.specs.declared.refs.Ref.{Ref}
-use Rattle.machine_model.specs.Beneath.slot_arena.specs.Heaps.{no_ref, node_at, entries_of}
+use Rattle.machine_model.specs.Beneath.slot_arena.specs.Heaps.{no_ref, entries_of}
 use Rattle.machine_model.specs.declared.building.BuildLine.TheVariants as build
 use Rattle.machine_model.specs.declared.building.Site.TheVariants as site
 use Rattle.machine_model.specs.declared.finding.KeyLine.TheVariants as key
 use Rattle.machine_model.specs.declared.repairs.CleanLine.TheVariants as clean
 use Rattle.machine_model.specs.declared.lines.Line.{Line}
 use Rattle.machine_model.specs.declared.lines.Line.TheVariants as line
-use Rattle.machine_model.specs.declared.operations.Operation.{Operation}
 use Rattle.machine_model.specs.Calls.{absent_reply, inserts, needs_writable, when_found}
 use Rattle.machine_model.specs.Finding.{after_tomb, found_so}
 use Rattle.machine_model.specs.Paths.{above, current}
@@ -22,15 +21,15 @@ use Rattle.lock_free.specs.declared.finding.Met.TheVariants as met
 use Rattle.lock_free.specs.declared.reading.Given.{Given}
 use Rattle.lock_free.specs.declared.rules.View.{View}
 use Rattle.lock_free.specs.declared.tasks.Task.{Task}
-use Rattle.lock_free.specs.Descending.{IsTask, IsPlace, IsHere, IsAtTomb, HasFound}
+use Rattle.lock_free.specs.Descending.{IsTask, IsHere, IsAtTomb, HasFound}
 use Rattle.lock_free.specs.Entries.{entry_in}
-use Rattle.lock_free.specs.GoingDown.{IsAtKey, HasMoved, IsTombOf, IsAtSingle, after_other, line_met, HasMet}
+use Rattle.lock_free.specs.GoingDown.{IsAtKey, HasMoved, IsTombOf, IsAtSingle, line_met, HasMet}
 use Rattle.lock_free.specs.Holding.{IsOn}
-use Rattle.lock_free.specs.Loading.{now, Runs, IsSound}
+use Rattle.lock_free.specs.Loading.{now, IsSound}
 use Rattle.lock_free.specs.Passing.{IsPlaced}
 use Rattle.lock_free.proofs.Descents.{found_here}
 use Rattle.lock_free.proofs.KeyHolds.{listed_single}
-use Rattle.lock_free.proofs.KeyMoves.{moved_as}
+use Rattle.lock_free.proofs.OnLines.{moved_so}
 use Rattle.lock_free.proofs.OfTasks.{reads_only, reader_finds, reader_absent}
 use Rattle.lock_free.proofs.Removals.{never_on}
 
@@ -88,9 +87,9 @@ module _ (n : ℕ) (v : View) (sound : IsSound n v) (task : Task) (t : IsTask v 
       pub finds : (value : ℕ) → HasMet v (met.Found value) w → HasFound v slots (what.Answers (reply.Found (Some value))) w
       finds value g =
           answers (reply.Found (Some value))
-          (moved_as v w (line_met (now v) (key.Listed path main 0) (met.Found value)) (λ o. line.End (reply.Found (Some value))) (g (key.Listed path main 0) at)
-          (λ o r.
-          ap (λ c. found_so (now v) path main 0 value (when_found c value)) (t.calls o r).0 ∙ ap (found_so (now v) path main 0 value) (reader_finds task.call value reads)))
+          (moved_so v w (line_met (now v) (key.Listed path main 0) (met.Found value)) (λ o. line.End (reply.Found (Some value))) (λ o r.
+          ap (λ c. found_so (now v) path main 0 value (when_found c value)) (t.calls o r).0 ∙ ap (found_so (now v) path main 0 value) (reader_finds task.call value reads))
+          (g (key.Listed path main 0) at))
 
       -- of so many singles, by whether the call inserts, and its answer where it doesn't
       abbrev by_call : ℕ → Bool → Reply → Line
@@ -101,7 +100,7 @@ module _ (n : ℕ) (v : View) (sound : IsSound n v) (task : Task) (t : IsTask v 
       pub misses : HasMet v met.Other w → HasFound v slots (what.Answers (reply.Found None)) w
       misses g =
           answers (reply.Found None)
-          (moved_as v w (line_met (now v) (key.Listed path main 0) met.Other) (λ o. line.End (reply.Found None)) (g (key.Listed path main 0) at)
-          (λ o r.
+          (moved_so v w (line_met (now v) (key.Listed path main 0) met.Other) (λ o. line.End (reply.Found None)) (λ o r.
           ap (λ x. by_call (length (entries_of x)) (inserts o.call) (absent_reply o.call)) tomb.1 ∙ ap (λ c. by_call 1 (inserts c) (absent_reply c)) (t.calls o r).0
-          ∙ ap (λ b. by_call 1 b (absent_reply task.call)) (reader_absent task.call reads).0 ∙ ap (λ a. by_call 1 false a) (reader_absent task.call reads).1))
+          ∙ ap (λ b. by_call 1 b (absent_reply task.call)) (reader_absent task.call reads).0 ∙ ap (λ a. by_call 1 false a) (reader_absent task.call reads).1)
+          (g (key.Listed path main 0) at))

@@ -1,5 +1,5 @@
 -- KEY passes a level, and goes from level to level.
-use Rattle.std.proofs.Common.{◌≡◌, ◌<◌, ◌-◌, ◌+◌, ℕ, zero, suc, get_or, length, List, [], ◌∷◌, ◌++◌, refl, sym, ap, subst, ◌∙◌, arith}
+use Rattle.std.proofs.Common.{◌≡◌, ◌<◌, ◌-◌, ℕ, zero, suc, get_or, length, List, [], ◌∷◌, ◌++◌, refl, sym, ap, subst, ◌∙◌, arith}
 use Rattle.std.proofs.lemmas.List.{length-append, get_or_push}
 use Rattle.machine_model.specs.Beneath.ctrie_base.specs.Hashes.{hash_of}
 use Rattle.machine_model.specs.Beneath.slot_arena.specs.declared.refs.Ref.{Ref}
@@ -8,7 +8,6 @@ use Rattle.machine_model.specs.declared.building.Site.TheVariants as site
 use Rattle.machine_model.specs.declared.finding.KeyLine.TheVariants as key
 use Rattle.machine_model.specs.declared.lines.Line.{Line}
 use Rattle.machine_model.specs.declared.lines.Line.TheVariants as line
-use Rattle.machine_model.specs.declared.operations.Operation.{Operation}
 use Rattle.machine_model.specs.Calls.{key_of}
 use Rattle.machine_model.specs.Finding.{after_tomb, going_down}
 use Rattle.machine_model.specs.Paths.{current}
@@ -25,12 +24,11 @@ use Rattle.lock_free.specs.declared.tasks.Task.{Task}
 use Rattle.lock_free.specs.Descending.{IsTask, AreAt, IsOnPath, IsPlace, IsHere, IsAtEntry, IsAtList, IsAtTomb, absent_in, absent_found, HasFound, HasGoneBelow, HasPassedLevel, IsDescending}
 use Rattle.lock_free.specs.GoingDown.{IsAtKey, HasMoved, IsFlag, IsAtLink, IsWithin, Tells, line_at, HasReadTurn, HasReadKey}
 use Rattle.lock_free.specs.Holding.{IsOn}
-use Rattle.lock_free.specs.Loading.{now, Runs}
 use Rattle.lock_free.specs.Passing.{IsPlaced}
 use Rattle.lock_free.proofs.Descents.{are_at_later, as_long, task_moved, moved_self, found_after}
 use Rattle.lock_free.proofs.KeyFound.{absent_here}
-use Rattle.lock_free.proofs.KeyMoves.{moved_as, moved_on}
-use Rattle.lock_free.proofs.OnLines.{moves_on}
+use Rattle.lock_free.proofs.KeyMoves.{moved_on}
+use Rattle.lock_free.proofs.OnLines.{moved_so, moves_on}
 
 at_index : (v : View) (path : List Ref) (slots : List ℕ) → AreAt v path slots → (k : ℕ) → k < length slots → IsPlaced v (get_or path k no_ref) (get_or slots k 0)
 at_index v [] [] h k low = absurd (omega (arith, low))
@@ -115,15 +113,16 @@ module _ (v : View) (task : Task) (t : IsTask v task) (slots : List ℕ) (on : I
       (
         subst (λ x. Tells middle main x) is turned.tells,
         on_by (after_tomb task.access path main)
-            (moved_as v middle (line_at path main (turn.Tomb single)) (λ o. after_tomb task.access path main) (moved_by (turn.Tomb single) is) (λ o r. ap (λ a. after_tomb a path main) (t.calls o r).1)),
+            (moved_so v middle (line_at path main (turn.Tomb single)) (λ o. after_tomb task.access path main) (λ o r. ap (λ a. after_tomb a path main) (t.calls o r).1)
+            (moved_by (turn.Tomb single) is)),
       ),
     )
 
     pub absent_done : way ≡ turn.Absent → HasFound v slots (absent_found task.call site.Absent given) middle
     absent_done is =
         let absent : HasMoved (λ o. absent_in task.call site.Absent path main) v middle =
-        moved_as v middle (line_at path main turn.Absent) (λ o. absent_in task.call site.Absent path main) (moved_by turn.Absent is)
-        (λ o r. ap (λ c. absent_in c site.Absent path main) (t.calls o r).0) in
+        moved_so v middle (line_at path main turn.Absent) (λ o. absent_in task.call site.Absent path main) (λ o r. ap (λ c. absent_in c site.Absent path main) (t.calls o r).0)
+        (moved_by turn.Absent is) in
         found_after v middle middle (λ o. absent_in task.call site.Absent path main) slots (absent_found task.call site.Absent given) absent
         (absent_here task.call site.Absent given path main middle slots place tt (on_by (absent_in task.call site.Absent path main) absent))
 
@@ -165,8 +164,8 @@ module _ (before : View) (first : List ℕ) (start : IsOnPath before first) (tas
   next_level slot after h =
       let path = h.path ++ h.below ∷ [] in
       let below : HasMoved (λ o. line.Key (key.Read path (reading (current path)))) v after =
-      moved_as v after (λ o. going_down h.path h.below) (λ o. line.Key (key.Read path (reading (current path)))) h.moved
-      (λ o r. ap (λ i. line.Key (key.Read path (reading i))) (sym (last_is h.path h.below))) in
+      moved_so v after (λ o. going_down h.path h.below) (λ o. line.Key (key.Read path (reading (current path)))) (λ o r. ap (λ i. line.Key (key.Read path (reading i))) (sym (last_is h.path h.below)))
+      h.moved in
       let more = length-append slots (slot ∷ []) in
       record {
         path = path;

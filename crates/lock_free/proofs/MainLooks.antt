@@ -1,5 +1,5 @@
 -- KEY's look at a main node.
-use Rattle.std.proofs.Common.{ltb-true, count_ones, ◌≡◌, ◌<◌, ◌^◌, ◌*◌, ℕ, Bool, true, false, List, [], ◌∷◌, Contains, get_or, Some, refl, sym, ap, subst, ◌∙◌, arith, if◌then◌else◌}
+use Rattle.std.proofs.Common.{ltb-true, count_ones, ◌≡◌, ◌<◌, ◌^◌, ◌*◌, ℕ, Bool, true, false, List, [], ◌∷◌, Contains, Some, refl, sym, ap, subst, ◌∙◌, arith, if◌then◌else◌}
 use Rattle.std.proofs.lemmas.Bool.{le-leb}
 use Rattle.std.proofs.lemmas.List.Elements.{Contains-append_left, Contains-get_or}
 use Rattle.trie_words.specs.Codes.{IsShape}
@@ -11,7 +11,7 @@ use Rattle.machine_model.specs.Beneath.ctrie_base.specs.Paths.{index_at, positio
 use Rattle.machine_model.specs.Beneath.slot_arena.specs.declared.refs.Ref.{Ref}
 use Rattle.machine_model.specs.Beneath.slot_arena.specs.declared.nodes.Node.{Node}
 use Rattle.machine_model.specs.Beneath.slot_arena.specs.declared.nodes.Node.TheVariants.{Branch, Tomb, List as Listed}
-use Rattle.machine_model.specs.Beneath.slot_arena.specs.Heaps.{no_ref, node_at, entries_of, refs_of_node, refs_of_slot, refs_of_prev}
+use Rattle.machine_model.specs.Beneath.slot_arena.specs.Heaps.{no_ref, node_at, refs_of_node, refs_of_slot, refs_of_prev}
 use Rattle.machine_model.specs.Beneath.slot_arena.specs.declared.nodes.Slot.{Slot}
 use Rattle.machine_model.specs.Beneath.slot_arena.specs.Refs.{slot_of}
 use Rattle.machine_model.specs.declared.finding.KeyLine.TheVariants as key
@@ -35,12 +35,12 @@ use Rattle.lock_free.specs.declared.rules.View.{View}
 use Rattle.lock_free.specs.Accounts.{place_of}
 use Rattle.lock_free.specs.GoingDown.{IsAtKey, HasMoved, IsAtMain, line_at, Tells, HasTurned}
 use Rattle.lock_free.specs.Loading.{now, seen, Runs, Stores, IsUsed, IsSound, Went, HasHeader, HasLookedAtMain}
-use Rattle.lock_free.specs.Passing.{IsPlaced}
 use Rattle.lock_free.specs.Nodes.{SaysShape, of_branch, of_tomb, of_list}
 use Rattle.lock_free.specs.Places.{words_of}
 use Rattle.lock_free.proofs.Asked.{live_in_use}
 use Rattle.lock_free.proofs.GivenBack.{node_is}
-use Rattle.lock_free.proofs.KeyMoves.{hash_is, line_is, at_look, finds_now, moved}
+use Rattle.lock_free.proofs.KeyMoves.{hash_is}
+use Rattle.lock_free.proofs.OnLines.{line_is, at_look, finds_now, moved}
 use Rattle.lock_free.proofs.Laters.{went_later}
 
 -- ---- what a header says the main node is
@@ -106,14 +106,14 @@ module _ (n m : ℕ) (before after : View) (sound : IsSound n before) (last : Is
 
   h : HasHeader account state main header
   h =
-      let claims = finds_now (seen before account) (key.Main path main) at_then (words_of before.sizes) w.waited.sound in
+      let claims = finds_now (seen before account) (line.Key (key.Main path main)) at_then (words_of before.sizes) w.waited.sound in
       let slot = live_in_use before.sizes account w.waited.sound.bounds main (safe_of claims.1.1.0) in
-      (g.1 main (at_look before (key.Main path main) at main refl)).0 slot.0 slot.1 (subst (λ x. is_main_node x ≡ true) (node_is state main slot.0 slot.1) (meets_of claims.1.1.0))
+      (g.1 main (at_look before (line.Key (key.Main path main)) at main (λ o. refl))).0 slot.0 slot.1 (subst (λ x. is_main_node x ≡ true) (node_is state main slot.0 slot.1) (meets_of claims.1.1.0))
 
   comes_by : (node : Node) (next : Operation → Line) → h.slot.node ≡ node → ((o : Operation) (mark : Bool) → Runs before o → key_after_main state (record o { is_marked = mark }) path main node ≡
       next o) → HasMoved next before after
   comes_by node next is by =
-      moved before (key.Main path main) at after (went_later n before sound m after last w) w main next refl
+      moved before (line.Key (key.Main path main)) at after (went_later n before sound m after last w) w main next (λ o. refl) (λ o. refl)
       (λ o mark runs. ap (key_after_main state (record o { is_marked = mark }) path main) (node_is state main h.slot h.stores ∙ is) ∙ by o mark runs)
 
   flag_is : (o : Operation) → Runs before o → flag_in state o path ≡ flag
@@ -125,12 +125,12 @@ module _ (n m : ℕ) (before after : View) (sound : IsSound n before) (last : Is
   -- it is at no other one
   elsewhere : (t : Turn) → HasMoved (line_at path main t) before after → Tells after main t → HasTurned before t after
   elsewhere t moves tells p q other =
-      let same = ap place_in (sym (line_is before (key.Main path main) at other.0 other.1) ∙ other.2) in
+      let same = ap place_in (sym (line_is before (line.Key (key.Main path main)) at other.0 other.1) ∙ other.2) in
       subst (λ (x : List Ref × Ref). HasMoved (line_at x.0 x.1 t) before after × Tells after x.1 t) same (moves, tells)
 
   -- what stood there stands there after the step
   stays : (r : Ref) (slot : Slot) → Stores state r slot → IsUsed after r slot
-  stays r slot is = (g.1 main (at_look before (key.Main path main) at main refl)).1 (slot_of r) ∙ is
+  stays r slot is = (g.1 main (at_look before (line.Key (key.Main path main)) at main (λ o. refl))).1 (slot_of r) ∙ is
 
   main_after : node_at (now after).heap main ≡ h.slot.node
   main_after = node_is (now after) main h.slot (stays main h.slot h.stores)

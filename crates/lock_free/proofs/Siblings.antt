@@ -1,38 +1,35 @@
 -- KEY takes one of two entries out of a branch below the root: it looks at the other one.
-use Rattle.std.proofs.Common.{◌≡◌, ◌<◌, ◌-◌, ℕ, Bool, true, false, get_or, length, List, Some, refl, sym, ap, subst, ◌∙◌, arith}
+use Rattle.std.proofs.Common.{◌≡◌, ◌<◌, ◌-◌, ℕ, true, false, get_or, List, Some, refl, sym, ap, ◌∙◌, arith}
 use Rattle.std.proofs.lemmas.Bool.{true≢false}
 use Rattle.trie_words.specs.declared.entries.Entry.{Entry}
 use Rattle.machine_model.specs.Beneath.slot_arena.specs.declared.refs.Ref.{Ref}
 use Rattle.machine_model.specs.Beneath.slot_arena.specs.declared.nodes.Node.{Node}
 use Rattle.machine_model.specs.Beneath.slot_arena.specs.declared.nodes.Node.TheVariants.{Indirection, Branch, Single, Tomb, List as Listed}
-use Rattle.machine_model.specs.Beneath.slot_arena.specs.declared.nodes.Slot.{Slot}
-use Rattle.machine_model.specs.Beneath.slot_arena.specs.Heaps.{no_ref, node_at, entry_at, entries_of, with_main_word}
+use Rattle.machine_model.specs.Beneath.slot_arena.specs.Heaps.{no_ref, node_at, entry_at, entries_of}
 use Rattle.machine_model.specs.declared.actions.Action.TheVariants as act
 use Rattle.machine_model.specs.declared.building.BuildLine.TheVariants as build
 use Rattle.machine_model.specs.declared.building.Change.TheVariants as change
 use Rattle.machine_model.specs.declared.finding.KeyLine.TheVariants as key
 use Rattle.machine_model.specs.declared.lines.Line.{Line}
 use Rattle.machine_model.specs.declared.lines.Line.TheVariants as line
-use Rattle.machine_model.specs.declared.operations.Operation.{Operation}
 use Rattle.machine_model.specs.Finding.{after_sibling}
 use Rattle.machine_model.specs.States.{State}
 use Rattle.proof_memory.specs.Laws.{SameNode}
-use Rattle.proof_memory.specs.Wants.{is_branch, is_branch_or_list, is_entry}
+use Rattle.proof_memory.specs.Wants.{is_branch_or_list, is_entry}
 use Rattle.lock_free.specs.declared.descending.Found.TheVariants as found
 use Rattle.lock_free.specs.declared.reading.Given.{Given}
 use Rattle.lock_free.specs.declared.rules.View.{View}
-use Rattle.lock_free.specs.Accounts.{place_of}
-use Rattle.lock_free.specs.Descending.{IsPlace, IsInside, IsAtSibling, IsHere, HasFound}
-use Rattle.lock_free.specs.Entries.{HasStayed, entry_in, IsEntryIn, HoldsEntry, HasSeenEntry}
+use Rattle.lock_free.specs.Descending.{IsPlace, IsAtSibling, IsHere, HasFound}
+use Rattle.lock_free.specs.Entries.{entry_in, IsEntryIn, HasSeenEntry}
 use Rattle.lock_free.specs.GoingDown.{IsAtKey, HasMoved}
-use Rattle.lock_free.specs.Loading.{now, seen, IsUsed, IsSound, IsAtSlot, HasPosition, Went}
+use Rattle.lock_free.specs.Loading.{now, seen, IsSound, IsAtSlot, HasPosition, Went}
 use Rattle.lock_free.specs.Nodes.{is_single}
 use Rattle.lock_free.specs.Passing.{Later}
 use Rattle.lock_free.proofs.Descents.{place_later, inside_later, known_stays, found_stayed}
 use Rattle.lock_free.proofs.GivenBack.{node_is}
 use Rattle.lock_free.proofs.KeyHolds.{LooksIn, looks_in_sibling, sibling_branch, sibling_entry, has_position_in, holds_entry_in}
-use Rattle.lock_free.proofs.KeyMoves.{at_look, moved}
-use Rattle.lock_free.proofs.Laters.{later_both, went_later, waited_later, placed_later}
+use Rattle.lock_free.proofs.OnLines.{at_look, moved}
+use Rattle.lock_free.proofs.Laters.{went_later, waited_later, placed_later}
 
 -- what an entry is it stays
 single_stays : (a b : Node) → SameNode a b → is_single b ≡ is_single a
@@ -97,7 +94,7 @@ module _ (n : ℕ) (before : View) (sound : IsSound n before) (slots : List ℕ)
     place_mid = place_later before middle g.0.later slots given path main place
 
     pub look_ready : IsAtSlot middle act.Look entry.slot
-    look_ready = (e, at_look middle (key.Sibling path main position former) at_mid e refl, entry_is.placed.1)
+    look_ready = (e, at_look middle (line.Key (key.Sibling path main position former)) at_mid e (λ o. refl), entry_is.placed.1)
 
     module _ (after : View) (end : IsSound n after) (w : Went middle after) where
       abbrev u : View
@@ -127,7 +124,8 @@ module _ (n : ℕ) (before : View) (sound : IsSound n before) (slots : List ℕ)
 
       comes_to : (l : Line) → after_sibling path main position former (entry_at state.heap main (1 - position)) (node_at state.heap (entry_at state.heap main (1 - position))) ≡ l →
           HasMoved (λ o. l) middle after
-      comes_to l is = moved middle (key.Sibling path main position former) at_mid after later_after w (entry_at state.heap main (1 - position)) (λ o. l) refl (λ o mark r. is)
+      comes_to l is = moved middle (line.Key (key.Sibling path main position former)) at_mid after later_after w (entry_at state.heap main (1 - position)) (λ o. l) (λ o. refl) (λ o. refl)
+          (λ o mark r. is)
 
       place_after : IsPlace after slots given path main
       place_after = place_later middle after later_after slots given path main place_mid
@@ -155,5 +153,9 @@ module _ (n : ℕ) (before : View) (sound : IsSound n before) (slots : List ℕ)
             moved = comes_to (line.Build (build.Main path main (change.Remove position) (Some former)))
                 (by_link path main position former (entry_at state.heap main (1 - position)) (node_at state.heap (entry_at state.heap main (1 - position)))
                 (sibling_entry u path main position former at_u _ w.waited.sound) (kind_then ∙ single));
-            knows = (place_after, inside_later middle after later_after main given.header position place_mid.header (inside_later before middle g.0.later main given.header position place.header is_at.3.1));
+            knows = (
+              place_after,
+              inside_later middle after later_after main given.header position place_mid.header
+                  (inside_later before middle g.0.later main given.header position place.header is_at.3.1),
+            );
           })

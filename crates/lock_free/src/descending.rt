@@ -5,7 +5,8 @@ ghost use Rattle.history.specs.declared.replies.Reply.TheVariants as reply;
 ghost use Rattle.machine_model.specs.declared.building.Site.TheVariants as place;
 ghost use Rattle.machine_model.specs.Calls.{inserts};
 ghost use Rattle.lock_free.specs.declared.descending.Found.TheVariants as what;
-ghost use Rattle.lock_free.specs.Descending.{absent_found, entries_in, rest_in, HasFound, HasPassedLevel, IsAtEntry, IsAtList, IsAtOne, IsAtSibling, IsAtTomb, IsFoundAt, IsHere, IsOnPath, IsRemovingAt, IsTask};
+ghost use Rattle.lock_free.specs.Descending.{absent_found, entries_in, rest_in, HasFound, HasPassedLevel, IsAtEntry, IsAtList};
+ghost use Rattle.lock_free.specs.Descending.{IsAtOne, IsAtSibling, IsAtTomb, IsFoundAt, IsHere, IsOnPath, IsRemovingAt, IsTask};
 ghost use Rattle.lock_free.specs.Loading.{IsSound};
 
 use crate::finding::{Met, Turn, meet_link, meet_single, read_turn};
@@ -154,13 +155,7 @@ fn rest_in(shape: Shape, indirections: usize) -> Rest
                 Rest::Any
             }
         }
-        Shape::List(count) => {
-            if count == 2 {
-                Rest::Single
-            } else {
-                Rest::Any
-            }
-        }
+        Shape::List(count) => { if count == 2 { Rest::Single } else { Rest::Any } }
         Shape::Tomb(_) => Rest::Any,
     }
 }
@@ -225,13 +220,7 @@ fn at_key(
 }
 
 /// Looks for the key along the singles of a list.
-fn search_list(
-    words: &Words,
-    actor: &mut Actor,
-    task: &Task,
-    path: &[u32],
-    given: Given,
-) -> Found
+fn search_list(words: &Words, actor: &mut Actor, task: &Task, path: &[u32], given: Given) -> Found
     requires table { actor.old.table_id ≡ words.now.table_id }
     requires sound { IsSound words.now.table_id.words actor.old.me.0 }
     requires task { IsTask actor.old.me.0 task.now }
@@ -254,7 +243,14 @@ fn search_list(
 }
 
 /// At a tomb, whose single is in this slot: a writable call has it cleaned, a read-only one looks at the single.
-fn at_tomb(words: &Words, actor: &mut Actor, task: &Task, path: &[u32], given: Given, single: u32) -> Found
+fn at_tomb(
+    words: &Words,
+    actor: &mut Actor,
+    task: &Task,
+    path: &[u32],
+    given: Given,
+    single: u32,
+) -> Found
     requires table { actor.old.table_id ≡ words.now.table_id }
     requires sound { IsSound words.now.table_id.words actor.old.me.0 }
     requires task { IsTask actor.old.me.0 task.now }

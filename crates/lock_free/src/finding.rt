@@ -5,9 +5,7 @@ ghost use Rattle.lock_free.specs.GoingDown.{HasMet, HasMetLink, HasReadKey, HasT
 ghost use Rattle.lock_free.specs.Loading.{IsSound};
 ghost use Rattle.lock_free.specs.Passing.{IsOnWay};
 
-use crate::loads::{
-    Actor, Words, look_at_key, look_at_link, look_at_main, look_at_value, see_key,
-};
+use crate::loads::{Actor, Words, look_at_key, look_at_link, look_at_main, look_at_value, see_key};
 use crate::reading::{AsksRoot, Given, Way, read};
 use nodes::{has_flag, position_of};
 use std::sync::Wait;

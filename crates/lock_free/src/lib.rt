@@ -18,8 +18,8 @@ mod swapping;
 mod tasks;
 
 pub use accounts::{Account, Known, Owned};
-pub use exchanges::{decide, publish, restore};
 pub use descending::{Found, Path, descend};
+pub use exchanges::{decide, publish, restore};
 pub use handles::{close, enter, mark, see_root};
 pub use loads::{
     Actor, Words, look_at_key, look_at_link, look_at_main, look_at_value, read_header, read_link,

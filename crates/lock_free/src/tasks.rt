@@ -110,7 +110,10 @@ pub fn when_found(call: Call, value: u64) -> WhenFound
             }
         }
         Call::Remove { .. } => WhenFound::Removes,
-        Call::RemoveIf { value: expected, .. } => {
+        Call::RemoveIf {
+            value: expected,
+            ..
+        } => {
             if value == expected {
                 WhenFound::Removes
             } else {

@@ -1,4 +1,4 @@
-use Rattle.std.proofs.Common.{sym, subst, ◌∙◌}
+use Rattle.std.proofs.Common.{sym, subst}
 use Rattle.lock_free.specs.Descending.{HasFound}
 use Rattle.lock_free.proofs.LevelPassed.{link_ready, task_mid, entry_ready, list_ready, tomb_ready, absent_done, found_done, passed_done}
 use Rattle.lock_free.proofs.OfTasks.{on_way}

@@ -24,7 +24,8 @@ overflow_sub-position c =
 
 pub see_entry-requires-clause-held : goal.see_entry-requires-clause-held
 see_entry-requires-clause-held c =
-    single_ready c.args.words.now.table_id.words c.args.actor.now.me.0 c.requires.sound c.args.path.now c.args.given c.args.position c.args.former c.requires.at (sym c.in-Single.is ∙ c.rest_in.ensures)
+    single_ready c.args.words.now.table_id.words c.args.actor.now.me.0 c.requires.sound c.args.path.now c.args.given c.args.position c.args.former c.requires.at
+    (sym c.in-Single.is ∙ c.rest_in.ensures)
 
 pub returns-in-Single-clause-found : goal.returns-in-Single-clause-found
 returns-in-Single-clause-found c =

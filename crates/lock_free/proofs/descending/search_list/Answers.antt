@@ -39,7 +39,8 @@ pub meet_single-requires-clause-at : goal.meet_single-requires-clause-at
 meet_single-requires-clause-at c =
     let i = c.loop-position.invariant in
     let x = c.see_entry-entry in
-    meet_ready c.args.words.now.table_id.words c.args.actor.now.me.0 c.args.task.now c.args.path.now c.args.given c.entries_in-singles.result c.loop-position.position c.loop-position.actor.me.0 i.2 i.1
+    meet_ready c.args.words.now.table_id.words c.args.actor.now.me.0 c.args.task.now c.args.path.now c.args.given c.entries_in-singles.result c.loop-position.position c.loop-position.actor.me.0
+    i.2 i.1
     c.loop-position-test.true x.new.actor.me.0 x.result x.ensures.seen x.ensures.sound
 
 pub at_key-requires-clause-table : goal.at_key-requires-clause-table
@@ -49,7 +50,8 @@ pub at_key-requires-clause-at : goal.at_key-requires-clause-at
 at_key-requires-clause-at c =
     let i = c.loop-position.invariant in
     let x = c.see_entry-entry in
-    found_ready c.args.words.now.table_id.words c.args.actor.now.me.0 c.args.task.now c.args.path.now c.args.given c.entries_in-singles.result c.loop-position.position c.loop-position.actor.me.0 i.2 i.1
+    found_ready c.args.words.now.table_id.words c.args.actor.now.me.0 c.args.task.now c.args.path.now c.args.given c.entries_in-singles.result c.loop-position.position c.loop-position.actor.me.0
+    i.2 i.1
     c.loop-position-test.true x.new.actor.me.0 x.result x.ensures.seen x.ensures.sound c.meet_single.new.actor.me.0 c.in-Found.value c.in-Found.ensures.met
 
 pub returns-in-Found-clause-table : goal.returns-in-Found-clause-table
@@ -59,7 +61,8 @@ pub returns-in-Found-clause-found : goal.returns-in-Found-clause-found
 returns-in-Found-clause-found c =
     let i = c.loop-position.invariant in
     let x = c.see_entry-entry in
-    found_done c.args.words.now.table_id.words c.args.actor.now.me.0 c.args.task.now c.args.path.now c.args.given c.entries_in-singles.result c.loop-position.position c.loop-position.actor.me.0 i.2 i.1
+    found_done c.args.words.now.table_id.words c.args.actor.now.me.0 c.args.task.now c.args.path.now c.args.given c.entries_in-singles.result c.loop-position.position c.loop-position.actor.me.0
+    i.2 i.1
     c.loop-position-test.true x.new.actor.me.0 x.result x.ensures.seen x.ensures.sound c.meet_single.new.actor.me.0 c.in-Found.value c.in-Found.ensures.met c.at_key.new.actor.me.0 c.at_key.result
     c.at_key.ensures.found
 
@@ -69,7 +72,8 @@ loop-position-preserved c =
     let x = c.see_entry-entry in (
       c.meet_single.ensures.table ∙ x.ensures.table ∙ i.0,
       c.meet_single.ensures.sound,
-      next_one c.args.words.now.table_id.words c.args.actor.now.me.0 c.args.task.now c.args.path.now c.args.given c.entries_in-singles.result c.loop-position.position c.loop-position.actor.me.0 i.2 i.1
+      next_one c.args.words.now.table_id.words c.args.actor.now.me.0 c.args.task.now c.args.path.now c.args.given c.entries_in-singles.result c.loop-position.position c.loop-position.actor.me.0
+          i.2 i.1
           c.loop-position-test.true x.new.actor.me.0 x.result x.ensures.seen x.ensures.sound c.meet_single.new.actor.me.0 c.in-Other.ensures.met,
     )
 
