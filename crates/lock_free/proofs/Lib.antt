@@ -84,6 +84,10 @@ mod MainMakes
 mod SwapsMade
 mod AllEntries
 mod StockStays
+mod MainChanges
+mod ChangedMains
+mod ChangedBranches
+mod ChangedLists
 mod MainLooks
 mod EntryLooks
 mod EntryMeets

@@ -1,5 +1,5 @@
 -- An operation comes from line to line, whichever program it belongs to: by looking at a node, or by a READ.
-use Rattle.std.proofs.Common.{◌≡◌, ℕ, Bool, Option, Some, refl, sym, ap, subst, ◌∙◌}
+use Rattle.std.proofs.Common.{◌≡◌, ℕ, Bool, Option, Some, refl, ap, subst, ◌∙◌}
 use Rattle.machine_model.specs.Beneath.slot_arena.specs.declared.refs.Ref.{Ref}
 use Rattle.machine_model.specs.declared.actions.Action.{Action}
 use Rattle.machine_model.specs.declared.actions.Action.TheVariants as act
@@ -9,7 +9,6 @@ use Rattle.machine_model.specs.declared.reading.After.TheVariants.{Gives}
 use Rattle.machine_model.specs.declared.reading.ReadLine.{ReadLine}
 use Rattle.machine_model.specs.Acting.{operation_after, private_after, attempt_after, mark_after}
 use Rattle.machine_model.specs.Operations.{action_of, line_action, line_after, generation_from, read_of}
-use Rattle.machine_model.specs.Reading.{reading}
 use Rattle.machine_model.specs.States.{State}
 use Rattle.proof_memory.specs.Wants.{AllHold, line_wants}
 use Rattle.lock_free.specs.declared.rules.View.{View}
@@ -17,7 +16,7 @@ use Rattle.lock_free.specs.GoingDown.{HasMoved, HasStayed}
 use Rattle.lock_free.specs.Holding.{IsOn}
 use Rattle.lock_free.specs.Live.{IsLive}
 use Rattle.lock_free.specs.Loading.{now, seen, Runs, IsAt, IsSound, Went}
-use Rattle.lock_free.specs.OfReads.{on_given, read_to}
+use Rattle.lock_free.specs.OfReads.{on_given}
 use Rattle.lock_free.specs.Passing.{Later, HasCome, IsReading}
 use Rattle.lock_free.proofs.Asked.{line_stands}
 use Rattle.lock_free.proofs.Comings.{runs_one}

@@ -10,7 +10,7 @@ use Rattle.proof_memory.specs.Wants.{is_main_node, is_branch_or_list}
 use Rattle.lock_free.specs.declared.rules.View.{View}
 use Rattle.lock_free.specs.Accounts.{place_of}
 use Rattle.lock_free.specs.GoingDown.{HasMoved, HasStayed, entry_in, IsEntryIn}
-use Rattle.lock_free.specs.Loading.{now, Runs, IsUsed, Holds}
+use Rattle.lock_free.specs.Loading.{Runs, IsUsed, Holds}
 
 -- the operation that runs is on this line
 abbrev pub IsOn : View → Line → Type 0

@@ -25,6 +25,7 @@ pub mod SeatWords
 pub mod Becoming
 pub mod Stocks
 pub mod SeenEntries
+pub mod Changing
 pub mod GoingDown
 pub mod Holding
 pub mod Repairing

@@ -3,6 +3,7 @@
 #![tactic(auto)]
 
 mod accounts;
+mod changing;
 mod cleaning;
 mod entries;
 mod exchanges;
@@ -22,6 +23,7 @@ mod stores;
 mod swapping;
 
 pub use accounts::{Account, Known, Owned};
+pub use changing::{Edit, build_main};
 pub use entries::see_entries;
 pub use exchanges::{decide, publish, restore};
 pub use finding::{Entered, Level, Met, go_down};
