@@ -88,6 +88,7 @@ mod MainChanges
 mod ChangedMains
 mod ChangedBranches
 mod ChangedLists
+mod Entombed
 mod MainLooks
 mod EntryLooks
 mod EntryMeets
