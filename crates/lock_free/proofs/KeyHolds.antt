@@ -1,5 +1,5 @@
 -- KEY holds the main node at an entry of which it looks.
-use Rattle.std.proofs.Common.{◌≡◌, ◌<◌, ◌-◌, inl, inr, ℕ, true, List, [], ◌∷◌, ◌++◌, Contains, length, Option, Some, refl, sym, subst, arith, ltb-true}
+use Rattle.std.proofs.Common.{◌≡◌, ◌<◌, ◌-◌, inl, inr, ℕ, true, List, [], ◌∷◌, ◌++◌, Contains, get_or, length, Option, Some, refl, sym, ap, subst, arith, ltb-true}
 use Rattle.std.proofs.lemmas.Bool.{true≢false}
 use Rattle.std.proofs.lemmas.List.Elements.{Contains-get_or, Contains-append_left, Contains-append_right}
 use Rattle.std.proofs.lemmas.Option.{none-some, same_Some}
@@ -9,7 +9,7 @@ use Rattle.machine_model.specs.Beneath.slot_arena.specs.declared.refs.Ref.{Ref}
 use Rattle.machine_model.specs.Beneath.slot_arena.specs.declared.nodes.Node.{Node}
 use Rattle.machine_model.specs.Beneath.slot_arena.specs.declared.nodes.Node.TheVariants.{Indirection, Branch, Single, Tomb, List as Listed}
 use Rattle.machine_model.specs.Beneath.slot_arena.specs.declared.nodes.Slot.{Slot}
-use Rattle.machine_model.specs.Beneath.slot_arena.specs.Heaps.{node_at, entries_of}
+use Rattle.machine_model.specs.Beneath.slot_arena.specs.Heaps.{no_ref, node_at, entries_of}
 use Rattle.machine_model.specs.declared.building.BuildLine.TheVariants as build
 use Rattle.machine_model.specs.declared.building.Change.{Change}
 use Rattle.machine_model.specs.declared.building.Change.TheVariants as change
@@ -30,9 +30,10 @@ use Rattle.lock_free.specs.GoingDown.{IsAtKey, sought_in}
 use Rattle.lock_free.specs.Holding.{IsOn}
 use Rattle.lock_free.specs.Live.{IsLive, line_claims, refs_of_claims, at_hand}
 use Rattle.lock_free.specs.Loading.{now, IsUsed, IsSound, Holds, HasPosition}
+use Rattle.lock_free.specs.Passing.{Later}
 use Rattle.lock_free.proofs.Asked.{live_in_use}
 use Rattle.lock_free.specs.Nodes.{is_single}
-use Rattle.lock_free.proofs.EntryLooks.{entry_inside, entry_used}
+use Rattle.lock_free.proofs.EntryLooks.{entry_inside, entry_used, node_stays}
 use Rattle.lock_free.proofs.GivenBack.{node_is}
 use Rattle.lock_free.proofs.KeyMoves.{hash_is}
 use Rattle.lock_free.proofs.OnLines.{finds_now}
@@ -58,6 +59,14 @@ pub record LooksIn (v : View) (main : Ref) (position : ℕ) : Type 0 where
   pub holds_entry : Holds v (entry_in v main position)
   pub entry_used : (other : Slot) × IsUsed v (entry_in v main position) other
 
+-- at a later time too
+module _ (v : View) (main : Ref) (position : ℕ) (h : LooksIn v main position) (w : View) (l : Later v w) where
+  pub node_then : node_at (now w).heap main ≡ node_at (now v).heap main
+  node_then = node_stays v w l main h.slot h.used h.is_main
+
+  pub entry_then : entry_in w main position ≡ entry_in v main position
+  entry_then = ap (λ x. get_or (entries_of x) position no_ref) node_then
+
 module _ (v : View) (l : Line) (at : IsOn v l) (n : ℕ) (sound : IsSound n v) where
   abbrev its : Operation
   its = record at.0 { is_marked = at.1.0 }
@@ -74,7 +83,7 @@ module _ (v : View) (l : Line) (at : IsOn v l) (n : ℕ) (sound : IsSound n v) w
       (subst (λ (x : Line). Contains (refs_of_claims (line_claims (now v) (record its { line = x }))) main) (sym at.2)
       (subst (λ h. Contains (refs_of_claims (line_wants h at.0.call at.0.access l)) main) (sym (hash_is v.sizes v.account)) c))
 
-  looks_by : (main : Ref) (position : ℕ) (wanted : Wanted) → Named main → ((node : Node) → meets wanted node ≡ true → is_main_node node ≡ true) → Claims (IsLive (now v)) (now v).heap
+  pub looks_by : (main : Ref) (position : ℕ) (wanted : Wanted) → Named main → ((node : Node) → meets wanted node ≡ true → is_main_node node ≡ true) → Claims (IsLive (now v)) (now v).heap
       (Is main wanted) →
       IsInside v main position → LooksIn v main position
   looks_by main position wanted named as_main there within =
@@ -94,7 +103,7 @@ module _ (v : View) (l : Line) (at : IsOn v l) (n : ℕ) (sound : IsSound n v) w
         entry_used = entry_used v n sound main used.0 used.1 lives position inside;
       }
 
-  within : (main : Ref) (position : ℕ) → Claims (IsLive (now v)) (now v).heap (Is main (WithEntry position)) → IsInside v main position
+  pub within : (main : Ref) (position : ℕ) → Claims (IsLive (now v)) (now v).heap (Is main (WithEntry position)) → IsInside v main position
   within main position c = ltb-true position (length (entries_of (node_at (now v).heap main))) (meets_of c)
 
   -- at that place after the path

@@ -59,17 +59,17 @@ bitmap_in (shape.Branch bitmap) = bitmap
 bitmap_in s = 0
 
 module _ (account : Account) (k : ℕ) where
-  branch_says : (n : Node) (s : Shape) (bitmap : ℕ) → s ≡ shape.Branch bitmap → SaysShape account k n s → (entries : _) × (n ≡ Branch bitmap entries)
+  pub branch_says : (n : Node) (s : Shape) (bitmap : ℕ) → s ≡ shape.Branch bitmap → SaysShape account k n s → (entries : _) × (n ≡ Branch bitmap entries)
   branch_says n s bitmap e (of_branch b entries) = (entries, ap (λ x. Branch (bitmap_in x) entries) e)
   branch_says n s bitmap e (of_tomb single own is) = absurd (omega (arith, (ap kind_in e)))
   branch_says n s bitmap e (of_list singles) = absurd (omega (arith, (ap kind_in e)))
 
-  tomb_says : (n : Node) (s : Shape) (entry : Entry) → s ≡ shape.Tomb entry → SaysShape account k n s → (single : Ref) × (n ≡ Tomb single) × (place_of account single ≡ entry.slot)
+  pub tomb_says : (n : Node) (s : Shape) (entry : Entry) → s ≡ shape.Tomb entry → SaysShape account k n s → (single : Ref) × (n ≡ Tomb single) × (place_of account single ≡ entry.slot)
   tomb_says n s entry e (of_branch b entries) = absurd (omega (arith, (ap kind_in e)))
   tomb_says n s entry e (of_tomb single own is) = (single, refl, ap slot_in e)
   tomb_says n s entry e (of_list singles) = absurd (omega (arith, (ap kind_in e)))
 
-  list_says : (n : Node) (s : Shape) (count : ℕ) → s ≡ shape.List count → SaysShape account k n s → (singles : _) × (n ≡ Listed singles)
+  pub list_says : (n : Node) (s : Shape) (count : ℕ) → s ≡ shape.List count → SaysShape account k n s → (singles : _) × (n ≡ Listed singles)
   list_says n s count e (of_branch b entries) = absurd (omega (arith, (ap kind_in e)))
   list_says n s count e (of_tomb single own is) = absurd (omega (arith, (ap kind_in e)))
   list_says n s count e (of_list singles) = (singles, refl)

@@ -23,6 +23,11 @@ pub mod Passing
 pub mod Entries
 pub mod Swaps
 pub mod SeatWords
+pub mod Becoming
+pub mod Stocks
+pub mod SeenEntries
+pub mod Changing
 pub mod GoingDown
 pub mod Holding
 pub mod Descending
+pub mod Repairing

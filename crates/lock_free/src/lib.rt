@@ -3,28 +3,37 @@
 #![tactic(auto)]
 
 mod accounts;
+mod changing;
+mod cleaning;
 mod descending;
+mod entries;
 mod exchanges;
 mod finding;
 mod handles;
 mod loads;
+mod makes;
 mod offers;
 mod pins;
 mod reading;
+mod renewing;
 mod rules;
 mod sizes;
+mod stock;
 mod stores;
 mod swapping;
 mod tasks;
 
 pub use accounts::{Account, Known, Owned};
+pub use changing::{Edit, build_main};
 pub use descending::{Found, Path, descend};
+pub use entries::see_entries;
 pub use exchanges::{decide, publish, restore};
 pub use handles::{close, enter, mark, see_root};
 pub use loads::{
     Actor, Words, look_at_key, look_at_link, look_at_main, look_at_value, read_header, read_link,
     see_entry, see_key, see_link, see_main, see_pair, see_value,
 };
+pub use makes::{make_branch, make_link, make_list, make_single, make_tomb};
 pub use offers::{abort, complete};
 pub use pins::{finish, pass, pin, unpin};
 pub use reading::{AsksRoot, Given, Passed, Way, read, read_within};
@@ -33,6 +42,7 @@ pub use rules::{
     Publishes, Rule, Sees, Shuts, Takes, View,
 };
 pub use sizes::Sizes;
+pub use stock::{OwnNode, Stock, take};
 pub use stores::{Tried, draft, make, make_root, try_take};
-pub use swapping::{Swapped, swap};
+pub use swapping::{Swapped, swap, swap_made};
 pub use tasks::Task;
