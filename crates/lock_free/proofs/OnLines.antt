@@ -8,17 +8,19 @@ use Rattle.machine_model.specs.declared.operations.Operation.{Operation}
 use Rattle.machine_model.specs.declared.reading.After.TheVariants.{Gives}
 use Rattle.machine_model.specs.declared.reading.ReadLine.{ReadLine}
 use Rattle.machine_model.specs.Acting.{operation_after, private_after, attempt_after, mark_after}
+use Rattle.machine_model.specs.Calls.{handle_of}
 use Rattle.machine_model.specs.Operations.{action_of, line_action, line_after, generation_from, read_of}
 use Rattle.machine_model.specs.States.{State}
 use Rattle.proof_memory.specs.Wants.{AllHold, line_wants}
+use Rattle.lock_free.specs.declared.reading.Way.{Way}
 use Rattle.lock_free.specs.declared.rules.View.{View}
 use Rattle.lock_free.specs.Entries.{HasStayed}
 use Rattle.lock_free.specs.GoingDown.{HasMoved}
 use Rattle.lock_free.specs.Holding.{IsOn}
 use Rattle.lock_free.specs.Live.{IsLive}
 use Rattle.lock_free.specs.Loading.{now, seen, Runs, IsAt, IsSound, Went}
-use Rattle.lock_free.specs.OfReads.{on_given}
-use Rattle.lock_free.specs.Passing.{Later, HasCome, IsReading}
+use Rattle.lock_free.specs.OfReads.{on_given, read_to}
+use Rattle.lock_free.specs.Passing.{Later, HasCome, IsReading, IsOnWay}
 use Rattle.lock_free.proofs.Asked.{line_stands}
 use Rattle.lock_free.proofs.Comings.{runs_one}
 use Rattle.lock_free.proofs.KeyMoves.{hash_is}
@@ -109,3 +111,10 @@ stayed_moved u v w f p q = record { later = later_both u v w p.later q.later; co
 
 pub moved_so : (v w : View) (f g : Operation → Line) → ((o : Operation) → Runs v o → f o ≡ g o) → HasMoved f v w → HasMoved g v w
 moved_so v w f g same m = record { later = m.later; comes = λ o runs. subst (λ x. Runs w (record o { line = x })) (same o runs) (m.comes o runs) }
+
+-- on the same way
+pub way_on : (v w : View) (l : Line) (next : Operation → Line) (way : Way) → IsOn v l → HasMoved next v w → IsOnWay v way → IsOnWay w way
+way_on v w l next way at m on q s =
+    let same = runs_one w q (record at.0 { line = next at.0 }) s (m.comes at.0 at.1) in
+    let it = on at.0 at.1 in
+    (ap (λ (z : Operation). z.access) same ∙ it.0, ap (λ (z : Operation). handle_of z.call) same ∙ it.1)

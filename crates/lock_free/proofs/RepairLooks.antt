@@ -51,11 +51,11 @@ eqb_swap a b = by_test (a == b) refl
     by_test false e = e ∙ sym (ne_eqb b a (λ s. true≢false (sym (eq-eqb a b (sym s)) ∙ e)))
 
 -- an operation is at the entries of one branch
-abbrev renew_parts : Line → List Ref × Ref × List Ref
+abbrev pub renew_parts : Line → List Ref × Ref × List Ref
 renew_parts (line.Renew (renew.Entry path main done)) = (path, main, done)
 renew_parts l = ([], no_ref, [])
 
-abbrev clean_parts : Line → List Ref × Ref × List Ref
+abbrev pub clean_parts : Line → List Ref × Ref × List Ref
 clean_parts (line.Clean (clean.Entry path main done)) = (path, main, done)
 clean_parts l = ([], no_ref, [])
 

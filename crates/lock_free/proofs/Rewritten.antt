@@ -120,7 +120,7 @@ module _ (sizes : Sizes) (s : Table.State Call View) (kept : IsKept sizes s) (id
   }
 
   -- what the seat has entered and would close then
-  module _ (entered : Option ℕ) (closing : Option Closing)
+  module _ (entered : Option ℕ) (closing : List Closing)
       (inside : (g : ℕ) → entered ≡ Some g → (g < handle_limit) × (is_some (root_at now g) ≡ true) × ((p : Pin) × (v.pin ≡ Some p) × (p.handle ≡ g)))
       (calls : (o : Operation) → operation_of now v.actor ≡ Some o → entered ≡ Some (handle_of o.call)) where
     abbrev pub view_then : View
@@ -128,7 +128,7 @@ module _ (sizes : Sizes) (s : Table.State Call View) (kept : IsKept sizes s) (id
 
     own_then : IsSeat sizes kept.account kept.stands words_then view_then
     own_then =
-        own_else sizes s kept id v at kept.account kept.stands words_then stays v.account seat.waited seat.counts v.pin entered closing v.opens v.opening (pin_same v.actor seat.low ∙ seat.pinned)
+        own_else sizes s kept id v at kept.account kept.stands words_then stays v.account seat.waited seat.rested seat.counts v.pin entered closing v.opens v.opening (pin_same v.actor seat.low ∙ seat.pinned)
         inside calls (held id v at)
         seat.reserves (λ g slot o n. (let x = seat.opening g slot o n in names_kept sizes s kept id v at kept.account kept.stands words_then stays v view_then g slot x (stays_named g slot x) x.free))
         (λ b name free. stays_spare id v b name at free)

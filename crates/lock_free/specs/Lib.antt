@@ -4,6 +4,7 @@ pub mod Live
 pub mod Nodes
 pub mod Roots
 pub mod Trying
+pub mod Fates
 pub mod Rules
 pub mod Steps
 pub mod Loading
@@ -18,10 +19,16 @@ pub mod Exchanging
 pub mod Storing
 pub mod OfferWords
 pub mod HandleWords
+pub mod Closing
+pub mod Calling
+pub mod RootWords
+pub mod RootOffers
+pub mod Numbers
 pub mod OfReads
 pub mod Passing
 pub mod Entries
 pub mod Swaps
+pub mod Rooting
 pub mod SeatWords
 pub mod Becoming
 pub mod Stocks
@@ -31,3 +38,9 @@ pub mod GoingDown
 pub mod Holding
 pub mod Descending
 pub mod Repairing
+pub mod Contracting
+pub mod CopySteps
+pub mod Opening
+pub mod Splitting
+pub mod Telling
+pub mod Answering

@@ -1,44 +1,37 @@
 -- RENEW and CLEAN go over the entries of a branch, one after another.
-use Rattle.std.specs.Prelude.{◌≡◌, ℕ, Bool, true, false, List, [], ◌∷◌, ◌++◌, length, Some}
+use Rattle.std.specs.Prelude.{◌≡◌, ℕ, ◌==◌, Bool, true, false, not, List, [], ◌∷◌, ◌++◌, length, Option, Some, None}
 use Rattle.arrayvec.specs.ArrayVec.{ArrayVec}
+use Rattle.history.specs.declared.replies.Reply.{Reply}
+use Rattle.history.specs.declared.replies.Reply.TheVariants as reply
 use Rattle.trie_words.specs.declared.entries.Entry.{Entry}
+use Rattle.trie_words.specs.declared.links.Link.{Link}
 use Rattle.machine_model.specs.Beneath.slot_arena.specs.declared.refs.Ref.{Ref}
 use Rattle.machine_model.specs.Beneath.slot_arena.specs.declared.nodes.Node.TheVariants.{Branch}
 use Rattle.machine_model.specs.Beneath.slot_arena.specs.declared.nodes.Slot.{Slot}
 use Rattle.machine_model.specs.Beneath.slot_arena.specs.Heaps.{node_at}
 use Rattle.machine_model.specs.declared.operations.Operation.{Operation}
+use Rattle.machine_model.specs.declared.finding.KeyLine.TheVariants as key
 use Rattle.machine_model.specs.declared.repairs.CleanLine.TheVariants as clean
 use Rattle.machine_model.specs.declared.repairs.RenewLine.TheVariants as renew
 use Rattle.machine_model.specs.declared.lines.Line.{Line}
 use Rattle.machine_model.specs.declared.lines.Line.TheVariants as line
 use Rattle.machine_model.specs.Cleaning.{clean_next}
+use Rattle.machine_model.specs.GivingUp.{given_up}
+use Rattle.machine_model.specs.Lines.{new_try}
+use Rattle.machine_model.specs.Paths.{current, is_below_root}
 use Rattle.machine_model.specs.Reading.{reading}
 use Rattle.machine_model.specs.Renewing.{renew_next, next_entry}
 use Rattle.machine_model.specs.States.{State}
+use Rattle.lock_free.specs.declared.cleaning.Cleaned.{Cleaned}
+use Rattle.lock_free.specs.declared.renewing.Renewed.{Renewed}
+use Rattle.lock_free.specs.declared.renewing.Renewed.TheVariants as renewed
 use Rattle.lock_free.specs.declared.rules.View.{View}
+use Rattle.lock_free.specs.Becoming.{Follows, HasBecome}
 use Rattle.lock_free.specs.Entries.{IsEntryIn}
 use Rattle.lock_free.specs.Holding.{IsOn, HasComeTo}
 use Rattle.lock_free.specs.Loading.{now, Runs, IsUsed}
-use Rattle.lock_free.specs.Nodes.{is_single}
-use Rattle.lock_free.specs.Passing.{IsPlaced}
-
--- ---- nodes, as entries name them
-
--- the entry names the node, and says whether it is a single
-pub record IsNamedBy (v : View) (r : Ref) (e : Entry) : Type 0 where
-  pub placed : IsPlaced v r e.slot
-  pub kind : is_single (node_at (now v).heap r) ≡ e.is_single
-
--- one after another
-abbrev pub AreNamedBy : View → List Ref → List Entry → Type 0
-AreNamedBy v [] [] = Unit {0}
-AreNamedBy v [] (e ∷ es) = ⊥
-AreNamedBy v (r ∷ rs) [] = ⊥
-AreNamedBy v (r ∷ rs) (e ∷ es) = IsNamedBy v r e × AreNamedBy v rs es
-
--- the branch has this bitmap
-abbrev pub IsBranch : View → Ref → ℕ → Type 0
-IsBranch v main bitmap = (slot : Slot) × (entries : ArrayVec Ref) × IsUsed v main slot × (slot.node ≡ Branch bitmap entries)
+use Rattle.lock_free.specs.Passing.{IsPlaced, KnowsLink}
+use Rattle.lock_free.specs.SeenEntries.{AreEntriesTo, entry_to, unowned}
 
 -- the operation began its try in this generation
 abbrev pub HasStart : View → ℕ → Type 0
@@ -70,3 +63,141 @@ IsAtCleaned v e = (path : List Ref) × (main : Ref) × (done : List Ref) × IsOn
 abbrev pub HasLookedOver : View → Bool → View → Type 0
 HasLookedOver before single after =
     (path : List Ref) (main : Ref) (done : List Ref) → IsOn before (line.Clean (clean.Entry path main done)) → HasComeTo (clean_looked (now before) path main done single) before after
+
+-- the node that has come to the place of the next entry, and whether it is another one
+pub record CleanedTo (before : View) (path : List Ref) (main : Ref) (done : List Ref) (result : Cleaned) (after : View) : Type 0 where
+  pub one : Ref
+  pub come : HasComeTo (clean_next (now before) path main (done ++ one ∷ [])) before after
+  pub names : unowned result.entry ≡ entry_to after one
+  pub changed : result.is_changed ≡ not (one == next_entry (now before) main done)
+
+abbrev pub HasCleaned : View → Cleaned → View → Type 0
+HasCleaned before result after =
+    (path : List Ref) (main : Ref) (done : List Ref) → IsOn before (line.Clean (clean.Entry path main done)) → CleanedTo before path main done result after
+
+-- ---- all entries in a CLEAN
+
+-- it is to look at the branch in this slot, which has these entries
+pub record IsCleaning (v : View) (name : ℕ) (entries : List Entry) : Type 0 where
+  pub path : List Ref
+  pub main : Ref
+  pub on : IsOn v (line.Clean (clean.Main path main))
+  pub placed : IsPlaced v main name
+  pub bitmap : ℕ
+  pub refs : ArrayVec Ref
+  pub node : node_at (now v).heap main ≡ Branch bitmap refs
+  pub names : AreEntriesTo v entries refs.items
+
+-- all are done: where any has changed the branch is made anew
+abbrev pub clean_end : List Ref → Ref → List Ref → Bool → Line
+clean_end path main done true = line.Clean (clean.Contracted path main done)
+clean_end path main done false = new_try
+
+pub record CleanedAll (before : View) (path : List Ref) (main : Ref) (entries : List Entry) (changed : Bool) (after : View) : Type 0 where
+  pub done : List Ref
+  pub come : HasComeTo (clean_end path main done changed) before after
+  pub names : AreEntriesTo after entries done
+
+abbrev pub HasCleanedAll : View → List Entry → Bool → View → Type 0
+HasCleanedAll before entries changed after = (path : List Ref) (main : Ref) → IsOn before (line.Clean (clean.Main path main)) → CleanedAll before path main entries changed after
+
+-- ---- an operation that has no slot
+
+-- It may give up, and then answers this.
+pub record GivesUp (answer : Operation → Reply) (v w : View) : Type 0 where
+  pub follows : Follows v w
+  pub runs : (operation : Operation) → Runs v operation →
+      (private : List Ref) × (l : Line) × Runs w (record operation { private = private; line = l }) × (given_up operation.call l ≡ Some (answer operation))
+
+-- ---- an entry in a RENEW that makes an indirection
+
+-- the node that has come to the place of the next entry
+pub record RenewedTo (before : View) (path : List Ref) (main : Ref) (done : List Ref) (result : Entry) (after : View) : Type 0 where
+  pub one : Ref
+  pub more : List Ref
+  pub become : HasBecome (λ o. record o { private = o.private ++ more; line = renew_next (now before) path main (done ++ one ∷ []) }) before after
+  pub names : unowned result ≡ entry_to after one
+
+abbrev pub RenewedOrNot : View → List Ref → Ref → List Ref → Option Entry → View → Type 0
+RenewedOrNot before path main done (Some entry) after = RenewedTo before path main done entry after
+RenewedOrNot before path main done None after = GivesUp (λ o. reply.NoSlots) before after
+
+abbrev pub HasRenewed : View → Option Entry → View → Type 0
+HasRenewed before result after =
+    (path : List Ref) (main : Ref) (done : List Ref) → IsOn before (line.Renew (renew.Entry path main done)) → RenewedOrNot before path main done result after
+
+-- ---- all entries in a RENEW
+
+-- it is to look at the first entry of a branch that has these
+pub record IsRenewing (v : View) (entries : List Entry) : Type 0 where
+  pub path : List Ref
+  pub main : Ref
+  pub on : IsOn v (line.Renew (renew.Entry path main []))
+  pub bitmap : ℕ
+  pub refs : ArrayVec Ref
+  pub node : node_at (now v).heap main ≡ Branch bitmap refs
+  pub names : AreEntriesTo v entries refs.items
+
+pub record RenewedAll (before : View) (path : List Ref) (main : Ref) (entries : List Entry) (after : View) : Type 0 where
+  pub done : List Ref
+  pub more : List Ref
+  pub become : HasBecome (λ o. record o { private = o.private ++ more; line = line.Renew (renew.Branch path main done) }) before after
+  pub names : AreEntriesTo after entries done
+
+abbrev pub AllRenewedOrNot : View → List Ref → Ref → Option (ArrayVec Entry) → View → Type 0
+AllRenewedOrNot before path main (Some entries) after = RenewedAll before path main entries.items after
+AllRenewedOrNot before path main None after = GivesUp (λ o. reply.NoSlots) before after
+
+abbrev pub HasRenewedAll : View → Option (ArrayVec Entry) → View → Type 0
+HasRenewedAll before result after = (path : List Ref) (main : Ref) → IsOn before (line.Renew (renew.Entry path main [])) → AllRenewedOrNot before path main result after
+
+-- ---- a repair as a whole
+
+-- it has come to this line, whatever it has of its own then
+pub record HasEndedAt (l : Line) (v w : View) : Type 0 where
+  pub follows : Follows v w
+  pub comes : (operation : Operation) → Runs v operation → (private : List Ref) × Runs w (record operation { private = private; line = l })
+
+-- the branch has this bitmap
+abbrev pub IsBranch : View → Ref → ℕ → Type 0
+IsBranch v main bitmap = (slot : Slot) × (entries : ArrayVec Ref) × IsUsed v main slot × (slot.node ≡ Branch bitmap entries)
+
+-- the branch that stands in the indirection in this slot, with this bitmap
+pub record IsBranchBelow (v : View) (path : List Ref) (main : Ref) (name : ℕ) (link : Link) (bitmap : ℕ) : Type 0 where
+  pub placed : IsPlaced v (current path) name
+  pub link_is : KnowsLink v (current path) main link
+  pub branch : IsBranch v main bitmap
+
+-- it is to look at that one, in a CLEAN
+abbrev pub IsAtCleanedBranch : View → ℕ → Link → ℕ → Bool → Type 0
+IsAtCleanedBranch v name link bitmap below =
+    (path : List Ref) × (main : Ref) × IsOn v (line.Clean (clean.Main path main)) × IsBranchBelow v path main name link bitmap × (is_below_root path ≡ below)
+
+-- it begins anew afterwards, or has no slot
+abbrev pub AgainOrNot : View → Bool → View → Type 0
+AgainOrNot before true after = HasEndedAt new_try before after
+AgainOrNot before false after = GivesUp (λ o. reply.NoSlots) before after
+
+abbrev pub HasCleanedBranch : View → Bool → View → Type 0
+HasCleanedBranch before result after = (path : List Ref) (main : Ref) → IsOn before (line.Clean (clean.Main path main)) → AgainOrNot before result after
+
+-- it is to clean below the indirection in this slot, which is the root or isn't
+abbrev pub IsAtClean : View → ℕ → Bool → Type 0
+IsAtClean v name below =
+    (path : List Ref) × IsOn v (line.Clean (clean.Read path (reading (current path)))) × IsPlaced v (current path) name × (is_below_root path ≡ below)
+
+abbrev pub HasCleanedBelow : View → Bool → View → Type 0
+HasCleanedBelow before result after = (path : List Ref) → IsOn before (line.Clean (clean.Read path (reading (current path)))) → AgainOrNot before result after
+
+-- it is to look at the first entry of that branch, in a RENEW
+abbrev pub IsAtRenew : View → ℕ → Link → ℕ → Type 0
+IsAtRenew v name link bitmap = (path : List Ref) × (main : Ref) × IsOn v (line.Renew (renew.Entry path main [])) × IsBranchBelow v path main name link bitmap
+
+-- the branch is renewed, so it is read again; or it isn't any more the one that stands there; or no slot is had
+abbrev pub RenewedBy : View → List Ref → Renewed → View → Type 0
+RenewedBy before path renewed.Reads after = HasEndedAt (line.Key (key.Read path (reading (current path)))) before after
+RenewedBy before path renewed.Again after = HasEndedAt new_try before after
+RenewedBy before path renewed.Full after = GivesUp (λ o. reply.NoSlots) before after
+
+abbrev pub HasRenewedBranch : View → Renewed → View → Type 0
+HasRenewedBranch before result after = (path : List Ref) (main : Ref) → IsOn before (line.Renew (renew.Entry path main [])) → RenewedBy before path result after

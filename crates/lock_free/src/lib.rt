@@ -3,19 +3,30 @@
 #![tactic(auto)]
 
 mod accounts;
+mod asking;
+mod calling;
 mod changing;
 mod cleaning;
+mod closing;
+mod contracting;
+mod copying;
 mod descending;
 mod entries;
 mod exchanges;
 mod finding;
 mod handles;
+mod laws;
+mod licensing;
 mod loads;
 mod makes;
+mod numbers;
 mod offers;
+mod opening;
 mod pins;
 mod reading;
 mod renewing;
+mod root_offers;
+mod rooting;
 mod rules;
 mod sizes;
 mod stock;
@@ -24,22 +35,35 @@ mod swapping;
 mod tasks;
 
 pub use accounts::{Account, Known, Owned};
+pub use asking::{Named, ask_word, see_generation};
+pub use calling::{Denial, Started, begin, give_up, try_begin};
 pub use changing::{Edit, build_main};
+pub use cleaning::clean_below;
+pub use closing::{Shut, close_handle};
+pub use copying::{complete_own, read_original};
 pub use descending::{Found, Path, descend};
 pub use entries::see_entries;
 pub use exchanges::{decide, publish, restore};
-pub use handles::{close, enter, mark, see_root};
+pub use handles::{clean, close, mark, see_root, unmark};
+pub use laws::{calls_are_answered, closes_are_answered, histories_go_on, seats_are_explained};
+pub use licensing::Asker;
 pub use loads::{
     Actor, Words, look_at_key, look_at_link, look_at_main, look_at_value, read_header, read_link,
     see_entry, see_key, see_link, see_main, see_pair, see_value,
 };
 pub use makes::{make_branch, make_link, make_list, make_single, make_tomb};
-pub use offers::{abort, complete};
+pub use numbers::{give_back, name, reserve};
+pub use offers::{Fate, abort, complete, meet_offer, see_news, see_olds};
+pub use opening::{Board, OpenError, open, split};
 pub use pins::{finish, pass, pin, unpin};
 pub use reading::{AsksRoot, Given, Passed, Way, read, read_within};
+pub use renewing::{Renewed, renew};
+pub use root_offers::{Proposed, offer, propose, yields};
+pub use rooting::{Rooted, clean_settled, complete_offer, root};
 pub use rules::{
-    Closing, Completes, Drafts, Ends, Enters, Goes, Looks, Makes, MakesRoot, Marks, Pins, Pool,
-    Publishes, Rule, Sees, Shuts, Takes, View,
+    Abandons, Asks, Cleans, Closing, Completes, Drafts, Ends, Goes, Looks, Makes, MakesRoot, Marks,
+    Meets, Names, Parts, Pins, Pool, Proposes, Publishes, Reserves, Returns, Rule, Sees, Shuts, Starts,
+    Takes, Unmarks, Unpins, View, Yields,
 };
 pub use sizes::Sizes;
 pub use stock::{OwnNode, Stock, take};

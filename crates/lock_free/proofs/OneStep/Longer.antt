@@ -11,7 +11,7 @@ use Rattle.lock_free.specs.declared.sizes.Sizes.{Sizes}
 use Rattle.lock_free.specs.Accounts.{bounds_for}
 
 module _ (sizes : Sizes) (steps : List Step) where
-  longer_bounds : (more : List Step) → bounds_for sizes (steps ++ more) ≡ wider (length more) (length (steps ++ more) + 1) (bounds_for sizes steps)
+  pub longer_bounds : (more : List Step) → bounds_for sizes (steps ++ more) ≡ wider (length more) (length (steps ++ more) + 1) (bounds_for sizes steps)
   longer_bounds more =
       let slots : length (steps ++ more) + 3 ≡ length steps + 3 + length more = omega (arith, length-append steps more) in
       ap (λ n. record { slots = n; actors = sizes.seats; hash = sizes.hash; steps = length (steps ++ more) + 1 }) slots
