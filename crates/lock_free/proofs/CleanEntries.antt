@@ -197,7 +197,7 @@ module _ (n : ℕ) (v0 v1 : View) (sound0 : IsSound n v0) (entry : Entry) (is_at
             elsewhere (record { entry = entry; is_changed = false }) v3 (record {
               one = e;
               come = comes e (kept_by v2.account (slot_of child) g.header.slot.node given.header.shape other g.header.is_shape (now u) path main done
-              ∙ ap (λ r. clean_next (now u) path main (done ++ r ∷ [])) at_u);
+                  ∙ ap (λ r. clean_next (now u) path main (done ++ r ∷ [])) at_u);
               names = named_then v3 later_all;
               changed = unchanged;
             })

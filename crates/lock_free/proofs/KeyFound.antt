@@ -14,6 +14,7 @@ use Rattle.machine_model.specs.declared.lines.Line.TheVariants as line
 use Rattle.machine_model.specs.Calls.{absent_reply, inserts, when_found}
 use Rattle.machine_model.specs.Finding.{found_so}
 use Rattle.lock_free.specs.declared.descending.Found.TheVariants as found
+use Rattle.lock_free.specs.declared.descending.Update.TheVariants as update
 use Rattle.lock_free.specs.declared.reading.Given.{Given}
 use Rattle.lock_free.specs.declared.rules.View.{View}
 use Rattle.lock_free.specs.Descending.{IsPlace, IsSite, IsFoundAt, IsRemovingAt, IsHere, absent_in, absent_at_end, absent_found, line_found, KnowsFound, HasFound}
@@ -34,9 +35,9 @@ module _ (v : View) (call : Call) (slots : List ℕ) (given : Given) (position v
   pub answers : (answer : Reply) → Answers answer ≡ when_found call value → HasFound v slots (found.Answers answer) v
   answers answer is = found_here v slots (found.Answers answer) path main no_ref (line.End answer) (on_by (Answers answer) is) refl tt
 
-  pub sets : Sets ≡ when_found call value → HasFound v slots (found.Builds (site.At position) (Some value) given) v
+  pub sets : Sets ≡ when_found call value → HasFound v slots (found.Changes (update.Builds (site.At position) (Some value)) given) v
   sets is =
-      found_here v slots (found.Builds (site.At position) (Some value) given) path main no_ref (line.Build (build.Single path main (site.At position) (Some value))) (on_by Sets is) refl
+      found_here v slots (found.Changes (update.Builds (site.At position) (Some value)) given) path main no_ref (line.Build (build.Single path main (site.At position) (Some value))) (on_by Sets is) refl
       (is_at.2, is_at.3.0)
 
   pub removing_here : Removes ≡ when_found call value → IsHere v slots given (IsRemovingAt v position value)
@@ -46,7 +47,7 @@ module _ (v : View) (call : Call) (slots : List ℕ) (given : Given) (position v
 
 module _ (call : Call) (place : Site) (given : Given) (path : List Ref) (main : Ref) where
   absent_by : (b : Bool) → (if b then line.Build (build.Single path main place None) else line.End (absent_reply call)) ≡ line_found path main no_ref
-      (if b then found.Builds place None given else found.Answers (absent_reply call))
+      (if b then found.Changes (update.Builds place None) given else found.Answers (absent_reply call))
   absent_by true = refl
   absent_by false = refl
 
@@ -54,7 +55,7 @@ module _ (call : Call) (place : Site) (given : Given) (path : List Ref) (main : 
   absent_line = absent_by (inserts call)
 
   module _ (v : View) (slots : List ℕ) (is_place : IsPlace v slots given path main) (fits : IsSite v main place) where
-    knows_by : (b : Bool) → KnowsFound v slots path main no_ref (if b then found.Builds place None given else found.Answers (absent_reply call))
+    knows_by : (b : Bool) → KnowsFound v slots path main no_ref (if b then found.Changes (update.Builds place None) given else found.Answers (absent_reply call))
     knows_by true = (is_place, fits)
     knows_by false = tt
 

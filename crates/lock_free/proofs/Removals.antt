@@ -16,6 +16,7 @@ use Rattle.machine_model.specs.Finding.{removing}
 use Rattle.proof_memory.specs.Wants.{is_branch_or_list}
 use Rattle.proof_memory.proofs.Levels.ShapeStates.{never_there}
 use Rattle.lock_free.specs.declared.descending.Found.TheVariants as found
+use Rattle.lock_free.specs.declared.descending.Update.TheVariants as update
 use Rattle.lock_free.specs.declared.descending.Rest.{Rest}
 use Rattle.lock_free.specs.declared.descending.Rest.TheVariants as rest
 use Rattle.lock_free.specs.declared.reading.Given.{Given}
@@ -165,7 +166,7 @@ module _ (n : ℕ) (v : View) (sound : IsSound n v) (slots : List ℕ) (given : 
     pub single_ready : HasPosition v given.link.main.slot (1 - position)
     single_ready = has_position_in v main (1 - position) looks kind (omega arith) given.link.main.slot place.link.is.names.place
 
-    pub entombs : (after : View) (entry : Entry) → IsSound n after → HasSeenEntry v given.link.main.slot (1 - position) entry after → HasFound v slots (found.Entombs entry former given) after
+    pub entombs : (after : View) (entry : Entry) → IsSound n after → HasSeenEntry v given.link.main.slot (1 - position) entry after → HasFound v slots (found.Changes (update.Entombs entry former) given) after
     entombs after entry last g =
         let entry_is : IsEntryIn after main (1 - position) entry.slot entry.is_single = g.1 main (holds_entry_in v main (1 - position) looks kind) place.link.is.names.place in
         let same : entry_in after main (1 - position) ≡ other =
@@ -173,11 +174,11 @@ module _ (n : ℕ) (v : View) (sound : IsSound n v) (slots : List ℕ) (given : 
         let on_after : IsOn after (line.Build (build.Main path main (change.Entomb other) (Some former))) =
         stays_on v (line.Build (build.Main path main (change.Entomb other) (Some former))) on after g.0 in
         let single = sym entry_is.kind ∙ ap (λ r. is_single (node_at (now after).heap r)) same ∙ entombed_single after path main other (Some former) on_after n last in
-        found_stayed v after after slots (found.Entombs entry former given) g.0
-        (found_here after slots (found.Entombs entry former given) path main other (line.Build (build.Main path main (change.Entomb other) (Some former))) on_after refl
-        (place_later v after g.0.later slots given path main place, subst (λ r. IsPlaced after r entry.slot) same entry_is.placed, single))
+        found_stayed v after after slots (found.Changes (update.Entombs entry former) given) g.0
+        (found_here after slots (found.Changes (update.Entombs entry former) given) path main other (line.Build (build.Main path main (change.Entomb other) (Some former))) on_after refl
+        (place_later v after g.0.later slots given path main place, (subst (λ r. IsPlaced after r entry.slot) same entry_is.placed, single)))
 
   -- anything else
-  pub removes : rest.Any ≡ rest_in given.header.shape (length slots) → HasFound v slots (found.Removes position former given) v
+  pub removes : rest.Any ≡ rest_in given.header.shape (length slots) → HasFound v slots (found.Changes (update.Removes position former) given) v
   removes is =
-      found_here v slots (found.Removes position former given) path main other (line.Build (build.Main path main (change.Remove position) (Some former))) (on_by rest.Any is) refl (place, inside)
+      found_here v slots (found.Changes (update.Removes position former) given) path main other (line.Build (build.Main path main (change.Remove position) (Some former))) (on_by rest.Any is) refl (place, inside)

@@ -17,6 +17,7 @@ use Rattle.machine_model.specs.States.{State}
 use Rattle.proof_memory.specs.Laws.{SameNode}
 use Rattle.proof_memory.specs.Wants.{is_branch_or_list, is_entry}
 use Rattle.lock_free.specs.declared.descending.Found.TheVariants as found
+use Rattle.lock_free.specs.declared.descending.Update.TheVariants as update
 use Rattle.lock_free.specs.declared.reading.Given.{Given}
 use Rattle.lock_free.specs.declared.rules.View.{View}
 use Rattle.lock_free.specs.Descending.{IsPlace, IsAtSibling, IsHere, HasFound}
@@ -130,9 +131,9 @@ module _ (n : ℕ) (before : View) (sound : IsSound n before) (slots : List ℕ)
       place_after : IsPlace after slots given path main
       place_after = place_later middle after later_after slots given path main place_mid
 
-      pub entombs : entry.is_single ≡ true → HasFound before slots (found.Entombs entry former given) after
+      pub entombs : entry.is_single ≡ true → HasFound before slots (found.Changes (update.Entombs entry former) given) after
       entombs single =
-          found_stayed before middle after slots (found.Entombs entry former given) g.0
+          found_stayed before middle after slots (found.Changes (update.Entombs entry former) given) g.0
           (record {
             path = path;
             main = main;
@@ -140,12 +141,12 @@ module _ (n : ℕ) (before : View) (sound : IsSound n before) (slots : List ℕ)
             moved = comes_to (line.Build (build.Main path main (change.Entomb e) (Some former)))
                 (by_single path main position former (entry_at state.heap main (1 - position)) (node_at state.heap (entry_at state.heap main (1 - position))) (kind_then ∙ single)
                 ∙ ap (λ r. line.Build (build.Main path main (change.Entomb r) (Some former))) other_then);
-            knows = (place_after, placed_later middle after later_after e entry.slot entry_is.placed, single);
+            knows = (place_after, (placed_later middle after later_after e entry.slot entry_is.placed, single));
           })
 
-      pub removes : entry.is_single ≡ false → HasFound before slots (found.Removes position former given) after
+      pub removes : entry.is_single ≡ false → HasFound before slots (found.Changes (update.Removes position former) given) after
       removes single =
-          found_stayed before middle after slots (found.Removes position former given) g.0
+          found_stayed before middle after slots (found.Changes (update.Removes position former) given) g.0
           (record {
             path = path;
             main = main;

@@ -29,6 +29,8 @@ use Rattle.lock_free.specs.declared.descending.Rest.{Rest}
 use Rattle.lock_free.specs.declared.descending.Rest.TheVariants as rest
 use Rattle.lock_free.specs.declared.descending.Stage.{Stage}
 use Rattle.lock_free.specs.declared.descending.Stage.TheVariants as stage
+use Rattle.lock_free.specs.declared.descending.Update.{Update}
+use Rattle.lock_free.specs.declared.descending.Update.TheVariants as update
 use Rattle.lock_free.specs.declared.tasks.Task.{Task}
 use Rattle.lock_free.specs.declared.reading.Given.{Given}
 use Rattle.lock_free.specs.declared.rules.View.{View}
@@ -126,12 +128,16 @@ IsAtSibling v position former path main = (position < 2) × IsInside v main posi
 
 -- ---- what comes of the way
 
--- the line to which it has come by the path and the main node; a tomb is to be made of the other single
+-- the line on which it makes its change of the main node; a tomb is to be made of the other single
+abbrev pub line_updated : List Ref → Ref → Ref → Update → Line
+line_updated path main other (update.Builds place former) = line.Build (build.Single path main place former)
+line_updated path main other (update.Removes position former) = line.Build (build.Main path main (change.Remove position) (Some former))
+line_updated path main other (update.Entombs single former) = line.Build (build.Main path main (change.Entomb other) (Some former))
+
+-- the line to which it has come by the path and the main node
 abbrev pub line_found : List Ref → Ref → Ref → Found → Line
 line_found path main other (found.Answers reply) = line.End reply
-line_found path main other (found.Builds place former given) = line.Build (build.Single path main place former)
-line_found path main other (found.Removes position former given) = line.Build (build.Main path main (change.Remove position) (Some former))
-line_found path main other (found.Entombs single former given) = line.Build (build.Main path main (change.Entomb other) (Some former))
+line_found path main other (found.Changes u given) = line_updated path main other u
 line_found path main other (found.Renews given) = line.Renew (renew.Entry path main [])
 line_found path main other found.Cleans = line.Clean (clean.Read (above path) (reading (current (above path))))
 
@@ -143,14 +149,17 @@ IsSite v main (site.Beside position) = IsInside v main position
 
 -- where the key is absent
 abbrev pub absent_found : Call → Site → Given → Found
-absent_found call place given = if inserts call then found.Builds place None given else found.Answers (absent_reply call)
+absent_found call place given = if inserts call then found.Changes (update.Builds place None) given else found.Answers (absent_reply call)
 
 -- what is known of what it names
+abbrev pub KnowsUpdate : View → Ref → Ref → Update → Type 0
+KnowsUpdate v main other (update.Builds place former) = IsSite v main place
+KnowsUpdate v main other (update.Removes position former) = IsInside v main position
+KnowsUpdate v main other (update.Entombs single former) = IsPlaced v other single.slot × (single.is_single ≡ true)
+
 abbrev pub KnowsFound : View → List ℕ → List Ref → Ref → Ref → Found → Type 0
 KnowsFound v slots path main other (found.Answers reply) = Unit {0}
-KnowsFound v slots path main other (found.Builds place former given) = IsPlace v slots given path main × IsSite v main place
-KnowsFound v slots path main other (found.Removes position former given) = IsPlace v slots given path main × IsInside v main position
-KnowsFound v slots path main other (found.Entombs single former given) = IsPlace v slots given path main × IsPlaced v other single.slot × (single.is_single ≡ true)
+KnowsFound v slots path main other (found.Changes u given) = IsPlace v slots given path main × KnowsUpdate v main other u
 KnowsFound v slots path main other (found.Renews given) = IsPlace v slots given path main
 KnowsFound v slots path main other found.Cleans = AreAt v path slots × (1 < length path)
 

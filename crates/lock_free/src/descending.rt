@@ -23,29 +23,24 @@ use trie_words::{Entry, Shape};
 /// The slots of the indirections from the root down; the last is the current one.
 pub type Path = ArrayVec<u32, 14>;
 
+/// A change of a key in a main node.
+#[derive(Clone, Copy, Drop)]
+pub enum Update {
+    /// A single of it is made, for this site; the value that the key had.
+    Builds { site: Site, former: Option<u64> },
+    /// The entry at this position is taken out; the value that the key had.
+    Removes { position: usize, former: u64 },
+    /// A tomb of this single, the only other entry, takes the place of the main node; the value that the key had.
+    Entombs { single: Entry, former: u64 },
+}
+
 /// What a call on a key comes to at the end of its way down.
 #[derive(Drop)]
 pub enum Found {
     /// It answers this, and changes nothing.
     Answers(Reply),
-    /// Its single is to be made, for this site; the value that its key had.
-    Builds {
-        site: Site,
-        former: Option<u64>,
-        given: Given,
-    },
-    /// The entry at this position is to be taken out of the main node; the value that its key had.
-    Removes {
-        position: usize,
-        former: u64,
-        given: Given,
-    },
-    /// A tomb of this single, the only other entry, is to take the place of the main node; the value that the key had.
-    Entombs {
-        single: Entry,
-        former: u64,
-        given: Given,
-    },
+    /// It changes the main node so.
+    Changes { update: Update, given: Given },
     /// The branch is to be renewed: an indirection in it is of another generation than the root.
     Renews(Given),
     /// The last indirection but one is to be cleaned: a tomb stands in the last.
@@ -66,9 +61,8 @@ fn absent(call: Call, site: Site, given: Given) -> Found
     ensures { result ≡ absent_found call site given }
 {
     if inserts(call) {
-        Found::Builds {
-            site,
-            former: None,
+        Found::Changes {
+            update: Update::Builds { site, former: None },
             given,
         }
     } else {
@@ -117,16 +111,17 @@ fn remove_beside(
     let other = see_entry(words, actor, given.link.main.slot, 1 - position as u32);
     if other.is_single {
         look_at_key(words, actor, other.slot);
-        Found::Entombs {
-            single: other,
-            former,
+        Found::Changes {
+            update: Update::Entombs {
+                single: other,
+                former,
+            },
             given,
         }
     } else {
         look_at_link(words, actor, other.slot);
-        Found::Removes {
-            position,
-            former,
+        Found::Changes {
+            update: Update::Removes { position, former },
             given,
         }
     }
@@ -178,14 +173,15 @@ fn remove(
 {
     match rest_in(given.header.shape, path.len()) {
         Rest::Entry => remove_beside(words, actor, path, given, position, former),
-        Rest::Single => Found::Entombs {
-            single: see_entry(words, actor, given.link.main.slot, 1 - position as u32),
-            former,
+        Rest::Single => Found::Changes {
+            update: Update::Entombs {
+                single: see_entry(words, actor, given.link.main.slot, 1 - position as u32),
+                former,
+            },
             given,
         },
-        Rest::Any => Found::Removes {
-            position,
-            former,
+        Rest::Any => Found::Changes {
+            update: Update::Removes { position, former },
             given,
         },
     }
@@ -210,9 +206,11 @@ fn at_key(
 {
     match when_found(call, value) {
         WhenFound::Answers(reply) => Found::Answers(reply),
-        WhenFound::Sets => Found::Builds {
-            site: Site::At { position },
-            former: Some(value),
+        WhenFound::Sets => Found::Changes {
+            update: Update::Builds {
+                site: Site::At { position },
+                former: Some(value),
+            },
             given,
         },
         WhenFound::Removes => remove(words, actor, path, given, position, value),
