@@ -30,12 +30,18 @@ use Rattle.lock_free.proofs.KeyFound.{absent_here}
 use Rattle.lock_free.proofs.KeyMoves.{moved_on}
 use Rattle.lock_free.proofs.OnLines.{moved_so, moves_on}
 
-at_index : (v : View) (path : List Ref) (slots : List ℕ) → AreAt v path slots → (k : ℕ) → k < length slots → IsPlaced v (get_or path k no_ref) (get_or slots k 0)
+pub at_index : (v : View) (path : List Ref) (slots : List ℕ) → AreAt v path slots → (k : ℕ) → k < length slots → IsPlaced v (get_or path k no_ref) (get_or slots k 0)
 at_index v [] [] h k low = absurd (omega (arith, low))
 at_index v [] (slot ∷ slots) h k low = absurd h
 at_index v (r ∷ rs) [] h k low = absurd h
 at_index v (r ∷ rs) (slot ∷ slots) h zero low = h.0
 at_index v (r ∷ rs) (slot ∷ slots) h (suc k) low = at_index v rs slots h.1 k (omega (arith, low))
+
+-- the last one
+pub placed_last : (v : View) (path : List Ref) (slots : List ℕ) → AreAt v path slots → 0 < length slots → IsPlaced v (current path) (get_or slots (length slots - 1) 0)
+placed_last v path slots places some =
+    let low : length slots - 1 < length slots = omega (arith, some) in
+    subst (λ k. IsPlaced v (get_or path (k - 1) no_ref) (get_or slots (length slots - 1) 0)) (sym (as_long v path slots places)) (at_index v path slots places (length slots - 1) low)
 
 are_at_more : (v : View) (path : List Ref) (slots : List ℕ) (r : Ref) (slot : ℕ) → AreAt v path slots → IsPlaced v r slot → AreAt v (path ++ r ∷ []) (slots ++ slot ∷ [])
 are_at_more v [] [] r slot h p = (p, tt)
@@ -61,19 +67,13 @@ module _ (v : View) (task : Task) (t : IsTask v task) (slots : List ℕ) (on : I
   long : length path ≡ length slots
   long = as_long v path slots on.2
 
-  placed : IsPlaced v (current path) (get_or slots (length slots - 1) 0)
-  placed =
-      let some = on.3 in
-      let low : length slots - 1 < length slots = omega (arith, some) in
-      subst (λ k. IsPlaced v (get_or path (k - 1) no_ref) (get_or slots (length slots - 1) 0)) (sym long) (at_index v path slots on.2 (length slots - 1) low)
-
   flag_is : (flag : ℕ) → flag ≡ flag_of task.hash (length slots - 1) → IsFlag v path flag
   flag_is flag is o r =
       is ∙ ap (λ h. flag_of h (length slots - 1)) (t.hash ∙ ap (hash_of v.sizes.hash) (t.key ∙ ap key_of (sym (t.calls o r).0)))
       ∙ ap (λ k. flag_of (hash_of v.sizes.hash (key_of o.call)) (k - 1)) (sym long)
 
   pub link_ready : (flag : ℕ) → flag ≡ flag_of task.hash (length slots - 1) → IsAtLink v (get_or slots (length slots - 1) 0) flag
-  link_ready flag is = (path, current path, at, placed, flag_is flag is)
+  link_ready flag is = (path, current path, at, placed_last v path slots on.2 on.3, flag_is flag is)
 
   module _ (given : Given) (way : Turn) (middle : View) (g : HasReadKey v (given, way) middle) where
     turned : HasReadTurn v path (current path) given way middle

@@ -157,3 +157,4 @@ mod SplitSeats
 mod SameSteps
 mod HistoriesOn
 mod Answered
+mod Seekings

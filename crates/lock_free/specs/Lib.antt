@@ -44,3 +44,4 @@ pub mod Opening
 pub mod Splitting
 pub mod Telling
 pub mod Answering
+pub mod Seeking
