@@ -31,7 +31,7 @@ use Rattle.lock_free.specs.declared.rules.View.{View}
 use Rattle.lock_free.specs.declared.swapping.Swapped.{Swapped}
 use Rattle.lock_free.specs.Becoming.{HasNew, line_made}
 use Rattle.lock_free.specs.Contracting.{IsAtContracted}
-use Rattle.lock_free.specs.GoingDown.{HasStayed}
+use Rattle.lock_free.specs.Entries.{HasStayed}
 use Rattle.lock_free.specs.Holding.{IsOn, HasComeTo}
 use Rattle.lock_free.specs.Live.{IsLive, line_claims, refs_of_claims, at_hand}
 use Rattle.lock_free.specs.Loading.{now, Runs, IsSound, Holds}
@@ -81,10 +81,13 @@ module _ (n : ℕ) (v0 : View) (sound0 : IsSound n v0) (name : ℕ) (link : Link
   its = record at0.0 { is_marked = at0.1.0 }
 
   holds : Holds v0 main
-  holds =
-      (its, at0.1.1, inl (Contains-append_left (refs_of_claims (line_claims (now v0) its)) its.private main
-      (subst (λ (x : Line). Contains (refs_of_claims (line_claims (now v0) (record its { line = x }))) main) (sym at0.2)
-      (Contains-append_right path (main ∷ []) main (Contains-get_or (main ∷ []) 0 main (omega arith))))))
+  holds = (
+    its,
+    at0.1.1,
+    inl (Contains-append_left (refs_of_claims (line_claims (now v0) its)) its.private main
+        (subst (λ (x : Line). Contains (refs_of_claims (line_claims (now v0) (record its { line = x }))) main) (sym at0.2)
+        (Contains-append_right path (main ∷ []) main (Contains-get_or (main ∷ []) 0 main (omega arith))))),
+  )
 
   pub clean_has : (count : ℕ) → count ≡ count_ones bitmap → HasEntries v0 link.main.slot count
   clean_has count is = has_entries n v0 sound0 main link.main.slot bitmap b.branch holds b.link_is.is.names.place count is

@@ -29,8 +29,8 @@ use Rattle.lock_free.specs.declared.reading.Passed.TheVariants as passed
 use Rattle.lock_free.specs.declared.reading.Way.{Way}
 use Rattle.lock_free.specs.declared.rules.View.{View}
 use Rattle.lock_free.specs.Accounts.{place_of}
-use Rattle.lock_free.specs.GoingDown.{IsEntryIn, entry_in}
-use Rattle.lock_free.specs.Holding.{IsOn, HasComeTo, HoldsEntry}
+use Rattle.lock_free.specs.Entries.{IsEntryIn, entry_in}
+use Rattle.lock_free.specs.Holding.{IsOn, HasComeTo}
 use Rattle.lock_free.specs.Loading.{now, seen, IsUsed, IsSound, IsAtSlot, Went, HasLookedAtMain}
 use Rattle.lock_free.specs.Nodes.{is_single, SaysShape, of_branch, of_tomb, of_list}
 use Rattle.lock_free.specs.Passing.{Later, IsPlaced, IsReading, IsPassing, IsOnWay, HasPassed, HasGiven}
@@ -39,7 +39,7 @@ use Rattle.lock_free.specs.SeenEntries.{entry_to, unowned}
 use Rattle.lock_free.proofs.EntriesTo.{entry_named, entry_to_on, single_on}
 use Rattle.lock_free.proofs.Followings.{follows_later, main_node_on}
 use Rattle.lock_free.proofs.GivenBack.{node_is}
-use Rattle.lock_free.proofs.HeldEntries.{node_then}
+use Rattle.lock_free.proofs.KeyHolds.{LooksIn, node_then}
 use Rattle.lock_free.proofs.Laters.{later_both, placed_later, used_later, waited_later, went_later}
 use Rattle.lock_free.proofs.NextEntries.{holds_next}
 use Rattle.lock_free.proofs.OnLines.{line_is, at_look, finds_now, moves_on, moved, reading_on, given_moved, moved_both, way_on}
@@ -95,7 +95,7 @@ module _ (n : ℕ) (v0 v1 : View) (sound0 : IsSound n v0) (entry : Entry) (is_at
   abbrev e : Ref
   e = entry_in v0 main (length done)
 
-  h : HoldsEntry v0 main (length done)
+  h : LooksIn v0 main (length done)
   h = holds_next v0 l0 at0 path main done (λ k c a. refl) n sound0
 
   come_by : (b : Bool) → entry.is_single ≡ b → HasComeTo (clean_looked (now v0) path main done b) v0 v1
@@ -197,7 +197,7 @@ module _ (n : ℕ) (v0 v1 : View) (sound0 : IsSound n v0) (entry : Entry) (is_at
             elsewhere (record { entry = entry; is_changed = false }) v3 (record {
               one = e;
               come = comes e (kept_by v2.account (slot_of child) g.header.slot.node given.header.shape other g.header.is_shape (now u) path main done
-              ∙ ap (λ r. clean_next (now u) path main (done ++ r ∷ [])) at_u);
+                  ∙ ap (λ r. clean_next (now u) path main (done ++ r ∷ [])) at_u);
               names = named_then v3 later_all;
               changed = unchanged;
             })

@@ -31,7 +31,8 @@ use Rattle.lock_free.specs.declared.reading.Way.{Way}
 use Rattle.lock_free.specs.declared.rules.View.{View}
 use Rattle.lock_free.specs.Becoming.{Follows}
 use Rattle.lock_free.specs.Climbs.{AtParentBranch, IsAtParentBranch, HasClimbedBranch, ClimbedBy, ClimbsHigher, IsAtTombed, HasSeenIt, IsContracting, HasContracted}
-use Rattle.lock_free.specs.GoingDown.{HasMoved, HasStayed}
+use Rattle.lock_free.specs.Entries.{HasStayed}
+use Rattle.lock_free.specs.GoingDown.{HasMoved}
 use Rattle.lock_free.specs.Holding.{IsOn, HasComeTo}
 use Rattle.lock_free.specs.Live.{IsLive}
 use Rattle.lock_free.specs.Loading.{now, seen, Runs, IsSound, IsAtSlot, HasLookedAtMain}

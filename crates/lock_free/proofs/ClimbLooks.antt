@@ -28,7 +28,8 @@ use Rattle.lock_free.specs.declared.rooting.Rooted.{Rooted}
 use Rattle.lock_free.specs.declared.rules.View.{View}
 use Rattle.lock_free.specs.Accounts.{place_of}
 use Rattle.lock_free.specs.Climbs.{HasCompared, IsAtTombed, HasSeenIt, IsAskingAgain, AskedBy, HasAskedAgain}
-use Rattle.lock_free.specs.GoingDown.{HasMoved, HasStayed}
+use Rattle.lock_free.specs.Entries.{HasStayed}
+use Rattle.lock_free.specs.GoingDown.{HasMoved}
 use Rattle.lock_free.specs.Holding.{IsOn}
 use Rattle.lock_free.specs.Live.{line_claims, refs_of_claims, at_hand}
 use Rattle.lock_free.specs.Loading.{now, Runs, IsSound, Holds, HoldsSlot, HasPosition}

@@ -27,15 +27,17 @@ use Rattle.lock_free.specs.declared.climbing.Climbed.TheVariants as outcome
 use Rattle.lock_free.specs.declared.reading.Way.{Way}
 use Rattle.lock_free.specs.declared.rules.View.{View}
 use Rattle.lock_free.specs.Becoming.{Follows}
-use Rattle.lock_free.specs.Climbs.{KnowsClimb, at_parent, IsAtParent, ClimbedBy, HasClimbed, AreAt, IsClimbing, AnsweredOrNot, HasClimbedUp}
+use Rattle.lock_free.specs.Climbs.{KnowsClimb, at_parent, IsAtParent, ClimbedBy, HasClimbed, IsClimbing, AnsweredOrNot, HasClimbedUp}
 use Rattle.lock_free.specs.Holding.{IsOn}
 use Rattle.lock_free.specs.Loading.{now, Runs, IsUsed, IsSound}
 use Rattle.lock_free.specs.Passing.{IsPlaced, IsOnWay}
 use Rattle.lock_free.specs.Repairing.{GivesUp, HasEndedBy, HasStart}
 use Rattle.lock_free.specs.SeenEntries.{entry_to, unowned}
 use Rattle.lock_free.proofs.Comings.{runs_one}
+use Rattle.lock_free.proofs.Descents.{as_long}
 use Rattle.lock_free.proofs.EntriesTo.{entry_to_on}
 use Rattle.lock_free.proofs.Followings.{follows_self, follows_both, placed_on, used_on}
+use Rattle.lock_free.proofs.LevelPassed.{at_index}
 
 -- ---- lists
 
@@ -44,20 +46,6 @@ take_again [] zero = refl
 take_again [] (suc n) = refl
 take_again (x ∷ xs) zero = refl
 take_again (x ∷ xs) (suc n) = ap (λ ys. x ∷ ys) (take_again xs n)
-
--- a reference of the path in its slot
-at_index : (v : View) (path : List Ref) (slots : List ℕ) → AreAt v path slots → (k : ℕ) → k < length slots → IsPlaced v (get_or path k no_ref) (get_or slots k 0)
-at_index v [] [] are k low = absurd (omega (arith, low))
-at_index v [] (s ∷ slots) are k low = absurd are
-at_index v (r ∷ rs) [] are k low = absurd are
-at_index v (r ∷ rs) (s ∷ slots) are zero low = are.0
-at_index v (r ∷ rs) (s ∷ slots) are (suc k) low = at_index v rs slots are.1 k (omega (arith, low))
-
-as_long : (v : View) (path : List Ref) (slots : List ℕ) → AreAt v path slots → length path ≡ length slots
-as_long v [] [] are = refl
-as_long v [] (s ∷ slots) are = absurd are
-as_long v (r ∷ rs) [] are = absurd are
-as_long v (r ∷ rs) (s ∷ slots) are = omega (arith, (as_long v rs slots are.1))
 
 -- ---- an operation that has ended there
 

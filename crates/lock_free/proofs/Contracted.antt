@@ -41,8 +41,7 @@ module _ (v : View) (may : Bool) (bitmap : _) (entries : List Entry) (at : IsAtC
       let r = one.0 in
       let its = at.lone r one.1 in
       let single : is_single (node_at (now v).heap r) ≡ true = sym (ap (λ (x : Entry). x.is_single) one.2) ∙ lone.2 in
-      let entombs : at.entombs ≡ true = its.1 ∙ ap₂ (λ a b. a && b) lone.0 single in
-      (
+      let entombs : at.entombs ≡ true = its.1 ∙ ap₂ (λ a b. a && b) lone.0 single in (
         r,
         subst (λ n. IsAt v (act.Make n)) (ap₂ (λ b rs. contracted b bitmap rs) entombs one.1) at.making,
         (its.0, sym (ap (λ (x : Entry). x.slot) one.2)),

@@ -11,7 +11,7 @@ use Rattle.proof_memory.specs.Laws.{SameNode}
 use Rattle.lock_free.specs.declared.rules.View.{View}
 use Rattle.lock_free.specs.Accounts.{place_of}
 use Rattle.lock_free.specs.Becoming.{Follows}
-use Rattle.lock_free.specs.GoingDown.{IsEntryIn, entry_in}
+use Rattle.lock_free.specs.Entries.{IsEntryIn, entry_in}
 use Rattle.lock_free.specs.Loading.{now, IsUsed}
 use Rattle.lock_free.specs.Nodes.{is_single}
 use Rattle.lock_free.specs.SeenEntries.{AreEntriesTo, entry_to, unowned}

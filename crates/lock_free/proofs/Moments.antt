@@ -90,10 +90,10 @@ entry_lives sizes account main r slot live is c =
     from_slot main r live (subst (λ o. Contains (refs_of_slot o) r) (sym is) (Contains-append_left (refs_of_node slot.node) (refs_of_prev slot.prev) r (entry_named slot.node r c)))
 
 -- what an operation has at hand, by the hash
-abbrev hand_by : HashKind → Operation → List Ref
+abbrev pub hand_by : HashKind → Operation → List Ref
 hand_by hash operation = refs_of_claims (line_wants hash operation.call operation.access operation.line) ++ operation.private
 
-same_hash : (sizes : Sizes) (a b : Account) → (state_of sizes a).limits.hash ≡ (state_of sizes b).limits.hash
+pub same_hash : (sizes : Sizes) (a b : Account) → (state_of sizes a).limits.hash ≡ (state_of sizes b).limits.hash
 same_hash sizes a b = ap (λ l. l.hash) (limits_along (bounds_for sizes a.steps) a.steps) ∙ sym (ap (λ l. l.hash) (limits_along (bounds_for sizes b.steps) b.steps))
 
 module _ (v : View) (s : Table.State Call View) (kept : IsKept v.sizes s) (id : ℕ) (at : get_elem? s.views id ≡ some v) where

@@ -1,5 +1,5 @@
 -- An operation comes from line to line, whichever program it belongs to: by looking at a node, or by a READ.
-use Rattle.std.proofs.Common.{◌≡◌, ℕ, Bool, Option, Some, refl, sym, ap, subst, ◌∙◌}
+use Rattle.std.proofs.Common.{◌≡◌, ℕ, Bool, Option, Some, refl, ap, subst, ◌∙◌}
 use Rattle.machine_model.specs.Beneath.slot_arena.specs.declared.refs.Ref.{Ref}
 use Rattle.machine_model.specs.declared.actions.Action.{Action}
 use Rattle.machine_model.specs.declared.actions.Action.TheVariants as act
@@ -10,12 +10,12 @@ use Rattle.machine_model.specs.declared.reading.ReadLine.{ReadLine}
 use Rattle.machine_model.specs.Acting.{operation_after, private_after, attempt_after, mark_after}
 use Rattle.machine_model.specs.Calls.{handle_of}
 use Rattle.machine_model.specs.Operations.{action_of, line_action, line_after, generation_from, read_of}
-use Rattle.machine_model.specs.Reading.{reading}
 use Rattle.machine_model.specs.States.{State}
 use Rattle.proof_memory.specs.Wants.{AllHold, line_wants}
 use Rattle.lock_free.specs.declared.reading.Way.{Way}
 use Rattle.lock_free.specs.declared.rules.View.{View}
-use Rattle.lock_free.specs.GoingDown.{HasMoved, HasStayed}
+use Rattle.lock_free.specs.Entries.{HasStayed}
+use Rattle.lock_free.specs.GoingDown.{HasMoved}
 use Rattle.lock_free.specs.Holding.{IsOn}
 use Rattle.lock_free.specs.Live.{IsLive}
 use Rattle.lock_free.specs.Loading.{now, seen, Runs, IsAt, IsSound, Went}
@@ -37,8 +37,10 @@ by_action state o l generation action = record o {
   line = l;
 }
 
-looked_step : (state : State) (o : Operation) (r : Ref) → action_of state o ≡ act.Look r → generation_from state o o.line ≡ o.generation → operation_after state o ≡ record o { line = line_after
-    state o o.line }
+looked_step : (state : State) (o : Operation) (r : Ref) → action_of state o ≡ act.Look r → generation_from state o o.line ≡ o.generation → operation_after state o ≡ record o {
+  line = line_after
+      state o o.line;
+}
 unfolding by_action
 looked_step state o r is same =
     ap (by_action state o (line_after state o o.line) (generation_from state o o.line)) is ∙ ap (λ g. by_action state o (line_after state o o.line) g (act.Look r)) same

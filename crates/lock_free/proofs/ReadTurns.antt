@@ -21,7 +21,7 @@ use Rattle.lock_free.specs.Loading.{Runs}
 use Rattle.lock_free.specs.OfReads.{read_to}
 use Rattle.lock_free.specs.Passing.{IsReading, IsPassing, HasGiven, HasPassed}
 use Rattle.lock_free.proofs.Comings.{runs_one}
-use Rattle.lock_free.proofs.KeyMoves.{line_is}
+use Rattle.lock_free.proofs.OnLines.{line_is}
 use Rattle.lock_free.proofs.Laters.{later_both, link_later, main_later}
 
 -- where it turns goes by the call and the access
@@ -29,7 +29,7 @@ line_same : (path : List Ref) (main : Ref) (t : Turn) (o : Operation) (l : Line)
 line_same path main (turn.Entry position) o l = refl
 line_same path main turn.Absent o l = refl
 line_same path main turn.List o l = refl
-line_same path main turn.Tomb o l = refl
+line_same path main (turn.Tomb single) o l = refl
 
 -- which path it reads on
 abbrev path_in : Line → List Ref
@@ -66,7 +66,8 @@ module _ (before middle : View) (name flag : ℕ) (is_at : IsAtLink before name 
     -- each operation comes to the main node
     comes : (o : Operation) → Runs before o → Runs middle (record o { line = line.Key (key.Main path main) })
     comes o r =
-        subst (λ l. Runs middle (read_to (Gives main) (record o { line = l })) → Runs middle (record o { line = line.Key (key.Main path main) })) (sym (line_is before (key.Read path (reading i))
+        subst (λ l. Runs middle (read_to (Gives main) (record o { line = l })) → Runs middle (record o { line = line.Key (key.Main path main) }))
+        (sym (line_is before (line.Key (key.Read path (reading i)))
         at o r)) (λ x. x) (gives.come.comes o r)
 
     at_main : IsAtKey middle (key.Main path main)
@@ -85,7 +86,7 @@ module _ (before middle : View) (name flag : ℕ) (is_at : IsAtLink before name 
 
     module _ (after : View) (t : Turn) (turned : HasTurned middle t after) where
       moves : HasMoved (line_at path main t) middle after
-      moves = turned path main at_main
+      moves = (turned path main at_main).0
 
       pub read_turned : HasReadKey before (given, t) after
       read_turned q j other =
@@ -98,9 +99,10 @@ module _ (before middle : View) (name flag : ℕ) (is_at : IsAtLink before name 
                     main);
               }) (comes o r));
             };
+            tells = (turned path main at_main).1;
             link = link_later middle after moves.later i main given.link gives.link;
             header = main_later middle after moves.later main given.header gives.header;
           } in
-          let line_so = sym (line_is before (key.Read path (reading i)) at other.0 other.1) ∙ other.2 in
+          let line_so = sym (line_is before (line.Key (key.Read path (reading i))) at other.0 other.1) ∙ other.2 in
           let there : HasReadTurn before q i given t after = subst (λ x. HasReadTurn before x i given t after) (ap path_in line_so) here in
           subst (λ x. HasReadTurn before q x given t after) (ap link_in line_so) there

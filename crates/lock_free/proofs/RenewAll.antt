@@ -18,12 +18,13 @@ use Rattle.proof_memory.specs.Wants.{AnEntry}
 use Rattle.lock_free.specs.declared.reading.Way.{Way}
 use Rattle.lock_free.specs.declared.rules.View.{View}
 use Rattle.lock_free.specs.Becoming.{Follows, HasBecome}
-use Rattle.lock_free.specs.Holding.{IsOn, HoldsEntry}
+use Rattle.lock_free.specs.Holding.{IsOn}
 use Rattle.lock_free.specs.Live.{IsLive}
 use Rattle.lock_free.specs.Loading.{now, Runs, IsSound}
 use Rattle.lock_free.specs.Passing.{IsOnWay}
 use Rattle.lock_free.specs.Repairing.{HasStart, IsAtRenewed, GivesUp, RenewedTo, HasRenewed, IsRenewing, RenewedAll, AllRenewedOrNot, HasRenewedAll}
 use Rattle.lock_free.specs.SeenEntries.{AreEntriesTo, entry_to, unowned}
+use Rattle.lock_free.proofs.KeyHolds.{LooksIn}
 use Rattle.lock_free.proofs.Asked.{live_in_use}
 use Rattle.lock_free.proofs.BecomesOn.{become_so, becomes_on, way_become, start_become}
 use Rattle.lock_free.proofs.EntriesTo.{Used, entry_to_on, entries_on}
@@ -64,7 +65,7 @@ module _ (words : ℕ) (way : Way) (start : ℕ) (v0 : View) (sound0 : IsSound w
   abbrev l0 : Line
   l0 = line.Renew (renew.Entry path main [])
 
-  h : HoldsEntry v0 main 0
+  h : LooksIn v0 main 0
   h = holds_next v0 l0 at.on path main [] (λ k c a. refl) words sound0
 
   main_lives : IsLive (now v0) main

@@ -25,7 +25,7 @@ use Rattle.lock_free.specs.declared.rules.View.{View}
 use Rattle.lock_free.specs.declared.swapping.Swapped.{Swapped}
 use Rattle.lock_free.specs.declared.swapping.Swapped.TheVariants.{Commits, Fails, Misses}
 use Rattle.lock_free.specs.Becoming.{Follows, HasBecome, HasNew}
-use Rattle.lock_free.specs.GoingDown.{HasStayed}
+use Rattle.lock_free.specs.Entries.{HasStayed}
 use Rattle.lock_free.specs.Holding.{IsOn}
 use Rattle.lock_free.specs.Loading.{now, Runs, IsSound, Holds}
 use Rattle.lock_free.specs.Passing.{KnowsLink, IsPlaced, IsOnWay}
@@ -167,10 +167,10 @@ module _ (n : ℕ) (v0 : View) (sound0 : IsSound n v0) (name : ℕ) (link : Link
             ends r x s l same = record {
               follows = follows_both v0 v2 x second (swap_follows v2 l2 at2 (purpose.Renew path) (current path) main node v3 fresh its (λ o. refl) r x s);
               comes = λ o runs. (
-                  [],
-                  subst (λ y. Runs x (record o { private = []; line = y })) (same (with_more it.more l2 o))
-                      (swap_comes v2 l2 at2 (purpose.Renew path) (current path) main node v3 fresh its (λ o. refl) r x s (with_more it.more l2 o) (it.become.comes o (stayed.comes o runs))),
-                );
+                [],
+                subst (λ y. Runs x (record o { private = []; line = y })) (same (with_more it.more l2 o))
+                    (swap_comes v2 l2 at2 (purpose.Renew path) (current path) main node v3 fresh its (λ o. refl) r x s (with_more it.more l2 o) (it.become.comes o (stayed.comes o runs))),
+              );
             }
 
             module _ (r : Swapped) (x : View) (s : HasSwapped v3 r x) where

@@ -20,8 +20,9 @@ use Rattle.lock_free.specs.declared.reading.Way.{Way}
 use Rattle.lock_free.specs.declared.rules.View.{View}
 use Rattle.lock_free.specs.Accounts.{place_of}
 use Rattle.lock_free.specs.Becoming.{HasBecome, HasNew, line_made, made_on}
-use Rattle.lock_free.specs.GoingDown.{entry_in, HasMoved}
-use Rattle.lock_free.specs.Holding.{IsOn, HasComeTo, HoldsEntry}
+use Rattle.lock_free.specs.Entries.{entry_in}
+use Rattle.lock_free.specs.GoingDown.{HasMoved}
+use Rattle.lock_free.specs.Holding.{IsOn, HasComeTo}
 use Rattle.lock_free.specs.Loading.{now, Runs, IsAt, IsSound}
 use Rattle.lock_free.specs.Nodes.{is_single}
 use Rattle.lock_free.specs.Passing.{Later, IsPlaced, IsReading, IsPassing, IsOnWay, HasPassed, HasGiven}
@@ -31,7 +32,7 @@ use Rattle.lock_free.specs.Stocks.{Stocked, IsStock}
 use Rattle.lock_free.proofs.BecomesOn.{become_so, moved_become, start_become, stock_moved}
 use Rattle.lock_free.proofs.EntriesTo.{entry_named, entry_to_on}
 use Rattle.lock_free.proofs.Followings.{become_both, follows_later}
-use Rattle.lock_free.proofs.HeldEntries.{node_then}
+use Rattle.lock_free.proofs.KeyHolds.{LooksIn, node_then}
 use Rattle.lock_free.proofs.Laters.{later_both, placed_later}
 use Rattle.lock_free.proofs.NextEntries.{holds_next}
 use Rattle.lock_free.proofs.OnLines.{line_is, moves_on, reading_on, given_moved, moved_both, way_on}
@@ -56,7 +57,7 @@ module _ (n : ℕ) (v0 v1 : View) (sound0 : IsSound n v0) (entry : Entry) (is_at
   abbrev e : Ref
   e = entry_in v0 main (length done)
 
-  h : HoldsEntry v0 main (length done)
+  h : LooksIn v0 main (length done)
   h = holds_next v0 l0 at0 path main done (λ k c a. refl) n sound0
 
   come_by : (b : Bool) → kept ≡ b → HasComeTo (renew_looked (now v0) path main done b) v0 v1

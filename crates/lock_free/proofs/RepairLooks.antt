@@ -1,5 +1,5 @@
 -- RENEW and CLEAN look at the next entry of a branch.
-use Rattle.std.proofs.Common.{◌≡◌, ◌==◌, ◌++◌, ℕ, Bool, true, false, List, [], ◌∷◌, length, nat_eq, nat_lt, Option, Some, refl, sym, ap, subst, ◌∙◌, if◌then◌else◌, eq-eqb, eqb-true, ne_eqb}
+use Rattle.std.proofs.Common.{◌≡◌, ◌==◌, ◌++◌, ℕ, Bool, true, false, List, [], ◌∷◌, length, nat_eq, nat_lt, Some, refl, sym, ap, subst, ◌∙◌, if◌then◌else◌, eq-eqb, eqb-true, ne_eqb}
 use Rattle.std.proofs.lemmas.Bool.{true≢false}
 use Rattle.std.specs.Cmp.Lexicographic.{pointwise}
 use Rattle.std.specs.Option.{option_eq}
@@ -9,7 +9,6 @@ use Rattle.machine_model.specs.Beneath.slot_arena.specs.declared.refs.Ref.{Ref}
 use Rattle.machine_model.specs.Beneath.slot_arena.specs.declared.nodes.Node.{Node}
 use Rattle.machine_model.specs.Beneath.slot_arena.specs.declared.nodes.Node.TheVariants.{Indirection, Single}
 use Rattle.machine_model.specs.Beneath.slot_arena.specs.Heaps.{no_ref, node_at, entries_of}
-use Rattle.machine_model.specs.declared.actions.Action.TheVariants as act
 use Rattle.machine_model.specs.declared.lines.Line.{Line}
 use Rattle.machine_model.specs.declared.lines.Line.TheVariants as line
 use Rattle.machine_model.specs.declared.operations.Operation.{Operation}
@@ -21,14 +20,13 @@ use Rattle.machine_model.specs.Reading.{reading}
 use Rattle.machine_model.specs.Renewing.{renew_next, next_entry, renew_after_entry}
 use Rattle.machine_model.specs.States.{State}
 use Rattle.lock_free.specs.declared.rules.View.{View}
-use Rattle.lock_free.specs.GoingDown.{IsEntryIn, entry_in}
-use Rattle.lock_free.specs.Holding.{IsOn, HasComeTo, HoldsEntry}
-use Rattle.lock_free.specs.Loading.{now, seen, IsUsed, IsSound, Runs, Went, HasLink, HasLookedAtKey, HasLookedAtLink}
-use Rattle.lock_free.specs.Nodes.{is_single}
+use Rattle.lock_free.specs.Entries.{entry_in}
+use Rattle.lock_free.specs.Holding.{HasComeTo}
+use Rattle.lock_free.specs.Loading.{now, seen, IsUsed, IsSound, Runs, Went, HasLink, HasLookedAtLink}
 use Rattle.lock_free.specs.Passing.{Later}
 use Rattle.lock_free.specs.Repairing.{HasStart, IsAtRenewed, renew_looked, HasLookedOld, IsAtCleaned, clean_looked, HasLookedOver}
 use Rattle.lock_free.proofs.GivenBack.{node_is}
-use Rattle.lock_free.proofs.HeldEntries.{node_then, entry_then}
+use Rattle.lock_free.proofs.KeyHolds.{LooksIn, node_then, entry_then}
 use Rattle.lock_free.proofs.Laters.{went_later, waited_later}
 use Rattle.lock_free.proofs.NextEntries.{holds_next, next_kind, single_then, link_then}
 use Rattle.lock_free.proofs.OnLines.{line_is, at_look, moved}
@@ -76,7 +74,7 @@ module _ (n : ℕ) (before after : View) (sound : IsSound n before) (last : IsSo
   abbrev l : Line
   l = line.Renew (renew.Entry path main done)
 
-  h : HoldsEntry before main (length done)
+  h : LooksIn before main (length done)
   h = holds_next before l is_at.3 path main done (λ k c a. refl) n sound
 
   module _ (w : Went before after) where
@@ -144,7 +142,7 @@ module _ (n : ℕ) (before after : View) (sound : IsSound n before) (last : IsSo
   abbrev c_line : Line
   c_line = line.Clean (clean.Entry c_path c_main c_done)
 
-  c_held : HoldsEntry before c_main (length c_done)
+  c_held : LooksIn before c_main (length c_done)
   c_held = holds_next before c_line is_at.3 c_path c_main c_done (λ k c a. refl) n sound
 
   module _ (w : Went before after) where

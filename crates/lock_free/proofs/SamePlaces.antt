@@ -16,7 +16,7 @@ use Rattle.lock_free.specs.declared.accounts.Account.{Account}
 use Rattle.lock_free.specs.declared.rules.View.{View}
 use Rattle.lock_free.specs.Accounts.{state_of, place_of}
 use Rattle.lock_free.specs.Climbs.{HasCompared}
-use Rattle.lock_free.specs.GoingDown.{HasStayed}
+use Rattle.lock_free.specs.Entries.{HasStayed}
 use Rattle.lock_free.specs.Live.{IsLive}
 use Rattle.lock_free.specs.Loading.{now, seen, IsUsed, IsSound, Holds, HasSeen}
 use Rattle.lock_free.specs.Nodes.{half_in, is_single}

@@ -4,7 +4,8 @@ use Rattle.machine_model.specs.declared.operations.Operation.{Operation}
 use Rattle.machine_model.specs.declared.lines.Line.{Line}
 use Rattle.lock_free.specs.declared.rules.View.{View}
 use Rattle.lock_free.specs.Becoming.{Follows}
-use Rattle.lock_free.specs.GoingDown.{HasMoved, HasStayed}
+use Rattle.lock_free.specs.GoingDown.{HasMoved}
+use Rattle.lock_free.specs.Entries.{HasStayed}
 use Rattle.lock_free.specs.Loading.{Runs, IsSound}
 use Rattle.lock_free.specs.Passing.{Later}
 use Rattle.lock_free.specs.Stocks.{Stocked, IsStock, own_of, made_of}

@@ -1,5 +1,5 @@
 -- CLIMB: a tombed indirection gives way to the tomb's single in the parent, and so on upwards.
-use Rattle.std.specs.Prelude.{◌≡◌, ◌<◌, ◌==◌, ℕ, Bool, true, false, List, [], ◌∷◌, length, slice_set}
+use Rattle.std.specs.Prelude.{◌≡◌, ◌<◌, ◌==◌, ℕ, Bool, true, false, List, length, slice_set}
 use Rattle.arrayvec.specs.ArrayVec.{ArrayVec}
 use Rattle.trie_words.specs.declared.entries.Entry.{Entry}
 use Rattle.trie_words.specs.declared.links.Link.{Link}
@@ -23,7 +23,9 @@ use Rattle.lock_free.specs.declared.climbing.Climbed.{Climbed}
 use Rattle.lock_free.specs.declared.climbing.Climbed.TheVariants as outcome
 use Rattle.lock_free.specs.declared.rules.View.{View}
 use Rattle.lock_free.specs.Accounts.{place_of}
-use Rattle.lock_free.specs.GoingDown.{HasMoved, HasStayed}
+use Rattle.lock_free.specs.Descending.{AreAt}
+use Rattle.lock_free.specs.Entries.{HasStayed}
+use Rattle.lock_free.specs.GoingDown.{HasMoved}
 use Rattle.lock_free.specs.Holding.{IsOn}
 use Rattle.lock_free.specs.Loading.{now, Runs, IsUsed, Holds}
 use Rattle.lock_free.specs.Passing.{KnowsLink, IsPlaced}
@@ -141,13 +143,6 @@ abbrev pub HasAskedAgain : View → Climbed → View → Type 0
 HasAskedAgain before result after = (c : Climb) → IsOn before (line.Climb (climb.Root c root.Read)) → AskedBy before c result after
 
 -- ---- as a whole
-
--- the references stand in these slots, each in its own
-abbrev pub AreAt : View → List Ref → List ℕ → Type 0
-AreAt v [] [] = Unit {0}
-AreAt v [] (slot ∷ slots) = ⊥
-AreAt v (r ∷ rs) [] = ⊥
-AreAt v (r ∷ rs) (slot ∷ slots) = IsPlaced v r slot × AreAt v rs slots
 
 -- it climbs from the last of these indirections, with the tomb's single
 pub record IsClimbing (v : View) (path : List ℕ) (hash : ℕ) (single : Entry) : Type 0 where

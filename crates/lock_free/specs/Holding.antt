@@ -1,14 +1,10 @@
--- An operation on a line, whichever program it belongs to, and a main node that it holds.
-use Rattle.std.specs.Prelude.{◌≡◌, ℕ, ◌<◌, true, length}
-use Rattle.machine_model.specs.Beneath.slot_arena.specs.declared.refs.Ref.{Ref}
-use Rattle.machine_model.specs.Beneath.slot_arena.specs.declared.nodes.Slot.{Slot}
-use Rattle.machine_model.specs.Beneath.slot_arena.specs.Heaps.{entries_of}
+-- An operation on a line, whichever program it belongs to.
+use Rattle.std.specs.Prelude.{◌≡◌}
 use Rattle.machine_model.specs.declared.lines.Line.{Line}
 use Rattle.machine_model.specs.declared.operations.Operation.{Operation}
-use Rattle.proof_memory.specs.Wants.{is_main_node, is_branch_or_list}
 use Rattle.lock_free.specs.declared.rules.View.{View}
-use Rattle.lock_free.specs.GoingDown.{HasMoved, entry_in}
-use Rattle.lock_free.specs.Loading.{now, Runs, IsUsed, Holds}
+use Rattle.lock_free.specs.GoingDown.{HasMoved}
+use Rattle.lock_free.specs.Loading.{Runs}
 
 -- the operation that runs is on this line
 abbrev pub IsOn : View → Line → Type 0
@@ -17,13 +13,3 @@ IsOn v l = (operation : Operation) × Runs v operation × (operation.line ≡ l)
 -- it has come to this line
 abbrev pub HasComeTo : Line → View → View → Type 0
 HasComeTo l v w = HasMoved (λ operation. l) v w
-
--- its operation holds this branch or list, which has an entry at this position
-pub record HoldsEntry (v : View) (main : Ref) (position : ℕ) : Type 0 where
-  pub holds : Holds v main
-  pub slot : Slot
-  pub used : IsUsed v main slot
-  pub is_main : is_main_node slot.node ≡ true
-  pub kind : is_branch_or_list slot.node ≡ true
-  pub inside : position < length (entries_of slot.node)
-  pub entry_used : (other : Slot) × IsUsed v (entry_in v main position) other

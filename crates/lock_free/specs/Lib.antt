@@ -26,14 +26,17 @@ pub mod RootOffers
 pub mod Numbers
 pub mod OfReads
 pub mod Passing
+pub mod Entries
 pub mod Swaps
 pub mod Rooting
 pub mod SeatWords
 pub mod Becoming
 pub mod Stocks
 pub mod SeenEntries
+pub mod Changing
 pub mod GoingDown
 pub mod Holding
+pub mod Descending
 pub mod Repairing
 pub mod Contracting
 pub mod Climbs
@@ -42,3 +45,4 @@ pub mod Opening
 pub mod Splitting
 pub mod Telling
 pub mod Answering
+pub mod Seeking

@@ -27,7 +27,7 @@ use Rattle.lock_free.specs.declared.renewing.Renewed.{Renewed}
 use Rattle.lock_free.specs.declared.renewing.Renewed.TheVariants as renewed
 use Rattle.lock_free.specs.declared.rules.View.{View}
 use Rattle.lock_free.specs.Becoming.{Follows, HasBecome}
-use Rattle.lock_free.specs.GoingDown.{IsEntryIn}
+use Rattle.lock_free.specs.Entries.{IsEntryIn}
 use Rattle.lock_free.specs.Holding.{IsOn, HasComeTo}
 use Rattle.lock_free.specs.Loading.{now, Runs, IsUsed}
 use Rattle.lock_free.specs.Passing.{IsPlaced, KnowsLink}

@@ -15,7 +15,7 @@ use Rattle.proof_memory.specs.Wants.{is_branch_or_list}
 use Rattle.lock_free.specs.declared.rules.View.{View}
 use Rattle.lock_free.specs.Accounts.{place_of}
 use Rattle.lock_free.specs.Becoming.{HasNew}
-use Rattle.lock_free.specs.GoingDown.{HasStayed}
+use Rattle.lock_free.specs.Entries.{HasStayed}
 use Rattle.lock_free.specs.Loading.{now, IsUsed, IsAt, Runs, Holds}
 use Rattle.lock_free.specs.Making.{over_of, IsOverBy, shape_with}
 use Rattle.lock_free.specs.Nodes.{is_single}

@@ -156,15 +156,24 @@ fn clean_branch<R: Wait, A: AsksRoot>(
     let main = link.main.slot;
     let count = bitmap.count_ones() as usize;
     let entries = see_entries(words, actor, main, count, link.main.own);
-    let (cleaned, is_changed) =
-        clean_entries(rt, asker, words, actor, way, start, main, &entries);
+    let (cleaned, is_changed) = clean_entries(rt, asker, words, actor, way, start, main, &entries);
     if !is_changed {
         return true;
     }
     let over = Previous::Pending(link.main);
     match make_contracted(rt, words, actor, stock, may_entomb, bitmap, &cleaned, over) {
         Some(fresh) => {
-            swap_made(rt, asker, words, actor, stock, way, indirection, link, fresh);
+            swap_made(
+                rt,
+                asker,
+                words,
+                actor,
+                stock,
+                way,
+                indirection,
+                link,
+                fresh,
+            );
             true
         }
         None => false,

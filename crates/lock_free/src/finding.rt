@@ -1,17 +1,15 @@
-//! KEY: the way down to a key, in single accesses.
+//! KEY: single steps of the way down to a key.
 
-ghost use Rattle.std.specs.Prelude.{◌≡◌, ◌<◌, true, false};
-ghost use Rattle.lock_free.specs.GoingDown.{HasEntered, HasGoneDown, HasMet, HasMetLink, HasReadKey, HasSeenEntry, HasTurned, IsAtEntry, IsAtLink, IsAtMain, IsAtNode, IsOnKey, IsWithin};
+ghost use Rattle.std.specs.Prelude.{◌≡◌, ◌<◌};
+ghost use Rattle.lock_free.specs.GoingDown.{HasMet, HasMetLink, HasReadKey, HasTurned, IsAtBelow, IsAtLink, IsAtMain, IsAtSingle, IsOnKey, IsWithin};
 ghost use Rattle.lock_free.specs.Loading.{IsSound};
 ghost use Rattle.lock_free.specs.Passing.{IsOnWay};
 
-use crate::loads::{
-    Actor, Words, look_at_key, look_at_link, look_at_main, look_at_value, see_key, see_pair,
-};
+use crate::loads::{Actor, Words, look_at_key, look_at_link, look_at_main, look_at_value, see_key};
 use crate::reading::{AsksRoot, Given, Way, read};
 use nodes::{has_flag, position_of};
 use std::sync::Wait;
-use trie_words::{Entry, Link, Shape};
+use trie_words::{Link, Shape};
 
 /// Where the way to a key goes on from a main node.
 #[derive(Clone, Copy, Drop)]
@@ -22,8 +20,8 @@ pub enum Turn {
     Absent,
     /// Along the singles of a list.
     List,
-    /// To what a tomb asks for.
-    Tomb,
+    /// To what a tomb asks for, whose single is in this slot.
+    Tomb(u32),
 }
 
 /// Looks at the main node in this slot, for where the way goes on from it by the key's flag.
@@ -45,7 +43,7 @@ pub fn turn_at(words: &Words, actor: &mut Actor, main: u32, flag: u32) -> Turn
                 Turn::Absent
             }
         }
-        Shape::Tomb(_) => Turn::Tomb,
+        Shape::Tomb(single) => Turn::Tomb(single.slot),
         Shape::List(_) => Turn::List,
     }
 }
@@ -85,30 +83,12 @@ pub enum Met {
     Other,
 }
 
-/// The entry at this position of the branch in this slot, to which the way goes on.
-pub fn see_entry(words: &Words, actor: &mut Actor, main: u32, position: u32) -> Entry
-    requires table { actor.old.table_id ≡ words.now.table_id }
-    requires sound { IsSound words.now.table_id.words actor.old.me.0 }
-    requires within { position < 32 }
-    requires at { IsAtEntry actor.old.me.0 main position }
-    ensures table { actor.new.table_id ≡ actor.old.table_id }
-    ensures sound { IsSound words.now.table_id.words actor.new.me.0 }
-    ensures seen { HasSeenEntry actor.old.me.0 position result actor.new.me.0 }
-{
-    let pair = see_pair(words, actor, main, position);
-    if position % 2 == 0 {
-        Entry::of_half(pair.low)
-    } else {
-        Entry::of_half(pair.high)
-    }
-}
-
 /// Looks at the single in this slot, to which the way to this key has come.
 pub fn meet_single(words: &Words, actor: &mut Actor, key: u64, single: u32) -> Met
     requires table { actor.old.table_id ≡ words.now.table_id }
     requires sound { IsSound words.now.table_id.words actor.old.me.0 }
     requires key { IsOnKey actor.old.me.0 key }
-    requires at { IsAtNode actor.old.me.0 single true }
+    requires at { IsAtSingle actor.old.me.0 single }
     ensures table { actor.new.table_id ≡ actor.old.table_id }
     ensures sound { IsSound words.now.table_id.words actor.new.me.0 }
     ensures met { HasMet actor.old.me.0 result actor.new.me.0 }
@@ -125,84 +105,10 @@ pub fn meet_single(words: &Words, actor: &mut Actor, key: u64, single: u32) -> M
 pub fn meet_link(words: &Words, actor: &mut Actor, indirection: u32) -> Link
     requires table { actor.old.table_id ≡ words.now.table_id }
     requires sound { IsSound words.now.table_id.words actor.old.me.0 }
-    requires at { IsAtNode actor.old.me.0 indirection false }
+    requires at { IsAtBelow actor.old.me.0 indirection }
     ensures table { actor.new.table_id ≡ actor.old.table_id }
     ensures sound { IsSound words.now.table_id.words actor.new.me.0 }
     ensures met { HasMetLink actor.old.me.0 result actor.new.me.0 }
 {
     look_at_link(words, actor, indirection)
-}
-
-/// What the way to a key meets in an entry of a branch.
-#[derive(Clone, Copy, Drop)]
-pub enum Entered {
-    /// A single.
-    Single(Met),
-    /// The indirection in this slot, with this word.
-    Below(u32, Link),
-}
-
-/// Looks at the entry at this position of the branch in this slot, to which the way to this key has come.
-pub fn enter(words: &Words, actor: &mut Actor, key: u64, main: u32, position: u32) -> Entered
-    requires table { actor.old.table_id ≡ words.now.table_id }
-    requires sound { IsSound words.now.table_id.words actor.old.me.0 }
-    requires within { position < 32 }
-    requires key { IsOnKey actor.old.me.0 key }
-    requires at { IsAtEntry actor.old.me.0 main position }
-    ensures table { actor.new.table_id ≡ actor.old.table_id }
-    ensures sound { IsSound words.now.table_id.words actor.new.me.0 }
-    ensures entered { HasEntered actor.old.me.0 result actor.new.me.0 }
-{
-    let entry = see_entry(words, actor, main, position);
-    if entry.is_single {
-        Entered::Single(meet_single(words, actor, key, entry.slot))
-    } else {
-        Entered::Below(entry.slot, meet_link(words, actor, entry.slot))
-    }
-}
-
-/// What the way to a key comes to at an indirection.
-#[derive(Clone, Copy, Drop)]
-pub enum Level {
-    /// The entry at this position of the branch, and what stands in it.
-    Entry(usize, Entered),
-    /// No entry for it.
-    Absent,
-    /// A list of singles.
-    List,
-    /// A tomb.
-    Tomb,
-}
-
-/// The way to this key from the indirection in this slot, as far as the next one or to its end in the main node there.
-pub fn go_down<R: Wait, A: AsksRoot>(
-    rt: &R,
-    asker: &A,
-    words: &Words,
-    actor: &mut Actor,
-    way: Way,
-    key: u64,
-    indirection: u32,
-    flag: u32,
-) -> Level
-    requires table { actor.old.table_id ≡ words.now.table_id }
-    requires sound { IsSound words.now.table_id.words actor.old.me.0 }
-    requires way { IsOnWay actor.old.me.0 way }
-    requires some { 0 < flag }
-    requires key { IsOnKey actor.old.me.0 key }
-    requires at { IsAtLink actor.old.me.0 indirection flag }
-    ensures table { actor.new.table_id ≡ actor.old.table_id }
-    ensures sound { IsSound words.now.table_id.words actor.new.me.0 }
-    ensures gone { HasGoneDown actor.old.me.0 result actor.new.me.0 }
-{
-    let (given, turn) = read_turn(rt, asker, words, actor, way, indirection, flag);
-    match turn {
-        Turn::Entry(position) => Level::Entry(
-            position,
-            enter(words, actor, key, given.link.main.slot, position as u32),
-        ),
-        Turn::Absent => Level::Absent,
-        Turn::List => Level::List,
-        Turn::Tomb => Level::Tomb,
-    }
 }

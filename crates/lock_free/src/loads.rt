@@ -2,6 +2,7 @@
 
 ghost use Rattle.std.specs.Prelude.{◌≡◌};
 ghost use Rattle.machine_model.specs.declared.actions.Action.TheVariants as act;
+ghost use Rattle.lock_free.specs.Entries.{HasSeenEntry};
 ghost use Rattle.lock_free.specs.Loading.{IsSound, IsAtSlot, HoldsSlot, HasPosition, HasReadHeader, HasReadLink, HasLookedAtMain, HasLookedAtLink, HasLookedAtKey, HasLookedAtValue, HasSeenMain};
 ghost use Rattle.lock_free.specs.Loading.{HasSeenLink, HasSeenKey, HasSeenValue, HasSeenPair};
 
@@ -9,7 +10,7 @@ use crate::rules::{Goes, Rule, Sees, View};
 use crate::sizes::Sizes;
 use atomic_table::{Seat, Shared};
 use history::Call;
-use trie_words::{Header, Link, Pair};
+use trie_words::{Entry, Header, Link, Pair};
 
 /// The words that threads share.
 pub type Words = Shared<Call, View, Sizes, Rule>;
@@ -151,4 +152,21 @@ pub fn see_pair(words: &Words, actor: &mut Actor, main: u32, position: u32) -> P
     ensures seen { HasSeenPair actor.old.me.0 main position result actor.new.me.0 }
 {
     Pair::of_word(words.load::<Sees>(actor, 2 * main as usize + 1 + position as usize / 2))
+}
+
+/// The entry at this position of the branch or list in this slot, which the seat's operation holds.
+pub fn see_entry(words: &Words, actor: &mut Actor, main: u32, position: u32) -> Entry
+    requires table { actor.old.table_id ≡ words.now.table_id }
+    requires sound { IsSound words.now.table_id.words actor.old.me.0 }
+    requires held { HasPosition actor.old.me.0 main position }
+    ensures table { actor.new.table_id ≡ actor.old.table_id }
+    ensures sound { IsSound words.now.table_id.words actor.new.me.0 }
+    ensures seen { HasSeenEntry actor.old.me.0 main position result actor.new.me.0 }
+{
+    let pair = see_pair(words, actor, main, position);
+    if position % 2 == 0 {
+        Entry::of_half(pair.low)
+    } else {
+        Entry::of_half(pair.high)
+    }
 }

@@ -6,8 +6,8 @@ ghost use Rattle.lock_free.specs.Passing.{IsOnWay};
 ghost use Rattle.lock_free.specs.Repairing.{HasLookedOld, HasRenewed, HasRenewedAll, HasRenewedBranch, HasStart, IsAtRenew, IsAtRenewed, IsRenewing};
 ghost use Rattle.lock_free.specs.Stocks.{IsStock};
 
-use crate::loads::{Actor, Words, look_at_key, look_at_link};
 use crate::entries::see_entries;
+use crate::loads::{Actor, Words, look_at_key, look_at_link};
 use crate::makes::{make_branch, make_link};
 use crate::reading::{AsksRoot, Way, read};
 use crate::stock::Stock;
@@ -155,7 +155,17 @@ pub fn renew<R: Wait, A: AsksRoot>(
     let Some(fresh) = make_branch(rt, words, actor, stock, bitmap, &renewed, over) else {
         return Renewed::Full;
     };
-    match swap_made(rt, asker, words, actor, stock, way, indirection, link, fresh) {
+    match swap_made(
+        rt,
+        asker,
+        words,
+        actor,
+        stock,
+        way,
+        indirection,
+        link,
+        fresh,
+    ) {
         Swapped::Commits => Renewed::Reads,
         Swapped::Fails => Renewed::Again,
         Swapped::Misses => Renewed::Again,

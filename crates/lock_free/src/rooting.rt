@@ -1,7 +1,7 @@
 //! ROOT: the root of a handle, once no offer stands there.
 
 ghost use Rattle.std.specs.Prelude.{◌≡◌, ◌<◌};
-ghost use Rattle.lock_free.specs.GoingDown.{HasStayed};
+ghost use Rattle.lock_free.specs.Entries.{HasStayed};
 ghost use Rattle.lock_free.specs.HandleWords.{HasOffer};
 ghost use Rattle.lock_free.specs.Loading.{IsSound, Saw};
 ghost use Rattle.lock_free.specs.Passing.{IsOnWay};

@@ -20,7 +20,7 @@ pub returns-in-Tomb-clause-turned : goal.returns-in-Tomb-clause-turned
 returns-in-Tomb-clause-turned c =
     let n = c.args.words.now.table_id.words in
     at_tomb n n c.args.actor.now.me.0 c.look_at_main.new.actor.me.0 c.requires.sound c.look_at_main.ensures.sound c.args.main c.args.flag c.requires.at c.look_at_main.result
-    c.look_at_main.ensures.read c.in-Tomb.field-0 c.in-Tomb.is
+    c.look_at_main.ensures.read c.in-Tomb.single c.in-Tomb.is
 
 pub returns-in-List-clause-turned : goal.returns-in-List-clause-turned
 returns-in-List-clause-turned c =

@@ -27,8 +27,7 @@ returns-in-None-clause-renewed g c =
 
 pub loop-n-preserved : goal.loop-n-preserved
 loop-n-preserved g c =
-    let few : c.loop-n.n < length c.args.entries.now.items = (let t = c.loop-n-test.true in let l = c.len-n-end.ensures.value in omega (arith, t, l)) in
-    (
+    let few : c.loop-n.n < length c.args.entries.now.items = (let t = c.loop-n-test.true in let l = c.len-n-end.ensures.value in omega (arith, t, l)) in (
       c.renew_entry.ensures.table ∙ c.loop-n.invariant.0,
       c.renew_entry.ensures.stock,
       goes_on c.args.words.now.table_id.words c.args.way c.args.start c.args.actor.now.me.0 c.requires.sound c.requires.way c.requires.start c.args.entries.now.items c.requires.at

@@ -1,0 +1,152 @@
+//! BUILD's last line: a main node from the one before, with one change of its entries.
+
+ghost use Rattle.std.specs.Prelude.{◌≡◌, ◌<◌};
+ghost use Rattle.trie_words.specs.declared.headers.Shape.TheVariants as shape;
+ghost use Rattle.lock_free.specs.Changing.{edited, edited_bitmap, CanEdit, HasBuilt, IsChanging, IsNoTomb};
+ghost use Rattle.lock_free.specs.Loading.{IsSound};
+ghost use Rattle.lock_free.specs.Stocks.{IsStock};
+
+use crate::entries::see_entries;
+use crate::loads::{Actor, Words};
+use crate::makes::{make_branch, make_list, make_tomb};
+use crate::stock::Stock;
+use arrayvec::ArrayVec;
+use nodes::position_of;
+use std::sync::Wait;
+use trie_words::{Entry, Name, Previous, Shape};
+
+/// A change of the entries of a main node.
+#[derive(Clone, Copy, Drop)]
+pub enum Edit {
+    /// This entry more, in the place of its key's flag; in a list the last one.
+    Insert(Entry),
+    /// This entry at that position, in the place of the one that stands there.
+    Update(usize, Entry),
+    /// No entry any more at that position.
+    Remove(usize),
+    /// A tomb of this single.
+    Entomb(Name),
+}
+
+/// Changes these entries, where one more would come to this place.
+fn apply(entries: &mut ArrayVec<Entry, 32>, place: usize, change: Edit)
+    requires { CanEdit entries.old.items place change }
+    ensures { entries.new.items ≡ edited entries.old.items place change }
+{
+    match change {
+        Edit::Insert(entry) => entries.insert(place, entry),
+        Edit::Update(position, entry) => entries[position] = entry,
+        Edit::Remove(position) => {
+            entries.remove(position);
+        }
+        Edit::Entomb(_) => {}
+    }
+}
+
+/// The bitmap after the change of an entry with this flag.
+fn edited_bitmap(bitmap: u32, flag: u32, change: Edit) -> u32
+    ensures { result ≡ edited_bitmap bitmap flag change }
+{
+    match change {
+        Edit::Insert(_) => bitmap | flag,
+        Edit::Remove(_) => bitmap ^ flag,
+        _ => bitmap,
+    }
+}
+
+/// Makes a branch from the one of this name and bitmap.
+fn build_branch<R: Wait>(
+    rt: &R,
+    words: &Words,
+    actor: &mut Actor,
+    stock: &mut Stock,
+    main: Name,
+    bitmap: u32,
+    flag: u32,
+    change: Edit,
+) -> Option<u32>
+    requires table { actor.old.table_id ≡ words.now.table_id }
+    requires sound { IsSound words.now.table_id.words actor.old.me.0 }
+    requires stock { IsStock stock.old actor.old.me.0 }
+    requires some { 0 < flag }
+    requires at { IsChanging actor.old.me.0 main (shape.Branch bitmap) flag change }
+    requires kept { IsNoTomb change }
+    ensures table { actor.new.table_id ≡ actor.old.table_id }
+    ensures sound { IsSound words.now.table_id.words actor.new.me.0 }
+    ensures stock { IsStock stock.new actor.new.me.0 }
+    ensures built { HasBuilt actor.old.me.0 result actor.new.me.0 }
+{
+    let count = bitmap.count_ones() as usize;
+    let mut entries = see_entries(words, actor, main.slot, count, main.own);
+    apply(&mut entries, position_of(flag, bitmap), change);
+    let bitmap = edited_bitmap(bitmap, flag, change);
+    make_branch(
+        rt,
+        words,
+        actor,
+        stock,
+        bitmap,
+        &entries,
+        Previous::Pending(main),
+    )
+}
+
+/// Makes a list from the one of this name, with so many singles.
+fn build_list<R: Wait>(
+    rt: &R,
+    words: &Words,
+    actor: &mut Actor,
+    stock: &mut Stock,
+    main: Name,
+    count: u32,
+    flag: u32,
+    change: Edit,
+) -> Option<u32>
+    requires table { actor.old.table_id ≡ words.now.table_id }
+    requires sound { IsSound words.now.table_id.words actor.old.me.0 }
+    requires stock { IsStock stock.old actor.old.me.0 }
+    requires at { IsChanging actor.old.me.0 main (shape.List count) flag change }
+    requires kept { IsNoTomb change }
+    ensures table { actor.new.table_id ≡ actor.old.table_id }
+    ensures sound { IsSound words.now.table_id.words actor.new.me.0 }
+    ensures stock { IsStock stock.new actor.new.me.0 }
+    ensures built { HasBuilt actor.old.me.0 result actor.new.me.0 }
+{
+    let mut entries = see_entries(words, actor, main.slot, count as usize, main.own);
+    apply(&mut entries, count as usize, change);
+    make_list(rt, words, actor, stock, &entries, Previous::Pending(main))
+}
+
+/// Makes the main node that comes from the one of this name and shape by this change, where its operation's key has this flag. Returns
+/// its slot, or none where no slot is had: then the operation is where it was.
+pub fn build_main<R: Wait>(
+    rt: &R,
+    words: &Words,
+    actor: &mut Actor,
+    stock: &mut Stock,
+    main: Name,
+    shape: Shape,
+    flag: u32,
+    change: Edit,
+) -> Option<u32>
+    requires table { actor.old.table_id ≡ words.now.table_id }
+    requires sound { IsSound words.now.table_id.words actor.old.me.0 }
+    requires stock { IsStock stock.old actor.old.me.0 }
+    requires some { 0 < flag }
+    requires at { IsChanging actor.old.me.0 main shape flag change }
+    ensures table { actor.new.table_id ≡ actor.old.table_id }
+    ensures sound { IsSound words.now.table_id.words actor.new.me.0 }
+    ensures stock { IsStock stock.new actor.new.me.0 }
+    ensures built { HasBuilt actor.old.me.0 result actor.new.me.0 }
+{
+    match (change, shape) {
+        (Edit::Entomb(single), _) => {
+            make_tomb(rt, words, actor, stock, single, Previous::Pending(main))
+        }
+        (_, Shape::Branch(bitmap)) => {
+            build_branch(rt, words, actor, stock, main, bitmap, flag, change)
+        }
+        (_, Shape::List(count)) => build_list(rt, words, actor, stock, main, count, flag, change),
+        (_, Shape::Tomb(_)) => unreachable!(),
+    }
+}
