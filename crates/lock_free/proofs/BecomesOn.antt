@@ -1,23 +1,20 @@
 -- An operation becomes another one, and what is known of it goes on.
-use Rattle.std.proofs.Common.{◌≡◌, ◌++◌, ℕ, Bool, List, [], Contains, map, Some, sym, ap, subst, ◌∙◌}
-use Rattle.machine_model.specs.Beneath.slot_arena.specs.declared.refs.Ref.{Ref}
-use Rattle.machine_model.specs.Beneath.slot_arena.specs.declared.nodes.Slot.{Slot}
+use Rattle.std.proofs.Common.{◌≡◌, ℕ, ap, subst, ◌∙◌}
 use Rattle.machine_model.specs.declared.lines.Line.{Line}
 use Rattle.machine_model.specs.declared.operations.Operation.{Operation}
 use Rattle.machine_model.specs.Calls.{handle_of}
-use Rattle.machine_model.specs.States.{operation_of}
 use Rattle.lock_free.specs.declared.reading.Way.{Way}
 use Rattle.lock_free.specs.declared.rules.View.{View}
-use Rattle.lock_free.specs.Becoming.{Follows, HasBecome}
+use Rattle.lock_free.specs.Becoming.{HasBecome}
 use Rattle.lock_free.specs.GoingDown.{HasMoved}
 use Rattle.lock_free.specs.Holding.{IsOn}
-use Rattle.lock_free.specs.Loading.{now, Runs, IsSound, IsUsed}
-use Rattle.lock_free.specs.Passing.{Later, IsOnWay}
+use Rattle.lock_free.specs.Loading.{Runs, IsSound}
+use Rattle.lock_free.specs.Passing.{IsOnWay}
 use Rattle.lock_free.specs.Repairing.{HasStart}
-use Rattle.lock_free.specs.Stocks.{Stocked, IsStock, own_of, own_nodes, made_of}
+use Rattle.lock_free.specs.Stocks.{Stocked, IsStock}
 use Rattle.lock_free.proofs.Comings.{runs_one}
 use Rattle.lock_free.proofs.Followings.{follows_later}
-use Rattle.lock_free.proofs.NewNodes.{all_made_same, own_used}
+use Rattle.lock_free.proofs.StockStays.{stock_moved as moves_stock}
 
 pub moved_become : (v w : View) (f : Operation → Line) → HasMoved f v w → HasBecome (λ o. record o { line = f o }) v w
 moved_become v w f m = record { follows = follows_later v w m.later; comes = m.comes }
@@ -42,19 +39,5 @@ module _ (v w : View) (next : Operation → Operation) (m : HasBecome next v w) 
   start_become start same begun q runs = let x = one_then q runs in ap (λ (z : Operation). z.generation) x.2 ∙ same x.0 ∙ begun x.0 x.1
 
 -- a stock stays where only the line changes
-module _ (n : ℕ) (v w : View) (sound : IsSound n v) (l : Line) (at : IsOn v l) (next : Operation → Line) (m : HasMoved next v w) where
-  its_nodes : own_nodes v ≡ at.0.private
-  its_nodes = ap own_of at.1.1
-
-  nodes_then : own_nodes w ≡ at.0.private
-  nodes_then = ap own_of (m.comes at.0 at.1).1
-
-  same : map (made_of w) at.0.private ≡ map (made_of v) at.0.private
-  same = all_made_same v w (follows_later v w m.later) at.0.private (own_used n v sound (record at.0 { is_marked = at.1.0 }) at.1.1)
-
-  pub stock_moved : (stock : Stocked) → IsStock stock v → IsStock stock w
-  stock_moved stock is = record {
-    sizes = is.sizes ∙ sym (ap (λ (x : View). x.sizes) m.later.is);
-    pool = is.pool ∙ sym (ap (λ (x : View). x.pool) m.later.is);
-    made = is.made ∙ ap (map (made_of v)) its_nodes ∙ sym same ∙ ap (map (made_of w)) (sym nodes_then);
-  }
+pub stock_moved : (n : ℕ) (v w : View) (sound : IsSound n v) (l : Line) (at : IsOn v l) (next : Operation → Line) (m : HasMoved next v w) (stock : Stocked) → IsStock stock v → IsStock stock w
+stock_moved n v w sound l at next m stock is = moves_stock n v w sound at.0 at.1 stock is next m

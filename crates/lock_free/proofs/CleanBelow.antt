@@ -1,12 +1,10 @@
 -- CLEAN as a whole.
-use Rattle.std.proofs.Common.{◌≡◌, ◌≢◌, ℕ, Bool, true, false, List, [], refl, sym, ap, subst, ◌∙◌, arith}
+use Rattle.std.proofs.Common.{◌≡◌, ◌≢◌, ℕ, Bool, true, false, List, refl, ap, ◌∙◌}
 use Rattle.trie_words.specs.declared.headers.Header.{Header}
 use Rattle.trie_words.specs.declared.headers.Shape.{Shape}
 use Rattle.trie_words.specs.declared.headers.Shape.TheVariants as shape
 use Rattle.machine_model.specs.Beneath.slot_arena.specs.declared.refs.Ref.{Ref}
 use Rattle.machine_model.specs.Beneath.slot_arena.specs.declared.nodes.Node.{Node}
-use Rattle.machine_model.specs.Beneath.slot_arena.specs.declared.nodes.Node.TheVariants.{Branch}
-use Rattle.machine_model.specs.Beneath.slot_arena.specs.Heaps.{node_at}
 use Rattle.machine_model.specs.Beneath.slot_arena.specs.Refs.{slot_of}
 use Rattle.machine_model.specs.declared.actions.Action.TheVariants as act
 use Rattle.machine_model.specs.declared.lines.Line.{Line}
@@ -15,7 +13,7 @@ use Rattle.machine_model.specs.declared.reading.ReadLine.TheVariants as read
 use Rattle.machine_model.specs.declared.repairs.CleanLine.TheVariants as clean
 use Rattle.machine_model.specs.Cleaning.{clean_after_main}
 use Rattle.machine_model.specs.Lines.{new_try}
-use Rattle.machine_model.specs.Paths.{current, is_below_root}
+use Rattle.machine_model.specs.Paths.{current}
 use Rattle.machine_model.specs.Reading.{reading}
 use Rattle.machine_model.specs.States.{State}
 use Rattle.lock_free.specs.declared.accounts.Account.{Account}
@@ -33,33 +31,20 @@ use Rattle.lock_free.proofs.BecomesOn.{stock_moved}
 use Rattle.lock_free.proofs.Followings.{follows_both, follows_later, main_node_on}
 use Rattle.lock_free.proofs.GivenBack.{node_is}
 use Rattle.lock_free.proofs.Laters.{placed_later, waited_later, went_later}
+use Rattle.lock_free.proofs.MainLooks.{branch_says, kind_in}
 use Rattle.lock_free.proofs.OnLines.{at_look, moves_on, moved, moved_both, reading_on, given_moved, way_on}
 
 -- ---- what a header says a main node is
 
-abbrev pub kind_of : Shape → ℕ
-kind_of (shape.Branch bitmap) = 0
-kind_of (shape.Tomb entry) = 1
-kind_of (shape.List count) = 2
-
-abbrev bits_of : Shape → ℕ
-bits_of (shape.Branch bitmap) = bitmap
-bits_of s = 0
-
 module _ (account : Account) (k : ℕ) where
-  is_branch : (n : Node) (s : Shape) (bitmap : ℕ) → s ≡ shape.Branch bitmap → SaysShape account k n s → (entries : _) × (n ≡ Branch bitmap entries)
-  is_branch n s bitmap e (of_branch b entries) = (entries, ap (λ x. Branch (bits_of x) entries) e)
-  is_branch n s bitmap e (of_tomb single own is) = absurd (omega (arith, (ap kind_of e)))
-  is_branch n s bitmap e (of_list singles) = absurd (omega (arith, (ap kind_of e)))
-
   -- only a branch is cleaned
-  stops : (n : Node) (s : Shape) → kind_of s ≢ 0 → SaysShape account k n s → (state : State) (path : List Ref) (main : Ref) → clean_after_main state path main n ≡ new_try
+  stops : (n : Node) (s : Shape) → kind_in s ≢ 0 → SaysShape account k n s → (state : State) (path : List Ref) (main : Ref) → clean_after_main state path main n ≡ new_try
   stops n s other (of_branch b entries) state path main = absurd (other refl)
   stops n s other (of_tomb single own is) state path main = refl
   stops n s other (of_list singles) state path main = refl
 
 pub known_branch : (v : View) (main : Ref) (header : Header) (bitmap : ℕ) → KnowsMain v main header → header.shape ≡ shape.Branch bitmap → IsBranch v main bitmap
-known_branch v main header bitmap k is = let b = is_branch v.account (slot_of main) k.slot.node header.shape bitmap is k.is_shape in (k.slot, b.0, k.used, b.1)
+known_branch v main header bitmap k is = let b = branch_says v.account (slot_of main) k.slot.node header.shape bitmap is k.is_shape in (k.slot, b.0, k.used, b.1)
 
 -- it ends later than from there
 pub again_on : (u v w : View) (l : Line) (result : Bool) → HasComeTo l u v → AgainOrNot v result w → AgainOrNot u result w
@@ -122,7 +107,7 @@ module _ (n : ℕ) (v0 v1 : View) (sound0 : IsSound n v0) (sound1 : IsSound n v1
   pub main_ready : IsAtSlot v1 act.Look given.link.main.slot
   main_ready = (main, at_look v1 l1 at1 main (λ o. refl), g.link.is.names.place)
 
-  module _ (other : kind_of given.header.shape ≢ 0) (v2 : View) (sound2 : IsSound n v2) (header : Header) (look : HasLookedAtMain v1 header v2) where
+  module _ (other : kind_in given.header.shape ≢ 0) (v2 : View) (sound2 : IsSound n v2) (header : Header) (look : HasLookedAtMain v1 header v2) where
     come2 : HasComeTo new_try v1 v2
     come2 =
         let w = look.0 in

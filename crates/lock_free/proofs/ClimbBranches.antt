@@ -1,5 +1,5 @@
 -- CLIMB at the parent's branch.
-use Rattle.std.proofs.Common.{◌≡◌, ◌<◌, ◌==◌, ◌&&◌, ℕ, Bool, true, false, List, [], ◌∷◌, All, Contains, length, get_or, map, slice_set, set, count_ones, refl, sym, ap, ap₂, subst, ◌∙◌, if◌then◌else◌}
+use Rattle.std.proofs.Common.{◌≡◌, ◌<◌, ◌==◌, ◌&&◌, ℕ, Bool, true, false, List, All, Contains, length, get_or, slice_set, set, count_ones, refl, sym, ap, ap₂, subst, ◌∙◌, if◌then◌else◌}
 use Rattle.std.proofs.lemmas.Bool.{and_parts}
 use Rattle.std.proofs.lemmas.List.{map-set}
 use Rattle.std.proofs.lemmas.List.Elements.{Contains-get_or}
@@ -11,7 +11,6 @@ use Rattle.machine_model.specs.Beneath.ctrie_base.specs.Paths.{position_of}
 use Rattle.machine_model.specs.Beneath.slot_arena.specs.declared.refs.Ref.{Ref}
 use Rattle.machine_model.specs.Beneath.slot_arena.specs.declared.nodes.Node.{Node}
 use Rattle.machine_model.specs.Beneath.slot_arena.specs.declared.nodes.Node.TheVariants.{Branch}
-use Rattle.machine_model.specs.Beneath.slot_arena.specs.declared.nodes.Slot.{Slot}
 use Rattle.machine_model.specs.Beneath.slot_arena.specs.Heaps.{no_ref, node_at, entries_of, bitmap_of}
 use Rattle.machine_model.specs.declared.actions.Action.TheVariants as act
 use Rattle.machine_model.specs.declared.lines.Line.{Line}
@@ -19,7 +18,7 @@ use Rattle.machine_model.specs.declared.lines.Line.TheVariants as line
 use Rattle.machine_model.specs.declared.operations.Operation.{Operation}
 use Rattle.machine_model.specs.declared.repairs.Climb.{Climb}
 use Rattle.machine_model.specs.declared.repairs.ClimbLine.TheVariants as climb
-use Rattle.machine_model.specs.Climbing.{climbed, climbing, higher, holds_it, place_in, climb_after_main}
+use Rattle.machine_model.specs.Climbing.{climbed, climbing, higher, climb_after_main}
 use Rattle.machine_model.specs.Paths.{above, current}
 use Rattle.nodes.specs.Levels.{has_flag}
 use Rattle.proof_memory.specs.Vocabulary.{HashKind}
@@ -30,7 +29,7 @@ use Rattle.lock_free.specs.declared.climbing.Climbed.TheVariants as outcome
 use Rattle.lock_free.specs.declared.reading.Way.{Way}
 use Rattle.lock_free.specs.declared.rules.View.{View}
 use Rattle.lock_free.specs.Becoming.{Follows}
-use Rattle.lock_free.specs.Climbs.{AtParentBranch, IsAtParentBranch, HasClimbedBranch, ClimbedBy, ClimbsHigher, IsAtTombed, HasSeenIt, IsContracting, HasContracted}
+use Rattle.lock_free.specs.Climbs.{AtParentBranch, IsAtParentBranch, HasClimbedBranch, ClimbedBy, IsAtTombed, HasSeenIt, IsContracting, HasContracted}
 use Rattle.lock_free.specs.Entries.{HasStayed}
 use Rattle.lock_free.specs.GoingDown.{HasMoved}
 use Rattle.lock_free.specs.Holding.{IsOn, HasComeTo}

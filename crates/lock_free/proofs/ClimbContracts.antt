@@ -1,5 +1,5 @@
 -- CLIMB makes the parent's main node anew.
-use Rattle.std.proofs.Common.{◌≡◌, ◌<◌, ◌==◌, ◌&&◌, ℕ, Bool, true, false, List, [], ◌∷◌, length, length-set, slice_set, Option, None, Some, refl, sym, ap, ap₂, subst, ◌∙◌, arith, eq-eqb, eqb-true, ne_eqb}
+use Rattle.std.proofs.Common.{◌≡◌, ◌<◌, ◌==◌, ◌&&◌, ℕ, Bool, true, false, List, [], ◌∷◌, length, length-set, slice_set, Option, None, Some, refl, sym, ap, ap₂, subst, ◌∙◌, arith, eqb-true}
 use Rattle.std.proofs.lemmas.Bool.{true≢false}
 use Rattle.nodes.specs.Builders.{contracted, renewed}
 use Rattle.trie_words.specs.declared.entries.Entry.{Entry}
@@ -7,7 +7,7 @@ use Rattle.trie_words.specs.declared.headers.Previous.TheVariants as previous
 use Rattle.trie_words.specs.declared.links.Link.{Link}
 use Rattle.machine_model.specs.Beneath.slot_arena.specs.declared.refs.Ref.{Ref}
 use Rattle.machine_model.specs.Beneath.slot_arena.specs.declared.nodes.Node.{Node}
-use Rattle.machine_model.specs.Beneath.slot_arena.specs.declared.nodes.Node.TheVariants.{Branch, Tomb}
+use Rattle.machine_model.specs.Beneath.slot_arena.specs.declared.nodes.Node.TheVariants.{Tomb}
 use Rattle.machine_model.specs.Beneath.slot_arena.specs.Heaps.{no_ref, node_at, entries_of, bitmap_of}
 use Rattle.machine_model.specs.declared.actions.Action.TheVariants as act
 use Rattle.machine_model.specs.declared.lines.Line.{Line}
@@ -18,7 +18,7 @@ use Rattle.machine_model.specs.declared.repairs.Climb.{Climb}
 use Rattle.machine_model.specs.declared.repairs.ClimbLine.TheVariants as climb
 use Rattle.machine_model.specs.declared.roots.RootLine.TheVariants as root
 use Rattle.machine_model.specs.Calls.{changed_reply}
-use Rattle.machine_model.specs.Climbing.{climbed, climbing, higher, place_in}
+use Rattle.machine_model.specs.Climbing.{climbed, climbing, higher}
 use Rattle.machine_model.specs.GivingUp.{given_up}
 use Rattle.machine_model.specs.Operations.{swapped, climbed_on}
 use Rattle.machine_model.specs.Paths.{above, current, is_below_root}
@@ -27,8 +27,8 @@ use Rattle.lock_free.specs.declared.climbing.Climbed.TheVariants as outcome
 use Rattle.lock_free.specs.declared.reading.Way.{Way}
 use Rattle.lock_free.specs.declared.rules.View.{View}
 use Rattle.lock_free.specs.declared.swapping.Swapped.{Swapped}
-use Rattle.lock_free.specs.declared.swapping.Swapped.TheVariants.{Commits, Fails, Misses}
-use Rattle.lock_free.specs.Becoming.{Follows, HasBecome, HasNew, made_on}
+use Rattle.lock_free.specs.declared.swapping.Swapped.TheVariants.{Commits}
+use Rattle.lock_free.specs.Becoming.{Follows, HasBecome, HasNew}
 use Rattle.lock_free.specs.Climbs.{IsContracting, ContractsParent, HasContracted, ClimbedBy, IsAskingAgain, AskedBy, HasAskedAgain}
 use Rattle.lock_free.specs.Contracting.{IsAtContracted}
 use Rattle.lock_free.specs.GoingDown.{HasMoved}
@@ -37,18 +37,16 @@ use Rattle.lock_free.specs.Loading.{now, Runs, IsSound}
 use Rattle.lock_free.specs.Nodes.{is_single}
 use Rattle.lock_free.specs.Passing.{IsOnWay}
 use Rattle.lock_free.specs.Repairing.{GivesUp, HasEndedBy, HasStart}
-use Rattle.lock_free.specs.SeenEntries.{AreEntriesTo, HasMadeNext, HasNewOrNone, IsOver}
+use Rattle.lock_free.specs.SeenEntries.{HasMadeNext, HasNewOrNone, IsOver}
 use Rattle.lock_free.specs.Stocks.{Stocked, IsStock, HasSwapped}
-use Rattle.lock_free.specs.Swaps.{IsAtSwap, is_done, swap_done}
+use Rattle.lock_free.specs.Swaps.{IsAtSwap, is_done}
 use Rattle.lock_free.proofs.BecomesOn.{stock_moved, start_become, way_become}
+use Rattle.lock_free.proofs.ClimbLooks.{no_climb}
 use Rattle.lock_free.proofs.EntriesTo.{Used, entry_to_on}
-use Rattle.lock_free.proofs.Followings.{follows_self, follows_both, follows_later, become_both, used_on}
+use Rattle.lock_free.proofs.Followings.{follows_self, follows_both, follows_later, used_on}
 use Rattle.lock_free.proofs.GoingOver.{as_many}
 use Rattle.lock_free.proofs.OnLines.{line_is}
-use Rattle.lock_free.proofs.Replaces.{at_make, is_over, is_swapping, at_swap, swap_way, swap_follows, swap_comes}
-
-abbrev no_climb : Climb
-no_climb = record { path = []; single = no_ref; former = None }
+use Rattle.lock_free.proofs.Replaces.{at_make, is_over, at_swap, swap_way, swap_follows, swap_comes}
 
 abbrev contracted_parts : Line → Climb × Ref
 contracted_parts (line.Climb (climb.Contracted c main)) = (c, main)
@@ -199,9 +197,6 @@ module _ (n : ℕ) (v0 : View) (sound0 : IsSound n v0) (parent : ℕ) (link : Li
         module _ (fails : is_done r ≡ false) where
           abbrev l2 : Line
           l2 = line.Climb (climb.Root c root.Read)
-
-          next : Operation → Operation
-          next o = record o { private = []; line = l2 }
 
           become2 : HasBecome (λ o. record o { private = []; line = l2 }) v0 v2
           become2 = record { follows = follows2; comes = λ o runs. subst (λ x. Runs v2 (record o { private = []; line = swapped o node (purpose.Climb c) x })) fails (comes2 o runs) }

@@ -1,13 +1,11 @@
 -- CLIMB looks whether the parent's entry for the key is the tombed indirection, and asks for the root again.
-use Rattle.std.proofs.Common.{◌≡◌, ◌<◌, ◌≤◌, ◌==◌, ◌&&◌, ◌^◌, ◌*◌, ◌-◌, ◌++◌, ℕ, Bool, true, false, List, [], ◌∷◌, Contains, length, get_or, count_ones, nat_eq, nat_lt, None, Some, inl, refl, sym, ap, ap₂, subst, ◌∙◌, arith, ltb-true, if◌then◌else◌}
+use Rattle.std.proofs.Common.{◌≡◌, ◌<◌, ◌≤◌, ◌==◌, ◌&&◌, ◌^◌, ◌*◌, ◌-◌, ◌++◌, ℕ, Bool, true, false, [], ◌∷◌, Contains, length, get_or, count_ones, nat_eq, None, Some, inl, sym, ap, ap₂, subst, ◌∙◌, arith, ltb-true, if◌then◌else◌}
 use Rattle.std.specs.Option.{option_eq}
 use Rattle.std.proofs.lemmas.Bool.{le-leb}
 use Rattle.std.proofs.lemmas.List.Elements.{Contains-get_or, Contains-append_left, Contains-append_right}
 use Rattle.machine_model.specs.Beneath.ctrie_base.specs.Hashes.{hash_of}
 use Rattle.machine_model.specs.Beneath.ctrie_base.specs.Paths.{index_at, position_of}
 use Rattle.machine_model.specs.Beneath.slot_arena.specs.declared.refs.Ref.{Ref}
-use Rattle.machine_model.specs.Beneath.slot_arena.specs.declared.nodes.Node.{Node}
-use Rattle.machine_model.specs.Beneath.slot_arena.specs.declared.nodes.Node.TheVariants.{Branch}
 use Rattle.machine_model.specs.Beneath.slot_arena.specs.Heaps.{no_ref, node_at, entries_of, bitmap_of}
 use Rattle.machine_model.specs.declared.lines.Line.{Line}
 use Rattle.machine_model.specs.declared.lines.Line.TheVariants as line
@@ -16,7 +14,7 @@ use Rattle.machine_model.specs.declared.repairs.Climb.{Climb}
 use Rattle.machine_model.specs.declared.repairs.ClimbLine.TheVariants as climb
 use Rattle.machine_model.specs.declared.roots.RootLine.TheVariants as root
 use Rattle.machine_model.specs.Calls.{key_of}
-use Rattle.machine_model.specs.Climbing.{climbed, climbing, holds_it, place_in}
+use Rattle.machine_model.specs.Climbing.{climbed, climbing, holds_it}
 use Rattle.machine_model.specs.Paths.{above, current, depth_of, flag_in}
 use Rattle.machine_model.specs.States.{State}
 use Rattle.nodes.specs.Levels.{has_flag}
@@ -26,14 +24,12 @@ use Rattle.proof_memory.proofs.Lines.Shared.{position_within}
 use Rattle.lock_free.specs.declared.climbing.Climbed.TheVariants as outcome
 use Rattle.lock_free.specs.declared.rooting.Rooted.{Rooted}
 use Rattle.lock_free.specs.declared.rules.View.{View}
-use Rattle.lock_free.specs.Accounts.{place_of}
 use Rattle.lock_free.specs.Climbs.{HasCompared, IsAtTombed, HasSeenIt, IsAskingAgain, AskedBy, HasAskedAgain}
 use Rattle.lock_free.specs.Entries.{HasStayed}
 use Rattle.lock_free.specs.GoingDown.{HasMoved}
 use Rattle.lock_free.specs.Holding.{IsOn}
-use Rattle.lock_free.specs.Live.{line_claims, refs_of_claims, at_hand}
+use Rattle.lock_free.specs.Live.{line_claims, refs_of_claims}
 use Rattle.lock_free.specs.Loading.{now, Runs, IsSound, Holds, HoldsSlot, HasPosition}
-use Rattle.lock_free.specs.Passing.{IsPlaced}
 use Rattle.lock_free.specs.Repairing.{HasStart, IsBranch}
 use Rattle.lock_free.specs.Rooting.{IsAtRoot, rooting_of, rooted, HasRooted}
 use Rattle.lock_free.proofs.Counts.{entries_counted, entries_few}
@@ -44,7 +40,7 @@ use Rattle.lock_free.proofs.OnLines.{line_is, finds_now}
 use Rattle.lock_free.proofs.RepairLooks.{eqb_swap}
 
 -- an operation is at one main node in one climb
-abbrev no_climb : Climb
+abbrev pub no_climb : Climb
 no_climb = record { path = []; single = no_ref; former = None }
 
 abbrev pub main_parts : Line → Climb × Ref
@@ -71,9 +67,12 @@ module _ (n : ℕ) (v0 : View) (sound0 : IsSound n v0) (name bitmap flag tombed 
   its = record at0.0 { is_marked = at0.1.0 }
 
   in_hand : (r : Ref) → Contains (c.path ++ c.single ∷ main ∷ []) r → Holds v0 r
-  in_hand r has =
-      (its, at0.1.1, inl (Contains-append_left (refs_of_claims (line_claims (now v0) its)) its.private r
-      (subst (λ (x : Line). Contains (refs_of_claims (line_claims (now v0) (record its { line = x }))) r) (sym at0.2) has)))
+  in_hand r has = (
+    its,
+    at0.1.1,
+    inl (Contains-append_left (refs_of_claims (line_claims (now v0) its)) its.private r
+        (subst (λ (x : Line). Contains (refs_of_claims (line_claims (now v0) (record its { line = x }))) r) (sym at0.2) has)),
+  )
 
   pub holds_main : Holds v0 main
   holds_main = in_hand main (Contains-append_right c.path (c.single ∷ main ∷ []) main (Contains-get_or (c.single ∷ main ∷ []) 1 main (omega arith)))
@@ -83,9 +82,11 @@ module _ (n : ℕ) (v0 : View) (sound0 : IsSound n v0) (name bitmap flag tombed 
 
   pub holds_tombed : HoldsSlot v0 tombed
   holds_tombed =
-      let last = length c.path - 1 in
-      (current c.path,
-      in_hand (current c.path) (Contains-append_left c.path (c.single ∷ main ∷ []) (current c.path) (Contains-get_or c.path last no_ref (let l = long in omega (arith, l)))), is_at.5.1)
+      let last = length c.path - 1 in (
+        current c.path,
+        in_hand (current c.path) (Contains-append_left c.path (c.single ∷ main ∷ []) (current c.path) (Contains-get_or c.path last no_ref (let l = long in omega (arith, l)))),
+        is_at.5.1,
+      )
 
   pub its_flag : (state : State) → state.limits.hash ≡ v0.sizes.hash → (o : Operation) → Runs v0 o → flag_in state o (above c.path) ≡ flag
   its_flag state same o runs = ap (λ k. flag_on k o.call (above c.path)) same ∙ sym (is_at.6 o runs)

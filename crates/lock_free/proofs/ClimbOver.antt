@@ -1,16 +1,15 @@
 -- CLIMB over one indirection.
-use Rattle.std.proofs.Common.{◌≡◌, ◌≢◌, ◌∷◌, ℕ, suc, zero, Bool, true, false, [], Contains, None, Some, refl, sym, ap, ap₂, subst, ◌∙◌, arith}
+use Rattle.std.proofs.Common.{◌≡◌, ◌∷◌, ℕ, suc, zero, Bool, true, false, [], Contains, None, Some, refl, sym, ap, ap₂, subst, ◌∙◌, arith}
 use Rattle.std.proofs.lemmas.List.Elements.{Contains-get_or}
 use Rattle.std.proofs.lemmas.Option.{none-some}
 use Rattle.trie_words.specs.declared.entries.Entry.{Entry}
 use Rattle.trie_words.specs.declared.headers.Header.{Header}
-use Rattle.trie_words.specs.declared.headers.Shape.{Shape}
 use Rattle.trie_words.specs.declared.headers.Shape.TheVariants as shape
 use Rattle.machine_model.specs.Beneath.slot_arena.specs.declared.refs.Ref.{Ref}
 use Rattle.machine_model.specs.Beneath.slot_arena.specs.declared.nodes.Node.{Node}
 use Rattle.machine_model.specs.Beneath.slot_arena.specs.declared.nodes.Node.TheVariants.{Tomb, List as Listed}
 use Rattle.machine_model.specs.Beneath.slot_arena.specs.declared.nodes.Slot.{Slot}
-use Rattle.machine_model.specs.Beneath.slot_arena.specs.Heaps.{no_ref, node_at, refs_of_node}
+use Rattle.machine_model.specs.Beneath.slot_arena.specs.Heaps.{node_at, refs_of_node}
 use Rattle.machine_model.specs.Beneath.slot_arena.specs.Refs.{slot_of}
 use Rattle.machine_model.specs.declared.actions.Action.TheVariants as act
 use Rattle.machine_model.specs.declared.lines.Line.{Line}
@@ -19,17 +18,14 @@ use Rattle.machine_model.specs.declared.operations.Operation.{Operation}
 use Rattle.machine_model.specs.declared.reading.ReadLine.TheVariants as read
 use Rattle.machine_model.specs.declared.repairs.Climb.{Climb}
 use Rattle.machine_model.specs.declared.repairs.ClimbLine.TheVariants as climb
-use Rattle.machine_model.specs.Climbing.{climbed, climbing, higher, climb_after_main}
+use Rattle.machine_model.specs.Climbing.{climbing, higher, climb_after_main}
 use Rattle.machine_model.specs.Lines.{impossible}
-use Rattle.machine_model.specs.Machine.{AreBounds}
 use Rattle.machine_model.specs.Paths.{above, current}
-use Rattle.machine_model.specs.Reading.{reading}
 use Rattle.machine_model.specs.States.{State, operation_of}
 use Rattle.proof_memory.specs.Wants.{flag_on}
 use Rattle.proof_memory.proofs.Claims.Uses.{safe_of}
 use Rattle.proof_memory.proofs.Levels.Impossible.{IsImpossible}
 use Rattle.proof_memory.proofs.Levels.ShapeStates.{none_impossible}
-use Rattle.lock_free.specs.declared.accounts.Account.{Account}
 use Rattle.lock_free.specs.declared.climbing.Climbed.{Climbed}
 use Rattle.lock_free.specs.declared.climbing.Climbed.TheVariants as outcome
 use Rattle.lock_free.specs.declared.reading.Given.{Given}
@@ -41,26 +37,25 @@ use Rattle.lock_free.specs.Becoming.{Follows}
 use Rattle.lock_free.specs.Climbs.{KnowsClimb, at_parent, IsAtParent, ClimbedBy, HasClimbed, IsAtParentBranch, HasClimbedBranch}
 use Rattle.lock_free.specs.GoingDown.{HasMoved}
 use Rattle.lock_free.specs.Holding.{IsOn, HasComeTo}
-use Rattle.lock_free.specs.Loading.{now, seen, Runs, IsUsed, IsSound, IsAtSlot, HasLookedAtMain}
-use Rattle.lock_free.specs.Nodes.{is_single, SaysShape, of_branch, of_tomb, of_list}
-use Rattle.lock_free.specs.Passing.{Later, IsPassing, IsReading, IsOnWay, HasPassed, HasGiven}
-use Rattle.lock_free.specs.Repairing.{HasEndedBy, HasStart}
-use Rattle.lock_free.specs.SeenEntries.{entry_to, unowned}
+use Rattle.lock_free.specs.Loading.{now, seen, IsUsed, IsSound, IsAtSlot, HasLookedAtMain}
+use Rattle.lock_free.specs.Nodes.{is_single}
+use Rattle.lock_free.specs.Passing.{IsPassing, IsReading, IsOnWay, HasPassed, HasGiven}
+use Rattle.lock_free.specs.Repairing.{HasStart}
+use Rattle.lock_free.specs.SeenEntries.{unowned}
 use Rattle.lock_free.specs.Stocks.{Stocked, IsStock}
 use Rattle.lock_free.proofs.BecomesOn.{moved_become, start_become, stock_moved}
 use Rattle.lock_free.proofs.CleanBelow.{known_branch}
 use Rattle.lock_free.proofs.CleanEntries.{tomb_entry}
 use Rattle.lock_free.proofs.ClimbBranches.{climbed_from}
+use Rattle.lock_free.proofs.ClimbLooks.{no_climb}
 use Rattle.lock_free.proofs.Comings.{runs_one}
 use Rattle.lock_free.proofs.EntriesTo.{entry_to_on}
 use Rattle.lock_free.proofs.Followings.{follows_both, follows_later, main_node_on, used_on}
 use Rattle.lock_free.proofs.GivenBack.{node_is}
-use Rattle.lock_free.proofs.Laters.{later_both, placed_later, waited_later, went_later}
+use Rattle.lock_free.proofs.Laters.{placed_later, waited_later, went_later}
+use Rattle.lock_free.proofs.MainLooks.{list_says}
 use Rattle.lock_free.proofs.OnLines.{line_is, at_look, finds_now, moves_on, moved, reading_on, given_moved, way_on}
 use Rattle.lock_free.proofs.TombSingles.{tomb_single}
-
-abbrev no_climb : Climb
-no_climb = record { path = []; single = no_ref; former = None }
 
 abbrev read_parts : Line → Climb
 read_parts (line.Climb (climb.Read c r)) = c
@@ -76,22 +71,6 @@ never n v sound at = by_actor v.actor at.1.1
     by_actor : (actor : ℕ) → operation_of (state_of v.sizes v.account) actor ≡ Some o → ⊥
     by_actor zero runs = absurd (none-some o runs)
     by_actor (suc m) runs = none_impossible (bounds_for v.sizes v.account.steps) sound.bounds v.account.steps m o runs (subst IsImpossible (sym at.2) tt)
-
--- what a list comes to
-listed : (account : Account) (k : ℕ) (n : Node) (s : Shape) (count : ℕ) → s ≡ shape.List count → SaysShape account k n s → (singles : _) × (n ≡ Listed singles)
-listed account k n s count e (of_branch b entries) = absurd (omega (arith, (ap kind e)))
-  where
-    kind : Shape → ℕ
-    kind (shape.Branch bitmap) = 0
-    kind (shape.Tomb entry) = 1
-    kind (shape.List many) = 2
-listed account k n s count e (of_tomb single own is) = absurd (omega (arith, (ap kind e)))
-  where
-    kind : Shape → ℕ
-    kind (shape.Branch bitmap) = 0
-    kind (shape.Tomb entry) = 1
-    kind (shape.List many) = 2
-listed account k n s count e (of_list singles) = (singles, refl)
 
 module _ (n : ℕ) (v0 : View) (sound0 : IsSound n v0) (parent tombed flag : ℕ) (single : Entry) (below : Bool) (is_at : IsAtParent v0 parent tombed flag single below) where
   abbrev c : Climb
@@ -221,6 +200,6 @@ module _ (n : ℕ) (v0 : View) (sound0 : IsSound n v0) (parent tombed flag : ℕ
       -- no list stands there
       pub none_listed : {A : Type 0} (count : ℕ) → given.header.shape ≡ shape.List count → A
       none_listed count is =
-          let x = listed v1.account (slot_of main) g.header.slot.node given.header.shape count is g.header.is_shape in
+          let x = list_says v1.account (slot_of main) g.header.slot.node given.header.shape count is g.header.is_shape in
           let m = moves_by (Listed x.0) x.1 (λ o. impossible) (λ state o mark. refl) in
           absurd (never n v2 sound2 (moves_on v1 l1 at1 v2 impossible m))

@@ -6,7 +6,6 @@ use Rattle.std.proofs.lemmas.Option.{none-some, same_Some}
 use Rattle.std.proofs.lemmas.List.{get_or-take, length-take-le}
 use Rattle.history.specs.declared.calls.Call.{Call}
 use Rattle.history.specs.declared.replies.Reply.{Reply}
-use Rattle.history.specs.declared.replies.Reply.TheVariants as reply
 use Rattle.trie_words.specs.declared.entries.Entry.{Entry}
 use Rattle.machine_model.specs.Beneath.ctrie_base.specs.Hashes.{hash_of}
 use Rattle.machine_model.specs.Beneath.slot_arena.specs.declared.refs.Ref.{Ref}
@@ -21,15 +20,12 @@ use Rattle.machine_model.specs.Calls.{changed_reply, handle_of, key_of}
 use Rattle.machine_model.specs.Climbing.{climbed, climbing, higher}
 use Rattle.machine_model.specs.Paths.{above, current, depth_of, is_below_root}
 use Rattle.nodes.specs.Levels.{flag_of}
-use Rattle.proof_memory.specs.Wants.{flag_on}
-use Rattle.lock_free.specs.declared.climbing.Climbed.{Climbed}
 use Rattle.lock_free.specs.declared.climbing.Climbed.TheVariants as outcome
 use Rattle.lock_free.specs.declared.reading.Way.{Way}
 use Rattle.lock_free.specs.declared.rules.View.{View}
-use Rattle.lock_free.specs.Becoming.{Follows}
-use Rattle.lock_free.specs.Climbs.{KnowsClimb, at_parent, IsAtParent, ClimbedBy, HasClimbed, IsClimbing, AnsweredOrNot, HasClimbedUp}
+use Rattle.lock_free.specs.Climbs.{KnowsClimb, at_parent, IsAtParent, HasClimbed, IsClimbing, AnsweredOrNot, HasClimbedUp}
 use Rattle.lock_free.specs.Holding.{IsOn}
-use Rattle.lock_free.specs.Loading.{now, Runs, IsUsed, IsSound}
+use Rattle.lock_free.specs.Loading.{Runs, IsUsed, IsSound}
 use Rattle.lock_free.specs.Passing.{IsPlaced, IsOnWay}
 use Rattle.lock_free.specs.Repairing.{GivesUp, HasEndedBy, HasStart}
 use Rattle.lock_free.specs.SeenEntries.{entry_to, unowned}

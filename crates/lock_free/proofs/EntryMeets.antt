@@ -37,7 +37,7 @@ use Rattle.lock_free.proofs.OnLines.{line_is, at_look, moved}
 use Rattle.lock_free.proofs.Laters.{later_both, went_later, saw_later, waited_later, placed_later}
 
 -- a single stays what it is
-single_of : (node : Node) → is_single node ≡ true → (k : ℕ) × (v : ℕ) × (node ≡ Single k v)
+pub single_of : (node : Node) → is_single node ≡ true → (k : ℕ) × (v : ℕ) × (node ≡ Single k v)
 single_of (Single k v) is = (k, v, refl)
 single_of (Indirection generation main) is = absurd (true≢false (sym is))
 single_of (Branch bitmap entries) is = absurd (true≢false (sym is))

@@ -36,7 +36,7 @@ parts_of (line.Key (key.Entry path main position)) = (path, main, position)
 parts_of l = ([], no_ref, 0)
 
 -- an entry that is no single is an indirection
-link_of : (node : Node) → is_entry node ≡ true → is_single node ≡ false → (generation : ℕ) × (main : Ref) × (node ≡ Indirection generation main)
+pub link_of : (node : Node) → is_entry node ≡ true → is_single node ≡ false → (generation : ℕ) × (main : Ref) × (node ≡ Indirection generation main)
 link_of (Indirection generation main) is no_single = (generation, main, refl)
 link_of (Single k v) is no_single = absurd (true≢false no_single)
 link_of (Branch bitmap entries) is no_single = absurd (true≢false (sym is))

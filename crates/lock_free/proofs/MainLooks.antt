@@ -45,7 +45,7 @@ use Rattle.lock_free.proofs.Laters.{went_later}
 
 -- ---- what a header says the main node is
 
-abbrev kind_in : Shape → ℕ
+abbrev pub kind_in : Shape → ℕ
 kind_in (shape.Branch bitmap) = 0
 kind_in (shape.Tomb entry) = 1
 kind_in (shape.List count) = 2

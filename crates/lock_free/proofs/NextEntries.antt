@@ -1,10 +1,9 @@
 -- An operation that goes over the entries of a branch is at the next one.
-use Rattle.std.proofs.Common.{◌≡◌, ◌++◌, ℕ, true, false, List, [], ◌∷◌, Contains, length, refl, sym, ap, subst, ◌∙◌, arith}
-use Rattle.std.proofs.lemmas.Bool.{true≢false}
+use Rattle.std.proofs.Common.{◌≡◌, ◌++◌, ℕ, true, false, List, [], ◌∷◌, Contains, length, sym, ap, subst, ◌∙◌, arith}
 use Rattle.std.proofs.lemmas.List.Elements.{Contains-get_or, Contains-append_right}
 use Rattle.machine_model.specs.Beneath.slot_arena.specs.declared.refs.Ref.{Ref}
 use Rattle.machine_model.specs.Beneath.slot_arena.specs.declared.nodes.Node.{Node}
-use Rattle.machine_model.specs.Beneath.slot_arena.specs.declared.nodes.Node.TheVariants.{Indirection, Branch, Single, Tomb, List as Listed}
+use Rattle.machine_model.specs.Beneath.slot_arena.specs.declared.nodes.Node.TheVariants.{Indirection, Single}
 use Rattle.machine_model.specs.Beneath.slot_arena.specs.declared.nodes.Slot.{Slot}
 use Rattle.machine_model.specs.Beneath.slot_arena.specs.Heaps.{node_at, with_main_word}
 use Rattle.machine_model.specs.declared.lines.Line.{Line}
@@ -20,7 +19,9 @@ use Rattle.lock_free.specs.Live.{IsLive, refs_of_claims}
 use Rattle.lock_free.specs.Loading.{now, IsUsed, IsSound}
 use Rattle.lock_free.specs.Nodes.{is_single}
 use Rattle.lock_free.specs.Passing.{Later}
+use Rattle.lock_free.proofs.EntryMeets.{single_of}
 use Rattle.lock_free.proofs.GivenBack.{node_is}
+use Rattle.lock_free.proofs.LinkMeets.{link_of}
 use Rattle.lock_free.proofs.KeyHolds.{LooksIn, looks_by, within, entry_then}
 use Rattle.lock_free.proofs.OneStep.Entries.{entry_stands}
 use Rattle.lock_free.proofs.OnLines.{finds_now}
@@ -42,20 +43,6 @@ module _ (v : View) (l : Line) (at : IsOn v l) (path : List Ref) (main : Ref) (d
   -- it is an indirection or a single
   pub next_kind : is_entry (node_at (now v).heap (entry_in v main (length done))) ≡ true
   next_kind = entry_stands v.sizes v.account sound.bounds main (length done) claims.1.1.0 claims.1.1.1.1.0
-
-single_of : (node : Node) → is_single node ≡ true → (k : ℕ) × (x : ℕ) × (node ≡ Single k x)
-single_of (Single k x) is = (k, x, refl)
-single_of (Indirection generation main) is = absurd (true≢false (sym is))
-single_of (Branch bitmap entries) is = absurd (true≢false (sym is))
-single_of (Tomb single) is = absurd (true≢false (sym is))
-single_of (Listed singles) is = absurd (true≢false (sym is))
-
-link_of : (node : Node) → is_entry node ≡ true → is_single node ≡ false → (generation : ℕ) × (main : Ref) × (node ≡ Indirection generation main)
-link_of (Indirection generation main) is no_single = (generation, main, refl)
-link_of (Single k v) is no_single = absurd (true≢false no_single)
-link_of (Branch bitmap entries) is no_single = absurd (true≢false (sym is))
-link_of (Tomb single) is no_single = absurd (true≢false (sym is))
-link_of (Listed singles) is no_single = absurd (true≢false (sym is))
 
 -- what an entry is it stays
 module _ (v : View) (main : Ref) (position : ℕ) (h : LooksIn v main position) (w : View) (l : Later v w) where

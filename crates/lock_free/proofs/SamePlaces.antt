@@ -1,5 +1,5 @@
 -- Nodes that an operation holds are one where their slots are.
-use Rattle.std.proofs.Common.{◌≡◌, ◌≢◌, ◌<◌, ◌==◌, ◌+◌, ◌*◌, ◌/◌, ℕ, Bool, true, false, get_or, Contains, length, Some, refl, sym, ap, subst, ◌∙◌, eq-eqb, eqb-true, ne_eqb}
+use Rattle.std.proofs.Common.{◌≡◌, ◌<◌, ◌==◌, ◌+◌, ◌*◌, ◌/◌, ℕ, Bool, true, false, get_or, length, refl, sym, ap, subst, ◌∙◌, eq-eqb, eqb-true, ne_eqb}
 use Rattle.std.proofs.lemmas.Bool.{true≢false}
 use Rattle.std.proofs.lemmas.List.Elements.{Contains-get_or}
 use Rattle.std.proofs.lemmas.Option.{slice_get-get_or}

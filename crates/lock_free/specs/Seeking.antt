@@ -1,5 +1,5 @@
 -- KEY with RENEW and CLEAN: a try goes on until it can answer, or change something.
-use Rattle.std.specs.Prelude.{◌≡◌, ◌<◌, ℕ, List, [], length}
+use Rattle.std.specs.Prelude.{◌<◌, ℕ, List, [], length}
 use Rattle.history.specs.declared.replies.Reply.TheVariants as reply
 use Rattle.machine_model.specs.Beneath.slot_arena.specs.declared.refs.Ref.{Ref}
 use Rattle.machine_model.specs.declared.finding.KeyLine.TheVariants as key

@@ -48,13 +48,7 @@ fn entry_in(pair: Pair, position: u32) -> Entry
 }
 
 /// Whether the entry at this position of the branch in the first slot is the indirection in the other one.
-fn leads_to(
-    words: &Words,
-    actor: &mut Actor,
-    main: u32,
-    position: u32,
-    indirection: u32,
-) -> bool
+fn leads_to(words: &Words, actor: &mut Actor, main: u32, position: u32, indirection: u32) -> bool
     requires table { actor.old.table_id ≡ words.now.table_id }
     requires sound { IsSound words.now.table_id.words actor.old.me.0 }
     requires held { HasPosition actor.old.me.0 main position }
@@ -160,7 +154,8 @@ fn contract<R: Wait, A: AsksRoot>(
     ensures contracted { HasContracted actor.old.me.0 result actor.new.me.0 }
 {
     let over = Previous::Pending(link.main);
-    let Some(fresh) = make_contracted(rt, words, actor, stock, may_entomb, bitmap, entries, over) else {
+    let Some(fresh) = make_contracted(rt, words, actor, stock, may_entomb, bitmap, entries, over)
+    else {
         return Climbed::Full;
     };
     match swap_made(rt, asker, words, actor, stock, way, parent, link, fresh) {

@@ -1,5 +1,5 @@
 use Rattle.lock_free.proofs.ClimbLooks.{at_root, asks_again, asks_ended}
-use Rattle.std.proofs.Common.{sym, eq-eqb, ne_eqb}
+use Rattle.std.proofs.Common.{eq-eqb, ne_eqb}
 use Rattle.lock_free.proofs.climbing.ask_again.Goals as goal
 
 pub root-rooted-requires-clause-at : goal.root-rooted-requires-clause-at

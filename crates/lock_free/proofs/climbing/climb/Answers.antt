@@ -1,4 +1,4 @@
-use Rattle.std.proofs.Common.{◌-◌, ◌≡◌, get_or, refl, sym, ap, subst, ◌∙◌, arith}
+use Rattle.std.proofs.Common.{◌-◌, get_or, refl, sym, ap, subst, ◌∙◌, arith}
 use Rattle.lock_free.specs.Climbs.{HasClimbed}
 use Rattle.lock_free.proofs.ClimbsUp.{ClimbsSoFar, climbs_first, over_ready, at_root, climbs_higher, climbs_again, climbs_ended, climbs_full}
 use Rattle.lock_free.proofs.climbing.climb.Goals as goal
@@ -32,7 +32,7 @@ loop-preserved g c = (
   c.climb_over.ensures.table ∙ c.loop.invariant.2,
   c.climb_over.ensures.stock,
   climbs_again c.args.words.now.table_id.words c.args.way c.args.start c.args.actor.now.me.0 c.requires.way c.requires.start c.args.path.now.items c.args.hash c.args.single
-    c.loop.actor.me.0 c.loop.length c.loop.single c.loop.invariant.4 c.requires.at (let b = c.if-length-lt2.false in omega (arith, b)) c.climb_over.new.actor.me.0 c.climb_over.ensures.sound
+      c.loop.actor.me.0 c.loop.length c.loop.single c.loop.invariant.4 c.requires.at (let b = c.if-length-lt2.false in omega (arith, b)) c.climb_over.new.actor.me.0 c.climb_over.ensures.sound
       (subst (λ r. HasClimbed c.loop.actor.me.0 r c.climb_over.new.actor.me.0) c.in-Again.is c.climb_over.ensures.climbed),
 )
 
@@ -43,7 +43,7 @@ loop-preserved-in-Higher g c = (
   c.climb_over.ensures.table ∙ c.loop.invariant.2,
   c.climb_over.ensures.stock,
   climbs_higher c.args.words.now.table_id.words c.args.way c.args.start c.args.actor.now.me.0 c.requires.way c.requires.start c.args.path.now.items c.args.hash c.args.single
-    c.loop.actor.me.0 c.loop.length c.loop.single c.loop.invariant.4 c.requires.at (let b = c.if-length-lt2.false in omega (arith, b)) c.climb_over.new.actor.me.0 c.climb_over.ensures.sound
+      c.loop.actor.me.0 c.loop.length c.loop.single c.loop.invariant.4 c.requires.at (let b = c.if-length-lt2.false in omega (arith, b)) c.climb_over.new.actor.me.0 c.climb_over.ensures.sound
       c.in-Higher.above (subst (λ r. HasClimbed c.loop.actor.me.0 r c.climb_over.new.actor.me.0) c.in-Higher.is c.climb_over.ensures.climbed) (c.loop.length - 1) (let b = c.if-length-lt2.false in omega (arith, b)),
 )
 

@@ -1,4 +1,4 @@
-use Rattle.std.proofs.Common.{sym, ◌∙◌, ◌≡◌, true, false}
+use Rattle.std.proofs.Common.{sym, ◌∙◌}
 use Rattle.lock_free.proofs.ClimbLooks.{has_position, holds_tombed, no_flag, is_seen}
 use Rattle.lock_free.proofs.climbing.holds_it.Goals as goal
 

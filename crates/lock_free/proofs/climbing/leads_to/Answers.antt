@@ -1,4 +1,4 @@
-use Rattle.std.proofs.Common.{◌+◌, ◌*◌, ◌/◌, ◌==◌, sym, ap, subst, ◌∙◌}
+use Rattle.std.proofs.Common.{◌+◌, ◌*◌, ◌/◌, sym, ap, subst, ◌∙◌}
 use Rattle.trie_words.specs.Codes.{entry_of}
 use Rattle.lock_free.specs.Loading.{IsSound}
 use Rattle.lock_free.specs.Nodes.{half_in}

@@ -1,7 +1,7 @@
 use Rattle.std.proofs.Common.{◌<◌, length, refl, sym, subst, ◌∙◌}
 use Rattle.lock_free.specs.declared.descending.Found.TheVariants as found
 use Rattle.lock_free.specs.Descending.{IsHere}
-use Rattle.lock_free.specs.Seeking.{HasRenewedLast, HasSought, IsSeeking, IsToClean, IsToRenew}
+use Rattle.lock_free.specs.Seeking.{HasRenewedLast, HasSought, IsToClean, IsToRenew}
 use Rattle.lock_free.specs.declared.renewing.Renewed.TheVariants as renewed
 use Rattle.lock_free.proofs.Seekings.{begins, path_ready, task_there, stock_there, answers, changes, parent_ready, two, cleaned, last_ready, last_some, reads_again, begins_anew, has_no_slot}
 use Rattle.lock_free.proofs.seeking.seek.Goals as goal
