@@ -1,5 +1,6 @@
 -- CLEAN goes over the entries of a branch.
-use Rattle.std.proofs.Common.{◌≡◌, ◌≤◌, ◌<◌, ◌==◌, ◌||◌, ◌++◌, ◌+◌, ℕ, suc, Bool, true, false, not, List, [], ◌∷◌, All, take, length, length-append, get_or, Contains, nat_eq, nat_lt, refl, sym, ap, ap₂, subst, ◌∙◌, arith, if◌then◌else◌}
+use Rattle.std.proofs.Common.{◌≡◌, ◌≤◌, ◌<◌, ◌==◌, ◌||◌, ◌++◌, ◌+◌, ℕ, suc, Bool, true, false, not, List, [], ◌∷◌, All, take, length, length-append, get_or, Contains, nat_eq, nat_lt}
+use Rattle.std.proofs.Common.{refl, sym, ap, ap₂, subst, ◌∙◌, arith, if◌then◌else◌}
 use Rattle.std.proofs.Math.Seq.{take-suc, take-length}
 use Rattle.std.specs.Cmp.Lexicographic.{pointwise}
 use Rattle.std.proofs.lemmas.Bool.{true≢false, lt-ltb, le-ltb}
@@ -145,7 +146,8 @@ module _ (words : ℕ) (way : Way) (v0 : View) (sound0 : IsSound words v0) (on0 
 
       come_there : HasComeTo l v0 v
       come_there =
-          subst (λ (b : Bool). HasComeTo (if b then l else (if pointwise nat_eq it.done (entries_of (node_at (now v0).heap main)) then new_try else line.Clean (clean.Contracted path main it.done))) v0 v)
+          subst (λ (b : Bool). HasComeTo (if b then l else (if pointwise nat_eq it.done (entries_of (node_at (now v0).heap main)) then new_try else line.Clean (clean.Contracted path
+          main it.done))) v0 v)
           some_left it.come
 
       at_entry : IsOn v l

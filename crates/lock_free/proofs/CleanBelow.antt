@@ -57,7 +57,8 @@ again_on u v w l false m e = record {
   runs = λ o runs. (let x = e.runs (record o { line = l }) (m.comes o runs) in (x.0, x.1, x.2, x.3));
 }
 
-module _ (n : ℕ) (v0 v1 : View) (sound0 : IsSound n v0) (sound1 : IsSound n v1) (name : ℕ) (below : Bool) (is_at : IsAtClean v0 name below) (given : Given) (p : HasPassed v0 (passed.Gives given) v1) where
+module _ (n : ℕ) (v0 v1 : View) (sound0 : IsSound n v0) (sound1 : IsSound n v1) (name : ℕ) (below : Bool) (is_at : IsAtClean v0 name below) (given : Given) (p : HasPassed v0
+    (passed.Gives given) v1) where
   abbrev path : List Ref
   path = is_at.0
 
@@ -112,7 +113,8 @@ module _ (n : ℕ) (v0 v1 : View) (sound0 : IsSound n v0) (sound1 : IsSound n v1
     come2 =
         let w = look.0 in
         let u = seen v1 w.account in
-        let same = main_node_on v1 u (follows_later v1 u (waited_later n v1 sound1 w.account w.waited)) main g.header.slot g.header.used g.header.is_main ∙ node_is (now v1) main g.header.slot g.header.used in
+        let same = main_node_on v1 u (follows_later v1 u (waited_later n v1 sound1 w.account w.waited)) main g.header.slot g.header.used g.header.is_main ∙ node_is (now v1) main
+        g.header.slot g.header.used in
         moved v1 l1 at1 v2 (went_later n v1 sound1 n v2 sound2 w) w main (λ o. new_try) (λ o. refl) (λ o. refl)
         (λ o mark runs. ap (clean_after_main (now u) path main) same ∙ stops v1.account (slot_of main) g.header.slot.node given.header.shape other g.header.is_shape (now u) path main)
 

@@ -105,7 +105,8 @@ module _ (n : ℕ) (v0 : View) (sound0 : IsSound n v0) (name : ℕ) (link : Link
       placed = placed_later v0 v1 stayed.later main link.main.slot (b.link_is.main_used, b.link_is.is.names.place);
       bitmap = bitmap;
       refs = b.branch.1;
-      node = main_node_on v0 v1 (follows_later v0 v1 stayed.later) main b.branch.0 b.branch.2 (branch_is_main n v0 sound0 main link.main.slot bitmap b.branch) ∙ node_is (now v0) main b.branch.0 b.branch.2
+      node = main_node_on v0 v1 (follows_later v0 v1 stayed.later) main b.branch.0 b.branch.2 (branch_is_main n v0 sound0 main link.main.slot bitmap b.branch) ∙ node_is (now v0) main
+          b.branch.0 b.branch.2
           ∙ b.branch.3;
       names = entries_seen n v0 sound0 main link.main.slot bitmap b.branch v1 count entries is g holds b.link_is.is.names.place;
     }
@@ -144,7 +145,8 @@ module _ (n : ℕ) (v0 : View) (sound0 : IsSound n v0) (name : ℕ) (link : Link
 
         node2 : node_at (now v2).heap main ≡ Branch bitmap b.branch.1
         node2 =
-            main_node_on v0 v2 (follows_later v0 v2 come2.later) main b.branch.0 b.branch.2 (branch_is_main n v0 sound0 main link.main.slot bitmap b.branch) ∙ node_is (now v0) main b.branch.0 b.branch.2
+            main_node_on v0 v2 (follows_later v0 v2 come2.later) main b.branch.0 b.branch.2 (branch_is_main n v0 sound0 main link.main.slot bitmap b.branch) ∙ node_is (now v0) main
+            b.branch.0 b.branch.2
             ∙ b.branch.3
 
         abbrev entombs : Bool

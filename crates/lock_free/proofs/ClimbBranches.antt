@@ -79,7 +79,8 @@ branch_on v w f main bitmap b =
     let kind : is_main_node b.0.node ≡ true = ap is_main_node b.3 in
     (y.0, b.1, y.1, sym (node_is (now w) main y.0 y.1) ∙ main_node_on v w f main b.0 b.2 kind ∙ node_is (now v) main b.0 b.2 ∙ b.3)
 
-module _ (n : ℕ) (v0 : View) (sound0 : IsSound n v0) (parent : ℕ) (link : Link) (bitmap tombed flag : ℕ) (single : Entry) (may : Bool) (is_at : IsAtParentBranch v0 parent link bitmap tombed flag single
+module _ (n : ℕ) (v0 : View) (sound0 : IsSound n v0) (parent : ℕ) (link : Link) (bitmap tombed flag : ℕ) (single : Entry) (may : Bool) (is_at : IsAtParentBranch v0 parent link bitmap
+    tombed flag single
     may) where
   abbrev c : Climb
   c = is_at.0
@@ -146,9 +147,11 @@ module _ (n : ℕ) (v0 : View) (sound0 : IsSound n v0) (parent : ℕ) (link : Li
         (λ o mark runs.
         (let call_so : o.call ≡ at0.0.call = ap (λ (z : Operation). z.call) (runs_one v o at0.0 runs (s.comes at0.0 at0.1)) in
         ap (climb_after_main (now u) (record o { is_marked = mark }) c main) node_u
-        ∙ ap (λ x. after x o) (ap₂ (λ h (call : Call). has_flag bitmap (flag_on h call (above c.path)) && (get_or refs (position_of (flag_on h call (above c.path)) (bitmap_of (node_at (now u).heap main))) no_ref
+        ∙ ap (λ x. after x o) (ap₂ (λ h (call : Call). has_flag bitmap (flag_on h call (above c.path)) && (get_or refs (position_of (flag_on h call (above c.path)) (bitmap_of (node_at
+        (now u).heap main))) no_ref
         == current c.path)) (hash_is u.sizes u.account ∙ ap (λ z. z.hash) sizes_u) call_so
-        ∙ ap (λ x. has_flag bitmap (flag_on v0.sizes.hash at0.0.call (above c.path)) && (get_or refs (position_of (flag_on v0.sizes.hash at0.0.call (above c.path)) (bitmap_of x)) no_ref == current c.path))
+        ∙ ap (λ x. has_flag bitmap (flag_on v0.sizes.hash at0.0.call (above c.path)) && (get_or refs (position_of (flag_on v0.sizes.hash at0.0.call (above c.path)) (bitmap_of x))
+        no_ref == current c.path))
         node_u ∙ found_is)))
 
     pub seen_stock : (stock : Stocked) → IsStock stock v0 → IsStock stock v1

@@ -85,7 +85,8 @@ and_true : (b : Bool) → b ≡ (b && true)
 and_true true = refl
 and_true false = refl
 
-module _ (n : ℕ) (v0 : View) (sound0 : IsSound n v0) (parent : ℕ) (link : Link) (bitmap : ℕ) (entries : List Entry) (single : Entry) (may : Bool) (is_at : IsContracting v0 parent link bitmap entries single
+module _ (n : ℕ) (v0 : View) (sound0 : IsSound n v0) (parent : ℕ) (link : Link) (bitmap : ℕ) (entries : List Entry) (single : Entry) (may : Bool) (is_at : IsContracting v0 parent link
+    bitmap entries single
     may) where
   abbrev c : Climb
   c = is_at.0

@@ -1,5 +1,6 @@
 -- CLIMB looks whether the parent's entry for the key is the tombed indirection, and asks for the root again.
-use Rattle.std.proofs.Common.{◌≡◌, ◌<◌, ◌≤◌, ◌==◌, ◌&&◌, ◌^◌, ◌*◌, ◌-◌, ◌++◌, ℕ, Bool, true, false, [], ◌∷◌, Contains, length, get_or, count_ones, nat_eq, None, Some, inl, sym, ap, ap₂, subst, ◌∙◌, arith, ltb-true, if◌then◌else◌}
+use Rattle.std.proofs.Common.{◌≡◌, ◌<◌, ◌≤◌, ◌==◌, ◌&&◌, ◌^◌, ◌*◌, ◌-◌, ◌++◌, ℕ, Bool, true, false, [], ◌∷◌, Contains, length, get_or, count_ones, nat_eq, None, Some, inl, sym, ap, ap₂}
+use Rattle.std.proofs.Common.{subst, ◌∙◌, arith, ltb-true, if◌then◌else◌}
 use Rattle.std.specs.Option.{option_eq}
 use Rattle.std.proofs.lemmas.Bool.{le-leb}
 use Rattle.std.proofs.lemmas.List.Elements.{Contains-get_or, Contains-append_left, Contains-append_right}

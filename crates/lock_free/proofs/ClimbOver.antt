@@ -153,12 +153,16 @@ module _ (n : ℕ) (v0 : View) (sound0 : IsSound n v0) (parent tombed flag : ℕ
     over_ready = (main, at_look v1 l1 at1 main (λ o. refl), g.link.is.names.place)
 
     module _ (v2 : View) (sound2 : IsSound n v2) (header : Header) (look : HasLookedAtMain v1 header v2) where
-      moves_by : (node : Node) → g.header.slot.node ≡ node → (next : Operation → Line) → ((state : State) (o : Operation) (mark : Bool) → climb_after_main state (record o { is_marked = mark }) c main node ≡
+      moves_by : (node : Node) → g.header.slot.node ≡ node → (next : Operation → Line) → ((state : State) (o : Operation) (mark : Bool) → climb_after_main state (record o {
+        is_marked =
+            mark;
+      }) c main node ≡
           next o) → HasMoved next v1 v2
       moves_by node is next by =
           let w = look.0 in
           let u = seen v1 w.account in
-          let same = main_node_on v1 u (follows_later v1 u (waited_later n v1 sound1 w.account w.waited)) main g.header.slot g.header.used g.header.is_main ∙ node_is (now v1) main g.header.slot g.header.used ∙ is in
+          let same = main_node_on v1 u (follows_later v1 u (waited_later n v1 sound1 w.account w.waited)) main g.header.slot g.header.used g.header.is_main ∙ node_is (now v1) main
+          g.header.slot g.header.used ∙ is in
           moved v1 l1 at1 v2 (went_later n v1 sound1 n v2 sound2 w) w main next (λ o. refl) (λ o. refl)
           (λ o mark runs. ap (climb_after_main (now u) (record o { is_marked = mark }) c main) same ∙ by (now u) o mark)
 

@@ -1,5 +1,6 @@
 -- CLIMB as a whole.
-use Rattle.std.proofs.Common.{◌≡◌, ◌<◌, ◌≤◌, ◌-◌, ◌+◌, ℕ, suc, zero, Bool, true, false, List, [], ◌∷◌, length, get_or, take, nat_lt, None, Option, Some, refl, sym, ap, ap₂, subst, ◌∙◌, arith, if◌then◌else◌}
+use Rattle.std.proofs.Common.{◌≡◌, ◌<◌, ◌≤◌, ◌-◌, ◌+◌, ℕ, suc, zero, Bool, true, false, List, [], ◌∷◌, length, get_or, take, nat_lt, None, Option, Some, refl, sym, ap, ap₂, subst, ◌∙◌}
+use Rattle.std.proofs.Common.{arith, if◌then◌else◌}
 use Rattle.std.proofs.Math.Seq.{take-length}
 use Rattle.std.proofs.lemmas.Bool.{lt-ltb, le-ltb, ltb-true, ltb-false}
 use Rattle.std.proofs.lemmas.Option.{none-some, same_Some}
@@ -64,7 +65,8 @@ module _ (u v : View) (f : Operation → Line) (e : HasEndedBy f u v) (o : Opera
   call_ended : (q : Operation) → Runs v q → q.call ≡ o.call
   call_ended q runs_q = ap (λ (z : Operation). z.call) (one_then q runs_q)
 
-ended_both : (u v w : View) (f g : Operation → Line) → ((o : Operation) (p : List Ref) (l : Line) → g (record o { private = p; line = l }) ≡ g o) → HasEndedBy f u v → HasEndedBy g v w → HasEndedBy g u w
+ended_both : (u v w : View) (f g : Operation → Line) → ((o : Operation) (p : List Ref) (l : Line) → g (record o { private = p; line = l }) ≡ g o) → HasEndedBy f u v → HasEndedBy g v w
+    → HasEndedBy g u w
 ended_both u v w f g same a b = record {
   follows = follows_both u v w a.follows b.follows;
   comes = λ o runs.
@@ -215,8 +217,10 @@ module _ (words : ℕ) (way : Way) (start : ℕ) (v0 : View) (on0 : IsOnWay v0 w
         knows : (parent tombed flag : ℕ) → parent ≡ get_or path (n - 2) 0 → tombed ≡ get_or path (n - 1) 0 → flag ≡ flag_of hash (n - 2) → (deep_more : Bool) → deep_more ≡ nat_lt 2 n →
             KnowsClimb v it.c parent tombed flag single deep_more
         knows parent tombed flag parent_so tombed_so flag_so deep_more deeper = record {
-          parent_at = subst (IsPlaced v (current (above it.c.path))) (sym parent_so) (subst (λ r. IsPlaced v r (get_or path (n - 2) 0)) (sym parent_is) (placed (n - 2) (let h = s.short in omega (arith, h, more))));
-          tombed_at = subst (IsPlaced v (current it.c.path)) (sym tombed_so) (subst (λ r. IsPlaced v r (get_or path (n - 1) 0)) (sym tombed_is) (placed (n - 1) (let h = s.short in omega (arith, h, more))));
+          parent_at = subst (IsPlaced v (current (above it.c.path))) (sym parent_so) (subst (λ r. IsPlaced v r (get_or path (n - 2) 0)) (sym parent_is) (placed (n - 2) (let h = s.short
+              in omega (arith, h, more))));
+          tombed_at = subst (IsPlaced v (current it.c.path)) (sym tombed_so) (subst (λ r. IsPlaced v r (get_or path (n - 1) 0)) (sym tombed_is) (placed (n - 1) (let h = s.short in
+              omega (arith, h, more))));
           names = it.names;
           used = it.used;
           alone = it.alone;

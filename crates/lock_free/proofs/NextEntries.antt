@@ -27,7 +27,8 @@ use Rattle.lock_free.proofs.OneStep.Entries.{entry_stands}
 use Rattle.lock_free.proofs.OnLines.{finds_now}
 
 -- a line that wants no more than that is at the entry after those that are done
-module _ (v : View) (l : Line) (at : IsOn v l) (path : List Ref) (main : Ref) (done : List Ref) (wants : (kind : HashKind) (call : Call) (access : Access) → line_wants kind call access l ≡ done_wants path main
+module _ (v : View) (l : Line) (at : IsOn v l) (path : List Ref) (main : Ref) (done : List Ref) (wants : (kind : HashKind) (call : Call) (access : Access) → line_wants kind call access
+    l ≡ done_wants path main
     done) (n : ℕ) (sound : IsSound n v) where
   claims : AllHold (IsLive (now v)) (now v).heap (done_wants path main done)
   claims = subst (AllHold (IsLive (now v)) (now v).heap) (wants v.sizes.hash at.0.call at.0.access) (finds_now v l at n sound)

@@ -82,7 +82,8 @@ module _ (n : ℕ) (v0 v1 : View) (sound0 : IsSound n v0) (entry : Entry) (is_at
       elsewhere (Some entry) v1 (record {
         one = e;
         more = [];
-        become = become_so v0 v1 (λ o. record o { line = next }) (λ o. record o { private = o.private ++ []; line = next }) (λ o runs. no_more next o) (moved_become v0 v1 (λ o. next) (come_by true is));
+        become = become_so v0 v1 (λ o. record o { line = next }) (λ o. record o { private = o.private ++ []; line = next }) (λ o runs. no_more next o) (moved_become v0 v1 (λ o. next)
+            (come_by true is));
         names = entry_named v0 main (length done) entry is_at.4 ∙ sym (entry_to_on v0 v1 (follows_later v0 v1 later1) e h.entry_used);
       })
 

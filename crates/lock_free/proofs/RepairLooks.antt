@@ -122,7 +122,8 @@ module _ (n : ℕ) (before after : View) (sound : IsSound n before) (last : IsSo
         let here = entry_then before main (length done) h u (later w) in
         let k : HasLink w.account (state w) (entry_in before main (length done)) link = (g.1 (entry_in before main (length done)) looks).0 s.0 s.2.0 s.2.1
         (subst (λ r. IsUsed u r s.0) here s.1) s.2.2 in
-        let node : node_at (state w).heap (next_entry (state w) main done) ≡ Indirection link.generation k.main = ap (node_at (state w).heap) here ∙ node_is (state w) (entry_in before main (length done))
+        let node : node_at (state w).heap (next_entry (state w) main done) ≡ Indirection link.generation k.main = ap (node_at (state w).heap) here ∙ node_is (state w) (entry_in before
+        main (length done))
         k.slot k.stores ∙ k.is_link in
         comes_by w (link.generation == start) (Indirection link.generation k.main) node
         (λ o mark runs. ap (λ b. branch b) (ap (λ g. option_eq nat_eq g (Some link.generation)) (begun o runs) ∙ eqb_swap start link.generation) ∙ so (link.generation == start))
@@ -155,7 +156,8 @@ module _ (n : ℕ) (before after : View) (sound : IsSound n before) (last : IsSo
     looks_over : (single : Bool) (node : Node) → node_at c_state.heap (next_entry c_state c_main c_done) ≡ node →
         clean_after_entry c_state c_path c_main c_done (next_entry c_state c_main c_done) node ≡ clean_looked (now before) c_path c_main c_done single → HasLookedOver before single after
     looks_over single node is by p m d other =
-        let here = moved before c_line is_at.3 after (went_later n before sound n after last w) w (next_entry c_state c_main c_done) (λ o. clean_looked (now before) c_path c_main c_done single) (λ o. refl)
+        let here = moved before c_line is_at.3 after (went_later n before sound n after last w) w (next_entry c_state c_main c_done) (λ o. clean_looked (now before) c_path c_main
+        c_done single) (λ o. refl)
         (λ o. refl) (λ o mark runs. ap (clean_after_entry c_state c_path c_main c_done (next_entry c_state c_main c_done)) is ∙ by) in
         let same = ap clean_parts (sym (line_is before c_line is_at.3 other.0 other.1) ∙ other.2) in
         subst (λ (x : List Ref × Ref × List Ref). HasComeTo (clean_looked (now before) x.0 x.1 x.2 single) before after) same here

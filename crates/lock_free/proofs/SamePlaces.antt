@@ -65,7 +65,8 @@ module _ (n : ℕ) (v : View) (sound : IsSound n v) (name position other found :
   pub compared : (e : Entry) → e ≡ entry_of (half_in (pair_of found) position) → HasCompared v name position other (e.slot == other) after
   compared e is = (stayed, λ r i slot holds used is_main kind inside placed holds_i placed_i. same r i slot holds used is_main kind inside placed holds_i placed_i)
     where
-      same : (r i : Ref) (slot : Slot) → Holds v r → IsUsed v r slot → is_main_node slot.node ≡ true → is_branch_or_list slot.node ≡ true → position < length (entries_of slot.node) → place_of v.account r ≡
+      same : (r i : Ref) (slot : Slot) → Holds v r → IsUsed v r slot → is_main_node slot.node ≡ true → is_branch_or_list slot.node ≡ true → position < length (entries_of slot.node) →
+          place_of v.account r ≡
           name → Holds v i → place_of v.account i ≡ other → (e.slot == other) ≡ (entry_at (now v).heap r position == i)
       same r i slot holds used is_main kind inside placed holds_i placed_i =
           let y = later.nodes r slot used in

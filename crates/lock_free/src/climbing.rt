@@ -1,7 +1,8 @@
 //! CLIMB: after a removal that left a tomb, that gives way to its single in the parent, and so on upwards.
 
 ghost use Rattle.std.specs.Prelude.{◌≡◌, ◌<◌, ◌==◌, ◌&&◌, length, slice_set};
-ghost use Rattle.lock_free.specs.Climbs.{HasAskedAgain, HasClimbed, HasClimbedBranch, HasClimbedUp, HasCompared, HasContracted, HasSeenIt, IsAskingAgain, IsAtParent, IsAtParentBranch, IsAtTombed, IsClimbing, IsContracting};
+ghost use Rattle.lock_free.specs.Climbs.{HasAskedAgain, HasClimbed, HasClimbedBranch, HasClimbedUp, HasCompared, HasContracted, HasSeenIt, IsAskingAgain, IsAtParent, IsAtParentBranch};
+ghost use Rattle.lock_free.specs.Climbs.{IsAtTombed, IsClimbing, IsContracting};
 ghost use Rattle.lock_free.specs.Loading.{HasPosition, HoldsSlot, IsSound};
 ghost use Rattle.lock_free.specs.Nodes.{half_in};
 ghost use Rattle.lock_free.specs.Passing.{IsOnWay};

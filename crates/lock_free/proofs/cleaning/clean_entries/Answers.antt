@@ -29,7 +29,8 @@ loop-n-preserved g c =
     let d : Entry = record { slot = 0; own = false; is_single = false } in (
       c.clean_entry-next.ensures.table ∙ c.loop-n.invariant.0,
       goes_on c.args.words.now.table_id.words c.args.way c.args.actor.now.me.0 c.requires.sound c.requires.way c.args.main c.args.entries.now.items c.requires.at c.loop-n.actor.me.0 c.loop-n.n
-          c.loop-n.cleaned.items c.loop-n.is_changed c.loop-n.invariant.1 few d c.clean_entry-next.new.actor.me.0 c.clean_entry-next.ensures.sound next c.clean_entry-next.ensures.cleaned c.push.new.self.items c.push.ensures.items,
+          c.loop-n.cleaned.items c.loop-n.is_changed c.loop-n.invariant.1 few d c.clean_entry-next.new.actor.me.0 c.clean_entry-next.ensures.sound next
+          c.clean_entry-next.ensures.cleaned c.push.new.self.items c.push.ensures.items,
     )
 
 pub returns-clause-cleaned : goal.returns-clause-cleaned

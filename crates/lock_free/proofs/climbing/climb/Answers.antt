@@ -44,7 +44,8 @@ loop-preserved-in-Higher g c = (
   c.climb_over.ensures.stock,
   climbs_higher c.args.words.now.table_id.words c.args.way c.args.start c.args.actor.now.me.0 c.requires.way c.requires.start c.args.path.now.items c.args.hash c.args.single
       c.loop.actor.me.0 c.loop.length c.loop.single c.loop.invariant.4 c.requires.at (let b = c.if-length-lt2.false in omega (arith, b)) c.climb_over.new.actor.me.0 c.climb_over.ensures.sound
-      c.in-Higher.above (subst (λ r. HasClimbed c.loop.actor.me.0 r c.climb_over.new.actor.me.0) c.in-Higher.is c.climb_over.ensures.climbed) (c.loop.length - 1) (let b = c.if-length-lt2.false in omega (arith, b)),
+      c.in-Higher.above (subst (λ r. HasClimbed c.loop.actor.me.0 r c.climb_over.new.actor.me.0) c.in-Higher.is c.climb_over.ensures.climbed) (c.loop.length - 1) (let b =
+      c.if-length-lt2.false in omega (arith, b)),
 )
 
 pub returns-in-Ends-clause-climbed : goal.returns-in-Ends-clause-climbed

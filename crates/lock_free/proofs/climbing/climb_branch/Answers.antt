@@ -1,5 +1,6 @@
 use Rattle.std.proofs.Common.{◌<◌, count_ones, length, slice_set, refl, sym, ap, subst, ◌∙◌}
-use Rattle.lock_free.proofs.ClimbBranches.{at_tombed, gone_ready, there_has, there_ready, put_inside, contracting, contracting_way, contracting_start, contracting_stock, contracted_there, gone_stock, gone_ends}
+use Rattle.lock_free.proofs.ClimbBranches.{at_tombed, gone_ready, there_has, there_ready, put_inside, contracting, contracting_way, contracting_start, contracting_stock}
+use Rattle.lock_free.proofs.ClimbBranches.{contracted_there, gone_stock, gone_ends}
 use Rattle.lock_free.proofs.climbing.climb_branch.Goals as goal
 
 pub holds_it-requires-clause-at : goal.holds_it-requires-clause-at
@@ -14,12 +15,14 @@ look_at_main-requires-clause-looking g c =
 pub returns-then-not-holds_it-clause-stock : goal.returns-then-not-holds_it-clause-stock
 returns-then-not-holds_it-clause-stock g c =
     gone_stock c.args.words.now.table_id.words c.args.actor.now.me.0 c.requires.sound c.args.parent c.args.link c.args.bitmap c.args.tombed c.args.flag c.args.single c.args.may_entomb c.requires.at
-    c.holds_it.new.actor.me.0 c.holds_it.ensures.sound c.holds_it.result c.holds_it.ensures.seen c.if-not-holds_it.true c.look_at_main.new.actor.me.0 c.look_at_main.ensures.sound c.look_at_main.result c.look_at_main.ensures.read c.args.stock.now c.requires.stock
+    c.holds_it.new.actor.me.0 c.holds_it.ensures.sound c.holds_it.result c.holds_it.ensures.seen c.if-not-holds_it.true c.look_at_main.new.actor.me.0 c.look_at_main.ensures.sound
+    c.look_at_main.result c.look_at_main.ensures.read c.args.stock.now c.requires.stock
 
 pub returns-then-not-holds_it-clause-climbed : goal.returns-then-not-holds_it-clause-climbed
 returns-then-not-holds_it-clause-climbed g c =
     gone_ends c.args.words.now.table_id.words c.args.actor.now.me.0 c.requires.sound c.args.parent c.args.link c.args.bitmap c.args.tombed c.args.flag c.args.single c.args.may_entomb c.requires.at
-    c.holds_it.new.actor.me.0 c.holds_it.ensures.sound c.holds_it.result c.holds_it.ensures.seen c.if-not-holds_it.true c.look_at_main.new.actor.me.0 c.look_at_main.ensures.sound c.look_at_main.result c.look_at_main.ensures.read
+    c.holds_it.new.actor.me.0 c.holds_it.ensures.sound c.holds_it.result c.holds_it.ensures.seen c.if-not-holds_it.true c.look_at_main.new.actor.me.0 c.look_at_main.ensures.sound
+    c.look_at_main.result c.look_at_main.ensures.read
 
 pub see_entries-entries-requires-clause-held : goal.see_entries-entries-requires-clause-held
 see_entries-entries-requires-clause-held g c =
@@ -34,28 +37,32 @@ look_at_main-requires-2-clause-looking g c =
 
 pub put-requires : goal.put-requires
 put-requires g c =
-    subst (λ p. p < length c.see_entries-entries.result.items) (sym c.position_of.ensures.position) (put_inside c.args.words.now.table_id.words c.args.actor.now.me.0 c.requires.sound c.args.parent c.args.link c.args.bitmap c.args.tombed c.args.flag c.args.single c.args.may_entomb c.requires.at
+    subst (λ p. p < length c.see_entries-entries.result.items) (sym c.position_of.ensures.position) (put_inside c.args.words.now.table_id.words c.args.actor.now.me.0 c.requires.sound
+    c.args.parent c.args.link c.args.bitmap c.args.tombed c.args.flag c.args.single c.args.may_entomb c.requires.at
     c.holds_it.new.actor.me.0 c.holds_it.ensures.sound c.holds_it.result c.holds_it.ensures.seen
     c.see_entries-entries.new.actor.me.0 c.see_entries-entries.ensures.sound (count_ones c.args.bitmap) c.see_entries-entries.result.items refl c.see_entries-entries.ensures.seen
     c.if-not-holds_it.false c.look_at_main-2.new.actor.me.0 c.look_at_main-2.ensures.sound c.look_at_main-2.result c.look_at_main-2.ensures.read)
 
 pub contract-requires-clause-stock : goal.contract-requires-clause-stock
 contract-requires-clause-stock g c =
-    contracting_stock c.args.words.now.table_id.words c.args.actor.now.me.0 c.requires.sound c.args.parent c.args.link c.args.bitmap c.args.tombed c.args.flag c.args.single c.args.may_entomb c.requires.at
+    contracting_stock c.args.words.now.table_id.words c.args.actor.now.me.0 c.requires.sound c.args.parent c.args.link c.args.bitmap c.args.tombed c.args.flag c.args.single
+    c.args.may_entomb c.requires.at
     c.holds_it.new.actor.me.0 c.holds_it.ensures.sound c.holds_it.result c.holds_it.ensures.seen
     c.see_entries-entries.new.actor.me.0 c.see_entries-entries.ensures.sound (count_ones c.args.bitmap) c.see_entries-entries.result.items refl c.see_entries-entries.ensures.seen
     c.if-not-holds_it.false c.look_at_main-2.new.actor.me.0 c.look_at_main-2.ensures.sound c.look_at_main-2.result c.look_at_main-2.ensures.read c.args.stock.now c.requires.stock
 
 pub contract-requires-clause-way : goal.contract-requires-clause-way
 contract-requires-clause-way g c =
-    contracting_way c.args.words.now.table_id.words c.args.actor.now.me.0 c.requires.sound c.args.parent c.args.link c.args.bitmap c.args.tombed c.args.flag c.args.single c.args.may_entomb c.requires.at
+    contracting_way c.args.words.now.table_id.words c.args.actor.now.me.0 c.requires.sound c.args.parent c.args.link c.args.bitmap c.args.tombed c.args.flag c.args.single
+    c.args.may_entomb c.requires.at
     c.holds_it.new.actor.me.0 c.holds_it.ensures.sound c.holds_it.result c.holds_it.ensures.seen
     c.see_entries-entries.new.actor.me.0 c.see_entries-entries.ensures.sound (count_ones c.args.bitmap) c.see_entries-entries.result.items refl c.see_entries-entries.ensures.seen
     c.if-not-holds_it.false c.look_at_main-2.new.actor.me.0 c.look_at_main-2.ensures.sound c.look_at_main-2.result c.look_at_main-2.ensures.read c.args.way c.requires.way
 
 pub contract-requires-clause-start : goal.contract-requires-clause-start
 contract-requires-clause-start g c =
-    contracting_start c.args.words.now.table_id.words c.args.actor.now.me.0 c.requires.sound c.args.parent c.args.link c.args.bitmap c.args.tombed c.args.flag c.args.single c.args.may_entomb c.requires.at
+    contracting_start c.args.words.now.table_id.words c.args.actor.now.me.0 c.requires.sound c.args.parent c.args.link c.args.bitmap c.args.tombed c.args.flag c.args.single
+    c.args.may_entomb c.requires.at
     c.holds_it.new.actor.me.0 c.holds_it.ensures.sound c.holds_it.result c.holds_it.ensures.seen
     c.see_entries-entries.new.actor.me.0 c.see_entries-entries.ensures.sound (count_ones c.args.bitmap) c.see_entries-entries.result.items refl c.see_entries-entries.ensures.seen
     c.if-not-holds_it.false c.look_at_main-2.new.actor.me.0 c.look_at_main-2.ensures.sound c.look_at_main-2.result c.look_at_main-2.ensures.read c.args.start c.requires.start
@@ -65,11 +72,14 @@ contract-requires-clause-at g c =
     contracting c.args.words.now.table_id.words c.args.actor.now.me.0 c.requires.sound c.args.parent c.args.link c.args.bitmap c.args.tombed c.args.flag c.args.single c.args.may_entomb c.requires.at
     c.holds_it.new.actor.me.0 c.holds_it.ensures.sound c.holds_it.result c.holds_it.ensures.seen
     c.see_entries-entries.new.actor.me.0 c.see_entries-entries.ensures.sound (count_ones c.args.bitmap) c.see_entries-entries.result.items refl c.see_entries-entries.ensures.seen
-    c.if-not-holds_it.false c.look_at_main-2.new.actor.me.0 c.look_at_main-2.ensures.sound c.look_at_main-2.result c.look_at_main-2.ensures.read c.put.new.entries.items (c.put.ensures ∙ ap (λ p. slice_set c.see_entries-entries.result.items p c.args.single) c.position_of.ensures.position)
+    c.if-not-holds_it.false c.look_at_main-2.new.actor.me.0 c.look_at_main-2.ensures.sound c.look_at_main-2.result c.look_at_main-2.ensures.read c.put.new.entries.items (c.put.ensures
+    ∙ ap (λ p. slice_set c.see_entries-entries.result.items p c.args.single) c.position_of.ensures.position)
 
 pub returns-clause-climbed : goal.returns-clause-climbed
 returns-clause-climbed g c =
-    contracted_there c.args.words.now.table_id.words c.args.actor.now.me.0 c.requires.sound c.args.parent c.args.link c.args.bitmap c.args.tombed c.args.flag c.args.single c.args.may_entomb c.requires.at
+    contracted_there c.args.words.now.table_id.words c.args.actor.now.me.0 c.requires.sound c.args.parent c.args.link c.args.bitmap c.args.tombed c.args.flag c.args.single
+    c.args.may_entomb c.requires.at
     c.holds_it.new.actor.me.0 c.holds_it.ensures.sound c.holds_it.result c.holds_it.ensures.seen
     c.see_entries-entries.new.actor.me.0 c.see_entries-entries.ensures.sound (count_ones c.args.bitmap) c.see_entries-entries.result.items refl c.see_entries-entries.ensures.seen
-    c.if-not-holds_it.false c.look_at_main-2.new.actor.me.0 c.look_at_main-2.ensures.sound c.look_at_main-2.result c.look_at_main-2.ensures.read c.contract.new.actor.me.0 c.contract.result c.contract.ensures.contracted
+    c.if-not-holds_it.false c.look_at_main-2.new.actor.me.0 c.look_at_main-2.ensures.sound c.look_at_main-2.result c.look_at_main-2.ensures.read c.contract.new.actor.me.0
+    c.contract.result c.contract.ensures.contracted

@@ -1,6 +1,7 @@
 use Rattle.std.proofs.Common.{count_ones, refl, sym, subst}
 use Rattle.lock_free.specs.SeenEntries.{IsAtBranch}
-use Rattle.lock_free.proofs.RenewBranches.{renew_has, renewing, renewing_way, renewing_start, renewing_stock, renew_gives_up, branch_making, branch_over, branch_gives_up, renew_swap, renew_swap_way, swap_commits, swap_fails, swap_misses}
+use Rattle.lock_free.proofs.RenewBranches.{renew_has, renewing, renewing_way, renewing_start, renewing_stock, renew_gives_up, branch_making, branch_over, branch_gives_up, renew_swap}
+use Rattle.lock_free.proofs.RenewBranches.{renew_swap_way, swap_commits, swap_fails, swap_misses}
 use Rattle.lock_free.proofs.renewing.renew.Goals as goal
 
 pub see_entries-entries-requires-clause-held : goal.see_entries-entries-requires-clause-held
@@ -10,17 +11,20 @@ see_entries-entries-requires-clause-held g c =
 pub renew_entries-requires-clause-stock : goal.renew_entries-requires-clause-stock
 renew_entries-requires-clause-stock g c =
     renewing_stock c.args.words.now.table_id.words c.args.actor.now.me.0 c.requires.sound c.args.indirection c.args.link c.args.bitmap c.requires.at
-    c.see_entries-entries.new.actor.me.0 c.see_entries-entries.ensures.sound (count_ones c.args.bitmap) c.see_entries-entries.result.items refl c.see_entries-entries.ensures.seen c.args.stock.now c.requires.stock
+    c.see_entries-entries.new.actor.me.0 c.see_entries-entries.ensures.sound (count_ones c.args.bitmap) c.see_entries-entries.result.items refl c.see_entries-entries.ensures.seen
+    c.args.stock.now c.requires.stock
 
 pub renew_entries-requires-clause-way : goal.renew_entries-requires-clause-way
 renew_entries-requires-clause-way g c =
     renewing_way c.args.words.now.table_id.words c.args.actor.now.me.0 c.requires.sound c.args.indirection c.args.link c.args.bitmap c.requires.at
-    c.see_entries-entries.new.actor.me.0 c.see_entries-entries.ensures.sound (count_ones c.args.bitmap) c.see_entries-entries.result.items refl c.see_entries-entries.ensures.seen c.args.way c.requires.way
+    c.see_entries-entries.new.actor.me.0 c.see_entries-entries.ensures.sound (count_ones c.args.bitmap) c.see_entries-entries.result.items refl c.see_entries-entries.ensures.seen
+    c.args.way c.requires.way
 
 pub renew_entries-requires-clause-start : goal.renew_entries-requires-clause-start
 renew_entries-requires-clause-start g c =
     renewing_start c.args.words.now.table_id.words c.args.actor.now.me.0 c.requires.sound c.args.indirection c.args.link c.args.bitmap c.requires.at
-    c.see_entries-entries.new.actor.me.0 c.see_entries-entries.ensures.sound (count_ones c.args.bitmap) c.see_entries-entries.result.items refl c.see_entries-entries.ensures.seen c.args.start c.requires.start
+    c.see_entries-entries.new.actor.me.0 c.see_entries-entries.ensures.sound (count_ones c.args.bitmap) c.see_entries-entries.result.items refl c.see_entries-entries.ensures.seen
+    c.args.start c.requires.start
 
 pub renew_entries-requires-clause-at : goal.renew_entries-requires-clause-at
 renew_entries-requires-clause-at g c =
@@ -35,7 +39,8 @@ returns-in_default-clause-renewed g c =
 
 pub make_branch-requires-clause-making : goal.make_branch-requires-clause-making
 make_branch-requires-clause-making g c =
-    subst (λ xs. IsAtBranch c.renew_entries.new.actor.me.0 c.args.bitmap xs) (sym c.deref.ensures.0) (branch_making c.args.words.now.table_id.words c.args.actor.now.me.0 c.requires.sound c.args.indirection c.args.link c.args.bitmap c.requires.at
+    subst (λ xs. IsAtBranch c.renew_entries.new.actor.me.0 c.args.bitmap xs) (sym c.deref.ensures.0) (branch_making c.args.words.now.table_id.words c.args.actor.now.me.0
+    c.requires.sound c.args.indirection c.args.link c.args.bitmap c.requires.at
     c.see_entries-entries.new.actor.me.0 c.see_entries-entries.ensures.sound (count_ones c.args.bitmap) c.see_entries-entries.result.items refl c.see_entries-entries.ensures.seen
     c.renew_entries.new.actor.me.0 c.renew_entries.result c.renew_entries.ensures.renewed c.in-Some.renewed c.in-Some.is)
 
