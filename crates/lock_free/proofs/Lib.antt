@@ -158,3 +158,4 @@ mod SameSteps
 mod HistoriesOn
 mod Answered
 mod Seekings
+mod Trials

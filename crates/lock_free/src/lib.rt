@@ -153,7 +153,7 @@ pub use rules::Unmarks;
 pub use rules::Unpins;
 pub use rules::View;
 pub use rules::Yields;
-pub use seeking::{Sought, seek};
+pub use seeking::{Sought, seek, try_key};
 pub use sizes::Sizes;
 pub use stock::OwnNode;
 pub use stock::Stock;
