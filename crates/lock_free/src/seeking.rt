@@ -100,7 +100,17 @@ fn clean_parent<R: Wait, A: AsksRoot>(
     let parent = path[path.len() - 2];
     let is_below_root = path.len() > 2;
     let way = task.way();
-    if clean_below(rt, asker, words, actor, stock, way, task.start, parent, is_below_root) {
+    if clean_below(
+        rt,
+        asker,
+        words,
+        actor,
+        stock,
+        way,
+        task.start,
+        parent,
+        is_below_root,
+    ) {
         Sought::Again
     } else {
         Sought::Full
