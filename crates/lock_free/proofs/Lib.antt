@@ -164,3 +164,4 @@ mod SameSteps
 mod HistoriesOn
 mod Answered
 mod Seekings
+mod Trials

@@ -1,7 +1,10 @@
 -- KEY with RENEW and CLEAN: a try goes on until it can answer, or change something.
-use Rattle.std.specs.Prelude.{◌<◌, ℕ, List, [], length}
+use Rattle.std.specs.Prelude.{◌≡◌, ◌<◌, ℕ, List, [], length}
+use Rattle.history.specs.declared.calls.Access.{Access}
+use Rattle.history.specs.declared.calls.Call.{Call}
 use Rattle.history.specs.declared.replies.Reply.TheVariants as reply
 use Rattle.machine_model.specs.Beneath.slot_arena.specs.declared.refs.Ref.{Ref}
+use Rattle.machine_model.specs.declared.operations.Operation.{Operation}
 use Rattle.machine_model.specs.declared.finding.KeyLine.TheVariants as key
 use Rattle.machine_model.specs.declared.repairs.CleanLine.TheVariants as clean
 use Rattle.machine_model.specs.declared.repairs.RenewLine.TheVariants as renew
@@ -19,7 +22,9 @@ use Rattle.lock_free.specs.declared.seeking.Sought.TheVariants as sought
 use Rattle.lock_free.specs.declared.tasks.Task.{Task}
 use Rattle.lock_free.specs.Descending.{AreAt, IsPlace, IsTask, KnowsUpdate, line_updated}
 use Rattle.lock_free.specs.Holding.{IsOn}
+use Rattle.lock_free.specs.Loading.{Runs}
 use Rattle.lock_free.specs.Repairing.{GivesUp, HasEndedAt}
+use Rattle.lock_free.specs.Rooting.{HasRooted}
 
 -- ---- the branch at the end of the path is renewed
 
@@ -61,3 +66,14 @@ pub record IsSeeking (before : View) (task : Task) (slots : List ℕ) (after : V
   pub places : AreAt after path slots
   pub some : 0 < length slots
   pub its : IsTask after task
+
+-- ---- from the root
+
+-- this is its call, on a handle that allows this
+abbrev pub IsCalled : View → Call → Access → Type 0
+IsCalled v call access = (operation : Operation) → Runs v operation → (operation.call ≡ call) × (operation.access ≡ access)
+
+-- it has come to the root of its handle, of the generation that its try goes by, and from there to this
+abbrev pub HasTried : View → List ℕ → Task × Sought → View → Type 0
+HasTried before slots (task, result) after =
+    (middle : View) × (slot : ℕ) × HasRooted before (record { slot = slot; generation = task.start }) middle × IsTask middle task × HasSought middle slots result after

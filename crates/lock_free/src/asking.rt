@@ -1,6 +1,6 @@
 //! The root of a handle is asked for, in single accesses.
 
-ghost use Rattle.std.specs.Prelude.{◌≡◌};
+ghost use Rattle.std.specs.Prelude.{◌≡◌, ◌<◌, ◌^◌};
 ghost use Rattle.lock_free.specs.Loading.{IsSound};
 ghost use Rattle.lock_free.specs.RootWords.{AsksAt, HasAskedRoot, HasSeenGeneration, IsRootIn, named_by};
 
@@ -57,6 +57,7 @@ pub fn see_generation(words: &Words, actor: &mut Actor, root: u32) -> u64
     ensures table { actor.new.table_id ≡ actor.old.table_id }
     ensures sound { IsSound words.now.table_id.words actor.new.me.0 }
     ensures seen { HasSeenGeneration actor.old.me.0 root result actor.new.me.0 }
+    ensures small { result < 2 ^ 36 }
 {
     Link::of_word(words.load::<Sees>(actor, 2 * root as usize)).generation
 }

@@ -157,6 +157,7 @@ pub use rules::View;
 pub use rules::Yields;
 pub use seeking::Sought;
 pub use seeking::seek;
+pub use seeking::try_key;
 pub use sizes::Sizes;
 pub use stock::OwnNode;
 pub use stock::Stock;

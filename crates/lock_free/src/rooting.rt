@@ -1,6 +1,6 @@
 //! ROOT: the root of a handle, once no offer stands there.
 
-ghost use Rattle.std.specs.Prelude.{◌≡◌, ◌<◌};
+ghost use Rattle.std.specs.Prelude.{◌≡◌, ◌<◌, ◌^◌};
 ghost use Rattle.lock_free.specs.Entries.{HasStayed};
 ghost use Rattle.lock_free.specs.HandleWords.{HasOffer};
 ghost use Rattle.lock_free.specs.Loading.{IsSound, Saw};
@@ -112,6 +112,7 @@ pub fn root<R: Wait, A: AsksRoot>(
     ensures table { actor.new.table_id ≡ actor.old.table_id }
     ensures sound { IsSound words.now.table_id.words actor.new.me.0 }
     ensures rooted { HasRooted actor.old.me.0 result actor.new.me.0 }
+    ensures small { result.generation < 2 ^ 36 }
 {
     for _ in rt.forever() {
         match ask_word(words, actor, way.handle) {

@@ -1,19 +1,24 @@
 //! KEY with RENEW and CLEAN: a try goes on until it can answer, or change something.
 
-ghost use Rattle.std.specs.Prelude.{◌≡◌, ◌<◌, ◌^◌, length};
+ghost use Rattle.std.specs.Prelude.{◌≡◌, ◌<◌, ◌^◌, false, length};
+ghost use Rattle.machine_model.specs.Calls.{copies};
+ghost use Rattle.machine_model.specs.Lines.{new_try};
 ghost use Rattle.lock_free.specs.Descending.{IsHere, IsOnPath, IsTask};
+ghost use Rattle.lock_free.specs.Holding.{IsOn};
 ghost use Rattle.lock_free.specs.Loading.{IsSound};
-ghost use Rattle.lock_free.specs.Seeking.{HasRenewedLast, HasSought, IsToClean, IsToRenew};
+ghost use Rattle.lock_free.specs.Seeking.{HasRenewedLast, HasSought, HasTried, IsCalled, IsToClean, IsToRenew};
 ghost use Rattle.lock_free.specs.Stocks.{IsStock};
 
 use crate::cleaning::clean_below;
 use crate::descending::{Found, Path, Update, descend};
 use crate::loads::{Actor, Words};
-use crate::reading::{AsksRoot, Given};
+use crate::reading::{AsksRoot, Given, Way};
 use crate::renewing::{Renewed, renew};
+use crate::rooting::root;
 use crate::stock::Stock;
 use crate::tasks::Task;
-use history::Reply;
+use history::{Access, Call, Reply};
+use nodes::HashKind;
 use std::sync::Wait;
 use trie_words::Shape;
 
@@ -151,4 +156,41 @@ pub fn seek<R: Wait, A: AsksRoot>(
         }
     }
     unreachable!()
+}
+
+/// A try of this call on a key, from the root of its handle. Returns what it goes by, and what it comes to; the path has the way to
+/// where that is.
+pub fn try_key<R: Wait, A: AsksRoot>(
+    rt: &R,
+    asker: &A,
+    words: &Words,
+    actor: &mut Actor,
+    stock: &mut Stock,
+    call: Call,
+    access: Access,
+    hashes: HashKind,
+    path: &mut Path,
+) -> (Task, Sought)
+    requires table { actor.old.table_id ≡ words.now.table_id }
+    requires sound { IsSound words.now.table_id.words actor.old.me.0 }
+    requires stock { IsStock stock.old actor.old.me.0 }
+    requires keyed { copies call ≡ false }
+    requires called { IsCalled actor.old.me.0 call access }
+    requires hashes { hashes ≡ actor.old.me.0.sizes.hash }
+    requires at { IsOn actor.old.me.0 new_try }
+    ensures table { actor.new.table_id ≡ actor.old.table_id }
+    ensures sound { IsSound words.now.table_id.words actor.new.me.0 }
+    ensures stock { IsStock stock.new actor.new.me.0 }
+    ensures tried { HasTried actor.old.me.0 path.new.items result actor.new.me.0 }
+{
+    let way = Way {
+        handle: call.handle(),
+        access,
+    };
+    let rooted = root(rt, asker, words, actor, way);
+    let task = Task::new(call, access, hashes, rooted.generation);
+    path.clear();
+    path.push(rooted.slot);
+    let sought = seek(rt, asker, words, actor, stock, &task, path);
+    (task, sought)
 }

@@ -1,4 +1,4 @@
-use Rattle.std.proofs.Common.{◌*◌, sym, subst, ap}
+use Rattle.std.proofs.Common.{◌*◌, ◌<◌, ◌^◌, sym, subst, ap, arith}
 use Rattle.trie_words.specs.declared.links.Link.{Link}
 use Rattle.lock_free.specs.Loading.{IsSound}
 use Rattle.lock_free.specs.RootWords.{HasSeenGeneration}
@@ -21,3 +21,7 @@ returns-clause-seen c =
 
 pub returns-clause-sound : goal.returns-clause-sound
 returns-clause-sound c = subst (λ n. IsSound n c.load.new.seat.me.0) (sym c.requires.sound.size) c.load.ensures.2.1
+
+pub returns-clause-small : goal.returns-clause-small
+returns-clause-small c =
+    let fits = c.load.type_inv in subst (λ k. k < 2 ^ 36) (sym (ap (λ (l : Link). l.generation) c.of_word.ensures)) (omega (arith, fits))
