@@ -29,6 +29,7 @@ mod MakeStep
 mod RootMade
 mod ReadSteps
 mod ReadAgain
+mod Followings
 mod Laters
 mod Comings
 mod Passes

@@ -25,5 +25,8 @@ pub mod OfReads
 pub mod Passing
 pub mod Swaps
 pub mod SeatWords
+pub mod Becoming
+pub mod Stocks
+pub mod SeenEntries
 pub mod GoingDown
 pub mod CopySteps

@@ -5,22 +5,26 @@
 mod accounts;
 mod calling;
 mod copying;
+mod entries;
 mod exchanges;
 mod finding;
 mod handles;
 mod loads;
+mod makes;
 mod offers;
 mod pins;
 mod reading;
 mod root_offers;
 mod rules;
 mod sizes;
+mod stock;
 mod stores;
 mod swapping;
 
 pub use accounts::{Account, Known, Owned};
 pub use calling::{Denial, Started, begin};
 pub use copying::{complete_own, read_original};
+pub use entries::see_entries;
 pub use exchanges::{decide, publish, restore};
 pub use finding::{Entered, Level, Met, go_down};
 pub use handles::{close, mark, see_root};
@@ -28,6 +32,7 @@ pub use loads::{
     Actor, Words, look_at_key, look_at_link, look_at_main, look_at_value, read_header, read_link,
     see_key, see_link, see_main, see_pair, see_value,
 };
+pub use makes::{make_branch, make_link, make_list, make_single, make_tomb};
 pub use offers::{abort, complete};
 pub use pins::{finish, pass, pin, unpin};
 pub use reading::{AsksRoot, Given, Passed, Way, read, read_within};
@@ -37,5 +42,6 @@ pub use rules::{
     Publishes, Rule, Sees, Shuts, Starts, Takes, Unpins, View, Yields,
 };
 pub use sizes::Sizes;
+pub use stock::{OwnNode, Stock, take};
 pub use stores::{Tried, draft, make, make_root, try_take};
-pub use swapping::{Swapped, swap};
+pub use swapping::{Swapped, swap, swap_made};
