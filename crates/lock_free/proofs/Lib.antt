@@ -25,6 +25,7 @@ mod GivenBack
 mod Abandoned
 mod PublishStep
 mod OwnSlots
+mod Added
 mod MakeStep
 mod RootMade
 mod ReadSteps
