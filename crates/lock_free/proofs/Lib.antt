@@ -26,6 +26,7 @@ mod Abandoned
 mod PublishStep
 mod OwnSlots
 mod Added
+mod MadeLines
 mod MakeStep
 mod RootMade
 mod ReadSteps
@@ -82,6 +83,7 @@ mod MarkStep
 mod PassStep
 mod CloseStep
 mod KeyMoves
+mod NewNodes
 mod MainLooks
 mod EntryLooks
 mod EntryMeets
