@@ -92,3 +92,4 @@ mod ReadTurns
 mod EntryTurns
 mod Levels
 mod CopyReads
+mod NewRoots

@@ -1,5 +1,5 @@
 -- COPY: where an operation is on its way from the root to an offer that is carried out, and what it comes to.
-use Rattle.std.specs.Prelude.{◌≡◌, ℕ, Bool, Contains, if◌then◌else◌}
+use Rattle.std.specs.Prelude.{◌≡◌, ◌++◌, ◌∷◌, [], ℕ, Bool, Contains, Option, Some, None, if◌then◌else◌}
 use Rattle.machine_model.specs.Beneath.slot_arena.specs.declared.refs.Ref.{Ref}
 use Rattle.machine_model.specs.declared.copying.CopyLine.{CopyLine}
 use Rattle.machine_model.specs.declared.copying.CopyLine.TheVariants as copy
@@ -8,17 +8,19 @@ use Rattle.machine_model.specs.declared.lines.Line.TheVariants as line
 use Rattle.machine_model.specs.declared.operations.Operation.{Operation}
 use Rattle.machine_model.specs.declared.roots.Descriptor.{Descriptor}
 use Rattle.machine_model.specs.Calls.{handle_of}
-use Rattle.machine_model.specs.Copying.{after_given, copied_reply}
+use Rattle.machine_model.specs.Copying.{after_given, copy_after_made, copied_reply}
 use Rattle.machine_model.specs.Lines.{new_try}
 use Rattle.machine_model.specs.Reading.{reading}
 use Rattle.machine_model.specs.Swapping.{completing}
 use Rattle.lock_free.specs.declared.reading.Given.{Given}
 use Rattle.lock_free.specs.declared.rules.View.{View}
+use Rattle.lock_free.specs.Becoming.{HasBecome}
 use Rattle.lock_free.specs.GoingDown.{HasMoved}
 use Rattle.lock_free.specs.Loading.{Runs}
 use Rattle.lock_free.specs.Offering.{known_at}
 use Rattle.lock_free.specs.Passing.{IsPlaced, KnowsLink, KnowsMain}
 use Rattle.lock_free.specs.Roots.{IsItsTry}
+use Rattle.lock_free.specs.Storing.{HasMadeRoot}
 
 -- the operation is on this line of COPY
 abbrev pub IsAtCopy : View → CopyLine → Type 0
@@ -38,6 +40,39 @@ pub record HasReadOriginal (before : View) (root : Ref) (given : Given) (after :
 
 abbrev pub HasOriginal : View → Given → View → Type 0
 HasOriginal before given after = (root : Ref) → IsAtCopy before (copy.Read root (reading root)) → HasReadOriginal before root given after
+
+-- ---- a root is made
+
+-- the main node of which it makes a root next
+abbrev pub rooted : CopyLine → Option Ref
+rooted (copy.Successor root main) = Some main
+rooted (copy.Second root main successor) = Some main
+rooted (copy.Cleared root main branch) = Some branch
+rooted l = None
+
+abbrev pub IsAtRoot : View → ℕ → Type 0
+IsAtRoot v name = (l : CopyLine) × (main : Ref) × IsAtCopy v l × (rooted l ≡ Some main) × IsPlaced v main name
+
+-- it has tried to make it in the last of its free slots, by a generation that was the next one or not
+abbrev pub HasTriedRoot : View → Bool → View → Type 0
+HasTriedRoot before made after = (drafted : View) × (drafted ≡ record before { drafts = drafted.drafts }) × ((generation : ℕ) × HasMadeRoot drafted generation made after)
+
+-- with a root more of its own
+abbrev pub rooted_on : CopyLine → Ref → Operation → Operation
+rooted_on l made operation = record operation { private = operation.private ++ made ∷ []; line = copy_after_made operation l made }
+
+pub record HasNewRoot (before : View) (l : CopyLine) (name : ℕ) (after : View) : Type 0 where
+  pub made : Ref
+  pub placed : IsPlaced after made name
+  pub become : HasBecome (rooted_on l made) before after
+
+-- it has made one, in this slot, or had no slot or no generation for it: then its own slots alone have changed, and what is written there
+abbrev pub HasRootOrNone : View → CopyLine → Option ℕ → View → Type 0
+HasRootOrNone before l None after = after ≡ record before { pool = after.pool; drafts = after.drafts }
+HasRootOrNone before l (Some name) after = HasNewRoot before l name after
+
+abbrev pub HasRoot : View → Option ℕ → View → Type 0
+HasRoot before result after = (l : CopyLine) (main : Ref) → IsAtCopy before l → rooted l ≡ Some main → HasRootOrNone before l result after
 
 -- ---- its offer is completed
 

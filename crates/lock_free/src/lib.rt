@@ -23,7 +23,7 @@ mod swapping;
 
 pub use accounts::{Account, Known, Owned};
 pub use calling::{Denial, Started, begin};
-pub use copying::{complete_own, read_original};
+pub use copying::{complete_own, make_new_root, read_original};
 pub use entries::see_entries;
 pub use exchanges::{decide, publish, restore};
 pub use finding::{Entered, Level, Met, go_down};
