@@ -1,8 +1,7 @@
 -- A load of a handle's word begins the operation for which the seat has pinned itself, where the handle is open for it.
-use Rattle.history.specs.declared.calls.Access.{Access}
 use Rattle.history.specs.declared.calls.Access.TheVariants.{Writable, ReadOnly}
 use Rattle.history.specs.declared.calls.Call.{Call}
-use Rattle.std.proofs.Common.{◌≡◌, ◌<◌, ◌≤◌, ◌^◌, ℕ, zero, suc, inl, inr, Bool, true, false, List, [], ◌∷◌, get_or, set, slice_index, is_some, not, Option, Some, None, refl, sym, ap, subst, ◌∙◌, arith, ne_eqb}
+use Rattle.std.proofs.Common.{◌≡◌, ◌<◌, ◌≤◌, ◌^◌, ℕ, zero, suc, Bool, true, false, List, [], ◌∷◌, get_or, set, slice_index, is_some, not, Option, Some, None, refl, sym, ap, subst, ◌∙◌, arith, ne_eqb}
 use Rattle.std.specs.Prelude.{◌&&◌, ◌||◌, ◌++◌, unwrap_or, if◌then◌else◌}
 use Rattle.std.specs.List.{list_any}
 use Rattle.std.proofs.lemmas.Bool.{lt-ltb}
@@ -19,7 +18,7 @@ use Rattle.history.specs.declared.events.Event.TheVariants as event
 use Rattle.machine_model.specs.declared.operations.Operation.{Operation}
 use Rattle.machine_model.specs.declared.roots.Root.{Root}
 use Rattle.machine_model.specs.declared.steps.Step.TheVariants as taken
-use Rattle.machine_model.specs.Calls.{handle_of, key_of, needs_read_only, needs_writable, opens_handle, is_close}
+use Rattle.machine_model.specs.Calls.{handle_of, key_of, needs_read_only, needs_writable, opens_handle}
 use Rattle.machine_model.specs.Machine.{access_of, begin_denial, begun_operation, is_access, is_free, is_number, is_taken, lacks_number, reserved_by, runs_on}
 use Rattle.machine_model.specs.States.{State, operation_of, root_at, handle_limit}
 use Rattle.lock_free.specs.declared.accounts.Account.{Account}
@@ -30,7 +29,7 @@ use Rattle.lock_free.specs.declared.calling.Started.TheVariants as started
 use Rattle.lock_free.specs.declared.rules.View.{View}
 use Rattle.lock_free.specs.declared.sizes.Sizes.{Sizes}
 use Rattle.lock_free.specs.Accounts.{past_of, state_of}
-use Rattle.lock_free.specs.Beginning.{Begins, taking}
+use Rattle.lock_free.specs.Beginning.{Begins}
 use Rattle.lock_free.specs.Calling.{IsBeginner, access_in, once_begun, refusal_of, runs_unless, started_by, HasBegun, HasStarted, has_started}
 use Rattle.lock_free.specs.HandleWords.{TellsRoot}
 use Rattle.lock_free.specs.Loading.{IsSound, Saw}
@@ -43,13 +42,9 @@ use Rattle.lock_free.proofs.Moments.{allowed, free_inside, seen_kept, seen_view,
 use Rattle.lock_free.proofs.OneStep.Beginning.{begins_of, begin_own, number_is}
 use Rattle.lock_free.proofs.OneStep.Idle.{idle_stays}
 use Rattle.lock_free.proofs.OneStep.Telling.{begin_told}
-use Rattle.lock_free.proofs.RootCodes.{kind, root_back, same_kind}
+use Rattle.lock_free.proofs.OpenHandles.{not_closing}
+use Rattle.lock_free.proofs.RootCodes.{kind, root_back}
 use Rattle.lock_free.proofs.SeenRoots.{tells_by}
-
--- a word without a mark
-not_marked : (w : RootWord) (found who : ℕ) → IsRootWord w → found ≡ root_code w → kind w < 6 → SaysClosing found who → ⊥
-not_marked w found who fits code few (inl h) = let same = same_kind w (word.ClosingWritable h.0 who) fits h.1 (sym code ∙ h.2) in omega (arith, same, few)
-not_marked w found who fits code few (inr h) = let same = same_kind w (word.ClosingReadOnly h.0 who) fits h.1 (sym code ∙ h.2) in omega (arith, same, few)
 
 -- nobody in the list has reserved the number
 nobody_has : (n : ℕ) (xs : List (Option Operation)) → ((k : ℕ) (o : Operation) → get_or xs k None ≡ Some o → reserved_by (Some o) ≡ Some n → ⊥) → list_any (λ o. is_number n (reserved_by o)) xs ≡ false
@@ -171,7 +166,7 @@ module _ (v : View) (call : Call) (b : IsBeginner v call) (low : handle_of call 
       runs : Starts (started.Runs w)
       runs = (
         once_begun v call there,
-        begin_kept v.sizes s kept id v at (taken.Begin v.actor call v.opens) call begins idle b.pin b.pinned b.its low (ap is_some is_open) (λ who h. not_marked w found who fits code few h),
+        begin_kept v.sizes s kept id v at (taken.Begin v.actor call v.opens) call begins idle b.pin b.pinned b.its low (ap is_some is_open) (λ who h. not_closing w who fits few (subst (λ n. SaysClosing n who) code h)),
         has_begun,
         sound,
       )

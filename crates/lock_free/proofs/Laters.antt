@@ -1,5 +1,5 @@
 -- What a seat knows of nodes stays so, whatever it has seen since.
-use Rattle.std.proofs.Common.{◌≡◌, ◌<◌, ℕ, Bool, Contains, get_or, length, Some, None, refl, sym, ap, subst, ◌∙◌, arith}
+use Rattle.std.proofs.Common.{◌≡◌, ◌<◌, ℕ, Bool, [], ◌∷◌, ◌++◌, Contains, get_or, length, Some, None, refl, sym, ap, subst, ◌∙◌, arith, append_assoc, append-nil}
 use Rattle.std.proofs.lemmas.List.Elements.{Contains-append_right}
 use Rattle.trie_words.specs.declared.headers.Header.{Header}
 use Rattle.trie_words.specs.declared.links.Link.{Link}
@@ -8,6 +8,7 @@ use Rattle.machine_model.specs.Beneath.slot_arena.specs.declared.refs.Ref.{Ref}
 use Rattle.machine_model.specs.Beneath.slot_arena.specs.declared.nodes.Slot.{Slot}
 use Rattle.machine_model.specs.Beneath.slot_arena.specs.Heaps.{generation_at}
 use Rattle.machine_model.specs.Beneath.slot_arena.specs.Refs.{slot_of}
+use Rattle.machine_model.specs.declared.steps.Step.TheVariants as step
 use Rattle.lock_free.specs.declared.accounts.Account.{Account}
 use Rattle.lock_free.specs.declared.accounts.Known.{Known}
 use Rattle.lock_free.specs.declared.rules.View.{View}
@@ -23,7 +24,14 @@ pub use Rattle.lock_free.proofs.Followings.{same_self, same_both, main_kind}
 use Rattle.lock_free.proofs.Followings.{follows_later, used_on, placed_on, named_on, generation_on, link_on, main_on, pending_on}
 
 pub later_self : (v : View) → Later v v
-later_self v = record { is = refl; places = λ r slot u. refl; owns = λ a b c h. h; nodes = λ r slot u. (slot, u, same_self slot.node); offers = λ k c. c }
+later_self v = record {
+  is = refl;
+  places = λ r slot u. refl;
+  owns = λ a b c h. h;
+  nodes = λ r slot u. (slot, u, same_self slot.node);
+  goes_on = ([], sym (append-nil v.account.steps));
+  offers = λ k c. c;
+}
 
 pub later_both : (u v w : View) → Later u v → Later v w → Later u w
 later_both u v w p q = record {
@@ -31,6 +39,7 @@ later_both u v w p q = record {
   places = λ r slot used. (let x = p.nodes r slot used in q.places r x.0 x.1 ∙ p.places r slot used);
   owns = λ a b c h. q.owns a b c (p.owns a b c h);
   nodes = λ r slot used. (let x = p.nodes r slot used in let y = q.nodes r x.0 x.1 in (y.0, y.1, same_both slot.node x.0.node y.0.node x.2 y.2));
+  goes_on = (p.goes_on.0 ++ q.goes_on.0, q.goes_on.1 ∙ ap (λ xs. xs ++ q.goes_on.0) p.goes_on.1 ∙ append_assoc u.account.steps p.goes_on.0 q.goes_on.0);
   offers = λ k c. q.offers k (p.offers k c);
 }
 
@@ -56,7 +65,8 @@ module _ (n : ℕ) (v : View) (sound : IsSound n v) where
       places = place_then;
       owns = owns_then;
       nodes = λ r slot is. nodes_stay v.sizes v.actor v.account account w.waited w.sound.bounds (slot_of r) slot is;
-      offers = offers_then;
+      goes_on = (w.waited.steps, w.waited.goes_on);
+      offers = λ k c. subst (λ xs. Contains xs k) (sym w.waited.more_offers) (Contains-append_right w.waited.offers v.account.offers k c);
     }
 
   pub saw_later : (after : View) (s : Saw v after) → Later v after
@@ -73,6 +83,10 @@ module _ (n : ℕ) (v : View) (sound : IsSound n v) where
             (let x = first.nodes r slot is in
             let y = nodes_go v.sizes v.actor account bounds (slot_of r) x.0 x.1 in
             (y.0, y.1, same_both slot.node x.0.node y.0.node x.2 y.2));
+        goes_on = (
+          w.waited.steps ++ step.Go v.actor ∷ [],
+          ap (λ xs. xs ++ step.Go v.actor ∷ []) w.waited.goes_on ∙ append_assoc v.account.steps w.waited.steps (step.Go v.actor ∷ []),
+        );
         offers = first.offers;
       }
 

@@ -16,15 +16,16 @@ pub mod Settling
 pub mod Offering
 pub mod Missing
 pub mod Sitting
+pub mod Telling
 pub mod Beginning
 pub mod Idle
-pub mod Telling
 pub mod Restores
 pub mod Decides
 pub mod Publishes
 pub mod Taking
 pub mod MadeMains
 pub mod Offers
+pub mod Roots
 pub mod Met
 pub mod Makes
 pub mod Openers

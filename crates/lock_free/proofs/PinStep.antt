@@ -18,7 +18,7 @@ use Rattle.lock_free.specs.Loading.{IsSound}
 use Rattle.lock_free.specs.Places.{pin_word}
 use Rattle.lock_free.specs.Rules.{IsKept, pin_word_of}
 use Rattle.lock_free.specs.SeatWords.{IsIdle, asking, unpinned, has_asked, has_unpinned}
-use Rattle.lock_free.proofs.Asking.{asks_kept}
+use Rattle.lock_free.proofs.CallSaid.{asks_kept}
 use Rattle.lock_free.proofs.Assembling.{here}
 use Rattle.lock_free.proofs.Exchanged.{words_hit}
 use Rattle.lock_free.proofs.Moments.{allowed}

@@ -1,8 +1,8 @@
 -- The exchange of an indirection's word that swaps a fresh main node in is the operation's step, whether it finds the replaced one or not.
 use Rattle.history.specs.declared.calls.Call.{Call}
-use Rattle.std.proofs.Common.{◌≡◌, ◌≢◌, ◌+◌, ◌*◌, ◌<◌, ◌≤◌, ◌⊎◌, ◌==◌, ℕ, inl, inr, Bool, true, false, [], ◌∷◌, Contains, set, slice_index, Some, refl, sym, ap, subst, ◌∙◌, arith, eq-eqb, ne_eqb}
+use Rattle.std.proofs.Common.{◌≡◌, ◌≢◌, ◌*◌, ◌==◌, ℕ, inl, inr, Bool, true, false, [], ◌∷◌, Contains, set, slice_index, Some, refl, sym, ap, subst, ◌∙◌, arith, eq-eqb, ne_eqb}
 use Rattle.std.proofs.lemmas.Bool.{true≢false}
-use Rattle.std.proofs.lemmas.List.Elements.{Contains-get_or, Contains-append_right}
+use Rattle.std.proofs.lemmas.List.Elements.{Contains-get_or}
 use Rattle.std.proofs.lemmas.Option.{same_Some}
 use mathlib.Core.Option.{some, none}
 use lib.ListN.{get_elem?}
@@ -26,21 +26,18 @@ use Rattle.lock_free.specs.declared.accounts.Account.{Account}
 use Rattle.lock_free.specs.declared.rules.View.{View}
 use Rattle.lock_free.specs.declared.sizes.Sizes.{Sizes}
 use Rattle.lock_free.specs.Accounts.{state_of, place_of, running, gone_on}
-use Rattle.lock_free.specs.Exchanging.{IsLinkTo, IsAtPublish, given_back, given_up, HasSwapped, HasPublished, has_published}
-use Rattle.lock_free.specs.Live.{refs_of_claims, line_claims, from_operation, IsLive}
+use Rattle.lock_free.specs.Exchanging.{IsLinkTo, IsAtPublish, given_up, HasSwapped, HasPublished, has_published}
 use Rattle.lock_free.specs.Loading.{Moment, now, seen, IsAt, Took}
-use Rattle.lock_free.specs.Nodes.{class_of}
-use Rattle.lock_free.specs.Places.{words_in, words_of}
 use Rattle.lock_free.specs.Publishing.{swapped_in, Publishes}
-use Rattle.lock_free.specs.Rules.{Stands, pool_of, IsKept}
+use Rattle.lock_free.specs.Rules.{IsKept}
 use Rattle.lock_free.specs.Steps.{Leads}
-use Rattle.lock_free.proofs.Asked.{links_of, mains_of, is_one_of, publishes_or_not, private_apart, live_in_use}
+use Rattle.lock_free.proofs.Asked.{links_of, mains_of, is_one_of, publishes_or_not}
 use Rattle.lock_free.proofs.Assembling.{all_stand}
 use Rattle.lock_free.proofs.Exchanged.{LeavesAt, words_hit, words_miss, sound_by}
 use Rattle.lock_free.proofs.Abandoned.{abandon_kept, abandon_sound}
 use Rattle.lock_free.proofs.LinkWords.{i_there, generation_now, hit, miss}
 use Rattle.lock_free.proofs.Looking.{main_there, o_there, acts_there, same_action}
-use Rattle.lock_free.proofs.Moments.{IsThere, free_inside, allowed, took_by, waited_so, its_place}
+use Rattle.lock_free.proofs.Moments.{IsThere, allowed, took_by, waited_so, its_place}
 use Rattle.lock_free.proofs.PublishedAll.{all_then}
 use Rattle.lock_free.proofs.PublishedKept.{publish_kept}
 

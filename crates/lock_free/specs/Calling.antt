@@ -1,9 +1,10 @@
--- How an operation begins: at the load that finds its handle open for it.
+-- How an operation begins, at the load that finds its handle open for it, and how it gives up.
 use Rattle.history.specs.declared.calls.Access.{Access}
 use Rattle.history.specs.declared.calls.Access.TheVariants.{Writable, ReadOnly}
 use Rattle.history.specs.declared.calls.Call.{Call}
 use Rattle.history.specs.declared.events.Event.TheVariants as event
-use Rattle.std.specs.Prelude.{◌≡◌, ◌++◌, ◌∷◌, [], ℕ, Bool, true, false, is_some, Some, None}
+use Rattle.history.specs.declared.replies.Reply.{Reply}
+use Rattle.std.specs.Prelude.{◌≡◌, ◌++◌, ◌∷◌, [], ℕ, List, Bool, true, false, is_some, Some, None}
 use Rattle.atomic_table.specs.Table.{Me, Step}
 use Rattle.trie_words.specs.Codes.{IsRootWord, root_of}
 use Rattle.trie_words.specs.declared.pins.Pin.{Pin}
@@ -14,6 +15,8 @@ use Rattle.machine_model.specs.Beneath.ctrie_base.specs.declared.refusals.Refusa
 use Rattle.machine_model.specs.declared.operations.Operation.{Operation}
 use Rattle.machine_model.specs.declared.steps.Step.TheVariants as step
 use Rattle.machine_model.specs.Calls.{handle_of, is_close, needs_read_only, needs_writable, opens_handle}
+use Rattle.machine_model.specs.Beneath.slot_arena.specs.declared.refs.Ref.{Ref}
+use Rattle.machine_model.specs.GivingUp.{gave_up, given_up}
 use Rattle.machine_model.specs.Machine.{begin_denial, begun_operation}
 use Rattle.lock_free.specs.declared.accounts.Account.{Account}
 use Rattle.lock_free.specs.declared.calling.Denial.{Denial}
@@ -23,8 +26,9 @@ use Rattle.lock_free.specs.declared.calling.Started.TheVariants as started
 use Rattle.lock_free.specs.declared.rules.View.{View}
 use Rattle.lock_free.specs.Accounts.{past_of, running}
 use Rattle.lock_free.specs.Beginning.{taking}
+use Rattle.lock_free.specs.Exchanging.{given_back}
 use Rattle.lock_free.specs.HandleWords.{HasSeenRoot, TellsRoot}
-use Rattle.lock_free.specs.Loading.{now, seen, IsSound, Saw, Waited}
+use Rattle.lock_free.specs.Loading.{now, seen, IsSound, Runs, Saw, Waited}
 use Rattle.lock_free.specs.Places.{root_word, words_of}
 use Rattle.lock_free.specs.SeatWords.{IsIdle}
 
@@ -101,3 +105,24 @@ abbrev pub has_started : Step Call → Me Call View → ℕ → Me Call View →
 has_started access before found after =
     ((call : Call) → before.0.asks ≡ Some call → access.word ≡ root_word (handle_of call) → HasStarted before.0 call (started_by (root_of found) call) after.0)
     × IsSound (words_of before.0.sizes) after.0 × (after.1 ≡ before.1)
+
+-- ---- an operation gives up, at any load
+
+abbrev pub MayGiveUp : View → Type 0
+MayGiveUp v = (operation : Operation) × (answer : Reply) × Runs v operation × (given_up operation.call operation.line ≡ Some answer)
+
+abbrev pub once_given_up : View → Account → List Ref → View
+once_given_up v account private = record v { account = taking (step.GiveUp v.actor) account; pool = given_back (now (seen v account)) account private v.pool }
+
+-- it is to end with this answer
+pub record GaveUp (before : View) (operation : Operation) (answer : Reply) (after : View) : Type 0 where
+  pub account : Account
+  pub waited : Waited before account
+  pub after_is : after ≡ once_given_up before account operation.private
+  pub runs : Runs after (gave_up operation answer)
+
+abbrev pub HasGivenUp : View → View → Type 0
+HasGivenUp before after = (operation : Operation) (answer : Reply) → Runs before operation → given_up operation.call operation.line ≡ Some answer → GaveUp before operation answer after
+
+abbrev pub has_given_up : Step Call → Me Call View → ℕ → Me Call View → Type 0
+has_given_up access before found after = HasGivenUp before.0 after.0 × IsSound (words_of before.0.sizes) after.0 × (after.1 ≡ before.1)

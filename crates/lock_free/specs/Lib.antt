@@ -19,8 +19,11 @@ pub mod Exchanging
 pub mod Storing
 pub mod OfferWords
 pub mod HandleWords
+pub mod Closing
 pub mod RootOffers
 pub mod Calling
+pub mod RootWords
+pub mod Numbers
 pub mod OfReads
 pub mod Passing
 pub mod Swaps

@@ -5,7 +5,10 @@ use Rattle.history.specs.declared.calls.Access.TheVariants.{Writable}
 use Rattle.machine_model.specs.Beneath.slot_arena.specs.declared.refs.Ref.{Ref}
 use Rattle.machine_model.specs.declared.roots.Descriptor.{Descriptor}
 use Rattle.machine_model.specs.declared.roots.RootWord.TheVariants.{Plain, Offer}
+use Rattle.machine_model.specs.declared.copying.CopyLine.TheVariants as copy
+use Rattle.machine_model.specs.declared.lines.Line.TheVariants as line
 use Rattle.machine_model.specs.declared.operations.Operation.{Operation}
+use Rattle.machine_model.specs.declared.roots.Complete.{Complete}
 use Rattle.machine_model.specs.declared.steps.Step.TheVariants as step
 use Rattle.machine_model.specs.Acting.{operation_after}
 use Rattle.machine_model.specs.Calls.{handle_of}
@@ -69,13 +72,15 @@ pub record Offers (sizes : Sizes) (account : Account) (actor slot : ℕ) (operat
 
 -- ---- who has offered what stands
 
--- the operation of an offer that stands runs, unmarked, and has reserved what the offer opens
+-- the operation of an offer that stands runs, unmarked, completes it, and has reserved what it opens
 pub record HasOwner (state : State) (offer : Descriptor) : Type 0 where
   pub actor : ℕ
   pub operation : Operation
   pub runs : operation_of state actor ≡ Some operation
   pub opens : operation.opens ≡ offer.opens
   pub unmarked : operation.is_marked ≡ false
+  pub completing : Complete
+  pub completes : operation.line ≡ line.Copy (copy.Complete completing)
 
 -- ---- the seat then
 

@@ -43,7 +43,7 @@ first_view sizes = record {
   pin = None;
   asks = None;
   entered = None;
-  closing = None;
+  closing = [];
   opens = None;
   opening = None;
   pool = record { small = []; medium = []; wide = [] };
@@ -95,6 +95,11 @@ pub record RootsStand (sizes : Sizes) (account : Account) (words : List ℕ) : T
   pub fates : (k : Known) → Contains account.offers k → TellsFate sizes account k (fate words k)
   pub pending : (k : Known) → Contains account.offers k → fate words k ≡ undecided → IsPending words k
 
+-- the seat's last mark of this handle
+abbrev pub latest : List Closing → ℕ → Option Closing
+latest [] handle = None
+latest (c ∷ marks) handle = if c.handle == handle then Some c else latest marks handle
+
 -- who would close a handle has found no call on it at the seats that it has looked at, and none has begun there since
 pub record IsClosing (views : List View) (handle seat : ℕ) : Type 0 where
   pub id : ℕ
@@ -102,7 +107,7 @@ pub record IsClosing (views : List View) (handle seat : ℕ) : Type 0 where
   pub at : get_elem? views id ≡ some view
   pub its : view.actor ≡ seat
   pub closing : Closing
-  pub is : view.closing ≡ Some closing
+  pub is : latest view.closing handle ≡ Some closing
   pub this : closing.handle ≡ handle
   pub none : (other : ℕ) (w : View) → get_elem? views other ≡ some w → w.entered ≡ Some handle → w.actor ≢ seat → closing.looked < w.actor
 

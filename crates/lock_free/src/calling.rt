@@ -1,15 +1,18 @@
-//! Operations begin.
+//! Operations begin, and give up.
 
 ghost use Rattle.std.specs.Prelude.{◌≡◌, ◌<◌, ◌^◌};
 ghost use Rattle.machine_model.specs.Calls.{handle_of, key_of, needs_read_only, needs_writable};
-ghost use Rattle.lock_free.specs.Calling.{started_by, HasStarted, IsBeginner};
+ghost use Rattle.lock_free.specs.Calling.{started_by, HasGivenUp, HasStarted, IsBeginner, MayGiveUp};
 ghost use Rattle.lock_free.specs.Loading.{IsSound};
 
 use crate::handles::root_word_of;
 use crate::loads::{Actor, Words};
-use crate::rules::Starts;
+use crate::rules::{Abandons, Starts};
 use history::Call;
 use trie_words::RootWord;
+
+/// The epoch stands in this word.
+const EPOCH: usize = 0;
 
 /// Why a call doesn't begin.
 #[derive(Clone, Copy, Debug, PartialEq, Eq, Drop)]
@@ -107,4 +110,17 @@ pub fn begin(words: &Words, actor: &mut Actor, call: &Call) -> Started
     key_fits(*call);
     let found = words.load::<Starts>(actor, root_word_of(call.handle()));
     started_by(RootWord::of_word(found), call)
+}
+
+/// Lets the operation of this seat give up, where nothing of its own is published and pending: from then on it is to end, as one that
+/// found no free slot, or, in a climb, with the answer that it has already. What it made is free for the seat again.
+pub fn give_up(words: &Words, actor: &mut Actor)
+    requires table { actor.old.table_id ≡ words.now.table_id }
+    requires sound { IsSound words.now.table_id.words actor.old.me.0 }
+    requires may { MayGiveUp actor.old.me.0 }
+    ensures table { actor.new.table_id ≡ actor.old.table_id }
+    ensures sound { IsSound words.now.table_id.words actor.new.me.0 }
+    ensures gave { HasGivenUp actor.old.me.0 actor.new.me.0 }
+{
+    words.load::<Abandons>(actor, EPOCH);
 }

@@ -3,7 +3,9 @@
 #![tactic(auto)]
 
 mod accounts;
+mod asking;
 mod calling;
+mod closing;
 mod copying;
 mod entries;
 mod exchanges;
@@ -11,6 +13,7 @@ mod finding;
 mod handles;
 mod loads;
 mod makes;
+mod numbers;
 mod offers;
 mod pins;
 mod reading;
@@ -22,24 +25,28 @@ mod stores;
 mod swapping;
 
 pub use accounts::{Account, Known, Owned};
-pub use calling::{Denial, Started, begin};
+pub use asking::{Named, ask_word, see_generation};
+pub use calling::{Denial, Started, begin, give_up};
+pub use closing::{Shut, close_handle};
 pub use copying::{complete_own, make_new_root, read_original};
 pub use entries::see_entries;
 pub use exchanges::{decide, publish, restore};
 pub use finding::{Entered, Level, Met, go_down};
-pub use handles::{close, mark, see_root};
+pub use handles::{clean, close, mark, see_root, unmark};
 pub use loads::{
     Actor, Words, look_at_key, look_at_link, look_at_main, look_at_value, read_header, read_link,
     see_key, see_link, see_main, see_pair, see_value,
 };
 pub use makes::{make_branch, make_link, make_list, make_single, make_tomb};
-pub use offers::{abort, complete};
+pub use numbers::{give_back, name, reserve};
+pub use offers::{Fate, abort, complete, meet_offer, see_news, see_olds};
 pub use pins::{finish, pass, pin, unpin};
 pub use reading::{AsksRoot, Given, Passed, Way, read, read_within};
 pub use root_offers::{Proposed, propose, yields};
 pub use rules::{
-    Asks, Closing, Completes, Drafts, Ends, Goes, Looks, Makes, MakesRoot, Marks, Pool, Proposes,
-    Publishes, Rule, Sees, Shuts, Starts, Takes, Unpins, View, Yields,
+    Abandons, Asks, Cleans, Closing, Completes, Drafts, Ends, FindsRoot, Goes, Looks, Makes, MakesRoot,
+    Marks, Meets, Names, Pool, Proposes, Publishes, Reserves, Returns, Rule, Sees, Shuts, Starts, Takes,
+    Unmarks, Unpins, View, Yields,
 };
 pub use sizes::Sizes;
 pub use stock::{OwnNode, Stock, take};

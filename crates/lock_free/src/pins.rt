@@ -2,9 +2,11 @@
 
 ghost use Rattle.std.specs.Prelude.{◌≡◌, ◌==◌, ◌||◌, ◌+◌, ◌<◌, ◌≤◌, Some, None};
 ghost use Rattle.trie_words.specs.Codes.{IsPin};
-ghost use Rattle.lock_free.specs.Loading.{IsSound};
+ghost use Rattle.history.specs.declared.replies.Reply.{Reply};
+ghost use Rattle.machine_model.specs.declared.actions.Action.TheVariants as act;
+ghost use Rattle.lock_free.specs.Loading.{IsAt, IsSound};
 ghost use Rattle.lock_free.specs.Places.{pin_word};
-ghost use Rattle.lock_free.specs.SeatWords.{IsAtEnd, IsIdle, HasEnded, HasPassed, asking, closes, is_out, unpinned};
+ghost use Rattle.lock_free.specs.SeatWords.{IsAtEnd, IsIdle, HasEnded, HasPassed, WouldClose, asking, is_out, unpinned};
 
 use crate::loads::{Actor, Words};
 use crate::rules::{Asks, Ends, Looks, Unpins};
@@ -52,7 +54,7 @@ pub fn unpin(words: &Words, actor: &mut Actor, seat: u8)
     words.store::<Unpins>(actor, pin_word_of(seat), UNPINNED);
 }
 
-/// Ends the operation of this seat, which is pinned no more.
+/// Ends the operation of this seat with the answer to which it has come; the seat is pinned no more.
 pub fn finish(words: &Words, actor: &mut Actor, seat: u8)
     requires table { actor.old.table_id ≡ words.now.table_id }
     requires sound { IsSound words.now.table_id.words actor.old.me.0 }
@@ -61,7 +63,7 @@ pub fn finish(words: &Words, actor: &mut Actor, seat: u8)
     requires ending { IsAtEnd actor.old.me.0 }
     ensures table { actor.new.table_id ≡ actor.old.table_id }
     ensures sound { IsSound words.now.table_id.words actor.new.me.0 }
-    ensures ended { HasEnded actor.old.me.0 actor.new.me.0 }
+    ensures ended { (answer : Reply) → IsAt actor.old.me.0 (act.End answer) → HasEnded actor.old.me.0 answer actor.new.me.0 }
 {
     words.store::<Ends>(actor, pin_word_of(seat), UNPINNED);
 }
@@ -96,7 +98,7 @@ pub fn pass(words: &Words, actor: &mut Actor, own: u8, handle: u16, looked: u8) 
     requires low { handle < 256 }
     requires small { looked + 1 < 256 }
     requires few { looked + 1 ≤ actor.old.me.0.sizes.seats }
-    requires closing { actor.old.me.0.closing ≡ Some (closes handle looked) }
+    requires closing { WouldClose actor.old.me.0 handle looked }
     ensures table { actor.new.table_id ≡ actor.old.table_id }
     ensures sound { IsSound words.now.table_id.words actor.new.me.0 }
     ensures passed { HasPassed actor.old.me.0 handle looked result actor.new.me.0 }

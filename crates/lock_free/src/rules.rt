@@ -2,11 +2,13 @@
 
 ghost use Rattle.lock_free.specs.Rules.{IsKept, first_view};
 ghost use Rattle.lock_free.specs.Loading.{has_seen, has_gone};
-ghost use Rattle.lock_free.specs.Calling.{has_started};
+ghost use Rattle.lock_free.specs.Calling.{has_given_up, has_started};
 ghost use Rattle.lock_free.specs.Exchanging.{has_published};
-ghost use Rattle.lock_free.specs.HandleWords.{has_closed, has_marked};
+ghost use Rattle.lock_free.specs.HandleWords.{has_closed, has_marked, has_unmarked};
+ghost use Rattle.lock_free.specs.Numbers.{has_given_back, has_named, has_reserved};
 ghost use Rattle.lock_free.specs.OfferWords.{has_completed};
 ghost use Rattle.lock_free.specs.RootOffers.{has_proposed, has_yielded};
+ghost use Rattle.lock_free.specs.RootWords.{has_cleaned, has_found_root, has_met};
 ghost use Rattle.lock_free.specs.SeatWords.{has_asked, has_ended, has_passed, has_unpinned};
 ghost use Rattle.lock_free.specs.Storing.{has_drafted, has_made, has_made_root, has_taken};
 
@@ -47,8 +49,8 @@ pub struct View {
     pub asks: Option<Call>,
     /// The handle that it has found open since it pinned itself to it: so nobody closes it.
     pub entered: Option<u16>,
-    /// What it would close.
-    pub closing: Option<Closing>,
+    /// The handles that it has marked, since it would close them, the latest first.
+    pub closing: LinkedList<Closing>,
     /// The number that it has reserved.
     pub opens: Option<u16>,
     /// The slot of the offer that it writes, which the word of that number names already.
@@ -88,6 +90,27 @@ impl Play<Call, View> for Publishes {
     ghost then = { has_published };
 }
 
+/// The root of a handle is read, where its word names it, or that word is looked at.
+pub struct FindsRoot;
+
+impl Play<Call, View> for FindsRoot {
+    ghost then = { has_found_root };
+}
+
+/// The offer that stands for a root is found, where it is undecided, or its first word is looked at.
+pub struct Meets;
+
+impl Play<Call, View> for Meets {
+    ghost then = { has_met };
+}
+
+/// A settled offer is taken out of the word of a handle, or isn't.
+pub struct Cleans;
+
+impl Play<Call, View> for Cleans {
+    ghost then = { has_cleaned };
+}
+
 /// An offer is settled, or was.
 pub struct Completes;
 
@@ -123,6 +146,13 @@ impl Play<Call, View> for Marks {
     ghost then = { has_marked };
 }
 
+/// A mark is taken away, or isn't.
+pub struct Unmarks;
+
+impl Play<Call, View> for Unmarks {
+    ghost then = { has_unmarked };
+}
+
 /// A seat that would close a handle looks at the next seat's pin.
 pub struct Looks;
 
@@ -142,6 +172,34 @@ pub struct Ends;
 
 impl Play<Call, View> for Ends {
     ghost then = { has_ended };
+}
+
+/// A number is reserved for a handle that a call opens, or isn't.
+pub struct Reserves;
+
+impl Play<Call, View> for Reserves {
+    ghost then = { has_reserved };
+}
+
+/// Its word names the offer that is to open it.
+pub struct Names;
+
+impl Play<Call, View> for Names {
+    ghost then = { has_named };
+}
+
+/// It is given back.
+pub struct Returns;
+
+impl Play<Call, View> for Returns {
+    ghost then = { has_given_back };
+}
+
+/// An operation gives up.
+pub struct Abandons;
+
+impl Play<Call, View> for Abandons {
+    ghost then = { has_given_up };
 }
 
 /// A word of a free slot is written.

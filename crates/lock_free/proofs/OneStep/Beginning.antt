@@ -8,6 +8,7 @@ use Rattle.std.proofs.lemmas.List.{get_or-set_same}
 use Rattle.std.proofs.lemmas.Option.{same_Some, none-some}
 use Rattle.history.specs.declared.calls.Call.{Call}
 use Rattle.history.specs.declared.calls.Call.TheVariants.{Entries, Count, Close}
+use Rattle.history.specs.declared.events.Event.TheVariants as event
 use Rattle.history.specs.declared.replies.Reply.TheVariants as reply
 use Rattle.machine_model.specs.declared.operations.Operation.{Operation}
 use Rattle.machine_model.specs.declared.steps.Outcome.TheVariants as outcome
@@ -31,7 +32,7 @@ use Rattle.proof_waiting.specs.Beneath.proof_slots.specs.Lasting.{widened}
 use Rattle.lock_free.specs.declared.accounts.Account.{Account}
 use Rattle.lock_free.specs.declared.accounts.Known.{Known}
 use Rattle.lock_free.specs.declared.sizes.Sizes.{Sizes}
-use Rattle.lock_free.specs.Accounts.{bounds_for, state_of, gone_on, HasStood}
+use Rattle.lock_free.specs.Accounts.{bounds_for, past_of, state_of, gone_on, HasStood}
 use Rattle.lock_free.specs.Beginning.{Begins, Ends, Closes, closed_by, taking}
 use Rattle.lock_free.specs.Fates.{TellsFate}
 use Rattle.lock_free.specs.Offering.{LeavesNodes}
@@ -40,6 +41,7 @@ use Rattle.lock_free.proofs.OneStep.Aheads.{ahead_of}
 use Rattle.lock_free.proofs.OneStep.Longer.{bounds_more}
 use Rattle.lock_free.proofs.OneStep.Sitting.{whole, leaves_nodes, ends_of}
 use Rattle.lock_free.proofs.OneStep.Standing.{known_once}
+use Rattle.lock_free.proofs.OneStep.Telling.{begin_told, end_told}
 
 first_ahead : (call : Call) → ahead_of (first_line call) ≡ None
 first_ahead (Entries h) = refl
@@ -199,6 +201,13 @@ module _ (sizes : Sizes) (account : Account) (bounds : AreBounds (bounds_for siz
       | inr other ↦ ends.others n other ∙ begin_other sizes account bounds actor (Close handle) None most idle allowed n other
     ];
   }
+
+  -- the history has both
+  pub close_told : (past_of sizes (closed_by actor handle account)).events ≡ (past_of sizes account).events ++ event.Begin state.begun actor (Close handle) None ∷ event.End state.begun reply.Closed ∷ []
+  close_told =
+      ap (λ a. (past_of sizes a).events) same_steps ∙ end_told sizes middle middle_bounds actor (begun_operation state (Close handle) None) reply.Closed runs refl
+      ∙ ap (λ es. es ++ event.End state.begun reply.Closed ∷ []) (begin_told sizes account bounds actor (Close handle) None allowed)
+      ∙ append_assoc (past_of sizes account).events (event.Begin state.begun actor (Close handle) None ∷ []) (event.End state.begun reply.Closed ∷ [])
 
   pub closes_of : Closes sizes account actor handle
   closes_of = let x = subst (λ a. Shuts sizes account a handle) (sym same_steps) shuts in record { leaves = x.leaves; closed = x.closed; roots = x.roots; fates = x.fates; operations = x.operations }

@@ -1,7 +1,6 @@
 -- What is left by the step that offers, whether its root still stands or not.
 use Rattle.std.proofs.Common.{◌≡◌, ◌≢◌, ◌+◌, ℕ, suc, Bool, true, false, Contains, Some, None, get_or, set, refl, sym, ap, subst, ◌∙◌, arith, eq-eqb}
 use Rattle.std.specs.Prelude.{option_map}
-use Rattle.std.proofs.lemmas.Bool.{false≢true}
 use Rattle.std.proofs.lemmas.List.{get_or-set_same}
 use Rattle.history.specs.declared.calls.Access.TheVariants.{Writable}
 use Rattle.machine_model.specs.Beneath.slot_arena.specs.declared.refs.Ref.{Ref}
@@ -25,7 +24,6 @@ use Rattle.proof_commits.proofs.Known.StepsAt.{after_mark}
 use Rattle.proof_garbage.specs.Beneath.proof_generations.proofs.Handles.Running.{place_of_actor}
 use Rattle.proof_garbage.specs.Beneath.proof_generations.proofs.Lines.Copy.{IsOwn, LineFits}
 use Rattle.proof_garbage.specs.Beneath.proof_generations.proofs.Offers.Standing.{offer_line}
-use Rattle.proof_garbage.specs.Beneath.proof_generations.proofs.Offers.Marks.{is_done}
 use Rattle.lock_free.specs.declared.accounts.Account.{Account}
 use Rattle.lock_free.specs.declared.accounts.Known.{Known}
 use Rattle.lock_free.specs.declared.sizes.Sizes.{Sizes}
@@ -39,7 +37,7 @@ use Rattle.lock_free.specs.Trying.{anew, try_of}
 use Rattle.lock_free.proofs.OneStep.Aheads.{ahead_of, over_makes, ahead_acts}
 use Rattle.lock_free.proofs.OneStep.Changing.{whole, roots_then}
 use Rattle.lock_free.proofs.OneStep.Marking.{other_marked, own_marked, leaves_by}
-use Rattle.lock_free.proofs.OneStep.Standing.{has, known_once}
+use Rattle.lock_free.proofs.OneStep.Standing.{has, known_once, offering_unmarked}
 
 module _ (sizes : Sizes) (account : Account) (bounds : AreBounds (bounds_for sizes account.steps)) (actor : ℕ) (operation : Operation) (runs : running sizes account actor operation)
     (offer : Descriptor) (is : action_of (state_of sizes account) operation ≡ act.Offer offer) (stood : (k : Known) → Contains account.offers k → HasStood sizes account k.offer) where
@@ -91,11 +89,7 @@ module _ (sizes : Sizes) (account : Account) (bounds : AreBounds (bounds_for siz
   next_unmarked = ap (mark_after operation.is_marked) is
 
   unmarked : operation.is_marked ≡ false
-  unmarked = by operation.is_marked refl
-    where
-      by : (b : Bool) → operation.is_marked ≡ b → b ≡ false
-      by false e = refl
-      by true e = absurd (false≢true (ap is_done (sym at_line) ∙ (has sizes account bounds).1.done place.0 operation place.2 e))
+  unmarked = offering_unmarked sizes account bounds actor operation runs offer at_line
 
   fresh : (k : Known) → Contains account.offers k → IsItsTry next k.offer → ⊥
   fresh k c its =

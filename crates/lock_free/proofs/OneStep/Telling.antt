@@ -1,8 +1,7 @@
 -- What the history has once an operation has begun, or has ended.
-use Rattle.std.proofs.Common.{◌≡◌, ◌+◌, ◌++◌, ℕ, Bool, true, false, List, [], ◌∷◌, length, Option, Some, None, Ok, Err, refl, sym, ap, ◌∙◌, arith, length-append}
+use Rattle.std.proofs.Common.{◌≡◌, ◌+◌, ◌++◌, ℕ, true, [], ◌∷◌, length, Option, None, refl, ap, ◌∙◌, arith, length-append}
 use Rattle.std.specs.Prelude.{if◌then◌else◌}
 use Rattle.history.specs.declared.calls.Call.{Call}
-use Rattle.history.specs.declared.events.Event.{Event}
 use Rattle.history.specs.declared.events.Event.TheVariants as event
 use Rattle.history.specs.declared.replies.Reply.{Reply}
 use Rattle.machine_model.specs.declared.actions.Action.TheVariants as act
@@ -12,12 +11,11 @@ use Rattle.machine_model.specs.declared.steps.Step.TheVariants as step
 use Rattle.machine_model.specs.Machine.{Answer, AreBounds, next, begin_denial, begin_unless, begun_operation, go_unless, go_on, step_by, is_taken_step}
 use Rattle.machine_model.specs.Operations.{action_of}
 use Rattle.machine_model.specs.Records.{Record, next_record, noted, record_of}
-use Rattle.machine_model.specs.States.{State, first_state, operation_of}
+use Rattle.machine_model.specs.States.{State, first_state}
 use Rattle.machine_model.specs.Tellings.{told_in}
 use Rattle.machine_model.specs.Records.{first_record}
 use Rattle.machine_model.proofs.Notes.{noted_ending}
 use Rattle.machine_model.proofs.Recorded.{record_push}
-use Rattle.proof_waiting.specs.Beneath.proof_slots.specs.Lasting.{wider}
 use Rattle.proof_waiting.specs.Beneath.proof_slots.proofs.Wider.{wider_alike}
 use Rattle.proof_waiting.specs.Beneath.proof_slots.proofs.Padded.Runs.{few_steps_have_slots}
 use Rattle.lock_free.specs.declared.accounts.Account.{Account}
