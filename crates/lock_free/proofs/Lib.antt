@@ -94,6 +94,9 @@ mod CloseStep
 mod Shutting
 mod KeyMoves
 mod NewNodes
+mod OwnMakes
+mod WrittenEntries
+mod MainMakes
 mod MainLooks
 mod EntryLooks
 mod EntryMeets

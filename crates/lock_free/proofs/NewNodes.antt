@@ -1,5 +1,5 @@
 -- What a seat knows once its operation has made a node.
-use Rattle.std.proofs.Common.{◌≡◌, ◌≢◌, ◌<◌, ◌++◌, ◌∷◌, ℕ, Bool, true, List, [], Some, None, refl, sym, ap, subst, ◌∙◌, get_or, length, map, Contains, arith}
+use Rattle.std.proofs.Common.{◌≡◌, ◌≢◌, ◌++◌, ◌∷◌, ℕ, Bool, true, List, [], Some, None, refl, sym, ap, subst, ◌∙◌, get_or, length, map, Contains, arith}
 use Rattle.std.proofs.lemmas.Bool.{true≢false}
 use Rattle.std.proofs.lemmas.List.{map-append}
 use Rattle.std.proofs.lemmas.List.Elements.{Contains-append_right}
@@ -14,7 +14,6 @@ use Rattle.machine_model.specs.declared.actions.Action.{Action}
 use Rattle.machine_model.specs.declared.operations.Operation.{Operation}
 use Rattle.machine_model.specs.Building.{key_in}
 use Rattle.machine_model.specs.Operations.{action_of}
-use Rattle.machine_model.specs.States.{State}
 use Rattle.proof_memory.specs.Laws.{SameNode}
 use Rattle.proof_memory.specs.Making.{made_node}
 use Rattle.proof_memory.specs.Wants.{is_branch, is_main_node}
@@ -24,7 +23,7 @@ use Rattle.lock_free.specs.declared.rules.View.{View}
 use Rattle.lock_free.specs.declared.stock.OwnNode.{OwnNode}
 use Rattle.lock_free.specs.Accounts.{running}
 use Rattle.lock_free.specs.Becoming.{Follows, made_on, HasNew}
-use Rattle.lock_free.specs.Live.{IsLive, from_operation, line_claims, refs_of_claims, at_hand}
+use Rattle.lock_free.specs.Live.{IsLive, from_operation, line_claims, refs_of_claims}
 use Rattle.lock_free.specs.Loading.{now, seen, Runs, IsAt, IsSound, IsUsed, Waited, Took}
 use Rattle.lock_free.specs.Making.{with_slots, made_by}
 use Rattle.lock_free.specs.Nodes.{class_of}

@@ -1,6 +1,6 @@
 -- The entries of main nodes, as a seat has them in plain memory.
 use Rattle.std.specs.Prelude.{◌≡◌, ℕ, ◌+◌, ◌*◌, ◌<◌, ◌≤◌, Bool, true, false, List, [], All, Contains, length, map, Option, Some, None, slice_get}
-use Rattle.trie_words.specs.Codes.{entry_code, pair_code, IsEntry}
+use Rattle.trie_words.specs.Codes.{entry_code, pair_code, IsEntry, IsShape}
 use Rattle.trie_words.specs.declared.entries.Entry.{Entry}
 use Rattle.trie_words.specs.declared.headers.Previous.{Previous}
 use Rattle.trie_words.specs.declared.headers.Shape.{Shape}
@@ -17,7 +17,7 @@ use Rattle.lock_free.specs.Accounts.{place_of}
 use Rattle.lock_free.specs.Becoming.{HasNew}
 use Rattle.lock_free.specs.Loading.{now, IsUsed, IsAt, Runs, Holds, Saw}
 use Rattle.lock_free.specs.Making.{over_of, IsOverBy, shape_with}
-use Rattle.lock_free.specs.Nodes.{is_single, entry_word}
+use Rattle.lock_free.specs.Nodes.{is_single}
 use Rattle.lock_free.specs.Places.{words_in}
 use Rattle.lock_free.specs.Rules.{IsFree}
 
@@ -68,6 +68,7 @@ pub record IsAtMain (v : View) (shape : Shape) (entries : List Entry) : Type 0 w
   pub making : IsAt v (act.Make node)
   pub own : Bool
   pub is_shape : shape_with v.account own node ≡ Some shape
+  pub fits : IsShape shape
   pub few : length entries ≤ 32
   pub entries_to : AreEntriesTo v entries (written_of node)
 
@@ -79,7 +80,7 @@ AreFit entries = All IsEntry entries
 
 -- the slot is free for the seat, and has room for so many entries
 abbrev pub IsOwnSlot : View → ℕ → ℕ → Type 0
-IsOwnSlot v name count = (class : ℕ) × IsFree v class name × (entry_word name count < 2 * name + words_in class)
+IsOwnSlot v name count = (class : ℕ) × IsFree v class name × (count + 2 ≤ 2 * words_in class)
 
 -- the half of the entry at this position, or nothing
 abbrev pub half_for : Option Entry → ℕ
@@ -89,11 +90,11 @@ half_for (Some entry) = entry_code entry
 abbrev pub half_at : List Entry → ℕ → ℕ
 half_at entries position = half_for (slice_get entries position)
 
--- they are written there
-pub record HasWritten (before : View) (name : ℕ) (entries : List Entry) (after : View) : Type 0 where
+-- those in the first so many words are written there
+pub record HasWritten (before : View) (name : ℕ) (entries : List Entry) (n : ℕ) (after : View) : Type 0 where
   pub is : after ≡ record before { drafts = after.drafts }
-  pub words : (n : ℕ) → 2 * n < length entries →
-      Contains after.drafts (2 * name + 1 + n, pair_code (record { low = half_at entries (2 * n); high = half_at entries (2 * n + 1) }))
+  pub words : (k : ℕ) → k < n → 2 * k < length entries →
+      Contains after.drafts (2 * name + 1 + k, pair_code (record { low = half_at entries (2 * k); high = half_at entries (2 * k + 1) }))
 
 -- ---- what came of it
 

@@ -6,7 +6,8 @@ ghost use Rattle.machine_model.specs.Beneath.slot_arena.specs.declared.refs.Ref.
 ghost use Rattle.machine_model.specs.Beneath.slot_arena.specs.declared.nodes.Node.TheVariants.{Indirection, Single, Tomb};
 ghost use Rattle.lock_free.specs.Loading.{IsAt, IsSound};
 ghost use Rattle.lock_free.specs.Passing.{IsPlaced};
-ghost use Rattle.lock_free.specs.SeenEntries.{AreFit, HasMadeNext, HasWritten, IsAtBranch, IsAtList, IsAtMain, IsOver, IsOwnSlot};
+ghost use Rattle.lock_free.specs.Places.{class_for};
+ghost use Rattle.lock_free.specs.SeenEntries.{half_at, AreFit, HasMadeNext, HasWritten, IsAtBranch, IsAtList, IsAtMain, IsOver, IsOwnSlot};
 ghost use Rattle.lock_free.specs.Stocks.{IsStock};
 
 use crate::loads::{Actor, Words};
@@ -16,7 +17,9 @@ use std::sync::Wait;
 use trie_words::{Entry, Header, Link, Name, Pair, Previous, Shape};
 
 /// The class of the slot of a main node with so many entries.
-fn class_for(entries: usize) -> u32 {
+fn class_for(entries: usize) -> u32
+    ensures { result ≡ class_for entries }
+{
     match entries {
         0..=2 => 0,
         3..=14 => 1,
@@ -76,6 +79,17 @@ pub fn make_link<R: Wait>(
     Some(slot)
 }
 
+/// The half of a word for the entry at this position, 0 where there is none.
+fn half_at(entries: &[Entry], position: usize) -> u32
+    requires { AreFit entries.now }
+    ensures { result ≡ half_at entries.now position }
+{
+    match entries.get(position) {
+        Some(entry) => entry.to_half(),
+        None => 0,
+    }
+}
+
 /// Writes these entries after the first word of this slot, two in a word.
 fn write_entries(words: &Words, actor: &mut Actor, slot: u32, entries: &[Entry])
     requires table { actor.old.table_id ≡ words.now.table_id }
@@ -84,16 +98,12 @@ fn write_entries(words: &Words, actor: &mut Actor, slot: u32, entries: &[Entry])
     requires own { IsOwnSlot actor.old.me.0 slot (length entries.now) }
     ensures table { actor.new.table_id ≡ actor.old.table_id }
     ensures sound { IsSound words.now.table_id.words actor.new.me.0 }
-    ensures written { HasWritten actor.old.me.0 slot entries.now actor.new.me.0 }
+    ensures written { HasWritten actor.old.me.0 slot entries.now (length entries.now) actor.new.me.0 }
 {
     for n in 0..entries.len().div_ceil(2) {
-        let high = match entries.get(2 * n + 1) {
-            Some(entry) => entry.to_half(),
-            None => 0,
-        };
         let pair = Pair {
-            low: entries[2 * n].to_half(),
-            high,
+            low: half_at(entries, 2 * n),
+            high: half_at(entries, 2 * n + 1),
         };
         draft(words, actor, 2 * slot as usize + 1 + n, pair.to_word());
     }

@@ -1,7 +1,4 @@
-use Rattle.std.proofs.Common.{◌≡◌, ◌+◌, ◌≤◌, ℕ, [], length}
-use Rattle.lock_free.specs.Loading.{IsSound}
-use Rattle.lock_free.specs.Rules.{pool_of}
-use Rattle.lock_free.specs.Stocks.{HasRoom, IsStock}
+use Rattle.std.proofs.Common.{◌≡◌}
 use Rattle.lock_free.proofs.stock.take.Given as goal
 
 abbrev pub invariant-loop : goal.invariant-loop
