@@ -77,11 +77,16 @@ mod SeenRoots
 mod OfferMisses
 mod OfferStep
 mod YieldStep
+mod OfferTries
 mod RootAsked
 mod FormerRoots
 mod OfferMet
 mod OfferSeen
 mod CleanStep
+mod CompleteLines
+mod OffersLater
+mod Completions
+mod Cleanings
 mod EndStep
 mod CallSaid
 mod PinStep

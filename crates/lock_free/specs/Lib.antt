@@ -20,13 +20,14 @@ pub mod Storing
 pub mod OfferWords
 pub mod HandleWords
 pub mod Closing
-pub mod RootOffers
 pub mod Calling
 pub mod RootWords
+pub mod RootOffers
 pub mod Numbers
 pub mod OfReads
 pub mod Passing
 pub mod Swaps
+pub mod Rooting
 pub mod SeatWords
 pub mod Becoming
 pub mod Stocks

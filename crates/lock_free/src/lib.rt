@@ -18,6 +18,7 @@ mod offers;
 mod pins;
 mod reading;
 mod root_offers;
+mod rooting;
 mod rules;
 mod sizes;
 mod stock;
@@ -42,7 +43,8 @@ pub use numbers::{give_back, name, reserve};
 pub use offers::{Fate, abort, complete, meet_offer, see_news, see_olds};
 pub use pins::{finish, pass, pin, unpin};
 pub use reading::{AsksRoot, Given, Passed, Way, read, read_within};
-pub use root_offers::{Proposed, propose, yields};
+pub use root_offers::{Proposed, offer, propose, yields};
+pub use rooting::{Root, clean_settled, complete_offer};
 pub use rules::{
     Abandons, Asks, Cleans, Closing, Completes, Drafts, Ends, FindsRoot, Goes, Looks, Makes, MakesRoot,
     Marks, Meets, Names, Pool, Proposes, Publishes, Reserves, Returns, Rule, Sees, Shuts, Starts, Takes,
