@@ -102,6 +102,9 @@ mod NewNodes
 mod OwnMakes
 mod WrittenEntries
 mod MainMakes
+mod SwapsMade
+mod AllEntries
+mod StockStays
 mod MainLooks
 mod EntryLooks
 mod EntryMeets
@@ -111,3 +114,8 @@ mod EntryTurns
 mod Levels
 mod CopyReads
 mod NewRoots
+mod Counts
+mod HeldEntries
+mod OnLines
+mod NextEntries
+mod RepairLooks

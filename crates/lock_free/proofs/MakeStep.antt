@@ -95,7 +95,7 @@ module _ (before after : Account) (first later : Heap) (has : Has) (name : ℕ) 
     drafts_stay (Tomb single) same h = (h.0, h.1, header_stays (Tomb single) h.0 (λ r c. (same r c).0) h.2)
     drafts_stay (Listed singles) same h = ((h.0.0, h.0.1, header_stays (Listed singles) h.0.0 (λ r c. (same r c).0) h.0.2), entries_stay singles.items same h.1)
 
-single_stays : (before after : Node) → SameNode before after → is_single after ≡ is_single before
+pub single_stays : (before after : Node) → SameNode before after → is_single after ≡ is_single before
 single_stays (Indirection generation main) after same = ap is_single same.1
 single_stays (Branch bitmap entries) after same = ap is_single same.1
 single_stays (Single key value) after same = ap is_single same.1

@@ -21,7 +21,7 @@ use Rattle.lock_free.specs.declared.accounts.Account.{Account}
 use Rattle.lock_free.specs.declared.rules.View.{View}
 use Rattle.lock_free.specs.Accounts.{place_of}
 use Rattle.lock_free.specs.Becoming.{HasNew, line_made}
-use Rattle.lock_free.specs.CopySteps.{IsAtCopy, IsAtRoot, HasTriedRoot, HasRoot, rooted, rooted_on}
+use Rattle.lock_free.specs.CopySteps.{IsAtCopy, IsAtNewRoot, HasTriedRoot, HasRoot, main_for, new_root_on}
 use Rattle.lock_free.specs.Loading.{now, seen, IsAt, IsSound, Runs, Waited, Took}
 use Rattle.lock_free.specs.Making.{made_by}
 use Rattle.lock_free.specs.Rules.{pool_of}
@@ -34,22 +34,22 @@ use Rattle.lock_free.proofs.Pools.{first_there}
 
 -- ---- the next step makes a root
 
-rooted_acts : (l : CopyLine) (main : Ref) → rooted l ≡ Some main → copy_action l ≡ act.MakeRoot main
-rooted_acts (copy.Successor root m) main e = ap act.MakeRoot (same_Some m main e)
-rooted_acts (copy.Second root m successor) main e = ap act.MakeRoot (same_Some m main e)
-rooted_acts (copy.Cleared root m branch) main e = ap act.MakeRoot (same_Some branch main e)
-rooted_acts l main e = absurd (none-some main e)
+main_acts : (l : CopyLine) (main : Ref) → main_for l ≡ Some main → copy_action l ≡ act.MakeRoot main
+main_acts (copy.Successor root m) main e = ap act.MakeRoot (same_Some m main e)
+main_acts (copy.Second root m successor) main e = ap act.MakeRoot (same_Some m main e)
+main_acts (copy.Cleared root m branch) main e = ap act.MakeRoot (same_Some branch main e)
+main_acts l main e = absurd (none-some main e)
 
-at_root : (v : View) (l : CopyLine) (main : Ref) → IsAtCopy v l → rooted l ≡ Some main → IsAt v (act.MakeRoot main)
+at_root : (v : View) (l : CopyLine) (main : Ref) → IsAtCopy v l → main_for l ≡ Some main → IsAt v (act.MakeRoot main)
 at_root v l main (o, (mark, runs), on) e = record {
   operation = record o { is_marked = mark };
   runs = runs;
-  acts = subst (λ x. action_of (now v) (record o { is_marked = mark; line = x }) ≡ act.MakeRoot main) (sym on) (rooted_acts l main e);
+  acts = subst (λ x. action_of (now v) (record o { is_marked = mark; line = x }) ≡ act.MakeRoot main) (sym on) (main_acts l main e);
 }
 
 -- ---- it is written
 
-module _ (n : ℕ) (before : View) (sound : IsSound n before) (slot : ℕ) (last : (rest : List ℕ) × (pool_of before.pool 0 ≡ rest ++ slot ∷ [])) (main : Name) (at : IsAtRoot before main.slot) where
+module _ (n : ℕ) (before : View) (sound : IsSound n before) (slot : ℕ) (last : (rest : List ℕ) × (pool_of before.pool 0 ≡ rest ++ slot ∷ [])) (main : Name) (at : IsAtNewRoot before main.slot) where
   abbrev r : Ref
   r = at.1
 
@@ -143,7 +143,7 @@ module _ (n : ℕ) (before : View) (name : ℕ) (mid : View) (slot : HasSlot bef
         become = record {
           follows = record { is = h.become.follows.is; places = h.become.follows.places; owns = h.become.follows.owns; nodes = h.become.follows.nodes };
           comes = λ o r.
-              subst (λ x. Runs after (record o { private = o.private ++ h.made ∷ []; line = line_made (now before) (record o { line = x }) x h.made }) → Runs after (rooted_on l h.made o))
+              subst (λ x. Runs after (record o { private = o.private ++ h.made ∷ []; line = line_made (now before) (record o { line = x }) x h.made }) → Runs after (new_root_on l h.made o))
               (sym (copy_line before l at o r)) (λ x. x) (h.become.comes o r);
         };
       }

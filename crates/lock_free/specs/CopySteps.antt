@@ -43,27 +43,27 @@ HasOriginal before given after = (root : Ref) → IsAtCopy before (copy.Read roo
 -- ---- a root is made
 
 -- the main node of which it makes a root next
-abbrev pub rooted : CopyLine → Option Ref
-rooted (copy.Successor root main) = Some main
-rooted (copy.Second root main successor) = Some main
-rooted (copy.Cleared root main branch) = Some branch
-rooted l = None
+abbrev pub main_for : CopyLine → Option Ref
+main_for (copy.Successor root main) = Some main
+main_for (copy.Second root main successor) = Some main
+main_for (copy.Cleared root main branch) = Some branch
+main_for l = None
 
-abbrev pub IsAtRoot : View → ℕ → Type 0
-IsAtRoot v name = (l : CopyLine) × (main : Ref) × IsAtCopy v l × (rooted l ≡ Some main) × IsPlaced v main name
+abbrev pub IsAtNewRoot : View → ℕ → Type 0
+IsAtNewRoot v name = (l : CopyLine) × (main : Ref) × IsAtCopy v l × (main_for l ≡ Some main) × IsPlaced v main name
 
 -- it has tried to make it in the last of its free slots, by a generation that was the next one or not
 abbrev pub HasTriedRoot : View → Bool → View → Type 0
 HasTriedRoot before made after = (drafted : View) × (drafted ≡ record before { drafts = drafted.drafts }) × ((generation : ℕ) × HasMadeRoot drafted generation made after)
 
 -- with a root more of its own
-abbrev pub rooted_on : CopyLine → Ref → Operation → Operation
-rooted_on l made operation = record operation { private = operation.private ++ made ∷ []; line = copy_after_made operation l made }
+abbrev pub new_root_on : CopyLine → Ref → Operation → Operation
+new_root_on l made operation = record operation { private = operation.private ++ made ∷ []; line = copy_after_made operation l made }
 
 pub record HasNewRoot (before : View) (l : CopyLine) (name : ℕ) (after : View) : Type 0 where
   pub made : Ref
   pub placed : IsPlaced after made name
-  pub become : HasBecome (rooted_on l made) before after
+  pub become : HasBecome (new_root_on l made) before after
 
 -- it has made one, in this slot, or had no slot or no generation for it: then its own slots alone have changed, and what is written there
 abbrev pub HasRootOrNone : View → CopyLine → Option ℕ → View → Type 0
@@ -71,7 +71,7 @@ HasRootOrNone before l None after = after ≡ record before { pool = after.pool;
 HasRootOrNone before l (Some name) after = HasNewRoot before l name after
 
 abbrev pub HasRoot : View → Option ℕ → View → Type 0
-HasRoot before result after = (l : CopyLine) (main : Ref) → IsAtCopy before l → rooted l ≡ Some main → HasRootOrNone before l result after
+HasRoot before result after = (l : CopyLine) (main : Ref) → IsAtCopy before l → main_for l ≡ Some main → HasRootOrNone before l result after
 
 -- ---- its offer is completed
 

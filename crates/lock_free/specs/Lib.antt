@@ -34,3 +34,5 @@ pub mod Stocks
 pub mod SeenEntries
 pub mod GoingDown
 pub mod CopySteps
+pub mod Holding
+pub mod Repairing

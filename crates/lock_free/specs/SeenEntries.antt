@@ -15,7 +15,8 @@ use Rattle.proof_memory.specs.Wants.{is_branch_or_list}
 use Rattle.lock_free.specs.declared.rules.View.{View}
 use Rattle.lock_free.specs.Accounts.{place_of}
 use Rattle.lock_free.specs.Becoming.{HasNew}
-use Rattle.lock_free.specs.Loading.{now, IsUsed, IsAt, Runs, Holds, Saw}
+use Rattle.lock_free.specs.GoingDown.{HasStayed}
+use Rattle.lock_free.specs.Loading.{now, IsUsed, IsAt, Runs, Holds}
 use Rattle.lock_free.specs.Making.{over_of, IsOverBy, shape_with}
 use Rattle.lock_free.specs.Nodes.{is_single}
 use Rattle.lock_free.specs.Places.{words_in}
@@ -39,10 +40,10 @@ abbrev pub HasEntries : View → ℕ → ℕ → Type 0
 HasEntries v name count =
     (r : Ref) × (slot : Slot) × Holds v r × IsUsed v r slot × (is_branch_or_list slot.node ≡ true) × (count ≡ length (entries_of slot.node)) × (count ≤ 32) × (place_of v.account r ≡ name)
 
-abbrev pub HasSeenEntries : View → ℕ → List Entry → View → Type 0
-HasSeenEntries before name entries after =
-    Saw before after × ((r : Ref) (slot : Slot) → Holds before r → IsUsed before r slot → is_branch_or_list slot.node ≡ true → place_of before.account r ≡ name →
-    AreEntriesTo after entries (entries_of slot.node))
+abbrev pub HasSeenEntries : View → ℕ → ℕ → List Entry → View → Type 0
+HasSeenEntries before name count entries after =
+    HasStayed before after × ((r : Ref) (slot : Slot) → Holds before r → IsUsed before r slot → is_branch_or_list slot.node ≡ true → count ≡ length (entries_of slot.node) →
+    place_of before.account r ≡ name → AreEntriesTo after entries (entries_of slot.node))
 
 -- ---- of a node that is made
 

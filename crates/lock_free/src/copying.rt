@@ -1,7 +1,7 @@
 //! COPY: offers a new root in the place of the old one, and completes the offer.
 
 ghost use Rattle.std.specs.Prelude.{◌≡◌, ◌++◌, ◌∷◌, ℕ, List, []};
-ghost use Rattle.lock_free.specs.CopySteps.{HasCopied, HasOriginal, HasRoot, HasTriedRoot, IsAtOriginal, IsAtRoot, IsToComplete};
+ghost use Rattle.lock_free.specs.CopySteps.{HasCopied, HasOriginal, HasRoot, HasTriedRoot, IsAtOriginal, IsAtNewRoot, IsToComplete};
 ghost use Rattle.lock_free.specs.Loading.{IsSound};
 ghost use Rattle.lock_free.specs.Passing.{IsOnWay};
 ghost use Rattle.lock_free.specs.Rules.{pool_of};
@@ -44,7 +44,7 @@ fn try_roots<R: Wait>(rt: &R, words: &Words, actor: &mut Actor, slot: u32, main:
     requires table { actor.old.table_id ≡ words.now.table_id }
     requires sound { IsSound words.now.table_id.words actor.old.me.0 }
     requires last { (rest : List ℕ) × (pool_of actor.old.me.0.pool 0 ≡ rest ++ slot ∷ []) }
-    requires making { IsAtRoot actor.old.me.0 main.slot }
+    requires making { IsAtNewRoot actor.old.me.0 main.slot }
     ensures table { actor.new.table_id ≡ actor.old.table_id }
     ensures sound { IsSound words.now.table_id.words actor.new.me.0 }
     ensures tried { HasTriedRoot actor.old.me.0 result actor.new.me.0 }
@@ -74,7 +74,7 @@ pub fn make_new_root<R: Wait>(
     requires table { actor.old.table_id ≡ words.now.table_id }
     requires sound { IsSound words.now.table_id.words actor.old.me.0 }
     requires stock { IsStock stock.old actor.old.me.0 }
-    requires making { IsAtRoot actor.old.me.0 main.slot }
+    requires making { IsAtNewRoot actor.old.me.0 main.slot }
     ensures table { actor.new.table_id ≡ actor.old.table_id }
     ensures sound { IsSound words.now.table_id.words actor.new.me.0 }
     ensures stock { IsStock stock.new actor.new.me.0 }
