@@ -113,7 +113,9 @@ mod ReadTurns
 mod EntryTurns
 mod Levels
 mod CopyReads
-mod NewRoots
+mod RootMakes
+mod CopyRoots
+mod OfferDrafts
 mod Counts
 mod HeldEntries
 mod OnLines

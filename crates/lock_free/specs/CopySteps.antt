@@ -1,5 +1,9 @@
 -- COPY: where an operation is on its way from the root to an offer that is carried out, and what it comes to.
-use Rattle.std.specs.Prelude.{◌≡◌, ◌++◌, ◌∷◌, [], ℕ, Bool, Option, Some, None, if◌then◌else◌}
+use Rattle.history.specs.declared.calls.Call.{Call}
+use Rattle.history.specs.declared.calls.Call.TheVariants.{Clear, Snapshot}
+use Rattle.history.specs.declared.replies.Reply.TheVariants as reply
+use Rattle.std.specs.Prelude.{◌≡◌, ◌+◌, ◌*◌, ◌++◌, ◌∷◌, [], ℕ, Bool, List, Contains, Option, Some, None, if◌then◌else◌}
+use Rattle.trie_words.specs.Codes.{pair_code}
 use Rattle.machine_model.specs.Beneath.slot_arena.specs.declared.refs.Ref.{Ref}
 use Rattle.machine_model.specs.declared.copying.CopyLine.{CopyLine}
 use Rattle.machine_model.specs.declared.copying.CopyLine.TheVariants as copy
@@ -7,18 +11,22 @@ use Rattle.machine_model.specs.declared.lines.Line.{Line}
 use Rattle.machine_model.specs.declared.lines.Line.TheVariants as line
 use Rattle.machine_model.specs.declared.operations.Operation.{Operation}
 use Rattle.machine_model.specs.Calls.{handle_of}
-use Rattle.machine_model.specs.Copying.{after_given, copy_after_made, copied_reply}
+use Rattle.machine_model.specs.Copying.{after_given, copy_after_made, offering, copied_reply}
+use Rattle.machine_model.specs.GivingUp.{copy_given_up}
 use Rattle.machine_model.specs.Lines.{new_try}
 use Rattle.machine_model.specs.Reading.{reading}
 use Rattle.machine_model.specs.Swapping.{completing}
+use Rattle.lock_free.specs.declared.copying.CopyKind.{CopyKind}
+use Rattle.lock_free.specs.declared.copying.CopyKind.TheVariants as kind
+use Rattle.lock_free.specs.declared.copying.NewRoots.{NewRoots}
 use Rattle.lock_free.specs.declared.reading.Given.{Given}
 use Rattle.lock_free.specs.declared.rules.View.{View}
-use Rattle.lock_free.specs.Becoming.{HasBecome}
+use Rattle.lock_free.specs.Becoming.{Follows, HasBecome}
 use Rattle.lock_free.specs.GoingDown.{HasMoved}
 use Rattle.lock_free.specs.HandleWords.{HasOffer}
 use Rattle.lock_free.specs.Loading.{Runs}
 use Rattle.lock_free.specs.Passing.{IsPlaced, KnowsLink, KnowsMain}
-use Rattle.lock_free.specs.Roots.{IsItsTry}
+use Rattle.lock_free.specs.Roots.{IsItsTry, undecided}
 use Rattle.lock_free.specs.Storing.{HasMadeRoot}
 
 -- the operation is on this line of COPY
@@ -72,6 +80,76 @@ HasRootOrNone before l (Some name) after = HasNewRoot before l name after
 
 abbrev pub HasRoot : View → Option ℕ → View → Type 0
 HasRoot before result after = (l : CopyLine) (main : Ref) → IsAtCopy before l → main_for l ≡ Some main → HasRootOrNone before l result after
+
+-- ---- which copy it makes
+
+abbrev pub copy_kind : Call → CopyKind
+copy_kind (Clear h) = kind.Clear
+copy_kind (Snapshot h) = kind.Snapshot
+copy_kind call = kind.Freeze
+
+abbrev pub IsKind : View → CopyKind → Type 0
+IsKind v k = (operation : Operation) → Runs v operation → copy_kind operation.call ≡ k
+
+-- its line once the main node of the root is read
+abbrev pub given_line : CopyKind → Ref → Ref → CopyLine
+given_line kind.Clear root main = copy.Empty root main
+given_line kind.Snapshot root main = copy.Successor root main
+given_line kind.Freeze root main = copy.Successor root main
+
+-- ---- its roots are made
+
+-- it has come to the line of its offer
+abbrev pub ComesToOffer : Ref → Ref → Ref → Option Ref → View → View → Type 0
+ComesToOffer root main successor second v w =
+    (operation : Operation) → Runs v operation → (private : List Ref) × Runs w (record operation { private = private; line = offering operation root main successor second })
+
+-- it has offered nothing yet, and may give up
+abbrev pub StopsShort : View → View → Type 0
+StopsShort v w =
+    (operation : Operation) → Runs v operation → (private : List Ref) × (l : CopyLine) × Runs w (record operation { private = private; line = line.Copy l }) × (copy_given_up l ≡ Some reply.NoSlots)
+
+-- a slot or a generation is missing
+pub record HasStopped (v w : View) : Type 0 where
+  pub is : w ≡ record v { account = w.account; pool = w.pool; drafts = w.drafts }
+  pub stops : StopsShort v w
+
+-- the second root, if there is one, is in this slot
+abbrev pub IsSecond : View → Option Ref → Option ℕ → Type 0
+IsSecond v None None = Unit {0}
+IsSecond v (Some r) (Some name) = IsPlaced v r name
+IsSecond v r name = ⊥
+
+pub record HasNewRoots (before : View) (root main : Ref) (roots : NewRoots) (after : View) : Type 0 where
+  pub successor : Ref
+  pub second : Option Ref
+  pub successor_placed : IsPlaced after successor roots.successor
+  pub second_placed : IsSecond after second roots.second
+  pub follows : Follows before after
+  pub comes : ComesToOffer root main successor second before after
+
+abbrev pub HasRootsOrNone : View → Ref → Ref → Option NewRoots → View → Type 0
+HasRootsOrNone before root main None after = HasStopped before after
+HasRootsOrNone before root main (Some roots) after = HasNewRoots before root main roots after
+
+-- the main node of its root, which is in this slot, was read
+abbrev pub IsGiven : View → CopyKind → ℕ → Type 0
+IsGiven v k name = (root : Ref) × (main : Ref) × IsAtCopy v (given_line k root main) × IsPlaced v main name
+
+abbrev pub HasMadeRoots : View → CopyKind → Option NewRoots → View → Type 0
+HasMadeRoots before k result after = (root main : Ref) → IsAtCopy before (given_line k root main) → HasRootsOrNone before root main result after
+
+-- ---- its offer is written
+
+abbrev pub second_name : Option ℕ → ℕ
+second_name None = 0
+second_name (Some name) = name
+
+pub record HasDraftedOffer (before : View) (slot root main : ℕ) (roots : NewRoots) (after : View) : Type 0 where
+  pub is : after ≡ record before { drafts = after.drafts }
+  pub first : Contains after.drafts (2 * slot, undecided)
+  pub olds : Contains after.drafts (2 * slot + 1, pair_code (record { low = root; high = main }))
+  pub news : Contains after.drafts (2 * slot + 2, pair_code (record { low = roots.successor; high = second_name roots.second }))
 
 -- ---- its offer is completed
 

@@ -1,22 +1,48 @@
 //! COPY: offers a new root in the place of the old one, and completes the offer.
 
 ghost use Rattle.std.specs.Prelude.{◌≡◌, ◌++◌, ◌∷◌, ℕ, List, []};
-ghost use Rattle.lock_free.specs.CopySteps.{HasCopied, HasOriginal, HasRoot, HasTriedRoot, IsAtOriginal, IsAtNewRoot, IsToComplete};
+ghost use Rattle.lock_free.specs.CopySteps.{HasCopied, HasDraftedOffer, HasMadeRoots, HasOriginal, HasRoot, HasTriedRoot};
+ghost use Rattle.lock_free.specs.CopySteps.{IsAtCopy, IsAtOriginal, IsAtNewRoot, IsGiven, IsKind, IsToComplete};
+ghost use Rattle.lock_free.specs.declared.copying.CopyKind.TheVariants as kind;
+ghost use Rattle.machine_model.specs.declared.copying.CopyLine.TheVariants as copy;
+ghost use Rattle.machine_model.specs.Beneath.slot_arena.specs.declared.refs.Ref.{Ref as ARef};
 ghost use Rattle.lock_free.specs.Loading.{IsSound};
 ghost use Rattle.lock_free.specs.Passing.{IsOnWay};
-ghost use Rattle.lock_free.specs.Rules.{pool_of};
+ghost use Rattle.lock_free.specs.Rules.{pool_of, IsFree};
 ghost use Rattle.lock_free.specs.Stocks.{IsStock};
 
 use crate::loads::{Actor, Words};
+use crate::makes::make_branch;
+use crate::offers::UNDECIDED;
 use crate::reading::{AsksRoot, Given, Way, read};
 use crate::rooting::complete_offer;
 use crate::stock::{Stock, take};
 use crate::stores::{GENERATION, draft, make_root};
 use std::sync::Wait;
-use trie_words::{Link, Name};
+use trie_words::{Link, Name, Pair, Previous};
 
 /// So many generations can be given out.
 const GENERATIONS: u64 = 1 << 36;
+
+/// Which copy an operation makes.
+#[derive(Clone, Copy, Drop)]
+pub enum CopyKind {
+    /// One for readers.
+    Freeze,
+    /// One that may be written.
+    Snapshot,
+    /// None: all keys are removed.
+    Clear,
+}
+
+/// The roots that an operation has made for a copy, by their slots.
+#[derive(Clone, Copy, Drop)]
+pub struct NewRoots {
+    /// The one that is to stand in the place of the old one.
+    pub successor: u32,
+    /// That of a copy that may be written.
+    pub second: Option<u32>,
+}
 
 /// Reads the main node of the root in this slot, of which a copy is to be made.
 pub fn read_original<R: Wait, A: AsksRoot>(
@@ -86,6 +112,148 @@ pub fn make_new_root<R: Wait>(
     }
     stock.note(0);
     Some(slot)
+}
+
+/// An empty branch, and a root over it.
+fn make_cleared<R: Wait>(
+    rt: &R,
+    words: &Words,
+    actor: &mut Actor,
+    stock: &mut Stock,
+) -> Option<NewRoots>
+    requires table { actor.old.table_id ≡ words.now.table_id }
+    requires sound { IsSound words.now.table_id.words actor.old.me.0 }
+    requires stock { IsStock stock.old actor.old.me.0 }
+    requires at { (root : ARef) × (main : ARef) × IsAtCopy actor.old.me.0 (copy.Empty root main) }
+    ensures table { actor.new.table_id ≡ actor.old.table_id }
+    ensures sound { IsSound words.now.table_id.words actor.new.me.0 }
+    ensures stock { IsStock stock.new actor.new.me.0 }
+    ensures made { HasMadeRoots actor.old.me.0 kind.Clear result actor.new.me.0 }
+{
+    let branch = make_branch(rt, words, actor, stock, 0, &[], Previous::None)?;
+    let over = Name {
+        slot: branch,
+        own: true,
+    };
+    let successor = make_new_root(rt, words, actor, stock, over)?;
+    Some(NewRoots {
+        successor,
+        second: None,
+    })
+}
+
+/// Two roots over the main node in this slot.
+fn make_both<R: Wait>(
+    rt: &R,
+    words: &Words,
+    actor: &mut Actor,
+    stock: &mut Stock,
+    main: u32,
+) -> Option<NewRoots>
+    requires table { actor.old.table_id ≡ words.now.table_id }
+    requires sound { IsSound words.now.table_id.words actor.old.me.0 }
+    requires stock { IsStock stock.old actor.old.me.0 }
+    requires which { IsKind actor.old.me.0 kind.Snapshot }
+    requires given { IsGiven actor.old.me.0 kind.Snapshot main }
+    ensures table { actor.new.table_id ≡ actor.old.table_id }
+    ensures sound { IsSound words.now.table_id.words actor.new.me.0 }
+    ensures stock { IsStock stock.new actor.new.me.0 }
+    ensures made { HasMadeRoots actor.old.me.0 kind.Snapshot result actor.new.me.0 }
+{
+    let over = Name {
+        slot: main,
+        own: false,
+    };
+    let successor = make_new_root(rt, words, actor, stock, over)?;
+    let second = make_new_root(rt, words, actor, stock, over)?;
+    Some(NewRoots {
+        successor,
+        second: Some(second),
+    })
+}
+
+/// One root over the main node in this slot.
+fn make_one<R: Wait>(
+    rt: &R,
+    words: &Words,
+    actor: &mut Actor,
+    stock: &mut Stock,
+    main: u32,
+) -> Option<NewRoots>
+    requires table { actor.old.table_id ≡ words.now.table_id }
+    requires sound { IsSound words.now.table_id.words actor.old.me.0 }
+    requires stock { IsStock stock.old actor.old.me.0 }
+    requires which { IsKind actor.old.me.0 kind.Freeze }
+    requires given { IsGiven actor.old.me.0 kind.Freeze main }
+    ensures table { actor.new.table_id ≡ actor.old.table_id }
+    ensures sound { IsSound words.now.table_id.words actor.new.me.0 }
+    ensures stock { IsStock stock.new actor.new.me.0 }
+    ensures made { HasMadeRoots actor.old.me.0 kind.Freeze result actor.new.me.0 }
+{
+    let over = Name {
+        slot: main,
+        own: false,
+    };
+    let successor = make_new_root(rt, words, actor, stock, over)?;
+    Some(NewRoots {
+        successor,
+        second: None,
+    })
+}
+
+/// The roots of a copy of the main node in this slot, or none where a slot or a generation is missing.
+fn make_roots<R: Wait>(
+    rt: &R,
+    words: &Words,
+    actor: &mut Actor,
+    stock: &mut Stock,
+    which: CopyKind,
+    main: u32,
+) -> Option<NewRoots>
+    requires table { actor.old.table_id ≡ words.now.table_id }
+    requires sound { IsSound words.now.table_id.words actor.old.me.0 }
+    requires stock { IsStock stock.old actor.old.me.0 }
+    requires which { IsKind actor.old.me.0 which }
+    requires given { IsGiven actor.old.me.0 which main }
+    ensures table { actor.new.table_id ≡ actor.old.table_id }
+    ensures sound { IsSound words.now.table_id.words actor.new.me.0 }
+    ensures stock { IsStock stock.new actor.new.me.0 }
+    ensures made { HasMadeRoots actor.old.me.0 which result actor.new.me.0 }
+{
+    match which {
+        CopyKind::Clear => make_cleared(rt, words, actor, stock),
+        CopyKind::Snapshot => make_both(rt, words, actor, stock, main),
+        CopyKind::Freeze => make_one(rt, words, actor, stock, main),
+    }
+}
+
+/// Writes an offer in this slot, which is free for the seat: the root in that one and the main node that it has, and the new roots.
+fn draft_offer(
+    words: &Words,
+    actor: &mut Actor,
+    slot: u32,
+    root: u32,
+    main: u32,
+    roots: NewRoots,
+)
+    requires table { actor.old.table_id ≡ words.now.table_id }
+    requires sound { IsSound words.now.table_id.words actor.old.me.0 }
+    requires free { IsFree actor.old.me.0 1 slot }
+    ensures table { actor.new.table_id ≡ actor.old.table_id }
+    ensures sound { IsSound words.now.table_id.words actor.new.me.0 }
+    ensures drafted { HasDraftedOffer actor.old.me.0 slot root main roots actor.new.me.0 }
+{
+    let olds = Pair {
+        low: root,
+        high: main,
+    };
+    let news = Pair {
+        low: roots.successor,
+        high: roots.second.unwrap_or(0),
+    };
+    draft(words, actor, 2 * slot as usize, UNDECIDED);
+    draft(words, actor, 2 * slot as usize + 1, olds.to_word());
+    draft(words, actor, 2 * slot as usize + 2, news.to_word());
 }
 
 /// Completes the seat's own offer, which stands in this slot. Returns whether it was carried out, by this seat or another.

@@ -2,7 +2,7 @@ use Rattle.std.proofs.Common.{◌≡◌, ◌<◌, ◌≤◌, ◌*◌, ◌∙◌,
 use Rattle.std.proofs.lemmas.Bool.{false≢true}
 use Rattle.lock_free.specs.declared.rules.View.{View}
 use Rattle.lock_free.specs.Storing.{HasMadeRoot}
-use Rattle.lock_free.proofs.NewRoots.{own_root_word, root_fits, root_ready, still_drafted}
+use Rattle.lock_free.proofs.RootMakes.{own_root_word, root_fits, root_ready, still_drafted}
 use Rattle.lock_free.proofs.copying.try_roots.Goals as goal
 
 pub loop-init : goal.loop-init
