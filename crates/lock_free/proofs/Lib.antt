@@ -116,6 +116,8 @@ mod CopyReads
 mod RootMakes
 mod CopyRoots
 mod OfferDrafts
+mod CopyOffers
+mod CopyTries
 mod Counts
 mod HeldEntries
 mod OnLines

@@ -1,9 +1,9 @@
 -- An offer is written in a free slot, word after word.
-use Rattle.std.proofs.Common.{◌≡◌, ◌≢◌, ◌+◌, ◌*◌, ◌<◌, ◌≤◌, ℕ, List, Contains, refl, sym, ap, subst, ◌∙◌, arith}
+use Rattle.std.proofs.Common.{◌≡◌, ◌≢◌, ◌+◌, ◌*◌, ◌<◌, ◌≤◌, ℕ, List, Contains, unwrap_or, refl, sym, ap, subst, ◌∙◌, arith}
 use Rattle.trie_words.specs.Codes.{pair_code}
 use Rattle.lock_free.specs.declared.copying.NewRoots.{NewRoots as Roots}
 use Rattle.lock_free.specs.declared.rules.View.{View}
-use Rattle.lock_free.specs.CopySteps.{HasDraftedOffer, second_name}
+use Rattle.lock_free.specs.CopySteps.{HasDraftedOffer}
 use Rattle.lock_free.specs.Making.{with_draft, others_than}
 use Rattle.lock_free.specs.Rules.{IsFree}
 use Rattle.lock_free.specs.Roots.{undecided}
@@ -23,11 +23,11 @@ drafted_more u v w word value first is =
     is ∙ ap (λ (x : View). record x { drafts = (drafted v word value).drafts }) first ∙ ap (λ (x : View). record u { drafts = x.drafts }) (sym is)
 
 pub offer_drafted : (u a b w : View) (slot root main : ℕ) (roots : Roots) → a ≡ drafted u (2 * slot) undecided → b ≡ drafted a (2 * slot + 1) (pair_code (record { low = root; high = main })) →
-    w ≡ drafted b (2 * slot + 2) (pair_code (record { low = roots.successor; high = second_name roots.second })) →
+    w ≡ drafted b (2 * slot + 2) (pair_code (record { low = roots.successor; high = unwrap_or roots.second 0 })) →
     HasDraftedOffer u slot root main roots w
 offer_drafted u a b w slot root main roots first second third =
     let olds = pair_code (record { low = root; high = main }) in
-    let news = pair_code (record { low = roots.successor; high = second_name roots.second }) in
+    let news = pair_code (record { low = roots.successor; high = unwrap_or roots.second 0 }) in
     let in_a = subst (λ (x : View). Contains x.drafts (2 * slot, undecided)) (sym first) (first_there (2 * slot, undecided) (others_than (2 * slot) u.drafts)) in
     let in_b = subst (λ (x : View). Contains x.drafts (2 * slot, undecided)) (sym second) (written_still a.drafts (2 * slot + 1) olds (2 * slot) undecided (λ e. omega (arith, e)) in_a) in
     let olds_b = subst (λ (x : View). Contains x.drafts (2 * slot + 1, olds)) (sym second) (first_there (2 * slot + 1, olds) (others_than (2 * slot + 1) a.drafts)) in

@@ -2,7 +2,7 @@
 use Rattle.history.specs.declared.calls.Call.{Call}
 use Rattle.history.specs.declared.calls.Call.TheVariants.{Clear, Snapshot}
 use Rattle.history.specs.declared.replies.Reply.TheVariants as reply
-use Rattle.std.specs.Prelude.{◌≡◌, ◌+◌, ◌*◌, ◌++◌, ◌∷◌, [], ℕ, Bool, List, Contains, Option, Some, None, if◌then◌else◌}
+use Rattle.std.specs.Prelude.{◌≡◌, ◌<◌, ◌+◌, ◌*◌, ◌++◌, ◌∷◌, [], ℕ, Bool, true, false, List, Contains, Option, Some, None, unwrap_or, if◌then◌else◌}
 use Rattle.trie_words.specs.Codes.{pair_code}
 use Rattle.machine_model.specs.Beneath.slot_arena.specs.declared.refs.Ref.{Ref}
 use Rattle.machine_model.specs.declared.copying.CopyLine.{CopyLine}
@@ -10,12 +10,15 @@ use Rattle.machine_model.specs.declared.copying.CopyLine.TheVariants as copy
 use Rattle.machine_model.specs.declared.lines.Line.{Line}
 use Rattle.machine_model.specs.declared.lines.Line.TheVariants as line
 use Rattle.machine_model.specs.declared.operations.Operation.{Operation}
+use Rattle.machine_model.specs.declared.roots.Descriptor.{Descriptor}
 use Rattle.machine_model.specs.Calls.{handle_of}
 use Rattle.machine_model.specs.Copying.{after_given, copy_after_made, offering, copied_reply}
 use Rattle.machine_model.specs.GivingUp.{copy_given_up}
 use Rattle.machine_model.specs.Lines.{new_try}
 use Rattle.machine_model.specs.Reading.{reading}
 use Rattle.machine_model.specs.Swapping.{completing}
+use Rattle.lock_free.specs.declared.copying.Copied.{Copied}
+use Rattle.lock_free.specs.declared.copying.Copied.TheVariants as copied
 use Rattle.lock_free.specs.declared.copying.CopyKind.{CopyKind}
 use Rattle.lock_free.specs.declared.copying.CopyKind.TheVariants as kind
 use Rattle.lock_free.specs.declared.copying.NewRoots.{NewRoots}
@@ -26,6 +29,7 @@ use Rattle.lock_free.specs.GoingDown.{HasMoved}
 use Rattle.lock_free.specs.HandleWords.{HasOffer}
 use Rattle.lock_free.specs.Loading.{Runs}
 use Rattle.lock_free.specs.Passing.{IsPlaced, KnowsLink, KnowsMain}
+use Rattle.lock_free.specs.RootOffers.{IsToOffer}
 use Rattle.lock_free.specs.Roots.{IsItsTry, undecided}
 use Rattle.lock_free.specs.Storing.{HasMadeRoot}
 
@@ -141,15 +145,37 @@ HasMadeRoots before k result after = (root main : Ref) → IsAtCopy before (give
 
 -- ---- its offer is written
 
-abbrev pub second_name : Option ℕ → ℕ
-second_name None = 0
-second_name (Some name) = name
-
 pub record HasDraftedOffer (before : View) (slot root main : ℕ) (roots : NewRoots) (after : View) : Type 0 where
   pub is : after ≡ record before { drafts = after.drafts }
   pub first : Contains after.drafts (2 * slot, undecided)
   pub olds : Contains after.drafts (2 * slot + 1, pair_code (record { low = root; high = main }))
-  pub news : Contains after.drafts (2 * slot + 2, pair_code (record { low = roots.successor; high = second_name roots.second }))
+  pub news : Contains after.drafts (2 * slot + 2, pair_code (record { low = roots.successor; high = unwrap_or roots.second 0 }))
+
+-- it is what it was, but for what has happened, its own slots, and what the word of its number names
+abbrev pub IsStill : View → View → Type 0
+IsStill v w = w ≡ record v { account = w.account; pool = w.pool; drafts = w.drafts; opening = w.opening }
+
+-- its operation is about to offer it, by its next try
+pub record HasPrepared (before : View) (handle root slot : ℕ) (after : View) : Type 0 where
+  pub is : IsStill before after
+  pub offers : IsToOffer after handle root slot
+  pub comes : (operation : Operation) → Runs before operation →
+      (private : List Ref) × (offer : Descriptor) × Runs after (record operation { private = private; line = line.Copy (copy.Offer offer) }) × IsItsTry (record operation { attempt = operation.attempt + 1 }) offer
+
+abbrev pub HasPreparedOrNone : View → ℕ → ℕ → Option ℕ → View → Type 0
+HasPreparedOrNone before handle root None after = HasStopped before after
+HasPreparedOrNone before handle root (Some slot) after = HasPrepared before handle root slot after
+
+-- its root is in this slot, and the main node that it has read there in that one
+abbrev pub IsReady : View → CopyKind → ℕ → ℕ → Type 0
+IsReady v k name main_name = (root : Ref) × (main : Ref) × IsAtCopy v (given_line k root main) × IsPlaced v main main_name × IsPlaced v root name
+
+-- it is on this handle, and opens that number, if it does
+pub record IsCopying (v : View) (k : CopyKind) (handle : ℕ) (opens : Option ℕ) : Type 0 where
+  pub reserved : v.opens ≡ opens
+  pub low : (number : ℕ) → opens ≡ Some number → number < 256
+  pub which : IsKind v k
+  pub on : (operation : Operation) → Runs v operation → (handle_of operation.call ≡ handle) × (operation.opens ≡ opens)
 
 -- ---- its offer is completed
 
@@ -166,3 +192,18 @@ copied_line carried operation = if carried then line.End (copied_reply operation
 
 abbrev pub HasCopied : View → Bool → View → Type 0
 HasCopied before carried after = HasMoved (copied_line carried) before after
+
+-- ---- a try as a whole
+
+-- nothing is its own any more, and it has offered once more
+abbrev pub copied_on : Bool → Operation → Operation
+copied_on carried operation = record operation { private = []; attempt = operation.attempt + 1; line = copied_line carried operation }
+
+pub record HasTried (before : View) (carried : Bool) (after : View) : Type 0 where
+  pub is : IsStill before after
+  pub comes : (operation : Operation) → Runs before operation → Runs after (copied_on carried operation)
+
+abbrev pub HasTriedCopy : View → Copied → View → Type 0
+HasTriedCopy before copied.Done after = HasTried before true after
+HasTriedCopy before copied.Again after = HasTried before false after
+HasTriedCopy before copied.Full after = HasStopped before after

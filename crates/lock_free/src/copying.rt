@@ -1,20 +1,22 @@
 //! COPY: offers a new root in the place of the old one, and completes the offer.
 
-ghost use Rattle.std.specs.Prelude.{◌≡◌, ◌++◌, ◌∷◌, ℕ, List, []};
-ghost use Rattle.lock_free.specs.CopySteps.{HasCopied, HasDraftedOffer, HasMadeRoots, HasOriginal, HasRoot, HasTriedRoot};
-ghost use Rattle.lock_free.specs.CopySteps.{IsAtCopy, IsAtOriginal, IsAtNewRoot, IsGiven, IsKind, IsToComplete};
+ghost use Rattle.std.specs.Prelude.{◌≡◌, ◌<◌, ◌++◌, ◌∷◌, ℕ, List, [], OnSome};
+ghost use Rattle.lock_free.specs.CopySteps.{HasCopied, HasDraftedOffer, HasMadeRoots, HasOriginal, HasPreparedOrNone, HasRoot, HasTriedCopy, HasTriedRoot};
+ghost use Rattle.lock_free.specs.CopySteps.{IsAtCopy, IsAtOriginal, IsAtNewRoot, IsCopying, IsGiven, IsKind, IsReady, IsToComplete};
 ghost use Rattle.lock_free.specs.declared.copying.CopyKind.TheVariants as kind;
 ghost use Rattle.machine_model.specs.declared.copying.CopyLine.TheVariants as copy;
 ghost use Rattle.machine_model.specs.Beneath.slot_arena.specs.declared.refs.Ref.{Ref as ARef};
 ghost use Rattle.lock_free.specs.Loading.{IsSound};
 ghost use Rattle.lock_free.specs.Passing.{IsOnWay};
 ghost use Rattle.lock_free.specs.Rules.{pool_of, IsFree};
-ghost use Rattle.lock_free.specs.Stocks.{IsStock};
+ghost use Rattle.lock_free.specs.Stocks.{HasRoom, IsStock};
 
 use crate::loads::{Actor, Words};
 use crate::makes::make_branch;
+use crate::numbers::name;
 use crate::offers::UNDECIDED;
 use crate::reading::{AsksRoot, Given, Way, read};
+use crate::root_offers::offer;
 use crate::rooting::complete_offer;
 use crate::stock::{Stock, take};
 use crate::stores::{GENERATION, draft, make_root};
@@ -33,6 +35,17 @@ pub enum CopyKind {
     Snapshot,
     /// None: all keys are removed.
     Clear,
+}
+
+/// What a try of a copy comes to.
+#[derive(Clone, Copy, Drop)]
+pub enum Copied {
+    /// It was carried out, and the operation is to end.
+    Done,
+    /// It wasn't, and the operation is to begin anew, with the root.
+    Again,
+    /// A slot or a generation was missing. Nothing of it is known to anybody, and the operation may give up.
+    Full,
 }
 
 /// The roots that an operation has made for a copy, by their slots.
@@ -256,6 +269,40 @@ fn draft_offer(
     draft(words, actor, 2 * slot as usize + 2, news.to_word());
 }
 
+/// Makes the roots of a copy, writes the offer of them in the place of the root in this slot, which has that main node, and lets the
+/// word of the number that it opens name it. Returns the slot in which it is written, or none where a slot or a generation is missing.
+fn prepare<R: Wait>(
+    rt: &R,
+    words: &Words,
+    actor: &mut Actor,
+    stock: &mut Stock,
+    which: CopyKind,
+    handle: u16,
+    opens: Option<u16>,
+    root: u32,
+    main: u32,
+) -> Option<u32>
+    requires table { actor.old.table_id ≡ words.now.table_id }
+    requires sound { IsSound words.now.table_id.words actor.old.me.0 }
+    requires stock { IsStock stock.old actor.old.me.0 }
+    requires copying { IsCopying actor.old.me.0 which handle opens }
+    requires ready { IsReady actor.old.me.0 which root main }
+    ensures table { actor.new.table_id ≡ actor.old.table_id }
+    ensures sound { IsSound words.now.table_id.words actor.new.me.0 }
+    ensures stock { IsStock stock.new actor.new.me.0 }
+    ensures room { OnSome result (HasRoom stock.new 1) }
+    ensures prepared { HasPreparedOrNone actor.old.me.0 handle root result actor.new.me.0 }
+{
+    let roots = make_roots(rt, words, actor, stock, which, main)?;
+    let slot = take(rt, words, actor, stock, 1)?;
+    draft_offer(words, actor, slot, root, main, roots);
+    match opens {
+        Some(number) => name(words, actor, number, slot),
+        None => {}
+    }
+    Some(slot)
+}
+
 /// Completes the seat's own offer, which stands in this slot. Returns whether it was carried out, by this seat or another.
 pub fn complete_own<R: Wait, A: AsksRoot>(
     rt: &R,
@@ -274,4 +321,48 @@ pub fn complete_own<R: Wait, A: AsksRoot>(
     ensures copied { HasCopied actor.old.me.0 result actor.new.me.0 }
 {
     complete_offer(rt, asker, words, actor, way, slot)
+}
+
+/// A try of a copy on a handle that may be written, from its root, which is in this slot: new roots are made, and an offer of them comes
+/// to stand and is completed.
+pub fn try_copy<R: Wait, A: AsksRoot>(
+    rt: &R,
+    asker: &A,
+    words: &Words,
+    actor: &mut Actor,
+    stock: &mut Stock,
+    way: Way,
+    which: CopyKind,
+    opens: Option<u16>,
+    root: u32,
+) -> Copied
+    requires table { actor.old.table_id ≡ words.now.table_id }
+    requires sound { IsSound words.now.table_id.words actor.old.me.0 }
+    requires stock { IsStock stock.old actor.old.me.0 }
+    requires way { IsOnWay actor.old.me.0 way }
+    requires low { way.handle < 256 }
+    requires copying { IsCopying actor.old.me.0 which way.handle opens }
+    requires at { IsAtOriginal actor.old.me.0 root }
+    ensures table { actor.new.table_id ≡ actor.old.table_id }
+    ensures sound { IsSound words.now.table_id.words actor.new.me.0 }
+    ensures stock { IsStock stock.new actor.new.me.0 }
+    ensures tried { HasTriedCopy actor.old.me.0 result actor.new.me.0 }
+{
+    let given = read_original(rt, asker, words, actor, way, root);
+    let main = given.link.main.slot;
+    let slot = match prepare(rt, words, actor, stock, which, way.handle, opens, root, main) {
+        None => return Copied::Full,
+        Some(slot) => slot,
+    };
+    if !offer(rt, words, actor, way.handle, root, slot) {
+        stock.give_back();
+        return Copied::Again;
+    }
+    stock.note(1);
+    stock.hand_over();
+    if complete_own(rt, asker, words, actor, way, slot) {
+        Copied::Done
+    } else {
+        Copied::Again
+    }
 }

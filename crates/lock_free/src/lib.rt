@@ -32,7 +32,7 @@ pub use accounts::{Account, Known, Owned};
 pub use asking::{Named, ask_word, see_generation};
 pub use calling::{Denial, Started, begin, give_up};
 pub use closing::{Shut, close_handle};
-pub use copying::{CopyKind, NewRoots, complete_own, make_new_root, read_original};
+pub use copying::{Copied, CopyKind, try_copy};
 pub use entries::see_entries;
 pub use exchanges::{decide, publish, restore};
 pub use finding::{Entered, Level, Met, go_down};
