@@ -1,7 +1,7 @@
 -- A load of a handle's word begins the operation for which the seat has pinned itself, where the handle is open for it.
 use Rattle.history.specs.declared.calls.Access.TheVariants.{Writable, ReadOnly}
 use Rattle.history.specs.declared.calls.Call.{Call}
-use Rattle.std.proofs.Common.{◌≡◌, ◌<◌, ◌≤◌, ◌^◌, ℕ, zero, suc, Bool, true, false, List, [], ◌∷◌, get_or, set, slice_index, is_some, not, Option, Some, None, refl, sym, ap, subst, ◌∙◌, arith, ne_eqb}
+use Rattle.std.proofs.Common.{◌≡◌, ◌<◌, ◌≤◌, ◌^◌, ℕ, zero, suc, Bool, true, false, List, [], ◌∷◌, get_or, set, slice_index, is_some, not, Option, Some, None, Result, Ok, Err, refl, sym, ap, subst, ◌∙◌, arith, ne_eqb}
 use Rattle.std.specs.Prelude.{◌&&◌, ◌||◌, ◌++◌, unwrap_or, if◌then◌else◌}
 use Rattle.std.specs.List.{list_any}
 use Rattle.std.proofs.lemmas.Bool.{lt-ltb}
@@ -30,8 +30,8 @@ use Rattle.lock_free.specs.declared.rules.View.{View}
 use Rattle.lock_free.specs.declared.sizes.Sizes.{Sizes}
 use Rattle.lock_free.specs.Accounts.{past_of, state_of}
 use Rattle.lock_free.specs.Beginning.{Begins}
-use Rattle.lock_free.specs.Calling.{IsBeginner, access_in, once_begun, refusal_of, runs_unless, started_by, HasBegun, HasStarted, has_started}
-use Rattle.lock_free.specs.HandleWords.{TellsRoot}
+use Rattle.lock_free.specs.Calling.{IsBeginner, access_in, once_begun, refusal_of, runs_unless, started_by, HasBegun, HasTriedToStart, has_started}
+use Rattle.lock_free.specs.HandleWords.{is_marked, TellsRoot}
 use Rattle.lock_free.specs.Loading.{IsSound, Saw}
 use Rattle.lock_free.specs.Places.{root_word, words_of}
 use Rattle.lock_free.specs.Roots.{MeansRoot, SaysRoot}
@@ -118,21 +118,21 @@ module _ (v : View) (call : Call) (b : IsBeginner v call) (low : handle_of call 
 
   -- ---- what comes of it
 
-  abbrev Starts : Started → Type 0
+  abbrev Starts : Result Started RootWord → Type 0
   Starts result =
-      (x : View) × IsKept v.sizes (record { words = s.words; homes = s.homes; views = set s.views id x }) × HasStarted v call result x × IsSound (words_of v.sizes) x
+      (x : View) × IsKept v.sizes (record { words = s.words; homes = s.homes; views = set s.views id x }) × HasTriedToStart v call result x × IsSound (words_of v.sizes) x
 
   abbrev saw : Saw v (seen_view v s kept id at)
   saw = record { account = there; waited = waited_so v s kept id at; after_is = refl }
 
-  denied : (why : Denial) → begin_denial state v.actor call v.opens ≡ Some (refusal_of why) → Starts (started.Denied why)
+  denied : (why : Denial) → begin_denial state v.actor call v.opens ≡ Some (refusal_of why) → Starts (Ok (started.Denied why))
   denied why is = (seen_view v s kept id at, seen_kept v s kept id at, (saw, is), saw.waited.sound)
 
   tells : (w : RootWord) → SaysRoot there s.words handle w (root_at state handle) → TellsRoot v.sizes there handle w
   tells w says = tells_by v.sizes there s.words kept.taken kept.roots.blocks handle w says
 
-  closing : (w : RootWord) → IsRootWord w → SaysRoot there s.words handle w (root_at state handle) → Starts (started.Closing w)
-  closing w fits says = (seen_view v s kept id at, seen_kept v s kept id at, (saw, fits, tells w says), saw.waited.sound)
+  closing : (w : RootWord) → IsRootWord w → is_marked w ≡ true → SaysRoot there s.words handle w (root_at state handle) → Starts (Err w)
+  closing w fits marked says = (seen_view v s kept id at, seen_kept v s kept id at, ((saw, fits, tells w says), marked), saw.waited.sound)
 
   -- the handle is open, and nobody would close it
   module _ (w : RootWord) (fits : IsRootWord w) (code : found ≡ root_code w) (says : SaysRoot there s.words handle w (root_at state handle)) (few : kind w < 6) (root : Root)
@@ -163,7 +163,7 @@ module _ (v : View) (call : Call) (b : IsBeginner v call) (low : handle_of call 
           let all = all_then v.sizes s kept id v at (taken.Begin v.actor call v.opens) call begins idle in
           record { size = refl; range = kept.range.within; bounds = all.bounds; keys = all.keys; counted = all.counted; inside = all.nodes.inside; free = free_inside v s kept id at }
 
-      runs : Starts (started.Runs w)
+      runs : Starts (Ok (started.Runs w))
       runs = (
         once_begun v call there,
         begin_kept v.sizes s kept id v at (taken.Begin v.actor call v.opens) call begins idle b.pin b.pinned b.its low (ap is_some is_open) (λ who h. not_closing w who fits few (subst (λ n. SaysClosing n who) code h)),
@@ -185,8 +185,8 @@ module _ (v : View) (call : Call) (b : IsBeginner v call) (low : handle_of call 
   starts_by word.Closed fits code says = denied denial.NoHandle (no_handle v.sizes s kept id v at idle call v.opens says)
   starts_by word.Reserved fits code says = denied denial.NoHandle (no_handle v.sizes s kept id v at idle call v.opens says)
   starts_by (word.Opening slot) fits code says = (seen_view v s kept id at, seen_kept v s kept id at, (saw, fits, tells (word.Opening slot) says), saw.waited.sound)
-  starts_by (word.ClosingWritable root who) fits code says = closing (word.ClosingWritable root who) fits says
-  starts_by (word.ClosingReadOnly root who) fits code says = closing (word.ClosingReadOnly root who) fits says
+  starts_by (word.ClosingWritable root who) fits code says = closing (word.ClosingWritable root who) fits refl says
+  starts_by (word.ClosingReadOnly root who) fits code says = closing (word.ClosingReadOnly root who) fits refl says
   starts_by (word.Writable slot) fits code says = writable (word.Writable slot) fits code says (omega arith) _ says.is refl refl (needs_read_only call) refl
   starts_by (word.Offered slot) fits code says = writable (word.Offered slot) fits code says (omega arith) _ says.is refl refl (needs_read_only call) refl
   starts_by (word.ReadOnly slot) fits code says = readable (word.ReadOnly slot) fits code says (omega arith) _ says.is refl refl (needs_writable call) refl
@@ -202,12 +202,11 @@ pub begin_step_allowed : (sizes : Sizes) (size id : ℕ) (me : Me Call View) (ca
     Allows (IsKept sizes) size id me (root_word (handle_of call)) (λ n. n) (has_started (step size (root_word (handle_of call)) 0 0 none) me)
 begin_step_allowed sizes size id me call b low key =
     allowed sizes size id me (root_word (handle_of call)) (λ n. n) (has_started (step size (root_word (handle_of call)) 0 0 none) me)
-    (λ s kept at. (let x = starts me.0 call b low key s kept id at in
-    (
+    (λ s kept at. (let x = starts me.0 call b low key s kept id at in (
       x.0,
       subst (λ ws. IsKept me.0.sizes (record { words = ws; homes = s.homes; views = set s.views id x.0 })) (sym (set-get_or s.words (root_word (handle_of call)) 0)) x.1,
       (
-        λ other asks is. subst (λ o. HasStarted me.0 o (started_by (root_of (slice_index s.words (root_word (handle_of call)))) o) x.0) (same_Some call other (sym b.asks ∙ asks)) x.2,
+        λ other asks is. subst (λ o. HasTriedToStart me.0 o (started_by (root_of (slice_index s.words (root_word (handle_of call)))) o) x.0) (same_Some call other (sym b.asks ∙ asks)) x.2,
         x.3,
         refl,
       ),

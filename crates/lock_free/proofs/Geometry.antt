@@ -76,7 +76,7 @@ end_inside sizes words have (suc zero) name small t = let h = inside sizes words
 end_inside sizes words have (suc (suc zero)) name small t = let h = inside sizes words have 2 name (2 * name + 23) small t (record { low = omega arith; high = omega arith }) in omega (arith, h)
 end_inside sizes words have (suc (suc (suc class))) name small t = absurd (omega (arith, small))
 
-next_root : (handle : ℕ) → root_word (suc handle) ≡ 87 + suc handle
+pub next_root : (handle : ℕ) → root_word (suc handle) ≡ 87 + suc handle
 next_root handle = ap (λ b. if b then 80 else 87 + suc handle) (ne_eqb (suc handle) 0 (λ e. omega (arith, e)))
 
 pub root_below : (handle : ℕ) → handle < 256 → (79 < root_word handle) × (root_word handle < 343)

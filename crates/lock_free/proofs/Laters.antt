@@ -66,7 +66,7 @@ module _ (n : ℕ) (v : View) (sound : IsSound n v) where
       owns = owns_then;
       nodes = λ r slot is. nodes_stay v.sizes v.actor v.account account w.waited w.sound.bounds (slot_of r) slot is;
       goes_on = (w.waited.steps, w.waited.goes_on);
-      offers = λ k c. subst (λ xs. Contains xs k) (sym w.waited.more_offers) (Contains-append_right w.waited.offers v.account.offers k c);
+      offers = offers_then;
     }
 
   pub saw_later : (after : View) (s : Saw v after) → Later v after

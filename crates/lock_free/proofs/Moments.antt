@@ -192,6 +192,7 @@ module _ (v : View) (s : Table.State Call View) (kept : IsKept v.sizes s) (id : 
     most = seat.most;
     waited = waited_none v.actor there;
     counts = kept.counted;
+    rested = λ a above below. waited_none a there;
     rests = seat.rests;
     pinned = seat.pinned;
     entered = seat.entered;

@@ -1,26 +1,23 @@
 -- A seat that is to offer still is so once it has seen more happen, and what comes of it is what would have come of it before.
-use Rattle.std.proofs.Common.{◌≡◌, ◌++◌, ℕ, Bool, true, false, Contains, All, Some, refl, sym, ap, subst, ◌∙◌, append_assoc}
+use Rattle.std.proofs.Common.{◌≡◌, ◌++◌, ℕ, Bool, true, false, Contains, refl, sym, ap, subst, ◌∙◌, append_assoc}
 use Rattle.std.proofs.lemmas.List.Elements.{All-append}
 use Rattle.machine_model.specs.Beneath.slot_arena.specs.declared.refs.Ref.{Ref}
 use Rattle.machine_model.specs.declared.actions.Action.{Action}
 use Rattle.machine_model.specs.declared.actions.Action.TheVariants as act
-use Rattle.machine_model.specs.declared.operations.Operation.{Operation}
 use Rattle.machine_model.specs.declared.roots.Descriptor.{Descriptor}
 use Rattle.machine_model.specs.Calls.{handle_of}
 use Rattle.trie_words.specs.declared.roots.RootWord.{RootWord}
 use Rattle.trie_words.specs.declared.roots.RootWord.TheVariants as word
 use Rattle.lock_free.specs.declared.accounts.Account.{Account}
-use Rattle.lock_free.specs.declared.accounts.Known.{Known}
 use Rattle.lock_free.specs.declared.rules.View.{View}
 use Rattle.lock_free.specs.Accounts.{HasWaited, IsOfOther, place_of}
 use Rattle.lock_free.specs.Fates.{HasSettled}
 use Rattle.lock_free.specs.HandleWords.{HasOffer, HasSeenRoot, TellsRoot}
-use Rattle.lock_free.specs.Loading.{now, seen, IsAt, IsSound, Runs, Saw, Waited}
+use Rattle.lock_free.specs.Loading.{seen, IsAt, IsSound, Saw, Waited}
 use Rattle.lock_free.specs.Making.{refs_of_offer}
 use Rattle.lock_free.specs.OfferWords.{outcome_by}
 use Rattle.lock_free.specs.Passing.{Later}
-use Rattle.lock_free.specs.Places.{words_of}
-use Rattle.lock_free.specs.RootOffers.{IsToOffer, TookOffer, HasMissed, HasOffered, HasMadeWay, HasOfferedOrMissed, MeetsOffer}
+use Rattle.lock_free.specs.RootOffers.{IsToOffer, TookOffer, HasMissed, HasOffered, MeetsOffer}
 use Rattle.lock_free.specs.Rooting.{IsSettledAt}
 use Rattle.lock_free.specs.RootWords.{HasSeenSettled}
 use Rattle.lock_free.proofs.Asked.{live_in_use}
@@ -84,8 +81,7 @@ module _ (u : View) (a : Account) (first : Waited u a) where
   to_offer_from n handle root slot sound (offer, rest, p, w, on) =
       let later : Later u v = waited_later n u sound a first in
       let same : (r : Ref) → Contains (refs_of_offer offer) r → place_of a r ≡ place_of u.account r =
-      λ r c. (let used = live_in_use u.sizes u.account sound.bounds r (offer_lives u root slot offer rest p w r c) in later.places r used.0 used.1) in
-      (
+      λ r c. (let used = live_in_use u.sizes u.account sound.bounds r (offer_lives u root slot offer rest p w r c) in later.places r used.0 used.1) in (
         offer,
         rest,
         at_since (act.Offer offer) p,
@@ -118,8 +114,7 @@ pub settled_at : (before after : View) (n handle slot k : ℕ) (carried : Bool) 
     HasSeenSettled before slot k after → IsSettledAt after handle slot carried
 settled_at before after n handle slot k carried sound has is (s, settled) =
     let later = waited_later n before sound s.account s.waited in
-    subst (λ x. IsSettledAt x handle slot carried) (sym s.after_is)
-    (
+    subst (λ x. IsSettledAt x handle slot carried) (sym s.after_is) (
       record { its = has.its; here = later.offers has.its has.here; place = has.place; on = has.on; inside = has.inside },
       subst (λ m. HasSettled before.sizes s.account has.its m) (sym is) (settled has.its has.here has.place),
     )

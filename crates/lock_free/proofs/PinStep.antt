@@ -17,8 +17,8 @@ use Rattle.lock_free.specs.Accounts.{state_of}
 use Rattle.lock_free.specs.Loading.{IsSound}
 use Rattle.lock_free.specs.Places.{pin_word}
 use Rattle.lock_free.specs.Rules.{IsKept, pin_word_of}
-use Rattle.lock_free.specs.SeatWords.{IsIdle, asking, unpinned, has_asked, has_unpinned}
-use Rattle.lock_free.proofs.CallSaid.{asks_kept}
+use Rattle.lock_free.specs.SeatWords.{IsIdle, pinned_for, unpinned, has_pinned, has_unpinned}
+use Rattle.lock_free.proofs.PinnedFor.{asks_kept}
 use Rattle.lock_free.proofs.Assembling.{here}
 use Rattle.lock_free.proofs.Exchanged.{words_hit}
 use Rattle.lock_free.proofs.Moments.{allowed}
@@ -50,25 +50,25 @@ module _ (v : View) (idle : IsIdle v) (s : Table.State Call View) (kept : IsKept
   pub unpins : Pinned None (unpinned v)
   unpins = pin_kept v.sizes s kept id v at (idle_there v s kept id at idle) None
 
-  pub asks : (pin : Pin) (call : Call) → Pinned (Some pin) (asking v pin call)
+  pub asks : (pin : Pin) (call : Call) → Pinned (Some pin) (pinned_for v pin call)
   asks pin call =
       let pinned = record v { pin = Some pin; entered = None } in
       let first = pin_kept v.sizes s kept id v at (idle_there v s kept id at idle) (Some pin) in
-      subst (λ views. IsKept v.sizes (record { words = set s.words (pin_word v.actor) (pin_code pin); homes = s.homes; views = views })) (set-set s.views id pinned (asking v pin call))
+      subst (λ views. IsKept v.sizes (record { words = set s.words (pin_word v.actor) (pin_code pin); homes = s.homes; views = views })) (set-set s.views id pinned (pinned_for v pin call))
       (asks_kept v.sizes (record { words = set s.words (pin_word v.actor) (pin_code pin); homes = s.homes; views = set s.views id pinned }) first id pinned
       (here v.sizes s kept id v at pinned refl refl) (Some call))
 
 -- its word says that it isn't pinned
 pub pin_allowed : (sizes : Sizes) (size id : ℕ) (me : Me Call View) (pin : Pin) (call : Call) → IsPin pin → IsIdle me.0 → me.0.pin ≡ None →
-    Allows (IsKept sizes) size id me (pin_word me.0.actor) (λ n. either (n == 0) (pin_code pin) n) (has_asked (step size (pin_word me.0.actor) 0 (pin_code pin) (some call)) me)
+    Allows (IsKept sizes) size id me (pin_word me.0.actor) (λ n. either (n == 0) (pin_code pin) n) (has_pinned (step size (pin_word me.0.actor) 0 (pin_code pin) (some call)) me)
 pin_allowed sizes size id me pin call fits idle free =
-    allowed sizes size id me (pin_word me.0.actor) (λ n. either (n == 0) (pin_code pin) n) (has_asked (step size (pin_word me.0.actor) 0 (pin_code pin) (some call)) me)
+    allowed sizes size id me (pin_word me.0.actor) (λ n. either (n == 0) (pin_code pin) n) (has_pinned (step size (pin_word me.0.actor) 0 (pin_code pin) (some call)) me)
     (λ s kept at. (
-      asking me.0 pin call,
-      subst (λ ws. IsKept me.0.sizes (record { words = ws; homes = s.homes; views = set s.views id (asking me.0 pin call) }))
+      pinned_for me.0 pin call,
+      subst (λ ws. IsKept me.0.sizes (record { words = ws; homes = s.homes; views = set s.views id (pinned_for me.0 pin call) }))
           (words_hit me.0 s kept id at (pin_word me.0.actor) 0 (pin_code pin) ((kept.seats id me.0 at).pinned ∙ ap pin_word_of free) (pin_word me.0.actor) refl)
           (asks me.0 idle s kept id at pin call),
-      λ other said back is. ap (λ p. (asking me.0 p call, me.1)) (same_Some pin other (sym (pin_back pin fits) ∙ back)) ∙ ap (λ c. (asking me.0 other c, me.1)) (some-injective call said is),
+      λ other said back is. ap (λ p. (pinned_for me.0 p call, me.1)) (same_Some pin other (sym (pin_back pin fits) ∙ back)) ∙ ap (λ c. (pinned_for me.0 other c, me.1)) (some-injective call said is),
     ))
 
 pub unpin_allowed : (sizes : Sizes) (size id : ℕ) (me : Me Call View) → IsIdle me.0 →
@@ -78,7 +78,7 @@ unpin_allowed sizes size id me idle =
     (λ s kept at. (unpinned me.0, unpins me.0 idle s kept id at, refl))
 
 -- what is sound stays so
-pub pin_sound : (words : ℕ) (v : View) (pin : Pin) (call : Call) → IsSound words v → IsSound words (asking v pin call)
+pub pin_sound : (words : ℕ) (v : View) (pin : Pin) (call : Call) → IsSound words v → IsSound words (pinned_for v pin call)
 pin_sound words v pin call h = record { size = h.size; range = h.range; bounds = h.bounds; keys = h.keys; counted = h.counted; inside = h.inside; free = h.free }
 
 pub unpin_sound : (words : ℕ) (v : View) → IsSound words v → IsSound words (unpinned v)

@@ -61,7 +61,7 @@ module _ (sizes : Sizes) (s : Table.State Call View) (kept : IsKept sizes s) (id
 
   own_then : IsSeat sizes kept.account kept.stands words_then view_then
   own_then =
-      own_else sizes s kept id v at kept.account kept.stands words_then stays v.account seat.waited seat.counts pin None v.closing v.opens v.opening
+      own_else sizes s kept id v at kept.account kept.stands words_then stays v.account seat.waited seat.rested seat.counts pin None v.closing v.opens v.opening
       (root.at_p sizes kept.account kept.stands s.words all v.actor seat.low most (pin_word_of pin)) (λ g e. absurd (none-some g e)) (λ o e. absurd (none-some o (sym idle ∙ e))) (held id v at)
       seat.reserves
       (λ g slot o n. (let x = seat.opening g slot o n in names_kept sizes s kept id v at kept.account kept.stands words_then stays v view_then g slot x (root_same g x.low) x.free))

@@ -138,7 +138,7 @@ module _ (sizes : Sizes) (s : Table.State Call View) (kept : IsKept sizes s) (id
       own_by : (numbers : (g : ℕ) → Reserves now view_then g → IsHeld now words_then g) → ((p : Operation) → operation_of now v.actor ≡ Some p → opens ≡ p.opens) →
           ((g slot : ℕ) → opens ≡ Some g → opening ≡ Some slot → Names words_then view_then g slot) → IsSeat sizes kept.account kept.stands words_then view_then
       own_by numbers reserves_then names =
-          own_else sizes s kept id v at kept.account kept.stands words_then stays v.account seat.waited seat.counts v.pin v.entered v.closing opens opening
+          own_else sizes s kept id v at kept.account kept.stands words_then stays v.account seat.waited seat.rested seat.counts v.pin v.entered v.closing opens opening
           (pin_same v.actor seat.low ∙ seat.pinned) seat.entered seat.calls
           numbers reserves_then names (λ b name free. stays_spare id v b name at free)
 

@@ -89,7 +89,7 @@ module _ (sizes : Sizes) (s : Table.State Call View) (kept : IsKept sizes s) (id
 
   own_then : IsSeat sizes kept.account kept.stands words_then (reserving v o)
   own_then =
-      own_else sizes s kept id v at kept.account kept.stands words_then stays v.account seat.waited seat.counts v.pin v.entered v.closing (Some o) None
+      own_else sizes s kept id v at kept.account kept.stands words_then stays v.account seat.waited seat.rested seat.counts v.pin v.entered v.closing (Some o) None
       (pin_same v.actor seat.low ∙ seat.pinned) seat.entered (λ p e. absurd (none-some p (sym idle ∙ e))) (λ g r. held_own g r.0) (λ p e. absurd (none-some p (sym idle ∙ e)))
       (λ g slot p n. absurd (none-some slot n)) (λ b name free. spare id v b name at free)
 

@@ -1,6 +1,6 @@
 -- The load by which the root of a handle is asked for is the operation's step, where the word names the root.
 use Rattle.history.specs.declared.calls.Call.{Call}
-use Rattle.std.proofs.Common.{◌≡◌, ◌<◌, ◌++◌, ◌∷◌, [], ℕ, List, Contains, set, slice_index, Some, None, refl, sym, ap, subst, ◌∙◌, arith}
+use Rattle.std.proofs.Common.{◌≡◌, ◌<◌, ◌∷◌, [], ℕ, Contains, set, slice_index, refl, sym, ap, subst, ◌∙◌, arith}
 use Rattle.std.proofs.lemmas.List.{set-get_or}
 use Rattle.std.proofs.lemmas.List.Elements.{Contains-get_or}
 use mathlib.Core.Option.{some, none}
@@ -12,14 +12,13 @@ use Rattle.trie_words.specs.declared.roots.RootWord.{RootWord as HandleWord}
 use Rattle.trie_words.specs.declared.roots.RootWord.TheVariants as word
 use Rattle.history.specs.declared.calls.Access.{Access}
 use Rattle.history.specs.declared.calls.Access.TheVariants.{Writable, ReadOnly}
-use Rattle.machine_model.specs.Beneath.slot_arena.specs.declared.refs.Ref.{Ref}
 use Rattle.machine_model.specs.Beneath.slot_arena.specs.Refs.{slot_of}
 use Rattle.machine_model.specs.declared.actions.Action.TheVariants as act
 use Rattle.machine_model.specs.declared.operations.Operation.{Operation}
-use Rattle.machine_model.specs.declared.roots.RootWord.TheVariants.{Plain}
 use Rattle.machine_model.specs.declared.steps.Step.TheVariants as taken
 use Rattle.machine_model.specs.Contents as contents
 use Rattle.machine_model.specs.Counting.{refs_of_root}
+use Rattle.machine_model.specs.Moves.{GoesOn}
 use Rattle.machine_model.specs.Operations.{action_of}
 use Rattle.machine_model.specs.States.{State, root_at}
 use Rattle.lock_free.specs.declared.accounts.Account.{Account}
@@ -27,19 +26,25 @@ use Rattle.lock_free.specs.declared.asking.Named.{Named}
 use Rattle.lock_free.specs.declared.asking.Named.TheVariants as named
 use Rattle.lock_free.specs.declared.rules.View.{View}
 use Rattle.lock_free.specs.declared.sizes.Sizes.{Sizes}
-use Rattle.lock_free.specs.Accounts.{state_of, running, gone_on}
-use Rattle.lock_free.specs.HandleWords.{HasOffer, TellsRoot}
-use Rattle.lock_free.specs.Loading.{Moment, now, seen, HasGone, HasSeen, IsSound, SameSlots, Went}
+use Rattle.lock_free.specs.Accounts.{state_of, gone_on}
+use Rattle.lock_free.specs.HandleWords.{TellsRoot}
+use Rattle.lock_free.specs.Loading.{now, seen, HasGone, HasSeen, IsSound, SameSlots}
 use Rattle.lock_free.specs.Places.{root_word, words_of}
-use Rattle.lock_free.specs.Roots.{MeansRoot, SaysRoot, SaysPlain, open_with}
-use Rattle.lock_free.specs.RootWords.{AsksAt, IsRootAt, HasFoundRoot, HasAskedRoot, LoadedAs, has_found_root, named_by}
+use Rattle.lock_free.specs.Roots.{MeansRoot, SaysRoot, SaysPlain}
+use Rattle.lock_free.specs.RootWords.{AsksAt, IsRootAt, HasFoundRoot, HasAskedRoot, LoadedAs, has_asked, named_by}
 use Rattle.lock_free.specs.Rules.{IsKept}
 use Rattle.lock_free.proofs.Definition.{IsReading}
 use Rattle.lock_free.proofs.Looking.{saw, same_slots, went}
 use Rattle.lock_free.proofs.Moments.{allowed, seen_view, seen_kept, waited_so, gone_view, gone_kept, gone_sound, gone_took}
+use Rattle.lock_free.proofs.OneStep.Handled.{handle_low}
 use Rattle.lock_free.proofs.OneStep.Roots.{root_is_link}
 use Rattle.lock_free.proofs.RootCodes.{root_back}
 use Rattle.lock_free.proofs.SeenRoots.{root_told}
+
+-- its handle is one of the machine's
+pub asks_low : (n : ℕ) (v : View) → IsSound n v → (handle : ℕ) → AsksAt v handle → handle < 256
+asks_low n v sound handle asks =
+    subst (λ h. h < 256) asks.on (handle_low v.sizes v.account sound.bounds v.actor asks.acts.operation asks.acts.runs (subst GoesOn (sym asks.acts.acts) tt))
 
 module _ (v : View) (handle : ℕ) (asks : AsksAt v handle) (s : Table.State Call View) (kept : IsKept v.sizes s) (id : ℕ) (at : get_elem? s.views id ≡ some v) where
   abbrev found : ℕ
@@ -71,9 +76,9 @@ module _ (v : View) (handle : ℕ) (asks : AsksAt v handle) (s : Table.State Cal
   asks_as named.Nothing = (seen_view v s kept id at, saw_it)
 
 pub ask_allowed : (sizes : Sizes) (size id : ℕ) (me : Me Call View) (handle : ℕ) → AsksAt me.0 handle →
-    Allows (IsKept sizes) size id me (root_word handle) (λ n. n) (has_found_root (step size (root_word handle) 0 0 none) me)
+    Allows (IsKept sizes) size id me (root_word handle) (λ n. n) (has_asked (step size (root_word handle) 0 0 none) me)
 ask_allowed sizes size id me handle asks =
-    allowed sizes size id me (root_word handle) (λ n. n) (has_found_root (step size (root_word handle) 0 0 none) me)
+    allowed sizes size id me (root_word handle) (λ n. n) (has_asked (step size (root_word handle) 0 0 none) me)
     (λ s kept at. (let x = asks_as me.0 handle asks s kept id at (named_by (root_of (slice_index s.words (root_word handle)))) in (
       x.0,
       subst (λ ws. IsKept me.0.sizes (record { words = ws; homes = s.homes; views = set s.views id x.0 })) (sym (set-get_or s.words (root_word handle) 0)) x.1.0,

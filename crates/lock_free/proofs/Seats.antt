@@ -101,6 +101,7 @@ module _ (sizes : Sizes) (s : Table.State Call View) (kept : IsKept sizes s) (id
           most = h.most;
           waited = stays.waits w.actor w.account differs h.waited;
           counts = h.counts;
+          rested = λ a above below. stays.waits a w.account (not_mine a (omega (arith, above), below)) (h.rested a above below);
           rests = λ a above below.
               (let r = h.rests a above below in
               let its = not_mine a (omega (arith, above), below) in
@@ -138,6 +139,7 @@ module _ (sizes : Sizes) (s : Table.State Call View) (kept : IsKept sizes s) (id
             most = h.most;
             waited = waited_none v.actor account;
             counts = counted;
+            rested = λ a above below. waited_none a account;
             rests = λ a above below.
                 (let r = h.rests a above below in
                 let its : a ≢ v.actor = λ is. absurd (omega (arith, above, is)) in
@@ -155,7 +157,7 @@ module _ (sizes : Sizes) (s : Table.State Call View) (kept : IsKept sizes s) (id
           }
 
     -- and the seat itself, where it pins itself, enters a handle, would close one, or reserves a number
-    module _ (first : Account) (waited : HasWaited v.actor first account) (counted : length first.names ≡ (state_of sizes first).heap.births) (pin : Option Pin) (entered : Option ℕ)
+    module _ (first : Account) (waited : HasWaited v.actor first account) (rested : (a : ℕ) → v.actor < a → a ≤ v.last → HasWaited a first account) (counted : length first.names ≡ (state_of sizes first).heap.births) (pin : Option Pin) (entered : Option ℕ)
         (closing : List Closing)
         (opens : Option ℕ) (opening : Option ℕ) where
       abbrev pub seat_else : View
@@ -178,6 +180,7 @@ module _ (sizes : Sizes) (s : Table.State Call View) (kept : IsKept sizes s) (id
               most = h.most;
               waited = waited;
               counts = counted;
+              rested = rested;
               rests = λ a above below.
                   (let r = h.rests a above below in
                   let its : a ≢ v.actor = λ is. absurd (omega (arith, above, is)) in
@@ -213,6 +216,7 @@ module _ (sizes : Sizes) (s : Table.State Call View) (kept : IsKept sizes s) (id
         most = h.most;
         waited = h.waited;
         counts = h.counts;
+        rested = h.rested;
         rests = λ a above below. (let r = h.rests a above below in (r.0, stays.pins a (omega (arith, above, h.low)) (omega (arith, below, h.most)) (λ is. absurd (omega (arith, above, is))) ∙ r.1));
         pinned = own_pin ∙ h.pinned;
         entered = h.entered;

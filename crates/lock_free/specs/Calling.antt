@@ -4,7 +4,7 @@ use Rattle.history.specs.declared.calls.Access.TheVariants.{Writable, ReadOnly}
 use Rattle.history.specs.declared.calls.Call.{Call}
 use Rattle.history.specs.declared.events.Event.TheVariants as event
 use Rattle.history.specs.declared.replies.Reply.{Reply}
-use Rattle.std.specs.Prelude.{◌≡◌, ◌++◌, ◌∷◌, [], ℕ, List, Bool, true, false, is_some, Some, None}
+use Rattle.std.specs.Prelude.{◌≡◌, ◌++◌, ◌∷◌, [], ℕ, List, Bool, true, false, is_some, Some, None, Result, Ok, Err}
 use Rattle.atomic_table.specs.Table.{Me, Step}
 use Rattle.trie_words.specs.Codes.{IsRootWord, root_of}
 use Rattle.trie_words.specs.declared.pins.Pin.{Pin}
@@ -24,13 +24,14 @@ use Rattle.lock_free.specs.declared.calling.Denial.TheVariants as denial
 use Rattle.lock_free.specs.declared.calling.Started.{Started}
 use Rattle.lock_free.specs.declared.calling.Started.TheVariants as started
 use Rattle.lock_free.specs.declared.rules.View.{View}
-use Rattle.lock_free.specs.Accounts.{past_of, running}
+use Rattle.lock_free.specs.Accounts.{running}
 use Rattle.lock_free.specs.Beginning.{taking}
 use Rattle.lock_free.specs.Exchanging.{given_back}
-use Rattle.lock_free.specs.HandleWords.{HasSeenRoot, TellsRoot}
+use Rattle.lock_free.specs.HandleWords.{is_marked, HasSeenRoot, TellsRoot}
 use Rattle.lock_free.specs.Loading.{now, seen, IsSound, Runs, Saw, Waited}
 use Rattle.lock_free.specs.Places.{root_word, words_of}
 use Rattle.lock_free.specs.SeatWords.{IsIdle}
+use Rattle.lock_free.specs.Telling.{history_of}
 
 -- The seat runs nothing, has pinned itself for this call, and has reserved a number if it opens a handle.
 pub record IsBeginner (v : View) (call : Call) : Type 0 where
@@ -44,16 +45,16 @@ pub record IsBeginner (v : View) (call : Call) : Type 0 where
 
 -- ---- what comes of it, by the handle's word
 
-abbrev pub runs_unless : Bool → Denial → RootWord → Started
-runs_unless true why found = started.Denied why
-runs_unless false why found = started.Runs found
+abbrev pub runs_unless : Bool → Denial → RootWord → Result Started RootWord
+runs_unless true why found = Ok (started.Denied why)
+runs_unless false why found = Ok (started.Runs found)
 
-abbrev pub started_by : RootWord → Call → Started
-started_by word.Closed call = started.Denied denial.NoHandle
-started_by word.Reserved call = started.Denied denial.NoHandle
-started_by (word.Opening slot) call = started.Opening slot
-started_by (word.ClosingWritable root seat) call = started.Closing (word.ClosingWritable root seat)
-started_by (word.ClosingReadOnly root seat) call = started.Closing (word.ClosingReadOnly root seat)
+abbrev pub started_by : RootWord → Call → Result Started RootWord
+started_by word.Closed call = Ok (started.Denied denial.NoHandle)
+started_by word.Reserved call = Ok (started.Denied denial.NoHandle)
+started_by (word.Opening slot) call = Ok (started.Opening slot)
+started_by (word.ClosingWritable root seat) call = Err (word.ClosingWritable root seat)
+started_by (word.ClosingReadOnly root seat) call = Err (word.ClosingReadOnly root seat)
 started_by (word.ReadOnly slot) call = runs_unless (needs_writable call) denial.ReadOnly (word.ReadOnly slot)
 started_by (word.Writable slot) call = runs_unless (needs_read_only call) denial.NotReadOnly (word.Writable slot)
 started_by (word.Offered slot) call = runs_unless (needs_read_only call) denial.NotReadOnly (word.Offered slot)
@@ -82,7 +83,7 @@ pub record HasBegun (before : View) (call : Call) (found : RootWord) (after : Vi
   pub fits : IsRootWord found
   pub tells : TellsRoot before.sizes account (handle_of call) found
   -- and the history has its begin
-  pub told : (past_of after.sizes after.account).events ≡ (past_of before.sizes account).events ++ event.Begin (first_operation before account call).id before.actor call before.opens ∷ []
+  pub told : history_of after.sizes after.account ≡ history_of before.sizes account ++ event.Begin (first_operation before account call).id before.actor call before.opens ∷ []
 
 -- ---- or it doesn't
 
@@ -98,12 +99,16 @@ IsDenied before call why after = (s : Saw before after) × (begin_denial (now (s
 abbrev pub HasStarted : View → Call → Started → View → Type 0
 HasStarted before call (started.Runs found) after = HasBegun before call found after
 HasStarted before call (started.Denied why) after = IsDenied before call why after
-HasStarted before call (started.Closing found) after = HasSeenRoot before (handle_of call) found after
 HasStarted before call (started.Opening slot) after = HasSeenRoot before (handle_of call) (word.Opening slot) after
+
+-- or it has met a mark
+abbrev pub HasTriedToStart : View → Call → Result Started RootWord → View → Type 0
+HasTriedToStart before call (Ok result) after = HasStarted before call result after
+HasTriedToStart before call (Err found) after = HasSeenRoot before (handle_of call) found after × (is_marked found ≡ true)
 
 abbrev pub has_started : Step Call → Me Call View → ℕ → Me Call View → Type 0
 has_started access before found after =
-    ((call : Call) → before.0.asks ≡ Some call → access.word ≡ root_word (handle_of call) → HasStarted before.0 call (started_by (root_of found) call) after.0)
+    ((call : Call) → before.0.asks ≡ Some call → access.word ≡ root_word (handle_of call) → HasTriedToStart before.0 call (started_by (root_of found) call) after.0)
     × IsSound (words_of before.0.sizes) after.0 × (after.1 ≡ before.1)
 
 -- ---- an operation gives up, at any load

@@ -36,3 +36,7 @@ pub mod GoingDown
 pub mod CopySteps
 pub mod Holding
 pub mod Repairing
+pub mod Opening
+pub mod Splitting
+pub mod Telling
+pub mod Answering

@@ -57,8 +57,16 @@ HaveTaken sizes words = (class : ℕ) → class < 3 → slice_index words (taken
 abbrev pub class_for : ℕ → ℕ
 class_for entries = if nat_le entries 2 then 0 else (if nat_le entries 14 then 1 else 2)
 
+-- the first small slots have the first branch and the root over it
+abbrev pub branch_slot : Sizes → ℕ
+branch_slot sizes = 176 + 8 * sizes.seats
+
+abbrev pub root_slot : Sizes → ℕ
+root_slot sizes = 177 + 8 * sizes.seats
+
 -- the sizes are in range
 pub record AreSizes (sizes : Sizes) : Type 0 where
   pub some : 1 ≤ sizes.seats
   pub many : sizes.seats ≤ 255
+  pub root : 2 ≤ sizes.small
   pub within : words_of sizes ≤ 2 ^ 28

@@ -28,18 +28,25 @@ use Rattle.lock_free.specs.declared.sizes.Sizes.{Sizes}
 use Rattle.lock_free.specs.Accounts.{bounds_for, state_of, place_at, HasWaited, HasStood, WasReached}
 use Rattle.lock_free.specs.Fates.{TellsFate}
 use Rattle.lock_free.specs.Nodes.{StandsAs, InTable, AreOwners, class_of}
-use Rattle.lock_free.specs.Places.{AreSizes, words_of, words_in, IsTaken, HaveTaken, generation_word, pin_word, root_word}
+use Rattle.lock_free.specs.Places.{AreSizes, branch_slot, root_slot, words_of, words_in, IsTaken, HaveTaken, generation_word, pin_word, root_word}
 use Rattle.lock_free.specs.Roots.{MeansRoot, IsWritten, NoOffer, AreMarked, IsPending, fate, undecided}
 
-abbrev pub first_account : Account
-first_account = record { steps = []; names = []; owned = []; offers = [] }
+-- nothing has happened yet: there are the first branch and the root over it
+abbrev pub first_account : Sizes → Account
+first_account sizes = record {
+  steps = [];
+  names = branch_slot sizes ∷ root_slot sizes ∷ [];
+  owned = record { holder = 1; held = 0; is_own = true } ∷ [];
+  offers = [];
+}
 
-abbrev pub first_view : Sizes → View
-first_view sizes = record {
+-- the view of a seat that has these actors and no slots, and makes no call
+abbrev pub idle_view : Sizes → ℕ → ℕ → Account → View
+idle_view sizes actor last account = record {
   sizes = sizes;
-  actor = 1;
-  last = sizes.seats;
-  account = first_account;
+  actor = actor;
+  last = last;
+  account = account;
   pin = None;
   asks = None;
   entered = None;
@@ -49,6 +56,9 @@ first_view sizes = record {
   pool = record { small = []; medium = []; wide = [] };
   drafts = [];
 }
+
+abbrev pub first_view : Sizes → View
+first_view sizes = idle_view sizes 1 sizes.seats (first_account sizes)
 
 -- no number stands twice
 abbrev pub Once : List ℕ → Type 0
@@ -163,7 +173,8 @@ pub record IsSeat (sizes : Sizes) (account : Account) (stands : Standing) (words
   pub most : v.last ≤ sizes.seats
   pub waited : HasWaited v.actor v.account account
   pub counts : length v.account.names ≡ (state_of sizes v.account).heap.births
-  -- the actors after it run nothing
+  -- the actors after it have taken no step since then either, and run nothing
+  pub rested : (a : ℕ) → v.actor < a → a ≤ v.last → HasWaited a v.account account
   pub rests : (a : ℕ) → v.actor < a → a ≤ v.last → (operation_of (state_of sizes account) a ≡ None) × (slice_index words (pin_word a) ≡ 0)
   pub pinned : slice_index words (pin_word v.actor) ≡ pin_word_of v.pin
   pub entered : (handle : ℕ) → v.entered ≡ Some handle →

@@ -13,9 +13,10 @@ use Rattle.machine_model.specs.States.{operation_of}
 use Rattle.lock_free.specs.declared.accounts.Account.{Account}
 use Rattle.lock_free.specs.declared.rules.Closing.{Closing}
 use Rattle.lock_free.specs.declared.rules.View.{View}
-use Rattle.lock_free.specs.Accounts.{gone_on, past_of, running}
+use Rattle.lock_free.specs.Accounts.{gone_on, running}
 use Rattle.lock_free.specs.Loading.{now, IsAt, IsSound, Runs, Waited}
 use Rattle.lock_free.specs.Places.{pin_word, words_of}
+use Rattle.lock_free.specs.Telling.{history_of}
 
 -- the seat runs nothing
 abbrev pub IsIdle : View → Type 0
@@ -23,11 +24,11 @@ IsIdle v = operation_of (now v) v.actor ≡ None
 
 -- ---- the exchange by which a seat pins itself for a call
 
-abbrev pub asking : View → Pin → Call → View
-asking v pin call = record v { pin = Some pin; asks = Some call; entered = None }
+abbrev pub pinned_for : View → Pin → Call → View
+pinned_for v pin call = record v { pin = Some pin; asks = Some call; entered = None }
 
-abbrev pub has_asked : Step Call → Me Call View → ℕ → Me Call View → Type 0
-has_asked step before found after = (pin : Pin) (call : Call) → pin_of step.second ≡ Some pin → step.said ≡ some call → after ≡ (asking before.0 pin call, before.1)
+abbrev pub has_pinned : Step Call → Me Call View → ℕ → Me Call View → Type 0
+has_pinned step before found after = (pin : Pin) (call : Call) → pin_of step.second ≡ Some pin → step.said ≡ some call → after ≡ (pinned_for before.0 pin call, before.1)
 
 -- ---- the store of 0 by which it goes out of one that it hasn't begun
 
@@ -60,7 +61,7 @@ pub record HasEnded (before : View) (answer : Reply) (after : View) : Type 0 whe
   pub its : (o : Operation) → Runs before o → operation ≡ record o { is_marked = operation.is_marked }
   pub after_is : after ≡ once_ended before operation.is_marked account
   pub idle : IsIdle after
-  pub told : (past_of after.sizes after.account).events ≡ (past_of before.sizes account).events ++ event.End operation.id answer ∷ []
+  pub told : history_of after.sizes after.account ≡ history_of before.sizes account ++ event.End operation.id answer ∷ []
 
 abbrev pub has_ended : Step Call → Me Call View → ℕ → Me Call View → Type 0
 has_ended step before found after =

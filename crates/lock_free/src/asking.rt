@@ -1,12 +1,12 @@
 //! The root of a handle is asked for, in single accesses.
 
-ghost use Rattle.std.specs.Prelude.{◌≡◌, ◌<◌};
+ghost use Rattle.std.specs.Prelude.{◌≡◌};
 ghost use Rattle.lock_free.specs.Loading.{IsSound};
 ghost use Rattle.lock_free.specs.RootWords.{AsksAt, HasAskedRoot, HasSeenGeneration, IsRootIn, named_by};
 
 use crate::handles::root_word_of;
 use crate::loads::{Actor, Words};
-use crate::rules::{FindsRoot, Sees};
+use crate::rules::{Asks, Sees};
 use trie_words::{Link, RootWord};
 
 /// What the word of a handle says of its root.
@@ -40,13 +40,12 @@ fn named_of(word: RootWord) -> Named
 pub fn ask_word(words: &Words, actor: &mut Actor, handle: u16) -> Named
     requires table { actor.old.table_id ≡ words.now.table_id }
     requires sound { IsSound words.now.table_id.words actor.old.me.0 }
-    requires low { handle < 256 }
     requires asking { AsksAt actor.old.me.0 handle }
     ensures table { actor.new.table_id ≡ actor.old.table_id }
     ensures sound { IsSound words.now.table_id.words actor.new.me.0 }
     ensures asked { HasAskedRoot actor.old.me.0 handle result actor.new.me.0 }
 {
-    let found = words.load::<FindsRoot>(actor, root_word_of(handle));
+    let found = words.load::<Asks>(actor, root_word_of(handle));
     named_of(RootWord::of_word(found))
 }
 

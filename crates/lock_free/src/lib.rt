@@ -13,10 +13,13 @@ mod exchanges;
 mod finding;
 mod handles;
 mod holding;
+mod laws;
+mod licensing;
 mod loads;
 mod makes;
 mod numbers;
 mod offers;
+mod opening;
 mod pins;
 mod reading;
 mod renewing;
@@ -30,29 +33,28 @@ mod swapping;
 
 pub use accounts::{Account, Known, Owned};
 pub use asking::{Named, ask_word, see_generation};
-pub use calling::{Denial, Started, begin, give_up};
+pub use calling::{Denial, Started, begin, give_up, try_begin};
 pub use closing::{Shut, close_handle};
 pub use copying::{Copied, CopyKind, try_copy};
 pub use entries::see_entries;
 pub use exchanges::{decide, publish, restore};
 pub use finding::{Entered, Level, Met, go_down};
-pub use handles::{clean, close, mark, see_root, unmark};
+pub use handles::{clean, close, mark, open_number, see_root, unmark};
+pub use laws::{calls_are_answered, closes_are_answered, histories_go_on, seats_are_explained};
+pub use licensing::Asker;
 pub use loads::{
     Actor, Words, look_at_key, look_at_link, look_at_main, look_at_value, read_header, read_link,
     see_key, see_link, see_main, see_pair, see_value,
 };
 pub use makes::{make_branch, make_link, make_list, make_single, make_tomb};
 pub use numbers::{give_back, name, reserve};
-pub use offers::{Fate, abort, complete, meet_offer, see_news, see_olds};
+pub use offers::{Fate, abort, complete, meet_offer, see_fate, see_news, see_olds};
+pub use opening::{Board, OpenError, open, split};
 pub use pins::{finish, pass, pin, unpin};
 pub use reading::{AsksRoot, Given, Passed, Way, read, read_within};
 pub use root_offers::{Proposed, offer, propose, yields};
-pub use rooting::{Root, clean_settled, complete_offer};
-pub use rules::{
-    Abandons, Asks, Cleans, Closing, Completes, Drafts, Ends, FindsRoot, Goes, Looks, Makes, MakesRoot,
-    Marks, Meets, Names, Pool, Proposes, Publishes, Reserves, Returns, Rule, Sees, Shuts, Starts, Takes,
-    Unmarks, Unpins, View, Yields,
-};
+pub use rooting::{Rooted, clean_settled, complete_offer, open_handle, root};
+pub use rules::{Closing, Parts, Pool, Rule, View};
 pub use sizes::Sizes;
 pub use stock::{OwnNode, Stock, take};
 pub use stores::{Tried, draft, make, make_root, try_take};

@@ -6,10 +6,10 @@ ghost use Rattle.history.specs.declared.replies.Reply.{Reply};
 ghost use Rattle.machine_model.specs.declared.actions.Action.TheVariants as act;
 ghost use Rattle.lock_free.specs.Loading.{IsAt, IsSound};
 ghost use Rattle.lock_free.specs.Places.{pin_word};
-ghost use Rattle.lock_free.specs.SeatWords.{IsAtEnd, IsIdle, HasEnded, HasPassed, WouldClose, asking, is_out, unpinned};
+ghost use Rattle.lock_free.specs.SeatWords.{IsAtEnd, IsIdle, HasEnded, HasPassed, WouldClose, is_out, pinned_for, unpinned};
 
 use crate::loads::{Actor, Words};
-use crate::rules::{Asks, Ends, Looks, Unpins};
+use crate::rules::{Ends, Looks, Pins, Unpins};
 use history::Call;
 use trie_words::Pin;
 
@@ -34,10 +34,10 @@ pub fn pin(words: &Words, actor: &mut Actor, seat: u8, pin: Pin, call: &Call)
     requires fits { IsPin pin }
     ensures table { actor.new.table_id ≡ actor.old.table_id }
     ensures sound { IsSound words.now.table_id.words actor.new.me.0 }
-    ensures pinned { actor.new.me ≡ (asking actor.old.me.0 pin call.now, actor.old.me.1) }
+    ensures pinned { actor.new.me ≡ (pinned_for actor.old.me.0 pin call.now, actor.old.me.1) }
 {
     let pinned = pin.to_word();
-    words.compare_exchange_with::<Asks>(actor, pin_word_of(seat), UNPINNED, pinned, call);
+    words.compare_exchange_with::<Pins>(actor, pin_word_of(seat), UNPINNED, pinned, call);
 }
 
 /// Takes the pin of this seat away, which runs nothing.

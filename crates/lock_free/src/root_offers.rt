@@ -97,7 +97,14 @@ fn make_way(words: &Words, actor: &mut Actor, handle: u16, found: RootWord) -> b
 
 /// Brings the offer in this slot to stand in the word of the handle, unless another root than the one in its slot stands there, or
 /// another offer: then all that was made for it is given up. Returns whether it stands.
-pub fn offer<R: Wait>(rt: &R, words: &Words, actor: &mut Actor, handle: u16, root: u32, slot: u32) -> bool
+pub fn offer<R: Wait>(
+    rt: &R,
+    words: &Words,
+    actor: &mut Actor,
+    handle: u16,
+    root: u32,
+    slot: u32,
+) -> bool
     requires table { actor.old.table_id ≡ words.now.table_id }
     requires sound { IsSound words.now.table_id.words actor.old.me.0 }
     requires low { handle < 256 }

@@ -8,13 +8,14 @@ ghost use Rattle.lock_free.specs.HandleWords.{has_closed, has_marked, has_unmark
 ghost use Rattle.lock_free.specs.Numbers.{has_given_back, has_named, has_reserved};
 ghost use Rattle.lock_free.specs.OfferWords.{has_completed};
 ghost use Rattle.lock_free.specs.RootOffers.{has_proposed, has_yielded};
-ghost use Rattle.lock_free.specs.RootWords.{has_cleaned, has_found_root, has_met};
-ghost use Rattle.lock_free.specs.SeatWords.{has_asked, has_ended, has_passed, has_unpinned};
+ghost use Rattle.lock_free.specs.RootWords.{has_asked, has_cleaned, has_met};
+ghost use Rattle.lock_free.specs.SeatWords.{has_ended, has_passed, has_pinned, has_unpinned};
+ghost use Rattle.lock_free.specs.Splitting.{without_last, of_last};
 ghost use Rattle.lock_free.specs.Storing.{has_drafted, has_made, has_made_root, has_taken};
 
 use crate::accounts::Account;
 use crate::sizes::Sizes;
-use atomic_table::{Play, TableRule};
+use atomic_table::{Play, Split, TableRule};
 use history::Call;
 use std::collections::LinkedList;
 use trie_words::Pin;
@@ -69,6 +70,15 @@ impl TableRule<Call, View, Sizes> for Rule {
     ghost first = { first_view };
 }
 
+/// The last actor of a seat gets a seat of its own.
+pub struct Parts;
+
+impl Split<View> for Parts {
+    ghost left = { without_last };
+
+    ghost right = { of_last };
+}
+
 /// Something is looked at, and no step is taken.
 pub struct Sees;
 
@@ -91,10 +101,10 @@ impl Play<Call, View> for Publishes {
 }
 
 /// The root of a handle is read, where its word names it, or that word is looked at.
-pub struct FindsRoot;
+pub struct Asks;
 
-impl Play<Call, View> for FindsRoot {
-    ghost then = { has_found_root };
+impl Play<Call, View> for Asks {
+    ghost then = { has_asked };
 }
 
 /// The offer that stands for a root is found, where it is undecided, or its first word is looked at.
@@ -119,10 +129,10 @@ impl Play<Call, View> for Completes {
 }
 
 /// A seat pins itself for the call that is said.
-pub struct Asks;
+pub struct Pins;
 
-impl Play<Call, View> for Asks {
-    ghost then = { has_asked };
+impl Play<Call, View> for Pins {
+    ghost then = { has_pinned };
 }
 
 /// It takes its pin away.

@@ -1,7 +1,7 @@
 //! How many words there are, and for what.
 
-ghost use Rattle.std.specs.Prelude.{◌≡◌, ◌+◌, ◌*◌, ◌<◌, ◌≤◌, ◌^◌};
-ghost use Rattle.lock_free.specs.Places.{part_of, slots_in, words_in, words_of};
+ghost use Rattle.std.specs.Prelude.{◌≡◌, ◌+◌, ◌*◌, ◌<◌, ◌≤◌, ◌^◌, ◌↔◌, IsTrue};
+ghost use Rattle.lock_free.specs.Places.{part_of, slots_in, words_in, words_of, AreSizes};
 
 use nodes::HashKind;
 
@@ -21,6 +21,20 @@ pub struct Sizes {
 }
 
 impl Sizes {
+    /// How many words there are.
+    pub fn words(&self) -> u64
+        ensures { result ≡ words_of self.now }
+    {
+        self.part(2) + 24 * u64::from(self.wide)
+    }
+
+    /// Whether they are in range: there are seats, two small slots at least, and 2^28 words at most.
+    pub fn are_in_range(&self) -> bool
+        ensures { IsTrue result ↔ AreSizes self.now }
+    {
+        self.seats >= 1 && self.small >= 2 && self.words() <= 1 << 28
+    }
+
     /// How many slots there are of this class.
     pub fn slots(&self, class: u32) -> u32
         ensures { result ≡ slots_in self.now class }

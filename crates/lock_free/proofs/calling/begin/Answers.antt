@@ -1,33 +1,27 @@
-use Rattle.std.proofs.Common.{◌<◌, ◌∙◌, ap, sym, subst}
-use mathlib.Core.Option.{none}
-use Rattle.atomic_table.specs.Table.{Allows, step}
-use Rattle.lock_free.specs.Calling.{started_by, HasStarted, has_started}
-use Rattle.lock_free.specs.Loading.{IsSound}
-use Rattle.lock_free.specs.Places.{root_word}
-use Rattle.lock_free.specs.Rules.{IsKept}
-use Rattle.lock_free.proofs.BeginStep.{begin_step_allowed}
-use Rattle.lock_free.proofs.SeenRoots.{root_inside}
+use Rattle.std.proofs.Common.{refl, ◌∙◌, sym, subst}
+use Rattle.lock_free.proofs.Beginners.{Waits, waits_first, waits_more}
 use Rattle.lock_free.proofs.calling.begin.Goals as goal
 
-pub load-found-requires : goal.load-found-requires
-load-found-requires c =
-    let sizes = c.args.words.now.key in
-    let slots = c.args.words.now.table_id.slots in
-    let id = c.args.actor.now.id in
-    let me = c.args.actor.now.me in
+pub loop-init : goal.loop-init
+loop-init g c = (tt, tt, refl, waits_first c.args.words.now.table_id.words c.args.call.now c.args.actor.now.me.0 c.requires.sound c.requires.beginner)
+
+pub try_begin-requires-clause-table : goal.try_begin-requires-clause-table
+try_begin-requires-clause-table g c = c.loop.invariant.2 ∙ c.requires.table
+
+pub try_begin-requires-clause-sound : goal.try_begin-requires-clause-sound
+try_begin-requires-clause-sound g c = c.loop.invariant.3.sound
+
+pub try_begin-requires-clause-beginner : goal.try_begin-requires-clause-beginner
+try_begin-requires-clause-beginner g c = c.loop.invariant.3.beginner
+
+pub loop-preserved : goal.loop-preserved
+loop-preserved g c =
+    let words = c.args.words.now.table_id.words in
     let call = c.args.call.now in
-    let word_is = c.root_word_of.ensures ∙ ap root_word c.handle.ensures in (
-      c.requires.table,
-      subst (λ n. n < c.args.words.now.table_id.words) (sym word_is) (root_inside c.args.words.now.table_id.words me.0 c.requires.sound _ c.requires.low),
-      subst (λ n. Allows (IsKept sizes) slots id me n (λ x. x) (has_started (step slots n 0 0 none) me)) (sym word_is)
-          (begin_step_allowed sizes slots id me call c.requires.beginner c.requires.low c.key_fits.ensures),
+    let before = c.args.actor.now.me.0 in (
+      tt,
+      tt,
+      c.unmark.ensures.table ∙ c.try_begin.ensures.table ∙ c.loop.invariant.2,
+      subst (λ me. Waits words call before me.0) (sym c.unmark.ensures.same)
+          (waits_more words call before c.loop.actor.me.0 c.try_begin.new.actor.me.0 c.loop.invariant.3 c.try_begin.ensures.sound (c.in-Err.ensures {u = tt}).tried.0.0),
     )
-
-pub returns-clause-started : goal.returns-clause-started
-returns-clause-started c =
-    let word_is = c.root_word_of.ensures ∙ ap root_word c.handle.ensures in
-    subst (λ x. HasStarted c.args.actor.now.me.0 c.args.call.now x c.load-found.new.seat.me.0) (sym (c.started_by.ensures ∙ ap (λ w. started_by w c.args.call.now) c.of_word.ensures))
-    (c.load-found.ensures.2.0 c.args.call.now c.requires.beginner.asks word_is)
-
-pub returns-clause-sound : goal.returns-clause-sound
-returns-clause-sound c = subst (λ n. IsSound n c.load-found.new.seat.me.0) (sym c.requires.sound.size) c.load-found.ensures.2.1

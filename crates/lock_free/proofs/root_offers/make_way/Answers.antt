@@ -1,7 +1,6 @@
 use Rattle.std.proofs.Common.{true, false, refl, sym, ap, subst}
-use Rattle.lock_free.specs.declared.offers.Fate.TheVariants as fate
 use Rattle.lock_free.specs.Loading.{Saw}
-use Rattle.lock_free.specs.RootOffers.{HasYielded, HasMadeWay}
+use Rattle.lock_free.specs.RootOffers.{HasYielded}
 use Rattle.lock_free.proofs.OfferTries.{offer_met, saw_none, saw_since, settled_at, told_offer}
 use Rattle.lock_free.proofs.root_offers.make_way.Goals as goal
 

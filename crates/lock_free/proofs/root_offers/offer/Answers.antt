@@ -1,5 +1,4 @@
-use Rattle.std.proofs.Common.{◌∙◌, true, false, refl, sym, ap, subst}
-use Rattle.lock_free.specs.declared.root_offers.Proposed.TheVariants.{Stands, Misses, Meets}
+use Rattle.std.proofs.Common.{◌∙◌, refl, subst}
 use Rattle.lock_free.specs.RootOffers.{HasMadeWay, HasProposed}
 use Rattle.lock_free.proofs.OfferTries.{missed_since, offered_since, saw_none, saw_since, seen_saw, seen_tells, still_to_offer, to_offer_since}
 use Rattle.lock_free.proofs.root_offers.offer.Goals as goal

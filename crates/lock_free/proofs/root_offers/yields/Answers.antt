@@ -1,4 +1,4 @@
-use Rattle.std.proofs.Common.{◌*◌, sym, subst}
+use Rattle.std.proofs.Common.{sym, subst}
 use Rattle.lock_free.specs.Loading.{IsSound}
 use Rattle.lock_free.specs.RootOffers.{HasYielded}
 use Rattle.lock_free.proofs.OfferSeen.{offer_inside}

@@ -24,6 +24,7 @@ module _ (sizes : Sizes) (s : Table.State Call View) (kept : IsKept sizes s) (id
         top = h.top;
         most = h.most;
         waited = h.waited;
+        rested = h.rested;
         counts = h.counts;
         rests = h.rests;
         pinned = h.pinned;

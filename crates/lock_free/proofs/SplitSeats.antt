@@ -1,0 +1,234 @@
+-- A seat is split: its last actor gets a seat of its own.
+use Rattle.std.proofs.Common.{◌≡◌, ◌≢◌, ℕ, zero, suc, ◌<◌, ◌⊎◌, inl, inr, List, [], ◌∷◌, ◌++◌, Some, length, set, length-set, refl, sym, ap, subst, ◌∙◌, arith}
+use Rattle.std.proofs.lemmas.Bool.{cases_eq}
+use Rattle.std.proofs.lemmas.Option.{none-some}
+use mathlib.Core.Option.{some, some-injective, some-ne-none}
+use lib.ListN.{get_elem?}
+use Rattle.atomic_table.specs.Table.{Splits}
+use Rattle.atomic_table.specs.Table as Table
+use Rattle.atomic_table.proofs.Lists.{at_set, at_longer, set_here, set_else}
+use Rattle.history.specs.declared.calls.Call.{Call}
+use Rattle.machine_model.specs.declared.operations.Operation.{Operation}
+use Rattle.machine_model.specs.States.{State, operation_of}
+use Rattle.lock_free.specs.declared.rules.View.{View}
+use Rattle.lock_free.specs.declared.sizes.Sizes.{Sizes}
+use Rattle.lock_free.specs.Accounts.{state_of}
+use Rattle.lock_free.specs.Loading.{IsSound}
+use Rattle.lock_free.specs.Rules.{latest, IsClosing, IsOpening, IsFree, Reserves, HasActor, HasSeat, IsSeat, IsKept}
+use Rattle.lock_free.specs.Splitting.{without_last, of_last}
+use Rattle.lock_free.proofs.Idle.{empty_has, none_free, none_twice}
+
+at_more : (xs : List View) (x w : View) (k : ℕ) → get_elem? (xs ++ x ∷ []) k ≡ some w → (get_elem? xs k ≡ some w) ⊎ ((k ≡ length xs) × (x ≡ w))
+at_more [] x w zero e = inr (refl, some-injective x w e)
+at_more [] x w (suc k) e = absurd (some-ne-none w (sym e))
+at_more (y ∷ ys) x w zero e = inl e
+at_more (y ∷ ys) x w (suc k) e = elim (at_more ys x w k e) [ inl h ↦ inl h | inr h ↦ inr (ap suc h.0, h.1) ]
+
+at_within : (xs : List View) (w : View) (k : ℕ) → get_elem? xs k ≡ some w → k < length xs
+at_within [] w k e = absurd (some-ne-none w (sym e))
+at_within (y ∷ ys) w zero e = omega arith
+at_within (y ∷ ys) w (suc k) e = omega (arith, at_within ys w k e)
+
+module _ (sizes : Sizes) (s : Table.State Call View) (kept : IsKept sizes s) (id : ℕ) (v : View) (at : get_elem? s.views id ≡ some v) (more : v.actor < v.last) where
+  abbrev first : View
+  first = without_last v
+
+  abbrev second : View
+  second = of_last v
+
+  abbrev split_views : List View
+  split_views = set s.views id first ++ second ∷ []
+
+  -- which seat it was
+  data Was (k : ℕ) (w : View) : Type 0 where
+    was_first : k ≡ id → first ≡ w → Was k w
+    was_other : (k ≡ id → ⊥) → get_elem? s.views k ≡ some w → Was k w
+    was_second : k ≡ length s.views → second ≡ w → Was k w
+
+  was : (k : ℕ) (w : View) → get_elem? split_views k ≡ some w → Was k w
+  was k w e = elim (at_more (set s.views id first) second w k e) [
+    | inl h ↦ elim (at_set s.views id k first w h) [ inl g ↦ was_first g.0 g.1 | inr g ↦ was_other g.0 g.1 ]
+    | inr h ↦ was_second (h.0 ∙ length-set s.views id first) h.1
+  ]
+
+  -- ---- what each has
+
+  -- something that no seat has twice, of which the first seat has no more than before, and the second one none, or only what the first has no more
+  module _ (Has : View → Type 0) (Has' : View → Type 0) (alone : (i j : ℕ) (x y : View) → get_elem? s.views i ≡ some x → get_elem? s.views j ≡ some y → Has x → Has' y → i ≡ j)
+      (first_had : Has first → Has v) (second_had : Has second → Has v) (first_had' : Has' first → Has' v) (second_had' : Has' second → Has' v)
+      (never : Has first → Has' second → ⊥) (never' : Has second → Has' first → ⊥) where
+    alone_by : (i j : ℕ) (x y : View) → Was i x → Was j y → Has x → Has' y → i ≡ j
+    alone_by i j x y (was_first e p) (was_first f q) hx hy = e ∙ sym f
+    alone_by i j x y (was_first e p) (was_other f q) hx hy = e ∙ alone id j v y at q (first_had (subst Has (sym p) hx)) hy
+    alone_by i j x y (was_first e p) (was_second f q) hx hy = absurd (never (subst Has (sym p) hx) (subst Has' (sym q) hy))
+    alone_by i j x y (was_other e p) (was_first f q) hx hy = alone i id x v p at hx (first_had' (subst Has' (sym q) hy)) ∙ sym f
+    alone_by i j x y (was_other e p) (was_other f q) hx hy = alone i j x y p q hx hy
+    alone_by i j x y (was_other e p) (was_second f q) hx hy = absurd (e (alone i id x v p at hx (second_had' (subst Has' (sym q) hy))))
+    alone_by i j x y (was_second e p) (was_first f q) hx hy = absurd (never' (subst Has (sym p) hx) (subst Has' (sym q) hy))
+    alone_by i j x y (was_second e p) (was_other f q) hx hy = absurd (f (sym (alone id j v y at q (second_had (subst Has (sym p) hx)) hy)))
+    alone_by i j x y (was_second e p) (was_second f q) hx hy = e ∙ sym f
+
+    pub alone_then : (i j : ℕ) (x y : View) → get_elem? split_views i ≡ some x → get_elem? split_views j ≡ some y → Has x → Has' y → i ≡ j
+    alone_then i j x y ei ej hx hy = alone_by i j x y (was i x ei) (was j y ej) hx hy
+
+  none_second : (b name : ℕ) → IsFree second b name → ⊥
+  none_second b name free = none_free v.sizes v.last v.last v.account b name free
+
+  -- ---- each is a seat
+
+  abbrev state : State
+  state = state_of sizes kept.account
+
+  abbrev SeatThen : View → Type 0
+  SeatThen w = IsSeat sizes kept.account kept.stands s.words w
+
+  first_seat : SeatThen first
+  first_seat =
+      let seat = kept.seats id v at in
+      record {
+        same = seat.same;
+        low = seat.low;
+        top = omega (arith, more);
+        most = omega (arith, seat.most);
+        waited = seat.waited;
+        counts = seat.counts;
+        rested = λ a above below. seat.rested a above (omega (arith, below));
+        rests = λ a above below. seat.rests a above (omega (arith, below));
+        pinned = seat.pinned;
+        entered = seat.entered;
+        calls = seat.calls;
+        opens = seat.opens;
+        reserves = seat.reserves;
+        opening = λ handle slot o n. (let x = seat.opening handle slot o n in record { low = x.low; fits = x.fits; is = x.is; free = x.free });
+        spare = seat.spare;
+        once = seat.once;
+        drafts = seat.drafts;
+      }
+
+  idle : (o : Operation) → operation_of state v.last ≡ Some o → ⊥
+  idle o e = none-some o (sym ((kept.seats id v at).rests v.last more (omega arith)).0 ∙ e)
+
+  second_seat : SeatThen second
+  second_seat =
+      let seat = kept.seats id v at in
+      record {
+        same = seat.same;
+        low = omega (arith, more);
+        top = omega arith;
+        most = seat.most;
+        waited = seat.rested v.last more (omega arith);
+        counts = seat.counts;
+        rested = λ a above below. absurd (omega (arith, above, below));
+        rests = λ a above below. absurd (omega (arith, above, below));
+        pinned = (seat.rests v.last more (omega arith)).1;
+        entered = λ handle e. absurd (none-some handle e);
+        calls = λ o e. absurd (idle o e);
+        opens = λ handle r. absurd (none-some handle r.0);
+        reserves = λ o e. absurd (idle o e);
+        opening = λ handle slot e. absurd (none-some handle e);
+        spare = λ b name free. absurd (none_second b name free);
+        once = none_twice v.sizes v.last v.last v.account;
+        drafts = λ d c. absurd (empty_has d c);
+      }
+
+  seat_by : (k : ℕ) (w : View) → Was k w → SeatThen w
+  seat_by k w (was_first e p) = subst SeatThen p first_seat
+  seat_by k w (was_other e p) = kept.seats k w p
+  seat_by k w (was_second e p) = subst SeatThen p second_seat
+
+  -- ---- what is said of seats
+
+  first_at : get_elem? split_views id ≡ some first
+  first_at = at_longer (set s.views id first) (second ∷ []) id first (set_here s.views id first (at_within s.views v id at))
+
+  other_at : (k : ℕ) (w : View) → (k ≡ id → ⊥) → get_elem? s.views k ≡ some w → get_elem? split_views k ≡ some w
+  other_at k w apart e = at_longer (set s.views id first) (second ∷ []) k w (set_else s.views id k first apart ∙ e)
+
+  mine : (k : ℕ) (w : View) → get_elem? s.views k ≡ some w → k ≡ id → w ≡ v
+  mine k w e same = some-injective w v (sym e ∙ ap (λ n. get_elem? s.views n) same ∙ at)
+
+  has_still : (a : ℕ) → HasSeat s.views a → HasSeat split_views a
+  has_still a h = elim (cases_eq h.id id) [
+    | inl same ↦ record { id = id; view = first; at = first_at; its = ap (λ (x : View). x.actor) (sym (mine h.id h.view h.at same)) ∙ h.its }
+    | inr apart ↦ record { id = h.id; view = h.view; at = other_at h.id h.view apart h.at; its = h.its }
+  ]
+
+  opening_still : (handle slot : ℕ) → IsOpening state s.views handle slot → IsOpening state split_views handle slot
+  opening_still handle slot h = elim (cases_eq h.id id) [
+    | inl same ↦
+        (let is = mine h.id h.view h.at same in
+        record { id = id; view = first; at = first_at; reserves = subst (λ x. Reserves state x handle) is h.reserves; free = subst (λ x. IsFree x 1 slot) is h.free })
+    | inr apart ↦ record { id = h.id; view = h.view; at = other_at h.id h.view apart h.at; reserves = h.reserves; free = h.free }
+  ]
+
+  closing_still : (handle who : ℕ) → IsClosing s.views handle who → IsClosing split_views handle who
+  closing_still handle who h = elim (cases_eq h.id id) [
+    | inl same ↦
+        (let is = sym (mine h.id h.view h.at same) in
+        record {
+          id = id;
+          view = first;
+          at = first_at;
+          its = ap (λ (x : View). x.actor) is ∙ h.its;
+          closing = h.closing;
+          is = ap (λ (x : View). latest x.closing handle) is ∙ h.is;
+          this = h.this;
+          none = λ other w e inside apart. none_by other w (was other w e) inside apart;
+        })
+    | inr differs ↦ record {
+      id = h.id;
+      view = h.view;
+      at = other_at h.id h.view differs h.at;
+      its = h.its;
+      closing = h.closing;
+      is = h.is;
+      this = h.this;
+      none = λ other w e inside apart. none_by other w (was other w e) inside apart;
+    }
+  ]
+    where
+      none_by : (other : ℕ) (w : View) → Was other w → w.entered ≡ Some handle → w.actor ≢ who → h.closing.looked < w.actor
+      none_by other w (was_first e p) inside apart =
+          subst (λ n. h.closing.looked < n) (ap (λ (x : View). x.actor) p)
+          (h.none id v at (ap (λ (x : View). x.entered) p ∙ inside) (λ is. apart (ap (λ (x : View). x.actor) (sym p) ∙ is)))
+      none_by other w (was_other e p) inside apart = h.none other w p inside apart
+      none_by other w (was_second e p) inside apart = absurd (none-some handle (ap (λ (x : View). x.entered) p ∙ inside))
+
+  pub split_kept : IsKept sizes (record { words = s.words; homes = s.homes; views = split_views })
+  split_kept = record {
+    account = kept.account;
+    stands = kept.stands;
+    range = kept.range;
+    bounds = kept.bounds;
+    keys = kept.keys;
+    quiet = kept.quiet;
+    counted = kept.counted;
+    size = kept.size;
+    taken = kept.taken;
+    generations = kept.generations;
+    nodes = kept.nodes;
+    roots = kept.roots;
+    closings = λ handle who low says. closing_still handle who (kept.closings handle who low says);
+    openings = λ handle slot low fits is none. opening_still handle slot (kept.openings handle slot low fits is none);
+    seats = λ k w e. seat_by k w (was k w e);
+    runners = λ a o e. has_still a (kept.runners a o e);
+    alone = λ i j x y a ei ej hx hy.
+        alone_then (λ w. HasActor w a) (λ w. HasActor w a) (λ i j x y ei ej hx hy. kept.alone i j x y a ei ej hx hy) (λ h. (h.0, omega (arith, h.1))) (λ h. (omega (arith, h.0, more), h.1))
+        (λ h. (h.0, omega (arith, h.1))) (λ h. (omega (arith, h.0, more), h.1)) (λ h g. absurd (omega (arith, h.1, g.0, more))) (λ h g. absurd (omega (arith, h.0, g.1, more))) i j x y ei ej hx hy;
+    pools = λ i j x y b c name ei ej hx hy.
+        alone_then (λ w. IsFree w b name) (λ w. IsFree w c name) (λ i j x y ei ej hx hy. kept.pools i j x y b c name ei ej hx hy) (λ h. h) (λ h. absurd (none_second b name h)) (λ h. h)
+        (λ h. absurd (none_second c name h)) (λ h g. none_second c name g) (λ h g. none_second b name h) i j x y ei ej hx hy;
+    numbers = λ i j x y handle ei ej hx hy.
+        alone_then (λ w. Reserves state w handle) (λ w. Reserves state w handle) (λ i j x y ei ej hx hy. kept.numbers i j x y handle ei ej hx hy) (λ h. h) (λ h. absurd (none-some handle h.0)) (λ h. h)
+        (λ h. absurd (none-some handle h.0)) (λ h g. none-some handle g.0) (λ h g. none-some handle h.0) i j x y ei ej hx hy;
+  }
+
+pub splits : (sizes : Sizes) (id : ℕ) (v : View) → v.actor < v.last → Splits (IsKept sizes) id v (without_last v) (of_last v)
+splits sizes id v more s kept at = split_kept sizes s kept id v at more
+
+pub left_sound : (words : ℕ) (v : View) → IsSound words v → IsSound words (without_last v)
+left_sound words v h = record { size = h.size; range = h.range; bounds = h.bounds; keys = h.keys; counted = h.counted; inside = h.inside; free = h.free }
+
+pub right_sound : (words : ℕ) (v : View) → IsSound words v → IsSound words (of_last v)
+right_sound words v h =
+    record { size = h.size; range = h.range; bounds = h.bounds; keys = h.keys; counted = h.counted; inside = h.inside; free = λ b name free. absurd (none_free v.sizes v.last v.last v.account b name free) }
