@@ -123,6 +123,7 @@ mod CopyRoots
 mod OfferDrafts
 mod CopyOffers
 mod CopyTries
+mod CopyAgain
 mod Counts
 mod HeldEntries
 mod OnLines

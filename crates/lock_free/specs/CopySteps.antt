@@ -1,6 +1,6 @@
 -- COPY: where an operation is on its way from the root to an offer that is carried out, and what it comes to.
 use Rattle.history.specs.declared.calls.Call.{Call}
-use Rattle.history.specs.declared.calls.Call.TheVariants.{Clear, Snapshot}
+use Rattle.history.specs.declared.calls.Call.TheVariants.{Clear, Snapshot, Freeze}
 use Rattle.history.specs.declared.replies.Reply.TheVariants as reply
 use Rattle.std.specs.Prelude.{◌≡◌, ◌<◌, ◌+◌, ◌*◌, ◌++◌, ◌∷◌, [], ℕ, Bool, true, false, List, Contains, Option, Some, None, unwrap_or, if◌then◌else◌}
 use Rattle.trie_words.specs.Codes.{pair_code}
@@ -207,3 +207,35 @@ abbrev pub HasTriedCopy : View → Copied → View → Type 0
 HasTriedCopy before copied.Done after = HasTried before true after
 HasTriedCopy before copied.Again after = HasTried before false after
 HasTriedCopy before copied.Full after = HasStopped before after
+
+-- ---- as often as it takes
+
+-- such a call makes a copy, or clears
+abbrev pub copies : Call → Bool
+copies (Clear h) = true
+copies (Snapshot h) = true
+copies (Freeze h) = true
+copies call = false
+
+-- the operation begins a try
+abbrev pub IsAtTry : View → Type 0
+IsAtTry v = (operation : Operation) × Runs v operation × (operation.line ≡ new_try) × (copies operation.call ≡ true)
+
+-- the operation after some tries: what is its own, how often it has offered, and the generation of the root that it has read last
+abbrev pub tried_on : List Ref → ℕ → Option ℕ → Line → Operation → Operation
+tried_on private attempt generation l operation = record operation { private = private; attempt = attempt; generation = generation; line = l }
+
+-- after some tries it has come to this line
+pub record HasComeTo (next : Operation → Line) (v w : View) : Type 0 where
+  pub is : IsStill v w
+  pub comes : (operation : Operation) → Runs v operation → (private : List Ref) × (attempt : ℕ) × (generation : Option ℕ) × Runs w (tried_on private attempt generation (next operation) operation)
+
+-- after some tries it found no slot, or no generation, and may give up
+pub record HasGivenOut (v w : View) : Type 0 where
+  pub is : IsStill v w
+  pub stops : (operation : Operation) → Runs v operation →
+      (private : List Ref) × (attempt : ℕ) × (generation : Option ℕ) × (l : CopyLine) × Runs w (tried_on private attempt generation (line.Copy l) operation) × (copy_given_up l ≡ Some reply.NoSlots)
+
+abbrev pub HasMadeCopy : View → Bool → View → Type 0
+HasMadeCopy before true after = HasComeTo (copied_line true) before after
+HasMadeCopy before false after = HasGivenOut before after

@@ -1,8 +1,8 @@
 //! COPY: offers a new root in the place of the old one, and completes the offer.
 
 ghost use Rattle.std.specs.Prelude.{◌≡◌, ◌<◌, ◌++◌, ◌∷◌, ℕ, List, [], OnSome};
-ghost use Rattle.lock_free.specs.CopySteps.{HasCopied, HasDraftedOffer, HasMadeRoots, HasOriginal, HasPreparedOrNone, HasRoot, HasTriedCopy, HasTriedRoot};
-ghost use Rattle.lock_free.specs.CopySteps.{IsAtCopy, IsAtOriginal, IsAtNewRoot, IsCopying, IsGiven, IsKind, IsReady, IsToComplete};
+ghost use Rattle.lock_free.specs.CopySteps.{HasCopied, HasDraftedOffer, HasMadeCopy, HasMadeRoots, HasOriginal, HasPreparedOrNone, HasRoot, HasTriedCopy, HasTriedRoot};
+ghost use Rattle.lock_free.specs.CopySteps.{IsAtCopy, IsAtOriginal, IsAtNewRoot, IsAtTry, IsCopying, IsGiven, IsKind, IsReady, IsToComplete};
 ghost use Rattle.lock_free.specs.declared.copying.CopyKind.TheVariants as kind;
 ghost use Rattle.machine_model.specs.declared.copying.CopyLine.TheVariants as copy;
 ghost use Rattle.machine_model.specs.Beneath.slot_arena.specs.declared.refs.Ref.{Ref as ARef};
@@ -17,7 +17,7 @@ use crate::numbers::name;
 use crate::offers::UNDECIDED;
 use crate::reading::{AsksRoot, Given, Way, read};
 use crate::root_offers::offer;
-use crate::rooting::complete_offer;
+use crate::rooting::{complete_offer, root};
 use crate::stock::{Stock, take};
 use crate::stores::{GENERATION, draft, make_root};
 use std::sync::Wait;
@@ -58,7 +58,7 @@ pub struct NewRoots {
 }
 
 /// Reads the main node of the root in this slot, of which a copy is to be made.
-pub fn read_original<R: Wait, A: AsksRoot>(
+fn read_original<R: Wait, A: AsksRoot>(
     rt: &R,
     asker: &A,
     words: &Words,
@@ -103,7 +103,7 @@ fn try_roots<R: Wait>(rt: &R, words: &Words, actor: &mut Actor, slot: u32, main:
 }
 
 /// Makes a root over the main node of this name. Returns its slot, or none where no slot or no generation is had.
-pub fn make_new_root<R: Wait>(
+fn make_new_root<R: Wait>(
     rt: &R,
     words: &Words,
     actor: &mut Actor,
@@ -304,7 +304,7 @@ fn prepare<R: Wait>(
 }
 
 /// Completes the seat's own offer, which stands in this slot. Returns whether it was carried out, by this seat or another.
-pub fn complete_own<R: Wait, A: AsksRoot>(
+fn complete_own<R: Wait, A: AsksRoot>(
     rt: &R,
     asker: &A,
     words: &Words,
@@ -325,7 +325,7 @@ pub fn complete_own<R: Wait, A: AsksRoot>(
 
 /// A try of a copy on a handle that may be written, from its root, which is in this slot: new roots are made, and an offer of them comes
 /// to stand and is completed.
-pub fn try_copy<R: Wait, A: AsksRoot>(
+fn try_copy<R: Wait, A: AsksRoot>(
     rt: &R,
     asker: &A,
     words: &Words,
@@ -365,4 +365,39 @@ pub fn try_copy<R: Wait, A: AsksRoot>(
     } else {
         Copied::Again
     }
+}
+
+/// COPY on a handle that may be written: tries it from the root, as often as it takes. Returns whether it was carried out: then the
+/// operation is to end. Else a slot or a generation was missing, and it may give up.
+pub fn make_copy<R: Wait, A: AsksRoot>(
+    rt: &R,
+    asker: &A,
+    words: &Words,
+    actor: &mut Actor,
+    stock: &mut Stock,
+    way: Way,
+    which: CopyKind,
+    opens: Option<u16>,
+) -> bool
+    requires table { actor.old.table_id ≡ words.now.table_id }
+    requires sound { IsSound words.now.table_id.words actor.old.me.0 }
+    requires stock { IsStock stock.old actor.old.me.0 }
+    requires way { IsOnWay actor.old.me.0 way }
+    requires low { way.handle < 256 }
+    requires copying { IsCopying actor.old.me.0 which way.handle opens }
+    requires at { IsAtTry actor.old.me.0 }
+    ensures table { actor.new.table_id ≡ actor.old.table_id }
+    ensures sound { IsSound words.now.table_id.words actor.new.me.0 }
+    ensures stock { IsStock stock.new actor.new.me.0 }
+    ensures made { HasMadeCopy actor.old.me.0 result actor.new.me.0 }
+{
+    for _ in rt.forever() {
+        let original = root(rt, asker, words, actor, way).slot;
+        match try_copy(rt, asker, words, actor, stock, way, which, opens, original) {
+            Copied::Done => return true,
+            Copied::Again => {}
+            Copied::Full => return false,
+        }
+    }
+    unreachable!()
 }

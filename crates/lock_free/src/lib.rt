@@ -35,7 +35,7 @@ pub use accounts::{Account, Known, Owned};
 pub use asking::{Named, ask_word, see_generation};
 pub use calling::{Denial, Started, begin, give_up, try_begin};
 pub use closing::{Shut, close_handle};
-pub use copying::{Copied, CopyKind, try_copy};
+pub use copying::{CopyKind, make_copy};
 pub use entries::see_entries;
 pub use exchanges::{decide, publish, restore};
 pub use finding::{Entered, Level, Met, go_down};
@@ -52,7 +52,7 @@ pub use offers::{Fate, abort, complete, meet_offer, see_fate, see_news, see_olds
 pub use opening::{Board, OpenError, open, split};
 pub use pins::{finish, pass, pin, unpin};
 pub use reading::{AsksRoot, Given, Passed, Way, read, read_within};
-pub use root_offers::{Proposed, offer, propose, yields};
+pub use root_offers::offer;
 pub use rooting::{Rooted, clean_settled, complete_offer, open_handle, root};
 pub use rules::{Closing, Parts, Pool, Rule, View};
 pub use sizes::Sizes;
