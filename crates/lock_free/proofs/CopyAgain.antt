@@ -12,7 +12,7 @@ use Rattle.machine_model.specs.Calls.{handle_of}
 use Rattle.machine_model.specs.Lines.{new_try}
 use Rattle.machine_model.specs.Operations.{from_root}
 use Rattle.machine_model.specs.Reading.{reading}
-use Rattle.lock_free.specs.declared.copying.CopyKind.{CopyKind}
+use Rattle.lock_free.specs.declared.copy_roots.CopyKind.{CopyKind}
 use Rattle.lock_free.specs.declared.reading.Way.{Way}
 use Rattle.lock_free.specs.declared.rooting.Rooted.{Rooted}
 use Rattle.lock_free.specs.declared.rules.View.{View}
@@ -79,8 +79,7 @@ module _ (u v : View) (at : IsAtTry u) (h : HasComeTo (λ o. new_try) u v) where
     comes_to_read : (q : Operation) → Runs u q → (private : List Ref) × (attempt : ℕ) × Runs w (tried_on private attempt (Some given.generation) (root_line q) q)
     comes_to_read q s =
         let (private, attempt, generation, runs) = h.comes q s in
-        let kind = ap (λ (z : Operation). copies z.call) (runs_one u q o s at.1) ∙ at.3 in
-        (
+        let kind = ap (λ (z : Operation). copies z.call) (runs_one u q o s at.1) ∙ at.3 in (
           private,
           attempt,
           subst (λ l. Runs w (tried_on private attempt (Some given.generation) l q)) (read_first q.call r.root kind) (r.comes (tried_on private attempt generation new_try q) runs),

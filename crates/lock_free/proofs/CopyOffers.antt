@@ -10,8 +10,8 @@ use Rattle.machine_model.specs.declared.lines.Line.TheVariants as line
 use Rattle.machine_model.specs.declared.operations.Operation.{Operation}
 use Rattle.machine_model.specs.declared.roots.Descriptor.{Descriptor}
 use Rattle.lock_free.specs.declared.accounts.Account.{Account}
-use Rattle.lock_free.specs.declared.copying.CopyKind.{CopyKind}
-use Rattle.lock_free.specs.declared.copying.NewRoots.{NewRoots as Roots}
+use Rattle.lock_free.specs.declared.copy_roots.CopyKind.{CopyKind}
+use Rattle.lock_free.specs.declared.copy_roots.NewRoots.{NewRoots as Roots}
 use Rattle.lock_free.specs.declared.rules.Pool.{Pool}
 use Rattle.lock_free.specs.declared.rules.View.{View}
 use Rattle.lock_free.specs.Accounts.{place_of}

@@ -15,9 +15,9 @@ use Rattle.machine_model.specs.declared.operations.Operation.{Operation}
 use Rattle.machine_model.specs.Copying.{after_given, after_successor, offering}
 use Rattle.machine_model.specs.GivingUp.{copy_given_up}
 use Rattle.machine_model.specs.Operations.{action_of}
-use Rattle.lock_free.specs.declared.copying.CopyKind.{CopyKind}
-use Rattle.lock_free.specs.declared.copying.CopyKind.TheVariants as kind
-use Rattle.lock_free.specs.declared.copying.NewRoots.{NewRoots as Roots}
+use Rattle.lock_free.specs.declared.copy_roots.CopyKind.{CopyKind}
+use Rattle.lock_free.specs.declared.copy_roots.CopyKind.TheVariants as kind
+use Rattle.lock_free.specs.declared.copy_roots.NewRoots.{NewRoots as Roots}
 use Rattle.lock_free.specs.declared.rules.View.{View}
 use Rattle.lock_free.specs.Becoming.{Follows, HasBecome, HasNew, line_made, made_on}
 use Rattle.lock_free.specs.CopySteps.{IsAtCopy, IsAtNewRoot, IsKind, copy_kind, given_line, new_root_on, HasStopped, HasNewRoot, HasRoot, HasNewRoots, HasMadeRoots}
@@ -33,7 +33,6 @@ pub given_so : (call : Call) (root main : Ref) → after_given call root main �
 given_so (Clear h) root main = refl
 given_so (Snapshot h) root main = refl
 given_so call root main = refl
-
 
 after_one : (call : Call) (o : Operation) (root main made : Ref) → copy_kind call ≡ kind.Freeze → after_successor o call root main made ≡ offering o root main made None
 after_one (Clear h) o root main made e = refl
@@ -61,7 +60,8 @@ pub unchanged : (v w : View) → w ≡ v → w ≡ record v { pool = w.pool; dra
 unchanged v w e = e ∙ ap (λ (x : View). record v { pool = x.pool; drafts = x.drafts }) (sym e)
 
 -- after more has become of it
-pub stopped_on : (u v w : View) (next : Operation → List Ref × Line) → Follows u v → ((o : Operation) → Runs u o → Runs v (record o { private = (next o).0; line = (next o).1 })) → HasStopped v w → HasStopped u w
+pub stopped_on : (u v w : View) (next : Operation → List Ref × Line) → Follows u v → ((o : Operation) → Runs u o → Runs v (record o { private = (next o).0; line = (next o).1 })) → HasStopped v
+    w → HasStopped u w
 stopped_on u v w next f comes h = record {
   is = h.is ∙ ap (λ (x : View). record x { account = w.account; pool = w.pool; drafts = w.drafts }) f.is;
   stops = λ o r. h.stops (record o { private = (next o).0; line = (next o).1 }) (comes o r);

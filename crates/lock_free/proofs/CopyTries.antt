@@ -17,12 +17,13 @@ use Rattle.machine_model.specs.Reading.{reading}
 use Rattle.machine_model.specs.States.{State, word_at}
 use Rattle.machine_model.specs.Swapping.{completing, is_plain}
 use Rattle.lock_free.specs.declared.accounts.Account.{Account}
-use Rattle.lock_free.specs.declared.copying.CopyKind.{CopyKind}
+use Rattle.lock_free.specs.declared.copy_roots.CopyKind.{CopyKind}
 use Rattle.lock_free.specs.declared.reading.Given.{Given}
 use Rattle.lock_free.specs.declared.reading.Way.{Way}
 use Rattle.lock_free.specs.declared.rules.View.{View}
 use Rattle.lock_free.specs.Accounts.{running}
-use Rattle.lock_free.specs.CopySteps.{IsAtCopy, IsAtOriginal, IsCopying, IsReady, IsStill, IsToComplete, HasCopied, HasOriginal, HasPrepared, HasReadOriginal, HasStopped, HasTried, copied_line, copied_on, copy_kind, given_line}
+use Rattle.lock_free.specs.CopySteps.{IsAtCopy, IsAtOriginal, IsCopying, IsReady, IsStill, IsToComplete, HasCopied, HasOriginal}
+use Rattle.lock_free.specs.CopySteps.{HasPrepared, HasReadOriginal, HasStopped, HasTried, copied_line, copied_on, copy_kind, given_line}
 use Rattle.lock_free.specs.Exchanging.{given_up}
 use Rattle.lock_free.specs.Loading.{now, seen, IsAt, IsSound, Runs}
 use Rattle.lock_free.specs.Making.{with_slots}

@@ -67,8 +67,7 @@ module _ (n : ℕ) (before : View) (sound : IsSound n before) (slot : ℕ) (last
     pub root_ready : (generation : ℕ) → generation < 2 ^ 36 → (value : ℕ) → value ≡ link_code (record { generation = generation; main = main }) → (w : View) → w ≡ drafted d (2 * slot) value →
         IsAtMakeRoot w generation
     root_ready generation small value value_is w w_is =
-        subst (λ x. IsAtMakeRoot x generation) (sym (w_is ∙ ap (λ x. drafted x (2 * slot) value) is))
-        (
+        subst (λ x. IsAtMakeRoot x generation) (sym (w_is ∙ ap (λ x. drafted x (2 * slot) value) is)) (
           r,
           last.0,
           slot,
@@ -94,7 +93,8 @@ module _ (n : ℕ) (before : View) (name : ℕ) (mid : View) (slot : HasSlot bef
   moved = tried.1 ∙ ap (λ (x : View). record x { drafts = d.drafts }) slot.is
 
   sound_d : IsSound n d
-  sound_d = subst (IsSound n) (sym tried.1) (record { size = sound.size; range = sound.range; bounds = sound.bounds; keys = sound.keys; counted = sound.counted; inside = sound.inside; free = sound.free })
+  sound_d = subst (IsSound n) (sym tried.1) (record { size = sound.size; range = sound.range; bounds = sound.bounds; keys = sound.keys; counted = sound.counted; inside = sound.inside; free =
+      sound.free })
 
   abbrev generation : ℕ
   generation = tried.2.0
@@ -116,7 +116,7 @@ module _ (n : ℕ) (before : View) (name : ℕ) (mid : View) (slot : HasSlot bef
       let (account, waited, took, (main, rest, other, own, p, w, is, added, gens)) = tried.2.1.0 refl in
       let pools = same_from_push rest slot.last.0 other name (sym w.last ∙ ap (λ (x : View). pool_of x.pool 0) tried.1 ∙ slot.last.1) in
       let is_it = is ∙ ap (λ xs. made_by d 0 other xs own (Indirection generation main) account) pools.0
-          ∙ ap (λ x. made_by d 0 x slot.last.0 own (Indirection generation main) account) pools.1 in
+      ∙ ap (λ x. made_by d 0 x slot.last.0 own (Indirection generation main) account) pools.1 in
       record {
         account = account;
         waited = waited;

@@ -19,9 +19,9 @@ use Rattle.machine_model.specs.Reading.{reading}
 use Rattle.machine_model.specs.Swapping.{completing}
 use Rattle.lock_free.specs.declared.copying.Copied.{Copied}
 use Rattle.lock_free.specs.declared.copying.Copied.TheVariants as copied
-use Rattle.lock_free.specs.declared.copying.CopyKind.{CopyKind}
-use Rattle.lock_free.specs.declared.copying.CopyKind.TheVariants as kind
-use Rattle.lock_free.specs.declared.copying.NewRoots.{NewRoots}
+use Rattle.lock_free.specs.declared.copy_roots.CopyKind.{CopyKind}
+use Rattle.lock_free.specs.declared.copy_roots.CopyKind.TheVariants as kind
+use Rattle.lock_free.specs.declared.copy_roots.NewRoots.{NewRoots}
 use Rattle.lock_free.specs.declared.reading.Given.{Given}
 use Rattle.lock_free.specs.declared.rules.View.{View}
 use Rattle.lock_free.specs.Becoming.{Follows, HasBecome}
@@ -160,7 +160,8 @@ pub record HasPrepared (before : View) (handle root slot : ℕ) (after : View) :
   pub is : IsStill before after
   pub offers : IsToOffer after handle root slot
   pub comes : (operation : Operation) → Runs before operation →
-      (private : List Ref) × (offer : Descriptor) × Runs after (record operation { private = private; line = line.Copy (copy.Offer offer) }) × IsItsTry (record operation { attempt = operation.attempt + 1 }) offer
+      (private : List Ref) × (offer : Descriptor) × Runs after (record operation { private = private; line = line.Copy (copy.Offer offer) }) × IsItsTry
+          (record operation { attempt = operation.attempt + 1 }) offer
 
 abbrev pub HasPreparedOrNone : View → ℕ → ℕ → Option ℕ → View → Type 0
 HasPreparedOrNone before handle root None after = HasStopped before after

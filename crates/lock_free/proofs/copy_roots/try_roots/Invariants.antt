@@ -1,6 +1,6 @@
 use Rattle.std.proofs.Common.{◌≡◌}
 use Rattle.lock_free.specs.Loading.{IsSound}
-use Rattle.lock_free.proofs.copying.try_roots.Given as goal
+use Rattle.lock_free.proofs.copy_roots.try_roots.Given as goal
 
 abbrev pub invariant-loop : goal.invariant-loop
 invariant-loop g l =

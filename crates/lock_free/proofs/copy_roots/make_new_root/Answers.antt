@@ -1,7 +1,7 @@
 use Rattle.std.proofs.Common.{subst}
 use Rattle.lock_free.specs.CopySteps.{HasTriedRoot}
 use Rattle.lock_free.proofs.RootMakes.{root_made, root_noted}
-use Rattle.lock_free.proofs.copying.make_new_root.Goals as goal
+use Rattle.lock_free.proofs.copy_roots.make_new_root.Goals as goal
 
 pub returns-clause-stock : goal.returns-clause-stock
 returns-clause-stock g c =

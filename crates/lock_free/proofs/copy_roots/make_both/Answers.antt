@@ -2,7 +2,7 @@ use Rattle.std.proofs.Common.{refl, sym, subst}
 use Rattle.machine_model.specs.declared.copying.CopyLine.TheVariants as copy
 use Rattle.lock_free.specs.CopySteps.{HasRootsOrNone}
 use Rattle.lock_free.proofs.CopyRoots.{at_second, both_made, main_at_second, second_missing, stopped}
-use Rattle.lock_free.proofs.copying.make_both.Goals as goal
+use Rattle.lock_free.proofs.copy_roots.make_both.Goals as goal
 
 pub returns-in_err-successor-clause-made : goal.returns-in_err-successor-clause-made
 returns-in_err-successor-clause-made g c root main at =

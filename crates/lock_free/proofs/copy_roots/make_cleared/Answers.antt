@@ -3,7 +3,7 @@ use Rattle.machine_model.specs.Beneath.slot_arena.specs.Heaps.{empty_branch}
 use Rattle.machine_model.specs.declared.copying.CopyLine.TheVariants as copy
 use Rattle.lock_free.specs.CopySteps.{HasRootsOrNone}
 use Rattle.lock_free.proofs.CopyRoots.{at_cleared, at_empty, cleared_made, root_missing, root_over_it, stopped, unchanged}
-use Rattle.lock_free.proofs.copying.make_cleared.Goals as goal
+use Rattle.lock_free.proofs.copy_roots.make_cleared.Goals as goal
 
 pub returns-in_err-branch-clause-made : goal.returns-in_err-branch-clause-made
 returns-in_err-branch-clause-made g c root main at =

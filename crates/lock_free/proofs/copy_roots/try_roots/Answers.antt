@@ -3,7 +3,7 @@ use Rattle.std.proofs.lemmas.Bool.{false≢true}
 use Rattle.lock_free.specs.declared.rules.View.{View}
 use Rattle.lock_free.specs.Storing.{HasMadeRoot}
 use Rattle.lock_free.proofs.RootMakes.{own_root_word, root_fits, root_ready, still_drafted}
-use Rattle.lock_free.proofs.copying.try_roots.Goals as goal
+use Rattle.lock_free.proofs.copy_roots.try_roots.Goals as goal
 
 pub loop-init : goal.loop-init
 loop-init g c = (tt, tt, refl, c.requires.sound, refl)
