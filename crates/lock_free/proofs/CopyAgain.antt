@@ -1,5 +1,5 @@
 -- COPY tries again, from the root.
-use Rattle.std.proofs.Common.{◌≡◌, ◌+◌, ℕ, Bool, true, false, List, [], Option, Some, refl, sym, ap, subst, ◌∙◌}
+use Rattle.std.proofs.Common.{◌≡◌, ◌+◌, ℕ, Bool, true, List, [], Option, Some, refl, sym, ap, subst, ◌∙◌}
 use Rattle.std.proofs.lemmas.Bool.{false≢true}
 use Rattle.history.specs.declared.calls.Call.{Call}
 use Rattle.history.specs.declared.calls.Call.TheVariants.{Clear, Snapshot, Freeze}
@@ -16,10 +16,10 @@ use Rattle.lock_free.specs.declared.copy_roots.CopyKind.{CopyKind}
 use Rattle.lock_free.specs.declared.reading.Way.{Way}
 use Rattle.lock_free.specs.declared.rooting.Rooted.{Rooted}
 use Rattle.lock_free.specs.declared.rules.View.{View}
-use Rattle.lock_free.specs.CopySteps.{IsAtCopy, IsAtOriginal, IsAtTry, IsCopying, IsStill, HasComeTo, HasGivenOut, HasStopped, HasTried, copied_line, copies, copy_kind, tried_on}
+use Rattle.lock_free.specs.CopySteps.{IsAtOriginal, IsAtTry, IsCopying, IsStill, HasComeTo, HasGivenOut, HasStopped, HasTried, copied_line, copies, copy_kind, tried_on}
 use Rattle.lock_free.specs.Loading.{IsSound, Runs}
 use Rattle.lock_free.specs.Passing.{IsOnWay}
-use Rattle.lock_free.specs.Rooting.{IsAtRoot, HasRooted, rooted, rooting_of}
+use Rattle.lock_free.specs.Rooting.{IsAtRoot, HasRooted}
 use Rattle.lock_free.specs.Stocks.{Stocked, IsStock}
 use Rattle.lock_free.proofs.Comings.{runs_one}
 use Rattle.lock_free.proofs.StockStays.{stock_later}

@@ -9,7 +9,6 @@ use Rattle.machine_model.specs.declared.copying.CopyLine.TheVariants as copy
 use Rattle.machine_model.specs.declared.lines.Line.TheVariants as line
 use Rattle.machine_model.specs.declared.operations.Operation.{Operation}
 use Rattle.machine_model.specs.declared.roots.Descriptor.{Descriptor}
-use Rattle.lock_free.specs.declared.accounts.Account.{Account}
 use Rattle.lock_free.specs.declared.copy_roots.CopyKind.{CopyKind}
 use Rattle.lock_free.specs.declared.copy_roots.NewRoots.{NewRoots as Roots}
 use Rattle.lock_free.specs.declared.rules.Pool.{Pool}

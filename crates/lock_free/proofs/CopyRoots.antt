@@ -1,6 +1,5 @@
 -- COPY makes the roots of its offer, one after the other, or stops where a slot or a generation is missing.
-use Rattle.std.proofs.Common.{◌≡◌, ◌++◌, ◌∷◌, ℕ, List, [], Option, Some, None, refl, sym, ap, subst, ◌∙◌}
-use Rattle.std.proofs.lemmas.Option.{same_Some}
+use Rattle.std.proofs.Common.{◌≡◌, ◌++◌, ◌∷◌, ℕ, List, [], Some, None, refl, sym, ap, subst, ◌∙◌}
 use Rattle.history.specs.declared.calls.Call.{Call}
 use Rattle.history.specs.declared.calls.Call.TheVariants.{Clear, Snapshot}
 use Rattle.history.specs.declared.replies.Reply.TheVariants as reply
@@ -15,12 +14,10 @@ use Rattle.machine_model.specs.declared.operations.Operation.{Operation}
 use Rattle.machine_model.specs.Copying.{after_given, after_successor, offering}
 use Rattle.machine_model.specs.GivingUp.{copy_given_up}
 use Rattle.machine_model.specs.Operations.{action_of}
-use Rattle.lock_free.specs.declared.copy_roots.CopyKind.{CopyKind}
 use Rattle.lock_free.specs.declared.copy_roots.CopyKind.TheVariants as kind
-use Rattle.lock_free.specs.declared.copy_roots.NewRoots.{NewRoots as Roots}
 use Rattle.lock_free.specs.declared.rules.View.{View}
-use Rattle.lock_free.specs.Becoming.{Follows, HasBecome, HasNew, line_made, made_on}
-use Rattle.lock_free.specs.CopySteps.{IsAtCopy, IsAtNewRoot, IsKind, copy_kind, given_line, new_root_on, HasStopped, HasNewRoot, HasRoot, HasNewRoots, HasMadeRoots}
+use Rattle.lock_free.specs.Becoming.{Follows, HasNew, line_made}
+use Rattle.lock_free.specs.CopySteps.{IsAtCopy, IsAtNewRoot, IsKind, copy_kind, given_line, HasStopped, HasNewRoot, HasRoot, HasNewRoots}
 use Rattle.lock_free.specs.Loading.{now, IsAt, Runs}
 use Rattle.lock_free.specs.Passing.{IsPlaced}
 use Rattle.lock_free.specs.SeenEntries.{HasMadeNext}

@@ -1,7 +1,6 @@
 -- A try of a copy, from the root that it reads to what comes of its offer.
-use Rattle.std.proofs.Common.{◌≡◌, ◌++◌, ◌∷◌, ◌+◌, ◌*◌, ◌<◌, ◌≤◌, ℕ, Bool, true, false, List, [], Contains, Option, Some, None, map, refl, sym, ap, subst, ◌∙◌, arith}
+use Rattle.std.proofs.Common.{◌≡◌, ◌+◌, ℕ, Bool, true, false, List, [], Contains, Option, Some, map, refl, sym, ap, subst, ◌∙◌, arith}
 use Rattle.std.proofs.lemmas.List.Elements.{Contains-push}
-use Rattle.std.proofs.lemmas.Option.{same_Some}
 use Rattle.machine_model.specs.Beneath.slot_arena.specs.declared.refs.Ref.{Ref}
 use Rattle.machine_model.specs.declared.actions.Action.TheVariants as act
 use Rattle.machine_model.specs.declared.copying.CopyLine.TheVariants as copy
@@ -12,8 +11,6 @@ use Rattle.machine_model.specs.declared.roots.Descriptor.{Descriptor}
 use Rattle.machine_model.specs.Acting.{operation_after}
 use Rattle.machine_model.specs.Calls.{handle_of}
 use Rattle.machine_model.specs.Copying.{after_given, after_offer}
-use Rattle.machine_model.specs.Lines.{new_try}
-use Rattle.machine_model.specs.Reading.{reading}
 use Rattle.machine_model.specs.States.{State, word_at}
 use Rattle.machine_model.specs.Swapping.{completing, is_plain}
 use Rattle.lock_free.specs.declared.accounts.Account.{Account}
@@ -21,21 +18,18 @@ use Rattle.lock_free.specs.declared.copy_roots.CopyKind.{CopyKind}
 use Rattle.lock_free.specs.declared.reading.Given.{Given}
 use Rattle.lock_free.specs.declared.reading.Way.{Way}
 use Rattle.lock_free.specs.declared.rules.View.{View}
-use Rattle.lock_free.specs.Accounts.{running}
-use Rattle.lock_free.specs.CopySteps.{IsAtCopy, IsAtOriginal, IsCopying, IsReady, IsStill, IsToComplete, HasCopied, HasOriginal}
-use Rattle.lock_free.specs.CopySteps.{HasPrepared, HasReadOriginal, HasStopped, HasTried, copied_line, copied_on, copy_kind, given_line}
+use Rattle.lock_free.specs.CopySteps.{IsAtOriginal, IsCopying, IsReady, IsStill, IsToComplete, HasCopied, HasOriginal}
+use Rattle.lock_free.specs.CopySteps.{HasPrepared, HasReadOriginal, HasStopped, HasTried, copied_line, copy_kind, given_line}
 use Rattle.lock_free.specs.Exchanging.{given_up}
 use Rattle.lock_free.specs.Loading.{now, seen, IsAt, IsSound, Runs}
 use Rattle.lock_free.specs.Making.{with_slots}
 use Rattle.lock_free.specs.Offering.{known_at, offered_by}
 use Rattle.lock_free.specs.Passing.{IsOnWay}
-use Rattle.lock_free.specs.Places.{words_of}
 use Rattle.lock_free.specs.RootOffers.{HasMissed, HasOffered, TookOffer}
 use Rattle.lock_free.specs.Roots.{IsItsTry}
 use Rattle.lock_free.specs.Rules.{pool_of}
 use Rattle.lock_free.specs.Stocks.{Stocked, IsStock, NotesLast, made_of, own_nodes, own_of, put_back}
 use Rattle.lock_free.proofs.Comings.{runs_one}
-use Rattle.lock_free.proofs.CopyReads.{copy_line}
 use Rattle.lock_free.proofs.CopyRoots.{given_so}
 use Rattle.lock_free.proofs.Followings.{follows_later}
 use Rattle.lock_free.proofs.Laters.{placed_later, waited_later}

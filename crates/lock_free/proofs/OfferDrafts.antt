@@ -1,10 +1,10 @@
 -- An offer is written in a free slot, word after word.
-use Rattle.std.proofs.Common.{◌≡◌, ◌≢◌, ◌+◌, ◌*◌, ◌<◌, ◌≤◌, ℕ, List, Contains, unwrap_or, refl, sym, ap, subst, ◌∙◌, arith}
+use Rattle.std.proofs.Common.{◌≡◌, ◌+◌, ◌*◌, ◌<◌, ◌≤◌, ℕ, Contains, unwrap_or, sym, ap, subst, ◌∙◌, arith}
 use Rattle.trie_words.specs.Codes.{pair_code}
 use Rattle.lock_free.specs.declared.copy_roots.NewRoots.{NewRoots as Roots}
 use Rattle.lock_free.specs.declared.rules.View.{View}
 use Rattle.lock_free.specs.CopySteps.{HasDraftedOffer}
-use Rattle.lock_free.specs.Making.{with_draft, others_than}
+use Rattle.lock_free.specs.Making.{others_than}
 use Rattle.lock_free.specs.Rules.{IsFree}
 use Rattle.lock_free.specs.Roots.{undecided}
 use Rattle.lock_free.specs.Storing.{IsOwnWord, drafted}

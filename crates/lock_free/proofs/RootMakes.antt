@@ -1,25 +1,20 @@
 -- COPY makes a root: it is written in the last free slot, and made with the generation that is next.
-use Rattle.std.proofs.Common.{◌≡◌, ◌<◌, ◌*◌, ◌+◌, ◌++◌, ◌∷◌, ◌^◌, ℕ, Bool, true, false, List, [], Some, refl, sym, ap, subst, ◌∙◌, Contains, arith}
-use Rattle.std.proofs.lemmas.Bool.{true≢false}
+use Rattle.std.proofs.Common.{◌≡◌, ◌<◌, ◌*◌, ◌++◌, ◌∷◌, ◌^◌, ℕ, Bool, true, false, List, [], Some, refl, sym, ap, subst, ◌∙◌, Contains, arith}
 use Rattle.std.proofs.lemmas.List.{same_from_push}
 use Rattle.std.proofs.lemmas.List.Elements.{Contains-push}
 use Rattle.std.proofs.lemmas.Option.{none-some, same_Some}
 use Rattle.trie_words.specs.Codes.{link_code, IsLink}
 use Rattle.trie_words.specs.declared.names.Name.{Name}
 use Rattle.machine_model.specs.Beneath.slot_arena.specs.declared.refs.Ref.{Ref}
-use Rattle.machine_model.specs.Beneath.slot_arena.specs.declared.nodes.Node.{Node}
 use Rattle.machine_model.specs.Beneath.slot_arena.specs.declared.nodes.Node.TheVariants.{Indirection}
 use Rattle.machine_model.specs.declared.actions.Action.TheVariants as act
 use Rattle.machine_model.specs.declared.copying.CopyLine.{CopyLine}
 use Rattle.machine_model.specs.declared.copying.CopyLine.TheVariants as copy
-use Rattle.machine_model.specs.declared.lines.Line.TheVariants as line
-use Rattle.machine_model.specs.declared.operations.Operation.{Operation}
 use Rattle.machine_model.specs.Copying.{copy_action}
 use Rattle.machine_model.specs.Operations.{action_of}
 use Rattle.proof_memory.specs.Making.{made_node}
 use Rattle.lock_free.specs.declared.accounts.Account.{Account}
 use Rattle.lock_free.specs.declared.rules.View.{View}
-use Rattle.lock_free.specs.Accounts.{place_of}
 use Rattle.lock_free.specs.Becoming.{HasNew, line_made}
 use Rattle.lock_free.specs.CopySteps.{IsAtCopy, IsAtNewRoot, HasTriedRoot, HasRoot, main_for, new_root_on}
 use Rattle.lock_free.specs.Loading.{now, seen, IsAt, IsSound, Runs, Waited, Took}
