@@ -1,12 +1,15 @@
 -- A call begins, once the marks that it meets are taken away.
 use Rattle.history.specs.declared.calls.Call.{Call}
-use Rattle.std.proofs.Common.{ℕ, sym, subst, ◌∙◌}
+use Rattle.std.proofs.Common.{◌≡◌, ℕ, refl, sym, subst, ◌∙◌}
 use Rattle.lock_free.specs.declared.accounts.Account.{Account}
 use Rattle.lock_free.specs.declared.calling.Started.{Started}
 use Rattle.lock_free.specs.declared.calling.Started.TheVariants as started
 use Rattle.lock_free.specs.declared.rules.View.{View}
-use Rattle.lock_free.specs.Calling.{HasStarted, IsBeginner}
+use Rattle.trie_words.specs.declared.pins.Pin.{Pin}
+use Rattle.machine_model.specs.Calls.{handle_of}
+use Rattle.lock_free.specs.Calling.{HasStarted, IsBeginner, IsCaller}
 use Rattle.lock_free.specs.Loading.{seen, IsSound, Saw, Waited}
+use Rattle.lock_free.specs.SeatWords.{pinned_for}
 use Rattle.lock_free.proofs.OneStep.Idle.{idle_stays}
 use Rattle.lock_free.proofs.Waiting.{waited_both}
 
@@ -73,3 +76,8 @@ waits_more words call before v after h sound s = record {
   beginner = subst (λ x. IsBeginner x call) (sym s.after_is) (beginner_by v call s.account s.waited h.beginner);
   then = λ result last k. h.then result last (later_by v call s.account s.waited result last (subst (λ x. HasStarted x call result last) s.after_is k));
 }
+
+-- ---- a seat has pinned itself for the call
+
+pub beginner_of : (v : View) (pin : Pin) (call : Call) → IsCaller v call → pin.handle ≡ handle_of call → IsBeginner (pinned_for v pin call) call
+beginner_of v pin call c its = record { idle = c.idle; asks = refl; pin = pin; pinned = refl; its = its; number = c.number; stays = c.stays }
