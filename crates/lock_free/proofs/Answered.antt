@@ -47,7 +47,8 @@ closes_are_answered words before after handle sound h =
     let sizes_at : h.at.sizes ≡ before.sizes = ap (λ (v : View). v.sizes) at_is ∙ ap (λ (v : View). v.sizes) w.after_is in
     let actor_at : h.at.actor ≡ before.actor = ap (λ (v : View). v.actor) at_is ∙ ap (λ (v : View). v.actor) w.after_is in
     let account_at = ap (λ (v : View). v.account) at_is ∙ ap (λ (v : View). v.account) w.after_is in
-    let steps_at : GoesOn before.account.steps h.at.account.steps = (w.waited.waited.steps, ap (λ (v : View). v.account.steps) at_is ∙ ap (λ (v : View). v.account.steps) w.after_is ∙ w.waited.waited.goes_on) in
+    let steps_at : GoesOn before.account.steps h.at.account.steps =
+    (w.waited.waited.steps, ap (λ (v : View). v.account.steps) at_is ∙ ap (λ (v : View). v.account.steps) w.after_is ∙ w.waited.waited.goes_on) in
     let all_steps = goes_both before.account.steps h.at.account.steps h.shuts.account.steps steps_at (h.shuts.waited.waited.steps, h.shuts.waited.waited.goes_on) in
     let first = histories_go_on before.sizes before.account h.shuts.account sound.bounds all_steps in
     record {
