@@ -74,6 +74,7 @@ mod SeenRoots
 mod OfferMisses
 mod OfferStep
 mod YieldStep
+mod OfferTries
 mod RootAsked
 mod FormerRoots
 mod OfferMet
@@ -83,6 +84,9 @@ mod CompleteLines
 mod OffersLater
 mod Completions
 mod Cleanings
+mod Licenses
+mod RootLines
+mod Rootings
 mod EndStep
 mod PinnedFor
 mod PinStep

@@ -107,12 +107,17 @@ module _ (before : View) (handle name found : ℕ) (knows : HasOffer before.size
     λ k c in_it. (let h = settled_there before name found m k c in_it decided in subst (HasSettled before.sizes m.kept.account k) (is k m.kept.account h) h),
   )
 
+  pub settled_as : (one : Bool) → (found == undecided) ≡ false → (found == carried_out) ≡ one → HasSeen before word found after → HasSeenSettled before name
+      (if one then carried_out else taken_back) after
+  settled_as true e f h = seen_settled carried_out (λ k account x. eqb-true found carried_out f) (eqb-false found undecided e) h
+  settled_as false e f h =
+      seen_settled taken_back (λ k account x. carried_or_back found _ _ k (eqb-false found carried_out f) x.settled) (eqb-false found undecided e) h
+
   met_by : (none one : Bool) → (found == undecided) ≡ none → (found == carried_out) ≡ one → MetAs none before word found after → HasMetOffer before handle name
       (if none then became.Undecided else (if one then became.CarriedOut else became.TakenBack)) after
   met_by true one e f g = offer_found (eqb-true found undecided e) g
-  met_by false true e f h = seen_settled carried_out (λ k account x. eqb-true found carried_out f) (eqb-false found undecided e) h
-  met_by false false e f h =
-      seen_settled taken_back (λ k account x. carried_or_back found _ _ k (eqb-false found carried_out f) x.settled) (eqb-false found undecided e) h
+  met_by false true e f h = settled_as true e f h
+  met_by false false e f h = settled_as false e f h
 
   pub meet_told : MetAs (found == undecided) before word found after → HasMetOffer before handle name (fate_by found) after
   meet_told h = met_by (found == undecided) (found == carried_out) refl refl h

@@ -31,7 +31,7 @@ pub enum Fate {
 }
 
 /// What this first word says of its offer.
-fn fate_of(found: u64) -> Fate
+pub(crate) fn fate_of(found: u64) -> Fate
     ensures { result ≡ fate_by found }
 {
     match found {

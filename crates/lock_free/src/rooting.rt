@@ -1,6 +1,8 @@
 //! ROOT: the root of a handle, once no offer stands there.
 
 ghost use Rattle.std.specs.Prelude.{◌≡◌, ◌<◌};
+ghost use Rattle.lock_free.specs.GoingDown.{HasStayed};
+ghost use Rattle.lock_free.specs.HandleWords.{HasOffer};
 ghost use Rattle.lock_free.specs.Loading.{IsSound, Saw};
 ghost use Rattle.lock_free.specs.Passing.{IsOnWay};
 ghost use Rattle.lock_free.specs.Rooting.{HasHelped, HasRooted, IsAtRoot, IsCompleting, IsSettledAt};
@@ -12,9 +14,9 @@ use crate::offers::{Fate, complete, meet_offer, see_news, see_olds};
 use crate::reading::{AsksRoot, Way, read};
 use std::sync::Wait;
 
-/// A root.
+/// The root that a ROOT gives.
 #[derive(Clone, Copy, Drop)]
-pub struct Root {
+pub struct Rooted {
     /// Where it is.
     pub slot: u32,
     /// Its generation.
@@ -66,4 +68,60 @@ pub fn complete_offer<R: Wait, A: AsksRoot>(
     let given = read(rt, asker, words, actor, way, root, None);
     let expected = see_olds(words, actor, offer).high;
     complete(words, actor, offer, given.link.main.slot == expected)
+}
+
+/// Brings the offer in this slot to its end, if it stands still, and takes it out of the word of the handle, if it is settled.
+fn help<R: Wait, A: AsksRoot>(
+    rt: &R,
+    asker: &A,
+    words: &Words,
+    actor: &mut Actor,
+    way: Way,
+    offer: u32,
+)
+    requires table { actor.old.table_id ≡ words.now.table_id }
+    requires sound { IsSound words.now.table_id.words actor.old.me.0 }
+    requires way { IsOnWay actor.old.me.0 way }
+    requires at { IsAtRoot actor.old.me.0 }
+    requires known { HasOffer actor.old.me.0.sizes actor.old.me.0.account way.handle offer }
+    ensures table { actor.new.table_id ≡ actor.old.table_id }
+    ensures sound { IsSound words.now.table_id.words actor.new.me.0 }
+    ensures stays { HasStayed actor.old.me.0 actor.new.me.0 }
+{
+    match meet_offer(words, actor, way.handle, offer) {
+        Fate::Undecided => {
+            complete_offer(rt, asker, words, actor, way, offer);
+        }
+        Fate::CarriedOut => clean_settled(words, actor, way.handle, offer, true),
+        Fate::TakenBack => clean_settled(words, actor, way.handle, offer, false),
+    }
+}
+
+/// ROOT: the root of the handle, once no offer stands there.
+pub fn root<R: Wait, A: AsksRoot>(
+    rt: &R,
+    asker: &A,
+    words: &Words,
+    actor: &mut Actor,
+    way: Way,
+) -> Rooted
+    requires table { actor.old.table_id ≡ words.now.table_id }
+    requires sound { IsSound words.now.table_id.words actor.old.me.0 }
+    requires way { IsOnWay actor.old.me.0 way }
+    requires at { IsAtRoot actor.old.me.0 }
+    ensures table { actor.new.table_id ≡ actor.old.table_id }
+    ensures sound { IsSound words.now.table_id.words actor.new.me.0 }
+    ensures rooted { HasRooted actor.old.me.0 result actor.new.me.0 }
+{
+    for _ in rt.forever() {
+        match ask_word(words, actor, way.handle) {
+            Named::Root(slot) => {
+                let generation = see_generation(words, actor, slot);
+                return Rooted { slot, generation };
+            }
+            Named::Offer(offer) => help(rt, asker, words, actor, way, offer),
+            Named::Nothing => {}
+        }
+    }
+    unreachable!()
 }
