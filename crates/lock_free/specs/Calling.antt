@@ -30,7 +30,7 @@ use Rattle.lock_free.specs.Exchanging.{given_back}
 use Rattle.lock_free.specs.HandleWords.{is_marked, HasSeenRoot, TellsRoot}
 use Rattle.lock_free.specs.Loading.{now, seen, IsSound, Runs, Saw, Waited}
 use Rattle.lock_free.specs.Places.{root_word, words_of}
-use Rattle.lock_free.specs.SeatWords.{pinned_for, unpinned, IsIdle}
+use Rattle.lock_free.specs.SeatWords.{pinned_for, unpinned, HasEnded, IsIdle}
 use Rattle.lock_free.specs.Telling.{history_of}
 
 -- The seat runs nothing, has pinned itself for this call, and has reserved a number if it opens a handle.
@@ -150,3 +150,8 @@ HasGivenUp before after = (operation : Operation) (answer : Reply) → Runs befo
 
 abbrev pub has_given_up : Step Call → Me Call View → ℕ → Me Call View → Type 0
 has_given_up access before found after = HasGivenUp before.0 after.0 × IsSound (words_of before.0.sizes) after.0 × (after.1 ≡ before.1)
+
+-- it has given up, and has ended with what it then had to answer
+abbrev pub IsCancelled : View → View → Type 0
+IsCancelled before after =
+    (operation : Operation) (answer : Reply) → Runs before operation → given_up operation.call operation.line ≡ Some answer → (at : View) × GaveUp before operation answer at × HasEnded at answer after

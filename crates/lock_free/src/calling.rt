@@ -2,12 +2,12 @@
 
 ghost use Rattle.std.specs.Prelude.{◌≡◌, ◌<◌, ◌≤◌, ◌^◌};
 ghost use Rattle.machine_model.specs.Calls.{handle_of, key_of, needs_read_only, needs_writable};
-ghost use Rattle.lock_free.specs.Calling.{started_by, HasCalled, HasGivenUp, HasStarted, HasTriedToStart, IsBeginner, IsCaller, MayGiveUp};
+ghost use Rattle.lock_free.specs.Calling.{started_by, HasCalled, HasGivenUp, HasStarted, HasTriedToStart, IsBeginner, IsCancelled, IsCaller, MayGiveUp};
 ghost use Rattle.lock_free.specs.Loading.{IsSound};
 
 use crate::handles::{root_word_of, unmark};
 use crate::loads::{Actor, Words};
-use crate::pins::{pin, unpin};
+use crate::pins::{finish, pin, unpin};
 use crate::rules::{Abandons, Starts};
 use history::Call;
 use std::sync::Wait;
@@ -172,4 +172,19 @@ pub fn give_up(words: &Words, actor: &mut Actor)
     ensures gave { HasGivenUp actor.old.me.0 actor.new.me.0 }
 {
     words.load::<Abandons>(actor, EPOCH);
+}
+
+/// Ends the operation of this seat at once, as one that gives up. The seat is pinned no more.
+pub fn cancel(words: &Words, actor: &mut Actor, seat: u8)
+    requires table { actor.old.table_id ≡ words.now.table_id }
+    requires sound { IsSound words.now.table_id.words actor.old.me.0 }
+    requires its { actor.old.me.0.actor ≡ seat }
+    requires few { actor.old.me.0.actor ≤ actor.old.me.0.sizes.seats }
+    requires may { MayGiveUp actor.old.me.0 }
+    ensures table { actor.new.table_id ≡ actor.old.table_id }
+    ensures sound { IsSound words.now.table_id.words actor.new.me.0 }
+    ensures cancelled { IsCancelled actor.old.me.0 actor.new.me.0 }
+{
+    give_up(words, actor);
+    finish(words, actor, seat);
 }

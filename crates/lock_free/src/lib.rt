@@ -33,6 +33,7 @@ pub use asking::ask_word;
 pub use asking::see_generation;
 pub use calling::Denial;
 pub use calling::Started;
+pub use calling::cancel;
 pub use calling::give_up;
 pub use calling::start;
 pub use closing::Shut;
