@@ -80,6 +80,7 @@ mod FormerRoots
 mod OfferMet
 mod OfferSeen
 mod CleanStep
+mod OpenStep
 mod CompleteLines
 mod OffersLater
 mod Completions

@@ -89,8 +89,8 @@ module _ (before : View) (handle name found : ℕ) (knows : HasOffer before.size
   yielded_by : (none one : Bool) → (found == undecided) ≡ none → (found == carried_out) ≡ one → YieldedAs none before (2 * name) found after → HasYielded before name
       (if none then became.Undecided else (if one then became.CarriedOut else became.TakenBack)) after
   yielded_by true one e f h = h
-  yielded_by false true e f h = settled_as before handle name found knows after true e f h
-  yielded_by false false e f h = settled_as before handle name found knows after false e f h
+  yielded_by false true e f h = settled_as before name found after h true e f
+  yielded_by false false e f h = settled_as before name found after h false e f
 
   pub yield_told : YieldedAs (found == undecided) before (2 * name) found after → HasYielded before name (fate_by found) after
   yield_told h = yielded_by (found == undecided) (found == carried_out) refl refl h
