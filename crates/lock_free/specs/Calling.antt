@@ -23,12 +23,14 @@ use Rattle.lock_free.specs.declared.calling.Denial.{Denial}
 use Rattle.lock_free.specs.declared.calling.Denial.TheVariants as denial
 use Rattle.lock_free.specs.declared.calling.Started.{Started}
 use Rattle.lock_free.specs.declared.calling.Started.TheVariants as started
+use Rattle.lock_free.specs.declared.reading.Way.{Way}
 use Rattle.lock_free.specs.declared.rules.View.{View}
 use Rattle.lock_free.specs.Accounts.{running}
 use Rattle.lock_free.specs.Beginning.{taking}
 use Rattle.lock_free.specs.Exchanging.{given_back}
 use Rattle.lock_free.specs.HandleWords.{is_marked, HasSeenRoot, TellsRoot}
 use Rattle.lock_free.specs.Loading.{now, seen, IsSound, Runs, Saw, Waited}
+use Rattle.lock_free.specs.Passing.{IsOnWay}
 use Rattle.lock_free.specs.Places.{root_word, words_of}
 use Rattle.lock_free.specs.SeatWords.{pinned_for, unpinned, HasEnded, IsIdle}
 use Rattle.lock_free.specs.Telling.{history_of}
@@ -126,8 +128,8 @@ pub data IsRefused (before : View) (call : Call) : Denial → View → Type 0 wh
   is_opening : (slot : ℕ) (after : View) → HasSeenRoot before (handle_of call) (word.Opening slot) after → IsRefused before call denial.NoHandle after
 
 -- it has begun, or the seat isn't pinned any more
-abbrev pub HasCalled : View → Call → Result RootWord Denial → View → Type 0
-HasCalled before call (Ok found) after = (pin : Pin) × HasBegun (pinned_for before pin call) call found after
+abbrev pub HasCalled : View → Call → Result Way Denial → View → Type 0
+HasCalled before call (Ok way) after = (pin : Pin) × (found : RootWord) × HasBegun (pinned_for before pin call) call found after × IsOnWay after way
 HasCalled before call (Err why) after = (pin : Pin) × (at : View) × IsRefused (pinned_for before pin call) call why at × (after ≡ unpinned at)
 
 -- ---- an operation gives up, at any load

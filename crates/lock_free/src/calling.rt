@@ -2,14 +2,15 @@
 
 ghost use Rattle.std.specs.Prelude.{◌≡◌, ◌<◌, ◌≤◌, ◌^◌};
 ghost use Rattle.machine_model.specs.Calls.{handle_of, key_of, needs_read_only, needs_writable};
-ghost use Rattle.lock_free.specs.Calling.{started_by, HasCalled, HasGivenUp, HasStarted, HasTriedToStart, IsBeginner, IsCancelled, IsCaller, MayGiveUp};
+ghost use Rattle.lock_free.specs.Calling.{access_in, started_by, HasCalled, HasGivenUp, HasStarted, HasTriedToStart, IsBeginner, IsCancelled, IsCaller, MayGiveUp};
 ghost use Rattle.lock_free.specs.Loading.{IsSound};
 
 use crate::handles::{root_word_of, unmark};
 use crate::loads::{Actor, Words};
 use crate::pins::{finish, pin, unpin};
+use crate::reading::Way;
 use crate::rules::{Abandons, Starts};
-use history::Call;
+use history::{Access, Call};
 use std::sync::Wait;
 use trie_words::{Pin, RootWord};
 
@@ -129,8 +130,18 @@ pub fn begin<R: Wait>(rt: &R, words: &Words, actor: &mut Actor, call: &Call) -> 
     unreachable!()
 }
 
-/// The beginning of a call: pins this seat, `seat`, in this epoch and begins the operation; the word of its handle is returned. An `Err`
-/// says why none has begun: the seat is as before. A handle isn't open yet while the call that opens it hasn't ended.
+/// The access of an open handle with this word.
+fn access_of(found: RootWord) -> Access
+    ensures { result ≡ access_in found }
+{
+    match found {
+        RootWord::ReadOnly(_) => Access::ReadOnly,
+        _ => Access::Writable,
+    }
+}
+
+/// The beginning of a call: pins this seat, `seat`, in this epoch and begins the operation; its handle and what that allows is returned.
+/// An `Err` says why none has begun: the seat is as before. A handle isn't open yet while the call that opens it hasn't ended.
 pub fn start<R: Wait>(
     rt: &R,
     words: &Words,
@@ -138,7 +149,7 @@ pub fn start<R: Wait>(
     seat: u8,
     epoch: u64,
     call: &Call,
-) -> Result<RootWord, Denial>
+) -> Result<Way, Denial>
     requires table { actor.old.table_id ≡ words.now.table_id }
     requires sound { IsSound words.now.table_id.words actor.old.me.0 }
     requires its { actor.old.me.0.actor ≡ seat }
@@ -153,7 +164,10 @@ pub fn start<R: Wait>(
     let handle = call.handle();
     pin(words, actor, seat, Pin { epoch, handle }, call);
     let denial = match begin(rt, words, actor, call) {
-        Started::Runs(found) => return Ok(found),
+        Started::Runs(found) => {
+            let access = access_of(found);
+            return Ok(Way { handle, access });
+        }
         Started::Denied(denial) => denial,
         Started::Opening(_) => Denial::NoHandle,
     };
