@@ -34,14 +34,14 @@ mod swapping;
 
 pub use accounts::{Account, Known, Owned};
 pub use asking::{Named, ask_word, see_generation};
-pub use calling::{Denial, Started, begin, give_up, try_begin};
+pub use calling::{Denial, Started, cancel, give_up, start};
 pub use closing::{Shut, close_handle};
 pub use copy_roots::CopyKind;
 pub use copying::make_copy;
 pub use entries::see_entries;
 pub use exchanges::{decide, publish, restore};
 pub use finding::{Entered, Level, Met, go_down};
-pub use handles::{clean, close, mark, open_number, see_root, unmark};
+pub use handles::{clean, open_number, see_root};
 pub use laws::{calls_are_answered, closes_are_answered, histories_go_on, seats_are_explained};
 pub use licensing::Asker;
 pub use loads::{
@@ -52,7 +52,7 @@ pub use makes::{make_branch, make_link, make_list, make_single, make_tomb};
 pub use numbers::{give_back, name, reserve};
 pub use offers::{Fate, abort, complete, meet_offer, see_fate, see_news, see_olds};
 pub use opening::{Board, OpenError, open, split};
-pub use pins::{finish, pass, pin, unpin};
+pub use pins::finish;
 pub use reading::{AsksRoot, Given, Passed, Way, read, read_within};
 pub use root_offers::offer;
 pub use rooting::{Rooted, clean_settled, complete_offer, open_handle, root};
