@@ -288,7 +288,17 @@ module _ (sizes : Sizes) (s : Table.State Call View) (kept : IsKept sizes s) (id
     generations = root.generations_rooted sizes kept.account kept.stands s.words all handle low (root_code (word.Offered slot)) ∙ sym offers.leaves.generations;
     nodes = root.nodes_left sizes kept.account account_then.steps account_then.offers offers.leaves kept.stands words_then not_its_slot
         (root.nodes_rooted sizes kept.account kept.stands s.words all handle low (root_code (word.Offered slot)));
-    roots = record { means = means_all; offers = written_all; blocks = blocks_all; single = single_all; tries = tries_all; stood = stood_all; marks = marks_all; fates = fates_all; pending = pending_all };
+    roots = record {
+      means = means_all;
+      offers = written_all;
+      blocks = blocks_all;
+      single = single_all;
+      tries = tries_all;
+      stood = stood_all;
+      marks = marks_all;
+      fates = fates_all;
+      pending = pending_all;
+    };
   }
 
   -- ---- seats
