@@ -111,10 +111,6 @@ module _ (sizes : Sizes) (s : Table.State Call View) (kept : IsKept sizes s) (id
     others = λ a differs. ap (λ o. option_map try_of o) (offers.others a differs);
   })
 
-  -- an older offer is in another slot
-  another : (k : Known) → Contains kept.account.offers k → k.slot ≢ slot
-  another k c = spare.1.1 k c
-
   fate_old : (k : Known) → Contains kept.account.offers k → fate words_then k ≡ fate s.words k
   fate_old = root.fate_rooted sizes kept.account kept.stands s.words all handle low (root_code (word.Offered slot))
 
@@ -203,7 +199,7 @@ module _ (sizes : Sizes) (s : Table.State Call View) (kept : IsKept sizes s) (id
   ]
 
   single_all : (k l : Known) → Contains account_then.offers k → Contains account_then.offers l → k.slot ≡ l.slot → k ≡ l
-  single_all = single_more new kept.account.offers another kept.roots.single
+  single_all = single_more new kept.account.offers spare.1.1 kept.roots.single
 
   -- no older offer is of the new one's try
   newer : (k : Known) → Contains kept.account.offers k → k.offer.operation ≡ offer.operation → k.offer.attempt ≡ offer.attempt → ⊥
