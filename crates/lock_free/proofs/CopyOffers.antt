@@ -34,7 +34,7 @@ second_named v None (Some name) h = absurd h
 second_named v (Some r) None h = absurd h
 
 module _ (u : View) (k : CopyKind) (handle : ℕ) (opens : Option ℕ) (c : IsCopying u k handle opens) (root_name main_name : ℕ) (ready : IsReady u k root_name main_name) (roots : Roots) (a : View)
-    (made : HasNewRoots u ready.0 ready.1 roots a) where
+    (made : HasNewRoots u k ready.0 ready.1 roots a) where
   abbrev root : Ref
   root = ready.0
 
@@ -83,7 +83,7 @@ module _ (u : View) (k : CopyKind) (handle : ℕ) (opens : Option ℕ) (c : IsCo
     still : IsStill u e
     still = ap (λ (x : View). record x { pool = pool; drafts = drafts; opening = opening }) made.follows.is
 
-    prepared : HasPrepared u handle root_name slot e
+    prepared : HasPrepared u k opens handle root_name slot e
     unfolding at_offer
     prepared = record {
       is = still;
@@ -108,6 +108,8 @@ module _ (u : View) (k : CopyKind) (handle : ℕ) (opens : Option ℕ) (c : IsCo
         },
         (c.on o ready.2.1).0,
       );
+      opening = (c.on o ready.2.1).1;
+      two = made.two;
       comes = λ q r. (let x = made.comes q r in (x.0, offer_of q root main made.successor made.second, x.1, record { its = refl; now = refl }));
     }
 
@@ -133,12 +135,12 @@ module _ (u : View) (k : CopyKind) (handle : ℕ) (opens : Option ℕ) (c : IsCo
       on = refl;
     }
 
-    pub named_so : (number : ℕ) → (w : View) → w ≡ naming d slot → HasPrepared u handle root_name slot w
+    pub named_so : (number : ℕ) → (w : View) → w ≡ naming d slot → HasPrepared u k opens handle root_name slot w
     named_so number w is =
-        subst (HasPrepared u handle root_name slot) (sym (is ∙ ap (λ (x : View). naming x slot) drafts_are))
+        subst (HasPrepared u k opens handle root_name slot) (sym (is ∙ ap (λ (x : View). naming x slot) drafts_are))
         (prepared b.pool d.drafts (Some slot) slot free.last.0 free.last.1 drafted.first drafted.olds drafted.news (λ number e. refl))
 
-    pub unnamed_so : opens ≡ None → HasPrepared u handle root_name slot d
+    pub unnamed_so : opens ≡ None → HasPrepared u k opens handle root_name slot d
     unnamed_so none =
-        subst (HasPrepared u handle root_name slot) (sym drafts_are)
+        subst (HasPrepared u k opens handle root_name slot) (sym drafts_are)
         (prepared b.pool d.drafts a.opening slot free.last.0 free.last.1 drafted.first drafted.olds drafted.news (λ number e. absurd (none-some number (sym none ∙ e))))

@@ -70,10 +70,11 @@ module _ (before : View) (root main : Ref) (at : IsAtCopy before (copy.Successor
   abbrev new : HasNewRoot before (copy.Successor root main) name after
   new = h (copy.Successor root main) main at refl
 
-  pub one_root_made : IsKind before kind.Freeze → HasNewRoots before root main (record { successor = name; second = None }) after
+  pub one_root_made : IsKind before kind.Freeze → HasNewRoots before kind.Freeze root main (record { successor = name; second = None }) after
   one_root_made which = record {
     successor = new.made;
     second = None;
+    two = refl;
     successor_placed = new.placed;
     second_placed = tt;
     follows = new.become.follows;
@@ -100,12 +101,13 @@ module _ (before : View) (root main : Ref) (at : IsAtCopy before (copy.Successor
           stopped_on before after then (λ o. (o.private ++ new.made ∷ [], line.Copy (copy.Second root main new.made))) new.become.follows first_comes
           (stopped after (copy.Second root main new.made) at_second refl then is)
 
-      pub both_made : (second : ℕ) → HasRoot after (Some second) then → HasNewRoots before root main (record { successor = name; second = Some second }) then
+      pub both_made : (second : ℕ) → HasRoot after (Some second) then → HasNewRoots before kind.Snapshot root main (record { successor = name; second = Some second }) then
       both_made second g =
           let more = g (copy.Second root main new.made) main at_second refl in
           record {
             successor = new.made;
             second = Some more.made;
+            two = refl;
             successor_placed = placed_on after then more.become.follows new.made name new.placed;
             second_placed = more.placed;
             follows = follows_both before after then new.become.follows more.become.follows;
@@ -148,12 +150,13 @@ module _ (before : View) (root main : Ref) (at : IsAtCopy before (copy.Empty roo
           stopped_on before middle then (λ o. (o.private ++ new_branch.made ∷ [], line.Copy (copy.Cleared root main new_branch.made))) new_branch.become.follows branch_comes
           (stopped middle (copy.Cleared root main new_branch.made) at_cleared refl then is)
 
-      pub cleared_made : (name : ℕ) → HasRoot middle (Some name) then → HasNewRoots before root main (record { successor = name; second = None }) then
+      pub cleared_made : (name : ℕ) → HasRoot middle (Some name) then → HasNewRoots before kind.Clear root main (record { successor = name; second = None }) then
       cleared_made name g =
           let more = g (copy.Cleared root main new_branch.made) new_branch.made at_cleared refl in
           record {
             successor = more.made;
             second = None;
+            two = refl;
             successor_placed = more.placed;
             second_placed = tt;
             follows = follows_both before middle then new_branch.become.follows more.become.follows;

@@ -1,5 +1,5 @@
 -- A try of a copy, from the root that it reads to what comes of its offer.
-use Rattle.std.proofs.Common.{◌≡◌, ◌+◌, ℕ, Bool, true, false, List, [], Contains, Option, Some, map, refl, sym, ap, subst, ◌∙◌, arith}
+use Rattle.std.proofs.Common.{◌≡◌, ◌+◌, ◌*◌, ◌≤◌, ℕ, Bool, true, false, List, [], Contains, Option, Some, map, refl, sym, ap, subst, ◌∙◌, arith}
 use Rattle.std.proofs.lemmas.List.Elements.{Contains-push}
 use Rattle.machine_model.specs.Beneath.slot_arena.specs.declared.refs.Ref.{Ref}
 use Rattle.machine_model.specs.declared.actions.Action.TheVariants as act
@@ -18,25 +18,27 @@ use Rattle.lock_free.specs.declared.copy_roots.CopyKind.{CopyKind}
 use Rattle.lock_free.specs.declared.reading.Given.{Given}
 use Rattle.lock_free.specs.declared.reading.Way.{Way}
 use Rattle.lock_free.specs.declared.rules.View.{View}
-use Rattle.lock_free.specs.CopySteps.{IsAtOriginal, IsCopying, IsReady, IsStill, IsToComplete, HasCopied, HasOriginal}
-use Rattle.lock_free.specs.CopySteps.{HasPrepared, HasReadOriginal, HasStopped, HasTried, copied_line, copy_kind, given_line}
+use Rattle.lock_free.specs.CopySteps.{HasCopied, HasOriginal, HasPrepared, HasReadOriginal, HasStopped, HasTried, IsAtOriginal, IsCopying}
+use Rattle.lock_free.specs.CopySteps.{IsReady, IsStill, IsToComplete, IsToOpenAll, copied_line, copied_on, copy_kind, given_line, is_snapshot}
 use Rattle.lock_free.specs.Exchanging.{given_up}
-use Rattle.lock_free.specs.Loading.{now, seen, IsAt, IsSound, Runs}
+use Rattle.lock_free.specs.Loading.{now, seen, IsAt, IsSound, Runs, Saw}
 use Rattle.lock_free.specs.Making.{with_slots}
 use Rattle.lock_free.specs.Offering.{known_at, offered_by}
 use Rattle.lock_free.specs.Passing.{IsOnWay}
+use Rattle.lock_free.specs.Places.{words_in, words_of}
 use Rattle.lock_free.specs.RootOffers.{HasMissed, HasOffered, TookOffer}
+use Rattle.lock_free.specs.RootWords.{IsToOpen}
 use Rattle.lock_free.specs.Roots.{IsItsTry}
 use Rattle.lock_free.specs.Rules.{pool_of}
 use Rattle.lock_free.specs.Stocks.{Stocked, IsStock, NotesLast, made_of, own_nodes, own_of, put_back}
-use Rattle.lock_free.proofs.Comings.{runs_one}
+use Rattle.lock_free.proofs.Comings.{runs_one, saw_runs}
 use Rattle.lock_free.proofs.CopyRoots.{given_so}
 use Rattle.lock_free.proofs.Followings.{follows_later}
-use Rattle.lock_free.proofs.Laters.{placed_later, waited_later}
+use Rattle.lock_free.proofs.Laters.{placed_later, saw_later, waited_later}
 use Rattle.lock_free.proofs.NewNodes.{all_made_same, own_used}
 use Rattle.lock_free.proofs.OfferMisses.{same_offer}
 use Rattle.lock_free.proofs.Pools.{first_there}
-use Rattle.lock_free.proofs.StockStays.{stock_moved}
+use Rattle.lock_free.proofs.StockStays.{stock_later, stock_moved}
 use Rattle.lock_free.proofs.SwapsMade.{back_is}
 
 -- ---- the root is read
@@ -99,7 +101,7 @@ module _ (n : ℕ) (u : View) (sound : IsSound n u) (k : CopyKind) (handle : ℕ
 
   -- ---- the offer is ready
 
-  module _ (slot : ℕ) (w : View) (ready : HasPrepared v handle name slot w) where
+  module _ (slot : ℕ) (w : View) (ready : HasPrepared v k opens handle name slot w) where
     abbrev offer : Descriptor
     offer = ready.offers.0
 
@@ -222,6 +224,21 @@ module _ (n : ℕ) (u : View) (sound : IsSound n u) (k : CopyKind) (handle : ℕ
             its_try = record { its = (is_offering o at.1.1).its_try.its; now = (is_offering o at.1.1).its_try.now };
           })
 
+      -- what it opens, once it is carried out
+      to_open : (number : ℕ) → opens ≡ Some number → IsToOpen x number slot (is_snapshot k)
+      to_open number is =
+          let free = sound_w.free 1 slot (omega arith, subst (λ xs. Contains xs slot) (sym ready.offers.3.last) (Contains-push rest slot)) in
+          subst (λ y. IsToOpen y number slot (is_snapshot k)) (sym stood_so) (
+            record {
+              its = known_at slot (handle_of its.operation.call) offer;
+              here = first_there (known_at slot (handle_of its.operation.call) offer) then.offers;
+              place = refl;
+              opens = ready.opening ∙ is;
+              inside = free;
+            },
+            ready.two,
+          )
+
       pub way_then : (way : Way) → IsOnWay u way → IsOnWay x way
       way_then way on q s =
           let same = runs_one x q (completes o) s (completing_it o at.1.1) in
@@ -249,3 +266,32 @@ module _ (n : ℕ) (u : View) (sound : IsSound n u) (k : CopyKind) (handle : ℕ
               (still_by w x (stood_so ∙ ap (λ (z : View). record w { account = z.account; pool = z.pool; drafts = z.drafts; opening = z.opening }) (sym stood_so)) still_w);
           comes = λ q s. copied.comes (completes q) (completing_it q s);
         }
+
+        pub opens_all : IsToOpenAll y k opens slot
+        opens_all number is =
+            let (has, two) = to_open number is in (
+              c.low number is,
+              (
+                record {
+                  its = has.its;
+                  here = copied.later.offers has.its has.here;
+                  place = has.place;
+                  opens = has.opens;
+                  inside = subst (λ (z : View). 2 * slot + words_in 1 ≤ words_of z.sizes) (sym copied.later.is) has.inside;
+                },
+                two,
+              ),
+            )
+
+        -- and is open
+        module _ (sound_y : IsSound n y) (z : View) (saw : Saw y z) where
+          pub opened_tried : HasTried u carried y → HasTried u carried z
+          opened_tried t = record {
+            is = still_by y z (saw.after_is ∙ ap (λ (e : View). record y { account = e.account; pool = e.pool; drafts = e.drafts; opening = e.opening }) (sym saw.after_is)) t.is;
+            comes = λ q s. saw_runs y z saw (copied_on carried q) (t.comes q s);
+          }
+
+          pub opened_stock : (stock : Stocked) → HasTried u carried y → IsStock stock y → IsStock stock z
+          opened_stock stock t is =
+              stock_later n y z sound_y (copied_on carried o) (t.comes o at.1.1) stock is (saw_later n y sound_y z saw) (copied_on carried o)
+              (saw_runs y z saw (copied_on carried o) (t.comes o at.1.1)) refl

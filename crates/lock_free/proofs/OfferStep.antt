@@ -253,7 +253,7 @@ module _ (v : View) (root slot : ℕ) (offer : Descriptor) (rest : List ℕ) (p 
           (waited_so v s kept id at).sound,
           subst (λ y. HasProposed v handle slot y (seen v there)) (sym is)
               (subst (λ y. HasSeenRoot v handle y (seen v there)) (ap root_of e ∙ root_back x fits) (root_told v handle found (seen v there) low
-                  (record { table = s; kept = kept; id = id; at = at; finds = refl }, refl))),
+              (record { table = s; kept = kept; id = id; at = at; finds = refl }, refl))),
         ),
       ),
     )

@@ -88,8 +88,16 @@ module _ (n : ℕ) (before : View) (name : ℕ) (mid : View) (slot : HasSlot bef
   moved = tried.1 ∙ ap (λ (x : View). record x { drafts = d.drafts }) slot.is
 
   sound_d : IsSound n d
-  sound_d = subst (IsSound n) (sym tried.1) (record { size = sound.size; range = sound.range; bounds = sound.bounds; keys = sound.keys; counted = sound.counted; inside = sound.inside; free =
-      sound.free })
+  sound_d = subst (IsSound n) (sym tried.1) (record {
+    size = sound.size;
+    range = sound.range;
+    bounds = sound.bounds;
+    keys = sound.keys;
+    counted = sound.counted;
+    inside = sound.inside;
+    free =
+        sound.free;
+  })
 
   abbrev generation : ℕ
   generation = tried.2.0

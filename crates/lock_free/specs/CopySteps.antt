@@ -2,7 +2,7 @@
 use Rattle.history.specs.declared.calls.Call.{Call}
 use Rattle.history.specs.declared.calls.Call.TheVariants.{Clear, Snapshot, Freeze}
 use Rattle.history.specs.declared.replies.Reply.TheVariants as reply
-use Rattle.std.specs.Prelude.{◌≡◌, ◌<◌, ◌+◌, ◌*◌, ◌++◌, ◌∷◌, [], ℕ, Bool, true, false, List, Contains, Option, Some, None, unwrap_or, if◌then◌else◌}
+use Rattle.std.specs.Prelude.{◌≡◌, ◌<◌, ◌+◌, ◌*◌, ◌++◌, ◌∷◌, [], ℕ, Bool, true, false, List, Contains, Option, Some, None, is_some, unwrap_or, if◌then◌else◌}
 use Rattle.trie_words.specs.Codes.{pair_code}
 use Rattle.machine_model.specs.Beneath.slot_arena.specs.declared.refs.Ref.{Ref}
 use Rattle.machine_model.specs.declared.copying.CopyLine.{CopyLine}
@@ -30,6 +30,7 @@ use Rattle.lock_free.specs.HandleWords.{HasOffer}
 use Rattle.lock_free.specs.Loading.{Runs}
 use Rattle.lock_free.specs.Passing.{IsPlaced, KnowsLink, KnowsMain}
 use Rattle.lock_free.specs.RootOffers.{IsToOffer}
+use Rattle.lock_free.specs.RootWords.{IsToOpen}
 use Rattle.lock_free.specs.Roots.{IsItsTry, undecided}
 use Rattle.lock_free.specs.Storing.{HasMadeRoot}
 
@@ -92,6 +93,11 @@ copy_kind (Clear h) = kind.Clear
 copy_kind (Snapshot h) = kind.Snapshot
 copy_kind call = kind.Freeze
 
+-- that may be written
+abbrev pub is_snapshot : CopyKind → Bool
+is_snapshot kind.Snapshot = true
+is_snapshot k = false
+
 abbrev pub IsKind : View → CopyKind → Type 0
 IsKind v k = (operation : Operation) → Runs v operation → copy_kind operation.call ≡ k
 
@@ -124,24 +130,25 @@ IsSecond v None None = Unit {0}
 IsSecond v (Some r) (Some name) = IsPlaced v r name
 IsSecond v r name = ⊥
 
-pub record HasNewRoots (before : View) (root main : Ref) (roots : NewRoots) (after : View) : Type 0 where
+pub record HasNewRoots (before : View) (k : CopyKind) (root main : Ref) (roots : NewRoots) (after : View) : Type 0 where
   pub successor : Ref
   pub second : Option Ref
+  pub two : is_some second ≡ is_snapshot k
   pub successor_placed : IsPlaced after successor roots.successor
   pub second_placed : IsSecond after second roots.second
   pub follows : Follows before after
   pub comes : ComesToOffer root main successor second before after
 
-abbrev pub HasRootsOrNone : View → Ref → Ref → Option NewRoots → View → Type 0
-HasRootsOrNone before root main None after = HasStopped before after
-HasRootsOrNone before root main (Some roots) after = HasNewRoots before root main roots after
+abbrev pub HasRootsOrNone : View → CopyKind → Ref → Ref → Option NewRoots → View → Type 0
+HasRootsOrNone before k root main None after = HasStopped before after
+HasRootsOrNone before k root main (Some roots) after = HasNewRoots before k root main roots after
 
 -- the main node of its root, which is in this slot, was read
 abbrev pub IsGiven : View → CopyKind → ℕ → Type 0
 IsGiven v k name = (root : Ref) × (main : Ref) × IsAtCopy v (given_line k root main) × IsPlaced v main name
 
 abbrev pub HasMadeRoots : View → CopyKind → Option NewRoots → View → Type 0
-HasMadeRoots before k result after = (root main : Ref) → IsAtCopy before (given_line k root main) → HasRootsOrNone before root main result after
+HasMadeRoots before k result after = (root main : Ref) → IsAtCopy before (given_line k root main) → HasRootsOrNone before k root main result after
 
 -- ---- its offer is written
 
@@ -156,16 +163,18 @@ abbrev pub IsStill : View → View → Type 0
 IsStill v w = w ≡ record v { account = w.account; pool = w.pool; drafts = w.drafts; opening = w.opening }
 
 -- its operation is about to offer it, by its next try
-pub record HasPrepared (before : View) (handle root slot : ℕ) (after : View) : Type 0 where
+pub record HasPrepared (before : View) (k : CopyKind) (opens : Option ℕ) (handle root slot : ℕ) (after : View) : Type 0 where
   pub is : IsStill before after
   pub offers : IsToOffer after handle root slot
+  pub opening : offers.0.opens ≡ opens
+  pub two : is_some offers.0.second ≡ is_snapshot k
   pub comes : (operation : Operation) → Runs before operation →
       (private : List Ref) × (offer : Descriptor) × Runs after (record operation { private = private; line = line.Copy (copy.Offer offer) }) × IsItsTry
-          (record operation { attempt = operation.attempt + 1 }) offer
+      (record operation { attempt = operation.attempt + 1 }) offer
 
-abbrev pub HasPreparedOrNone : View → ℕ → ℕ → Option ℕ → View → Type 0
-HasPreparedOrNone before handle root None after = HasStopped before after
-HasPreparedOrNone before handle root (Some slot) after = HasPrepared before handle root slot after
+abbrev pub HasPreparedOrNone : View → CopyKind → Option ℕ → ℕ → ℕ → Option ℕ → View → Type 0
+HasPreparedOrNone before k opens handle root None after = HasStopped before after
+HasPreparedOrNone before k opens handle root (Some slot) after = HasPrepared before k opens handle root slot after
 
 -- its root is in this slot, and the main node that it has read there in that one
 abbrev pub IsReady : View → CopyKind → ℕ → ℕ → Type 0
@@ -193,6 +202,11 @@ copied_line carried operation = if carried then line.End (copied_reply operation
 
 abbrev pub HasCopied : View → Bool → View → Type 0
 HasCopied before carried after = HasMoved (copied_line carried) before after
+
+-- ---- what it opens is opened
+
+abbrev pub IsToOpenAll : View → CopyKind → Option ℕ → ℕ → Type 0
+IsToOpenAll v k opens slot = (number : ℕ) → opens ≡ Some number → (number < 256) × IsToOpen v number slot (is_snapshot k)
 
 -- ---- a try as a whole
 

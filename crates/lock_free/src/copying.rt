@@ -1,8 +1,9 @@
 //! COPY: offers a new root in the place of the old one, and completes the offer.
 
 ghost use Rattle.std.specs.Prelude.{◌≡◌, ◌<◌, OnSome};
-ghost use Rattle.lock_free.specs.CopySteps.{HasCopied, HasDraftedOffer, HasMadeCopy, HasOriginal, HasPreparedOrNone, HasTriedCopy, IsAtOriginal, IsAtTry, IsCopying, IsReady, IsToComplete};
-ghost use Rattle.lock_free.specs.Loading.{IsSound};
+ghost use Rattle.lock_free.specs.CopySteps.{HasCopied, HasDraftedOffer, HasMadeCopy, HasOriginal, HasPreparedOrNone, HasTriedCopy};
+ghost use Rattle.lock_free.specs.CopySteps.{IsAtOriginal, IsAtTry, IsCopying, IsReady, IsToComplete, IsToOpenAll, is_snapshot};
+ghost use Rattle.lock_free.specs.Loading.{IsSound, Saw};
 ghost use Rattle.lock_free.specs.Passing.{IsOnWay};
 ghost use Rattle.lock_free.specs.Rules.{IsFree};
 ghost use Rattle.lock_free.specs.Stocks.{HasRoom, IsStock};
@@ -13,7 +14,7 @@ use crate::numbers::name;
 use crate::offers::UNDECIDED;
 use crate::reading::{AsksRoot, Given, Way, read};
 use crate::root_offers::offer;
-use crate::rooting::{complete_offer, root};
+use crate::rooting::{complete_offer, open_if_carried_out, root};
 use crate::stock::{Stock, take};
 use crate::stores::draft;
 use std::sync::Wait;
@@ -94,7 +95,7 @@ fn prepare<R: Wait>(
     ensures sound { IsSound words.now.table_id.words actor.new.me.0 }
     ensures stock { IsStock stock.new actor.new.me.0 }
     ensures room { OnSome result (HasRoom stock.new 1) }
-    ensures prepared { HasPreparedOrNone actor.old.me.0 handle root result actor.new.me.0 }
+    ensures prepared { HasPreparedOrNone actor.old.me.0 which opens handle root result actor.new.me.0 }
 {
     let roots = make_roots(rt, words, actor, stock, which, main)?;
     let slot = take(rt, words, actor, stock, 1)?;
@@ -124,6 +125,32 @@ fn complete_own<R: Wait, A: AsksRoot>(
     ensures copied { HasCopied actor.old.me.0 result actor.new.me.0 }
 {
     complete_offer(rt, asker, words, actor, way, slot)
+}
+
+/// Whether such a copy may be written.
+fn is_writable(which: CopyKind) -> bool
+    ensures { result ≡ is_snapshot which }
+{
+    match which {
+        CopyKind::Snapshot => true,
+        CopyKind::Freeze => false,
+        CopyKind::Clear => false,
+    }
+}
+
+/// Opens the handle of a copy whose offer, in this slot, was carried out, unless another seat has.
+fn open_copy(words: &Words, actor: &mut Actor, which: CopyKind, opens: Option<u16>, slot: u32)
+    requires table { actor.old.table_id ≡ words.now.table_id }
+    requires sound { IsSound words.now.table_id.words actor.old.me.0 }
+    requires opening { IsToOpenAll actor.old.me.0 which opens slot }
+    ensures table { actor.new.table_id ≡ actor.old.table_id }
+    ensures sound { IsSound words.now.table_id.words actor.new.me.0 }
+    ensures saw { Saw actor.old.me.0 actor.new.me.0 }
+{
+    match opens {
+        Some(number) => open_if_carried_out(words, actor, number, slot, is_writable(which)),
+        None => {}
+    }
 }
 
 /// A try of a copy on a handle that may be written, from its root, which is in this slot: new roots are made, and an offer of them comes
@@ -165,11 +192,11 @@ fn try_copy<R: Wait, A: AsksRoot>(
     }
     stock.note(1);
     stock.hand_over();
-    if complete_own(rt, asker, words, actor, way, slot) {
-        Copied::Done
-    } else {
-        Copied::Again
+    if !complete_own(rt, asker, words, actor, way, slot) {
+        return Copied::Again;
     }
+    open_copy(words, actor, which, opens, slot);
+    Copied::Done
 }
 
 /// COPY on a handle that may be written: tries it from the root, as often as it takes. Returns whether it was carried out: then the

@@ -24,25 +24,25 @@ try_copy-requires-clause-table g c = c.root-original.ensures.table ∙ c.loop.in
 pub try_copy-requires-clause-stock : goal.try_copy-requires-clause-stock
 try_copy-requires-clause-stock g c =
     stock_on c.args.actor.now.me.0 c.loop.actor.me.0 c.requires.at c.loop.invariant.5 c.args.words.now.table_id.words c.loop.invariant.3 c.root-original.result c.root-original.new.actor.me.0
-        c.root-original.ensures.rooted
+    c.root-original.ensures.rooted
     c.loop.stock c.loop.invariant.4
 
 pub try_copy-requires-clause-way : goal.try_copy-requires-clause-way
 try_copy-requires-clause-way g c =
     way_on c.args.actor.now.me.0 c.loop.actor.me.0 c.requires.at c.loop.invariant.5 c.args.words.now.table_id.words c.loop.invariant.3 c.root-original.result c.root-original.new.actor.me.0
-        c.root-original.ensures.rooted
+    c.root-original.ensures.rooted
     c.args.way c.requires.way
 
 pub try_copy-requires-clause-copying : goal.try_copy-requires-clause-copying
 try_copy-requires-clause-copying g c =
     copying_on c.args.actor.now.me.0 c.loop.actor.me.0 c.requires.at c.loop.invariant.5 c.args.words.now.table_id.words c.loop.invariant.3 c.root-original.result c.root-original.new.actor.me.0
-        c.root-original.ensures.rooted
+    c.root-original.ensures.rooted
     c.args.which c.args.way.handle c.args.opens c.requires.copying
 
 pub try_copy-requires-clause-at : goal.try_copy-requires-clause-at
 try_copy-requires-clause-at g c =
     at_original c.args.actor.now.me.0 c.loop.actor.me.0 c.requires.at c.loop.invariant.5 c.args.words.now.table_id.words c.loop.invariant.3 c.root-original.result c.root-original.new.actor.me.0
-        c.root-original.ensures.rooted
+    c.root-original.ensures.rooted
 
 pub returns-in-Done-clause-table : goal.returns-in-Done-clause-table
 returns-in-Done-clause-table g c = c.try_copy.ensures.table ∙ c.root-original.ensures.table ∙ c.loop.invariant.2
@@ -50,7 +50,7 @@ returns-in-Done-clause-table g c = c.try_copy.ensures.table ∙ c.root-original.
 pub returns-in-Done-clause-made : goal.returns-in-Done-clause-made
 returns-in-Done-clause-made g c =
     tried_again c.args.actor.now.me.0 c.loop.actor.me.0 c.requires.at c.loop.invariant.5 c.args.words.now.table_id.words c.loop.invariant.3 c.root-original.result c.root-original.new.actor.me.0
-        c.root-original.ensures.rooted
+    c.root-original.ensures.rooted
     c.try_copy.new.actor.me.0 true (subst (λ x. HasTriedCopy c.root-original.new.actor.me.0 x c.try_copy.new.actor.me.0) c.in-Done.is c.try_copy.ensures.tried)
 
 pub loop-preserved : goal.loop-preserved
@@ -71,5 +71,5 @@ returns-in-Full-clause-table g c = c.try_copy.ensures.table ∙ c.root-original.
 pub returns-in-Full-clause-made : goal.returns-in-Full-clause-made
 returns-in-Full-clause-made g c =
     gave_out c.args.actor.now.me.0 c.loop.actor.me.0 c.requires.at c.loop.invariant.5 c.args.words.now.table_id.words c.loop.invariant.3 c.root-original.result c.root-original.new.actor.me.0
-        c.root-original.ensures.rooted
+    c.root-original.ensures.rooted
     c.try_copy.new.actor.me.0 (subst (λ x. HasTriedCopy c.root-original.new.actor.me.0 x c.try_copy.new.actor.me.0) c.in-Full.is c.try_copy.ensures.tried)

@@ -6,7 +6,7 @@ use Rattle.lock_free.proofs.copying.prepare.Goals as goal
 pub returns-in_err-roots-clause-prepared : goal.returns-in_err-roots-clause-prepared
 returns-in_err-roots-clause-prepared g c =
     let (root, main, at, main_placed, root_placed) = c.requires.ready in
-    subst (λ x. HasPreparedOrNone c.args.actor.now.me.0 c.args.handle c.args.root x c.make_roots.new.actor.me.0) (sym c.from_residual.ensures)
+    subst (λ x. HasPreparedOrNone c.args.actor.now.me.0 c.args.which c.args.opens c.args.handle c.args.root x c.make_roots.new.actor.me.0) (sym c.from_residual.ensures)
     ((c.in_err-roots.ensures {u = tt}).made root main at)
 
 pub returns-in_err-slot-clause-prepared : goal.returns-in_err-slot-clause-prepared
@@ -15,7 +15,7 @@ returns-in_err-slot-clause-prepared g c =
     let u = c.args.actor.now.me.0 in
     let a = c.make_roots.new.actor.me.0 in
     let b = c.take.new.actor.me.0 in
-    subst (λ x. HasPreparedOrNone u c.args.handle c.args.root x b) (sym c.from_residual-in_err-slot.ensures)
+    subst (λ x. HasPreparedOrNone u c.args.which c.args.opens c.args.handle c.args.root x b) (sym c.from_residual-in_err-slot.ensures)
     (stopped_there u c.args.which c.args.handle c.args.opens c.requires.copying c.args.root c.args.main c.requires.ready c.in_ok-roots.roots a ((c.in_ok-roots.ensures {u = tt}).made root main at) b
     (c.in_err-slot.ensures {u = tt}).slot)
 
