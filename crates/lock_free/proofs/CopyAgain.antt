@@ -31,9 +31,6 @@ read_first (Snapshot h) r e = refl
 read_first (Freeze h) r e = refl
 read_first call r e = absurd (false≢true e)
 
-pub still_self : (v : View) → IsStill v v
-still_self v = refl
-
 pub still_both : (u v w : View) → IsStill u v → IsStill v w → IsStill u w
 still_both u v w p q = q ∙ ap (λ (x : View). record x { account = w.account; pool = w.pool; drafts = w.drafts; opening = w.opening }) p
 

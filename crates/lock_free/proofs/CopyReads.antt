@@ -42,9 +42,6 @@ module _ (v : View) (l : CopyLine) (at : IsAtCopy v l) where
   pub copy_line : (o : Operation) → Runs v o → o.line ≡ line.Copy l
   copy_line o runs = ap (λ (z : Operation). z.line) (runs_one v o at.0 runs at.1) ∙ at.2
 
-  pub copy_call : (o : Operation) → Runs v o → o.call ≡ at.0.call
-  copy_call o runs = ap (λ (z : Operation). z.call) (runs_one v o at.0 runs at.1)
-
 -- which root is read there
 abbrev root_in : Line → Ref
 root_in (line.Copy (copy.Read root r)) = root

@@ -1,5 +1,5 @@
 -- COPY makes a root: it is written in the last free slot, and made with the generation that is next.
-use Rattle.std.proofs.Common.{◌≡◌, ◌<◌, ◌*◌, ◌++◌, ◌∷◌, ◌^◌, ℕ, Bool, true, false, List, [], Some, refl, sym, ap, subst, ◌∙◌, Contains, arith}
+use Rattle.std.proofs.Common.{◌≡◌, ◌<◌, ◌*◌, ◌++◌, ◌∷◌, ◌^◌, ℕ, Bool, true, List, [], Some, refl, sym, ap, subst, ◌∙◌, Contains, arith}
 use Rattle.std.proofs.lemmas.List.{same_from_push}
 use Rattle.std.proofs.lemmas.List.Elements.{Contains-push}
 use Rattle.std.proofs.lemmas.Option.{none-some, same_Some}
@@ -158,20 +158,3 @@ module _ (n : ℕ) (before : View) (name : ℕ) (mid : View) (slot : HasSlot bef
       subst (IsStock next) (sym it.is)
       (stock_made n d sound_d it.account it.waited 0 name slot.last.0 it.own (Indirection generation it.main) it.added (act.MakeRoot it.main) it.making it.next it.took stock next
       (subst (IsStock stock) (sym tried.1) (record { sizes = is.sizes; pool = is.pool; made = is.made })) sizes pool made_is refl)
-
--- ---- or it isn't
-
-module _ (before : View) (name : ℕ) (mid : View) (slot : HasSlot before 0 name mid) (after : View) (tried : HasTriedRoot mid false after) where
-  after_is : after ≡ record mid { drafts = after.drafts }
-  after_is = let e = tried.2.1.1 refl in e ∙ tried.1 ∙ ap (λ (x : View). record mid { drafts = x.drafts }) (sym e)
-
-  pub root_refused : after ≡ record before { pool = after.pool; drafts = after.drafts }
-  root_refused =
-      after_is ∙ ap (λ (x : View). record x { drafts = after.drafts }) slot.is
-      ∙ ap (λ p. record before { pool = p; drafts = after.drafts }) (sym (ap (λ (x : View). x.pool) after_is))
-
-  pub stock_refused : (stock : Stocked) → IsStock stock mid → IsStock stock after
-  stock_refused stock is = subst (IsStock stock) (sym after_is) (record { sizes = is.sizes; pool = is.pool; made = is.made })
-
-pub none_changed : (before after : View) → after ≡ before → after ≡ record before { pool = after.pool; drafts = after.drafts }
-none_changed before after e = e ∙ ap (λ (x : View). record before { pool = x.pool; drafts = x.drafts }) (sym e)
