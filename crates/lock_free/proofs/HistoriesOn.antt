@@ -1,16 +1,13 @@
 -- With more steps the history goes on.
 use Rattle.std.proofs.Common.{◌≡◌, ◌≤◌, ◌+◌, List, [], ◌∷◌, ◌++◌, length, refl, sym, ap, subst, ◌∙◌, arith, length-append}
-use Rattle.history.specs.declared.events.Event.{Event}
 use Rattle.machine_model.specs.declared.steps.Step.{Step}
-use Rattle.machine_model.specs.Machine.{AreBounds, run, next_state, run_from}
+use Rattle.machine_model.specs.Machine.{AreBounds, run, next_state}
 use Rattle.machine_model.specs.Records.{Record, record_of, record_from, first_record, next_record}
 use Rattle.machine_model.specs.States.{State, first_state}
 use Rattle.machine_model.proofs.Recorded.{record-append, kept_by_notes}
 use Rattle.proof_linearizable.specs.Beneath.proof_order.proofs.History.Growing.{events_grow, grows_same, grows_trans}
-use Rattle.proof_waiting.specs.Beneath.proof_slots.specs.Lasting.{wider}
 use Rattle.proof_waiting.specs.Beneath.proof_slots.proofs.Padded.Runs.{few_steps_have_slots}
 use Rattle.proof_waiting.specs.Beneath.proof_slots.proofs.Wider.{wider_alike}
-use Rattle.lock_free.specs.declared.accounts.Account.{Account}
 use Rattle.lock_free.specs.declared.sizes.Sizes.{Sizes}
 use Rattle.lock_free.specs.Accounts.{bounds_for}
 use Rattle.lock_free.specs.Telling.{history_of, GoesOn, HistoriesGoOn}

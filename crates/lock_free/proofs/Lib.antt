@@ -87,3 +87,5 @@ mod Idle
 mod SplitSeats
 mod SameSteps
 mod HistoriesOn
+mod Hearing
+mod Gathering

@@ -26,3 +26,4 @@ pub mod GoingDown
 pub mod Opening
 pub mod Splitting
 pub mod Telling
+pub mod Finishing

@@ -5,6 +5,7 @@
 mod accounts;
 mod exchanges;
 mod finding;
+mod finishing;
 mod handles;
 mod laws;
 mod loads;
@@ -20,6 +21,7 @@ mod swapping;
 pub use accounts::{Account, Known, Owned};
 pub use exchanges::{decide, publish, restore};
 pub use finding::{Entered, Level, Met, go_down};
+pub use finishing::finish_map;
 pub use handles::{close, enter, mark, see_root};
 pub use laws::{histories_go_on, seats_are_explained};
 pub use loads::{
@@ -31,8 +33,8 @@ pub use opening::{Board, OpenError, open, split};
 pub use pins::{finish, pass, pin, unpin};
 pub use reading::{AsksRoot, Given, Passed, Way, read, read_within};
 pub use rules::{
-    Closing, Completes, Drafts, Ends, Enters, Goes, Looks, Makes, MakesRoot, Marks, Parts, Pins, Pool,
-    Publishes, Rule, Sees, Shuts, Takes, View,
+    Closing, Completes, Drafts, Empties, Ends, Enters, Goes, Hears, Looks, Makes, MakesRoot, Marks,
+    Parts, Picks, Pins, Pool, Publishes, Rule, Sees, Shuts, Takes, View,
 };
 pub use sizes::Sizes;
 pub use stores::{Tried, draft, make, make_root, try_take};

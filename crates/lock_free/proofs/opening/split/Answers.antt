@@ -1,4 +1,4 @@
-use Rattle.std.proofs.Common.{◌<◌, sym, ap, subst, arith}
+use Rattle.std.proofs.Common.{sym, ap, subst, arith}
 use Rattle.lock_free.specs.Loading.{IsSound}
 use Rattle.lock_free.proofs.SplitSeats.{splits, left_sound, right_sound}
 use Rattle.lock_free.proofs.opening.split.Goals as goal
