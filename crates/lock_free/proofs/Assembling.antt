@@ -19,7 +19,7 @@ use Rattle.lock_free.specs.declared.rules.Closing.{Closing}
 use Rattle.lock_free.specs.declared.sizes.Sizes.{Sizes}
 use Rattle.lock_free.specs.Accounts.{bounds_for, state_of}
 use Rattle.lock_free.specs.Places.{HaveTaken, words_of, generation_word, root_word}
-use Rattle.lock_free.specs.Rules.{Standing, NodesStand, RootsStand, IsClosing, SaysClosing, IsFree, IsOpening, Reserves, HasSeat, IsSeat, HasActor, IsKept}
+use Rattle.lock_free.specs.Rules.{Standing, NodesStand, RootsStand, IsClosing, SaysClosing, latest, IsFree, IsOpening, Reserves, HasSeat, IsSeat, HasActor, IsKept}
 use Rattle.lock_free.specs.Roots.{NoOffer}
 use Rattle.lock_free.specs.Trying.{KeepsTries}
 use Rattle.lock_free.proofs.Meanings.{ran, reserved, reserves_on}
@@ -89,16 +89,16 @@ module _ (sizes : Sizes) (s : Table.State Call View) (kept : IsKept sizes s) (id
 
   -- Where the seat doesn't enter the handle, and would close it still if it would before.
   module _ (handle who : ℕ) (entered : later.entered ≡ Some handle → v.entered ≡ Some handle)
-      (closing : (c : Closing) → v.closing ≡ Some c → c.handle ≡ handle → v.actor ≡ who → later.closing ≡ Some c) where
-    becomes : (other : ℕ) (u : View) (c : Closing) → get_elem? s.views other ≡ some u → u.closing ≡ Some c → c.handle ≡ handle → u.actor ≡ who →
-        (w : View) × (get_elem? later_views other ≡ some w) × (w.actor ≡ u.actor) × (w.closing ≡ Some c)
+      (closing : (c : Closing) → latest v.closing handle ≡ Some c → c.handle ≡ handle → v.actor ≡ who → latest later.closing handle ≡ Some c) where
+    becomes : (other : ℕ) (u : View) (c : Closing) → get_elem? s.views other ≡ some u → latest u.closing handle ≡ Some c → c.handle ≡ handle → u.actor ≡ who →
+        (w : View) × (get_elem? later_views other ≡ some w) × (w.actor ≡ u.actor) × (latest w.closing handle ≡ Some c)
     becomes other u c e is this its = elim (cases_eq other id) [
       | inl same ↦
           (let mine : v ≡ u = some-injective v u (sym at ∙ ap (λ n. get_elem? s.views n) (sym same) ∙ e) in (
             later,
             ap (λ n. get_elem? later_views n) same ∙ here,
             actor ∙ ap (λ (x : View). x.actor) mine,
-            closing c (ap (λ (x : View). x.closing) mine ∙ is) this
+            closing c (ap (λ (x : View). latest x.closing handle) mine ∙ is) this
                 (ap (λ (x : View). x.actor) mine ∙ its),
           ))
       | inr apart ↦ (u, set_else s.views id other later apart ∙ e, refl, is)
@@ -129,7 +129,7 @@ module _ (sizes : Sizes) (s : Table.State Call View) (kept : IsKept sizes s) (id
   -- where the seat enters no handle and would close none that it didn't before
   pub closing_stays : ((handle : ℕ) → later.entered ≡ Some handle → v.entered ≡ Some handle) → later.closing ≡ v.closing → (handle who : ℕ) → IsClosing s.views handle who → IsClosing later_views
       handle who
-  closing_stays entered closing handle who h = closing_at handle who (entered handle) (λ c is this its. closing ∙ is) h
+  closing_stays entered closing handle who h = closing_at handle who (entered handle) (λ c is this its. ap (λ marks. latest marks handle) closing ∙ is) h
 
   -- ---- reserved numbers, and who runs what
 

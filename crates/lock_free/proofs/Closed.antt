@@ -18,7 +18,9 @@ use Rattle.machine_model.specs.declared.steps.Step.{Step}
 use Rattle.machine_model.specs.declared.steps.Step.TheVariants as step
 use Rattle.machine_model.specs.Calls.{handle_of}
 use Rattle.machine_model.specs.Keys.{FitsKey}
-use Rattle.machine_model.specs.States.{State, operation_of, handle_limit, root_at}
+use Rattle.machine_model.specs.declared.roots.Descriptor.{Descriptor}
+use Rattle.machine_model.specs.declared.roots.RootWord.TheVariants.{Offer}
+use Rattle.machine_model.specs.States.{State, operation_of, handle_limit, root_at, word_at, word_of}
 use Rattle.proof_waiting.specs.Beneath.proof_slots.specs.Unswept.{HasNoSweeps}
 use Rattle.lock_free.specs.declared.accounts.Account.{Account}
 use Rattle.lock_free.specs.declared.accounts.Known.{Known}
@@ -27,21 +29,25 @@ use Rattle.lock_free.specs.declared.rules.View.{View}
 use Rattle.lock_free.specs.declared.sizes.Sizes.{Sizes}
 use Rattle.lock_free.specs.Accounts.{state_of, HasWaited, IsOfOther}
 use Rattle.lock_free.specs.Beginning.{Closes, closed_by}
+use Rattle.lock_free.specs.Fates.{TellsFate}
 use Rattle.lock_free.specs.Places.{pin_word, root_word}
 use Rattle.lock_free.specs.Roots.{MeansRoot, IsPending, NoOffer, fate, undecided}
-use Rattle.lock_free.specs.Rules.{IsClosing, SaysClosing, IsFree, IsHeld, Reserves, Names, IsOpening, IsSeat, IsKept}
+use Rattle.lock_free.specs.Rules.{IsClosing, SaysClosing, IsFree, IsHeld, Reserves, Names, IsOpening, IsSeat, IsKept, latest}
 use Rattle.lock_free.specs.Trying.{try_of, KeepsTries, as_before}
 use Rattle.lock_free.proofs.Assembling.{AllStand, all_stand, closing_at, opening_stays, assembled}
+use Rattle.lock_free.proofs.Closers.{newest}
+use Rattle.lock_free.proofs.Fates.{fate_said}
 use Rattle.lock_free.proofs.Keeping.{meaning_kept}
 use Rattle.lock_free.proofs.Meanings.{ran, reserved, reserves_on, marks_kept, stood_still}
 use Rattle.lock_free.proofs.RootCodes.{kind, same_kind}
 use Rattle.lock_free.proofs.RootFound.{said, slot_fits}
 use Rattle.lock_free.proofs.RootSteps as root
 use Rattle.lock_free.proofs.Seats.{ran_so, Stays, StaysSpare, other_kept, own_else}
+use Rattle.lock_free.proofs.Stood.{plain_not}
 use Rattle.lock_free.proofs.Waiting.{waited_none, waited_more, quiet_more}
 
 module _ (sizes : Sizes) (s : Table.State Call View) (kept : IsKept sizes s) (id : ℕ) (v : View) (at : get_elem? s.views id ≡ some v) (handle : ℕ) (low : handle < handle_limit) (looked : ℕ)
-    (closing : v.closing ≡ Some (record { handle = handle; looked = looked })) (all_looked : sizes.seats ≤ looked) (says : SaysClosing (slice_index s.words (root_word handle)) v.actor)
+    (others : List Closing) (closing : v.closing ≡ record { handle = handle; looked = looked } ∷ others) (all_looked : sizes.seats ≤ looked) (says : SaysClosing (slice_index s.words (root_word handle)) v.actor)
     (outside : v.entered ≡ Some handle → ⊥) (idle : operation_of (state_of sizes kept.account) v.actor ≡ None) where
   abbrev now : State
   now = state_of sizes kept.account
@@ -62,7 +68,7 @@ module _ (sizes : Sizes) (s : Table.State Call View) (kept : IsKept sizes s) (id
       let is = closer.its in
       let same : closer.id ≡ id = kept.alone closer.id id closer.view v v.actor closer.at at (omega (arith, is), omega (arith, is, top)) (omega arith, seat.top) in
       let mine : closer.view ≡ v = some-injective closer.view v (sym closer.at ∙ ap (λ n. get_elem? s.views n) same ∙ at) in
-      ap (λ (c : Closing). c.looked) (same_Some closer.closing (record { handle = handle; looked = looked }) (sym closer.is ∙ ap (λ (x : View). x.closing) mine ∙ closing))
+      ap (λ (c : Closing). c.looked) (same_Some closer.closing (record { handle = handle; looked = looked }) (sym closer.is ∙ ap (λ (x : View). latest x.closing handle) mine ∙ ap (λ marks. latest marks handle) closing ∙ newest (record { handle = handle; looked = looked }) others))
 
   pub nobody_inside : (other : ℕ) (w : View) → get_elem? s.views other ≡ some w → w.entered ≡ Some handle → ⊥
   nobody_inside other w e inside = elim (cases_eq other id) [
@@ -89,6 +95,16 @@ module _ (sizes : Sizes) (s : Table.State Call View) (kept : IsKept sizes s) (id
   pub is_open : is_some (root_at now handle) ≡ true
   is_open = open_by says
 
+  -- its root stands by no offer
+  no_offer_by : (d : Descriptor) → SaysClosing (slice_index s.words (root_word handle)) v.actor → word_at now handle ≡ Offer d → ⊥
+  no_offer_by d (inl h) e =
+      let x = said sizes kept.account s.words kept.roots handle low (word.ClosingWritable h.0 v.actor) h.1 h.2 in plain_not x.root d (sym (ap word_of x.is) ∙ e)
+  no_offer_by d (inr h) e =
+      let x = said sizes kept.account s.words kept.roots handle low (word.ClosingReadOnly h.0 v.actor) h.1 h.2 in plain_not x.root d (sym (ap word_of x.is) ∙ e)
+
+  no_offer_here : (d : Descriptor) → word_at now handle ≡ Offer d → ⊥
+  no_offer_here d = no_offer_by d says
+
   not_closed : (g : ℕ) → root_at now g ≡ None → g ≢ handle
   not_closed g shut same = true≢false (sym is_open ∙ ap (λ n. is_some (root_at now n)) (sym same) ∙ ap is_some shut)
 
@@ -113,7 +129,7 @@ module _ (sizes : Sizes) (s : Table.State Call View) (kept : IsKept sizes s) (id
     words_then = set s.words (root_word handle) (root_code word.Closed)
 
     abbrev pub view_then : View
-    view_then = record v { account = account_then; closing = None }
+    view_then = record v { account = account_then }
 
     keeps : KeepsTries kept.account.offers now next
     keeps = as_before (λ a. ap (λ o. option_map try_of o) (closes.operations a))
@@ -153,6 +169,11 @@ module _ (sizes : Sizes) (s : Table.State Call View) (kept : IsKept sizes s) (id
         root.pending_rooted sizes kept.account kept.stands s.words all handle low (root_code word.Closed) k (λ is. not_kind (word.Offered k.slot) (k_fits k c) (omega arith) says is)
         (λ is. not_kind (word.Opening k.slot) (k_fits k c) (omega arith) says is) (kept.roots.pending k c (sym (fates k c) ∙ stands))
 
+    fates_all : (k : Known) → Contains kept.account.offers k → TellsFate sizes account_then k (fate words_then k)
+    fates_all k c =
+        fate_said sizes account_then k (fate s.words k) (fate words_then k) (fates k c)
+        (closes.fates k (fate s.words k) (λ e same. no_offer_here k.offer (ap (word_at now) (sym same) ∙ e)) (kept.roots.fates k c))
+
     quiet : HasNoSweeps (kept.account.steps ++ both)
     quiet =
         subst HasNoSweeps (append_assoc kept.account.steps (step.Begin v.actor (Close handle) None ∷ []) (step.Go v.actor ∷ []))
@@ -180,6 +201,7 @@ module _ (sizes : Sizes) (s : Table.State Call View) (kept : IsKept sizes s) (id
         tries = kept.roots.tries;
         stood = λ k c. stood_still sizes kept.account account_then both refl k.offer (kept.roots.stood k c);
         marks = marks_kept kept.account.offers now next keeps s.words words_then fates kept.roots.marks;
+        fates = fates_all;
         pending = pending_all;
       };
     }
@@ -229,7 +251,7 @@ module _ (sizes : Sizes) (s : Table.State Call View) (kept : IsKept sizes s) (id
 
     own_then : IsSeat sizes account_then kept.stands words_then view_then
     own_then =
-        own_else sizes s kept id v at account_then kept.stands words_then stays account_then (waited_none v.actor account_then) (λ a above below. waited_none a account_then) all_then.counted v.pin v.entered None v.opens v.opening
+        own_else sizes s kept id v at account_then kept.stands words_then stays account_then (waited_none v.actor account_then) (λ a above below. waited_none a account_then) all_then.counted v.pin v.entered v.closing v.opens v.opening
         (pin_same v.actor seat.low ∙ seat.pinned) (λ g e. (let x = seat.entered g e in (x.0, still_open id v at g e x.1, x.2))) (λ o e. absurd (idle_then o e)) (held id v at)
         (λ o e. absurd (idle_then o e))
         (λ g slot o n. (let x = seat.opening g slot o n in record { low = x.low; fits = x.fits; is = named v g slot x ∙ x.is; free = x.free })) (λ b name free. spare_by id v b name at free)
@@ -256,7 +278,7 @@ module _ (sizes : Sizes) (s : Table.State Call View) (kept : IsKept sizes s) (id
           | inl same ↦ absurd (closed_says who (subst (λ n. SaysClosing n who) (ap (λ n. slice_index words_then (root_word n)) same ∙ root_here) marked))
           | inr differs ↦
               closing_at sizes s kept id v at view_then refl refl g who (λ e. e)
-              (λ c is this its. absurd (differs (sym this ∙ ap (λ (x : Closing). x.handle) (same_Some c (record { handle = handle; looked = looked }) (sym is ∙ closing)))))
+              (λ c is this its. is)
               (kept.closings g who below (subst (λ n. SaysClosing n who) (root_beside g differs) marked))
         ]) own_then (other_kept sizes s kept id v at account_then kept.stands words_then stays) (λ b name f. inl f)
         (record {

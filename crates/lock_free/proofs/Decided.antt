@@ -26,7 +26,7 @@ use Rattle.lock_free.specs.Accounts.{state_of, place_at, gone_on}
 use Rattle.lock_free.specs.Deciding.{says_then, Decides}
 use Rattle.lock_free.specs.Nodes.{StandsAs, InTable, AreEntries, SaysPrevious, decided, ahead, pending, failed, SaysHeader, class_of, IsAhead}
 use Rattle.lock_free.specs.Places.{first_slot_word, words_in, words_of, generation_word, root_word, IsTaken}
-use Rattle.lock_free.specs.Roots.{MeansRoot}
+use Rattle.lock_free.specs.Roots.{MeansRoot, fate}
 use Rattle.lock_free.specs.Rules.{Standing, Stands, NodesStand, RootsStand, IsSpare}
 use Rattle.lock_free.specs.Steps.{nothing}
 use Rattle.lock_free.proofs.Assembling.{AllStand}
@@ -34,6 +34,8 @@ use Rattle.lock_free.proofs.Framing.{below_word, entries_else, stands_over, stil
 use Rattle.lock_free.proofs.Geometry.{IsWordOf}
 use Rattle.lock_free.specs.Trying.{as_before}
 use Rattle.lock_free.proofs.Meanings.{marks_kept, stood_still}
+use Rattle.lock_free.proofs.Fates.{fate_kept, words_same}
+use Rattle.lock_free.proofs.OneStep.Reached.{reached_kept}
 use Rattle.lock_free.proofs.Keeping.{SameNodes, stands_kept, entries_kept, shape_kept, over_kept, meaning_kept, written_kept}
 use Rattle.lock_free.proofs.Made.{is_pending}
 use Rattle.lock_free.proofs.Owners.{owners_kept}
@@ -190,6 +192,7 @@ module _ (sizes : Sizes) (account : Account) (actor : ℕ) (operation : Operatio
     inside = λ k slot e. (let b = before k slot (which k slot e) in subst (λ n. 2 * place_at account k + words_in (class_of n) ≤ words_of sizes) (sym b.2) (all.nodes.inside k b.0 b.1));
     owners = owners_kept account account_then now next refl refl decides.aheads all.nodes.owners;
     live = λ r h. all.nodes.live r (decides.live r h);
+    reached = reached_kept sizes account account_then (step.Go actor) refl stands stands all.nodes.reached (λ r h. all.nodes.live r (decides.live r h)) (λ r was h. h);
   }
 
   roots_then : RootsStand sizes account_then words_then
@@ -206,6 +209,7 @@ module _ (sizes : Sizes) (account : Account) (actor : ℕ) (operation : Operatio
         tries = over.tries;
         stood = λ k c. stood_still sizes account account_then (step.Go actor ∷ []) refl k.offer (over.stood k c);
         marks = marks_kept account.offers now next (as_before decides.tries) words_then words_then (λ k c. refl) over.marks;
+        fates = λ k c. fate_kept sizes account account_then (step.Go actor) refl k (fate words_then k) (λ e. words_same now next decides.roots k.handle ∙ e) (over.fates k c);
       }
 
   pub all_then : AllStand sizes account_then stands words_then

@@ -1,65 +1,111 @@
 -- The store of 0 to a seat's own word ends its operation.
 use Rattle.history.specs.declared.calls.Call.{Call}
 use Rattle.history.specs.declared.replies.Reply.{Reply}
-use Rattle.std.proofs.Common.{◌≡◌, ◌<◌, ◌≤◌, ℕ, Bool, set, Some, None, refl, sym, ◌∙◌, arith}
-use Rattle.std.proofs.lemmas.Option.{none-some}
+use Rattle.std.proofs.Common.{◌≡◌, ◌⊎◌, ◌<◌, ◌≤◌, ℕ, inl, inr, Bool, true, false, set, Option, Some, refl, sym, ap, subst, ◌∙◌, arith}
+use Rattle.std.proofs.lemmas.Option.{none-some, same_Some}
 use mathlib.Core.Option.{some, none}
 use lib.ListN.{get_elem?}
 use Rattle.atomic_table.specs.Table.{Me, Allows, step}
 use Rattle.atomic_table.specs.Table as Table
+use Rattle.machine_model.specs.declared.actions.Action.{Action}
 use Rattle.machine_model.specs.declared.actions.Action.TheVariants as act
 use Rattle.machine_model.specs.declared.operations.Operation.{Operation}
 use Rattle.machine_model.specs.Operations.{action_of}
-use Rattle.machine_model.specs.States.{operation_of}
 use Rattle.lock_free.specs.declared.accounts.Account.{Account}
 use Rattle.lock_free.specs.declared.rules.View.{View}
 use Rattle.lock_free.specs.declared.sizes.Sizes.{Sizes}
 use Rattle.lock_free.specs.Accounts.{running}
 use Rattle.lock_free.specs.Beginning.{Ends}
-use Rattle.lock_free.specs.Loading.{now, seen, IsAt, IsSound}
+use Rattle.lock_free.specs.Loading.{now, seen, IsAt, IsSound, Runs, Waited}
 use Rattle.lock_free.specs.Places.{pin_word, words_of}
 use Rattle.lock_free.specs.Rules.{IsKept}
-use Rattle.lock_free.specs.SeatWords.{IsAtEnd, once_ended, has_ended}
+use Rattle.lock_free.specs.SeatWords.{HasEnded, IsAtEnd, left_by, once_ended, has_ended}
 use Rattle.lock_free.proofs.Ended.{all_then, end_kept}
 use Rattle.lock_free.proofs.Moments.{allowed, waited_so, free_inside}
 use Rattle.lock_free.proofs.OneStep.Sitting.{ends_of}
+use Rattle.lock_free.proofs.OneStep.Telling.{end_told}
 
-module _ (v : View) (answer : Reply) (p : IsAt v (act.End answer)) (opens : v.opens ≡ None) (s : Table.State Call View) (kept : IsKept v.sizes s) (id : ℕ) (at : get_elem? s.views id ≡ some v) where
-  abbrev there : Account
+keeps_by : (mark : Bool) (number : Option ℕ) (g : ℕ) → left_by mark number ≡ Some g → (number ≡ Some g) × (mark ≡ false)
+keeps_by true number g e = absurd (none-some g e)
+keeps_by false number g e = (e, refl)
+
+drops_by : (mark : Bool) (number : Option ℕ) (g : ℕ) → number ≡ Some g → (left_by mark number ≡ Some g) ⊎ (mark ≡ true)
+drops_by true number g e = inr refl
+drops_by false number g e = inl e
+
+-- its mark apart it is the operation that the seat knows
+same_but : (o p : Operation) (mark : Bool) → record o { is_marked = mark } ≡ p → p ≡ record o { is_marked = p.is_marked }
+same_but o p mark e = sym e ∙ ap (λ b. record o { is_marked = b }) (ap (λ (x : Operation). x.is_marked) e)
+
+module _ (v : View) (answer : Reply) (p : IsAt v (act.End answer)) (s : Table.State Call View) (kept : IsKept v.sizes s) (id : ℕ) (at : get_elem? s.views id ≡ some v) where
+  abbrev pub there : Account
   there = kept.account
 
-  stays : (mark : Bool) × running v.sizes there v.actor (record p.operation { is_marked = mark })
+  pub waits : Waited v there
+  waits = waited_so v s kept id at
+
+  pub stays : (mark : Bool) × running v.sizes there v.actor (record p.operation { is_marked = mark })
       × (action_of (now (seen v there)) (record p.operation { is_marked = mark }) ≡ action_of (now v) p.operation)
-  stays = (waited_so v s kept id at).stays p.operation p.runs
+  stays = waits.stays p.operation p.runs
 
   abbrev o : Operation
   o = record p.operation { is_marked = stays.0 }
 
+  ends_so : action_of (now (seen v there)) o ≡ act.End answer
+  ends_so = stays.2 ∙ p.acts
+
   ends : Ends v.sizes there v.actor
-  ends = ends_of v.sizes there kept.bounds v.actor o stays.1 answer (stays.2 ∙ p.acts)
+  ends = ends_of v.sizes there kept.bounds v.actor o stays.1 answer ends_so
 
-  none_open : {A : Type 0} (g : ℕ) → v.opens ≡ Some g → A
-  none_open g e = absurd (none-some g (sym opens ∙ e))
+  abbrev pub after : View
+  after = once_ended v stays.0 there
 
-  pub kept_after : IsKept v.sizes (record { words = set s.words (pin_word v.actor) 0; homes = s.homes; views = set s.views id (once_ended v there) })
-  kept_after = end_kept v.sizes s kept id v at o stays.1 ends v.opens (λ g e. none_open g e) (λ g e. none_open g e)
+  pub kept_after : IsKept v.sizes (record { words = set s.words (pin_word v.actor) 0; homes = s.homes; views = set s.views id after })
+  kept_after = end_kept v.sizes s kept id v at o stays.1 ends (left_by stays.0 v.opens) (keeps_by stays.0 v.opens) (drops_by stays.0 v.opens)
 
-  pub sound_after : IsSound (words_of v.sizes) (once_ended v there)
+  pub sound_after : IsSound (words_of v.sizes) after
   sound_after =
-      let all = all_then v.sizes s kept id v at o stays.1 ends v.opens (λ g e. none_open g e) (λ g e. none_open g e) in
+      let all = all_then v.sizes s kept id v at o stays.1 ends (left_by stays.0 v.opens) (keeps_by stays.0 v.opens) (drops_by stays.0 v.opens) in
       record { size = refl; range = kept.range.within; bounds = all.bounds; keys = all.keys; counted = all.counted; inside = all.nodes.inside; free = free_inside v s kept id at }
 
-  pub idle_after : operation_of (now (once_ended v there)) v.actor ≡ None
-  idle_after = ends.own
+  its_own : (x : Operation) → Runs v x → o ≡ record x { is_marked = o.is_marked }
+  its_own x (mark, runs) =
+      let then = waits.stays (record x { is_marked = mark }) runs in
+      same_but x o then.0 (same_Some (record x { is_marked = then.0 }) o (sym then.1 ∙ stays.1))
+
+  pub has_ended_so : HasEnded v answer after
+  has_ended_so = record {
+    account = there;
+    waited = waits;
+    operation = o;
+    runs = stays.1;
+    its = its_own;
+    after_is = refl;
+    idle = ends.own;
+    told = end_told v.sizes there kept.bounds v.actor o answer stays.1 ends_so;
+  }
+
+-- an operation does one thing
+same_answer : (v : View) (a b : Reply) → IsAt v (act.End a) → IsAt v (act.End b) → a ≡ b
+same_answer v a b p q =
+    ap (λ x. answer_in x a) (sym p.acts ∙ ap (action_of (now v)) (same_Some p.operation q.operation (sym p.runs ∙ q.runs)) ∙ q.acts)
+  where
+    answer_in : Action → Reply → Reply
+    answer_in (act.End answer) other = answer
+    answer_in action other = other
 
 pub end_allowed : (sizes : Sizes) (size id : ℕ) (me : Me Call View) → IsAtEnd me.0 →
     Allows (IsKept sizes) size id me (pin_word me.0.actor) (λ n. 0) (λ n. has_ended (step size (pin_word me.0.actor) 0 0 none) me 0)
-end_allowed sizes size id me (answer, p, opens) =
+end_allowed sizes size id me (answer, p) =
     allowed sizes size id me (pin_word me.0.actor) (λ n. 0) (λ n. has_ended (step size (pin_word me.0.actor) 0 0 none) me 0)
     (λ s kept at. (
-      once_ended me.0 kept.account,
-      kept_after me.0 answer p opens s kept id at,
-      ((kept.account, waited_so me.0 s kept id at, refl, idle_after me.0 answer p opens s kept id at), sound_after me.0 answer p opens s kept id at, refl),
+      after me.0 answer p s kept id at,
+      kept_after me.0 answer p s kept id at,
+      (
+        λ other q. subst (λ a. HasEnded me.0 a (after me.0 answer p s kept id at)) (same_answer me.0 answer other p q) (has_ended_so me.0 answer p s kept id at),
+        sound_after me.0 answer p s kept id at,
+        refl,
+      ),
     ))
 
 -- the word is one of the table's

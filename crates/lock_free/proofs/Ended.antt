@@ -71,7 +71,7 @@ module _ (sizes : Sizes) (s : Table.State Call View) (kept : IsKept sizes s) (id
 
   pub all_then : AllStand sizes account_then kept.stands words_then
   all_then =
-      root.all_left sizes kept.account (step.Go v.actor ∷ []) ends.leaves kept.stands words_then
+      root.all_left sizes kept.account (step.Go v.actor) ends.leaves kept.stands words_then
       (All-append FitsKey kept.account.steps (step.Go v.actor ∷ []) kept.keys (All-cons FitsKey (step.Go v.actor) [] tt (All-nil FitsKey)))
       (quiet_more kept.account.steps (step.Go v.actor) kept.quiet tt) ends.roots marks_then
       (root.all_pinned sizes kept.account kept.stands s.words all v.actor seat.low most 0)

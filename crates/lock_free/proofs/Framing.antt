@@ -20,6 +20,7 @@ use Rattle.lock_free.specs.Roots.{MeansRoot, IsWritten, AreMarked, fate}
 use Rattle.lock_free.specs.Rules.{Standing, Stands, NodesStand, RootsStand, IsSpare}
 use Rattle.lock_free.proofs.Geometry.{IsWordOf, slots_apart, above, inside, root_below}
 use Rattle.lock_free.proofs.Assembling.{AllStand}
+use Rattle.lock_free.proofs.Fates.{fate_said}
 use Rattle.lock_free.proofs.Meanings.{means_kept, marks_kept, pending_kept, no_tries}
 
 -- ---- a node's words are its slot's
@@ -150,6 +151,7 @@ module _ (sizes : Sizes) (account : Account) (words : List ℕ) (have : HaveTake
       tries = roots.tries;
       stood = roots.stood;
       marks = marks_over account words i x apart (state_of sizes account) roots.marks;
+      fates = λ k c. fate_said sizes account k (fate words k) (fate (set words i x) k) (first_of_offer account words i x apart k c) (roots.fates k c);
       pending = λ k c stands.
           pending_kept words (set words i x) k (λ handle low. (let where_it_is = root_below handle low in below_word (root_word handle) (omega (arith, where_it_is.1))))
           (roots.pending k c (sym (first_of_offer account words i x apart k c) ∙ stands));
@@ -195,6 +197,7 @@ module _ (sizes : Sizes) (account : Account) (stands : Standing) (words : List �
     inside = all.nodes.inside;
     owners = all.nodes.owners;
     live = all.nodes.live;
+    reached = all.nodes.reached;
   }
 
   pub all_over : AllStand sizes account stands stored
@@ -269,6 +272,7 @@ module _ (sizes : Sizes) (account : Account) (stands : Standing) (words : List �
     inside = nodes.inside;
     owners = nodes.owners;
     live = nodes.live;
+    reached = nodes.reached;
   }
 
   -- what a word of a handle means, and what is written of offers
@@ -293,6 +297,7 @@ module _ (sizes : Sizes) (account : Account) (stands : Standing) (words : List �
     tries = roots.tries;
     stood = roots.stood;
     marks = marks_over account words i x no_offer (state_of sizes account) roots.marks;
+    fates = λ k c. fate_said sizes account k (fate words k) (fate (set words i x) k) (first_of_offer account words i x no_offer k c) (roots.fates k c);
     pending = λ k c stands.
         pending_kept words (set words i x) k (λ handle low. else_word account words i x (root_word handle) (no_root handle low))
         (roots.pending k c (sym (first_of_offer account words i x no_offer k c) ∙ stands));

@@ -31,15 +31,18 @@ use Rattle.lock_free.specs.declared.rules.Pool.{Pool}
 use Rattle.lock_free.specs.declared.rules.View.{View}
 use Rattle.lock_free.specs.declared.sizes.Sizes.{Sizes}
 use Rattle.lock_free.specs.Accounts.{state_of, place_at, place_of, HasWaited, IsOfOther, gone_on}
+use Rattle.lock_free.specs.Live.{IsLive}
 use Rattle.lock_free.specs.Nodes.{StandsAs, class_of, IsAhead, IsOver, is_single, SaysPrevious, decided, ahead, pending, failed, SaysHeader, SaysShape, of_branch, of_tomb, of_list, IsEntryOf}
 use Rattle.lock_free.specs.Nodes.{AreEntries, half_of, InTable}
-use Rattle.lock_free.specs.Roots.{MeansRoot, IsWritten, second_of}
+use Rattle.lock_free.specs.Roots.{MeansRoot, IsWritten, second_of, fate}
 use Rattle.lock_free.specs.Rules.{Standing, Stands, NodesStand, RootsStand, Once, pool_of, IsFree, IsSpare, IsSeat, IsKept}
 use Rattle.lock_free.specs.Steps.{Dropped, nothing, Leads, Reads}
 use Rattle.lock_free.proofs.Assembling.{AllStand, closing_stays, numbers_stay, assembled}
 use Rattle.lock_free.proofs.Meanings.{means_kept, marks_kept, stood_still}
 use Rattle.lock_free.proofs.Seats.{ran_so, numbers_so, Stays, other_kept, own_kept, drafts_kept}
 use Rattle.lock_free.proofs.Owners.{owners_kept}
+use Rattle.lock_free.proofs.Fates.{fate_kept, words_same}
+use Rattle.lock_free.proofs.OneStep.Reached.{reached_kept}
 use Rattle.lock_free.proofs.Waiting.{waited_more, quiet_more, other_quiet}
 
 -- an operation's step names no key
@@ -148,6 +151,9 @@ module _ (sizes : Sizes) (s : Table.State Call View) (kept : IsKept sizes s) (id
   live_then : (gone : Bool) (k : ℕ) → dropped k ≡ gone → gone ≡ false → kept.stands k ≡ true → stands_then k ≡ true
   live_then gone k is none h = ap (λ b. if b then false else kept.stands k) (is ∙ none) ∙ h
 
+  live_stands : (r : Ref) → IsLive next_state r → stands_then (slot_of r) ≡ true
+  live_stands r h = let x = leads.live r h in live_then (dropped (slot_of r)) (slot_of r) refl x.1 (kept.nodes.live r x.0)
+
   nodes_then : NodesStand sizes account_then stands_then s.words
   nodes_then = record {
     within = λ k slot h. kept.nodes.within k slot (stood k slot h).0;
@@ -160,7 +166,9 @@ module _ (sizes : Sizes) (s : Table.State Call View) (kept : IsKept sizes s) (id
         (place_at kept.account k) k slot slot.node was.1 (kept.nodes.written k slot was.0));
     inside = λ k slot e. kept.nodes.inside k slot (sym (leads.nodes k) ∙ e);
     owners = owners_kept kept.account account_then now next_state refl refl leads.aheads kept.nodes.owners;
-    live = λ r h. (let x = leads.live r h in live_then (dropped (slot_of r)) (slot_of r) refl x.1 (kept.nodes.live r x.0));
+    live = live_stands;
+    reached = reached_kept sizes kept.account account_then taken refl kept.stands stands_then kept.nodes.reached live_stands
+        (λ r was h. live_then (dropped (slot_of r)) (slot_of r) refl (leads.reached r was) h);
   }
 
   roots_then : RootsStand sizes account_then s.words
@@ -176,6 +184,7 @@ module _ (sizes : Sizes) (s : Table.State Call View) (kept : IsKept sizes s) (id
     tries = kept.roots.tries;
     stood = λ k c. stood_still sizes kept.account account_then (taken ∷ []) refl k.offer (kept.roots.stood k c);
     marks = marks_kept kept.account.offers now next_state leads.tries s.words s.words (λ k c. refl) kept.roots.marks;
+    fates = λ k c. fate_kept sizes kept.account account_then taken refl k (fate s.words k) (λ e. words_same now next_state leads.roots k.handle ∙ e) (kept.roots.fates k c);
   }
 
   all_then : AllStand sizes account_then stands_then s.words

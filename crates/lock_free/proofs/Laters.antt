@@ -1,6 +1,6 @@
 -- What a seat knows of nodes stays so, whatever it has seen since.
-use Rattle.std.proofs.Common.{◌≡◌, ◌<◌, ℕ, Bool, true, [], ◌∷◌, Contains, get_or, length, Some, None, refl, sym, ap, subst, ◌∙◌, arith}
-use Rattle.std.proofs.lemmas.List.Elements.{Contains-get_or}
+use Rattle.std.proofs.Common.{◌≡◌, ◌<◌, ℕ, Bool, true, [], ◌∷◌, ◌++◌, Contains, get_or, length, Some, None, refl, sym, ap, subst, ◌∙◌, arith, append_assoc, append-nil}
+use Rattle.std.proofs.lemmas.List.Elements.{Contains-get_or, Contains-append_right}
 use Rattle.trie_words.specs.declared.headers.Header.{Header}
 use Rattle.trie_words.specs.declared.headers.Shape.{Shape}
 use Rattle.trie_words.specs.declared.headers.Shape.TheVariants as shape
@@ -12,9 +12,11 @@ use Rattle.machine_model.specs.Beneath.slot_arena.specs.declared.nodes.Node.TheV
 use Rattle.machine_model.specs.Beneath.slot_arena.specs.declared.nodes.Slot.{Slot}
 use Rattle.machine_model.specs.Beneath.slot_arena.specs.Heaps.{refs_of_node, with_main_word, generation_at}
 use Rattle.machine_model.specs.Beneath.slot_arena.specs.Refs.{slot_of}
+use Rattle.machine_model.specs.declared.steps.Step.TheVariants as step
 use Rattle.proof_memory.specs.Laws.{SameNode}
 use Rattle.proof_memory.specs.Wants.{is_main_node}
 use Rattle.lock_free.specs.declared.accounts.Account.{Account}
+use Rattle.lock_free.specs.declared.accounts.Known.{Known}
 use Rattle.lock_free.specs.declared.rules.View.{View}
 use Rattle.lock_free.specs.Accounts.{bounds_for, place_of, OwnIs, IsOwn, gone_on}
 use Rattle.lock_free.specs.Exchanging.{IsNamed, IsPendingOver}
@@ -52,7 +54,14 @@ main_kind (Tomb single) b same is = ap is_main_node same.1 ∙ is
 main_kind (Listed singles) b same is = ap is_main_node same.1 ∙ is
 
 pub later_self : (v : View) → Later v v
-later_self v = record { is = refl; places = λ r slot u. refl; owns = λ a b c h. h; nodes = λ r slot u. (slot, u, same_self slot.node) }
+later_self v = record {
+  is = refl;
+  places = λ r slot u. refl;
+  owns = λ a b c h. h;
+  nodes = λ r slot u. (slot, u, same_self slot.node);
+  goes_on = ([], sym (append-nil v.account.steps));
+  offers = λ k c. c;
+}
 
 pub later_both : (u v w : View) → Later u v → Later v w → Later u w
 later_both u v w p q = record {
@@ -60,6 +69,8 @@ later_both u v w p q = record {
   places = λ r slot used. (let x = p.nodes r slot used in q.places r x.0 x.1 ∙ p.places r slot used);
   owns = λ a b c h. q.owns a b c (p.owns a b c h);
   nodes = λ r slot used. (let x = p.nodes r slot used in let y = q.nodes r x.0 x.1 in (y.0, y.1, same_both slot.node x.0.node y.0.node x.2 y.2));
+  goes_on = (p.goes_on.0 ++ q.goes_on.0, q.goes_on.1 ∙ ap (λ xs. xs ++ q.goes_on.0) p.goes_on.1 ∙ append_assoc u.account.steps p.goes_on.0 q.goes_on.0);
+  offers = λ k c. q.offers k (p.offers k c);
 }
 
 -- ---- by waiting, and by a step
@@ -75,13 +86,23 @@ module _ (n : ℕ) (v : View) (sound : IsSound n v) where
     owns_then : (a b : Ref) (c : Bool) → IsOwn v.account a b c → IsOwn account a b c
     owns_then a b c h = subst (λ xs. OwnIs xs (slot_of a) (slot_of b) c) (sym w.waited.more_owned) (owns_in_front w.waited.owned v.account.owned (slot_of a) (slot_of b) c h)
 
+    offers_then : (k : Known) → Contains v.account.offers k → Contains account.offers k
+    offers_then k c = subst (λ xs. Contains xs k) (sym w.waited.more_offers) (Contains-append_right w.waited.offers v.account.offers k c)
+
     pub waited_later : Later v (seen v account)
-    waited_later = record { is = refl; places = place_then; owns = owns_then; nodes = λ r slot is. nodes_stay v.sizes v.actor v.account account w.waited w.sound.bounds (slot_of r) slot is }
+    waited_later = record {
+      is = refl;
+      places = place_then;
+      owns = owns_then;
+      nodes = λ r slot is. nodes_stay v.sizes v.actor v.account account w.waited w.sound.bounds (slot_of r) slot is;
+      goes_on = (w.waited.steps, w.waited.goes_on);
+      offers = offers_then;
+    }
 
   pub saw_later : (after : View) (s : Saw v after) → Later v after
   saw_later after s = subst (λ x. Later v x) (sym s.after_is) (waited_later s.account s.waited)
 
-  gone_later : (account : Account) → Waited v account → AreBounds (bounds_for v.sizes (gone_on v.actor account).steps) → Later v (seen v (gone_on v.actor account))
+  pub gone_later : (account : Account) → Waited v account → AreBounds (bounds_for v.sizes (gone_on v.actor account).steps) → Later v (seen v (gone_on v.actor account))
   gone_later account w bounds =
       let first = waited_later account w in
       record {
@@ -92,6 +113,11 @@ module _ (n : ℕ) (v : View) (sound : IsSound n v) where
             (let x = first.nodes r slot is in
             let y = nodes_go v.sizes v.actor account bounds (slot_of r) x.0 x.1 in
             (y.0, y.1, same_both slot.node x.0.node y.0.node x.2 y.2));
+        goes_on = (
+          w.waited.steps ++ step.Go v.actor ∷ [],
+          ap (λ xs. xs ++ step.Go v.actor ∷ []) w.waited.goes_on ∙ append_assoc v.account.steps w.waited.steps (step.Go v.actor ∷ []),
+        );
+        offers = first.offers;
       }
 
   pub went_later : (m : ℕ) (after : View) → IsSound m after → (w : Went v after) → Later v after

@@ -21,8 +21,9 @@ use Rattle.lock_free.specs.declared.sizes.Sizes.{Sizes}
 use Rattle.lock_free.specs.Accounts.{state_of, place_at, place_of}
 use Rattle.lock_free.specs.Nodes.{StandsAs, InTable, class_of}
 use Rattle.lock_free.specs.Making.{over_of, DraftsNode, made_at, refs_of_offer, Makes}
+use Rattle.lock_free.specs.Live.{IsLive}
 use Rattle.lock_free.specs.Places.{IsTaken, words_in, root_word, words_of, HaveTaken, generation_word}
-use Rattle.lock_free.specs.Roots.{MeansRoot, IsWritten, second_of}
+use Rattle.lock_free.specs.Roots.{MeansRoot, IsWritten, second_of, fate}
 use Rattle.lock_free.specs.Rules.{Standing, Stands, NodesStand, RootsStand, IsSpare}
 use Rattle.lock_free.specs.Trying.{as_before}
 use Rattle.lock_free.proofs.Meanings.{means_kept, marks_kept, stood_still}
@@ -31,6 +32,8 @@ use Rattle.lock_free.proofs.Framing.{class_small}
 use Rattle.lock_free.proofs.Geometry.{end_inside}
 use Rattle.lock_free.proofs.Owners.{owners_made}
 use Rattle.lock_free.proofs.Made.{place_else, place_last, same_place, stands_too, stands_new, stands_else, stood_stands, new_stands}
+use Rattle.lock_free.proofs.Fates.{fate_kept, words_same}
+use Rattle.lock_free.proofs.OneStep.Reached.{reached_kept}
 use Rattle.lock_free.proofs.Waiting.{quiet_more}
 
 module _ (sizes : Sizes) (account : Account) (actor : ℕ) (operation : Operation) (name : ℕ) (own : Bool) (node : Node) (more : ℕ)
@@ -105,16 +108,20 @@ module _ (sizes : Sizes) (account : Account) (actor : ℕ) (operation : Operatio
       | inr other ↦ subst (λ p. 2 * p + words_in (class_of slot.node) ≤ words_of sizes) (sym (place_old k other)) (all.nodes.inside k slot (sym (makes.nodes k other) ∙ e))
     ];
     owners = owners_made sizes account actor operation name own node more makes all.nodes.owners;
-    live = λ r h. elim (makes.live r h) [
-      | inl before ↦ stands_by r (all.nodes.live r before)
-      | inr new ↦ stands_new k0 stands (slot_of r) new
-    ];
+    live = live_stands;
+    reached = reached_kept sizes account later (step.Go actor) refl stands later_stands all.nodes.reached live_stands (λ r was h. stands_by r h);
   }
     where
       stands_by : (r : Ref) → stands (slot_of r) ≡ true → later_stands (slot_of r) ≡ true
       stands_by r h = elim (cases_eq (slot_of r) k0) [
         | inl new ↦ stands_new k0 stands (slot_of r) new
         | inr other ↦ stands_else k0 stands (slot_of r) other ∙ h
+      ]
+
+      live_stands : (r : Ref) → IsLive (state_of sizes later) r → later_stands (slot_of r) ≡ true
+      live_stands r h = elim (makes.live r h) [
+        | inl before ↦ stands_by r (all.nodes.live r before)
+        | inr new ↦ stands_new k0 stands (slot_of r) new
       ]
 
   place_then : (r : Ref) → slot_of r ≢ k0 → place_of account r ≡ place_of later r
@@ -156,6 +163,7 @@ module _ (sizes : Sizes) (account : Account) (actor : ℕ) (operation : Operatio
     tries = all.roots.tries;
     stood = λ k c. stood_still sizes account later (step.Go actor ∷ []) refl k.offer (all.roots.stood k c);
     marks = marks_kept account.offers (state_of sizes account) (state_of sizes later) (as_before makes.tries) words words (λ k c. refl) all.roots.marks;
+    fates = λ k c. fate_kept sizes account later (step.Go actor) refl k (fate words k) (λ e. words_same (state_of sizes account) (state_of sizes later) makes.roots k.handle ∙ e) (all.roots.fates k c);
   }
 
   -- with the words that were exchanged since, before all slots

@@ -1,6 +1,6 @@
 -- The exchange by which a seat marks a handle that it would close.
 use Rattle.history.specs.declared.calls.Call.{Call}
-use Rattle.std.proofs.Common.{◌≡◌, ◌==◌, ◌<◌, ◌^◌, inl, inr, ℕ, Bool, true, false, set, slice_index, None, refl, sym, ap, subst, ◌∙◌, eq-eqb}
+use Rattle.std.proofs.Common.{◌≡◌, ◌==◌, ◌<◌, ◌^◌, inl, inr, ℕ, Bool, true, false, set, slice_index, refl, sym, ap, subst, ◌∙◌, eq-eqb}
 use Rattle.std.proofs.lemmas.Bool.{cases_eq, ne_eqb, true≢false, false≢true}
 use mathlib.Core.Option.{some, none}
 use lib.ListN.{get_elem?}
@@ -21,7 +21,7 @@ use Rattle.lock_free.specs.Places.{root_word}
 use Rattle.lock_free.specs.Roots.{MeansRoot, SaysRoot}
 use Rattle.lock_free.specs.Rules.{SaysClosing, IsKept}
 use Rattle.lock_free.proofs.Assembling.{closing_at}
-use Rattle.lock_free.proofs.Entering.{seat_kept}
+use Rattle.lock_free.proofs.Closers.{seat_kept}
 use Rattle.lock_free.proofs.Exchanged.{words_then, words_hit, words_miss}
 use Rattle.lock_free.proofs.Geometry.{root_apart}
 use Rattle.lock_free.proofs.Moments.{allowed}
@@ -45,7 +45,7 @@ marked_fits (word.Writable slot) seat fits e small = (fits, small)
 marked_fits (word.ReadOnly slot) seat fits e small = (fits, small)
 marked_fits w seat fits e small = absurd (false≢true e)
 
-module _ (v : View) (handle : ℕ) (low : handle < 256) (small : v.actor < 2 ^ 8) (not_yet : v.closing ≡ None) (s : Table.State Call View) (kept : IsKept v.sizes s) (id : ℕ)
+module _ (v : View) (handle : ℕ) (low : handle < 256) (small : v.actor < 2 ^ 8) (s : Table.State Call View) (kept : IsKept v.sizes s) (id : ℕ)
     (at : get_elem? s.views id ≡ some v) where
   abbrev found : ℕ
   found = slice_index s.words (root_word handle)
@@ -62,12 +62,12 @@ module _ (v : View) (handle : ℕ) (low : handle < 256) (small : v.actor < 2 ^ 8
       let x = says (word.Writable slot) fits e in
       mark_kept v.sizes s kept id v at handle low Writable x.root x.is (word.ClosingWritable slot v.actor) (fits, small)
       (subst (λ n. IsPlainWord Writable (place_of kept.account x.root) (word.ClosingWritable n v.actor)) (sym x.place) (is_closing_writable refl v.actor))
-      (λ who h. says_who (word.ClosingWritable slot v.actor) who (fits, small) h) not_yet
+      (λ who h. says_who (word.ClosingWritable slot v.actor) who (fits, small) h)
   hits (word.ReadOnly slot) fits plain e =
       let x = says (word.ReadOnly slot) fits e in
       mark_kept v.sizes s kept id v at handle low ReadOnly x.root x.is (word.ClosingReadOnly slot v.actor) (fits, small)
       (subst (λ n. IsPlainWord ReadOnly (place_of kept.account x.root) (word.ClosingReadOnly n v.actor)) (sym x.place) (is_closing_read_only refl v.actor))
-      (λ who h. says_who (word.ClosingReadOnly slot v.actor) who (fits, small) h) not_yet
+      (λ who h. says_who (word.ClosingReadOnly slot v.actor) who (fits, small) h)
   hits w fits plain e = absurd (false≢true plain)
 
   misses : IsKept v.sizes (record { words = s.words; homes = s.homes; views = set s.views id v })
@@ -105,13 +105,13 @@ module _ (v : View) (handle : ℕ) (low : handle < 256) (small : v.actor < 2 ^ 8
       )
     ]
 
-pub mark_allowed : (sizes : Sizes) (size id : ℕ) (me : Me Call View) (handle : ℕ) → handle < 256 → me.0.actor < 2 ^ 8 → me.0.closing ≡ None → (w : RootWord) → IsRootWord w → is_unmarked w ≡ true →
+pub mark_allowed : (sizes : Sizes) (size id : ℕ) (me : Me Call View) (handle : ℕ) → handle < 256 → me.0.actor < 2 ^ 8 → (w : RootWord) → IsRootWord w → is_unmarked w ≡ true →
     Allows (IsKept sizes) size id me (root_word handle) (λ n. either (n == root_code w) (root_code (marked_by me.0.actor w)) n)
     (has_marked (step size (root_word handle) (root_code w) (root_code (marked_by me.0.actor w)) none) me)
-mark_allowed sizes size id me handle low small not_yet w fits plain =
+mark_allowed sizes size id me handle low small w fits plain =
     allowed sizes size id me (root_word handle) (λ n. either (n == root_code w) (root_code (marked_by me.0.actor w)) n)
     (has_marked (step size (root_word handle) (root_code w) (root_code (marked_by me.0.actor w)) none) me)
-    (λ s kept at. (let x = marks me.0 handle low small not_yet s kept id at w fits plain in
+    (λ s kept at. (let x = marks me.0 handle low small s kept id at w fits plain in
     (x.0, x.1.0, (λ g is. subst (λ n. HasMarked me.0 n (slice_index s.words (root_word handle) == root_code w) x.0) (root_apart handle g is) x.1.1, refl))))
 
 -- what is sound stays so

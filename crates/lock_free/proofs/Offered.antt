@@ -19,7 +19,8 @@ use Rattle.machine_model.specs.declared.operations.Operation.{Operation}
 use Rattle.machine_model.specs.Acting.{operation_after}
 use Rattle.machine_model.specs.Calls.{handle_of}
 use Rattle.machine_model.specs.Keys.{FitsKey}
-use Rattle.machine_model.specs.States.{State, operation_of, root_at, word_of, handle_limit}
+use Rattle.machine_model.specs.declared.roots.RootWord.TheVariants.{Offer}
+use Rattle.machine_model.specs.States.{State, operation_of, root_at, word_at, word_of, handle_limit}
 use Rattle.lock_free.specs.declared.accounts.Account.{Account}
 use Rattle.lock_free.specs.declared.accounts.Known.{Known}
 use Rattle.lock_free.specs.declared.rules.View.{View}
@@ -28,9 +29,12 @@ use Rattle.lock_free.specs.Accounts.{state_of, place_at, HasWaited, IsOfOther, H
 use Rattle.lock_free.specs.Offering.{DraftsOffer, Offers, known_at, offered_at, offered_by}
 use Rattle.lock_free.specs.Places.{pin_word, root_word, IsTaken}
 use Rattle.lock_free.specs.Roots.{MeansRoot, SaysOpening, NoOffer, IsWritten, IsItsTry, AreMarked, IsPending, fate, undecided, meant, opened_by, open_with, carried_out}
+use Rattle.lock_free.specs.Fates.{TellsFate}
 use Rattle.lock_free.specs.Rules.{Stands, IsClosing, SaysClosing, IsFree, IsSpare, IsOpening, IsHeld, Reserves, IsSeat, IsKept, pool_of}
 use Rattle.lock_free.specs.Trying.{try_of, KeepsTries, anew}
 use Rattle.lock_free.proofs.Assembling.{AllStand, all_stand, closing_stays, opening_stays, Numbers, assembled}
+use Rattle.lock_free.proofs.Fates as fates
+use Rattle.lock_free.proofs.Fates.{fate_said}
 use Rattle.lock_free.proofs.Geometry.{IsWordOf}
 use Rattle.lock_free.proofs.Meanings.{means_then, stood_still, ran, reserved, reserves_on, marks_kept}
 use Rattle.lock_free.proofs.Pools.{first_or_more, first_there, more_there}
@@ -39,6 +43,7 @@ use Rattle.lock_free.proofs.RootFound.{not_plain, slot_fits, offered_is, opening
 use Rattle.lock_free.proofs.RootSteps as root
 use Rattle.lock_free.proofs.Seats.{ran_so, Stays, other_kept, own_kept}
 use Rattle.lock_free.proofs.Spending as spending
+use Rattle.lock_free.proofs.Stood.{plain_not}
 use Rattle.lock_free.proofs.Waiting.{waited_more, quiet_more}
 
 module _ (sizes : Sizes) (s : Table.State Call View) (kept : IsKept sizes s) (id : ℕ) (v : View) (at : get_elem? s.views id ≡ some v) (operation : Operation)
@@ -275,6 +280,21 @@ module _ (sizes : Sizes) (s : Table.State Call View) (kept : IsKept sizes s) (id
         (kept.roots.pending k old before))
   ]
 
+  not_there_yet : (d : Descriptor) → word_at now handle ≡ Offer d → ⊥
+  not_there_yet d e = plain_not offer.root d (sym (ap word_of offers.stood) ∙ e)
+
+  fates_all : (k : Known) → Contains account_then.offers k → TellsFate sizes account_then k (fate words_then k)
+  fates_all k c = elim (first_or_more new kept.account.offers k c) [
+    | inl is_new ↦
+        subst (λ x. TellsFate sizes account_then x (fate words_then x)) (sym is_new)
+        (fate_said sizes account_then new undecided (fate words_then new) fate_new
+        (fates.fate_new sizes kept.account account_then (step.Go v.actor) refl new offers.never (not_there_yet offer)))
+    | inr old ↦
+        fate_said sizes account_then k (fate s.words k) (fate words_then k) (fate_old k old)
+        (fates.fate_kept sizes kept.account account_then (step.Go v.actor) refl k (fate s.words k)
+        (λ e. ap word_of (offers.roots k.handle (λ same. not_there_yet k.offer (ap (word_at now) (sym same) ∙ e))) ∙ e) (kept.roots.fates k old))
+  ]
+
   -- ---- all that stands
 
   not_its_slot : (x : Known) → Contains account_then.offers x → (k : ℕ) (n : Slot) → Stands kept.stands now k n → place_at kept.account k ≢ x.slot
@@ -283,7 +303,7 @@ module _ (sizes : Sizes) (s : Table.State Call View) (kept : IsKept sizes s) (id
     | inr old ↦ kept.nodes.offers x old k n h
   ]
 
-  all_then : AllStand sizes account_then kept.stands words_then
+  pub all_then : AllStand sizes account_then kept.stands words_then
   all_then = record {
     bounds = offers.leaves.bounds;
     keys = All-append FitsKey kept.account.steps (step.Go v.actor ∷ []) kept.keys (All-cons FitsKey (step.Go v.actor) [] tt (All-nil FitsKey));
@@ -294,7 +314,7 @@ module _ (sizes : Sizes) (s : Table.State Call View) (kept : IsKept sizes s) (id
     generations = root.generations_rooted sizes kept.account kept.stands s.words all handle low (root_code (word.Offered slot)) ∙ sym offers.leaves.generations;
     nodes = root.nodes_left sizes kept.account account_then.steps account_then.offers offers.leaves kept.stands words_then not_its_slot
         (root.nodes_rooted sizes kept.account kept.stands s.words all handle low (root_code (word.Offered slot)));
-    roots = record { means = means_all; offers = written_all; blocks = blocks_all; single = single_all; tries = tries_all; stood = stood_all; marks = marks_all; pending = pending_all };
+    roots = record { means = means_all; offers = written_all; blocks = blocks_all; single = single_all; tries = tries_all; stood = stood_all; marks = marks_all; fates = fates_all; pending = pending_all };
   }
 
   -- ---- seats

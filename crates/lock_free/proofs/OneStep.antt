@@ -8,12 +8,15 @@ pub mod Changing
 pub mod Leading
 pub mod Found
 pub mod Giving
+pub mod Reached
 pub mod Standing
 pub mod Marking
 pub mod Settles
 pub mod Settling
 pub mod Offering
+pub mod Missing
 pub mod Sitting
+pub mod Telling
 pub mod Beginning
 pub mod Idle
 pub mod Restores
@@ -22,6 +25,7 @@ pub mod Publishes
 pub mod Taking
 pub mod MadeMains
 pub mod Offers
+pub mod Roots
 pub mod Met
 pub mod Makes
 pub mod Openers

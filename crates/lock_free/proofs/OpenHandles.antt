@@ -1,16 +1,14 @@
 -- Exchanges of the word of an open handle: an offer that is settled is taken out of it, and a mark that a seat would close the handle is made or taken away.
 use Rattle.history.specs.declared.calls.Call.{Call}
-use Rattle.std.proofs.Common.{◌≡◌, ◌≢◌, ◌^◌, ◌==◌, ℕ, ◌<◌, inl, inr, Bool, true, false, List, ◌∷◌, [], Contains, set, slice_index, is_some, Option, Some, None, refl, sym, ap, subst, ◌∙◌, arith}
+use Rattle.std.proofs.Common.{◌≡◌, ◌≢◌, ◌^◌, ◌==◌, ℕ, ◌<◌, inl, inr, Bool, true, false, List, ◌∷◌, [], Contains, set, slice_index, Option, Some, None, refl, sym, ap, subst, ◌∙◌, arith}
 use Rattle.std.proofs.Common.{if◌then◌else◌}
 use Rattle.std.proofs.lemmas.Bool.{cases_eq, ne_eqb}
-use Rattle.std.proofs.lemmas.Option.{same_Some, none-some}
 use Rattle.std.proofs.lemmas.List.Elements.{Contains-get_or}
 use mathlib.Core.Option.{some}
 use lib.ListN.{get_elem?}
 use Rattle.atomic_table.specs.Table as Table
 use Rattle.atomic_table.proofs.Lists.{at_set}
 use Rattle.trie_words.specs.Codes.{root_code, IsRootWord}
-use Rattle.trie_words.specs.declared.pins.Pin.{Pin}
 use Rattle.trie_words.specs.declared.roots.RootWord.{RootWord as HandleWord}
 use Rattle.trie_words.specs.declared.roots.RootWord.TheVariants as word
 use Rattle.history.specs.declared.calls.Access.{Access}
@@ -21,7 +19,7 @@ use Rattle.machine_model.specs.Acting.{opened_root}
 use Rattle.machine_model.specs.Counting.{refs_of_root}
 use Rattle.machine_model.specs.declared.roots.Descriptor.{Descriptor}
 use Rattle.machine_model.specs.declared.roots.RootWord.TheVariants.{Plain, Offer}
-use Rattle.machine_model.specs.States.{State, operation_of, root_at, handle_limit}
+use Rattle.machine_model.specs.States.{State, root_at, handle_limit}
 use Rattle.lock_free.specs.declared.accounts.Known.{Known}
 use Rattle.lock_free.specs.declared.rules.Closing.{Closing}
 use Rattle.lock_free.specs.declared.rules.View.{View}
@@ -31,9 +29,11 @@ use Rattle.lock_free.specs.Live.{from_root}
 use Rattle.lock_free.specs.Nodes.{class_of}
 use Rattle.lock_free.specs.Places.{root_word}
 use Rattle.lock_free.specs.Roots.{fate, undecided, carried_out, meant, opened_by, open_with}
+use Rattle.lock_free.specs.RootWords.{settled_root}
 use Rattle.lock_free.specs.Rules.{IsClosing, SaysClosing, IsSeat, IsKept}
 use Rattle.lock_free.proofs.Asked.{live_in_use}
 use Rattle.lock_free.proofs.Assembling.{all_stand, here, closing_at}
+use Rattle.lock_free.proofs.Closers.{newest, older}
 use Rattle.lock_free.proofs.Framing.{has_words, class_small}
 use Rattle.lock_free.proofs.RootCodes.{kind, same_kind}
 use Rattle.lock_free.proofs.RootFound.{slot_fits, offered_is, opening_is}
@@ -41,9 +41,6 @@ use Rattle.lock_free.proofs.RootSteps as root
 use Rattle.lock_free.proofs.Rewritten.{IsPlainWord, rewrite_kept}
 
 -- ---- which root a settled offer leaves
-
-abbrev pub settled_root : ℕ → Descriptor → Ref
-settled_root n offer = if n == carried_out then offer.successor else offer.root
 
 plain_if : (b : Bool) (x y : Ref) → (if b then Plain x else Plain y) ≡ Plain (if b then x else y)
 plain_if true x y = refl
@@ -95,7 +92,7 @@ module _ (sizes : Sizes) (s : Table.State Call View) (kept : IsKept sizes s) (ha
 
 -- ---- exchanges
 
-not_closing : (w : HandleWord) (who : ℕ) → IsRootWord w → kind w < 6 → SaysClosing (root_code w) who → ⊥
+pub not_closing : (w : HandleWord) (who : ℕ) → IsRootWord w → kind w < 6 → SaysClosing (root_code w) who → ⊥
 not_closing w who fits unmarked (inl h) = let same = same_kind w (word.ClosingWritable h.0 who) fits h.1 h.2 in omega (arith, same, unmarked)
 not_closing w who fits unmarked (inr h) = let same = same_kind w (word.ClosingReadOnly h.0 who) fits h.1 h.2 in omega (arith, same, unmarked)
 
@@ -134,40 +131,13 @@ module _ (sizes : Sizes) (s : Table.State Call View) (kept : IsKept sizes s) (id
           | inr differs ↦ closing_at sizes s kept id v at v refl refl g who (λ e. e) (λ c this on its. this) (kept.closings g who below (says_else g who differs says))
         ])
 
-    -- and the seat enters it at once, which has pinned itself to it
-    module _ (pin : Pin) (pinned : v.pin ≡ Some pin) (its : pin.handle ≡ handle) (idle : operation_of state v.actor ≡ None) where
-      pub clean_enter_kept : IsKept sizes (record { words = words_then; homes = s.homes; views = set s.views id (record v { entered = Some handle }) })
-      clean_enter_kept =
-          rewrite_kept sizes s kept id v at handle low access q plain w fits is (Some handle) v.closing
-          (λ g e. (let same = same_Some handle g e in
-          (subst (λ n. n < handle_limit) same low, ap (λ n. is_some (root_at state n)) (sym same) ∙ ap is_some plain, (pin, pinned, its ∙ same)))) (λ o e. absurd (none-some o (sym idle ∙ e)))
-          (λ g who below says. elim (cases_eq g handle) [
-            | inl same ↦ absurd (says_none g who same says)
-            | inr differs ↦
-                closing_at sizes s kept id v at (record v { entered = Some handle }) refl refl g who (λ e. absurd (differs (sym (same_Some handle g e)))) (λ c this on own. this)
-                (kept.closings g who below (says_else g who differs says))
-          ])
-
-    -- a closer takes its own mark away
-    module _ (c : Closing) (closes : v.closing ≡ Some c) (this : c.handle ≡ handle) where
-      pub unmark_kept : IsKept sizes (record { words = words_then; homes = s.homes; views = set s.views id (record v { closing = None }) })
-      unmark_kept =
-          rewrite_kept sizes s kept id v at handle low access q plain w fits is v.entered None seat.entered seat.calls
-          (λ g who below says. elim (cases_eq g handle) [
-            | inl same ↦ absurd (says_none g who same says)
-            | inr differs ↦
-                closing_at sizes s kept id v at (record v { closing = None }) refl refl g who (λ e. e)
-                (λ d is_it on own. absurd (differs (sym on ∙ ap (λ (x : Closing). x.handle) (same_Some d c (sym is_it ∙ closes)) ∙ this)))
-                (kept.closings g who below (says_else g who differs says))
-          ])
-
   -- the seat marks the handle: it would close it, and has looked at nobody's pin yet
-  module _ (marks : (who : ℕ) → SaysClosing (root_code w) who → who ≡ v.actor) (not_yet : v.closing ≡ None) where
+  module _ (marks : (who : ℕ) → SaysClosing (root_code w) who → who ≡ v.actor) where
     abbrev pub begins : Closing
     begins = record { handle = handle; looked = 0 }
 
     abbrev pub marking : View
-    marking = record v { closing = Some begins }
+    marking = record v { closing = begins ∷ v.closing }
 
     positive : (other : ℕ) (x : View) → get_elem? (set s.views id marking) other ≡ some x → 0 < x.actor
     positive other x e = elim (at_set s.views id other marking x e) [
@@ -182,18 +152,18 @@ module _ (sizes : Sizes) (s : Table.State Call View) (kept : IsKept sizes s) (id
       at = here sizes s kept id v at marking refl refl;
       its = sym own;
       closing = begins;
-      is = refl;
+      is = newest begins v.closing;
       this = refl;
       none = λ other x e inside apart. positive other x e;
     }
 
     pub mark_kept : IsKept sizes (record { words = words_then; homes = s.homes; views = set s.views id marking })
     mark_kept =
-        rewrite_kept sizes s kept id v at handle low access q plain w fits is v.entered (Some begins) seat.entered seat.calls
+        rewrite_kept sizes s kept id v at handle low access q plain w fits is v.entered (begins ∷ v.closing) seat.entered seat.calls
         (λ g who below says. elim (cases_eq g handle) [
           | inl same ↦
               subst (λ n. IsClosing (set s.views id marking) n who) (sym same)
               (closes_here who (marks who (subst (λ n. SaysClosing n who) (ap (λ n. slice_index words_then (root_word n)) same ∙ root_here) says)))
           | inr differs ↦
-              closing_at sizes s kept id v at marking refl refl g who (λ e. e) (λ c is_it on own. absurd (none-some c (sym not_yet ∙ is_it))) (kept.closings g who below (says_else g who differs says))
+              closing_at sizes s kept id v at marking refl refl g who (λ e. e) (λ c is_it on own. older begins v.closing g (λ e. differs (sym e)) ∙ is_it) (kept.closings g who below (says_else g who differs says))
         ])

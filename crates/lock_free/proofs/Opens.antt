@@ -186,6 +186,7 @@ module _ (sizes : Sizes) where
       inside = λ k slot s. inside_at k slot (node_found sizes k slot s);
       owners = owners_are;
       live = λ r l. refl;
+      reached = λ r l. refl;
     }
 
     -- ---- handles
@@ -214,6 +215,7 @@ module _ (sizes : Sizes) where
       single = λ k l c. absurd (empty_has k c);
       tries = λ k l c. absurd (empty_has k c);
       stood = λ k c. absurd (empty_has k c);
+      fates = λ k c. absurd (empty_has k c);
       marks = λ k c. absurd (empty_has k c);
       pending = λ k c. absurd (empty_has k c);
     }

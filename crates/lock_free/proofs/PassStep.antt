@@ -1,9 +1,8 @@
 -- The load of the next seat's pin, by a seat that would close a handle.
 use Rattle.history.specs.declared.calls.Call.{Call}
-use Rattle.std.proofs.Common.{◌≡◌, ◌==◌, ◌||◌, ◌<◌, ◌≤◌, ◌+◌, ◌⊎◌, inl, inr, ℕ, Bool, true, false, set, slice_index, Some, refl, sym, ap, subst, ◌∙◌, eq-eqb, arith, if◌then◌else◌}
+use Rattle.std.proofs.Common.{◌≡◌, ◌==◌, ◌||◌, ◌<◌, ◌≤◌, ◌+◌, ◌⊎◌, inl, inr, ℕ, Bool, true, false, List, ◌∷◌, get_or, set, slice_index, refl, sym, ap, subst, ◌∙◌, eq-eqb, arith, if◌then◌else◌}
 use Rattle.std.proofs.lemmas.Bool.{cases_eq, ne_eqb, true≢false}
 use Rattle.std.proofs.lemmas.List.{set-get_or}
-use Rattle.std.proofs.lemmas.Option.{same_Some}
 use mathlib.Core.Option.{some, none}
 use lib.ListN.{get_elem?}
 use Rattle.atomic_table.specs.Table.{Me, Allows, step}
@@ -16,9 +15,9 @@ use Rattle.lock_free.specs.declared.sizes.Sizes.{Sizes}
 use Rattle.lock_free.specs.Loading.{IsSound}
 use Rattle.lock_free.specs.Places.{pin_word}
 use Rattle.lock_free.specs.Rules.{IsKept}
-use Rattle.lock_free.specs.SeatWords.{is_out, closes, passing, HasPassed, is_passed, has_passed}
+use Rattle.lock_free.specs.SeatWords.{is_out, WouldClose, closes, passing, HasPassed, is_passed, has_passed}
 use Rattle.lock_free.proofs.Assembling.{closing_at}
-use Rattle.lock_free.proofs.Entering.{seat_kept, pass_kept}
+use Rattle.lock_free.proofs.Closers.{seat_kept, pass_kept}
 use Rattle.lock_free.proofs.Moments.{allowed}
 use Rattle.lock_free.proofs.PinStep.{low_back}
 
@@ -30,7 +29,7 @@ either_one false b e = inr e
 is_same : (n m : ℕ) → (n == m) ≡ true → n ≡ m
 is_same n m e = elim (cases_eq n m) [ inl same ↦ same | inr differs ↦ absurd (true≢false (sym e ∙ ne_eqb n m differs)) ]
 
-module _ (v : View) (handle looked : ℕ) (low : handle < 256) (would : v.closing ≡ Some (closes handle looked)) (s : Table.State Call View) (kept : IsKept v.sizes s) (id : ℕ)
+module _ (v : View) (handle looked : ℕ) (low : handle < 256) (others : List Closing) (would : v.closing ≡ closes handle looked ∷ others) (s : Table.State Call View) (kept : IsKept v.sizes s) (id : ℕ)
     (at : get_elem? s.views id ≡ some v) where
   abbrev found : ℕ
   found = slice_index s.words (pin_word (looked + 1))
@@ -50,7 +49,7 @@ module _ (v : View) (handle looked : ℕ) (low : handle < 256) (would : v.closin
   Passed w = IsKept v.sizes (record { words = s.words; homes = s.homes; views = set s.views id w }) × HasPassed v handle looked (is_passed v handle looked found) w
 
   passes_by : (b : Bool) → is_passed v handle looked found ≡ b → (w : View) × Passed w
-  passes_by true e = (passing v handle looked, (pass_kept v.sizes s kept id v at handle looked would (nobody e), (λ x. refl, λ x. absurd (true≢false (sym e ∙ x)))))
+  passes_by true e = (passing v handle looked, (pass_kept v.sizes s kept id v at handle looked others would (nobody e), (λ x. refl, λ x. absurd (true≢false (sym e ∙ x)))))
   passes_by false e = (
     v,
     (
@@ -63,16 +62,16 @@ module _ (v : View) (handle looked : ℕ) (low : handle < 256) (would : v.closin
   pub passes : (w : View) × Passed w
   passes = passes_by (is_passed v handle looked found) refl
 
-pub pass_allowed : (sizes : Sizes) (size id : ℕ) (me : Me Call View) (handle looked : ℕ) → handle < 256 → me.0.closing ≡ Some (closes handle looked) →
+pub pass_allowed : (sizes : Sizes) (size id : ℕ) (me : Me Call View) (handle looked : ℕ) → handle < 256 → WouldClose me.0 handle looked →
     Allows (IsKept sizes) size id me (pin_word (looked + 1)) (λ n. n) (has_passed (step size (pin_word (looked + 1)) 0 0 none) me)
-pass_allowed sizes size id me handle looked low would =
+pass_allowed sizes size id me handle looked low (others, would) =
     allowed sizes size id me (pin_word (looked + 1)) (λ n. n) (has_passed (step size (pin_word (looked + 1)) 0 0 none) me)
-    (λ s kept at. (let x = passes me.0 handle looked low would s kept id at in (
+    (λ s kept at. (let x = passes me.0 handle looked low others would s kept id at in (
       x.0,
       subst (λ ws. IsKept me.0.sizes (record { words = ws; homes = s.homes; views = set s.views id x.0 })) (sym (set-get_or s.words (pin_word (looked + 1)) 0)) x.1.0,
       (
         λ g n is here. subst (λ (c : Closing). HasPassed me.0 c.handle c.looked (is_passed me.0 c.handle c.looked (slice_index s.words (pin_word (looked + 1)))) x.0)
-            (same_Some (closes handle looked) (closes g n) (sym would ∙ is)) x.1.1,
+            (ap (λ marks. get_or marks 0 (closes handle looked)) (sym would ∙ is.1)) x.1.1,
         refl,
       ),
     )))

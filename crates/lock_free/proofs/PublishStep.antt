@@ -1,8 +1,8 @@
 -- The exchange of an indirection's word that swaps a fresh main node in is the operation's step, whether it finds the replaced one or not.
 use Rattle.history.specs.declared.calls.Call.{Call}
-use Rattle.std.proofs.Common.{◌≡◌, ◌≢◌, ◌+◌, ◌*◌, ◌<◌, ◌≤◌, ◌⊎◌, ◌==◌, ℕ, inl, inr, Bool, true, false, [], ◌∷◌, Contains, set, slice_index, Some, refl, sym, ap, subst, ◌∙◌, arith, eq-eqb, ne_eqb}
+use Rattle.std.proofs.Common.{◌≡◌, ◌≢◌, ◌*◌, ◌==◌, ℕ, inl, inr, Bool, true, false, [], ◌∷◌, Contains, set, slice_index, Some, refl, sym, ap, subst, ◌∙◌, arith, eq-eqb, ne_eqb}
 use Rattle.std.proofs.lemmas.Bool.{true≢false}
-use Rattle.std.proofs.lemmas.List.Elements.{Contains-get_or, Contains-append_right}
+use Rattle.std.proofs.lemmas.List.Elements.{Contains-get_or}
 use Rattle.std.proofs.lemmas.Option.{same_Some}
 use mathlib.Core.Option.{some, none}
 use lib.ListN.{get_elem?}
@@ -26,22 +26,18 @@ use Rattle.lock_free.specs.declared.accounts.Account.{Account}
 use Rattle.lock_free.specs.declared.rules.View.{View}
 use Rattle.lock_free.specs.declared.sizes.Sizes.{Sizes}
 use Rattle.lock_free.specs.Accounts.{state_of, place_of, running, gone_on}
-use Rattle.lock_free.specs.Exchanging.{IsLinkTo, IsAtPublish, given_back, given_up, HasSwapped, HasPublished, has_published}
-use Rattle.lock_free.specs.Live.{refs_of_claims, line_claims, from_operation, IsLive}
+use Rattle.lock_free.specs.Exchanging.{IsLinkTo, IsAtPublish, given_up, HasSwapped, HasPublished, has_published}
 use Rattle.lock_free.specs.Loading.{Moment, now, seen, IsAt, Took}
-use Rattle.lock_free.specs.Nodes.{class_of}
-use Rattle.lock_free.specs.Places.{words_in, words_of}
 use Rattle.lock_free.specs.Publishing.{swapped_in, Publishes}
-use Rattle.lock_free.specs.Rules.{Stands, pool_of, IsKept}
+use Rattle.lock_free.specs.Rules.{IsKept}
 use Rattle.lock_free.specs.Steps.{Leads}
-use Rattle.lock_free.proofs.Asked.{links_of, mains_of, is_one_of, publishes_or_not, private_apart, live_in_use}
+use Rattle.lock_free.proofs.Asked.{links_of, mains_of, is_one_of, publishes_or_not}
 use Rattle.lock_free.proofs.Assembling.{all_stand}
 use Rattle.lock_free.proofs.Exchanged.{LeavesAt, words_hit, words_miss, sound_by}
-use Rattle.lock_free.proofs.GivenBack.{WasOf, Fits, all_fit, one_of}
-use Rattle.lock_free.proofs.Keeping.{IsGivenUp, keys_gone, drop_kept}
+use Rattle.lock_free.proofs.Abandoned.{abandon_kept, abandon_sound}
 use Rattle.lock_free.proofs.LinkWords.{i_there, generation_now, hit, miss}
 use Rattle.lock_free.proofs.Looking.{main_there, o_there, acts_there, same_action}
-use Rattle.lock_free.proofs.Moments.{IsThere, free_inside, allowed, took_by, waited_so, its_place}
+use Rattle.lock_free.proofs.Moments.{IsThere, allowed, took_by, waited_so, its_place}
 use Rattle.lock_free.proofs.PublishedAll.{all_then}
 use Rattle.lock_free.proofs.PublishedKept.{publish_kept}
 
@@ -144,47 +140,13 @@ module _ (v : View) (i replaced made : Ref) (p : IsAt v (act.Publish i replaced 
     abbrev dropped : View
     dropped = given_up v there p.operation.private
 
-    private_lives : (q : Ref) → Contains o.private q → IsLive state q
-    private_lives q c = from_operation v.actor o q runs tt (Contains-append_right (refs_of_claims (line_claims state o)) o.private q c)
-
-    each : (q : Ref) → Contains o.private q → (slot : Slot) × Stands kept.stands state (slot_of q) slot
-    each q c = let used = live_in_use v.sizes there kept.bounds q (private_lives q c) in (used.0, (kept.nodes.live q (private_lives q c), used.1))
-
-    fit : Fits v s kept id at (λ q. Contains o.private q) (given_back state there o.private v.pool)
-    fit = all_fit v s kept id at o.private each (private_apart v.sizes there kept.bounds v.actor o runs)
-
-    -- what is free then is the table's
-    free_then : (b n : ℕ) → b < 3 → Contains (pool_of v.pool b) n ⊎ WasOf v s kept id at (λ q. Contains o.private q) b n → 2 * n + words_in b ≤ words_of v.sizes
-    free_then b n low (inl old) = free_inside v s kept id at b n (low, old)
-    free_then b n low (inr w) =
-        subst (λ c. 2 * n + words_in c ≤ words_of v.sizes) w.class (subst (λ x. 2 * x + words_in (class_of w.slot.node) ≤ words_of v.sizes) w.place
-        (kept.nodes.inside (slot_of w.node) w.slot w.stood.1))
-
     module _ (leads : Leads v.sizes there (gone_on v.actor there) v.actor (is_one_of o.private) (operation_after state o)) where
-      abbrev GivenUp : ℕ → ℕ → Type 0
-      GivenUp b n =
-          IsGivenUp v.sizes s kept id v at o (operation_after state o) runs (machine.Go v.actor) tt (λ a differs e. differs (sym e)) (is_one_of o.private) leads refl refl b n
-
-      was_given : (b n : ℕ) → Contains (pool_of v.pool b) n ⊎ WasOf v s kept id at (λ q. Contains o.private q) b n → Contains (pool_of v.pool b) n ⊎ GivenUp b n
-      was_given b n (inl old) = inl old
-      was_given b n (inr w) = inr (record { number = slot_of w.node; is = one_of o.private w.node w.one; slot = w.slot; stands = w.stood; class = w.class; place = w.place })
-
       drops : found ≢ old → Left dropped
       drops differs = (
         subst (λ ws. IsKept v.sizes (record { words = ws; homes = s.homes; views = set s.views id dropped })) (words_miss v s kept id at word old new differs)
-            (drop_kept v.sizes s kept id v at o (operation_after state o) runs (machine.Go v.actor) tt (λ a d e. d (sym e)) (is_one_of o.private) leads refl refl
-            (given_back state there o.private v.pool) fit.once fit.more
-            (λ b n low c. was_given b n (fit.which b n low c))),
+            (abandon_kept v s kept id at o (operation_after state o) runs (machine.Go v.actor) tt (λ a d e. d (sym e)) leads refl refl),
         (
-          record {
-            size = refl;
-            range = kept.range.within;
-            bounds = leads.bounds;
-            keys = keys_gone kept.account.steps v.actor kept.keys;
-            counted = kept.counted ∙ sym leads.births;
-            inside = λ k slot e. kept.nodes.inside k slot (sym (leads.nodes k) ∙ e);
-            free = λ b n f. free_then b n f.0 (fit.which b n f.0 f.1);
-          },
+          abandon_sound v s kept id at o (operation_after state o) runs (machine.Go v.actor) tt (λ a d e. d (sym e)) leads refl refl,
           λ q runs_q. leads.own ∙ ap (λ x. Some (operation_after state x)) (same_Some o q (sym runs ∙ runs_q)),
         ),
       )

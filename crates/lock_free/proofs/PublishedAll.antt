@@ -23,7 +23,7 @@ use Rattle.lock_free.specs.Accounts.{state_of, place_at, place_of, first}
 use Rattle.lock_free.specs.Nodes.{StandsAs, InTable, class_of}
 use Rattle.lock_free.specs.Places.{first_slot_word, words_in, words_of, generation_word, root_word, IsTaken}
 use Rattle.lock_free.specs.Publishing.{swapped_in, with_main_of, over, Publishes}
-use Rattle.lock_free.specs.Roots.{MeansRoot, second_of}
+use Rattle.lock_free.specs.Roots.{MeansRoot, second_of, fate}
 use Rattle.lock_free.specs.Rules.{Standing, Stands, NodesStand, RootsStand}
 use Rattle.lock_free.proofs.Asked.{in_use_made}
 use Rattle.lock_free.proofs.Assembling.{AllStand}
@@ -33,6 +33,8 @@ use Rattle.lock_free.proofs.Meanings.{means_kept, marks_kept, stood_still}
 use Rattle.lock_free.proofs.Geometry.{IsWordOf, slots_apart, above, inside}
 use Rattle.lock_free.proofs.Owners.{owners_published}
 use Rattle.lock_free.proofs.Published.{differ, else_stands, fresh_stands}
+use Rattle.lock_free.proofs.Fates.{fate_kept, words_same}
+use Rattle.lock_free.proofs.OneStep.Reached.{reached_kept}
 use Rattle.lock_free.proofs.Waiting.{quiet_more}
 
 module _ (sizes : Sizes) (account : Account) (actor : ℕ) (operation : Operation) (i a f : Ref) (publishes : Publishes sizes account (swapped_in actor i f account) actor operation i a f)
@@ -159,6 +161,7 @@ module _ (sizes : Sizes) (account : Account) (actor : ℕ) (operation : Operatio
     owners = owners_published sizes account actor operation i a f publishes all.nodes.owners (made_before (slot_of i) publishes.link publishes.link_is)
         (made_before (slot_of f) publishes.fresh publishes.fresh_is);
     live = λ r h. all.nodes.live r (publishes.live r h);
+    reached = reached_kept sizes account later (step.Go actor) refl stands stands all.nodes.reached (λ r h. all.nodes.live r (publishes.live r h)) (λ r was h. h);
   }
 
   meaning_then : (handle found : ℕ) (r : Option Root) → MeansRoot account words_then handle found r → MeansRoot later words_then handle found r
@@ -186,6 +189,7 @@ module _ (sizes : Sizes) (account : Account) (actor : ℕ) (operation : Operatio
         tries = roots.tries;
         stood = λ k c. stood_still sizes account later (step.Go actor ∷ []) refl k.offer (roots.stood k c);
         marks = marks_kept account.offers (state_of sizes account) (state_of sizes later) (as_before publishes.tries) words_then words_then (λ k c. refl) roots.marks;
+        fates = λ k c. fate_kept sizes account later (step.Go actor) refl k (fate words_then k) (λ e. words_same (state_of sizes account) (state_of sizes later) publishes.roots k.handle ∙ e) (roots.fates k c);
       }
 
   pub all_then : AllStand sizes later stands words_then

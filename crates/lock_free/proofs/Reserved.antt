@@ -10,7 +10,10 @@ use Rattle.trie_words.specs.Codes.{root_code, IsRootWord}
 use Rattle.trie_words.specs.declared.roots.RootWord.{RootWord as HandleWord}
 use Rattle.trie_words.specs.declared.roots.RootWord.TheVariants as word
 use Rattle.history.specs.declared.calls.Access.TheVariants.{Writable}
+use Rattle.machine_model.specs.declared.copying.CopyLine.TheVariants as copy
+use Rattle.machine_model.specs.declared.lines.Line.TheVariants as line
 use Rattle.machine_model.specs.declared.operations.Operation.{Operation}
+use Rattle.machine_model.specs.declared.roots.Complete.{Complete}
 use Rattle.machine_model.specs.declared.roots.Descriptor.{Descriptor}
 use Rattle.machine_model.specs.declared.roots.RootWord.TheVariants.{Offer}
 use Rattle.machine_model.specs.States.{State, operation_of, root_at, handle_limit}
@@ -34,7 +37,7 @@ module _ (sizes : Sizes) (s : Table.State Call View) (kept : IsKept sizes s)
     (owners : (h : ℕ) (offer : Descriptor) → root_at (state_of sizes kept.account) h ≡ open_with Writable (Offer offer) → HasOwner (state_of sizes kept.account) offer) where
   pub own_pending : (id : ℕ) (v : View) → get_elem? s.views id ≡ some v → (o : ℕ) → Reserves (state_of sizes kept.account) v o → (k : Known) → Contains kept.account.offers k → fate s.words k ≡
       undecided →
-      k.offer.opens ≡ Some o → (operation : Operation) × (operation_of (state_of sizes kept.account) v.actor ≡ Some operation)
+      k.offer.opens ≡ Some o → (operation : Operation) × (operation_of (state_of sizes kept.account) v.actor ≡ Some operation) × ((c : Complete) × (operation.line ≡ line.Copy (copy.Complete c)))
   own_pending id v at o r k c stands opens =
       let p = kept.roots.pending k c stands in
       let fits = slot_fits sizes s.words kept.range kept.taken k.slot (kept.roots.blocks k c) in
@@ -48,7 +51,7 @@ module _ (sizes : Sizes) (s : Table.State Call View) (kept : IsKept sizes s)
       ) in
       let same : seat.id ≡ id = kept.numbers seat.id id seat.view v o seat.at at reserves r in
       let view_is : seat.view ≡ v = some-injective seat.view v (sym seat.at ∙ ap (λ n. get_elem? s.views n) same ∙ at) in
-      (owner.operation, ap (λ (x : View). operation_of (state_of sizes kept.account) x.actor) (sym view_is) ∙ runs)
+      (owner.operation, ap (λ (x : View). operation_of (state_of sizes kept.account) x.actor) (sym view_is) ∙ runs, (owner.completing, owner.completes))
 
 -- ---- the stores
 

@@ -34,7 +34,7 @@ use Rattle.lock_free.specs.Nodes.{SaysHeader, class_of}
 use Rattle.lock_free.specs.Places.{first_slot_word, words_in, words_of, generation_word, root_word, IsTaken}
 use Rattle.lock_free.specs.Publishing.{with_main_of}
 use Rattle.lock_free.specs.Restoring.{Restores}
-use Rattle.lock_free.specs.Roots.{MeansRoot, second_of}
+use Rattle.lock_free.specs.Roots.{MeansRoot, second_of, fate}
 use Rattle.lock_free.specs.Rules.{Standing, Stands, NodesStand, RootsStand, IsSpare, IsKept}
 use Rattle.lock_free.proofs.Assembling.{AllStand, all_stand}
 use Rattle.lock_free.proofs.Framing.{below_word, stands_over, still_taken, have_still, roots_still, class_small, first_word, node_far, node_inside, not_of_other, not_of_any_offer}
@@ -44,6 +44,8 @@ use Rattle.lock_free.proofs.Geometry.{IsWordOf}
 use Rattle.lock_free.proofs.Made.{is_pending, is_failed}
 use Rattle.lock_free.proofs.Owners.{owners_kept}
 use Rattle.lock_free.proofs.NodeWord.{node_word_kept}
+use Rattle.lock_free.proofs.Fates.{fate_kept, words_same}
+use Rattle.lock_free.proofs.OneStep.Reached.{reached_kept}
 use Rattle.lock_free.proofs.Waiting.{quiet_more}
 
 module _ (sizes : Sizes) (account : Account) (actor : ℕ) (operation : Operation) (i main former : Ref) (restores : Restores sizes account actor operation i main former) (stands : Standing)
@@ -194,6 +196,7 @@ module _ (sizes : Sizes) (account : Account) (actor : ℕ) (operation : Operatio
     inside = λ k slot e. (let b = before k slot (which k slot e) in subst (λ c. 2 * place_at account k + words_in c ≤ words_of sizes) (sym b.2) (all.nodes.inside k b.0 b.1));
     owners = owners_kept account account_then now next refl refl restores.aheads all.nodes.owners;
     live = λ r h. all.nodes.live r (restores.live r h);
+    reached = reached_kept sizes account account_then (step.Go actor) refl stands stands all.nodes.reached (λ r h. all.nodes.live r (restores.live r h)) (λ r was h. h);
   }
 
   meaning_then : (handle found : ℕ) (r : Option Root) → MeansRoot account words_then handle found r → MeansRoot account_then words_then handle found r
@@ -221,6 +224,7 @@ module _ (sizes : Sizes) (account : Account) (actor : ℕ) (operation : Operatio
         tries = over.tries;
         stood = λ k c. stood_still sizes account account_then (step.Go actor ∷ []) refl k.offer (over.stood k c);
         marks = marks_kept account.offers now next (as_before restores.tries) words_then words_then (λ k c. refl) over.marks;
+        fates = λ k c. fate_kept sizes account account_then (step.Go actor) refl k (fate words_then k) (λ e. words_same now next restores.roots k.handle ∙ e) (over.fates k c);
       }
 
   pub all_then : AllStand sizes account_then stands words_then

@@ -120,7 +120,7 @@ module _ (sizes : Sizes) (s : Table.State Call View) (kept : IsKept sizes s) (id
   }
 
   -- what the seat has entered and would close then
-  module _ (entered : Option ℕ) (closing : Option Closing)
+  module _ (entered : Option ℕ) (closing : List Closing)
       (inside : (g : ℕ) → entered ≡ Some g → (g < handle_limit) × (is_some (root_at now g) ≡ true) × ((p : Pin) × (v.pin ≡ Some p) × (p.handle ≡ g)))
       (calls : (o : Operation) → operation_of now v.actor ≡ Some o → entered ≡ Some (handle_of o.call)) where
     abbrev pub view_then : View

@@ -1,5 +1,5 @@
 -- Steps that change no node, and stores to words of handles.
-use Rattle.std.proofs.Common.{◌≡◌, ◌≢◌, ℕ, ◌<◌, ◌≤◌, inl, inr, List, ◌++◌, Contains, length, set, get_or, slice_index, Option, None, refl, sym, ap, subst, ◌∙◌, arith, length-set}
+use Rattle.std.proofs.Common.{◌≡◌, ◌≢◌, ℕ, ◌<◌, ◌≤◌, inl, inr, List, [], ◌∷◌, ◌++◌, Contains, length, set, get_or, slice_index, Option, None, refl, sym, ap, subst, ◌∙◌, arith, length-set}
 use Rattle.std.proofs.lemmas.Bool.{cases_eq}
 use Rattle.std.proofs.lemmas.List.{get_or-set_same}
 use Rattle.trie_words.specs.Codes.{root_code}
@@ -20,6 +20,7 @@ use Rattle.lock_free.specs.Roots.{MeansRoot, IsWritten, IsPending, AreMarked, fa
 use Rattle.lock_free.specs.Rules.{Standing, Stands, NodesStand}
 use Rattle.lock_free.specs.Steps.{nothing}
 use Rattle.lock_free.proofs.Assembling.{AllStand}
+use Rattle.lock_free.proofs.Fates.{fate_kept, fate_said, words_same}
 use Rattle.lock_free.proofs.Framing.{else_word, nodes_below, roots_below, no_slot, meaning_below, written_below, first_of_offer, no_offer, marks_over}
 use Rattle.lock_free.proofs.Geometry.{IsWordOf, root_below, root_apart}
 use Rattle.lock_free.proofs.Owners.{owners_kept}
@@ -56,17 +57,21 @@ module _ (sizes : Sizes) (account : Account) (steps : List Step) (offers : List 
     inside = λ k slot e. nodes.inside k slot (sym (leaves.nodes k) ∙ e);
     owners = owners_kept account later now next refl refl leaves.aheads nodes.owners;
     live = λ r h. nodes.live r (leaves.live r h);
+    reached = λ r h. elim (leaves.reached r h) [
+      | inl was ↦ nodes.reached r was
+      | inr live ↦ nodes.live r live
+    ];
   }
 
   pub written_left : (k : Known) → IsWritten account words k → IsWritten later words k
   written_left = written_kept account steps offers nothing now next (same_nodes now next leaves.nodes) leaves.aheads (λ i a f e none. leaves.still i a f e) words
 
 -- where no root changes either, with the marks of operations as they are then
-module _ (sizes : Sizes) (account : Account) (more : List Step) (leaves : LeavesNodes sizes account (record account { steps = account.steps ++ more })) (stands : Standing) (words : List ℕ)
-    (fits : KeysFit (account.steps ++ more)) (quiet : HasNoSweeps (account.steps ++ more))
-    (roots : (state_of sizes (record account { steps = account.steps ++ more })).roots ≡ (state_of sizes account).roots)
-    (marks : AreMarked (state_of sizes (record account { steps = account.steps ++ more })) words account.offers) where
-  pub all_left : AllStand sizes account stands words → AllStand sizes (record account { steps = account.steps ++ more }) stands words
+module _ (sizes : Sizes) (account : Account) (s : Step) (leaves : LeavesNodes sizes account (record account { steps = account.steps ++ s ∷ [] })) (stands : Standing) (words : List ℕ)
+    (fits : KeysFit (account.steps ++ s ∷ [])) (quiet : HasNoSweeps (account.steps ++ s ∷ []))
+    (roots : (state_of sizes (record account { steps = account.steps ++ s ∷ [] })).roots ≡ (state_of sizes account).roots)
+    (marks : AreMarked (state_of sizes (record account { steps = account.steps ++ s ∷ [] })) words account.offers) where
+  pub all_left : AllStand sizes account stands words → AllStand sizes (record account { steps = account.steps ++ s ∷ [] }) stands words
   all_left all = record {
     bounds = leaves.bounds;
     keys = fits;
@@ -75,17 +80,20 @@ module _ (sizes : Sizes) (account : Account) (more : List Step) (leaves : Leaves
     size = all.size;
     taken = all.taken;
     generations = all.generations ∙ sym leaves.generations;
-    nodes = nodes_left sizes account (account.steps ++ more) account.offers leaves stands words all.nodes.offers all.nodes;
+    nodes = nodes_left sizes account (account.steps ++ s ∷ []) account.offers leaves stands words all.nodes.offers all.nodes;
     roots = record {
       means = λ handle low.
-          meaning_kept account (account.steps ++ more) words handle _ _
+          meaning_kept account (account.steps ++ s ∷ []) words handle _ _
           (subst (λ rs. MeansRoot account words handle (slice_index words (root_word handle)) (get_or rs handle None)) (sym roots) (all.roots.means handle low));
-      offers = λ k c. written_left sizes account (account.steps ++ more) account.offers leaves stands words k (all.roots.offers k c);
+      offers = λ k c. written_left sizes account (account.steps ++ s ∷ []) account.offers leaves stands words k (all.roots.offers k c);
       blocks = all.roots.blocks;
       single = all.roots.single;
       tries = all.roots.tries;
-      stood = λ k c. stood_still sizes account (record account { steps = account.steps ++ more }) more refl k.offer (all.roots.stood k c);
+      stood = λ k c. stood_still sizes account (record account { steps = account.steps ++ s ∷ [] }) (s ∷ []) refl k.offer (all.roots.stood k c);
       marks = marks;
+      fates = λ k c.
+          fate_kept sizes account (record account { steps = account.steps ++ s ∷ [] }) s refl k (fate words k)
+          (λ e. words_same (state_of sizes account) (state_of sizes (record account { steps = account.steps ++ s ∷ [] })) roots k.handle ∙ e) (all.roots.fates k c);
       pending = all.roots.pending;
     };
   }
@@ -188,6 +196,7 @@ module _ (sizes : Sizes) (account : Account) (stands : Standing) (words : List �
         tries = all.roots.tries;
         stood = all.roots.stood;
         marks = marks_over account words i x not_its (state_of sizes account) all.roots.marks;
+        fates = λ k c. fate_said sizes account k (fate words k) (fate rooted k) (fate_rooted k c) (all.roots.fates k c);
         pending = λ k c stands.
             (let before = sym (fate_rooted k c) ∙ stands in let none = unnamed k c before in pending_rooted k none.0 none.1 (all.roots.pending k c before));
       };

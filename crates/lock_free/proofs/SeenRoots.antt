@@ -26,7 +26,7 @@ module _ (sizes : Sizes) (account : Account) (words : List ℕ) (have : HaveTake
   opening_tells slot (inl h) = inl (record { its = h.its; here = h.here; place = sym h.place; opens = h.opens; inside = its_inside h.its h.here slot h.place })
   opening_tells slot (inr h) = inr h.1
 
-  tells_by : (w : RootWord) → SaysRoot account words handle w (root_at (state_of sizes account) handle) → TellsRoot sizes account handle w
+  pub tells_by : (w : RootWord) → SaysRoot account words handle w (root_at (state_of sizes account) handle) → TellsRoot sizes account handle w
   tells_by word.Closed h = h
   tells_by word.Reserved h = h
   tells_by (word.Writable slot) h = h

@@ -14,9 +14,13 @@ use Rattle.trie_words.specs.declared.roots.RootWord.TheVariants as word
 use Rattle.history.specs.declared.calls.Access.TheVariants.{Writable}
 use Rattle.machine_model.specs.declared.steps.Step.TheVariants as step
 use Rattle.machine_model.specs.declared.operations.Operation.{Operation}
+use Rattle.machine_model.specs.Beneath.slot_arena.specs.Heaps.{no_ref}
+use Rattle.machine_model.specs.declared.roots.Descriptor.{Descriptor}
+use Rattle.machine_model.specs.declared.roots.RootWord.{RootWord}
+use Rattle.machine_model.specs.declared.roots.RootWord.TheVariants.{Plain, Offer}
 use Rattle.machine_model.specs.Calls.{handle_of}
 use Rattle.machine_model.specs.Keys.{FitsKey}
-use Rattle.machine_model.specs.States.{State, operation_of, root_at, handle_limit}
+use Rattle.machine_model.specs.States.{State, operation_of, root_at, word_at, word_of, handle_limit}
 use Rattle.lock_free.specs.declared.accounts.Account.{Account}
 use Rattle.lock_free.specs.declared.accounts.Known.{Known}
 use Rattle.lock_free.specs.declared.rules.View.{View}
@@ -26,14 +30,17 @@ use Rattle.lock_free.specs.Nodes.{class_of}
 use Rattle.lock_free.specs.Places.{first_slot_word, generation_word, pin_word, root_word, IsTaken}
 use Rattle.lock_free.specs.Roots.{MeansRoot, NoOffer, IsWritten, AreMarked, IsPending, fate, undecided, meant, opened_by, open_with, carried_out}
 use Rattle.lock_free.specs.Rules.{NodesStand, IsClosing, SaysClosing, IsSpare, IsHeld, Reserves, IsSeat, IsKept}
-use Rattle.lock_free.specs.Settling.{Settles, IsSettled, IsMarkedThen, is_carried_out, is_taken_back}
+use Rattle.lock_free.specs.Fates.{TellsFate, IsSettled, IsMarkedThen, is_carried_out, is_taken_back}
+use Rattle.lock_free.specs.Settling.{Settles}
 use Rattle.lock_free.proofs.Assembling.{AllStand, all_stand, closing_stays, opening_stays, Numbers, assembled}
+use Rattle.lock_free.proofs.Fates.{fate_kept, fate_said, fate_settled}
 use Rattle.lock_free.proofs.Framing.{else_word, below_word, still_taken, have_still, stands_over, class_small}
 use Rattle.lock_free.proofs.Geometry.{IsWordOf, slots_apart, above, inside, root_below}
 use Rattle.lock_free.proofs.Meanings.{means_then, stood_still, pending_kept, unmarked_then}
 use Rattle.lock_free.proofs.RootFound.{slot_fits, opening_is}
 use Rattle.lock_free.proofs.RootSteps as root
 use Rattle.lock_free.proofs.Seats.{Stays, other_kept, own_kept, drafts_kept}
+use Rattle.lock_free.proofs.Stood.{meant_offer, offer_is, plain_not}
 use Rattle.lock_free.proofs.Tries.{is_or_not, ran_settled, reserved_settled, not_owner, marks_settled, marks_else, opener}
 use Rattle.lock_free.proofs.Waiting.{waited_more, quiet_more}
 
@@ -120,6 +127,7 @@ module _ (sizes : Sizes) (s : Table.State Call View) (kept : IsKept sizes s) (id
     inside = kept.nodes.inside;
     owners = kept.nodes.owners;
     live = kept.nodes.live;
+    reached = kept.nodes.reached;
   }
 
   nodes_then : NodesStand sizes account_then kept.stands words_then
@@ -210,6 +218,38 @@ module _ (sizes : Sizes) (s : Table.State Call View) (kept : IsKept sizes s) (id
     | inr differs ↦ pending_kept s.words words_then l root_same (kept.roots.pending l c (sym (fate_else l differs) ∙ none))
   ]
 
+  -- it leaves, and each other one stays
+  it_leaves : word_at next handle ≢ Offer k.offer
+  it_leaves e = is_decided settles.tries (meant_offer n k.offer k.offer (sym (ap word_of settles.settled) ∙ e)).0
+
+  stays_there : (l : Known) → l.slot ≢ k.slot → Contains kept.account.offers l → word_at now l.handle ≡ Offer l.offer → word_at next l.handle ≡ Offer l.offer
+  stays_there l differs c stood = elim (cases_eq l.handle handle) [
+    | inl same ↦
+        (let one : k.offer ≡ l.offer = offer_is k.offer l.offer (sym (ap word_of settles.stood) ∙ ap (word_at now) (sym same) ∙ stood) in
+        absurd (differs (ap (λ (x : Known). x.slot) (kept.roots.tries l k c here (ap (λ (d : Descriptor). d.operation) (sym one)) (ap (λ (d : Descriptor). d.attempt) (sym one))))))
+    | inr other ↦ ap word_of (settles.roots l.handle other (λ opens. closed_not (ap word_of (is_closed l.handle opens) ∙ refl) stood)) ∙ stood
+  ]
+    where
+      is_closed : (g : ℕ) → k.offer.opens ≡ Some g → root_at now g ≡ None
+      is_closed g opens =
+          let x = pending.opens g opens in
+          (opening_is sizes kept.account s.words kept.roots g x.0 k here k_fits x.1).1 ∙ ap (λ m. opened_by m k.offer) stands_yet
+
+      closed_not : {w : RootWord} → w ≡ Plain no_ref → w ≡ Offer l.offer → ⊥
+      closed_not is e = plain_not no_ref l.offer (sym is ∙ e)
+
+  fates_all : (l : Known) → Contains kept.account.offers l → TellsFate sizes account_then l (fate words_then l)
+  fates_all l c = elim (cases_eq l.slot k.slot) [
+    | inl same ↦
+        subst (λ x. TellsFate sizes account_then x (fate words_then x)) (sym (same_offer l c same))
+        (subst (TellsFate sizes account_then k) (sym at_it)
+        (fate_settled sizes kept.account account_then (step.Go v.actor) refl k n (ap (word_at now) on ∙ ap word_of settles.stood) (λ e. it_leaves (ap (word_at next) (sym on) ∙ e)) settles.tries
+        (subst (TellsFate sizes kept.account k) stands_yet (kept.roots.fates k here))))
+    | inr differs ↦
+        fate_said sizes account_then l (fate s.words l) (fate words_then l) (fate_else l differs)
+        (fate_kept sizes kept.account account_then (step.Go v.actor) refl l (fate s.words l) (stays_there l differs c) (kept.roots.fates l c))
+  ]
+
   pub all_then : AllStand sizes account_then kept.stands words_then
   all_then = record {
     bounds = settles.leaves.bounds;
@@ -228,6 +268,7 @@ module _ (sizes : Sizes) (s : Table.State Call View) (kept : IsKept sizes s) (id
       tries = kept.roots.tries;
       stood = λ l c. stood_still sizes kept.account account_then (step.Go v.actor ∷ []) refl l.offer (kept.roots.stood l c);
       marks = marks_all;
+      fates = fates_all;
       pending = pending_all;
     };
   }

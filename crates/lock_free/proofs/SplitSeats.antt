@@ -14,7 +14,7 @@ use Rattle.lock_free.specs.declared.rules.View.{View}
 use Rattle.lock_free.specs.declared.sizes.Sizes.{Sizes}
 use Rattle.lock_free.specs.Accounts.{state_of}
 use Rattle.lock_free.specs.Loading.{IsSound}
-use Rattle.lock_free.specs.Rules.{IsClosing, IsOpening, IsFree, Reserves, HasActor, HasSeat, IsSeat, IsKept}
+use Rattle.lock_free.specs.Rules.{latest, IsClosing, IsOpening, IsFree, Reserves, HasActor, HasSeat, IsSeat, IsKept}
 use Rattle.lock_free.specs.Splitting.{without_last, of_last}
 use Rattle.lock_free.proofs.Idle.{empty_has, none_free, none_twice}
 
@@ -171,7 +171,7 @@ module _ (sizes : Sizes) (s : Table.State Call View) (kept : IsKept sizes s) (id
           at = first_at;
           its = ap (λ (x : View). x.actor) is ∙ h.its;
           closing = h.closing;
-          is = ap (λ (x : View). x.closing) is ∙ h.is;
+          is = ap (λ (x : View). latest x.closing handle) is ∙ h.is;
           this = h.this;
           none = λ other w e inside apart. none_by other w (was other w e) inside apart;
         })

@@ -36,15 +36,18 @@ abbrev offer_in : RootWord → Descriptor → Descriptor
 offer_in (Offer d) other = d
 offer_in (Plain r) other = other
 
-plain_not : (r : Ref) (d : Descriptor) → Plain r ≡ Offer d → ⊥
+pub plain_not : (r : Ref) (d : Descriptor) → Plain r ≡ Offer d → ⊥
 plain_not r d e = true≢false (sym (ap is_offer e))
+
+pub offer_is : (offer d : Descriptor) → Offer offer ≡ Offer d → offer ≡ d
+offer_is offer d e = ap (λ w. offer_in w offer) e
 
 meant_by : (none one : Bool) (offer d : Descriptor) → (if none then Offer offer else (if one then Plain offer.successor else Plain offer.root)) ≡ Offer d → (none ≡ true) × (offer ≡ d)
 meant_by true one offer d e = (refl, ap (λ w. offer_in w offer) e)
 meant_by false true offer d e = absurd (plain_not offer.successor d e)
 meant_by false false offer d e = absurd (plain_not offer.root d e)
 
-meant_offer : (n : ℕ) (offer d : Descriptor) → meant n offer ≡ Offer d → (n ≡ undecided) × (offer ≡ d)
+pub meant_offer : (n : ℕ) (offer d : Descriptor) → meant n offer ≡ Offer d → (n ≡ undecided) × (offer ≡ d)
 meant_offer n offer d e = let both = meant_by (n == 0) (n == 1) offer d e in (eqb-true n 0 both.0, both.1)
 
 opened_not : (offer d : Descriptor) (second : Option Ref) → word_of (Some (opened_root offer second)) ≡ Offer d → ⊥

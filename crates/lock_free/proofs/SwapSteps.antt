@@ -1,5 +1,5 @@
 -- A SWAP, put together.
-use Rattle.std.proofs.Common.{◌≡◌, ◌≢◌, ◌^◌, ◌<◌, ◌==◌, ℕ, Bool, true, false, [], ◌∷◌, Contains, Some, refl, sym, ap, subst, ◌∙◌, arith}
+use Rattle.std.proofs.Common.{◌≡◌, ◌≢◌, ◌^◌, ◌<◌, ◌==◌, ℕ, Bool, true, false, [], ◌∷◌, ◌++◌, Contains, Some, refl, sym, ap, subst, ◌∙◌, arith, append_assoc}
 use Rattle.std.proofs.lemmas.List.Elements.{Contains-get_or}
 use Rattle.std.proofs.lemmas.Bool.{true≢false}
 use Rattle.std.proofs.lemmas.Option.{same_Some}
@@ -14,6 +14,7 @@ use Rattle.machine_model.specs.Beneath.slot_arena.specs.declared.nodes.Slot.{Slo
 use Rattle.machine_model.specs.Beneath.slot_arena.specs.Heaps.{no_ref, node_at, main_at}
 use Rattle.machine_model.specs.Beneath.slot_arena.specs.Refs.{slot_of}
 use Rattle.machine_model.specs.declared.actions.Action.TheVariants as act
+use Rattle.machine_model.specs.declared.steps.Step.TheVariants as taken
 use Rattle.machine_model.specs.declared.lines.Purpose.{Purpose}
 use Rattle.machine_model.specs.declared.lines.Purpose.TheVariants as purpose
 use Rattle.machine_model.specs.declared.lines.Line.{Line}
@@ -168,6 +169,11 @@ module _ (v : View) (name : ℕ) (link : Link) (fresh : ℕ) (is_at : IsAtSwap v
                 (let x = seen_later.nodes r slot u in
                 let y = nodes_go v.sizes v.actor account bounds_then (slot_of r) x.0 x.1 in
                 (y.0, y.1, same_both slot.node x.0.node y.0.node x.2 y.2));
+            goes_on = (
+              seen_later.goes_on.0 ++ taken.Go v.actor ∷ [],
+              ap (λ xs. xs ++ taken.Go v.actor ∷ []) seen_later.goes_on.1 ∙ append_assoc v.account.steps seen_later.goes_on.0 (taken.Go v.actor ∷ []),
+            );
+            offers = seen_later.offers;
           })
 
       swapped_link : Link

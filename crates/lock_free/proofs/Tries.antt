@@ -15,7 +15,7 @@ use Rattle.lock_free.specs.declared.sizes.Sizes.{Sizes}
 use Rattle.lock_free.specs.Accounts.{state_of}
 use Rattle.lock_free.specs.Roots.{IsItsTry, carried_out}
 use Rattle.lock_free.specs.Rules.{Reserves, IsKept}
-use Rattle.lock_free.specs.Settling.{IsMarkedThen, IsSettled, is_carried_out, is_taken_back}
+use Rattle.lock_free.specs.Fates.{IsMarkedThen, IsSettled, is_carried_out, is_taken_back}
 use Rattle.lock_free.specs.Trying.{Try, try_of, try_at}
 use Rattle.lock_free.proofs.Meanings.{ran_at, unmarked_at, marked_at}
 use Rattle.lock_free.proofs.Seats.{Ran}

@@ -34,6 +34,20 @@ waited_none actor account = record {
   more_offers = refl;
 }
 
+-- and then more
+pub waited_both : (actor : ℕ) (first middle last : Account) → HasWaited actor first middle → HasWaited actor middle last → HasWaited actor first last
+waited_both actor first middle last h k = record {
+  steps = h.steps ++ k.steps;
+  goes_on = k.goes_on ∙ ap (λ xs. xs ++ k.steps) h.goes_on ∙ append_assoc first.steps h.steps k.steps;
+  others = All-append (IsOfOther actor) h.steps k.steps h.others k.others;
+  names = h.names ++ k.names;
+  more_names = k.more_names ∙ ap (λ xs. xs ++ k.names) h.more_names ∙ append_assoc first.names h.names k.names;
+  owned = k.owned ++ h.owned;
+  more_owned = k.more_owned ∙ ap (λ xs. k.owned ++ xs) h.more_owned ∙ sym (append_assoc k.owned h.owned first.owned);
+  offers = k.offers ++ h.offers;
+  more_offers = k.more_offers ∙ ap (λ xs. k.offers ++ xs) h.more_offers ∙ sym (append_assoc k.offers h.offers first.offers);
+}
+
 -- the account with these steps, names, owners and offers more
 abbrev pub more : Account → List Step → List ℕ → List Owned → List Known → Account
 more account steps names owned offers =

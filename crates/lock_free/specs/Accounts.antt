@@ -9,6 +9,7 @@ use Rattle.machine_model.specs.Beneath.slot_arena.specs.declared.refs.Ref.{Ref}
 use Rattle.machine_model.specs.Beneath.slot_arena.specs.Refs.{slot_of}
 use Rattle.machine_model.specs.declared.roots.Descriptor.{Descriptor}
 use Rattle.machine_model.specs.declared.roots.RootWord.TheVariants.{Offer}
+use Rattle.machine_model.specs.Contents.{IsReached}
 use Rattle.machine_model.specs.Machine.{run}
 use Rattle.machine_model.specs.Records.{Record, record_of}
 use Rattle.machine_model.specs.States.{State, operation_of, word_at}
@@ -63,6 +64,15 @@ running sizes account actor operation = operation_of (state_of sizes account) ac
 -- one more step of this actor's operation, which makes nothing
 abbrev pub gone_on : ℕ → Account → Account
 gone_on actor account = record account { steps = account.steps ++ step.Go actor ∷ [] }
+
+-- ---- roots
+
+-- a root led to it once
+pub record WasReached (sizes : Sizes) (account : Account) (r : Ref) : Type 0 where
+  pub steps : List Step
+  pub more : List Step
+  pub goes_on : account.steps ≡ steps ++ more
+  pub reached : IsReached (run (bounds_for sizes steps) steps) r
 
 -- ---- offers
 

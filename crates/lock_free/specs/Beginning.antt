@@ -3,14 +3,16 @@ use Rattle.std.specs.Prelude.{◌≡◌, ◌≢◌, ℕ, false, [], ◌∷◌, �
 use Rattle.history.specs.declared.calls.Call.{Call}
 use Rattle.history.specs.declared.calls.Call.TheVariants.{Close}
 use Rattle.machine_model.specs.declared.operations.Operation.{Operation}
+use Rattle.machine_model.specs.declared.roots.RootWord.TheVariants.{Offer}
 use Rattle.machine_model.specs.declared.steps.Step.{Step}
 use Rattle.machine_model.specs.declared.steps.Step.TheVariants as step
 use Rattle.machine_model.specs.Keys.{FitsKey}
-use Rattle.machine_model.specs.States.{operation_of, root_at}
+use Rattle.machine_model.specs.States.{operation_of, root_at, word_at}
 use Rattle.lock_free.specs.declared.accounts.Account.{Account}
 use Rattle.lock_free.specs.declared.accounts.Known.{Known}
 use Rattle.lock_free.specs.declared.sizes.Sizes.{Sizes}
 use Rattle.lock_free.specs.Accounts.{state_of, gone_on, IsOfOther}
+use Rattle.lock_free.specs.Fates.{TellsFate}
 use Rattle.lock_free.specs.Offering.{LeavesNodes}
 use Rattle.lock_free.specs.Roots.{IsItsTry}
 
@@ -48,4 +50,6 @@ pub record Closes (sizes : Sizes) (account : Account) (actor handle : ℕ) : Typ
   pub leaves : LeavesNodes sizes account (closed_by actor handle account)
   pub closed : root_at (state_of sizes (closed_by actor handle account)) handle ≡ None
   pub roots : (g : ℕ) → g ≢ handle → root_at (state_of sizes (closed_by actor handle account)) g ≡ root_at (state_of sizes account) g
+  -- what stands on other handles is settled by neither step
+  pub fates : (k : Known) (n : ℕ) → (word_at (state_of sizes account) k.handle ≡ Offer k.offer → k.handle ≢ handle) → TellsFate sizes account k n → TellsFate sizes (closed_by actor handle account) k n
   pub operations : (a : ℕ) → operation_of (state_of sizes (closed_by actor handle account)) a ≡ operation_of (state_of sizes account) a

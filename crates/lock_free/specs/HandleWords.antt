@@ -1,9 +1,11 @@
 -- What accesses of handles' words ask and tell.
 use Rattle.history.specs.declared.calls.Call.{Call}
-use Rattle.std.specs.Prelude.{◌≡◌, ◌==◌, ◌+◌, ◌*◌, ◌≤◌, ◌⊎◌, ℕ, Bool, true, false, Contains, Some, None}
+use Rattle.history.specs.declared.calls.Call.TheVariants.{Close}
+use Rattle.history.specs.declared.events.Event.TheVariants as event
+use Rattle.history.specs.declared.replies.Reply.TheVariants as reply
+use Rattle.std.specs.Prelude.{◌≡◌, ◌==◌, ◌+◌, ◌*◌, ◌≤◌, ◌⊎◌, ℕ, Bool, true, false, [], ◌∷◌, ◌++◌, Contains, Some, None}
 use Rattle.atomic_table.specs.Table.{Me, Step}
-use Rattle.trie_words.specs.Codes.{IsRootWord, root_of}
-use Rattle.trie_words.specs.declared.pins.Pin.{Pin}
+use Rattle.trie_words.specs.Codes.{IsRootWord}
 use Rattle.trie_words.specs.declared.roots.RootWord.{RootWord}
 use Rattle.trie_words.specs.declared.roots.RootWord.TheVariants as word
 use Rattle.history.specs.declared.calls.Access.TheVariants.{Writable, ReadOnly}
@@ -13,12 +15,12 @@ use Rattle.lock_free.specs.declared.accounts.Known.{Known}
 use Rattle.lock_free.specs.declared.rules.Closing.{Closing}
 use Rattle.lock_free.specs.declared.rules.View.{View}
 use Rattle.lock_free.specs.declared.sizes.Sizes.{Sizes}
-use Rattle.lock_free.specs.Accounts.{state_of}
+use Rattle.lock_free.specs.Accounts.{past_of, state_of}
 use Rattle.lock_free.specs.Beginning.{closed_by}
 use Rattle.lock_free.specs.Loading.{IsSound, Saw, Waited}
 use Rattle.lock_free.specs.Places.{words_of, words_in, root_word}
 use Rattle.lock_free.specs.Roots.{SaysPlain}
-use Rattle.lock_free.specs.SeatWords.{IsIdle, closes}
+use Rattle.lock_free.specs.SeatWords.{IsIdle, WouldClose}
 
 -- an offer for this handle was made in this slot
 pub record HasOffer (sizes : Sizes) (account : Account) (handle slot : ℕ) : Type 0 where
@@ -51,26 +53,6 @@ TellsRoot sizes account handle (word.Opening slot) = HasOpening sizes account ha
 abbrev pub HasSeenRoot : View → ℕ → RootWord → View → Type 0
 HasSeenRoot before handle found after = (s : Saw before after) × IsRootWord found × TellsRoot before.sizes s.account handle found
 
--- ---- a handle is entered
-
--- it is open, and nobody would close it
-abbrev pub is_open_word : RootWord → Bool
-is_open_word (word.Writable slot) = true
-is_open_word (word.ReadOnly slot) = true
-is_open_word (word.Offered slot) = true
-is_open_word w = false
-
-abbrev pub entering : View → ℕ → View
-entering v handle = record v { entered = Some handle }
-
--- a seat enters the handle to which it has pinned itself, where it finds it so
-abbrev pub HasEntered : View → ℕ → RootWord → View → Type 0
-HasEntered before handle found after = (is_open_word found ≡ true → after ≡ entering before handle) × (is_open_word found ≡ false → after ≡ before)
-
-abbrev pub has_entered : Step Call → Me Call View → ℕ → Me Call View → Type 0
-has_entered step before found after =
-    ((pin : Pin) → before.0.pin ≡ Some pin → step.word ≡ root_word pin.handle → HasEntered before.0 pin.handle (root_of found) after.0) × (after.1 ≡ before.1)
-
 -- ---- a handle is marked, which a seat would close
 
 -- it is open, has a root that doesn't stand by an offer, and nobody would close it
@@ -90,7 +72,7 @@ abbrev pub begins_with : ℕ → Closing
 begins_with handle = record { handle = handle; looked = 0 }
 
 abbrev pub marking : View → ℕ → View
-marking v handle = record v { closing = Some (begins_with handle) }
+marking v handle = record v { closing = begins_with handle ∷ v.closing }
 
 -- the mark was made, or the word was another
 abbrev pub HasMarked : View → ℕ → Bool → View → Type 0
@@ -102,14 +84,38 @@ has_marked step before found after = ((handle : ℕ) → step.word ≡ root_word
 -- ---- a handle is closed
 
 abbrev pub once_closed : View → ℕ → Account → View
-once_closed v handle account = record v { account = closed_by v.actor handle account; closing = None }
+once_closed v handle account = record v { account = closed_by v.actor handle account }
 
--- the call that closes it has begun and ended, or the word was another
+-- the call that closes it has begun and ended, and so the history says
+pub record ShutBy (before : View) (handle : ℕ) (after : View) : Type 0 where
+  pub account : Account
+  pub waited : Waited before account
+  pub after_is : after ≡ once_closed before handle account
+  pub idle : IsIdle after
+  pub id : ℕ
+  pub told : (past_of after.sizes after.account).events ≡ (past_of before.sizes account).events ++ event.Begin id before.actor (Close handle) None ∷ event.End id reply.Closed ∷ []
+
+-- or the word was another
 abbrev pub HasClosed : View → ℕ → Bool → View → Type 0
-HasClosed before handle closed after =
-    (closed ≡ true → (account : Account) × Waited before account × (after ≡ once_closed before handle account) × IsIdle after) × (closed ≡ false → after ≡ before)
+HasClosed before handle closed after = (closed ≡ true → ShutBy before handle after) × (closed ≡ false → after ≡ before)
 
 abbrev pub has_closed : Step Call → Me Call View → ℕ → Me Call View → Type 0
 has_closed step before found after =
-    ((handle looked : ℕ) → before.0.closing ≡ Some (closes handle looked) → HasClosed before.0 handle (found == step.first) after.0)
+    ((handle looked : ℕ) → WouldClose before.0 handle looked → HasClosed before.0 handle (found == step.first) after.0)
     × (IsSound (words_of before.0.sizes) before.0 → IsSound (words_of before.0.sizes) after.0) × (after.1 ≡ before.1)
+
+-- ---- a mark is taken away, or another word is found
+
+-- a seat would close the handle
+abbrev pub is_marked : RootWord → Bool
+is_marked (word.ClosingWritable slot seat) = true
+is_marked (word.ClosingReadOnly slot seat) = true
+is_marked w = false
+
+abbrev pub without_mark : RootWord → RootWord
+without_mark (word.ClosingWritable slot seat) = word.Writable slot
+without_mark (word.ClosingReadOnly slot seat) = word.ReadOnly slot
+without_mark w = w
+
+abbrev pub has_unmarked : Step Call → Me Call View → ℕ → Me Call View → Type 0
+has_unmarked step before found after = after ≡ before

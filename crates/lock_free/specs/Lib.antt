@@ -4,6 +4,7 @@ pub mod Live
 pub mod Nodes
 pub mod Roots
 pub mod Trying
+pub mod Fates
 pub mod Rules
 pub mod Steps
 pub mod Loading
@@ -18,11 +19,18 @@ pub mod Exchanging
 pub mod Storing
 pub mod OfferWords
 pub mod HandleWords
+pub mod Closing
+pub mod RootOffers
+pub mod Calling
+pub mod Numbers
+pub mod RootWords
 pub mod OfReads
 pub mod Passing
 pub mod Swaps
+pub mod Rooting
 pub mod SeatWords
 pub mod GoingDown
+pub mod CopySteps
 pub mod Opening
 pub mod Splitting
 pub mod Telling

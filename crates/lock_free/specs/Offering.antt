@@ -1,11 +1,14 @@
 -- An offer comes to stand in the root word of a handle: what a seat has written of it before, what the definition's step leaves, and what the seat knows then.
-use Rattle.std.specs.Prelude.{◌≡◌, ◌≢◌, ℕ, ◌+◌, ◌*◌, false, List, [], ◌∷◌, ◌++◌, Contains, Some, None, slice_index_or}
+use Rattle.std.specs.Prelude.{◌≡◌, ◌≢◌, ◌⊎◌, ℕ, ◌+◌, ◌*◌, false, List, [], ◌∷◌, ◌++◌, Contains, Some, None, slice_index_or}
 use Rattle.trie_words.specs.Codes.{pair_code}
 use Rattle.history.specs.declared.calls.Access.TheVariants.{Writable}
 use Rattle.machine_model.specs.Beneath.slot_arena.specs.declared.refs.Ref.{Ref}
 use Rattle.machine_model.specs.declared.roots.Descriptor.{Descriptor}
 use Rattle.machine_model.specs.declared.roots.RootWord.TheVariants.{Plain, Offer}
+use Rattle.machine_model.specs.declared.copying.CopyLine.TheVariants as copy
+use Rattle.machine_model.specs.declared.lines.Line.TheVariants as line
 use Rattle.machine_model.specs.declared.operations.Operation.{Operation}
+use Rattle.machine_model.specs.declared.roots.Complete.{Complete}
 use Rattle.machine_model.specs.declared.steps.Step.TheVariants as step
 use Rattle.machine_model.specs.Acting.{operation_after}
 use Rattle.machine_model.specs.Calls.{handle_of}
@@ -15,7 +18,7 @@ use Rattle.lock_free.specs.declared.accounts.Account.{Account}
 use Rattle.lock_free.specs.declared.accounts.Known.{Known}
 use Rattle.lock_free.specs.declared.rules.View.{View}
 use Rattle.lock_free.specs.declared.sizes.Sizes.{Sizes}
-use Rattle.lock_free.specs.Accounts.{bounds_for, state_of, place_of}
+use Rattle.lock_free.specs.Accounts.{bounds_for, state_of, place_of, HasStood, WasReached}
 use Rattle.lock_free.specs.Live.{IsLive}
 use Rattle.lock_free.specs.Making.{with_slots}
 use Rattle.lock_free.specs.Nodes.{IsAhead}
@@ -27,6 +30,7 @@ pub record LeavesNodes (sizes : Sizes) (account after : Account) : Type 0 where
   pub nodes : (k : ℕ) → slice_index_or (state_of sizes after).heap.slots k None ≡ slice_index_or (state_of sizes account).heap.slots k None
   pub births : (state_of sizes after).heap.births ≡ (state_of sizes account).heap.births
   pub live : (r : Ref) → IsLive (state_of sizes after) r → IsLive (state_of sizes account) r
+  pub reached : (r : Ref) → WasReached sizes after r → WasReached sizes account r ⊎ IsLive (state_of sizes account) r
   pub generations : (state_of sizes after).generations ≡ (state_of sizes account).generations
   pub aheads : (i a f : Ref) → IsAhead (state_of sizes after) i a f → IsAhead (state_of sizes account) i a f
   pub still : (i a f : Ref) → IsAhead (state_of sizes account) i a f → IsAhead (state_of sizes after) i a f
@@ -61,19 +65,22 @@ pub record Offers (sizes : Sizes) (account : Account) (actor slot : ℕ) (operat
   -- by a new try of this operation alone, none of which was carried out
   pub its_try : IsItsTry (operation_after (state_of sizes account) operation) offer
   pub fresh : (k : Known) → Contains account.offers k → IsItsTry (operation_after (state_of sizes account) operation) k.offer → ⊥
+  pub never : HasStood sizes account offer → ⊥
   pub alone : (a : ℕ) (o : Operation) → a ≢ actor → operation_of (state_of sizes account) a ≡ Some o → o.id ≢ offer.operation
   pub unmarked : operation.is_marked ≡ false
   pub still_unmarked : (operation_after (state_of sizes account) operation).is_marked ≡ false
 
 -- ---- who has offered what stands
 
--- the operation of an offer that stands runs, unmarked, and has reserved what the offer opens
+-- the operation of an offer that stands runs, unmarked, completes it, and has reserved what it opens
 pub record HasOwner (state : State) (offer : Descriptor) : Type 0 where
   pub actor : ℕ
   pub operation : Operation
   pub runs : operation_of state actor ≡ Some operation
   pub opens : operation.opens ≡ offer.opens
   pub unmarked : operation.is_marked ≡ false
+  pub completing : Complete
+  pub completes : operation.line ≡ line.Copy (copy.Complete completing)
 
 -- ---- the seat then
 

@@ -1,7 +1,7 @@
 -- A READ, pass after pass.
 use Rattle.history.specs.declared.calls.Access.{Access}
 use Rattle.history.specs.declared.calls.Access.TheVariants.{Writable, ReadOnly}
-use Rattle.std.specs.Prelude.{◌≡◌, ℕ, Bool, true, Contains, Option, Some, None}
+use Rattle.std.specs.Prelude.{◌≡◌, ℕ, Bool, true, List, ◌++◌, Contains, Option, Some, None}
 use Rattle.trie_words.specs.Codes.{IsHeader, IsLink}
 use Rattle.trie_words.specs.declared.headers.Header.{Header}
 use Rattle.trie_words.specs.declared.headers.Previous.TheVariants as previous
@@ -16,11 +16,13 @@ use Rattle.machine_model.specs.declared.reading.After.TheVariants.{Goes, Gives}
 use Rattle.machine_model.specs.declared.reading.ReadLine.{ReadLine}
 use Rattle.machine_model.specs.declared.reading.ReadLine.TheVariants as read
 use Rattle.machine_model.specs.declared.operations.Operation.{Operation}
+use Rattle.machine_model.specs.declared.steps.Step.{Step}
 use Rattle.machine_model.specs.Calls.{handle_of}
 use Rattle.machine_model.specs.Operations.{read_of}
 use Rattle.machine_model.specs.Reading.{is_licensed}
 use Rattle.proof_memory.specs.Laws.{SameNode}
 use Rattle.proof_memory.specs.Wants.{is_main_node}
+use Rattle.lock_free.specs.declared.accounts.Known.{Known}
 use Rattle.lock_free.specs.declared.reading.Given.{Given}
 use Rattle.lock_free.specs.declared.reading.Passed.{Passed}
 use Rattle.lock_free.specs.declared.reading.Passed.TheVariants as passed
@@ -34,12 +36,14 @@ use Rattle.lock_free.specs.OfReads.{read_to}
 
 -- ---- how what a seat knows goes on
 
--- it has seen more happen, and what it knew of nodes is so
+-- it has seen more happen, and what it knew of nodes and offers is so
 pub record Later (v w : View) : Type 0 where
   pub is : w ≡ seen v w.account
   pub places : (r : Ref) (slot : Slot) → IsUsed v r slot → place_of w.account r ≡ place_of v.account r
   pub owns : (a b : Ref) (c : Bool) → IsOwn v.account a b c → IsOwn w.account a b c
   pub nodes : (r : Ref) (slot : Slot) → IsUsed v r slot → (later : Slot) × IsUsed w r later × SameNode slot.node later.node
+  pub goes_on : (more : List Step) × (w.account.steps ≡ v.account.steps ++ more)
+  pub offers : (k : Known) → Contains v.account.offers k → Contains w.account.offers k
 
 -- the operation's READ has come to this
 pub record HasCome (out : After ReadLine Ref) (v w : View) : Type 0 where

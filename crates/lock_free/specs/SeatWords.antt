@@ -1,45 +1,70 @@
 -- What stores to a seat's own word ask and tell.
 use Rattle.history.specs.declared.calls.Call.{Call}
+use Rattle.history.specs.declared.events.Event.TheVariants as event
 use Rattle.history.specs.declared.replies.Reply.{Reply}
-use Rattle.std.specs.Prelude.{◌≡◌, ◌+◌, ◌==◌, ◌||◌, ℕ, Bool, true, false, Option, Some, None, if◌then◌else◌}
+use Rattle.std.specs.Prelude.{◌≡◌, ◌+◌, ◌==◌, ◌||◌, ℕ, Bool, true, false, List, [], ◌∷◌, ◌++◌, Option, Some, None, if◌then◌else◌}
+use mathlib.Core.Option.{some}
 use Rattle.atomic_table.specs.Table.{Me, Step}
 use Rattle.trie_words.specs.Codes.{pin_of}
 use Rattle.trie_words.specs.declared.pins.Pin.{Pin}
 use Rattle.machine_model.specs.declared.actions.Action.TheVariants as act
+use Rattle.machine_model.specs.declared.operations.Operation.{Operation}
 use Rattle.machine_model.specs.States.{operation_of}
 use Rattle.lock_free.specs.declared.accounts.Account.{Account}
 use Rattle.lock_free.specs.declared.rules.Closing.{Closing}
 use Rattle.lock_free.specs.declared.rules.View.{View}
-use Rattle.lock_free.specs.Accounts.{gone_on}
-use Rattle.lock_free.specs.Loading.{now, IsAt, IsSound, Waited}
+use Rattle.lock_free.specs.Accounts.{gone_on, past_of, running}
+use Rattle.lock_free.specs.Loading.{now, IsAt, IsSound, Runs, Waited}
 use Rattle.lock_free.specs.Places.{pin_word, words_of}
 
 -- the seat runs nothing
 abbrev pub IsIdle : View → Type 0
 IsIdle v = operation_of (now v) v.actor ≡ None
 
--- ---- the store by which a seat pins itself, or goes out of a call that it hasn't begun
+-- ---- the exchange by which a seat pins itself for a call
 
-abbrev pub pinned_to : View → Option Pin → View
-pinned_to v pin = record v { pin = pin; entered = None }
+abbrev pub pinned_for : View → Pin → Call → View
+pinned_for v pin call = record v { pin = Some pin; asks = Some call; entered = None }
 
 abbrev pub has_pinned : Step Call → Me Call View → ℕ → Me Call View → Type 0
-has_pinned step before found after = after ≡ (pinned_to before.0 (pin_of step.first), before.1)
+has_pinned step before found after = (pin : Pin) (call : Call) → pin_of step.second ≡ Some pin → step.said ≡ some call → after ≡ (pinned_for before.0 pin call, before.1)
+
+-- ---- the store of 0 by which it goes out of one that it hasn't begun
+
+abbrev pub unpinned : View → View
+unpinned v = record v { pin = None; entered = None }
+
+abbrev pub has_unpinned : Step Call → Me Call View → ℕ → Me Call View → Type 0
+has_unpinned step before found after = after ≡ (unpinned before.0, before.1)
 
 -- ---- the store of 0 by which an operation ends
 
--- its operation, which has opened no handle, is to end
+-- its operation is to end with some answer
 abbrev pub IsAtEnd : View → Type 0
-IsAtEnd v = (answer : Reply) × IsAt v (act.End answer) × (v.opens ≡ None)
+IsAtEnd v = (answer : Reply) × IsAt v (act.End answer)
 
-abbrev pub once_ended : View → Account → View
-once_ended v account = record v { account = gone_on v.actor account; pin = None; entered = None; opening = None }
+-- the number that it has reserved is left where the operation hasn't opened it
+abbrev pub left_by : Bool → Option ℕ → Option ℕ
+left_by true number = None
+left_by false number = number
 
-abbrev pub HasEnded : View → View → Type 0
-HasEnded before after = (account : Account) × Waited before account × (after ≡ once_ended before account) × IsIdle after
+abbrev pub once_ended : View → Bool → Account → View
+once_ended v mark account = record v { account = gone_on v.actor account; pin = None; entered = None; opens = left_by mark v.opens; opening = None }
+
+-- it has ended with this answer, and so the history says
+pub record HasEnded (before : View) (answer : Reply) (after : View) : Type 0 where
+  pub account : Account
+  pub waited : Waited before account
+  pub operation : Operation
+  pub runs : running before.sizes account before.actor operation
+  pub its : (o : Operation) → Runs before o → operation ≡ record o { is_marked = operation.is_marked }
+  pub after_is : after ≡ once_ended before operation.is_marked account
+  pub idle : IsIdle after
+  pub told : (past_of after.sizes after.account).events ≡ (past_of before.sizes account).events ++ event.End operation.id answer ∷ []
 
 abbrev pub has_ended : Step Call → Me Call View → ℕ → Me Call View → Type 0
-has_ended step before found after = HasEnded before.0 after.0 × IsSound (words_of before.0.sizes) after.0 × (after.1 ≡ before.1)
+has_ended step before found after =
+    ((answer : Reply) → IsAt before.0 (act.End answer) → HasEnded before.0 answer after.0) × IsSound (words_of before.0.sizes) after.0 × (after.1 ≡ before.1)
 
 -- ---- a seat that would close a handle looks at the pins of all seats
 
@@ -52,8 +77,12 @@ is_out handle (Some pin) = if pin.handle == handle then false else true
 abbrev pub closes : ℕ → ℕ → Closing
 closes handle looked = record { handle = handle; looked = looked }
 
+-- it has marked the handle last, and has looked at so many since
+abbrev pub WouldClose : View → ℕ → ℕ → Type 0
+WouldClose v handle looked = (others : List Closing) × (v.closing ≡ closes handle looked ∷ others)
+
 abbrev pub passing : View → ℕ → ℕ → View
-passing v handle looked = record v { closing = Some (closes handle (looked + 1)) }
+passing v handle looked = record v { closing = closes handle (looked + 1) ∷ v.closing }
 
 abbrev pub HasPassed : View → ℕ → ℕ → Bool → View → Type 0
 HasPassed before handle looked out after = (out ≡ true → after ≡ passing before handle looked) × (out ≡ false → after ≡ before)
@@ -64,5 +93,5 @@ is_passed v handle looked found = is_out handle (pin_of found) || (looked + 1 ==
 
 abbrev pub has_passed : Step Call → Me Call View → ℕ → Me Call View → Type 0
 has_passed step before found after =
-    ((handle looked : ℕ) → before.0.closing ≡ Some (closes handle looked) → step.word ≡ pin_word (looked + 1) → HasPassed before.0 handle looked (is_passed before.0 handle looked found) after.0)
+    ((handle looked : ℕ) → WouldClose before.0 handle looked → step.word ≡ pin_word (looked + 1) → HasPassed before.0 handle looked (is_passed before.0 handle looked found) after.0)
     × (after.1 ≡ before.1)

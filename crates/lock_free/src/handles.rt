@@ -1,19 +1,20 @@
 //! Handles' words.
 
-ghost use Rattle.std.specs.Prelude.{◌≡◌, ◌≢◌, ◌<◌, ◌≤◌, true, None, Some};
+ghost use Rattle.std.specs.Prelude.{◌≡◌, ◌≢◌, ◌<◌, ◌≤◌, true, Some};
 ghost use Rattle.trie_words.specs.Codes.{IsRootWord, root_code};
-ghost use Rattle.lock_free.specs.HandleWords.{is_unmarked, marked_by, HasClosed, HasEntered, HasMarked, HasSeenRoot};
+ghost use Rattle.lock_free.specs.HandleWords.{is_marked, is_unmarked, marked_by, without_mark, HasClosed, HasMarked, HasSeenRoot};
 ghost use Rattle.lock_free.specs.Loading.{IsSound};
 ghost use Rattle.lock_free.specs.Places.{root_word};
+ghost use Rattle.lock_free.specs.RootWords.{IsAtClean};
 ghost use Rattle.lock_free.specs.Rules.{SaysClosing};
-ghost use Rattle.lock_free.specs.SeatWords.{IsIdle, closes};
+ghost use Rattle.lock_free.specs.SeatWords.{IsIdle, WouldClose};
 
 use crate::loads::{Actor, Words};
-use crate::rules::{Enters, Marks, Sees, Shuts};
-use trie_words::{Pin, RootWord};
+use crate::rules::{Cleans, Marks, Sees, Shuts, Unmarks};
+use trie_words::RootWord;
 
 /// Which word is this handle's.
-fn root_word_of(handle: u16) -> usize
+pub(crate) fn root_word_of(handle: u16) -> usize
     requires { handle < 256 }
     ensures { result ≡ root_word handle }
 {
@@ -37,24 +38,22 @@ pub fn see_root(words: &Words, actor: &mut Actor, handle: u16) -> RootWord
     RootWord::of_word(found)
 }
 
-/// Enters the handle to which the seat has pinned itself, if that is open and nobody would close it: from then on nobody closes it
-/// while the seat is pinned. Returns what its word says.
-pub fn enter(words: &Words, actor: &mut Actor, pin: &Pin) -> RootWord
+/// Takes the settled offer in this slot out of the word of its handle, if that names it still: the root that it leaves is in this one.
+pub fn clean(words: &Words, actor: &mut Actor, handle: u16, offer: u32, root: u32)
     requires table { actor.old.table_id ≡ words.now.table_id }
     requires sound { IsSound words.now.table_id.words actor.old.me.0 }
-    requires low { pin.now.handle < 256 }
-    requires pinned { actor.old.me.0.pin ≡ Some pin.now }
-    requires idle { IsIdle actor.old.me.0 }
+    requires low { handle < 256 }
+    requires cleaning { IsAtClean actor.old.me.0 handle offer root }
     ensures table { actor.new.table_id ≡ actor.old.table_id }
-    ensures sound { IsSound words.now.table_id.words actor.new.me.0 }
-    ensures entered { HasEntered actor.old.me.0 pin.now.handle result actor.new.me.0 }
+    ensures same { actor.new.me ≡ actor.old.me }
 {
-    let found = words.load::<Enters>(actor, root_word_of(pin.handle));
-    RootWord::of_word(found)
+    let offered = RootWord::Offered(offer).to_word();
+    let plain = RootWord::Writable(root).to_word();
+    words.compare_exchange::<Cleans>(actor, root_word_of(handle), offered, plain);
 }
 
 /// This word of an open handle, with the mark of a seat that would close it.
-fn once_marked(word: RootWord, seat: u8) -> RootWord
+pub(crate) fn once_marked(word: RootWord, seat: u8) -> RootWord
     ensures { result ≡ marked_by seat word }
 {
     match word {
@@ -73,7 +72,6 @@ pub fn mark(words: &Words, actor: &mut Actor, handle: u16, word: RootWord, seat:
     requires fits { IsRootWord word }
     requires unmarked { is_unmarked word ≡ true }
     requires own { seat ≡ actor.old.me.0.actor }
-    requires one { actor.old.me.0.closing ≡ None }
     ensures table { actor.new.table_id ≡ actor.old.table_id }
     ensures sound { IsSound words.now.table_id.words actor.new.me.0 }
     ensures marked { HasMarked actor.old.me.0 handle result actor.new.me.0 }
@@ -91,7 +89,7 @@ pub fn close(words: &Words, actor: &mut Actor, handle: u16, word: RootWord, look
     requires low { handle < 256 }
     requires fits { IsRootWord word }
     requires marked { SaysClosing (root_code word) actor.old.me.0.actor }
-    requires closing { actor.old.me.0.closing ≡ Some (closes handle looked) }
+    requires closing { WouldClose actor.old.me.0 handle looked }
     requires all { actor.old.me.0.sizes.seats ≤ looked }
     requires outside { actor.old.me.0.entered ≢ Some handle }
     requires idle { IsIdle actor.old.me.0 }
@@ -101,4 +99,31 @@ pub fn close(words: &Words, actor: &mut Actor, handle: u16, word: RootWord, look
 {
     let open = word.to_word();
     words.compare_exchange::<Shuts>(actor, root_word_of(handle), open, 0) == open
+}
+
+/// This word of an open handle, without the mark of the seat that would close it.
+fn once_unmarked(word: RootWord) -> RootWord
+    ensures { result ≡ without_mark word }
+{
+    match word {
+        RootWord::ClosingWritable { root, .. } => RootWord::Writable(root),
+        RootWord::ClosingReadOnly { root, .. } => RootWord::ReadOnly(root),
+        other => other,
+    }
+}
+
+/// Takes the mark of a seat, this one or another, that would close the handle out of its word, if that is this one still. So a seat
+/// that would enter the handle goes on, and who would close it finds it busy.
+pub fn unmark(words: &Words, actor: &mut Actor, handle: u16, word: RootWord)
+    requires table { actor.old.table_id ≡ words.now.table_id }
+    requires sound { IsSound words.now.table_id.words actor.old.me.0 }
+    requires low { handle < 256 }
+    requires fits { IsRootWord word }
+    requires marked { is_marked word ≡ true }
+    ensures table { actor.new.table_id ≡ actor.old.table_id }
+    ensures same { actor.new.me ≡ actor.old.me }
+{
+    let marked = word.to_word();
+    let open = once_unmarked(word).to_word();
+    words.compare_exchange::<Unmarks>(actor, root_word_of(handle), marked, open);
 }

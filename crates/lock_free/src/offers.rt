@@ -2,10 +2,13 @@
 
 ghost use Rattle.std.specs.Prelude.{◌≡◌, ◌<◌, ◌*◌};
 ghost use Rattle.lock_free.specs.Loading.{IsSound};
+ghost use Rattle.lock_free.specs.HandleWords.{HasOffer};
 ghost use Rattle.lock_free.specs.OfferWords.{IsAtAbort, IsAtComplete, HasAborted, HasCompleted, carried_by, outcome_by};
+ghost use Rattle.lock_free.specs.RootWords.{AsksAt, HasMetOffer, HasSeenNews, HasSeenOlds, KnowsOffer, fate_by};
 
 use crate::loads::{Actor, Words};
-use crate::rules::{Completes, Goes};
+use crate::rules::{Completes, Goes, Meets, Sees};
+use trie_words::Pair;
 
 /// An offer's first word: it is neither carried out nor taken back.
 const UNDECIDED: u64 = 0;
@@ -15,6 +18,66 @@ const CARRIED_OUT: u64 = 1;
 
 /// It is taken back.
 const TAKEN_BACK: u64 = 2;
+
+/// What has become of an offer.
+#[derive(Clone, Copy, Drop)]
+pub enum Fate {
+    /// It stands still.
+    Undecided,
+    /// It was carried out.
+    CarriedOut,
+    /// It was taken back.
+    TakenBack,
+}
+
+/// What this first word says of its offer.
+fn fate_of(found: u64) -> Fate
+    ensures { result ≡ fate_by found }
+{
+    match found {
+        UNDECIDED => Fate::Undecided,
+        CARRIED_OUT => Fate::CarriedOut,
+        _ => Fate::TakenBack,
+    }
+}
+
+/// Looks at the offer in this slot, which the word of the handle names, or named, whose root is asked for: where it is undecided, the
+/// operation has found it there.
+pub fn meet_offer(words: &Words, actor: &mut Actor, handle: u16, offer: u32) -> Fate
+    requires table { actor.old.table_id ≡ words.now.table_id }
+    requires sound { IsSound words.now.table_id.words actor.old.me.0 }
+    requires asking { AsksAt actor.old.me.0 handle }
+    requires known { HasOffer actor.old.me.0.sizes actor.old.me.0.account handle offer }
+    ensures table { actor.new.table_id ≡ actor.old.table_id }
+    ensures sound { IsSound words.now.table_id.words actor.new.me.0 }
+    ensures met { HasMetOffer actor.old.me.0 handle offer result actor.new.me.0 }
+{
+    fate_of(words.load::<Meets>(actor, 2 * offer as usize))
+}
+
+/// The slots of the root that the offer in this slot is to replace, and of the main node that this must have.
+pub fn see_olds(words: &Words, actor: &mut Actor, offer: u32) -> Pair
+    requires table { actor.old.table_id ≡ words.now.table_id }
+    requires sound { IsSound words.now.table_id.words actor.old.me.0 }
+    requires known { KnowsOffer actor.old.me.0 offer }
+    ensures table { actor.new.table_id ≡ actor.old.table_id }
+    ensures sound { IsSound words.now.table_id.words actor.new.me.0 }
+    ensures seen { HasSeenOlds actor.old.me.0 offer result actor.new.me.0 }
+{
+    Pair::of_word(words.load::<Sees>(actor, 2 * offer as usize + 1))
+}
+
+/// The slots of the root that the offer in this slot is to make stand, and of that of the handle that it opens.
+pub fn see_news(words: &Words, actor: &mut Actor, offer: u32) -> Pair
+    requires table { actor.old.table_id ≡ words.now.table_id }
+    requires sound { IsSound words.now.table_id.words actor.old.me.0 }
+    requires known { KnowsOffer actor.old.me.0 offer }
+    ensures table { actor.new.table_id ≡ actor.old.table_id }
+    ensures sound { IsSound words.now.table_id.words actor.new.me.0 }
+    ensures seen { HasSeenNews actor.old.me.0 offer result actor.new.me.0 }
+{
+    Pair::of_word(words.load::<Sees>(actor, 2 * offer as usize + 2))
+}
 
 /// Takes the offer in this slot back, if it is undecided still. Returns whether it was.
 pub fn abort(words: &Words, actor: &mut Actor, offer: u32) -> bool

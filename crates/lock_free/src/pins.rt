@@ -2,13 +2,19 @@
 
 ghost use Rattle.std.specs.Prelude.{◌≡◌, ◌==◌, ◌||◌, ◌+◌, ◌<◌, ◌≤◌, Some, None};
 ghost use Rattle.trie_words.specs.Codes.{IsPin};
-ghost use Rattle.lock_free.specs.Loading.{IsSound};
+ghost use Rattle.history.specs.declared.replies.Reply.{Reply};
+ghost use Rattle.machine_model.specs.declared.actions.Action.TheVariants as act;
+ghost use Rattle.lock_free.specs.Loading.{IsAt, IsSound};
 ghost use Rattle.lock_free.specs.Places.{pin_word};
-ghost use Rattle.lock_free.specs.SeatWords.{IsAtEnd, IsIdle, HasEnded, HasPassed, closes, is_out, pinned_to};
+ghost use Rattle.lock_free.specs.SeatWords.{IsAtEnd, IsIdle, HasEnded, HasPassed, WouldClose, is_out, pinned_for, unpinned};
 
 use crate::loads::{Actor, Words};
-use crate::rules::{Ends, Looks, Pins};
+use crate::rules::{Ends, Looks, Pins, Unpins};
+use history::Call;
 use trie_words::Pin;
+
+/// A seat's own word while it makes no call.
+const UNPINNED: u64 = 0;
 
 /// Which word is this seat's own.
 fn pin_word_of(seat: u8) -> usize
@@ -17,19 +23,21 @@ fn pin_word_of(seat: u8) -> usize
     336 + 16 * seat as usize
 }
 
-/// Pins this seat, which runs nothing.
-pub fn pin(words: &Words, actor: &mut Actor, seat: u8, pin: Pin)
+/// Pins this seat, which runs nothing and isn't pinned, for a call.
+pub fn pin(words: &Words, actor: &mut Actor, seat: u8, pin: Pin, call: &Call)
     requires table { actor.old.table_id ≡ words.now.table_id }
     requires sound { IsSound words.now.table_id.words actor.old.me.0 }
     requires its { actor.old.me.0.actor ≡ seat }
     requires few { actor.old.me.0.actor ≤ actor.old.me.0.sizes.seats }
     requires idle { IsIdle actor.old.me.0 }
+    requires free { actor.old.me.0.pin ≡ None }
     requires fits { IsPin pin }
     ensures table { actor.new.table_id ≡ actor.old.table_id }
     ensures sound { IsSound words.now.table_id.words actor.new.me.0 }
-    ensures pinned { actor.new.me ≡ (pinned_to actor.old.me.0 (Some pin), actor.old.me.1) }
+    ensures pinned { actor.new.me ≡ (pinned_for actor.old.me.0 pin call.now, actor.old.me.1) }
 {
-    words.store::<Pins>(actor, pin_word_of(seat), pin.to_word());
+    let pinned = pin.to_word();
+    words.compare_exchange_with::<Pins>(actor, pin_word_of(seat), UNPINNED, pinned, call);
 }
 
 /// Takes the pin of this seat away, which runs nothing.
@@ -41,12 +49,12 @@ pub fn unpin(words: &Words, actor: &mut Actor, seat: u8)
     requires idle { IsIdle actor.old.me.0 }
     ensures table { actor.new.table_id ≡ actor.old.table_id }
     ensures sound { IsSound words.now.table_id.words actor.new.me.0 }
-    ensures unpinned { actor.new.me ≡ (pinned_to actor.old.me.0 None, actor.old.me.1) }
+    ensures unpinned { actor.new.me ≡ (unpinned actor.old.me.0, actor.old.me.1) }
 {
-    words.store::<Pins>(actor, pin_word_of(seat), 0);
+    words.store::<Unpins>(actor, pin_word_of(seat), UNPINNED);
 }
 
-/// Ends the operation of this seat, which is pinned no more.
+/// Ends the operation of this seat with the answer to which it has come; the seat is pinned no more.
 pub fn finish(words: &Words, actor: &mut Actor, seat: u8)
     requires table { actor.old.table_id ≡ words.now.table_id }
     requires sound { IsSound words.now.table_id.words actor.old.me.0 }
@@ -55,9 +63,9 @@ pub fn finish(words: &Words, actor: &mut Actor, seat: u8)
     requires ending { IsAtEnd actor.old.me.0 }
     ensures table { actor.new.table_id ≡ actor.old.table_id }
     ensures sound { IsSound words.now.table_id.words actor.new.me.0 }
-    ensures ended { HasEnded actor.old.me.0 actor.new.me.0 }
+    ensures ended { (answer : Reply) → IsAt actor.old.me.0 (act.End answer) → HasEnded actor.old.me.0 answer actor.new.me.0 }
 {
-    words.store::<Ends>(actor, pin_word_of(seat), 0);
+    words.store::<Ends>(actor, pin_word_of(seat), UNPINNED);
 }
 
 /// Whether a seat with this pin has no call on the handle.
@@ -90,7 +98,7 @@ pub fn pass(words: &Words, actor: &mut Actor, own: u8, handle: u16, looked: u8) 
     requires low { handle < 256 }
     requires small { looked + 1 < 256 }
     requires few { looked + 1 ≤ actor.old.me.0.sizes.seats }
-    requires closing { actor.old.me.0.closing ≡ Some (closes handle looked) }
+    requires closing { WouldClose actor.old.me.0 handle looked }
     ensures table { actor.new.table_id ≡ actor.old.table_id }
     ensures sound { IsSound words.now.table_id.words actor.new.me.0 }
     ensures passed { HasPassed actor.old.me.0 handle looked result actor.new.me.0 }

@@ -3,11 +3,15 @@
 ghost use Rattle.lock_free.specs.declared.rules.View.{View};
 ghost use Rattle.lock_free.specs.Rules.{IsKept, first_view};
 ghost use Rattle.lock_free.specs.Loading.{has_seen, has_gone};
+ghost use Rattle.lock_free.specs.Calling.{has_given_up, has_started};
 ghost use Rattle.lock_free.specs.Exchanging.{has_published};
 ghost use Rattle.lock_free.specs.Finishing.{has_emptied, no_view};
-ghost use Rattle.lock_free.specs.HandleWords.{has_closed, has_entered, has_marked};
+ghost use Rattle.lock_free.specs.HandleWords.{has_closed, has_marked, has_unmarked};
+ghost use Rattle.lock_free.specs.Numbers.{has_given_back, has_named, has_reserved};
 ghost use Rattle.lock_free.specs.OfferWords.{has_completed};
-ghost use Rattle.lock_free.specs.SeatWords.{has_ended, has_passed, has_pinned};
+ghost use Rattle.lock_free.specs.RootOffers.{has_proposed, has_yielded};
+ghost use Rattle.lock_free.specs.RootWords.{has_asked, has_cleaned, has_met};
+ghost use Rattle.lock_free.specs.SeatWords.{has_ended, has_passed, has_pinned, has_unpinned};
 ghost use Rattle.lock_free.specs.Splitting.{without_last, of_last};
 ghost use Rattle.lock_free.specs.Storing.{has_drafted, has_made, has_made_root, has_taken};
 
@@ -45,10 +49,12 @@ pub struct View {
     pub account: Account,
     /// What its own word says.
     pub pin: Option<Pin>,
+    /// The call for which it has pinned itself last.
+    pub asks: Option<Call>,
     /// The handle that it has found open since it pinned itself to it: so nobody closes it.
     pub entered: Option<u16>,
-    /// What it would close.
-    pub closing: Option<Closing>,
+    /// The handles that it has marked, since it would close them, the latest first.
+    pub closing: LinkedList<Closing>,
     /// The number that it has reserved.
     pub opens: Option<u16>,
     /// The slot of the offer that it writes, which the word of that number names already.
@@ -128,6 +134,27 @@ impl Play<Call, View> for Publishes {
     ghost then = { has_published };
 }
 
+/// The root of a handle is read, where its word names it, or that word is looked at.
+pub struct Asks;
+
+impl Play<Call, View> for Asks {
+    ghost then = { has_asked };
+}
+
+/// The offer that stands for a root is found, where it is undecided, or its first word is looked at.
+pub struct Meets;
+
+impl Play<Call, View> for Meets {
+    ghost then = { has_met };
+}
+
+/// A settled offer is taken out of the word of a handle, or isn't.
+pub struct Cleans;
+
+impl Play<Call, View> for Cleans {
+    ghost then = { has_cleaned };
+}
+
 /// An offer is settled, or was.
 pub struct Completes;
 
@@ -135,18 +162,25 @@ impl Play<Call, View> for Completes {
     ghost then = { has_completed };
 }
 
-/// A seat pins itself, or takes its pin away.
+/// A seat pins itself for the call that is said.
 pub struct Pins;
 
 impl Play<Call, View> for Pins {
     ghost then = { has_pinned };
 }
 
-/// A handle is entered, if it is open.
-pub struct Enters;
+/// It takes its pin away.
+pub struct Unpins;
 
-impl Play<Call, View> for Enters {
-    ghost then = { has_entered };
+impl Play<Call, View> for Unpins {
+    ghost then = { has_unpinned };
+}
+
+/// The operation begins for which a seat has pinned itself, if its handle is open for it.
+pub struct Starts;
+
+impl Play<Call, View> for Starts {
+    ghost then = { has_started };
 }
 
 /// A handle is marked, which a seat would close, or isn't.
@@ -154,6 +188,13 @@ pub struct Marks;
 
 impl Play<Call, View> for Marks {
     ghost then = { has_marked };
+}
+
+/// A mark is taken away, or isn't.
+pub struct Unmarks;
+
+impl Play<Call, View> for Unmarks {
+    ghost then = { has_unmarked };
 }
 
 /// A seat that would close a handle looks at the next seat's pin.
@@ -175,6 +216,34 @@ pub struct Ends;
 
 impl Play<Call, View> for Ends {
     ghost then = { has_ended };
+}
+
+/// A number is reserved for a handle that a call opens, or isn't.
+pub struct Reserves;
+
+impl Play<Call, View> for Reserves {
+    ghost then = { has_reserved };
+}
+
+/// Its word names the offer that is to open it.
+pub struct Names;
+
+impl Play<Call, View> for Names {
+    ghost then = { has_named };
+}
+
+/// It is given back.
+pub struct Returns;
+
+impl Play<Call, View> for Returns {
+    ghost then = { has_given_back };
+}
+
+/// An operation gives up.
+pub struct Abandons;
+
+impl Play<Call, View> for Abandons {
+    ghost then = { has_given_up };
 }
 
 /// A word of a free slot is written.
@@ -203,4 +272,18 @@ pub struct MakesRoot;
 
 impl Play<Call, View> for MakesRoot {
     ghost then = { has_made_root };
+}
+
+/// An offer comes to stand, or doesn't.
+pub struct Proposes;
+
+impl Play<Call, View> for Proposes {
+    ghost then = { has_proposed };
+}
+
+/// An offer that was met is undecided, or isn't.
+pub struct Yields;
+
+impl Play<Call, View> for Yields {
+    ghost then = { has_yielded };
 }

@@ -1,5 +1,5 @@
 -- Laws of what is live, for every list of steps.
-use Rattle.std.specs.Prelude.{◌≡◌, ℕ, List, Contains, Some}
+use Rattle.std.specs.Prelude.{◌≡◌, ◌++◌, ℕ, List, Contains, Some}
 use Rattle.proof_garbage.specs.Beneath.slot_arena.specs.declared.refs.Ref.{Ref}
 use Rattle.proof_garbage.specs.Beneath.slot_arena.specs.declared.nodes.Prev.TheVariants as prev
 use Rattle.proof_garbage.specs.Beneath.slot_arena.specs.Heaps.{stored, prev_at, refs_of_slot}
@@ -8,6 +8,7 @@ use Rattle.proof_garbage.specs.Beneath.machine_model.specs.declared.lines.Line.T
 use Rattle.proof_garbage.specs.Beneath.machine_model.specs.declared.operations.Operation.{Operation}
 use Rattle.proof_garbage.specs.Beneath.machine_model.specs.declared.steps.Bounds.{Bounds}
 use Rattle.proof_garbage.specs.Beneath.machine_model.specs.declared.steps.Step.{Step}
+use Rattle.proof_garbage.specs.Beneath.machine_model.specs.Contents.{IsReached}
 use Rattle.proof_garbage.specs.Beneath.machine_model.specs.States.{operation_of}
 use Rattle.proof_garbage.specs.Beneath.machine_model.specs.Operations.{action_of}
 use Rattle.proof_garbage.specs.Beneath.machine_model.specs.Swapping.{swapping}
@@ -37,6 +38,12 @@ abbrev pub PrivateUnknown : Type 0
 PrivateUnknown =
     (limits : Bounds) (steps : List Step) (actor : ℕ) (operation : Operation) (r : Ref) → AreBounds limits → operation_of (run limits steps) actor ≡ Some operation → Contains operation.private r →
     ¬ IsKnown (run limits steps) (λ id. ¬ (id ≡ operation.id)) r
+
+-- what a root led to once never comes to be private
+abbrev pub ReachedIsNeverPrivate : Type 0
+ReachedIsNeverPrivate =
+    (limits : Bounds) (before since : List Step) (actor : ℕ) (operation : Operation) (r : Ref) → AreBounds limits → IsReached (run limits before) r →
+    operation_of (run limits (before ++ since)) actor ≡ Some operation → ¬ Contains operation.private r
 
 -- a main node that an operation is about to swap in is private to it and decided, and stands in no slot
 abbrev pub FreshIsAlone : Type 0

@@ -1,7 +1,7 @@
 //! Laws of what is live, for every list of steps.
 
 ghost use Rattle.proof_garbage.specs.Grace.{DeadAfterGrace, GraceAloneIsTooLittle, TwoEpochsAreGrace};
-ghost use Rattle.proof_garbage.specs.Laws.{FreshIsAlone, GarbageStays, LiveInUse, NamedAreHeld, PrivateUnknown};
+ghost use Rattle.proof_garbage.specs.Laws.{FreshIsAlone, GarbageStays, LiveInUse, NamedAreHeld, PrivateUnknown, ReachedIsNeverPrivate};
 
 /// A law: what is live is in use.
 pub fn live_in_use()
@@ -22,6 +22,11 @@ pub fn garbage_stays()
 /// operation gives it up.
 pub fn private_unknown()
     ensures { PrivateUnknown }
+{}
+
+/// A law: what a root led to once never comes to be private; so its slot is never used again as what an operation gives up.
+pub fn reached_is_never_private()
+    ensures { ReachedIsNeverPrivate }
 {}
 
 /// A law: a main node that is about to be swapped in is private and decided, and stands in no slot.

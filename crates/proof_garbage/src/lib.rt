@@ -5,5 +5,5 @@ mod laws;
 
 pub use laws::{
     dead_after_grace, fresh_is_alone, garbage_stays, grace_alone_is_too_little, live_in_use,
-    named_are_held, private_unknown, two_epochs_are_grace,
+    named_are_held, private_unknown, reached_is_never_private, two_epochs_are_grace,
 };

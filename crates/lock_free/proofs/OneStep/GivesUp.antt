@@ -30,6 +30,7 @@ use Rattle.proof_garbage.proofs.GivenUp.{SameElsewhere, dead_with_nothing, fresh
 use Rattle.proof_garbage.proofs.Known.{known_used}
 use Rattle.proof_garbage.proofs.Step.{step_known}
 use Rattle.proof_waiting.specs.Beneath.proof_slots.specs.Lasting.{widened}
+use Rattle.proof_waiting.specs.Beneath.proof_slots.specs.Unswept.{HasNoSweeps}
 use Rattle.lock_free.specs.declared.accounts.Account.{Account}
 use Rattle.lock_free.specs.declared.sizes.Sizes.{Sizes}
 use Rattle.lock_free.specs.Accounts.{bounds_for, state_of, running}
@@ -41,10 +42,11 @@ use Rattle.lock_free.specs.Trying.{try_of, try_at, SameTries, as_before}
 use Rattle.lock_free.proofs.OneStep.Giving.{is_one_of, one_of_them, none_of_them}
 use Rattle.lock_free.proofs.OneStep.Going.{allowed}
 use Rattle.lock_free.proofs.OneStep.Longer.{run_next, bounds_more}
+use Rattle.lock_free.proofs.OneStep.Reached.{reached_apart}
 use Rattle.lock_free.proofs.OneStep.Widened.{slot_in, live_in}
 
 module _ (sizes : Sizes) (account : Account) (bounds : AreBounds (bounds_for sizes account.steps)) (actor : ℕ) (operation : Operation) (runs : running sizes account actor operation) (answer : Reply)
-    (may : given_up operation.call operation.line ≡ Some answer) where
+    (may : given_up operation.call operation.line ≡ Some answer) (quiet : HasNoSweeps account.steps) where
   abbrev state : State
   state = state_of sizes account
 
@@ -153,6 +155,7 @@ module _ (sizes : Sizes) (account : Account) (bounds : AreBounds (bounds_for siz
     nodes = λ k. ap (λ (s : State). get_or s.heap.slots k None) whole ∙ slot_in 1 steps then k;
     births = ap (λ (s : State). s.heap.births) whole;
     live = λ r k. let live = live_in 1 steps then (subst (λ s. IsLive s r) whole k) in (was_live r live, given r live);
+    reached = λ r h. reached_apart sizes account bounds quiet r h actor operation runs;
     roots = ap (λ (s : State). s.roots) whole;
     generations = ap (λ (s : State). s.generations) whole;
     others = others_then;

@@ -10,7 +10,7 @@ use Rattle.machine_model.specs.Operations.{action_of}
 use Rattle.machine_model.specs.States.{State, with_operation}
 use Rattle.lock_free.specs.declared.accounts.Account.{Account}
 use Rattle.lock_free.specs.declared.sizes.Sizes.{Sizes}
-use Rattle.lock_free.specs.Accounts.{bounds_for, state_of, running, gone_on}
+use Rattle.lock_free.specs.Accounts.{bounds_for, state_of, running, gone_on, WasReached}
 use Rattle.lock_free.specs.Live.{IsLive}
 use Rattle.lock_free.specs.Making.{over_of}
 use Rattle.lock_free.specs.Steps.{Dropped, Leads}
@@ -26,16 +26,18 @@ module _ (sizes : Sizes) (account : Account) (bounds : AreBounds (bounds_for siz
   abbrev state : State
   state = state_of sizes account
 
-  pub leads : (dropped : Dropped) → ((r : Ref) → IsLive (then sizes account bounds actor operation runs g) r → dropped (slot_of r) ≡ false) → ((i a : Ref) → over_of operation.line ≡ Some (i, a) → ⊥) →
+  pub leads : (dropped : Dropped) → ((r : Ref) → IsLive (then sizes account bounds actor operation runs g) r → dropped (slot_of r) ≡ false) →
+      ((r : Ref) → WasReached sizes account r → dropped (slot_of r) ≡ false) → ((i a : Ref) → over_of operation.line ≡ Some (i, a) → ⊥) →
       ((i a f : Ref) → ahead_of operation.line ≡ Some (i, a, f) → dropped (slot_of f) ≡ false → ⊥) → KeepsTries account.offers state (state_of sizes (gone_on actor account)) →
       Leads sizes account (gone_on actor account) actor dropped (operation_after state operation)
-  leads dropped kept makes_none publishes_none tries =
+  leads dropped kept once makes_none publishes_none tries =
       let same_heap = ap (λ (s : State). s.heap) same in
       record {
         bounds = bounds_after sizes account bounds actor operation runs g;
         nodes = slot_then sizes account bounds actor operation runs g state.heap same_heap;
         births = births_then sizes account bounds actor operation runs g state.heap same_heap;
         live = λ r k. (live_then sizes account bounds actor operation runs g state.heap same_heap (λ q used. used) r k, kept r (live_less sizes account bounds actor operation runs g r k));
+        reached = once;
         roots = roots_then sizes account bounds actor operation runs g (ap (λ (s : State). s.roots) same);
         generations = generations_then sizes account bounds actor operation runs g state.generations (ap (λ (s : State). s.generations) same);
         others = others_then sizes account bounds actor operation runs g none;

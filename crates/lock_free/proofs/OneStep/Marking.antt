@@ -5,6 +5,7 @@ use Rattle.std.proofs.lemmas.Bool.{cases_eq}
 use Rattle.std.proofs.lemmas.Option.{same_Some, none-some}
 use Rattle.machine_model.specs.Beneath.slot_arena.specs.declared.refs.Ref.{Ref}
 use Rattle.machine_model.specs.declared.operations.Operation.{Operation}
+use Rattle.machine_model.specs.declared.steps.Step.TheVariants as step
 use Rattle.machine_model.specs.Acting.{operation_after, attempt_after, mark_after}
 use Rattle.machine_model.specs.Machine.{AreBounds}
 use Rattle.machine_model.specs.Moves.{GoesOn}
@@ -22,6 +23,7 @@ use Rattle.lock_free.specs.Offering.{LeavesNodes}
 use Rattle.lock_free.specs.Trying.{try_of, try_at}
 use Rattle.lock_free.proofs.OneStep.Aheads.{ahead_of, comes_ahead}
 use Rattle.lock_free.proofs.OneStep.Changing.{whole, slot_then, births_then, live_then, generations_then}
+use Rattle.lock_free.proofs.OneStep.Reached.{reached_left}
 use Rattle.lock_free.proofs.OneStep.Going.{more, later, bounds_after}
 
 -- ---- an operation once some are marked
@@ -116,6 +118,7 @@ module _ (sizes : Sizes) (account : Account) (bounds : AreBounds (bounds_for siz
         nodes = slot_then sizes account bounds actor operation runs g state.heap heap_is;
         births = births_then sizes account bounds actor operation runs g state.heap heap_is;
         live = live_then sizes account bounds actor operation runs g state.heap heap_is (λ r u. u);
+        reached = λ r h. reached_left sizes account (gone_on actor account) (step.Go actor) refl (live_then sizes account bounds actor operation runs g state.heap heap_is (λ q u. u)) r h;
         generations = generations_then sizes account bounds actor operation runs g state.generations generations;
         aheads = aheads_marked;
         still = still_marked;

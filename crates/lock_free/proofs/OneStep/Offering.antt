@@ -1,7 +1,6 @@
 -- What is left by the step that offers, whether its root still stands or not.
 use Rattle.std.proofs.Common.{◌≡◌, ◌≢◌, ◌+◌, ℕ, suc, Bool, true, false, Contains, Some, None, get_or, set, refl, sym, ap, subst, ◌∙◌, arith, eq-eqb}
 use Rattle.std.specs.Prelude.{option_map}
-use Rattle.std.proofs.lemmas.Bool.{false≢true}
 use Rattle.std.proofs.lemmas.List.{get_or-set_same}
 use Rattle.history.specs.declared.calls.Access.TheVariants.{Writable}
 use Rattle.machine_model.specs.Beneath.slot_arena.specs.declared.refs.Ref.{Ref}
@@ -25,11 +24,10 @@ use Rattle.proof_commits.proofs.Known.StepsAt.{after_mark}
 use Rattle.proof_garbage.specs.Beneath.proof_generations.proofs.Handles.Running.{place_of_actor}
 use Rattle.proof_garbage.specs.Beneath.proof_generations.proofs.Lines.Copy.{IsOwn, LineFits}
 use Rattle.proof_garbage.specs.Beneath.proof_generations.proofs.Offers.Standing.{offer_line}
-use Rattle.proof_garbage.specs.Beneath.proof_generations.proofs.Offers.Marks.{is_done}
 use Rattle.lock_free.specs.declared.accounts.Account.{Account}
 use Rattle.lock_free.specs.declared.accounts.Known.{Known}
 use Rattle.lock_free.specs.declared.sizes.Sizes.{Sizes}
-use Rattle.lock_free.specs.Accounts.{bounds_for, state_of, running, gone_on, HasStood}
+use Rattle.lock_free.specs.Accounts.{bounds_for, state_of, running, gone_on, HasStood, WasReached}
 use Rattle.lock_free.specs.Live.{IsLive}
 use Rattle.lock_free.specs.Making.{over_of}
 use Rattle.lock_free.specs.Offering.{Offers}
@@ -39,7 +37,7 @@ use Rattle.lock_free.specs.Trying.{anew, try_of}
 use Rattle.lock_free.proofs.OneStep.Aheads.{ahead_of, over_makes, ahead_acts}
 use Rattle.lock_free.proofs.OneStep.Changing.{whole, roots_then}
 use Rattle.lock_free.proofs.OneStep.Marking.{other_marked, own_marked, leaves_by}
-use Rattle.lock_free.proofs.OneStep.Standing.{has, known_once}
+use Rattle.lock_free.proofs.OneStep.Standing.{has, known_once, offering_unmarked}
 
 module _ (sizes : Sizes) (account : Account) (bounds : AreBounds (bounds_for sizes account.steps)) (actor : ℕ) (operation : Operation) (runs : running sizes account actor operation)
     (offer : Descriptor) (is : action_of (state_of sizes account) operation ≡ act.Offer offer) (stood : (k : Known) → Contains account.offers k → HasStood sizes account k.offer) where
@@ -91,11 +89,7 @@ module _ (sizes : Sizes) (account : Account) (bounds : AreBounds (bounds_for siz
   next_unmarked = ap (mark_after operation.is_marked) is
 
   unmarked : operation.is_marked ≡ false
-  unmarked = by operation.is_marked refl
-    where
-      by : (b : Bool) → operation.is_marked ≡ b → b ≡ false
-      by false e = refl
-      by true e = absurd (false≢true (ap is_done (sym at_line) ∙ (has sizes account bounds).1.done place.0 operation place.2 e))
+  unmarked = offering_unmarked sizes account bounds actor operation runs offer at_line
 
   fresh : (k : Known) → Contains account.offers k → IsItsTry next k.offer → ⊥
   fresh k c its =
@@ -129,6 +123,7 @@ module _ (sizes : Sizes) (account : Account) (bounds : AreBounds (bounds_for siz
             nodes = leaves.nodes;
             births = leaves.births;
             live = leaves.live;
+            reached = λ r h. leaves.reached r (record { steps = h.steps; more = h.more; goes_on = h.goes_on; reached = h.reached });
             generations = leaves.generations;
             aheads = leaves.aheads;
             still = leaves.still;
@@ -141,6 +136,7 @@ module _ (sizes : Sizes) (account : Account) (bounds : AreBounds (bounds_for siz
           opens = mine.number;
           its_try = record { its = sym mine.its; now = next_attempt ∙ sym mine.at_try };
           fresh = fresh;
+          never = λ h. (let tried = (known_once sizes account bounds offer h).tried place.0 operation place.2 (sym mine.its) in let at_try = mine.at_try in omega (arith, tried, at_try));
           alone = λ a o differs e same.
               (let p = place_of_actor state a o e in
               let one = (has sizes account bounds).0.ids.distinct p.0 place.0 o operation p.2 place.2 (same ∙ mine.its) in
@@ -151,7 +147,8 @@ module _ (sizes : Sizes) (account : Account) (bounds : AreBounds (bounds_for siz
 
   -- ---- another stands there
 
-  module _ (another : is_plain (word_at state h) offer.root ≡ false) (dropped : Dropped) (kept : (r : Ref) → IsLive after r → dropped (slot_of r) ≡ false) where
+  module _ (another : is_plain (word_at state h) offer.root ≡ false) (dropped : Dropped) (kept : (r : Ref) → IsLive after r → dropped (slot_of r) ≡ false)
+      (once : (r : Ref) → WasReached sizes account r → dropped (slot_of r) ≡ false) where
     pub offer_misses : Leads sizes account (gone_on actor account) actor dropped next
     offer_misses =
         let gone_is = gone_by false another in
@@ -161,6 +158,7 @@ module _ (sizes : Sizes) (account : Account) (bounds : AreBounds (bounds_for siz
           nodes = leaves.nodes;
           births = leaves.births;
           live = λ r live. (leaves.live r live, kept r live);
+          reached = once;
           roots = roots_then sizes account bounds actor operation runs goes (ap (λ (s : State). s.roots) gone_is);
           generations = leaves.generations;
           others = others_then;

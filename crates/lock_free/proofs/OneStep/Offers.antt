@@ -19,7 +19,7 @@ use Rattle.lock_free.specs.Accounts.{bounds_for, state_of, HasStood}
 use Rattle.lock_free.specs.Making.{refs_of_offer}
 use Rattle.lock_free.proofs.OneStep.Longer.{run_longer, bounds_less}
 
-offer_in : (o : Option Root) (offer : Descriptor) → word_of o ≡ Offer offer → (r : Ref) → Contains (refs_of_offer offer) r → Contains (refs_of_root o) r
+pub offer_in : (o : Option Root) (offer : Descriptor) → word_of o ≡ Offer offer → (r : Ref) → Contains (refs_of_offer offer) r → Contains (refs_of_root o) r
 offer_in None offer e r c = let wrong : ⊥ = cc e in absurd wrong
 offer_in (Some root) offer e r c = subst (λ word. Contains (refs_of_word word) r) (sym e) c
 

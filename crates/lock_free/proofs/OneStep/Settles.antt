@@ -27,7 +27,8 @@ use Rattle.lock_free.specs.declared.sizes.Sizes.{Sizes}
 use Rattle.lock_free.specs.Accounts.{bounds_for, state_of, running, gone_on}
 use Rattle.lock_free.specs.Making.{over_of}
 use Rattle.lock_free.specs.Roots.{open_with, carried_out, taken_back}
-use Rattle.lock_free.specs.Settling.{IsMarkedThen, is_carried_out, is_taken_back, Settles}
+use Rattle.lock_free.specs.Fates.{IsMarkedThen, is_carried_out, is_taken_back}
+use Rattle.lock_free.specs.Settling.{Settles}
 use Rattle.lock_free.specs.Trying.{Try, try_of}
 use Rattle.lock_free.proofs.OneStep.Aheads.{ahead_of}
 use Rattle.lock_free.proofs.OneStep.Changing.{whole}

@@ -36,6 +36,7 @@ use Rattle.lock_free.specs.Offering.{LeavesNodes}
 use Rattle.lock_free.proofs.OneStep.Aheads.{ahead_of, ahead_acts}
 use Rattle.lock_free.proofs.OneStep.Going.{allowed}
 use Rattle.lock_free.proofs.OneStep.Longer.{bounds_more, run_next}
+use Rattle.lock_free.proofs.OneStep.Reached.{reached_left}
 use Rattle.lock_free.proofs.OneStep.Widened.{slot_in, live_in, ahead_in, ahead_wide}
 
 -- ---- any step
@@ -95,6 +96,7 @@ module _ (sizes : Sizes) (account : Account) (bounds : AreBounds (bounds_for siz
       nodes = λ k. ap (λ (s : State). get_or s.heap.slots k None) whole ∙ slot_in 1 steps later k ∙ ap (λ (x : Heap). get_or x.slots k None) heap_is;
       births = ap (λ (s : State). s.heap.births) whole ∙ ap (λ (x : Heap). x.births) heap_is;
       live = live_then;
+      reached = reached_left sizes account (taking taken account) taken refl live_then;
       generations = ap (λ (s : State). s.generations) whole ∙ generations_are;
       aheads = aheads_then;
       still = still_then;

@@ -1,23 +1,33 @@
 -- Offers and numbers in the state of an account: who has offered what stands, and what stood once never comes from a new try.
-use Rattle.std.proofs.Common.{◌≡◌, ◌+◌, ◌++◌, ℕ, suc, length, List, [], ◌∷◌, sym, ap, subst, ◌∙◌, append-nil}
+use Rattle.std.proofs.Common.{◌≡◌, ◌+◌, ◌++◌, ℕ, suc, Bool, true, false, length, List, [], ◌∷◌, refl, sym, ap, subst, ◌∙◌, append-nil}
+use Rattle.std.proofs.lemmas.Bool.{false≢true}
 use Rattle.history.specs.declared.calls.Access.TheVariants.{Writable}
+use Rattle.machine_model.specs.declared.copying.CopyLine.TheVariants as copy
+use Rattle.machine_model.specs.declared.lines.Line.TheVariants as line
+use Rattle.machine_model.specs.declared.operations.Operation.{Operation}
 use Rattle.machine_model.specs.declared.roots.Descriptor.{Descriptor}
 use Rattle.machine_model.specs.declared.roots.RootWord.TheVariants.{Offer}
 use Rattle.machine_model.specs.declared.steps.Step.{Step}
 use Rattle.machine_model.specs.Machine.{AreBounds, run, run_from, next_state}
 use Rattle.machine_model.specs.States.{State, root_at, word_at, word_of}
 use Rattle.machine_model.proofs.Along.{run-append, kept_by_moves}
+use Rattle.machine_model.proofs.Fates.{place_of_actor}
 use Rattle.proof_garbage.specs.Beneath.proof_generations.proofs.Handles.Operations.{HasHandles}
+use Rattle.proof_garbage.specs.Beneath.proof_generations.proofs.Offers.Marks.{is_done}
 use Rattle.proof_garbage.specs.Beneath.proof_generations.proofs.Offers.Same.{HasOffers, IsKnown, known_kept, known_own}
-use Rattle.proof_garbage.specs.Beneath.proof_generations.proofs.Offers.Standing.{own_numbers}
+use Rattle.proof_garbage.specs.Beneath.proof_generations.proofs.Offers.Standing.{own_numbers, completes_it}
 use Rattle.proof_garbage.specs.Beneath.proof_generations.proofs.Roots.OfLists.{has_handles_along}
 use Rattle.proof_waiting.specs.Beneath.proof_slots.specs.Lasting.{widened}
 use Rattle.lock_free.specs.declared.accounts.Account.{Account}
 use Rattle.lock_free.specs.declared.sizes.Sizes.{Sizes}
-use Rattle.lock_free.specs.Accounts.{bounds_for, state_of, HasStood}
+use Rattle.lock_free.specs.Accounts.{bounds_for, running, state_of, HasStood}
 use Rattle.lock_free.specs.Offering.{HasOwner}
 use Rattle.lock_free.specs.Roots.{open_with}
 use Rattle.lock_free.proofs.OneStep.Longer.{run_longer, bounds_less}
+
+unmarked_unless : (mark : Bool) → (mark ≡ true → ⊥) → mark ≡ false
+unmarked_unless false h = refl
+unmarked_unless true h = absurd (h refl)
 
 -- what is known stays known
 known_along : (steps : List Step) (state : State) (offer : Descriptor) → IsKnown state offer → IsKnown (run_from state steps) offer
@@ -37,7 +47,15 @@ module _ (sizes : Sizes) (account : Account) (bounds : AreBounds (bounds_for siz
   owner_of h offer stood =
       let b = has.0.offers h offer (ap word_of stood) in
       let mine = own_numbers b.owner offer (has.0.own b.k b.owner b.runs) b.completes in
-      record { actor = suc b.k; operation = b.owner; runs = b.runs; opens = sym mine.number; unmarked = b.unmarked }
+      let (c, at_line, its) = completes_it b.owner.line offer b.completes in
+      record { actor = suc b.k; operation = b.owner; runs = b.runs; opens = sym mine.number; unmarked = b.unmarked; completing = c; completes = at_line }
+
+  -- an operation that is about to offer isn't marked
+  pub offering_unmarked : (actor : ℕ) (operation : Operation) → running sizes account actor operation → (offer : Descriptor) → operation.line ≡ line.Copy (copy.Offer offer) →
+      operation.is_marked ≡ false
+  offering_unmarked actor operation runs offer at_line =
+      let place = place_of_actor state actor operation runs in
+      unmarked_unless operation.is_marked (λ e. false≢true (ap is_done (sym at_line) ∙ has.1.done place.0 operation place.2 e))
 
   -- an offer that stood once is known
   pub known_once : (offer : Descriptor) → HasStood sizes account offer → IsKnown state offer

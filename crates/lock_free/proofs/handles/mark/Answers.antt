@@ -29,7 +29,7 @@ compare_exchange-requires c =
           (sym open_is)
           (subst (λ n. Allows (IsKept sizes) slots id me (root_word c.args.handle) (λ x. either (x == root_code c.args.word) n x)
           (has_marked (step slots (root_word c.args.handle) (root_code c.args.word) n none) me))
-          (sym marked_is) (mark_allowed sizes slots id me c.args.handle c.requires.low small c.requires.one c.args.word c.requires.fits c.requires.unmarked))),
+          (sym marked_is) (mark_allowed sizes slots id me c.args.handle c.requires.low small c.args.word c.requires.fits c.requires.unmarked))),
     )
 
 pub returns-clause-sound : goal.returns-clause-sound

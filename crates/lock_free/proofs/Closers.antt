@@ -1,8 +1,8 @@
--- A seat enters a handle that it finds open, or goes on towards closing one, or gives that up: no word changes.
+-- A seat goes on towards closing a handle: no word changes.
 use Rattle.history.specs.declared.calls.Call.{Call}
-use Rattle.std.proofs.Common.{◌≡◌, ◌≢◌, ◌+◌, ℕ, ◌<◌, inl, inr, true, set, slice_index, is_some, Option, Some, None, refl, sym, ap, subst, ◌∙◌, arith}
+use Rattle.std.proofs.Common.{◌≡◌, ◌≢◌, ◌+◌, ℕ, ◌<◌, inl, inr, true, List, ◌∷◌, eq-eqb, ne_eqb, if◌then◌else◌, set, slice_index, is_some, Option, Some, refl, sym, ap, subst, ◌∙◌, arith}
 use Rattle.std.proofs.lemmas.Bool.{cases_eq}
-use Rattle.std.proofs.lemmas.Option.{same_Some, none-some}
+use Rattle.std.proofs.lemmas.Option.{same_Some}
 use mathlib.Core.Option.{some, some-injective}
 use lib.ListN.{get_elem?}
 use Rattle.atomic_table.specs.Table as Table
@@ -17,10 +17,17 @@ use Rattle.lock_free.specs.declared.rules.View.{View}
 use Rattle.lock_free.specs.declared.sizes.Sizes.{Sizes}
 use Rattle.lock_free.specs.Accounts.{state_of}
 use Rattle.lock_free.specs.Places.{pin_word, root_word}
-use Rattle.lock_free.specs.Rules.{IsClosing, SaysClosing, IsSeat, IsKept, pin_word_of}
+use Rattle.lock_free.specs.Rules.{IsClosing, SaysClosing, IsSeat, IsKept, latest, pin_word_of}
 use Rattle.lock_free.proofs.Assembling.{all_stand, here, closing_at, numbers_stay, assembled}
 use Rattle.lock_free.proofs.Meanings.{no_tries}
 use Rattle.lock_free.proofs.Seats.{ran_so, Stays, other_kept, names_kept, own_else}
+
+-- the mark that was made last, and the others
+pub newest : (c : Closing) (marks : List Closing) → latest (c ∷ marks) c.handle ≡ Some c
+newest c marks = ap (λ b. if b then Some c else latest marks c.handle) (eq-eqb c.handle c.handle refl)
+
+pub older : (c : Closing) (marks : List Closing) (handle : ℕ) → c.handle ≢ handle → latest (c ∷ marks) handle ≡ latest marks handle
+older c marks handle differs = ap (λ b. if b then Some c else latest marks handle) (ne_eqb c.handle handle differs)
 
 module _ (sizes : Sizes) (s : Table.State Call View) (kept : IsKept sizes s) (id : ℕ) (v : View) (at : get_elem? s.views id ≡ some v) where
   abbrev now : State
@@ -30,7 +37,7 @@ module _ (sizes : Sizes) (s : Table.State Call View) (kept : IsKept sizes s) (id
   seat = kept.seats id v at
 
   -- what the seat has entered and would close then
-  module _ (entered : Option ℕ) (closing : Option Closing)
+  module _ (entered : Option ℕ) (closing : List Closing)
       (inside : (g : ℕ) → entered ≡ Some g → (g < handle_limit) × (is_some (root_at now g) ≡ true) × ((p : Pin) × (v.pin ≡ Some p) × (p.handle ≡ g)))
       (calls : (o : Operation) → operation_of now v.actor ≡ Some o → entered ≡ Some (handle_of o.call)) where
     abbrev pub view_then : View
@@ -63,29 +70,14 @@ module _ (sizes : Sizes) (s : Table.State Call View) (kept : IsKept sizes s) (id
         (λ b name f. inl f)
         (numbers_stay sizes s kept id v at view_then refl refl kept.account s.words (no_tries kept.account.offers now) (λ slot none. none) (λ g below. refl) refl (λ slot g e free. free))
 
-  -- ---- entering
-
-  -- the seat has pinned itself to the handle, runs nothing, and finds it open, with no mark that somebody would close it
-  module _ (handle : ℕ) (low : handle < handle_limit) (pin : Pin) (pinned : v.pin ≡ Some pin) (its : pin.handle ≡ handle) (idle : operation_of now v.actor ≡ None)
-      (is_open : is_some (root_at now handle) ≡ true)
-      (unmarked : (who : ℕ) → SaysClosing (slice_index s.words (root_word handle)) who → ⊥) where
-    pub enter_kept : IsKept sizes (record { words = s.words; homes = s.homes; views = set s.views id (record v { entered = Some handle }) })
-    enter_kept =
-        seat_kept (Some handle) v.closing
-        (λ g e. (let same = same_Some handle g e in
-        (subst (λ n. n < handle_limit) same low, ap (λ n. is_some (root_at now n)) (sym same) ∙ is_open, (pin, pinned, its ∙ same)))) (λ o e. absurd (none-some o (sym idle ∙ e)))
-        (λ g who below says. elim (cases_eq g handle) [
-          | inl same ↦ absurd (unmarked who (subst (λ n. SaysClosing (slice_index s.words (root_word n)) who) same says))
-          | inr differs ↦
-              closing_at sizes s kept id v at (record v { entered = Some handle }) refl refl g who (λ e. absurd (differs (sym (same_Some handle g e)))) (λ c is this its. is)
-              (kept.closings g who below says)
-        ])
-
   -- ---- closing
 
-  module _ (handle looked : ℕ) (closes : v.closing ≡ Some (record { handle = handle; looked = looked })) where
+  module _ (handle looked : ℕ) (others : List Closing) (closes : v.closing ≡ record { handle = handle; looked = looked } ∷ others) where
     abbrev pub passed : Closing
     passed = record { handle = handle; looked = looked + 1 }
+
+    is_latest : latest v.closing handle ≡ Some (record { handle = handle; looked = looked })
+    is_latest = ap (λ marks. latest marks handle) closes ∙ newest (record { handle = handle; looked = looked }) others
 
     -- the closer finds that the next seat has no call on the handle, or is itself
     module _ (none : (pin : Pin) → slice_index s.words (pin_word (looked + 1)) ≡ pin_code pin → pin.handle ≡ handle → looked + 1 ≡ v.actor) where
@@ -100,20 +92,20 @@ module _ (sizes : Sizes) (s : Table.State Call View) (kept : IsKept sizes s) (id
           kept.alone id h.id v h.view v.actor at h.at (omega arith, seat.top)
           (let top = (kept.seats h.id h.view h.at).top in let is = h.its ∙ sym its in (omega (arith, is), omega (arith, top, is)))
 
-      passing : (who : ℕ) → IsClosing s.views handle who → IsClosing (set s.views id (record v { closing = Some passed })) handle who
+      passing : (who : ℕ) → IsClosing s.views handle who → IsClosing (set s.views id (record v { closing = passed ∷ v.closing })) handle who
       passing who h = elim (cases_eq h.id id) [
         | inl same ↦
             (let mine : h.view ≡ v = some-injective h.view v (sym h.at ∙ ap (λ n. get_elem? s.views n) same ∙ at) in
             let own : who ≡ v.actor = sym h.its ∙ ap (λ (x : View). x.actor) mine in
             let looked_is : h.closing.looked ≡ looked = ap (λ (c : Closing). c.looked)
-            (same_Some h.closing (record { handle = handle; looked = looked }) (sym h.is ∙ ap (λ (x : View). x.closing) mine ∙ closes)) in
+            (same_Some h.closing (record { handle = handle; looked = looked }) (sym h.is ∙ ap (λ (x : View). latest x.closing handle) mine ∙ is_latest)) in
             record {
               id = id;
-              view = record v { closing = Some passed };
-              at = here sizes s kept id v at (record v { closing = Some passed }) refl refl;
+              view = record v { closing = passed ∷ v.closing };
+              at = here sizes s kept id v at (record v { closing = passed ∷ v.closing }) refl refl;
               its = sym own;
               closing = passed;
-              is = refl;
+              is = newest passed v.closing;
               this = refl;
               none = λ other w e inside apart. (let old = before other w e inside apart in
                   let more = h.none other old.0 old.1 old.2 (λ x. apart (sym old.3 ∙ x)) in
@@ -121,36 +113,25 @@ module _ (sizes : Sizes) (s : Table.State Call View) (kept : IsKept sizes s) (id
                   subst (λ n. looked + 1 < n) old.3 (omega (arith, more, differs, looked_is)));
             })
         | inr other_id ↦
-            closing_at sizes s kept id v at (record v { closing = Some passed }) refl refl handle who (λ e. e) (λ c is this its. absurd (other_id (sym (same_seat who h its)))) h
+            closing_at sizes s kept id v at (record v { closing = passed ∷ v.closing }) refl refl handle who (λ e. e) (λ c is this its. absurd (other_id (sym (same_seat who h its)))) h
       ]
         where
-          before : (other : ℕ) (w : View) → get_elem? (set s.views id (record v { closing = Some passed })) other ≡ some w → w.entered ≡ Some handle → w.actor ≢ who →
+          before : (other : ℕ) (w : View) → get_elem? (set s.views id (record v { closing = passed ∷ v.closing })) other ≡ some w → w.entered ≡ Some handle → w.actor ≢ who →
               (u : View) × (get_elem? s.views other ≡ some u) × (u.entered ≡ Some handle) × (u.actor ≡ w.actor)
-          before other w e inside apart = elim (at_set s.views id other (record v { closing = Some passed }) w e) [
+          before other w e inside apart = elim (at_set s.views id other (record v { closing = passed ∷ v.closing }) w e) [
             | inl p ↦ (v, ap (λ n. get_elem? s.views n) p.0 ∙ at, ap (λ (x : View). x.entered) p.1 ∙ inside, ap (λ (x : View). x.actor) p.1)
             | inr p ↦ (w, p.1, inside, refl)
           ]
 
       -- it goes on to the one after it
-      pub pass_kept : IsKept sizes (record { words = s.words; homes = s.homes; views = set s.views id (record v { closing = Some passed }) })
+      pub pass_kept : IsKept sizes (record { words = s.words; homes = s.homes; views = set s.views id (record v { closing = passed ∷ v.closing }) })
       pass_kept =
-          seat_kept v.entered (Some passed) seat.entered seat.calls
+          seat_kept v.entered (passed ∷ v.closing) seat.entered seat.calls
           (λ g who below says. elim (cases_eq g handle) [
-            | inl same ↦ subst (λ n. IsClosing (set s.views id (record v { closing = Some passed })) n who) (sym same)
+            | inl same ↦ subst (λ n. IsClosing (set s.views id (record v { closing = passed ∷ v.closing })) n who) (sym same)
                 (passing who (subst (λ n. IsClosing s.views n who) same (kept.closings g who below says)))
             | inr differs ↦
-                closing_at sizes s kept id v at (record v { closing = Some passed }) refl refl g who (λ e. e)
-                (λ c is this its. absurd (differs (sym this ∙ ap (λ (x : Closing). x.handle) (same_Some c (record { handle = handle; looked = looked }) (sym is ∙ closes)))))
+                closing_at sizes s kept id v at (record v { closing = passed ∷ v.closing }) refl refl g who (λ e. e)
+                (λ c is this its. older passed v.closing g (λ e. differs (sym e)) ∙ is)
                 (kept.closings g who below says)
           ])
-
-    -- the closer finds its mark gone
-    module _ (gone : SaysClosing (slice_index s.words (root_word handle)) v.actor → ⊥) where
-      pub unclose_kept : IsKept sizes (record { words = s.words; homes = s.homes; views = set s.views id (record v { closing = None }) })
-      unclose_kept =
-          seat_kept v.entered None seat.entered seat.calls
-          (λ g who below says.
-          closing_at sizes s kept id v at (record v { closing = None }) refl refl g who (λ e. e)
-          (λ c is this its. absurd (gone (subst (λ n. SaysClosing (slice_index s.words (root_word n)) v.actor)
-          (sym this ∙ ap (λ (x : Closing). x.handle) (same_Some c (record { handle = handle; looked = looked }) (sym is ∙ closes)))
-          (subst (λ n. SaysClosing (slice_index s.words (root_word g)) n) (sym its) says)))) (kept.closings g who below says))

@@ -1,0 +1,82 @@
+-- A load lets a seat's operation give up.
+use Rattle.history.specs.declared.calls.Call.{Call}
+use Rattle.history.specs.declared.replies.Reply.{Reply}
+use Rattle.std.proofs.Common.{◌≡◌, ◌<◌, ℕ, Bool, set, Some, refl, sym, ap, subst, ◌∙◌, arith}
+use Rattle.std.proofs.lemmas.List.{set-get_or}
+use Rattle.std.proofs.lemmas.Option.{same_Some}
+use mathlib.Core.Option.{some, none}
+use lib.ListN.{get_elem?}
+use Rattle.atomic_table.specs.Table.{Me, Allows, step}
+use Rattle.atomic_table.specs.Table as Table
+use Rattle.machine_model.specs.declared.operations.Operation.{Operation}
+use Rattle.machine_model.specs.declared.steps.Step.TheVariants as machine
+use Rattle.machine_model.specs.GivingUp.{gave_up, given_up}
+use Rattle.machine_model.specs.Operations.{action_of}
+use Rattle.lock_free.specs.declared.accounts.Account.{Account}
+use Rattle.lock_free.specs.declared.rules.View.{View}
+use Rattle.lock_free.specs.declared.sizes.Sizes.{Sizes}
+use Rattle.lock_free.specs.Accounts.{running}
+use Rattle.lock_free.specs.Beginning.{taking}
+use Rattle.lock_free.specs.Calling.{HasGivenUp, MayGiveUp, once_given_up, has_given_up}
+use Rattle.lock_free.specs.Loading.{now, seen, IsSound, Runs, Waited}
+use Rattle.lock_free.specs.Places.{epoch_word, words_of}
+use Rattle.lock_free.specs.Rules.{IsKept}
+use Rattle.lock_free.specs.Steps.{Leads}
+use Rattle.lock_free.proofs.Asked.{is_one_of}
+use Rattle.lock_free.proofs.Abandoned.{abandon_kept, abandon_sound}
+use Rattle.lock_free.proofs.Moments.{allowed, waited_so}
+use Rattle.lock_free.proofs.OneStep.GivesUp.{gives_up}
+
+module _ (v : View) (operation : Operation) (answer : Reply) (runs : Runs v operation) (may : given_up operation.call operation.line ≡ Some answer) (s : Table.State Call View)
+    (kept : IsKept v.sizes s) (id : ℕ) (at : get_elem? s.views id ≡ some v) where
+  abbrev there : Account
+  there = kept.account
+
+  waits : Waited v there
+  waits = waited_so v s kept id at
+
+  stays : (mark : Bool) × running v.sizes there v.actor (record operation { is_marked = mark })
+      × (action_of (now (seen v there)) (record operation { is_marked = mark }) ≡ action_of (now v) (record operation { is_marked = runs.0 }))
+  stays = waits.stays (record operation { is_marked = runs.0 }) runs.1
+
+  abbrev o : Operation
+  o = record operation { is_marked = stays.0 }
+
+  leads : Leads v.sizes there (taking (machine.GiveUp v.actor) there) v.actor (is_one_of o.private) (gave_up o answer)
+  leads = gives_up v.sizes there kept.bounds v.actor o stays.1 answer may kept.quiet
+
+  abbrev pub after : View
+  after = once_given_up v there operation.private
+
+  pub kept_after : IsKept v.sizes (record { words = s.words; homes = s.homes; views = set s.views id after })
+  kept_after = abandon_kept v s kept id at o (gave_up o answer) stays.1 (machine.GiveUp v.actor) tt (λ a differs e. differs (sym e)) leads refl refl
+
+  pub sound_after : IsSound (words_of v.sizes) after
+  sound_after = abandon_sound v s kept id at o (gave_up o answer) stays.1 (machine.GiveUp v.actor) tt (λ a differs e. differs (sym e)) leads refl refl
+
+  -- whichever operation the seat's is said to be
+  pub has_given_up_so : HasGivenUp v after
+  has_given_up_so other reply (mark, is) gives =
+      let same : record other { is_marked = operation.is_marked } ≡ operation = ap (λ (x : Operation). record x { is_marked = operation.is_marked }) (same_Some _ _ (sym is ∙ runs.1)) in
+      let answers = same_Some answer reply (sym may ∙ ap (λ (x : Operation). given_up x.call x.line) (sym same) ∙ gives) in
+      record {
+        account = there;
+        waited = waits;
+        after_is = ap (λ (x : Operation). once_given_up v there x.private) (sym same);
+        runs = (stays.0, leads.own ∙ ap (λ (x : Operation). Some (gave_up (record x { is_marked = stays.0 }) answer)) (sym same)
+            ∙ ap (λ a. Some (gave_up (record other { is_marked = stays.0 }) a)) answers);
+      }
+
+pub give_up_allowed : (sizes : Sizes) (size id : ℕ) (me : Me Call View) → MayGiveUp me.0 → Allows (IsKept sizes) size id me epoch_word (λ n. n) (has_given_up (step size epoch_word 0 0 none) me)
+give_up_allowed sizes size id me (operation, answer, runs, may) =
+    allowed sizes size id me epoch_word (λ n. n) (has_given_up (step size epoch_word 0 0 none) me)
+    (λ s kept at. (
+      after me.0 operation answer runs may s kept id at,
+      subst (λ ws. IsKept me.0.sizes (record { words = ws; homes = s.homes; views = set s.views id (after me.0 operation answer runs may s kept id at) })) (sym (set-get_or s.words epoch_word 0))
+          (kept_after me.0 operation answer runs may s kept id at),
+      (has_given_up_so me.0 operation answer runs may s kept id at, sound_after me.0 operation answer runs may s kept id at, refl),
+    ))
+
+-- the word is one of the table's
+pub epoch_inside : (words : ℕ) (v : View) → IsSound words v → epoch_word < words
+epoch_inside words v sound = let size = sound.size in omega (arith, size)

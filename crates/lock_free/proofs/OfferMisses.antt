@@ -1,0 +1,88 @@
+-- Another root than its own stands where an operation is to offer, or another offer: it gives up all that it has made.
+use Rattle.history.specs.declared.calls.Call.{Call}
+use Rattle.std.proofs.Common.{◌≡◌, ℕ, Bool, false, set, Some, refl, sym, ap, subst, ◌∙◌}
+use Rattle.std.proofs.lemmas.Option.{same_Some}
+use mathlib.Core.Option.{some}
+use lib.ListN.{get_elem?}
+use Rattle.atomic_table.specs.Table as Table
+use Rattle.machine_model.specs.declared.actions.Action.{Action}
+use Rattle.machine_model.specs.declared.actions.Action.TheVariants as act
+use Rattle.machine_model.specs.declared.operations.Operation.{Operation}
+use Rattle.machine_model.specs.declared.roots.Descriptor.{Descriptor}
+use Rattle.machine_model.specs.declared.steps.Step.TheVariants as machine
+use Rattle.machine_model.specs.Acting.{operation_after}
+use Rattle.machine_model.specs.Calls.{handle_of}
+use Rattle.machine_model.specs.Operations.{action_of}
+use Rattle.machine_model.specs.States.{State, word_at}
+use Rattle.machine_model.specs.Swapping.{is_plain}
+use Rattle.lock_free.specs.declared.accounts.Account.{Account}
+use Rattle.lock_free.specs.declared.rules.View.{View}
+use Rattle.lock_free.specs.Accounts.{state_of, running, gone_on}
+use Rattle.lock_free.specs.Exchanging.{given_up}
+use Rattle.lock_free.specs.Loading.{now, IsAt, IsSound, Runs, Took}
+use Rattle.lock_free.specs.Places.{words_of}
+use Rattle.lock_free.specs.RootOffers.{HasMissed}
+use Rattle.lock_free.specs.Rules.{IsKept}
+use Rattle.lock_free.specs.Steps.{Leads}
+use Rattle.lock_free.proofs.Abandoned.{abandon_kept, abandon_sound}
+use Rattle.lock_free.proofs.Asked.{is_one_of}
+use Rattle.lock_free.proofs.Looking.{same_action}
+use Rattle.lock_free.proofs.Moments.{waited_so}
+use Rattle.lock_free.proofs.OneStep.Missing.{offer_given_up}
+
+abbrev offer_in : Action → Descriptor → Descriptor
+offer_in (act.Offer offer) other = offer
+offer_in action other = other
+
+pub same_offer : (v : View) (a b : Descriptor) → IsAt v (act.Offer a) → IsAt v (act.Offer b) → a ≡ b
+same_offer v a b p q = ap (λ x. offer_in x a) (same_action v (act.Offer a) (act.Offer b) p q)
+
+module _ (v : View) (offer : Descriptor) (p : IsAt v (act.Offer offer)) (s : Table.State Call View) (kept : IsKept v.sizes s) (id : ℕ) (at : get_elem? s.views id ≡ some v) where
+  abbrev there : Account
+  there = kept.account
+
+  abbrev state : State
+  state = state_of v.sizes kept.account
+
+  abbrev handle : ℕ
+  handle = handle_of p.operation.call
+
+  pub stays : (mark : Bool) × running v.sizes there v.actor (record p.operation { is_marked = mark }) × (action_of state (record p.operation { is_marked = mark }) ≡ action_of (now v) p.operation)
+  stays = (waited_so v s kept id at).stays p.operation p.runs
+
+  -- the operation as it runs there
+  abbrev pub ran : Operation
+  ran = record p.operation { is_marked = stays.0 }
+
+  pub ran_runs : running v.sizes kept.account v.actor ran
+  ran_runs = stays.1
+
+  pub ran_acts : action_of (state_of v.sizes kept.account) ran ≡ act.Offer offer
+  ran_acts = stays.2 ∙ p.acts
+
+  module _ (another : is_plain (word_at (state_of v.sizes kept.account) (handle_of p.operation.call)) offer.root ≡ false) where
+    abbrev pub dropped : View
+    dropped = given_up v kept.account p.operation.private
+
+    leads : Leads v.sizes there (gone_on v.actor there) v.actor (is_one_of ran.private) (operation_after state ran)
+    leads = offer_given_up v.sizes there kept.bounds v.actor ran ran_runs offer ran_acts kept.roots.stood kept.quiet another
+
+    pub dropped_kept : IsKept v.sizes (record { words = s.words; homes = s.homes; views = set s.views id dropped })
+    dropped_kept = abandon_kept v s kept id at ran (operation_after state ran) ran_runs (machine.Go v.actor) tt (λ a d e. d (sym e)) leads refl refl
+
+    pub dropped_sound : IsSound (words_of v.sizes) dropped
+    dropped_sound = abandon_sound v s kept id at ran (operation_after state ran) ran_runs (machine.Go v.actor) tt (λ a d e. d (sym e)) leads refl refl
+
+    dropped_took : Took v there dropped
+    dropped_took q runs_q = leads.own ∙ ap (λ x. Some (operation_after state x)) (same_Some ran q (sym ran_runs ∙ runs_q))
+
+    tells_dropped : (q : Operation) → Runs v q → dropped ≡ given_up v there q.private
+    tells_dropped q r = ap (λ (x : Operation). given_up v there x.private) (same_Some p.operation (record q { is_marked = r.0 }) (sym p.runs ∙ r.1))
+
+    tells_another : (other : Descriptor) (q : IsAt v (act.Offer other)) → is_plain (word_at state (handle_of q.operation.call)) other.root ≡ false
+    tells_another other q =
+        subst (λ (d : Descriptor). is_plain (word_at state (handle_of q.operation.call)) d.root ≡ false) (same_offer v offer other p q)
+        (subst (λ (x : Operation). is_plain (word_at state (handle_of x.call)) offer.root ≡ false) (same_Some p.operation q.operation (sym p.runs ∙ q.runs)) another)
+
+    pub has_missed : HasMissed v dropped
+    has_missed = (there, (waited_so v s kept id at, dropped_took, tells_another), tells_dropped)

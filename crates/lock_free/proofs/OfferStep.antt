@@ -1,0 +1,338 @@
+-- The exchange of a handle's word that is to bring an offer to stand: it finds its root there, another one, or what is no root.
+use Rattle.history.specs.declared.calls.Call.{Call}
+use Rattle.std.proofs.Common.{◌≡◌, ◌≢◌, ◌+◌, ◌*◌, ◌<◌, ◌^◌, ◌==◌, ℕ, inl, inr, true, false, List, [], ◌∷◌, ◌++◌, Contains, set, slice_index, length, drop, Option, Some, None, refl, sym, ap, subst, ◌∙◌, arith, eq-eqb, ne_eqb, get_or, if◌then◌else◌}
+use Rattle.std.proofs.Common.{append-nil}
+use Rattle.std.proofs.lemmas.Bool.{cases_eq}
+use Rattle.std.proofs.lemmas.List.{append_cancel_right, length_push}
+use Rattle.std.proofs.lemmas.List.Elements.{Contains-append_left, Contains-append_right, Contains-get_or, Contains-push}
+use Rattle.std.proofs.lemmas.Option.{same_Some}
+use mathlib.Core.Option.{some, none}
+use lib.ListN.{get_elem?}
+use prog.Atomic.{either}
+use Rattle.atomic_table.specs.Table.{Me, Allows, step}
+use Rattle.atomic_table.specs.Table as Table
+use Rattle.trie_words.specs.Codes.{IsRootWord, root_code, root_of, pair_code}
+use Rattle.trie_words.specs.declared.roots.RootWord.{RootWord}
+use Rattle.trie_words.specs.declared.roots.RootWord.TheVariants as word
+use Rattle.history.specs.declared.calls.Access.TheVariants.{Writable}
+use Rattle.machine_model.specs.Beneath.slot_arena.specs.declared.refs.Ref.{Ref}
+use Rattle.machine_model.specs.Beneath.slot_arena.specs.declared.nodes.Slot.{Slot}
+use Rattle.machine_model.specs.Beneath.slot_arena.specs.Heaps.{refs_of_option}
+use Rattle.machine_model.specs.Beneath.slot_arena.specs.Refs.{slot_of}
+use Rattle.machine_model.specs.declared.actions.Action.{Action}
+use Rattle.machine_model.specs.declared.actions.Action.TheVariants as act
+use Rattle.machine_model.specs.declared.copying.CopyLine.TheVariants as copy
+use Rattle.machine_model.specs.declared.lines.Line.{Line}
+use Rattle.machine_model.specs.declared.lines.Line.TheVariants as line
+use Rattle.machine_model.specs.declared.operations.Operation.{Operation}
+use Rattle.machine_model.specs.declared.roots.Descriptor.{Descriptor}
+use Rattle.machine_model.specs.declared.roots.RootWord.TheVariants.{Plain}
+use Rattle.machine_model.specs.declared.steps.Step.TheVariants as machine
+use Rattle.machine_model.specs.Acting.{operation_after}
+use Rattle.machine_model.specs.Calls.{handle_of}
+use Rattle.machine_model.specs.Counting.{refs_of_root}
+use Rattle.machine_model.specs.Operations.{action_of}
+use Rattle.machine_model.specs.States.{State, root_at, word_at, word_of, handle_limit}
+use Rattle.machine_model.specs.Swapping.{is_plain}
+use Rattle.proof_garbage.specs.Beneath.proof_generations.proofs.Offers.Standing.{offer_line}
+use Rattle.proof_memory.specs.Wants.{line_wants, offer_wants}
+use Rattle.lock_free.specs.declared.accounts.Account.{Account}
+use Rattle.lock_free.specs.declared.root_offers.Proposed.{Proposed}
+use Rattle.lock_free.specs.declared.root_offers.Proposed.TheVariants.{Stands, Misses, Meets}
+use Rattle.lock_free.specs.declared.rules.View.{View}
+use Rattle.lock_free.specs.declared.sizes.Sizes.{Sizes}
+use Rattle.lock_free.specs.Accounts.{state_of, place_of, running, gone_on}
+use Rattle.lock_free.specs.Exchanging.{given_up}
+use Rattle.lock_free.specs.Live.{refs_of_claims, at_hand, from_root, from_operation, IsLive}
+use Rattle.lock_free.specs.HandleWords.{HasSeenRoot}
+use Rattle.lock_free.specs.Loading.{Moment, now, seen, IsAt, IsSound, Runs, Took}
+use Rattle.lock_free.specs.Making.{refs_of_offer}
+use Rattle.lock_free.specs.Nodes.{class_of}
+use Rattle.lock_free.specs.Offering.{DraftsOffer, Offers, offered_at, offered_by}
+use Rattle.lock_free.specs.Places.{root_word, words_of}
+use Rattle.lock_free.specs.RootOffers.{WritesOffer, IsToOffer, HasMissed, HasProposed, proposed_by, has_proposed}
+use Rattle.lock_free.specs.Roots.{SaysRoot, SaysPlain, open_with, second_of}
+use Rattle.lock_free.specs.Rules.{Stands as StandsIn, IsSeat, IsKept, pool_of}
+use Rattle.lock_free.specs.Steps.{Leads}
+use Rattle.lock_free.proofs.Asked.{is_one_of, live_in_use, slots_tell}
+use Rattle.lock_free.proofs.Exchanged.{words_then, words_hit, words_miss}
+use Rattle.lock_free.proofs.Moments.{allowed, seen_kept, waited_so, live_place, held_there, free_inside}
+use Rattle.lock_free.proofs.Offered.{all_then, offer_kept}
+use Rattle.lock_free.proofs.OfferMisses.{same_offer, ran, ran_runs, ran_acts, dropped, dropped_kept, dropped_sound, has_missed}
+use Rattle.lock_free.proofs.OneStep.Offering as offering
+use Rattle.lock_free.proofs.RootCodes.{kind, same_kind, root_back}
+use Rattle.lock_free.proofs.SeenRoots.{root_told}
+use Rattle.lock_free.proofs.Spending as spending
+use Rattle.lock_free.proofs.Framing.{class_small}
+use Rattle.lock_free.proofs.Within.{both_inside, two_words}
+
+last_of : (xs ys : List ℕ) (a b : ℕ) → xs ++ a ∷ [] ≡ ys ++ b ∷ [] → a ≡ b
+last_of [] [] a b e = ap (λ ns. slice_index ns 0) e
+last_of [] (y ∷ ys) a b e = let both = ap length e in let more = length_push ys b in absurd (omega (arith, both, more))
+last_of (x ∷ xs) [] a b e = let both = ap length e in let more = length_push xs a in absurd (omega (arith, both, more))
+last_of (x ∷ xs) (y ∷ ys) a b e = last_of xs ys a b (ap (drop 1) e)
+
+-- the references that stand in the line of an offer are at hand
+refs_at_hand : (offer : Descriptor) → refs_of_claims (offer_wants offer) ≡ refs_of_offer offer
+refs_at_hand offer = ap (λ rs. offer.root ∷ offer.expected ∷ offer.successor ∷ rs) (append-nil (refs_of_option offer.second))
+
+second_same : (before after : Account) (o : Option Ref) → ((r : Ref) → Contains (refs_of_option o) r → place_of after r ≡ place_of before r) → second_of after o ≡ second_of before o
+second_same before after None same = refl
+second_same before after (Some r) same = same r (Contains-get_or (r ∷ []) 0 r (omega arith))
+
+module _ (v : View) (root slot : ℕ) (offer : Descriptor) (rest : List ℕ) (p : IsAt v (act.Offer offer)) (w : WritesOffer v root slot offer rest) where
+  abbrev handle : ℕ
+  handle = handle_of p.operation.call
+
+  at_line : p.operation.line ≡ line.Copy (copy.Offer offer)
+  at_line = offer_line (now v) p.operation p.operation.line offer p.acts
+
+  held : (r : Ref) → Contains (refs_of_offer offer) r → Contains (at_hand (now v) p.operation) r
+  held r c =
+      subst (λ l. Contains (refs_of_claims (line_wants (now v).limits.hash p.operation.call p.operation.access l) ++ p.operation.private) r) (sym at_line)
+      (Contains-append_left (refs_of_claims (offer_wants offer)) p.operation.private r (subst (λ rs. Contains rs r) (sym (refs_at_hand offer)) c))
+
+  module _ (s : Table.State Call View) (kept : IsKept v.sizes s) (id : ℕ) (at : get_elem? s.views id ≡ some v) where
+    abbrev found : ℕ
+    found = slice_index s.words (root_word handle)
+
+    abbrev old : ℕ
+    old = root_code (word.Writable root)
+
+    abbrev new : ℕ
+    new = root_code (word.Offered slot)
+
+    abbrev there : Account
+    there = kept.account
+
+    abbrev state : State
+    state = state_of v.sizes there
+
+    abbrev o : Operation
+    o = ran v offer p s kept id at
+
+    runs : running v.sizes there v.actor o
+    runs = ran_runs v offer p s kept id at
+
+    acts : action_of state o ≡ act.Offer offer
+    acts = ran_acts v offer p s kept id at
+
+    seat : IsSeat v.sizes there kept.stands s.words v
+    seat = kept.seats id v at
+
+    low : handle < handle_limit
+    low = (seat.entered handle (seat.calls o runs)).0
+
+    lives : (r : Ref) → Contains (refs_of_offer offer) r → IsLive (now v) r × IsLive state r
+    lives r c = let h = held_there v s kept id at r (p.operation, p.runs, inl (held r c)) in (h.was_live, h.lives)
+
+    same : (r : Ref) → Contains (refs_of_offer offer) r → place_of there r ≡ place_of v.account r
+    same r c = live_place v s kept id at r (lives r c).0
+
+    named : (k : ℕ) → k < 3 → Contains (refs_of_offer offer) (get_or (refs_of_offer offer) k offer.root)
+    named k few = Contains-get_or (refs_of_offer offer) k offer.root (omega (arith, few))
+
+    second_named : (r : Ref) → Contains (refs_of_option offer.second) r → Contains (refs_of_offer offer) r
+    second_named r c = Contains-append_right (offer.root ∷ offer.expected ∷ offer.successor ∷ []) (refs_of_option offer.second) r c
+
+    drafted : DraftsOffer there v.drafts slot offer
+    drafted = record {
+      first = w.drafts.first;
+      olds =
+          subst (λ n. Contains v.drafts (2 * slot + 1, n))
+          (sym (ap (λ n. pair_code (record { low = n; high = place_of there offer.expected })) (same offer.root (named 0 (omega arith)))
+          ∙ ap (λ n. pair_code (record { low = place_of v.account offer.root; high = n })) (same offer.expected (named 1 (omega arith))))) w.drafts.olds;
+      news =
+          subst (λ n. Contains v.drafts (2 * slot + 2, n))
+          (sym (ap (λ n. pair_code (record { low = n; high = second_of there offer.second })) (same offer.successor (named 2 (omega arith)))
+          ∙ ap (λ n. pair_code (record { low = place_of v.account offer.successor; high = n }))
+          (second_same v.account there offer.second (λ r c. same r (second_named r c))))) w.drafts.news;
+    }
+
+    -- ---- the root that is there
+
+    root_place : place_of there offer.root ≡ root
+    root_place = same offer.root (named 0 (omega arith)) ∙ w.place
+
+    stands_so : (r : Ref) → IsLive state r → (x : Slot) × StandsIn kept.stands state (slot_of r) x
+    stands_so r live = let used = live_in_use v.sizes there kept.bounds r live in (used.0, (kept.nodes.live r live, used.1))
+
+    same_root : (q : Ref) → root_at state handle ≡ open_with Writable (Plain q) → place_of there q ≡ root → q ≡ offer.root
+    same_root q plain place =
+        let live : IsLive state q = from_root handle q (subst (λ r. Contains (refs_of_root r) q) (sym plain) (Contains-get_or (q ∷ []) 0 q (omega arith))) in
+        let mine = (lives offer.root (named 0 (omega arith))).1 in
+        let a = stands_so q live in
+        let b = stands_so offer.root mine in
+        slots_tell v.sizes there kept.bounds q offer.root live mine (kept.nodes.apart (slot_of q) (slot_of offer.root) a.0 b.0 a.1 b.1 (place ∙ sym root_place))
+
+    -- ---- it stands
+
+    abbrev Left : RootWord → View → Type 0
+    Left x after =
+        IsKept v.sizes (record { words = words_then v s kept id at (root_word handle) old new; homes = s.homes; views = set s.views id after })
+        × (IsSound (words_of v.sizes) after × HasProposed v handle slot (proposed_by root x) after)
+
+    module _ (plain : root_at state handle ≡ open_with Writable (Plain offer.root)) where
+      offers : Offers v.sizes there v.actor slot o offer
+      offers = offering.offers v.sizes there kept.bounds v.actor o runs offer acts kept.roots.stood plain slot
+
+      abbrev offered : View
+      offered = offered_by v slot handle rest offer there
+
+      plain_so : is_plain (word_at state handle) offer.root ≡ true
+      plain_so = ap (λ r. is_plain (word_of r) offer.root) plain ∙ eq-eqb offer.root offer.root refl
+
+      offered_sound : IsSound (words_of v.sizes) offered
+      offered_sound =
+          let all = all_then v.sizes s kept id v at o runs slot offer offers rest w.last drafted w.names in
+          record {
+            size = refl;
+            range = kept.range.within;
+            bounds = all.bounds;
+            keys = all.keys;
+            counted = all.counted;
+            inside = all.nodes.inside;
+            free = λ b n f. free_inside v s kept id at b n (spending.was_free v.sizes s kept id v at 1 (omega arith) slot rest w.last b n f.0 f.1).0;
+          }
+
+      offered_took : Took v there offered
+      offered_took q runs_q = offers.own ∙ ap (λ x. Some (operation_after state x)) (same_Some o q (sym runs ∙ runs_q))
+
+      tells_offered : (other : Descriptor) (q : IsAt v (act.Offer other)) (others : List ℕ) → pool_of v.pool 1 ≡ others ++ slot ∷ [] → offered ≡ offered_by v slot
+          (handle_of q.operation.call) others other there
+      tells_offered other q others pool =
+          ap (λ (x : Operation). offered_by v slot (handle_of x.call) rest offer there) (same_Some p.operation q.operation (sym p.runs ∙ q.runs))
+          ∙ ap (λ xs. offered_by v slot (handle_of q.operation.call) xs offer there) (append_cancel_right rest others (slot ∷ []) (sym w.last ∙ pool))
+          ∙ ap (λ d. offered_by v slot (handle_of q.operation.call) others d there) (same_offer v offer other p q)
+
+      tells_plain : (other : Descriptor) (q : IsAt v (act.Offer other)) → is_plain (word_at state (handle_of q.operation.call)) other.root ≡ true
+      tells_plain other q =
+          subst (λ (d : Descriptor). is_plain (word_at state (handle_of q.operation.call)) d.root ≡ true) (same_offer v offer other p q)
+          (subst (λ (x : Operation). is_plain (word_at state (handle_of x.call)) offer.root ≡ true) (same_Some p.operation q.operation (sym p.runs ∙ q.runs)) plain_so)
+
+      stands : (other : ℕ) → other ≡ root → found ≡ old → (after : View) × Left (word.Writable other) after
+      stands other is e = (
+        offered,
+        (
+          subst (λ ws. IsKept v.sizes (record { words = ws; homes = s.homes; views = set s.views id offered })) (words_hit v s kept id at (root_word handle) old new e (root_word handle) refl)
+              (offer_kept v.sizes s kept id v at o runs slot offer offers rest w.last drafted w.names),
+          (
+            offered_sound,
+            subst (λ x. HasProposed v handle slot x offered) (ap (λ b. if b then Stands else Misses) (sym (eq-eqb other root is)))
+                (there, (waited_so v s kept id at, offered_took, tells_plain), tells_offered),
+          ),
+        ),
+      )
+
+    -- ---- another stands there
+
+    misses : (other : ℕ) → other ≢ root → found ≢ old → SaysPlain there Writable other (root_at state handle) → (after : View) × Left (word.Writable other) after
+    misses other differs e says =
+        let other_root : says.root ≢ offer.root = λ same_ref. differs (says.place ∙ ap (place_of there) same_ref ∙ root_place) in
+        let another : is_plain (word_at state handle) offer.root ≡ false = ap (λ r. is_plain (word_of r) offer.root) says.is ∙ ne_eqb says.root offer.root other_root in
+        let after = dropped v offer p s kept id at another in (
+          after,
+          (
+            subst (λ ws. IsKept v.sizes (record { words = ws; homes = s.homes; views = set s.views id after })) (words_miss v s kept id at (root_word handle) old new e)
+                (dropped_kept v offer p s kept id at another),
+            (
+              dropped_sound v offer p s kept id at another,
+              subst (λ x. HasProposed v handle slot x after) (ap (λ b. if b then Stands else Misses) (sym (ne_eqb other root differs))) (has_missed v offer p s kept id at another),
+            ),
+          ),
+        )
+
+    -- ---- what is no root
+
+    meets : (x : RootWord) → IsRootWord x → found ≡ root_code x → found ≢ old → proposed_by root x ≡ Meets x → (after : View) × Left x after
+    meets x fits e differs is = (
+      seen v there,
+      (
+        subst (λ ws. IsKept v.sizes (record { words = ws; homes = s.homes; views = set s.views id (seen v there) })) (words_miss v s kept id at (root_word handle) old new differs)
+            (seen_kept v s kept id at),
+        (
+          (waited_so v s kept id at).sound,
+          subst (λ y. HasProposed v handle slot y (seen v there)) (sym is)
+              (subst (λ y. HasSeenRoot v handle y (seen v there)) (ap root_of e ∙ root_back x fits) (root_told v handle found (seen v there) low (record { table = s; kept = kept; id = id; at = at; finds = refl }, refl))),
+        ),
+      ),
+    )
+
+    -- ---- either
+
+    -- the root's place is in range
+    small_root : root < 2 ^ 27
+    small_root =
+        let mine = (lives offer.root (named 0 (omega arith))).1 in
+        let used = live_in_use v.sizes there kept.bounds offer.root mine in
+        let inside = kept.nodes.inside (slot_of offer.root) used.0 used.1 in
+        let some = two_words (class_of used.0.node) (class_small used.0.node) in
+        let range = kept.range.within in
+        omega (arith, inside, some, range, root_place)
+
+    not_old : (x : RootWord) → IsRootWord x → found ≡ root_code x → kind x ≢ 1 → found ≢ old
+    not_old x fits e differs is = differs (same_kind x (word.Writable root) fits small_root (sym e ∙ is))
+
+    by_word : (x : RootWord) → IsRootWord x → found ≡ root_code x → SaysRoot there s.words handle x (root_at state handle) → (after : View) × Left x after
+    by_word (word.Writable other) fits e says = elim (cases_eq other root) [
+      | inl is ↦
+          let mine = same_root says.root says.is (sym says.place ∙ is) in
+          stands (says.is ∙ ap (λ q. open_with Writable (Plain q)) mine) other is (e ∙ ap (λ n. root_code (word.Writable n)) is)
+      | inr differs ↦ misses other differs (λ is. let sum = sym e ∙ is in differs (omega (arith, sum))) says
+    ]
+    by_word word.Closed fits e says = meets word.Closed fits e (not_old word.Closed fits e (λ x. omega (arith, x))) refl
+    by_word (word.ReadOnly other) fits e says = meets (word.ReadOnly other) fits e (not_old (word.ReadOnly other) fits e (λ x. omega (arith, x))) refl
+    by_word (word.Offered other) fits e says = meets (word.Offered other) fits e (not_old (word.Offered other) fits e (λ x. omega (arith, x))) refl
+    by_word (word.Opening other) fits e says = meets (word.Opening other) fits e (not_old (word.Opening other) fits e (λ x. omega (arith, x))) refl
+    by_word word.Reserved fits e says = meets word.Reserved fits e (not_old word.Reserved fits e (λ x. omega (arith, x))) refl
+    by_word (word.ClosingWritable other seat) fits e says =
+        meets (word.ClosingWritable other seat) fits e (not_old (word.ClosingWritable other seat) fits e (λ x. omega (arith, x))) refl
+    by_word (word.ClosingReadOnly other seat) fits e says =
+        meets (word.ClosingReadOnly other seat) fits e (not_old (word.ClosingReadOnly other seat) fits e (λ x. omega (arith, x))) refl
+
+    pub leaves : (after : View) × Left (root_of found) after
+    leaves =
+        let means = kept.roots.means handle low in
+        subst (λ x. (after : View) × Left x after) (sym (ap root_of means.code ∙ root_back means.what means.fits)) (by_word means.what means.fits means.code means.says)
+
+abbrev pub AllowsOffer : Sizes → ℕ → ℕ → Me Call View → ℕ → ℕ → ℕ → Type 0
+AllowsOffer sizes size id me word old new = Allows (IsKept sizes) size id me word (λ n. either (n == old) new n) (has_proposed (step size word old new none) me)
+
+-- what is asked names but one handle, root and slot
+told_so : (v : View) (handle root slot found : ℕ) (after : View) → IsToOffer v handle root slot → HasProposed v handle slot (proposed_by root (root_of found)) after → (h r n : ℕ) → IsToOffer v h r n →
+    HasProposed v h n (proposed_by r (root_of found)) after
+told_so v handle root slot found after (offer, rest, p, w, on) told h r n (other, others, q, x, also) =
+    let same_d = same_offer v offer other p q in
+    let same_o = same_Some p.operation q.operation (sym p.runs ∙ q.runs) in
+    let same_handle : handle ≡ h = sym on ∙ ap (λ (y : Operation). handle_of y.call) same_o ∙ also in
+    let same_root : root ≡ r = sym w.place ∙ ap (λ (d : Descriptor). place_of v.account d.root) same_d ∙ x.place in
+    let same_slot : slot ≡ n = last_of rest others slot n (sym w.last ∙ x.last) in
+    subst (λ y. HasProposed v y n (proposed_by r (root_of found)) after) same_handle
+    (subst (λ y. HasProposed v handle n (proposed_by y (root_of found)) after) same_root (subst (λ y. HasProposed v handle y (proposed_by root (root_of found)) after) same_slot told))
+
+pub offer_allowed : (sizes : Sizes) (size id : ℕ) (me : Me Call View) (named root slot : ℕ) → IsToOffer me.0 named root slot →
+    AllowsOffer sizes size id me (root_word named) (root_code (word.Writable root)) (root_code (word.Offered slot))
+offer_allowed sizes size id me named root slot (offer, rest, p, w, on) =
+    subst (λ h. AllowsOffer sizes size id me (root_word h) (root_code (word.Writable root)) (root_code (word.Offered slot))) on
+    (allowed sizes size id me (root_word (handle_of p.operation.call)) (λ n. either (n == root_code (word.Writable root)) (root_code (word.Offered slot)) n)
+    (has_proposed (step size (root_word (handle_of p.operation.call)) (root_code (word.Writable root)) (root_code (word.Offered slot)) none) me)
+    (λ s kept at. (let x = leaves me.0 root slot offer rest p w s kept id at in (
+      x.0,
+      x.1.0,
+      (
+        told_so me.0 (handle_of p.operation.call) root slot (slice_index s.words (root_word (handle_of p.operation.call))) x.0 (offer, rest, p, w, refl) x.1.1.1,
+        x.1.1.0,
+        refl,
+      ),
+    ))))
+
+-- both slots are in range
+pub offer_fits : (words : ℕ) (v : View) (named root slot : ℕ) → IsSound words v → IsToOffer v named root slot → (root < 2 ^ 27) × (slot < 2 ^ 27)
+offer_fits words v named root slot sound (offer, rest, p, w, on) =
+    let first = Contains-get_or (refs_of_offer offer) 0 offer.root (omega arith) in
+    let live = from_operation v.actor p.operation offer.root p.runs tt (held v root slot offer rest p w offer.root first) in
+    let inside = (both_inside words v sound offer.root root live w.place).0 in
+    let free = sound.free 1 slot (omega arith, subst (λ xs. Contains xs slot) (sym w.last) (Contains-push rest slot)) in
+    let size = sound.size in
+    let range = sound.range in
+    (omega (arith, inside, size, range), omega (arith, free, range))

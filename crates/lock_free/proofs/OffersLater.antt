@@ -1,0 +1,46 @@
+-- What a seat knows of offers and of roots that stood stays so.
+use Rattle.std.proofs.Common.{◌≡◌, ◌*◌, ◌+◌, ◌≤◌, ℕ, Contains, refl, sym, ap, subst, ◌∙◌}
+use Rattle.machine_model.specs.Beneath.slot_arena.specs.declared.refs.Ref.{Ref}
+use Rattle.machine_model.specs.Beneath.slot_arena.specs.declared.nodes.Node.TheVariants.{Indirection}
+use Rattle.machine_model.specs.Beneath.slot_arena.specs.Heaps.{with_main_word}
+use Rattle.lock_free.specs.declared.accounts.Known.{Known}
+use Rattle.lock_free.specs.declared.rules.View.{View}
+use Rattle.lock_free.specs.declared.sizes.Sizes.{Sizes}
+use Rattle.lock_free.specs.Accounts.{WasReached}
+use Rattle.lock_free.specs.Fates.{HasSettled}
+use Rattle.lock_free.specs.HandleWords.{HasOffer}
+use Rattle.lock_free.specs.Passing.{Later}
+use Rattle.lock_free.specs.Places.{words_in, words_of}
+use Rattle.lock_free.specs.Rooting.{IsSettledAt}
+use Rattle.lock_free.specs.RootWords.{IsRootAt}
+use Rattle.lock_free.proofs.Fates.{settled_still}
+use Rattle.lock_free.proofs.OneStep.Roots.{reached_still}
+
+module _ (v w : View) (l : Later v w) where
+  pub sizes_same : w.sizes ≡ v.sizes
+  sizes_same = ap (λ (x : View). x.sizes) l.is
+
+  abbrev pub offer_later : (handle slot : ℕ) → HasOffer v.sizes v.account handle slot → HasOffer w.sizes w.account handle slot
+  offer_later handle slot h = record {
+    its = h.its;
+    here = l.offers h.its h.here;
+    place = h.place;
+    on = h.on;
+    inside = subst (λ z. 2 * slot + words_in 1 ≤ words_of z) (sym sizes_same) h.inside;
+  }
+
+  pub settled_later : (k : Known) (n : ℕ) → HasSettled v.sizes v.account k n → HasSettled w.sizes w.account k n
+  settled_later k n h = subst (λ z. HasSettled z w.account k n) (sym sizes_same) (settled_still v.sizes v.account w.account l.goes_on.0 l.goes_on.1 k n h)
+
+  pub root_later : (r : Ref) (name : ℕ) → IsRootAt v r name → IsRootAt w r name
+  root_later r name h =
+      let x = l.nodes r h.slot h.used in
+      record {
+        place = l.places r h.slot h.used ∙ h.place;
+        slot = x.0;
+        used = x.1;
+        generation = h.generation;
+        main = x.2.0;
+        is_link = x.2.1 ∙ ap (with_main_word x.2.0) h.is_link;
+        reached = subst (λ z. WasReached z w.account r) (sym sizes_same) (reached_still v.sizes v.account w.account l.goes_on.0 l.goes_on.1 r h.reached);
+      }

@@ -1,0 +1,141 @@
+-- The load by which the root of a handle is asked for is the operation's step, where the word names the root.
+use Rattle.history.specs.declared.calls.Call.{Call}
+use Rattle.std.proofs.Common.{◌≡◌, ◌<◌, ◌++◌, ◌∷◌, [], ℕ, List, Contains, set, slice_index, Some, None, refl, sym, ap, subst, ◌∙◌, arith}
+use Rattle.std.proofs.lemmas.List.{set-get_or}
+use Rattle.std.proofs.lemmas.List.Elements.{Contains-get_or}
+use mathlib.Core.Option.{some, none}
+use lib.ListN.{get_elem?}
+use Rattle.atomic_table.specs.Table.{Me, Allows, step}
+use Rattle.atomic_table.specs.Table as Table
+use Rattle.trie_words.specs.Codes.{root_of}
+use Rattle.trie_words.specs.declared.roots.RootWord.{RootWord as HandleWord}
+use Rattle.trie_words.specs.declared.roots.RootWord.TheVariants as word
+use Rattle.history.specs.declared.calls.Access.{Access}
+use Rattle.history.specs.declared.calls.Access.TheVariants.{Writable, ReadOnly}
+use Rattle.machine_model.specs.Beneath.slot_arena.specs.declared.refs.Ref.{Ref}
+use Rattle.machine_model.specs.Beneath.slot_arena.specs.Refs.{slot_of}
+use Rattle.machine_model.specs.declared.actions.Action.TheVariants as act
+use Rattle.machine_model.specs.declared.operations.Operation.{Operation}
+use Rattle.machine_model.specs.declared.roots.RootWord.TheVariants.{Plain}
+use Rattle.machine_model.specs.declared.steps.Step.TheVariants as taken
+use Rattle.machine_model.specs.Contents as contents
+use Rattle.machine_model.specs.Counting.{refs_of_root}
+use Rattle.machine_model.specs.Operations.{action_of}
+use Rattle.machine_model.specs.States.{State, root_at}
+use Rattle.lock_free.specs.declared.accounts.Account.{Account}
+use Rattle.lock_free.specs.declared.asking.Named.{Named}
+use Rattle.lock_free.specs.declared.asking.Named.TheVariants as named
+use Rattle.lock_free.specs.declared.rules.View.{View}
+use Rattle.lock_free.specs.declared.sizes.Sizes.{Sizes}
+use Rattle.lock_free.specs.Accounts.{state_of, running, gone_on}
+use Rattle.lock_free.specs.HandleWords.{HasOffer, TellsRoot}
+use Rattle.lock_free.specs.Loading.{Moment, now, seen, HasGone, HasSeen, IsSound, SameSlots, Went}
+use Rattle.lock_free.specs.Places.{root_word, words_of}
+use Rattle.lock_free.specs.Roots.{MeansRoot, SaysRoot, SaysPlain, open_with}
+use Rattle.lock_free.specs.RootWords.{AsksAt, IsRootAt, HasFoundRoot, HasAskedRoot, LoadedAs, has_asked, named_by}
+use Rattle.lock_free.specs.Rules.{IsKept}
+use Rattle.lock_free.proofs.Definition.{IsReading}
+use Rattle.lock_free.proofs.Looking.{saw, same_slots, went}
+use Rattle.lock_free.proofs.Moments.{allowed, seen_view, seen_kept, waited_so, gone_view, gone_kept, gone_sound, gone_took}
+use Rattle.lock_free.proofs.OneStep.Roots.{root_is_link}
+use Rattle.lock_free.proofs.RootCodes.{root_back}
+use Rattle.lock_free.proofs.SeenRoots.{root_told}
+
+module _ (v : View) (handle : ℕ) (asks : AsksAt v handle) (s : Table.State Call View) (kept : IsKept v.sizes s) (id : ℕ) (at : get_elem? s.views id ≡ some v) where
+  abbrev found : ℕ
+  found = slice_index s.words (root_word handle)
+
+  abbrev o : Operation
+  o = asks.acts.operation
+
+  reading : IsReading (action_of (now v) o)
+  reading = subst IsReading (sym asks.acts.acts) tt
+
+  abbrev Asks : Named → View → Type 0
+  Asks n w = IsKept v.sizes (record { words = s.words; homes = s.homes; views = set s.views id w }) × LoadedAs n v (root_word handle) found w × IsSound (words_of v.sizes) w
+
+  saw_it : IsKept v.sizes (record { words = s.words; homes = s.homes; views = set s.views id (seen_view v s kept id at) }) × HasSeen v (root_word handle) found (seen_view v s kept id at)
+      × IsSound (words_of v.sizes) (seen_view v s kept id at)
+  saw_it = (seen_kept v s kept id at, (record { table = s; kept = kept; id = id; at = at; finds = refl }, refl), (waited_so v s kept id at).sound)
+
+  pub asks_as : (n : Named) → (w : View) × Asks n w
+  asks_as (named.Root slot) = (
+    gone_view v s kept id at o asks.acts.runs reading,
+    (
+      gone_kept v s kept id at o asks.acts.runs reading,
+      (record { table = s; kept = kept; id = id; at = at; finds = refl }, refl, gone_took v s kept id at o asks.acts.runs reading),
+      gone_sound v s kept id at o asks.acts.runs reading,
+    ),
+  )
+  asks_as (named.Offer slot) = (seen_view v s kept id at, saw_it)
+  asks_as named.Nothing = (seen_view v s kept id at, saw_it)
+
+pub ask_allowed : (sizes : Sizes) (size id : ℕ) (me : Me Call View) (handle : ℕ) → AsksAt me.0 handle →
+    Allows (IsKept sizes) size id me (root_word handle) (λ n. n) (has_asked (step size (root_word handle) 0 0 none) me)
+ask_allowed sizes size id me handle asks =
+    allowed sizes size id me (root_word handle) (λ n. n) (has_asked (step size (root_word handle) 0 0 none) me)
+    (λ s kept at. (let x = asks_as me.0 handle asks s kept id at (named_by (root_of (slice_index s.words (root_word handle)))) in (
+      x.0,
+      subst (λ ws. IsKept me.0.sizes (record { words = ws; homes = s.homes; views = set s.views id x.0 })) (sym (set-get_or s.words (root_word handle) 0)) x.1.0,
+      (x.1.1, x.1.2, refl),
+    )))
+
+-- ---- what the seat is told
+
+module _ (before : View) (handle : ℕ) (low : handle < 256) (asks : AsksAt before handle) (found : ℕ) (after : View) where
+  module _ (g : HasGone before (root_word handle) found after) where
+    abbrev account : Account
+    account = g.0.kept.account
+
+    abbrev state : State
+    state = state_of before.sizes account
+
+    abbrev means : MeansRoot account g.0.table.words handle (slice_index g.0.table.words (root_word handle)) (root_at state handle)
+    means = g.0.kept.roots.means handle low
+
+    what_is : root_of found ≡ means.what
+    what_is = ap root_of (sym g.0.finds ∙ means.code) ∙ root_back means.what means.fits
+
+    said : (w : HandleWord) → root_of found ≡ w → SaysRoot account g.0.table.words handle w (root_at state handle)
+    said w e = subst (λ x. SaysRoot account g.0.table.words handle x (root_at state handle)) (sym what_is ∙ e) means.says
+
+    root_found : (access : Access) (slot : ℕ) → SaysPlain account access slot (root_at state handle) → HasFoundRoot before handle slot after
+    root_found access slot h =
+        let link = root_is_link before.sizes account g.0.kept.bounds handle access h.root h.is in
+        let same = same_slots before slot (root_word handle) found after g act.ReadRoot tt asks.acts in
+        let there : IsRootAt (seen before (gone_on before.actor account)) h.root slot = record {
+          place = sym h.place;
+          slot = link.0;
+          used = subst (λ (x : View). SameSlots state (now x)) g.1 same (slot_of h.root) ∙ link.3;
+          generation = link.1;
+          main = link.2;
+          is_link = link.4;
+          reached = record {
+            steps = account.steps;
+            more = taken.Go before.actor ∷ [];
+            goes_on = refl;
+            reached = contents.from_root handle h.root (subst (λ r. Contains (refs_of_root r) h.root) (sym h.is) (Contains-get_or (h.root ∷ []) 0 h.root (omega arith)));
+          };
+        } in
+        record {
+          went = went before slot (root_word handle) found after g;
+          access = access;
+          root = h.root;
+          is = h.is;
+          same = same;
+          at = subst (λ x. IsRootAt x h.root slot) (sym g.1) there;
+        }
+
+  told_by : (w : HandleWord) → root_of found ≡ w → LoadedAs (named_by w) before (root_word handle) found after → HasAskedRoot before handle (named_by w) after
+  told_by (word.Writable slot) e g = root_found g Writable slot (said g (word.Writable slot) e)
+  told_by (word.ReadOnly slot) e g = root_found g ReadOnly slot (said g (word.ReadOnly slot) e)
+  told_by (word.ClosingWritable slot seat) e g = root_found g Writable slot (said g (word.ClosingWritable slot seat) e)
+  told_by (word.ClosingReadOnly slot seat) e g = root_found g ReadOnly slot (said g (word.ClosingReadOnly slot seat) e)
+  told_by (word.Offered slot) e h =
+      let x = root_told before handle found after low h in (x.0, subst (λ w. TellsRoot before.sizes x.0.account handle w) e x.2)
+  told_by (word.Opening slot) e h = saw before 0 (root_word handle) found after h
+  told_by word.Closed e h = saw before 0 (root_word handle) found after h
+  told_by word.Reserved e h = saw before 0 (root_word handle) found after h
+
+  pub ask_told : LoadedAs (named_by (root_of found)) before (root_word handle) found after → HasAskedRoot before handle (named_by (root_of found)) after
+  ask_told h = told_by (root_of found) refl h

@@ -1,0 +1,27 @@
+use Rattle.std.proofs.Common.{refl, ◌∙◌, ap, sym, subst}
+use Rattle.lock_free.proofs.Beginners.{Waits, waits_first, waits_more}
+use Rattle.lock_free.proofs.calling.begin.Goals as goal
+
+pub loop-init : goal.loop-init
+loop-init g c = (tt, tt, refl, waits_first c.args.words.now.table_id.words c.args.call.now c.args.actor.now.me.0 c.requires.sound c.requires.beginner)
+
+pub try_begin-requires-clause-table : goal.try_begin-requires-clause-table
+try_begin-requires-clause-table g c = c.loop.invariant.2 ∙ c.requires.table
+
+pub try_begin-requires-clause-sound : goal.try_begin-requires-clause-sound
+try_begin-requires-clause-sound g c = c.loop.invariant.3.sound
+
+pub try_begin-requires-clause-beginner : goal.try_begin-requires-clause-beginner
+try_begin-requires-clause-beginner g c = c.loop.invariant.3.beginner
+
+pub loop-preserved : goal.loop-preserved
+loop-preserved g c =
+    let words = c.args.words.now.table_id.words in
+    let call = c.args.call.now in
+    let before = c.args.actor.now.me.0 in (
+      tt,
+      tt,
+      c.unmark.ensures.table ∙ c.try_begin.ensures.table ∙ c.loop.invariant.2,
+      subst (λ me. Waits words call before me.0) (sym c.unmark.ensures.same)
+          (waits_more words call before c.loop.actor.me.0 c.try_begin.new.actor.me.0 c.loop.invariant.3 c.try_begin.ensures.sound (c.in-Err.ensures {u = tt}).tried.0.0),
+    )

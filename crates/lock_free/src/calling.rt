@@ -1,0 +1,142 @@
+//! Operations begin, and give up.
+
+ghost use Rattle.std.specs.Prelude.{◌≡◌, ◌<◌, ◌^◌};
+ghost use Rattle.machine_model.specs.Calls.{handle_of, key_of, needs_read_only, needs_writable};
+ghost use Rattle.lock_free.specs.Calling.{started_by, HasGivenUp, HasStarted, HasTriedToStart, IsBeginner, MayGiveUp};
+ghost use Rattle.lock_free.specs.Loading.{IsSound};
+
+use crate::handles::{root_word_of, unmark};
+use crate::loads::{Actor, Words};
+use crate::rules::{Abandons, Starts};
+use history::Call;
+use std::sync::Wait;
+use trie_words::RootWord;
+
+/// The epoch stands in this word.
+const EPOCH: usize = 0;
+
+/// Why a call doesn't begin.
+#[derive(Clone, Copy, Debug, PartialEq, Eq, Drop)]
+pub enum Denial {
+    /// Its handle isn't open.
+    NoHandle,
+    /// It needs a handle that may be written, and its own is for readers.
+    ReadOnly,
+    /// It needs a handle for readers, and its own may be written.
+    NotReadOnly,
+}
+
+/// What comes of a begin.
+#[derive(Clone, Copy, Debug, PartialEq, Eq, Drop)]
+pub enum Started {
+    /// The operation runs, and nobody closes its handle until it ends. This is what the handle's word says.
+    Runs(RootWord),
+    /// It doesn't.
+    Denied(Denial),
+    /// It doesn't, since the handle's word names the offer in this slot, which has opened it, or is to.
+    Opening(u32),
+}
+
+/// Whether the call needs a handle that may be written.
+fn needs_writable(call: &Call) -> bool
+    ensures { result ≡ needs_writable call.now }
+{
+    !matches!(
+        call,
+        Call::Get { .. } | Call::Close { .. } | Call::Entries { .. } | Call::Count { .. }
+    )
+}
+
+/// Whether it needs one for readers.
+fn needs_read_only(call: &Call) -> bool
+    ensures { result ≡ needs_read_only call.now }
+{
+    matches!(call, Call::Entries { .. } | Call::Count { .. })
+}
+
+/// The key of a call on one key.
+fn key_of(call: Call) -> u64
+    ensures { result ≡ key_of call }
+{
+    match call {
+        Call::Get { key, .. }
+        | Call::Put { key, .. }
+        | Call::PutIfAbsent { key, .. }
+        | Call::Replace { key, .. }
+        | Call::ReplaceIf { key, .. }
+        | Call::Remove { key, .. }
+        | Call::RemoveIf { key, .. } => key,
+        _ => 0,
+    }
+}
+
+/// A law: the key of a call has 64 bits, since it is one of the program's. It does nothing.
+#[inline(always)]
+fn key_fits(call: Call)
+    ensures { key_of call < 2 ^ 64 }
+{
+    let _ = key_of(call);
+}
+
+/// What comes of the begin of this call where its handle has this word.
+fn started_by(word: RootWord, call: &Call) -> Result<Started, RootWord>
+    ensures { result ≡ started_by word call.now }
+{
+    match word {
+        RootWord::Closed | RootWord::Reserved => Ok(Started::Denied(Denial::NoHandle)),
+        RootWord::Opening(slot) => Ok(Started::Opening(slot)),
+        RootWord::ClosingWritable { .. } | RootWord::ClosingReadOnly { .. } => Err(word),
+        RootWord::ReadOnly(_) if needs_writable(call) => Ok(Started::Denied(Denial::ReadOnly)),
+        RootWord::ReadOnly(_) => Ok(Started::Runs(word)),
+        _ if needs_read_only(call) => Ok(Started::Denied(Denial::NotReadOnly)),
+        _ => Ok(Started::Runs(word)),
+    }
+}
+
+/// Begins the operation of this call, for which the seat has pinned itself, if its handle is open for it. A call that opens a handle
+/// has reserved its number before. An `Err` has the word by which a seat would close the handle: nothing has begun.
+pub fn try_begin(words: &Words, actor: &mut Actor, call: &Call) -> Result<Started, RootWord>
+    requires table { actor.old.table_id ≡ words.now.table_id }
+    requires sound { IsSound words.now.table_id.words actor.old.me.0 }
+    requires low { handle_of call.now < 256 }
+    requires beginner { IsBeginner actor.old.me.0 call.now }
+    ensures table { actor.new.table_id ≡ actor.old.table_id }
+    ensures sound { IsSound words.now.table_id.words actor.new.me.0 }
+    ensures tried { HasTriedToStart actor.old.me.0 call.now result actor.new.me.0 }
+{
+    key_fits(*call);
+    let found = words.load::<Starts>(actor, root_word_of(call.handle()));
+    started_by(RootWord::of_word(found), call)
+}
+
+/// The same, once nobody would close the handle: the marks that it meets are taken away, and who made them finds the handle busy.
+pub fn begin<R: Wait>(rt: &R, words: &Words, actor: &mut Actor, call: &Call) -> Started
+    requires table { actor.old.table_id ≡ words.now.table_id }
+    requires sound { IsSound words.now.table_id.words actor.old.me.0 }
+    requires low { handle_of call.now < 256 }
+    requires beginner { IsBeginner actor.old.me.0 call.now }
+    ensures table { actor.new.table_id ≡ actor.old.table_id }
+    ensures sound { IsSound words.now.table_id.words actor.new.me.0 }
+    ensures started { HasStarted actor.old.me.0 call.now result actor.new.me.0 }
+{
+    for _ in rt.forever() {
+        match try_begin(words, actor, call) {
+            Ok(started) => return started,
+            Err(marked) => unmark(words, actor, call.handle(), marked),
+        }
+    }
+    unreachable!()
+}
+
+/// Lets the operation of this seat give up, where nothing of its own is published and pending: from then on it is to end, as one that
+/// found no free slot, or, in a climb, with the answer that it has already. What it made is free for the seat again.
+pub fn give_up(words: &Words, actor: &mut Actor)
+    requires table { actor.old.table_id ≡ words.now.table_id }
+    requires sound { IsSound words.now.table_id.words actor.old.me.0 }
+    requires may { MayGiveUp actor.old.me.0 }
+    ensures table { actor.new.table_id ≡ actor.old.table_id }
+    ensures sound { IsSound words.now.table_id.words actor.new.me.0 }
+    ensures gave { HasGivenUp actor.old.me.0 actor.new.me.0 }
+{
+    words.load::<Abandons>(actor, EPOCH);
+}

@@ -1,0 +1,108 @@
+//! A handle is closed, as a whole.
+
+ghost use Rattle.std.specs.Prelude.{◌≡◌, ◌≢◌, ◌<◌, true, Some};
+ghost use Rattle.trie_words.specs.Codes.{IsRootWord};
+ghost use Rattle.lock_free.specs.Closing.{HasMarkedAndShut, HasPassedAll, HasShut};
+ghost use Rattle.lock_free.specs.HandleWords.{is_unmarked};
+ghost use Rattle.lock_free.specs.Loading.{IsSound};
+ghost use Rattle.lock_free.specs.SeatWords.{IsIdle, WouldClose};
+
+use crate::handles::{close, mark, once_marked, see_root, unmark};
+use crate::loads::{Actor, Words};
+use crate::pins::pass;
+use crate::sizes::Sizes;
+use trie_words::RootWord;
+
+/// What comes of closing a handle.
+#[derive(Clone, Copy, Debug, PartialEq, Eq, Drop)]
+pub enum Shut {
+    /// It is closed, by an operation of the seat's.
+    Closed,
+    /// It isn't: another seat is in a call on it, is about to begin or to open it, or would close it too.
+    Busy,
+    /// It was closed already.
+    NoHandle,
+}
+
+/// Looks at the pins of all seats, one after the other, where this one, `own`, has marked the handle. Returns whether it has found no
+/// other seat in a call on it.
+fn pass_all(words: &Words, actor: &mut Actor, sizes: &Sizes, own: u8, handle: u16) -> bool
+    requires table { actor.old.table_id ≡ words.now.table_id }
+    requires sound { IsSound words.now.table_id.words actor.old.me.0 }
+    requires sizes { actor.old.me.0.sizes ≡ sizes.now }
+    requires its { actor.old.me.0.actor ≡ own }
+    requires low { handle < 256 }
+    requires closing { WouldClose actor.old.me.0 handle 0 }
+    ensures table { actor.new.table_id ≡ actor.old.table_id }
+    ensures sound { IsSound words.now.table_id.words actor.new.me.0 }
+    ensures passed { HasPassedAll actor.old.me.0 handle result actor.new.me.0 }
+{
+    for looked in 0..sizes.seats {
+        if !pass(words, actor, own, handle, looked) {
+            return false;
+        }
+    }
+    true
+}
+
+/// Closes the handle, if its word is this one still and no other seat is in a call on it. Returns whether it was so.
+fn close_marked(
+    words: &Words,
+    actor: &mut Actor,
+    sizes: &Sizes,
+    own: u8,
+    handle: u16,
+    word: RootWord,
+) -> bool
+    requires table { actor.old.table_id ≡ words.now.table_id }
+    requires sound { IsSound words.now.table_id.words actor.old.me.0 }
+    requires sizes { actor.old.me.0.sizes ≡ sizes.now }
+    requires its { actor.old.me.0.actor ≡ own }
+    requires low { handle < 256 }
+    requires fits { IsRootWord word }
+    requires unmarked { is_unmarked word ≡ true }
+    requires outside { actor.old.me.0.entered ≢ Some handle }
+    requires idle { IsIdle actor.old.me.0 }
+    ensures table { actor.new.table_id ≡ actor.old.table_id }
+    ensures sound { IsSound words.now.table_id.words actor.new.me.0 }
+    ensures shut { HasMarkedAndShut actor.old.me.0 handle result actor.new.me.0 }
+{
+    if !mark(words, actor, handle, word, own) {
+        return false;
+    }
+    let marked = once_marked(word, own);
+    if pass_all(words, actor, sizes, own, handle)
+        && close(words, actor, handle, marked, sizes.seats)
+    {
+        return true;
+    }
+    unmark(words, actor, handle, marked);
+    false
+}
+
+/// Closes the handle, if it is open and no other seat is in a call on it. It never waits, and helps nobody: `own` is the seat's number.
+pub fn close_handle(words: &Words, actor: &mut Actor, sizes: &Sizes, own: u8, handle: u16) -> Shut
+    requires table { actor.old.table_id ≡ words.now.table_id }
+    requires sound { IsSound words.now.table_id.words actor.old.me.0 }
+    requires sizes { actor.old.me.0.sizes ≡ sizes.now }
+    requires its { actor.old.me.0.actor ≡ own }
+    requires low { handle < 256 }
+    requires outside { actor.old.me.0.entered ≢ Some handle }
+    requires idle { IsIdle actor.old.me.0 }
+    ensures table { actor.new.table_id ≡ actor.old.table_id }
+    ensures sound { IsSound words.now.table_id.words actor.new.me.0 }
+    ensures shut { HasShut actor.old.me.0 handle result actor.new.me.0 }
+{
+    let word = see_root(words, actor, handle);
+    match word {
+        RootWord::Closed | RootWord::Reserved => Shut::NoHandle,
+        RootWord::Writable(_) | RootWord::ReadOnly(_) => {
+            if close_marked(words, actor, sizes, own, handle, word) {
+                Shut::Closed
+            } else {
+                Shut::Busy
+            }
+        }
+        _ => Shut::Busy,
+    }
+}
