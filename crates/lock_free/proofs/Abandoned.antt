@@ -1,6 +1,6 @@
 -- A step by which the seat's operation gives up all that it has made, and that changes no word, keeps the rule: the slots are free for the seat.
 use Rattle.history.specs.declared.calls.Call.{Call}
-use Rattle.std.proofs.Common.{◌≡◌, ◌≢◌, ◌+◌, ◌*◌, ◌<◌, ◌≤◌, ◌⊎◌, ℕ, inl, inr, [], ◌∷◌, Contains, set, refl, sym, subst, ◌∙◌, arith}
+use Rattle.std.proofs.Common.{◌≡◌, ◌≢◌, ◌+◌, ◌*◌, ◌<◌, ◌≤◌, ◌⊎◌, ℕ, inl, inr, [], ◌∷◌, Contains, set, refl, sym, subst, ◌∙◌}
 use Rattle.std.proofs.lemmas.List.Elements.{All-cons, All-nil, All-append, Contains-append_right}
 use mathlib.Core.Option.{some}
 use lib.ListN.{get_elem?}

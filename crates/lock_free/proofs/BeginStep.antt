@@ -202,8 +202,7 @@ pub begin_step_allowed : (sizes : Sizes) (size id : ℕ) (me : Me Call View) (ca
     Allows (IsKept sizes) size id me (root_word (handle_of call)) (λ n. n) (has_started (step size (root_word (handle_of call)) 0 0 none) me)
 begin_step_allowed sizes size id me call b low key =
     allowed sizes size id me (root_word (handle_of call)) (λ n. n) (has_started (step size (root_word (handle_of call)) 0 0 none) me)
-    (λ s kept at. (let x = starts me.0 call b low key s kept id at in
-    (
+    (λ s kept at. (let x = starts me.0 call b low key s kept id at in (
       x.0,
       subst (λ ws. IsKept me.0.sizes (record { words = ws; homes = s.homes; views = set s.views id x.0 })) (sym (set-get_or s.words (root_word (handle_of call)) 0)) x.1,
       (

@@ -1,15 +1,14 @@
 -- A call begins, once the marks that it meets are taken away.
 use Rattle.history.specs.declared.calls.Call.{Call}
-use Rattle.std.proofs.Common.{◌≡◌, ℕ, refl, sym, subst, ◌∙◌}
-use Rattle.machine_model.specs.Operations.{action_of}
+use Rattle.std.proofs.Common.{ℕ, sym, subst, ◌∙◌}
 use Rattle.lock_free.specs.declared.accounts.Account.{Account}
 use Rattle.lock_free.specs.declared.calling.Started.{Started}
 use Rattle.lock_free.specs.declared.calling.Started.TheVariants as started
 use Rattle.lock_free.specs.declared.rules.View.{View}
-use Rattle.lock_free.specs.Calling.{HasBegun, HasStarted, IsBeginner}
+use Rattle.lock_free.specs.Calling.{HasStarted, IsBeginner}
 use Rattle.lock_free.specs.Loading.{seen, IsSound, Saw, Waited}
 use Rattle.lock_free.proofs.OneStep.Idle.{idle_stays}
-use Rattle.lock_free.proofs.Waiting.{waited_both, waited_none}
+use Rattle.lock_free.proofs.Waiting.{waited_both}
 
 -- ---- others' steps, and then more of them
 

@@ -1,10 +1,8 @@
 -- A settled offer is ready to be taken out of the word of its handle, once the root that it leaves was seen.
-use Rattle.std.proofs.Common.{◌≡◌, ℕ, true, false, Contains, sym, ap, subst}
+use Rattle.std.proofs.Common.{ℕ, true, false, sym, subst}
 use Rattle.trie_words.specs.declared.entries.Pair.{Pair}
-use Rattle.lock_free.specs.declared.accounts.Known.{Known}
 use Rattle.lock_free.specs.declared.rules.View.{View}
-use Rattle.lock_free.specs.HandleWords.{HasOffer}
-use Rattle.lock_free.specs.Loading.{seen, IsSound, Saw}
+use Rattle.lock_free.specs.Loading.{IsSound}
 use Rattle.lock_free.specs.Passing.{IsPlaced, Later}
 use Rattle.lock_free.specs.Rooting.{IsSettledAt}
 use Rattle.lock_free.specs.Roots.{carried_out, taken_back}

@@ -1,16 +1,13 @@
 -- COMPLETE, from its first line to what comes after it.
-use Rattle.std.proofs.Common.{◌≡◌, ◌≢◌, ◌==◌, ℕ, Bool, true, false, inl, inr, Contains, Option, Some, None, refl, sym, ap, subst, ◌∙◌, eq-eqb, ne_eqb}
-use Rattle.std.proofs.lemmas.Bool.{cases_eq}
+use Rattle.std.proofs.Common.{◌≡◌, ◌==◌, ℕ, Bool, inl, Contains, Some, None, sym, ap, subst, ◌∙◌}
 use Rattle.std.proofs.lemmas.List.Elements.{Contains-append_left}
 use Rattle.machine_model.specs.Beneath.slot_arena.specs.declared.refs.Ref.{Ref}
 use Rattle.machine_model.specs.declared.actions.Action.TheVariants as act
-use Rattle.machine_model.specs.declared.reading.After.TheVariants.{Goes, Gives}
+use Rattle.machine_model.specs.declared.reading.After.TheVariants.{Gives}
 use Rattle.machine_model.specs.declared.reading.ReadLine.TheVariants as read
 use Rattle.machine_model.specs.declared.roots.CompleteLine.TheVariants as complete
 use Rattle.machine_model.specs.declared.operations.Operation.{Operation}
 use Rattle.machine_model.specs.Calls.{handle_of}
-use Rattle.machine_model.specs.Operations.{action_of, line_action}
-use Rattle.machine_model.specs.States.{State}
 use Rattle.machine_model.specs.Swapping.{completing}
 use Rattle.trie_words.specs.declared.entries.Pair.{Pair}
 use Rattle.lock_free.specs.declared.accounts.Known.{Known}
@@ -18,10 +15,10 @@ use Rattle.lock_free.specs.declared.reading.Given.{Given}
 use Rattle.lock_free.specs.declared.reading.Passed.TheVariants as passed
 use Rattle.lock_free.specs.declared.reading.Way.{Way}
 use Rattle.lock_free.specs.declared.rules.View.{View}
-use Rattle.lock_free.specs.Accounts.{place_of, running}
+use Rattle.lock_free.specs.Accounts.{place_of}
 use Rattle.lock_free.specs.HandleWords.{HasOffer}
 use Rattle.lock_free.specs.Live.{refs_of_claims, line_claims}
-use Rattle.lock_free.specs.Loading.{now, seen, Holds, IsAt, IsSound, Runs, Saw}
+use Rattle.lock_free.specs.Loading.{now, Holds, IsAt, IsSound, Runs, Saw}
 use Rattle.lock_free.specs.OfferWords.{HasCompleted, IsAtComplete}
 use Rattle.lock_free.specs.OfReads.{read_to}
 use Rattle.lock_free.specs.Passing.{HasCome, HasGiven, HasPassed, IsOnWay, IsPassing, IsPlaced, IsReading, Later}

@@ -1,7 +1,5 @@
 -- COPY reads the main node of its root, and completes its offer by the one that its root has then.
-use Rattle.std.proofs.Common.{◌≡◌, ◌*◌, ◌<◌, ◌==◌, ◌||◌, ℕ, Bool, true, false, Contains, Some, None, refl, sym, ap, subst, ◌∙◌, if◌then◌else◌}
-use Rattle.std.proofs.lemmas.Option.{same_Some}
-use Rattle.history.specs.declared.calls.Call.{Call}
+use Rattle.std.proofs.Common.{◌≡◌, ◌==◌, ◌||◌, ℕ, Bool, None, refl, sym, ap, subst, ◌∙◌, if◌then◌else◌}
 use Rattle.machine_model.specs.Beneath.slot_arena.specs.declared.refs.Ref.{Ref}
 use Rattle.machine_model.specs.Beneath.slot_arena.specs.Heaps.{no_ref}
 use Rattle.machine_model.specs.declared.actions.Action.TheVariants as act
@@ -19,7 +17,7 @@ use Rattle.machine_model.specs.Calls.{handle_of}
 use Rattle.machine_model.specs.Copying.{after_given, copied_reply}
 use Rattle.machine_model.specs.Lines.{new_try}
 use Rattle.machine_model.specs.Machine.{AreBounds}
-use Rattle.machine_model.specs.Operations.{action_of, read_of}
+use Rattle.machine_model.specs.Operations.{read_of}
 use Rattle.machine_model.specs.Reading.{reading}
 use Rattle.machine_model.specs.States.{State, word_at}
 use Rattle.machine_model.specs.Swapping.{completing, is_carried_out}

@@ -1,5 +1,5 @@
 -- A load of the word of a root that stood once tells its generation.
-use Rattle.std.proofs.Common.{◌≡◌, ◌+◌, ◌*◌, ◌<◌, ◌≤◌, ◌^◌, ◌++◌, ◌∷◌, [], ℕ, true, Bool, Contains, slice_index, get_or, Some, None, refl, sym, ap, subst, ◌∙◌, arith}
+use Rattle.std.proofs.Common.{◌≡◌, ◌*◌, ◌<◌, ◌^◌, ◌∷◌, [], ℕ, Bool, Contains, slice_index, get_or, Some, None, sym, ap, subst, ◌∙◌, arith}
 use Rattle.std.proofs.lemmas.Option.{same_Some}
 use Rattle.std.proofs.lemmas.List.Elements.{Contains-get_or}
 use Rattle.trie_words.specs.Codes.{link_of, link_code, IsLink}
@@ -11,13 +11,11 @@ use Rattle.machine_model.specs.Beneath.slot_arena.specs.declared.nodes.Slot.{Slo
 use Rattle.machine_model.specs.Beneath.slot_arena.specs.Heaps.{generation_at, generation_of, with_main_word, refs_of_node}
 use Rattle.machine_model.specs.Beneath.slot_arena.specs.Refs.{slot_of}
 use Rattle.machine_model.specs.States.{State}
-use Rattle.proof_memory.specs.Laws.{IsInUse}
 use Rattle.lock_free.specs.declared.accounts.Account.{Account}
 use Rattle.lock_free.specs.declared.rules.View.{View}
 use Rattle.lock_free.specs.Accounts.{state_of, place_of, WasReached, OwnIs}
-use Rattle.lock_free.specs.Loading.{Moment, now, seen, IsSound, IsUsed, HasSeen}
+use Rattle.lock_free.specs.Loading.{Moment, now, IsSound, HasSeen}
 use Rattle.lock_free.specs.Nodes.{StandsAs, InTable, class_of}
-use Rattle.lock_free.specs.Places.{words_in, words_of}
 use Rattle.lock_free.specs.RootWords.{IsRootAt, HasSeenGeneration}
 use Rattle.lock_free.proofs.Asked.{nodes_stay}
 use Rattle.lock_free.proofs.Framing.{class_small}

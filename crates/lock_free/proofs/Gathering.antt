@@ -14,6 +14,7 @@ use Rattle.lock_free.specs.declared.sizes.Sizes.{Sizes}
 use Rattle.lock_free.specs.Accounts.{bounds_for}
 use Rattle.lock_free.specs.Finishing.{IsTold, Knows, no_view}
 use Rattle.lock_free.specs.Rules.{IsKept}
+use Rattle.lock_free.proofs.Answered.{answers_go_on}
 use Rattle.lock_free.proofs.Hearing.{knows_trans}
 use Rattle.lock_free.proofs.HistoriesOn.{histories_go_on}
 
@@ -41,6 +42,7 @@ module _ (law : EveryOrderIsLegal) (sizes : Sizes) (s : Table.State Call View) (
     account = kept.account;
     explained = law (bounds_for sizes kept.account.steps) kept.account.steps kept.bounds kept.keys;
     told = λ k d low. histories_go_on sizes (get_or views k d).account kept.account (bounds_of (get_or views k d).account) (known k d low);
+    answers = λ k d low. answers_go_on (get_or views k d).actor sizes (get_or views k d).account kept.account (bounds_of (get_or views k d).account) (known k d low);
   }
 
   pub told_to : (id : ℕ) (v : View) → get_elem? s.views id ≡ some v → (views : List View) → All (λ w. Knows v w) views → IsTold sizes views

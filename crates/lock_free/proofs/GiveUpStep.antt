@@ -63,8 +63,11 @@ module _ (v : View) (operation : Operation) (answer : Reply) (runs : Runs v oper
         account = there;
         waited = waits;
         after_is = ap (λ (x : Operation). once_given_up v there x.private) (sym same);
-        runs = (stays.0, leads.own ∙ ap (λ (x : Operation). Some (gave_up (record x { is_marked = stays.0 }) answer)) (sym same)
-            ∙ ap (λ a. Some (gave_up (record other { is_marked = stays.0 }) a)) answers);
+        runs = (
+          stays.0,
+          leads.own ∙ ap (λ (x : Operation). Some (gave_up (record x { is_marked = stays.0 }) answer)) (sym same)
+              ∙ ap (λ a. Some (gave_up (record other { is_marked = stays.0 }) a)) answers,
+        );
       }
 
 pub give_up_allowed : (sizes : Sizes) (size id : ℕ) (me : Me Call View) → MayGiveUp me.0 → Allows (IsKept sizes) size id me epoch_word (λ n. n) (has_given_up (step size epoch_word 0 0 none) me)

@@ -111,3 +111,5 @@ mod SameSteps
 mod HistoriesOn
 mod Hearing
 mod Gathering
+mod Talks
+mod Answered

@@ -90,16 +90,16 @@ name_allowed sizes size id me number slot low n fits =
     (λ s kept at. (
       naming me.0 slot,
       (let is = (waited_so me.0 s kept id at).stays (record n.operation { is_marked = n.runs.0 }) n.runs.1 in
-      let o = record n.operation { is_marked = is.0 } in
-      let same : (p : Operation) → running me.0.sizes kept.account me.0.actor p → p ≡ o = λ p runs. same_Some p o (sym runs ∙ is.1) in
-      let reserves : Reserves (state_of me.0.sizes kept.account) me.0 number = (
-        n.reserved,
-        λ p runs. ap (λ (x : Operation). x.is_marked) (same p runs) ∙
-            offering_unmarked me.0.sizes kept.account kept.bounds me.0.actor o is.1 n.offer n.on,
-      ) in
-      name_kept me.0.sizes s kept id me.0 at number reserves
-      (none_stands me.0 s kept id at number reserves
-      (λ p runs c at_line. (let both = sym at_line ∙ ap (λ (x : Operation). x.line) (same p runs) ∙ n.on in let wrong : ⊥ = cc both in wrong))) slot n.free),
+          let o = record n.operation { is_marked = is.0 } in
+          let same : (p : Operation) → running me.0.sizes kept.account me.0.actor p → p ≡ o = λ p runs. same_Some p o (sym runs ∙ is.1) in
+          let reserves : Reserves (state_of me.0.sizes kept.account) me.0 number = (
+            n.reserved,
+            λ p runs. ap (λ (x : Operation). x.is_marked) (same p runs) ∙
+                offering_unmarked me.0.sizes kept.account kept.bounds me.0.actor o is.1 n.offer n.on,
+          ) in
+          name_kept me.0.sizes s kept id me.0 at number reserves
+          (none_stands me.0 s kept id at number reserves
+          (λ p runs c at_line. (let both = sym at_line ∙ ap (λ (x : Operation). x.line) (same p runs) ∙ n.on in let wrong : ⊥ = cc both in wrong))) slot n.free),
       λ other is. ap (λ x. (naming me.0 x, me.1)) (slot_same slot other (sym (root_back (word.Opening slot) fits) ∙ is)),
     ))
   where
@@ -113,8 +113,8 @@ give_back_allowed sizes size id me number idle opens =
     (λ s kept at. (
       without_number me.0,
       (let rests = idle_stays me.0.sizes me.0.actor me.0.account kept.account (kept.seats id me.0 at).waited kept.bounds idle in
-      let reserves : Reserves (state_of me.0.sizes kept.account) me.0 number = (opens, λ p runs. absurd (none-some p (sym rests ∙ runs))) in
-      give_back_kept me.0.sizes s kept id me.0 at number reserves (none_stands me.0 s kept id at number reserves (λ p runs c at_line. none-some p (sym rests ∙ runs))) rests),
+          let reserves : Reserves (state_of me.0.sizes kept.account) me.0 number = (opens, λ p runs. absurd (none-some p (sym rests ∙ runs))) in
+          give_back_kept me.0.sizes s kept id me.0 at number reserves (none_stands me.0 s kept id at number reserves (λ p runs c at_line. none-some p (sym rests ∙ runs))) rests),
       refl,
     ))
 

@@ -1,6 +1,6 @@
 -- The load of an offer's first word by which an operation that asks for the root finds it standing there is the operation's step; where it is settled, that is known for ever.
 use Rattle.history.specs.declared.calls.Call.{Call}
-use Rattle.std.proofs.Common.{◌≡◌, ◌≢◌, ◌*◌, ◌==◌, ℕ, Bool, true, false, Contains, set, slice_index, refl, sym, ap, subst, ◌∙◌, arith, eqb-true, if◌then◌else◌}
+use Rattle.std.proofs.Common.{◌≡◌, ◌≢◌, ◌*◌, ◌==◌, ℕ, Bool, true, false, Contains, set, slice_index, refl, sym, ap, subst, ◌∙◌, eqb-true, if◌then◌else◌}
 use Rattle.std.proofs.lemmas.Bool.{eqb-false}
 use Rattle.std.proofs.lemmas.List.{set-get_or}
 use mathlib.Core.Option.{some, none}
@@ -8,21 +8,19 @@ use lib.ListN.{get_elem?}
 use Rattle.atomic_table.specs.Table.{Me, Allows, step}
 use Rattle.atomic_table.specs.Table as Table
 use Rattle.history.specs.declared.calls.Access.TheVariants.{Writable}
-use Rattle.machine_model.specs.declared.actions.Action.TheVariants as act
 use Rattle.machine_model.specs.declared.operations.Operation.{Operation}
 use Rattle.machine_model.specs.declared.roots.RootWord.TheVariants.{Offer}
 use Rattle.machine_model.specs.Operations.{action_of}
 use Rattle.machine_model.specs.States.{State, root_at}
 use Rattle.lock_free.specs.declared.accounts.Account.{Account}
 use Rattle.lock_free.specs.declared.accounts.Known.{Known}
-use Rattle.lock_free.specs.declared.offers.Fate.{Fate}
 use Rattle.lock_free.specs.declared.offers.Fate.TheVariants as became
 use Rattle.lock_free.specs.declared.rules.View.{View}
 use Rattle.lock_free.specs.declared.sizes.Sizes.{Sizes}
 use Rattle.lock_free.specs.Accounts.{state_of}
 use Rattle.lock_free.specs.Fates.{HasSettled, IsSettled, is_carried_out, is_taken_back}
 use Rattle.lock_free.specs.HandleWords.{HasOffer}
-use Rattle.lock_free.specs.Loading.{Moment, now, seen, HasGone, HasSeen, IsSound}
+use Rattle.lock_free.specs.Loading.{Moment, now, HasGone, HasSeen, IsSound}
 use Rattle.lock_free.specs.Places.{words_of}
 use Rattle.lock_free.specs.Roots.{fate, undecided, carried_out, taken_back, open_with}
 use Rattle.lock_free.specs.RootWords.{AsksAt, HasFoundOffer, HasMetOffer, HasSeenSettled, MetAs, fate_by, has_met}

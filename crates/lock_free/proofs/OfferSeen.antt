@@ -1,7 +1,7 @@
 -- Loads of what an offer offers.
-use Rattle.std.proofs.Common.{◌≡◌, ◌+◌, ◌*◌, ◌<◌, ◌^◌, ◌∷◌, [], ℕ, Contains, slice_index, get_or, Option, Some, None, refl, sym, ap, subst, ◌∙◌, arith}
+use Rattle.std.proofs.Common.{◌≡◌, ◌+◌, ◌*◌, ◌<◌, ◌^◌, ◌∷◌, [], ℕ, Contains, slice_index, get_or, Option, Some, None, sym, ap, ◌∙◌, arith}
 use Rattle.std.proofs.lemmas.List.Elements.{Contains-get_or, Contains-append_right}
-use Rattle.trie_words.specs.Codes.{pair_code, pair_of, IsPair}
+use Rattle.trie_words.specs.Codes.{pair_of, IsPair}
 use Rattle.trie_words.specs.declared.entries.Pair.{Pair}
 use Rattle.trie_words.proofs.Parts.{pair_back}
 use Rattle.machine_model.specs.Beneath.slot_arena.specs.declared.refs.Ref.{Ref}
@@ -16,11 +16,10 @@ use Rattle.lock_free.specs.declared.accounts.Known.{Known}
 use Rattle.lock_free.specs.declared.rules.View.{View}
 use Rattle.lock_free.specs.Accounts.{state_of, place_of}
 use Rattle.lock_free.specs.HandleWords.{HasOffer}
-use Rattle.lock_free.specs.Loading.{Moment, now, seen, Holds, IsSound, IsUsed, HasSeen}
+use Rattle.lock_free.specs.Loading.{Moment, seen, Holds, IsSound, HasSeen}
 use Rattle.lock_free.specs.Making.{refs_of_offer}
 use Rattle.lock_free.specs.Nodes.{class_of}
 use Rattle.lock_free.specs.Passing.{IsPlaced}
-use Rattle.lock_free.specs.Places.{words_of}
 use Rattle.lock_free.specs.Roots.{IsWritten, second_of}
 use Rattle.lock_free.specs.RootWords.{SaysOlds, HasSeenNews, HasSeenOlds}
 use Rattle.lock_free.proofs.AbortStep.{known_there}

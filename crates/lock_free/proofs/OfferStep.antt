@@ -19,15 +19,12 @@ use Rattle.machine_model.specs.Beneath.slot_arena.specs.declared.refs.Ref.{Ref}
 use Rattle.machine_model.specs.Beneath.slot_arena.specs.declared.nodes.Slot.{Slot}
 use Rattle.machine_model.specs.Beneath.slot_arena.specs.Heaps.{refs_of_option}
 use Rattle.machine_model.specs.Beneath.slot_arena.specs.Refs.{slot_of}
-use Rattle.machine_model.specs.declared.actions.Action.{Action}
 use Rattle.machine_model.specs.declared.actions.Action.TheVariants as act
 use Rattle.machine_model.specs.declared.copying.CopyLine.TheVariants as copy
-use Rattle.machine_model.specs.declared.lines.Line.{Line}
 use Rattle.machine_model.specs.declared.lines.Line.TheVariants as line
 use Rattle.machine_model.specs.declared.operations.Operation.{Operation}
 use Rattle.machine_model.specs.declared.roots.Descriptor.{Descriptor}
 use Rattle.machine_model.specs.declared.roots.RootWord.TheVariants.{Plain}
-use Rattle.machine_model.specs.declared.steps.Step.TheVariants as machine
 use Rattle.machine_model.specs.Acting.{operation_after}
 use Rattle.machine_model.specs.Calls.{handle_of}
 use Rattle.machine_model.specs.Counting.{refs_of_root}
@@ -37,24 +34,21 @@ use Rattle.machine_model.specs.Swapping.{is_plain}
 use Rattle.proof_garbage.specs.Beneath.proof_generations.proofs.Offers.Standing.{offer_line}
 use Rattle.proof_memory.specs.Wants.{line_wants, offer_wants}
 use Rattle.lock_free.specs.declared.accounts.Account.{Account}
-use Rattle.lock_free.specs.declared.root_offers.Proposed.{Proposed}
 use Rattle.lock_free.specs.declared.root_offers.Proposed.TheVariants.{Stands, Misses, Meets}
 use Rattle.lock_free.specs.declared.rules.View.{View}
 use Rattle.lock_free.specs.declared.sizes.Sizes.{Sizes}
-use Rattle.lock_free.specs.Accounts.{state_of, place_of, running, gone_on}
-use Rattle.lock_free.specs.Exchanging.{given_up}
+use Rattle.lock_free.specs.Accounts.{state_of, place_of, running}
 use Rattle.lock_free.specs.Live.{refs_of_claims, at_hand, from_root, from_operation, IsLive}
 use Rattle.lock_free.specs.HandleWords.{HasSeenRoot}
-use Rattle.lock_free.specs.Loading.{Moment, now, seen, IsAt, IsSound, Runs, Took}
+use Rattle.lock_free.specs.Loading.{now, seen, IsAt, IsSound, Took}
 use Rattle.lock_free.specs.Making.{refs_of_offer}
 use Rattle.lock_free.specs.Nodes.{class_of}
-use Rattle.lock_free.specs.Offering.{DraftsOffer, Offers, offered_at, offered_by}
+use Rattle.lock_free.specs.Offering.{DraftsOffer, Offers, offered_by}
 use Rattle.lock_free.specs.Places.{root_word, words_of}
-use Rattle.lock_free.specs.RootOffers.{WritesOffer, IsToOffer, HasMissed, HasProposed, proposed_by, has_proposed}
+use Rattle.lock_free.specs.RootOffers.{WritesOffer, IsToOffer, HasProposed, proposed_by, has_proposed}
 use Rattle.lock_free.specs.Roots.{SaysRoot, SaysPlain, open_with, second_of}
 use Rattle.lock_free.specs.Rules.{Stands as StandsIn, IsSeat, IsKept, pool_of}
-use Rattle.lock_free.specs.Steps.{Leads}
-use Rattle.lock_free.proofs.Asked.{is_one_of, live_in_use, slots_tell}
+use Rattle.lock_free.proofs.Asked.{live_in_use, slots_tell}
 use Rattle.lock_free.proofs.Exchanged.{words_then, words_hit, words_miss}
 use Rattle.lock_free.proofs.Moments.{allowed, seen_kept, waited_so, live_place, held_there, free_inside}
 use Rattle.lock_free.proofs.Offered.{all_then, offer_kept}

@@ -1,17 +1,14 @@
 -- What a seat knows of offers and of roots that stood stays so.
-use Rattle.std.proofs.Common.{◌≡◌, ◌*◌, ◌+◌, ◌≤◌, ℕ, Contains, refl, sym, ap, subst, ◌∙◌}
+use Rattle.std.proofs.Common.{◌≡◌, ◌*◌, ◌+◌, ◌≤◌, ℕ, sym, ap, subst, ◌∙◌}
 use Rattle.machine_model.specs.Beneath.slot_arena.specs.declared.refs.Ref.{Ref}
-use Rattle.machine_model.specs.Beneath.slot_arena.specs.declared.nodes.Node.TheVariants.{Indirection}
 use Rattle.machine_model.specs.Beneath.slot_arena.specs.Heaps.{with_main_word}
 use Rattle.lock_free.specs.declared.accounts.Known.{Known}
 use Rattle.lock_free.specs.declared.rules.View.{View}
-use Rattle.lock_free.specs.declared.sizes.Sizes.{Sizes}
 use Rattle.lock_free.specs.Accounts.{WasReached}
 use Rattle.lock_free.specs.Fates.{HasSettled}
 use Rattle.lock_free.specs.HandleWords.{HasOffer}
 use Rattle.lock_free.specs.Passing.{Later}
 use Rattle.lock_free.specs.Places.{words_in, words_of}
-use Rattle.lock_free.specs.Rooting.{IsSettledAt}
 use Rattle.lock_free.specs.RootWords.{IsRootAt}
 use Rattle.lock_free.proofs.Fates.{settled_still}
 use Rattle.lock_free.proofs.OneStep.Roots.{reached_still}

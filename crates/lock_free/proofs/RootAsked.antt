@@ -1,6 +1,6 @@
 -- The load by which the root of a handle is asked for is the operation's step, where the word names the root.
 use Rattle.history.specs.declared.calls.Call.{Call}
-use Rattle.std.proofs.Common.{◌≡◌, ◌<◌, ◌++◌, ◌∷◌, [], ℕ, List, Contains, set, slice_index, Some, None, refl, sym, ap, subst, ◌∙◌, arith}
+use Rattle.std.proofs.Common.{◌≡◌, ◌<◌, ◌∷◌, [], ℕ, Contains, set, slice_index, refl, sym, ap, subst, ◌∙◌, arith}
 use Rattle.std.proofs.lemmas.List.{set-get_or}
 use Rattle.std.proofs.lemmas.List.Elements.{Contains-get_or}
 use mathlib.Core.Option.{some, none}
@@ -12,11 +12,9 @@ use Rattle.trie_words.specs.declared.roots.RootWord.{RootWord as HandleWord}
 use Rattle.trie_words.specs.declared.roots.RootWord.TheVariants as word
 use Rattle.history.specs.declared.calls.Access.{Access}
 use Rattle.history.specs.declared.calls.Access.TheVariants.{Writable, ReadOnly}
-use Rattle.machine_model.specs.Beneath.slot_arena.specs.declared.refs.Ref.{Ref}
 use Rattle.machine_model.specs.Beneath.slot_arena.specs.Refs.{slot_of}
 use Rattle.machine_model.specs.declared.actions.Action.TheVariants as act
 use Rattle.machine_model.specs.declared.operations.Operation.{Operation}
-use Rattle.machine_model.specs.declared.roots.RootWord.TheVariants.{Plain}
 use Rattle.machine_model.specs.declared.steps.Step.TheVariants as taken
 use Rattle.machine_model.specs.Contents as contents
 use Rattle.machine_model.specs.Counting.{refs_of_root}
@@ -27,11 +25,11 @@ use Rattle.lock_free.specs.declared.asking.Named.{Named}
 use Rattle.lock_free.specs.declared.asking.Named.TheVariants as named
 use Rattle.lock_free.specs.declared.rules.View.{View}
 use Rattle.lock_free.specs.declared.sizes.Sizes.{Sizes}
-use Rattle.lock_free.specs.Accounts.{state_of, running, gone_on}
-use Rattle.lock_free.specs.HandleWords.{HasOffer, TellsRoot}
-use Rattle.lock_free.specs.Loading.{Moment, now, seen, HasGone, HasSeen, IsSound, SameSlots, Went}
+use Rattle.lock_free.specs.Accounts.{state_of, gone_on}
+use Rattle.lock_free.specs.HandleWords.{TellsRoot}
+use Rattle.lock_free.specs.Loading.{now, seen, HasGone, HasSeen, IsSound, SameSlots}
 use Rattle.lock_free.specs.Places.{root_word, words_of}
-use Rattle.lock_free.specs.Roots.{MeansRoot, SaysRoot, SaysPlain, open_with}
+use Rattle.lock_free.specs.Roots.{MeansRoot, SaysRoot, SaysPlain}
 use Rattle.lock_free.specs.RootWords.{AsksAt, IsRootAt, HasFoundRoot, HasAskedRoot, LoadedAs, has_asked, named_by}
 use Rattle.lock_free.specs.Rules.{IsKept}
 use Rattle.lock_free.proofs.Definition.{IsReading}

@@ -7,6 +7,7 @@ use Rattle.machine_model.specs.Beneath.ctrie_base.specs.declared.hashes.HashKind
 use Rattle.lock_free.specs.declared.accounts.Account.{Account}
 use Rattle.lock_free.specs.declared.rules.View.{View}
 use Rattle.lock_free.specs.declared.sizes.Sizes.{Sizes}
+use Rattle.lock_free.specs.Answers.{answers_of}
 use Rattle.lock_free.specs.Loading.{HasSeen, IsSound}
 use Rattle.lock_free.specs.Rules.{idle_view}
 use Rattle.lock_free.specs.Telling.{history_of, GoesOn, IsExplainedSoFar}
@@ -31,4 +32,6 @@ IsSeatOf table sizes its v = (its ≡ table) × IsSound table.words v × (v.size
 pub record IsTold (sizes : Sizes) (views : List View) : Type 0 where
   pub account : Account
   pub explained : IsExplainedSoFar sizes account
+  -- in it stands, at the same places, all that each has seen, and so in its own order all that its actor was answered
   pub told : All (λ v. GoesOn (history_of sizes v.account) (history_of sizes account)) views
+  pub answers : All (λ v. GoesOn (answers_of v.actor sizes v.account) (answers_of v.actor sizes account)) views

@@ -35,3 +35,4 @@ pub mod Opening
 pub mod Splitting
 pub mod Telling
 pub mod Finishing
+pub mod Answers

@@ -1,5 +1,6 @@
 //! Laws of what seats have seen.
 
+ghost use Rattle.lock_free.specs.Answers.{AnswersGoOn, BeginsTellNothing, EndsAreTold, OthersTellNothing};
 ghost use Rattle.lock_free.specs.Telling.{HistoriesGoOn, SeatsAreExplained};
 
 use proof_linearizable::every_order_is_legal;
@@ -15,4 +16,25 @@ pub fn seats_are_explained()
 /// A law: a history goes on, and never changes what it has told.
 pub fn histories_go_on()
     ensures { HistoriesGoOn }
+{}
+
+/// A law: what an actor was answered stays so, and later answers stand after it.
+pub fn answers_go_on()
+    ensures { AnswersGoOn }
+{}
+
+/// A law: what others do tells an actor nothing, so all that it was answered is told in the account at its own last step.
+pub fn others_tell_nothing()
+    ensures { OthersTellNothing }
+{}
+
+/// A law: where an operation begins nobody is answered.
+pub fn begins_tell_nothing()
+    ensures { BeginsTellNothing }
+{}
+
+/// A law: where an operation ends its actor is answered, after all that it was answered before: its call, and the reply by which it
+/// ends.
+pub fn ends_are_told()
+    ensures { EndsAreTold }
 {}

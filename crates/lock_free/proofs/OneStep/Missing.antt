@@ -1,5 +1,5 @@
 -- What is left by the step that offers where its root stands no more: all that the operation made for the offer is given up.
-use Rattle.std.proofs.Common.{◌≡◌, ℕ, false, List, [], All, Contains, Some, sym, ap, subst, ◌∙◌}
+use Rattle.std.proofs.Common.{◌≡◌, ℕ, false, [], All, Contains, Some, sym, ap, subst, ◌∙◌}
 use Rattle.std.proofs.lemmas.Option.{same_Some}
 use Rattle.machine_model.specs.Beneath.slot_arena.specs.declared.refs.Ref.{Ref}
 use Rattle.machine_model.specs.Beneath.slot_arena.specs.Refs.{slot_of}

@@ -1,5 +1,5 @@
 -- What stands in root words, and stood.
-use Rattle.std.proofs.Common.{◌≡◌, ◌++◌, List, Contains, Some, None, get_or, sym, subst, ◌∙◌, append_assoc, ap}
+use Rattle.std.proofs.Common.{◌≡◌, ◌++◌, List, Contains, Some, None, get_or, sym, ◌∙◌, append_assoc, ap}
 use Rattle.std.proofs.lemmas.List.Elements.{All-contains, Contains-append_left}
 use Rattle.history.specs.declared.calls.Access.{Access}
 use Rattle.machine_model.specs.Beneath.slot_arena.specs.declared.refs.Ref.{Ref}

@@ -3,7 +3,6 @@ use mathlib.Core.Option.{none}
 use Rattle.atomic_table.specs.Table.{Allows, step}
 use Rattle.trie_words.specs.Codes.{root_of}
 use Rattle.lock_free.specs.Loading.{IsSound}
-use Rattle.lock_free.specs.Places.{root_word}
 use Rattle.lock_free.specs.RootWords.{HasAskedRoot, LoadedAs, has_asked, named_by}
 use Rattle.lock_free.specs.Rules.{IsKept}
 use Rattle.lock_free.proofs.RootAsked.{ask_allowed, ask_told}

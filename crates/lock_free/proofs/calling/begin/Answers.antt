@@ -1,4 +1,4 @@
-use Rattle.std.proofs.Common.{refl, ◌∙◌, ap, sym, subst}
+use Rattle.std.proofs.Common.{refl, ◌∙◌, sym, subst}
 use Rattle.lock_free.proofs.Beginners.{Waits, waits_first, waits_more}
 use Rattle.lock_free.proofs.calling.begin.Goals as goal
 

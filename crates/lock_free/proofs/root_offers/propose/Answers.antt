@@ -4,9 +4,8 @@ use prog.Atomic.{either}
 use Rattle.atomic_table.specs.Table.{Allows, step}
 use Rattle.trie_words.specs.Codes.{root_code}
 use Rattle.trie_words.specs.declared.roots.RootWord.TheVariants as word
-use Rattle.lock_free.specs.Loading.{IsSound}
 use Rattle.lock_free.specs.Places.{root_word}
-use Rattle.lock_free.specs.RootOffers.{HasProposed, has_proposed}
+use Rattle.lock_free.specs.RootOffers.{has_proposed}
 use Rattle.lock_free.specs.Rules.{IsKept}
 use Rattle.lock_free.proofs.OfferStep.{offer_allowed, offer_fits}
 use Rattle.lock_free.proofs.SeenRoots.{root_inside}

@@ -1,5 +1,4 @@
 use Rattle.std.proofs.Common.{sym, subst}
-use Rattle.lock_free.specs.Loading.{Saw}
 use Rattle.lock_free.specs.Rooting.{IsSettledAt}
 use Rattle.lock_free.specs.RootWords.{IsAtClean}
 use Rattle.lock_free.proofs.Cleanings.{clean_new, clean_old}
