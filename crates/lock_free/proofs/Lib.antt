@@ -113,3 +113,5 @@ mod Hearing
 mod Gathering
 mod Talks
 mod Answered
+mod KeyValues
+mod Timelines

@@ -36,3 +36,4 @@ pub mod Splitting
 pub mod Telling
 pub mod Finishing
 pub mod Answers
+pub mod OneKey
