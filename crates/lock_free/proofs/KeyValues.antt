@@ -1,19 +1,18 @@
 -- What calls do to one key of a handle.
-use Rattle.std.proofs.Common.{◌≡◌, ◌≢◌, ◌==◌, ◌&&◌, ◌⊎◌, ℕ, inl, inr, Bool, true, false, not, cond, is_some, nat_eq, nat_cmp, Option, Some, None, option_and_then, refl, sym, ap, subst, ◌∙◌, eqb-true, eq-eqb, ne_eqb, if◌then◌else◌}
+use Rattle.std.proofs.Common.{◌≡◌, ◌≢◌, ◌==◌, ◌&&◌, ℕ, inl, inr, Bool, true, false, cond, is_some, nat_cmp, Option, Some, None, option_and_then, refl, sym, ap, subst, ◌∙◌, eqb-true, eq-eqb, ne_eqb, if◌then◌else◌}
 use Rattle.std.proofs.lemmas.Bool.{cases_eq, true≢false, and_parts, eqb-false}
 use Rattle.std.proofs.lemmas.Option.{none-some, same_Some}
 use Rattle.std.specs.Cmp.{nat_cmp_total, unsigned_tied}
 use Rattle.std.specs.FinMap as map
-use Rattle.std.specs.Option.{option_eq}
 use Rattle.history.specs.declared.calls.Access.{Access}
 use Rattle.history.specs.declared.calls.Access.TheVariants.{Writable, ReadOnly}
 use Rattle.history.specs.declared.calls.Call.{Call}
 use Rattle.history.specs.declared.calls.Call.TheVariants.{Get, Put, PutIfAbsent, Replace, ReplaceIf, Remove, RemoveIf, Clear, Snapshot, Freeze, Close, Entries, Count}
 use Rattle.history.specs.declared.replies.Reply.{Reply}
 use Rattle.history.specs.declared.replies.Reply.TheVariants as reply
-use Rattle.history.specs.Effects.{effect, Effect, changing, copying, naming, map_of, writable_map_of, read_only_map_of, with_access, put_in, put_if_absent_in, replace_in, replace_if_in, remove_in, remove_if_in, is_crowded, has_value}
-use Rattle.history.specs.Worlds.{KeyMap, HandleState, HandleMap}
-use Rattle.lock_free.specs.OneKey.{value_in, is_number, touches, key_effect, KeyAnswers, KeyStep}
+use Rattle.history.specs.Effects.{Effect, changing, copying, naming, map_of, writable_map_of, read_only_map_of, with_access, put_in, put_if_absent_in, replace_in, replace_if_in, remove_in, remove_if_in, is_crowded, has_value}
+use Rattle.history.specs.Worlds.{KeyMap, HandleState, HandleMap, first_world}
+use Rattle.lock_free.specs.OneKey.{value_in, is_number, touches, KeyAnswers, KeyStep}
 
 -- ---- finite maps
 
@@ -72,6 +71,7 @@ absent_itself hash m h k v = by (map.contains_key m k) refl
     put : (b : Bool) → is_some (map.get m k) ≡ false → Itself (PutIfAbsent h k v) m k (cond b (reply.Crowded, m) (reply.Found (map.get m k), map.insert m k v))
     put true none = inr (refl, refl)
     put false none = inl (ap (λ x. (reply.Found (map.get m k), x)) (got_same m k v ∙ sym (ap (λ b. cond b (map.get m k) (Some v)) none)))
+
     by : (b : Bool) → is_some (map.get m k) ≡ b → Itself (PutIfAbsent h k v) m k (cond b (reply.Found (map.get m k), m) (put_in hash m k v))
     by true some = inl (ap (λ x. (reply.Found (map.get m k), x)) (sym (ap (λ b. cond b (map.get m k) (Some v)) some)))
     by false none = put (is_crowded hash m k) none
@@ -161,7 +161,7 @@ module _ (w next : HandleMap) (h k : ℕ) (change : KeyMap → Reply × KeyMap) 
       let at_key = eqb-true k key parts.1 in
       let before : value_in w handle key ≡ map.get c.m k = ap (λ n. value_in w n key) (sym at_handle) ∙ value_there w h key c.m c.there ∙ ap (map.get c.m) (sym at_key) in
       let after : value_in next handle key ≡ map.get (change c.m).1 k =
-        ap (λ x. value_in x handle key) c.is ∙ ap (λ n. value_in (naming w h Writable (change c.m).1) n key) (sym at_handle) ∙ named_same w h Writable (change c.m).1 key ∙ ap (map.get (change c.m).1) (sym at_key) in
+      ap (λ x. value_in x handle key) c.is ∙ ap (λ n. value_in (naming w h Writable (change c.m).1) n key) (sym at_handle) ∙ named_same w h Writable (change c.m).1 key ∙ ap (map.get (change c.m).1) (sym at_key) in
       subst (λ x. KeyAnswers call x answer (value_in next handle key)) (sym before)
       (subst (λ x. KeyAnswers call (map.get c.m k) answer x) (sym after) (subst (λ r. KeyAnswers call (map.get c.m k) r (map.get (change c.m).1 k)) (sym c.says) (does c.m)))
 
@@ -261,3 +261,13 @@ module _ (hash : ℕ → ℕ) (w next : HandleMap) (opens : Option ℕ) (answer 
       ∙ ap (λ (o : Option HandleState). option_and_then (λ m. map.get m key) (option_and_then (λ s. Some s.pairs) o)) (left_same w h)
   touched (Entries h) e on = absurd (true≢false (sym on))
   touched (Count h) e on = absurd (true≢false (sym on))
+
+-- ---- at first no key has a value
+
+pub first_value : (handle key : ℕ) → value_in first_world handle key ≡ None
+first_value handle key = elim (cases_eq handle 0) [
+  | inl zeroth ↦ ap (λ n. value_in first_world n key) zeroth ∙ named_same map.empty 0 Writable map.empty key ∙ map.get-empty nat_cmp key
+  | inr apart ↦
+      named_other map.empty 0 Writable map.empty handle key apart
+      ∙ ap (λ (o : Option HandleState). option_and_then (λ m. map.get m key) (option_and_then (λ s. Some s.pairs) o)) (map.get-empty nat_cmp handle)
+]

@@ -115,3 +115,4 @@ mod Talks
 mod Answered
 mod KeyValues
 mod Timelines
+mod OwnKeys

@@ -1,12 +1,12 @@
 -- An actor's operations come one after the other: each ends before the next begins.
-use Rattle.std.proofs.Common.{◌≡◌, ◌≢◌, ◌==◌, ◌+◌, ◌<◌, ◌≤◌, ◌⊎◌, ℕ, zero, suc, inl, inr, Bool, true, false, cond, List, [], ◌∷◌, ◌++◌, length, Option, Some, None, slice_get, refl, sym, ap, subst, ◌∙◌, arith, ne_eqb, eq-eqb, length-append}
+use Rattle.std.proofs.Common.{◌≡◌, ◌≢◌, ◌+◌, ◌<◌, ◌≤◌, ◌⊎◌, ℕ, inl, inr, cond, List, [], ◌∷◌, ◌++◌, length, Option, Some, None, slice_get, refl, sym, ap, subst, ◌∙◌, arith, ne_eqb, eq-eqb, length-append}
 use Rattle.std.proofs.lemmas.Bool.{cases_eq}
 use Rattle.std.proofs.lemmas.Option.{none-some, same_Some, slice_get_within}
 use Rattle.history.specs.declared.calls.Call.{Call}
 use Rattle.history.specs.declared.events.Event.{Event}
 use Rattle.history.specs.declared.events.Event.TheVariants.{Begin, End}
 use Rattle.history.specs.declared.replies.Reply.{Reply}
-use Rattle.history.specs.Histories.{EndsAt, HasEnded, MayFollow, IsWellFormed, begun}
+use Rattle.history.specs.Histories.{EndsAt, HasEnded, MayFollow, IsWellFormed}
 use Rattle.history.proofs.Places.{at_cases, at_front, at_old, at_push}
 use Rattle.machine_model.proofs.Along.{by_last}
 use Rattle.proof_linearizable.specs.Beneath.proof_order.proofs.History.Books.{ended_below}
@@ -84,6 +84,7 @@ module _ (actor : ℕ) (xs : List Event) where
     where
       longer : length xs ≤ length (xs ++ Begin id owner call opens ∷ [])
       longer = omega (arith, length-append xs (Begin id owner call opens ∷ []))
+
       by : (runs : Option Begun) → Follows xs actor talk.answers runs → Follows (xs ++ Begin id owner call opens ∷ []) actor talk.answers runs
       by None (idle timed) = idle (timed_wider _ actor talk.answers 0 (length xs) _ longer (timed_longer xs _ actor talk.answers 0 (length xs) timed))
       by (Some it) (busy _ place at unended timed) =
@@ -129,6 +130,7 @@ module _ (actor : ℕ) (xs : List Event) where
     where
       longer : length xs ≤ length (xs ++ End id reply ∷ [])
       longer = omega (arith, length-append xs (End id reply ∷ []))
+
       by : (runs : Option Begun) → talk.runs ≡ runs → Follows xs actor talk.answers runs → Follows (xs ++ End id reply ∷ []) actor talk.answers runs
       by None is (idle timed) = idle (timed_wider _ actor talk.answers 0 (length xs) _ longer (timed_longer xs _ actor talk.answers 0 (length xs) timed))
       by (Some it) is (busy _ place at unended timed) =

@@ -1,6 +1,7 @@
 //! Laws of what seats have seen.
 
 ghost use Rattle.lock_free.specs.Answers.{AnswersGoOn, BeginsTellNothing, EndsAreTold, OthersTellNothing};
+ghost use Rattle.lock_free.specs.OneKey.{OwnKeysAreAnswered};
 ghost use Rattle.lock_free.specs.Telling.{HistoriesGoOn, SeatsAreExplained};
 
 use proof_linearizable::every_order_is_legal;
@@ -37,4 +38,11 @@ pub fn begins_tell_nothing()
 /// ends.
 pub fn ends_are_told()
     ensures { EndsAreTold }
+{}
+
+/// A law: where nobody else ever calls on a key of a handle, an actor's calls on it are answered, one after the other, as on a map of
+/// this key alone; or `Crowded`, since keys of others may have its hash. The calls that empty the handle's map, open the handle or
+/// take it away are among those that nobody else makes.
+pub fn own_keys_are_answered()
+    ensures { OwnKeysAreAnswered }
 {}
