@@ -93,8 +93,8 @@ module _ (actor : ℕ) (state : State) (past : Record) (books : Books state past
       same false it = refl
   begins_noted s o after who call number is (Goes d r a g) = cc is
   begins_noted s o after who call number is (Ends d r a) = cc is
-  begins_noted s o after who call number is (GivesUp d r a) = cc is
-  begins_noted s o after who call number is (Sweeps spent) = cc is
+  begins_noted s o after who call number is (GivesUp d r a) = refl
+  begins_noted s o after who call number is (Sweeps spent) = refl
 
   pub begins_told : (who : ℕ) (call : Call) (number : Option ℕ) → (talk_of actor (next_record state past (step.Begin who call number)).events).answers ≡ (talk_of actor past.events).answers
   begins_told who call number =
