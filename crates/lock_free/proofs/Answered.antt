@@ -1,5 +1,6 @@
 -- What an actor is answered, along the steps of an account.
-use Rattle.std.proofs.Common.{◌≡◌, ◌≢◌, ◌==◌, ℕ, zero, suc, Bool, true, false, cond, All, List, [], ◌∷◌, ◌++◌, take, Option, Some, None, slice_get, refl, sym, ap, subst, ◌∙◌, arith, append-nil, append_assoc}
+use Rattle.std.proofs.Common.{◌≡◌, ◌≢◌, ◌==◌, ℕ, zero, suc, Bool, true, false, cond, All, List, [], ◌∷◌, ◌++◌, take, Option, Some, None, slice_get, refl}
+use Rattle.std.proofs.Common.{sym, ap, subst, ◌∙◌, arith, append-nil, append_assoc}
 use Rattle.std.proofs.lemmas.Bool.{ne_eqb, eq-eqb}
 use Rattle.std.proofs.lemmas.List.Elements.{All-tail, All-head}
 use Rattle.std.proofs.lemmas.List.{take-append-le}
@@ -49,7 +50,8 @@ answers_go_on actor sizes before after ok on = grown actor (history_of sizes bef
 
 module _ (actor : ℕ) (state : State) (past : Record) (books : Books state past) where
   -- what runs was told
-  told_of : (a : ℕ) (o : Operation) → operation_of state a ≡ Some o → (place : ℕ) × (slice_get past.events place ≡ Some (Begin o.id a o.call o.opens)) × ((reply : Reply) → ¬ HasEnded past.events o.id reply)
+  told_of : (a : ℕ) (o : Operation) → operation_of state a ≡ Some o → (place : ℕ) × (slice_get past.events place ≡ Some (Begin o.id a o.call o.opens))
+      × ((reply : Reply) → ¬ HasEnded past.events o.id reply)
   told_of zero o runs = absurd (none-some o runs)
   told_of (suc k) o runs = let t = books.told k o runs in (t.place, t.begins, t.unended)
 
@@ -62,7 +64,8 @@ module _ (actor : ℕ) (state : State) (past : Record) (books : Books state past
       let own = runs_begun actor past.events it e in
       let differs : it.id ≢ o.id = λ same. apart
       (let at = subst (λ n. slice_get past.events own.0 ≡ Some (Begin n actor it.call it.opens)) same own.1 in
-      let here = begins_once past.events t.0 own.0 o.id (record { actor = other; call = o.call; opens = o.opens }) (record { actor = actor; call = it.call; opens = it.opens }) books.well_formed t.1 at in
+      let here = begins_once past.events t.0 own.0 o.id (record { actor = other; call = o.call; opens = o.opens })
+          (record { actor = actor; call = it.call; opens = it.opens }) books.well_formed t.1 at in
       cc (sym t.1 ∙ ap (slice_get past.events) here ∙ at)) in
       ap (λ b. cond b (record { answers = (talk_of actor past.events).answers ++ record { of = it; reply = reply } ∷ []; runs = None }) (talk_of actor past.events)) (ne_eqb it.id o.id differs)
 
@@ -86,7 +89,8 @@ module _ (actor : ℕ) (state : State) (past : Record) (books : Books state past
   begins_noted : (s : Step) (o : Outcome) (after : State) (who : ℕ) (call : Call) (number : Option ℕ) → s ≡ step.Begin who call number → Moves state s o after →
       (talk_of actor (noted past state.steps (told_in state s)).events).answers ≡ (talk_of actor past.events).answers
   begins_noted s o after who call number is (Begins {actor = w} {call = c} {number = n} d) =
-      let it = begun_operation state c n in ap (λ (t : Talk). t.answers) (talk_push actor past.events (Begin it.id w c it.opens)) ∙ same (w == actor) (record { id = it.id; call = c; opens = it.opens })
+      let it = begun_operation state c n in ap (λ (t : Talk). t.answers) (talk_push actor past.events (Begin it.id w c it.opens))
+          ∙ same (w == actor) (record { id = it.id; call = c; opens = it.opens })
     where
       same : (b : Bool) (it : Begun) → (cond b (record (talk_of actor past.events) { runs = Some it }) (talk_of actor past.events)).answers ≡ (talk_of actor past.events).answers
       same true it = refl
@@ -110,7 +114,8 @@ module _ (actor : ℕ) (sizes : Sizes) where
   bounds_on : (account : Account) (s : Step) → AreBounds (bounds_for sizes account.steps) → AreBounds (bounds_for sizes (taking s account).steps)
   bounds_on account s ok = (omega arith, ok.1, ok.2)
 
-  one_other : (account : Account) (s : Step) → AreBounds (bounds_for sizes account.steps) → IsOfOther actor s → talk_of actor (history_of sizes (taking s account)) ≡ talk_of actor (history_of sizes account)
+  one_other : (account : Account) (s : Step) → AreBounds (bounds_for sizes account.steps) → IsOfOther actor s →
+      talk_of actor (history_of sizes (taking s account)) ≡ talk_of actor (history_of sizes account)
   one_other account s ok other =
       ap (λ (r : Record). talk_of actor r.events) (record_next sizes account ok s) ∙ others_told actor (state_of sizes account) (past_of sizes account) (books_at account) s other
 
@@ -170,7 +175,8 @@ module _ (actor : ℕ) (sizes : Sizes) (before after : Account) (o p : Operation
 
   one_place : there.0 ≡ here.0
   one_place =
-      begins_once last there.0 here.0 o.id (record { actor = actor; call = o.call; opens = o.opens }) (record { actor = actor; call = p.call; opens = p.opens }) (books_at actor sizes after).well_formed
+      begins_once last there.0 here.0 o.id (record { actor = actor; call = o.call; opens = o.opens }) (record { actor = actor; call = p.call; opens = p.opens })
+          (books_at actor sizes after).well_formed
       still_there (subst (λ n. slice_get last here.0 ≡ Some (Begin n actor p.call p.opens)) same here.1)
 
   one_begun : its ≡ it
@@ -196,7 +202,8 @@ module _ (actor : ℕ) (sizes : Sizes) (before after : Account) (o p : Operation
   told_at_end reply is =
       ap (λ l. (talk_of actor l).answers) (end_told sizes after (omega arith, ok.1, ok.2) actor p reply runs_p is)
       ∙ ap (λ (t : Talk). t.answers) (talk_push actor last (End p.id reply)) ∙ ap (λ t. (after_event actor t (End p.id reply)).answers) talk_now
-      ∙ ap (λ b. (cond {A = Talk} b (record { answers = answers_of actor sizes before ++ record { of = its; reply = reply } ∷ []; runs = None }) (record { answers = answers_of actor sizes before; runs = Some its })).answers)
+      ∙ ap (λ b. (cond {A = Talk} b (record { answers = answers_of actor sizes before ++ record { of = its; reply = reply } ∷ []; runs = None })
+          (record { answers = answers_of actor sizes before; runs = Some its })).answers)
       (eq-eqb o.id p.id (sym same))
 
 pub ends_are_told : EndsAreTold

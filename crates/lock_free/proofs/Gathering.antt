@@ -50,7 +50,8 @@ module _ (law : EveryOrderIsLegal) (sizes : Sizes) (s : Table.State Call View) (
       let seat = kept.seats id v at in
       told_by views (λ k d low. knows_trans (get_or views k d).account.steps v.account.steps kept.account.steps (known k d low) (seat.waited.steps, seat.waited.goes_on))
 
-finished : EveryOrderIsLegal → (sizes : Sizes) (id : ℕ) (v : View) (ws : List ℕ) (xs : List Call) → Final (Seen (IsKept sizes) id v) ws xs → (views : List View) → All (λ w. Knows v w) views → IsTold sizes views
+finished : EveryOrderIsLegal → (sizes : Sizes) (id : ℕ) (v : View) (ws : List ℕ) (xs : List Call) → Final (Seen (IsKept sizes) id v) ws xs → (views : List View) →
+    All (λ w. Knows v w) views → IsTold sizes views
 finished law sizes id v ws xs (s, seen, words, homes, rest) views known = told_to law sizes s seen.0 id v seen.1 views known
 
 finished_alone : EveryOrderIsLegal → (sizes : Sizes) (ws : List ℕ) (xs : List Call) → Final (IsKept sizes) ws xs → IsTold sizes []
@@ -62,5 +63,6 @@ finished_all of law sizes id v ws xs final seats others last is own all =
     let known = All-append (λ o. Knows v (of o)) others (last ∷ []) all (All-cons (λ o. Knows v (of o)) last [] own (All-nil (λ o. Knows v (of o)))) in
     finished law sizes id v ws xs final (map of seats) (All-map (λ w. Knows v w) of seats (subst (All (λ o. Knows v (of o))) (sym is) known))
 
-pub finished_none : {X : Type 0} (of : X → View) → EveryOrderIsLegal → (sizes : Sizes) (ws : List ℕ) (xs : List Call) → Final (IsKept sizes) ws xs → (seats : List X) → seats ≡ [] → IsTold sizes (map of seats)
+pub finished_none : {X : Type 0} (of : X → View) → EveryOrderIsLegal → (sizes : Sizes) (ws : List ℕ) (xs : List Call) → Final (IsKept sizes) ws xs → (seats : List X) → seats ≡ [] →
+    IsTold sizes (map of seats)
 finished_none of law sizes ws xs final seats none = subst (λ ss. IsTold sizes (map of ss)) (sym none) (finished_alone law sizes ws xs final)

@@ -87,7 +87,8 @@ between actor first middle last more e waited later f =
     same_front first.steps (more ++ later) waited.steps (sym (append_assoc first.steps more later) ∙ ap (λ xs. xs ++ later) (sym e) ∙ sym f ∙ waited.goes_on) in
     all_last (IsOfOther actor) more later (subst (All (IsOfOther actor)) (sym same) waited.others)
 
-module _ (sizes : Sizes) (s : Table.State Call View) (kept : IsKept sizes s) (id : ℕ) (v : View) (at : get_elem? s.views id ≡ some v) (other : ℕ) (w : View) (there : get_elem? s.views other ≡ some w) where
+module _ (sizes : Sizes) (s : Table.State Call View) (kept : IsKept sizes s) (id : ℕ) (v : View) (at : get_elem? s.views id ≡ some v) (other : ℕ) (w : View)
+    (there : get_elem? s.views other ≡ some w) where
   mine : IsSeat sizes kept.account kept.stands s.words v
   mine = kept.seats id v at
 

@@ -1,5 +1,6 @@
 -- What calls do to one key of a handle.
-use Rattle.std.proofs.Common.{◌≡◌, ◌≢◌, ◌==◌, ◌&&◌, ℕ, inl, inr, Bool, true, false, cond, is_some, nat_cmp, Option, Some, None, option_and_then, refl, sym, ap, subst, ◌∙◌, eqb-true, eq-eqb, ne_eqb, if◌then◌else◌}
+use Rattle.std.proofs.Common.{◌≡◌, ◌≢◌, ◌==◌, ◌&&◌, ℕ, inl, inr, Bool, true, false, cond, is_some, nat_cmp, Option, Some, None, option_and_then, refl, sym}
+use Rattle.std.proofs.Common.{ap, subst, ◌∙◌, eqb-true, eq-eqb, ne_eqb, if◌then◌else◌}
 use Rattle.std.proofs.lemmas.Bool.{cases_eq, true≢false, and_parts, eqb-false}
 use Rattle.std.proofs.lemmas.Option.{none-some, same_Some}
 use Rattle.std.specs.Cmp.{nat_cmp_total, unsigned_tied}
@@ -10,7 +11,8 @@ use Rattle.history.specs.declared.calls.Call.{Call}
 use Rattle.history.specs.declared.calls.Call.TheVariants.{Get, Put, PutIfAbsent, Replace, ReplaceIf, Remove, RemoveIf, Clear, Snapshot, Freeze, Close, Entries, Count}
 use Rattle.history.specs.declared.replies.Reply.{Reply}
 use Rattle.history.specs.declared.replies.Reply.TheVariants as reply
-use Rattle.history.specs.Effects.{Effect, changing, copying, naming, map_of, writable_map_of, read_only_map_of, with_access, put_in, put_if_absent_in, replace_in, replace_if_in, remove_in, remove_if_in, is_crowded, has_value}
+use Rattle.history.specs.Effects.{Effect, changing, copying, naming, map_of, writable_map_of, read_only_map_of, with_access, put_in, put_if_absent_in, replace_in, replace_if_in}
+use Rattle.history.specs.Effects.{remove_in, remove_if_in, is_crowded, has_value}
 use Rattle.history.specs.Worlds.{KeyMap, HandleState, HandleMap, first_world}
 use Rattle.lock_free.specs.OneKey.{value_in, is_number, touches, KeyAnswers, KeyStep}
 
@@ -161,7 +163,8 @@ module _ (w next : HandleMap) (h k : ℕ) (change : KeyMap → Reply × KeyMap) 
       let at_key = eqb-true k key parts.1 in
       let before : value_in w handle key ≡ map.get c.m k = ap (λ n. value_in w n key) (sym at_handle) ∙ value_there w h key c.m c.there ∙ ap (map.get c.m) (sym at_key) in
       let after : value_in next handle key ≡ map.get (change c.m).1 k =
-      ap (λ x. value_in x handle key) c.is ∙ ap (λ n. value_in (naming w h Writable (change c.m).1) n key) (sym at_handle) ∙ named_same w h Writable (change c.m).1 key ∙ ap (map.get (change c.m).1) (sym at_key) in
+      ap (λ x. value_in x handle key) c.is ∙ ap (λ n. value_in (naming w h Writable (change c.m).1) n key) (sym at_handle) ∙ named_same w h Writable (change c.m).1 key
+      ∙ ap (map.get (change c.m).1) (sym at_key) in
       subst (λ x. KeyAnswers call x answer (value_in next handle key)) (sym before)
       (subst (λ x. KeyAnswers call (map.get c.m k) answer x) (sym after) (subst (λ r. KeyAnswers call (map.get c.m k) r (map.get (change c.m).1 k)) (sym c.says) (does c.m)))
 

@@ -1,5 +1,6 @@
 -- Where nobody else calls on a key of a handle, an actor's calls on it are answered as on a map of this key alone.
-use Rattle.std.proofs.Common.{◌≡◌, ◌≢◌, ◌+◌, ◌-◌, ◌&&◌, ◌<◌, ◌≤◌, ◌⊎◌, ℕ, zero, suc, inl, inr, Bool, true, false, not, cond, List, [], ◌∷◌, length, filter, Option, Some, None, slice_get, refl, sym, ap, subst, ◌∙◌, arith}
+use Rattle.std.proofs.Common.{◌≡◌, ◌≢◌, ◌+◌, ◌-◌, ◌&&◌, ◌<◌, ◌≤◌, ◌⊎◌, ℕ, zero, suc, inl, inr, Bool, true, false, not, cond, List, [], ◌∷◌, length, filter, Option}
+use Rattle.std.proofs.Common.{Some, None, slice_get, refl, sym, ap, subst, ◌∙◌, arith}
 use Rattle.std.proofs.lemmas.Bool.{cases_eq, true≢false, and_parts}
 use Rattle.std.proofs.lemmas.Option.{none-some, same_Some}
 use Rattle.history.specs.declared.events.Event.{Event}
@@ -55,7 +56,8 @@ module _ (history : List Event) (actor handle key : ℕ) where
   timed_on [] low high h = h
   timed_on (a ∷ ts) low high (b, rest) = by (is_on handle key a) (timed_on ts (b.ends + 1) high rest)
     where
-      by : (t : Bool) → AreTimed history actor (filter (is_on handle key) ts) (b.ends + 1) high → AreTimed history actor (cond t (a ∷ filter (is_on handle key) ts) (filter (is_on handle key) ts)) low high
+      by : (t : Bool) → AreTimed history actor (filter (is_on handle key) ts) (b.ends + 1) high →
+          AreTimed history actor (cond t (a ∷ filter (is_on handle key) ts) (filter (is_on handle key) ts)) low high
       by true more = (b, more)
       by false more = timed_lower history actor (filter (is_on handle key) ts) (b.ends + 1) high low (omega (arith, b.after, b.before)) more
 
@@ -167,7 +169,8 @@ module _ (hash : ℕ → ℕ) (history : List Event) (order : List ℕ) (world :
   scan (x ∷ ids) [] n w (t ∷ ts) low at recalls replays timed on here mine = absurd recalls
   scan (x ∷ ids) (one ∷ calls) n w (t ∷ ts) low at ((told, answered), recalls) (next, effect, replays) timed on here mine =
       by (λ later least timed_later on_later here_later mine_later.
-      scan ids calls (n + 1) next later least (λ i. at (suc i) ∙ ap (slice_get order) (omega arith)) recalls replays timed_later on_later here_later mine_later) (touches handle key one.call one.opens) refl
+      scan ids calls (n + 1) next later least (λ i. at (suc i) ∙ ap (slice_get order) (omega arith)) recalls replays timed_later on_later here_later mine_later)
+          (touches handle key one.call one.opens) refl
     where
       Rest : Type 0
       Rest = (later : List Answer) (least : ℕ) → AreTimed history actor later least high → AllOn handle key later → AllHere (n + 1) later → AllMine (n + 1) later →

@@ -57,13 +57,15 @@ runs_after : (actor : ℕ) (talk : Talk) (event : Event) (it : Begun) → (after
 runs_after actor talk (Begin id owner call opens) it e = elim (cases_eq owner actor) [
   | inl own ↦
       (let is : record { id = id; call = call; opens = opens } ≡ it =
-      same_Some (record { id = id; call = call; opens = opens }) it (sym (ap (λ b. (cond b (record talk { runs = Some (record { id = id; call = call; opens = opens }) }) talk).runs) (eq-eqb owner actor own)) ∙ e) in
+      same_Some (record { id = id; call = call; opens = opens }) it (sym (ap (λ b. (cond b (record talk { runs = Some (record { id = id; call = call; opens = opens }) }) talk).runs)
+          (eq-eqb owner actor own)) ∙ e) in
       inr (subst (λ (x : Begun). Begin id owner call opens ≡ Begin x.id actor x.call x.opens) is (ap (λ a. Begin id a call opens) own)))
   | inr other ↦ inl (sym (ap (λ b. (cond b (record talk { runs = Some (record { id = id; call = call; opens = opens }) }) talk).runs) (ne_eqb owner actor other)) ∙ e)
 ]
 runs_after actor talk (End id reply) it e = inl (by talk.runs refl)
   where
-    test : (was : Begun) (b : Bool) → talk.runs ≡ Some was → (cond b (record { answers = talk.answers ++ record { of = was; reply = reply } ∷ []; runs = None }) talk).runs ≡ Some it → talk.runs ≡ Some it
+    test : (was : Begun) (b : Bool) → talk.runs ≡ Some was → (cond b (record { answers = talk.answers ++ record { of = was; reply = reply } ∷ []; runs = None }) talk).runs ≡ Some it →
+        talk.runs ≡ Some it
     test was true is f = absurd (none-some it f)
     test was false is f = f
 
