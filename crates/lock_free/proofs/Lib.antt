@@ -114,4 +114,11 @@ mod Idle
 mod SplitSeats
 mod SameSteps
 mod HistoriesOn
+mod Hearing
+mod Gathering
+mod Talks
 mod Answered
+mod CallsAnswered
+mod KeyValues
+mod Timelines
+mod OwnKeys

@@ -35,3 +35,6 @@ pub mod Opening
 pub mod Splitting
 pub mod Telling
 pub mod Answering
+pub mod Finishing
+pub mod Answers
+pub mod OneKey

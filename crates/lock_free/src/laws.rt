@@ -1,6 +1,8 @@
 //! Laws of what seats have seen.
 
 ghost use Rattle.lock_free.specs.Answering.{CallsAreAnswered, ClosesAreAnswered};
+ghost use Rattle.lock_free.specs.Answers.{AnswersGoOn, BeginsTellNothing, EndsAreTold, OthersTellNothing};
+ghost use Rattle.lock_free.specs.OneKey.{OwnKeysAreAnswered};
 ghost use Rattle.lock_free.specs.Telling.{HistoriesGoOn, SeatsAreExplained};
 
 use proof_linearizable::every_order_is_legal;
@@ -27,4 +29,32 @@ pub fn calls_are_answered()
 /// A law: so was a call that has closed its handle.
 pub fn closes_are_answered()
     ensures { ClosesAreAnswered }
+{}
+
+/// A law: what an actor was answered stays so, and later answers stand after it.
+pub fn answers_go_on()
+    ensures { AnswersGoOn }
+{}
+
+/// A law: what others do tells an actor nothing, so all that it was answered is told in the account at its own last step.
+pub fn others_tell_nothing()
+    ensures { OthersTellNothing }
+{}
+
+/// A law: where an operation begins nobody is answered.
+pub fn begins_tell_nothing()
+    ensures { BeginsTellNothing }
+{}
+
+/// A law: where an operation ends its actor is answered, after all that it was answered before: its call, and the reply by which it
+/// ends.
+pub fn ends_are_told()
+    ensures { EndsAreTold }
+{}
+
+/// A law: where nobody else ever calls on a key of a handle, an actor's calls on it are answered, one after the other, as on a map of
+/// this key alone; or `Crowded`, since keys of others may have its hash. The calls that empty the handle's map, open the handle or
+/// take it away are among those that nobody else makes.
+pub fn own_keys_are_answered()
+    ensures { OwnKeysAreAnswered }
 {}
