@@ -9,7 +9,6 @@ use Rattle.machine_model.specs.Beneath.slot_arena.specs.Heaps.{main_at, prev_at,
 use Rattle.machine_model.specs.Beneath.slot_arena.specs.Refs.{slot_of}
 use Rattle.machine_model.specs.declared.actions.Action.TheVariants as act
 use Rattle.machine_model.specs.declared.operations.Operation.{Operation}
-use Rattle.machine_model.specs.declared.roots.Descriptor.{Descriptor}
 use Rattle.machine_model.specs.Acting.{operation_after}
 use Rattle.machine_model.specs.Machine.{AreBounds}
 use Rattle.machine_model.specs.declared.reading.ReadLine.TheVariants as read
@@ -111,11 +110,6 @@ module _ (sizes : Sizes) (account : Account) (bounds : AreBounds (bounds_for siz
     -- no two nodes of its own have one slot
     pub private_apart : Once (map slot_of operation.private)
     private_apart = giving.private_apart sizes account bounds actor operation runs
-
-    -- the main node with which it completes an offer, and the one that the offer expects
-    pub completed_live : (offer : Descriptor) (main : Ref) → action_of (state_of sizes account) operation ≡ act.Complete offer main → IsLive (state_of sizes account) main
-        × IsLive (state_of sizes account) offer.expected
-    completed_live = found.completed_live sizes account bounds actor operation runs
 
     pub looked_at_lives : (r : Ref) → action_of (state_of sizes account) operation ≡ act.Look r → IsLive (state_of sizes account) r
     looked_at_lives = found.looked_at_lives sizes account bounds actor operation runs

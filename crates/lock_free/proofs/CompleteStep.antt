@@ -25,27 +25,23 @@ use Rattle.lock_free.specs.declared.accounts.Account.{Account}
 use Rattle.lock_free.specs.declared.accounts.Known.{Known}
 use Rattle.lock_free.specs.declared.rules.View.{View}
 use Rattle.lock_free.specs.declared.sizes.Sizes.{Sizes}
-use Rattle.machine_model.specs.Beneath.slot_arena.specs.declared.nodes.Slot.{Slot}
-use Rattle.machine_model.specs.Beneath.slot_arena.specs.Refs.{slot_of}
-use Rattle.lock_free.specs.Accounts.{state_of, place_of, running, gone_on}
-use Rattle.lock_free.specs.Live.{IsLive}
+use Rattle.lock_free.specs.Accounts.{state_of, running, gone_on}
 use Rattle.lock_free.specs.Loading.{Moment, now, seen, IsAt, IsSound}
 use Rattle.lock_free.specs.OfferWords.{IsAtComplete, TookUnmarked, HasCompleted, has_completed, outcome_by, carried_by}
 use Rattle.lock_free.specs.Places.{words_of}
 use Rattle.lock_free.specs.Roots.{open_with, carried_out, IsItsTry}
-use Rattle.lock_free.specs.Rules.{Stands, IsSeat, IsKept}
-use Rattle.lock_free.proofs.Asked.{completed_live, live_in_use, slots_tell}
+use Rattle.lock_free.specs.Rules.{IsSeat, IsKept}
 use Rattle.lock_free.proofs.AbortStep.{known_there}
 use Rattle.lock_free.proofs.Exchanged.{words_then, words_hit, missed, sound_by}
 use Rattle.lock_free.proofs.Looking.{o_there, acts_there, same_action}
-use Rattle.lock_free.proofs.Moments.{allowed, before, live_place, waited_so}
+use Rattle.lock_free.proofs.Moments.{allowed, waited_so}
 use Rattle.lock_free.proofs.OneStep.Settles.{stands}
 use Rattle.lock_free.proofs.OneStep.Settling.{complete_settles, complete_misses, complete_own}
 use Rattle.lock_free.proofs.Settled.{all_then, settle_kept}
 use Rattle.lock_free.proofs.Stood.{stands_there, stands_no_more}
 
 module _ (v : View) (k : Known) (main : Ref) (known : Contains v.account.offers k) (p : IsAt v (act.Complete k.offer main)) (on : k.handle ≡ handle_of p.operation.call) (expected : Bool)
-    (test : (place_of v.account main == place_of v.account k.offer.expected) ≡ expected) where
+    (test : (main == k.offer.expected) ≡ expected) where
   abbrev does : Action
   does = act.Complete k.offer main
 
@@ -86,32 +82,6 @@ module _ (v : View) (k : Known) (main : Ref) (known : Contains v.account.offers 
     low : handle_of o.call < handle_limit
     low = (seat.entered (handle_of o.call) (seat.calls o runs)).0
 
-    -- both main nodes stand in the table, so their slots tell them apart
-    abbrev Stays : Ref → Type 0
-    Stays r = (place_of there r ≡ place_of v.account r) × IsLive state r × ((x : Slot) × Stands kept.stands state (slot_of r) x)
-
-    stays_so : (r : Ref) → IsLive (now v) r → IsLive state r → Stays r
-    stays_so r first live = let used = live_in_use v.sizes there kept.bounds r live in (live_place v s kept id at r first, live, (used.0, (kept.nodes.live r live, used.1)))
-
-    both_stay : Stays main × Stays k.offer.expected
-    both_stay =
-        let first = completed_live v.sizes v.account (before v s kept id at) v.actor p.operation p.runs k.offer main p.acts in
-        let later = completed_live v.sizes there kept.bounds v.actor o runs k.offer main acts in
-        (stays_so main first.0 later.0, stays_so k.offer.expected first.1 later.1)
-
-    test_there : (main == k.offer.expected) ≡ expected
-    test_there = elim (cases_eq main k.offer.expected) [
-      | inl same ↦
-          eq-eqb main k.offer.expected same ∙ sym (eq-eqb (place_of v.account main) (place_of v.account k.offer.expected) (ap (place_of v.account) same)) ∙ test
-      | inr differs ↦
-          ne_eqb main k.offer.expected differs
-          ∙ sym (ne_eqb (place_of v.account main) (place_of v.account k.offer.expected) (λ e.
-          (let (a, b) = both_stay in
-          let place = a.0 ∙ e ∙ sym b.0 in
-          differs (slots_tell v.sizes there kept.bounds main k.offer.expected a.1 b.1
-          (kept.nodes.apart (slot_of main) (slot_of k.offer.expected) a.2.0 b.2.0 a.2.1 b.2.1 place))))) ∙ test
-    ]
-
     stood : found ≡ 0 → root_at state (handle_of o.call) ≡ open_with Writable (Offer k.offer)
     stood e = subst (λ h. root_at state h ≡ open_with Writable (Offer k.offer)) on (stands_there v.sizes s kept k here e)
 
@@ -133,7 +103,7 @@ module _ (v : View) (k : Known) (main : Ref) (known : Contains v.account.offers 
 
     hits : found ≡ 0 → Settled
     hits e =
-        let settles = complete_settles v.sizes there kept.bounds v.actor o runs k main acts (stood e) expected test_there in (
+        let settles = complete_settles v.sizes there kept.bounds v.actor o runs k main acts (stood e) expected test in (
           subst (λ ws. IsKept v.sizes (record { words = ws; homes = s.homes; views = set s.views id after })) (words_hit v s kept id at word 0 outcome e word refl)
               (settle_kept v.sizes s kept id v at o runs outcome k here settles on e),
           sound_by v s kept id at (gone_on v.actor there) kept.stands _ (all_then v.sizes s kept id v at o runs outcome k here settles on e),
@@ -154,7 +124,7 @@ module _ (v : View) (k : Known) (main : Ref) (known : Contains v.account.offers 
       pub tells : (is_carried_out (word_at state (handle_of o.call)) k.offer main || o.is_marked) ≡ carried_by found expected
       tells = elim (cases_eq found 0) [
         | inl e ↦
-            ap (λ b. (b && (main == k.offer.expected)) || o.is_marked) (stands v.sizes there kept.bounds v.actor o runs k (stood e)) ∙ ap (λ b. (true && b) || o.is_marked) test_there
+            ap (λ b. (b && (main == k.offer.expected)) || o.is_marked) (stands v.sizes there kept.bounds v.actor o runs k (stood e)) ∙ ap (λ b. (true && b) || o.is_marked) test
             ∙ ap (λ b. (true && expected) || b) (mark_is ∙ ap (λ n. n == carried_out) e) ∙ or_false expected ∙ sym (ap (λ b. if b then expected else (found == carried_out)) (eq-eqb found 0 e))
         | inr differs ↦
             ap (λ b. (b && (main == k.offer.expected)) || o.is_marked) (no_more differs) ∙ mark_is ∙ sym (ap (λ b. if b then expected else (found == carried_out)) (ne_eqb found 0 differs))

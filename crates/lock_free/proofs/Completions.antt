@@ -1,5 +1,6 @@
 -- COMPLETE, from its first line to what comes after it.
-use Rattle.std.proofs.Common.{◌≡◌, ◌==◌, ℕ, Bool, inl, Contains, Some, None, sym, ap, subst, ◌∙◌}
+use Rattle.std.proofs.Common.{◌≡◌, ◌==◌, ℕ, Bool, inl, inr, Contains, Some, None, sym, ap, subst, ◌∙◌, eq-eqb, ne_eqb}
+use Rattle.std.proofs.lemmas.Bool.{cases_eq}
 use Rattle.std.proofs.lemmas.List.Elements.{Contains-append_left}
 use Rattle.machine_model.specs.Beneath.slot_arena.specs.declared.refs.Ref.{Ref}
 use Rattle.machine_model.specs.declared.actions.Action.TheVariants as act
@@ -117,10 +118,15 @@ module _ (n : ℕ) (v0 : View) (sound0 : IsSound n v0) (way : Way) (offer : ℕ)
       placed2 : place_of v2.account main ≡ name
       placed2 = gives.link.is.names.place
 
-      test : (place_of v3.account main == place_of v3.account its.offer.expected) ≡ (name == pair3.high)
-      test =
-          ap (λ n. n == place_of v3.account its.offer.expected) (later3.places main gives.link.main_used.0 gives.link.main_used.1 ∙ placed2)
-          ∙ ap (λ n. name == n) (expected_at ∙ sym said3.expected)
+      -- equal slots have equal nodes
+      test : (main == its.offer.expected) ≡ (name == pair3.high)
+      test = elim (cases_eq name pair3.high) [
+        | inl e ↦ eq-eqb main its.offer.expected (said3.only main holds2 (placed2 ∙ e)) ∙ sym (eq-eqb name pair3.high e)
+        | inr differs ↦
+            ne_eqb main its.offer.expected
+            (λ e. differs (sym placed2 ∙ sym (later3.places main gives.link.main_used.0 gives.link.main_used.1) ∙ ap (place_of v3.account) e ∙ expected_at ∙ sym said3.expected))
+            ∙ sym (ne_eqb name pair3.high differs)
+      ]
         where
           expected_at : place_of v3.account its.offer.expected ≡ place_of olds3.0.account its.offer.expected
           expected_at = ap (λ (x : View). place_of x.account its.offer.expected) olds3.0.after_is
@@ -142,5 +148,5 @@ module _ (n : ℕ) (v0 : View) (sound0 : IsSound n v0) (way : Way) (offer : ℕ)
         comes = λ o runs. saw_runs v2 v3 olds3.0 (read_to (Gives main) o) (gives.come.comes o (saw_runs v0 v1 olds.0 o runs));
       }
 
-      pub helped : (carried : Bool) (after : View) → HasCompleted v3 carried after → HasHelped v0 carried after
-      helped carried after h = (main, v3, come3, h)
+      pub helped : (carried : Bool) (after : View) → HasCompleted v3 carried after → IsSound n v3 → HasHelped v0 carried after
+      helped carried after h sound3 = (main, v3, come3, h, subst (λ k. IsSound k v3) sound0.size sound3)

@@ -1,9 +1,9 @@
 -- The exchange of a handle's word that is to bring an offer to stand: it finds its root there, another one, or what is no root.
 use Rattle.history.specs.declared.calls.Call.{Call}
-use Rattle.std.proofs.Common.{◌≡◌, ◌≢◌, ◌+◌, ◌*◌, ◌<◌, ◌^◌, ◌==◌, ℕ, inl, inr, true, false, List, [], ◌∷◌, ◌++◌, Contains, set, slice_index, length, drop, Option, Some, None, refl, sym, ap, subst, ◌∙◌, arith, eq-eqb, ne_eqb, get_or, if◌then◌else◌}
+use Rattle.std.proofs.Common.{◌≡◌, ◌≢◌, ◌+◌, ◌*◌, ◌<◌, ◌^◌, ◌==◌, ℕ, inl, inr, true, false, List, [], ◌∷◌, ◌++◌, Contains, set, slice_index, Option, Some, None, refl, sym, ap, subst, ◌∙◌, arith, eq-eqb, ne_eqb, get_or, if◌then◌else◌}
 use Rattle.std.proofs.Common.{append-nil}
 use Rattle.std.proofs.lemmas.Bool.{cases_eq}
-use Rattle.std.proofs.lemmas.List.{append_cancel_right, length_push}
+use Rattle.std.proofs.lemmas.List.{same_from_push}
 use Rattle.std.proofs.lemmas.List.Elements.{Contains-append_left, Contains-append_right, Contains-get_or, Contains-push}
 use Rattle.std.proofs.lemmas.Option.{same_Some}
 use mathlib.Core.Option.{some, none}
@@ -60,12 +60,6 @@ use Rattle.lock_free.proofs.Spending as spending
 use Rattle.lock_free.proofs.Framing.{class_small}
 use Rattle.lock_free.proofs.Within.{both_inside, two_words}
 
-last_of : (xs ys : List ℕ) (a b : ℕ) → xs ++ a ∷ [] ≡ ys ++ b ∷ [] → a ≡ b
-last_of [] [] a b e = ap (λ ns. slice_index ns 0) e
-last_of [] (y ∷ ys) a b e = let both = ap length e in let more = length_push ys b in absurd (omega (arith, both, more))
-last_of (x ∷ xs) [] a b e = let both = ap length e in let more = length_push xs a in absurd (omega (arith, both, more))
-last_of (x ∷ xs) (y ∷ ys) a b e = last_of xs ys a b (ap (drop 1) e)
-
 -- the references that stand in the line of an offer are at hand
 refs_at_hand : (offer : Descriptor) → refs_of_claims (offer_wants offer) ≡ refs_of_offer offer
 refs_at_hand offer = ap (λ rs. offer.root ∷ offer.expected ∷ offer.successor ∷ rs) (append-nil (refs_of_option offer.second))
@@ -73,6 +67,30 @@ refs_at_hand offer = ap (λ rs. offer.root ∷ offer.expected ∷ offer.successo
 second_same : (before after : Account) (o : Option Ref) → ((r : Ref) → Contains (refs_of_option o) r → place_of after r ≡ place_of before r) → second_of after o ≡ second_of before o
 second_same before after None same = refl
 second_same before after (Some r) same = same r (Contains-get_or (r ∷ []) 0 r (omega arith))
+
+pub root_of_offer : (offer : Descriptor) → Contains (refs_of_offer offer) offer.root
+root_of_offer offer = Contains-get_or (refs_of_offer offer) 0 offer.root (omega arith)
+
+-- it is written so later too, where its nodes are where they were
+pub drafts_moved : (before after : Account) (drafts : List (ℕ × ℕ)) (slot : ℕ) (offer : Descriptor) → ((r : Ref) → Contains (refs_of_offer offer) r → place_of after r ≡ place_of before r) →
+    DraftsOffer before drafts slot offer →
+    DraftsOffer after drafts slot offer
+drafts_moved before after drafts slot offer same d = record {
+  first = d.first;
+  olds =
+      subst (λ n. Contains drafts (2 * slot + 1, n))
+      (sym (ap (λ n. pair_code (record { low = n; high = place_of after offer.expected })) (same offer.root (named 0 (omega arith)))
+      ∙ ap (λ n. pair_code (record { low = place_of before offer.root; high = n })) (same offer.expected (named 1 (omega arith))))) d.olds;
+  news =
+      subst (λ n. Contains drafts (2 * slot + 2, n))
+      (sym (ap (λ n. pair_code (record { low = n; high = second_of after offer.second })) (same offer.successor (named 2 (omega arith)))
+      ∙ ap (λ n. pair_code (record { low = place_of before offer.successor; high = n }))
+      (second_same before after offer.second
+      (λ r c. same r (Contains-append_right (offer.root ∷ offer.expected ∷ offer.successor ∷ []) (refs_of_option offer.second) r c))))) d.news;
+}
+  where
+    named : (k : ℕ) → k < 3 → Contains (refs_of_offer offer) (get_or (refs_of_offer offer) k offer.root)
+    named k few = Contains-get_or (refs_of_offer offer) k offer.root (omega (arith, few))
 
 module _ (v : View) (root slot : ℕ) (offer : Descriptor) (rest : List ℕ) (p : IsAt v (act.Offer offer)) (w : WritesOffer v root slot offer rest) where
   abbrev handle : ℕ
@@ -85,6 +103,9 @@ module _ (v : View) (root slot : ℕ) (offer : Descriptor) (rest : List ℕ) (p 
   held r c =
       subst (λ l. Contains (refs_of_claims (line_wants (now v).limits.hash p.operation.call p.operation.access l) ++ p.operation.private) r) (sym at_line)
       (Contains-append_left (refs_of_claims (offer_wants offer)) p.operation.private r (subst (λ rs. Contains rs r) (sym (refs_at_hand offer)) c))
+
+  pub offer_lives : (r : Ref) → Contains (refs_of_offer offer) r → IsLive (now v) r
+  offer_lives r c = from_operation v.actor p.operation r p.runs tt (held r c)
 
   module _ (s : Table.State Call View) (kept : IsKept v.sizes s) (id : ℕ) (at : get_elem? s.views id ≡ some v) where
     abbrev found : ℕ
@@ -123,30 +144,13 @@ module _ (v : View) (root slot : ℕ) (offer : Descriptor) (rest : List ℕ) (p 
     same : (r : Ref) → Contains (refs_of_offer offer) r → place_of there r ≡ place_of v.account r
     same r c = live_place v s kept id at r (lives r c).0
 
-    named : (k : ℕ) → k < 3 → Contains (refs_of_offer offer) (get_or (refs_of_offer offer) k offer.root)
-    named k few = Contains-get_or (refs_of_offer offer) k offer.root (omega (arith, few))
-
-    second_named : (r : Ref) → Contains (refs_of_option offer.second) r → Contains (refs_of_offer offer) r
-    second_named r c = Contains-append_right (offer.root ∷ offer.expected ∷ offer.successor ∷ []) (refs_of_option offer.second) r c
-
     drafted : DraftsOffer there v.drafts slot offer
-    drafted = record {
-      first = w.drafts.first;
-      olds =
-          subst (λ n. Contains v.drafts (2 * slot + 1, n))
-          (sym (ap (λ n. pair_code (record { low = n; high = place_of there offer.expected })) (same offer.root (named 0 (omega arith)))
-          ∙ ap (λ n. pair_code (record { low = place_of v.account offer.root; high = n })) (same offer.expected (named 1 (omega arith))))) w.drafts.olds;
-      news =
-          subst (λ n. Contains v.drafts (2 * slot + 2, n))
-          (sym (ap (λ n. pair_code (record { low = n; high = second_of there offer.second })) (same offer.successor (named 2 (omega arith)))
-          ∙ ap (λ n. pair_code (record { low = place_of v.account offer.successor; high = n }))
-          (second_same v.account there offer.second (λ r c. same r (second_named r c))))) w.drafts.news;
-    }
+    drafted = drafts_moved v.account there v.drafts slot offer same w.drafts
 
     -- ---- the root that is there
 
     root_place : place_of there offer.root ≡ root
-    root_place = same offer.root (named 0 (omega arith)) ∙ w.place
+    root_place = same offer.root (root_of_offer offer) ∙ w.place
 
     stands_so : (r : Ref) → IsLive state r → (x : Slot) × StandsIn kept.stands state (slot_of r) x
     stands_so r live = let used = live_in_use v.sizes there kept.bounds r live in (used.0, (kept.nodes.live r live, used.1))
@@ -154,7 +158,7 @@ module _ (v : View) (root slot : ℕ) (offer : Descriptor) (rest : List ℕ) (p 
     same_root : (q : Ref) → root_at state handle ≡ open_with Writable (Plain q) → place_of there q ≡ root → q ≡ offer.root
     same_root q plain place =
         let live : IsLive state q = from_root handle q (subst (λ r. Contains (refs_of_root r) q) (sym plain) (Contains-get_or (q ∷ []) 0 q (omega arith))) in
-        let mine = (lives offer.root (named 0 (omega arith))).1 in
+        let mine = (lives offer.root (root_of_offer offer)).1 in
         let a = stands_so q live in
         let b = stands_so offer.root mine in
         slots_tell v.sizes there kept.bounds q offer.root live mine (kept.nodes.apart (slot_of q) (slot_of offer.root) a.0 b.0 a.1 b.1 (place ∙ sym root_place))
@@ -196,7 +200,7 @@ module _ (v : View) (root slot : ℕ) (offer : Descriptor) (rest : List ℕ) (p 
           (handle_of q.operation.call) others other there
       tells_offered other q others pool =
           ap (λ (x : Operation). offered_by v slot (handle_of x.call) rest offer there) (same_Some p.operation q.operation (sym p.runs ∙ q.runs))
-          ∙ ap (λ xs. offered_by v slot (handle_of q.operation.call) xs offer there) (append_cancel_right rest others (slot ∷ []) (sym w.last ∙ pool))
+          ∙ ap (λ xs. offered_by v slot (handle_of q.operation.call) xs offer there) (same_from_push rest others slot slot (sym w.last ∙ pool)).0
           ∙ ap (λ d. offered_by v slot (handle_of q.operation.call) others d there) (same_offer v offer other p q)
 
       tells_plain : (other : Descriptor) (q : IsAt v (act.Offer other)) → is_plain (word_at state (handle_of q.operation.call)) other.root ≡ true
@@ -257,7 +261,7 @@ module _ (v : View) (root slot : ℕ) (offer : Descriptor) (rest : List ℕ) (p 
     -- the root's place is in range
     small_root : root < 2 ^ 27
     small_root =
-        let mine = (lives offer.root (named 0 (omega arith))).1 in
+        let mine = (lives offer.root (root_of_offer offer)).1 in
         let used = live_in_use v.sizes there kept.bounds offer.root mine in
         let inside = kept.nodes.inside (slot_of offer.root) used.0 used.1 in
         let some = two_words (class_of used.0.node) (class_small used.0.node) in
@@ -300,7 +304,7 @@ told_so v handle root slot found after (offer, rest, p, w, on) told h r n (other
     let same_o = same_Some p.operation q.operation (sym p.runs ∙ q.runs) in
     let same_handle : handle ≡ h = sym on ∙ ap (λ (y : Operation). handle_of y.call) same_o ∙ also in
     let same_root : root ≡ r = sym w.place ∙ ap (λ (d : Descriptor). place_of v.account d.root) same_d ∙ x.place in
-    let same_slot : slot ≡ n = last_of rest others slot n (sym w.last ∙ x.last) in
+    let same_slot : slot ≡ n = (same_from_push rest others slot n (sym w.last ∙ x.last)).1 in
     subst (λ y. HasProposed v y n (proposed_by r (root_of found)) after) same_handle
     (subst (λ y. HasProposed v handle n (proposed_by y (root_of found)) after) same_root (subst (λ y. HasProposed v handle y (proposed_by root (root_of found)) after) same_slot told))
 
@@ -323,8 +327,7 @@ offer_allowed sizes size id me named root slot (offer, rest, p, w, on) =
 -- both slots are in range
 pub offer_fits : (words : ℕ) (v : View) (named root slot : ℕ) → IsSound words v → IsToOffer v named root slot → (root < 2 ^ 27) × (slot < 2 ^ 27)
 offer_fits words v named root slot sound (offer, rest, p, w, on) =
-    let first = Contains-get_or (refs_of_offer offer) 0 offer.root (omega arith) in
-    let live = from_operation v.actor p.operation offer.root p.runs tt (held v root slot offer rest p w offer.root first) in
+    let live = offer_lives v root slot offer rest p w offer.root (root_of_offer offer) in
     let inside = (both_inside words v sound offer.root root live w.place).0 in
     let free = sound.free 1 slot (omega arith, subst (λ xs. Contains xs slot) (sym w.last) (Contains-push rest slot)) in
     let size = sound.size in

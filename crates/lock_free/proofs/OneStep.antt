@@ -26,6 +26,7 @@ pub mod Taking
 pub mod MadeMains
 pub mod Offers
 pub mod Roots
+pub mod Handled
 pub mod Met
 pub mod Makes
 pub mod Openers

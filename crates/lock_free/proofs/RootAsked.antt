@@ -18,6 +18,7 @@ use Rattle.machine_model.specs.declared.operations.Operation.{Operation}
 use Rattle.machine_model.specs.declared.steps.Step.TheVariants as taken
 use Rattle.machine_model.specs.Contents as contents
 use Rattle.machine_model.specs.Counting.{refs_of_root}
+use Rattle.machine_model.specs.Moves.{GoesOn}
 use Rattle.machine_model.specs.Operations.{action_of}
 use Rattle.machine_model.specs.States.{State, root_at}
 use Rattle.lock_free.specs.declared.accounts.Account.{Account}
@@ -35,9 +36,15 @@ use Rattle.lock_free.specs.Rules.{IsKept}
 use Rattle.lock_free.proofs.Definition.{IsReading}
 use Rattle.lock_free.proofs.Looking.{saw, same_slots, went}
 use Rattle.lock_free.proofs.Moments.{allowed, seen_view, seen_kept, waited_so, gone_view, gone_kept, gone_sound, gone_took}
+use Rattle.lock_free.proofs.OneStep.Handled.{handle_low}
 use Rattle.lock_free.proofs.OneStep.Roots.{root_is_link}
 use Rattle.lock_free.proofs.RootCodes.{root_back}
 use Rattle.lock_free.proofs.SeenRoots.{root_told}
+
+-- its handle is one of the machine's
+pub asks_low : (n : ℕ) (v : View) → IsSound n v → (handle : ℕ) → AsksAt v handle → handle < 256
+asks_low n v sound handle asks =
+    subst (λ h. h < 256) asks.on (handle_low v.sizes v.account sound.bounds v.actor asks.acts.operation asks.acts.runs (subst GoesOn (sym asks.acts.acts) tt))
 
 module _ (v : View) (handle : ℕ) (asks : AsksAt v handle) (s : Table.State Call View) (kept : IsKept v.sizes s) (id : ℕ) (at : get_elem? s.views id ≡ some v) where
   abbrev found : ℕ

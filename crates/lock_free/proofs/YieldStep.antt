@@ -1,6 +1,6 @@
 -- A load of the first word of an offer that stands where another was to come to stand: undecided, it is why that one misses.
 use Rattle.history.specs.declared.calls.Call.{Call}
-use Rattle.std.proofs.Common.{◌≡◌, ◌*◌, ◌==◌, ℕ, inl, inr, false, Contains, set, slice_index, refl, sym, ap, subst, ◌∙◌, eq-eqb, ne_eqb}
+use Rattle.std.proofs.Common.{◌≡◌, ◌*◌, ◌==◌, ℕ, inl, inr, Bool, true, false, Contains, set, slice_index, refl, sym, ap, subst, ◌∙◌, eq-eqb, ne_eqb, if◌then◌else◌}
 use Rattle.std.proofs.lemmas.Bool.{cases_eq}
 use Rattle.std.proofs.lemmas.List.{set-get_or}
 use mathlib.Core.Option.{some, none}
@@ -13,16 +13,20 @@ use Rattle.machine_model.specs.Calls.{handle_of}
 use Rattle.machine_model.specs.States.{word_at, word_of}
 use Rattle.machine_model.specs.Swapping.{is_plain}
 use Rattle.lock_free.specs.declared.accounts.Known.{Known}
+use Rattle.lock_free.specs.declared.offers.Fate.TheVariants as became
 use Rattle.lock_free.specs.declared.rules.View.{View}
 use Rattle.lock_free.specs.declared.sizes.Sizes.{Sizes}
 use Rattle.lock_free.specs.Accounts.{state_of}
 use Rattle.lock_free.specs.HandleWords.{HasOffer}
 use Rattle.lock_free.specs.Loading.{seen, IsAt, IsSound}
 use Rattle.lock_free.specs.Places.{words_of}
-use Rattle.lock_free.specs.RootOffers.{MeetsOffer, HasYielded, has_yielded}
+use Rattle.lock_free.specs.RootOffers.{MeetsOffer, YieldedAs, HasYielded, has_yielded}
+use Rattle.lock_free.specs.RootWords.{fate_by}
+use Rattle.lock_free.specs.Roots.{undecided, carried_out}
 use Rattle.lock_free.specs.Rules.{IsKept}
 use Rattle.lock_free.proofs.AbortStep.{known_there}
 use Rattle.lock_free.proofs.Moments.{allowed, seen_kept, waited_so}
+use Rattle.lock_free.proofs.OfferMet.{settled_as}
 use Rattle.lock_free.proofs.OfferMisses.{dropped, dropped_kept, dropped_sound, has_missed}
 use Rattle.lock_free.proofs.Stood.{stands_there}
 
@@ -45,7 +49,7 @@ module _ (v : View) (slot : ℕ) (offer : Descriptor) (p : IsAt v (act.Offer off
 
   abbrev Left : View → Type 0
   Left after =
-      IsKept v.sizes (record { words = set s.words (2 * slot) found; homes = s.homes; views = set s.views id after }) × (IsSound (words_of v.sizes) after × HasYielded v (found == 0) after)
+      IsKept v.sizes (record { words = set s.words (2 * slot) found; homes = s.homes; views = set s.views id after }) × (IsSound (words_of v.sizes) after × YieldedAs (found == undecided) v (2 * slot) found after)
 
   same_words : (after : View) → IsKept v.sizes (record { words = s.words; homes = s.homes; views = set s.views id after }) → IsKept v.sizes
       (record { words = set s.words (2 * slot) found; homes = s.homes; views = set s.views id after })
@@ -59,7 +63,7 @@ module _ (v : View) (slot : ℕ) (offer : Descriptor) (p : IsAt v (act.Offer off
           after,
           (
             same_words after (dropped_kept v offer p s kept id at none),
-            (dropped_sound v offer p s kept id at none, subst (λ b. HasYielded v b after) (sym (eq-eqb found 0 e)) (has_missed v offer p s kept id at none)),
+            (dropped_sound v offer p s kept id at none, subst (λ b. YieldedAs b v (2 * slot) found after) (sym (eq-eqb found 0 e)) (has_missed v offer p s kept id at none)),
           ),
         )
     | inr differs ↦
@@ -68,7 +72,7 @@ module _ (v : View) (slot : ℕ) (offer : Descriptor) (p : IsAt v (act.Offer off
           after,
           (
             same_words after (seen_kept v s kept id at),
-            (waited.sound, subst (λ b. HasYielded v b after) (sym (ne_eqb found 0 differs)) (record { account = kept.account; waited = waited; after_is = refl })),
+            (waited.sound, subst (λ b. YieldedAs b v (2 * slot) found after) (sym (ne_eqb found 0 differs)) (record { table = s; kept = kept; id = id; at = at; finds = refl }, refl)),
           ),
         )
   ]
@@ -78,3 +82,15 @@ pub yield_allowed : (sizes : Sizes) (size id : ℕ) (me : Me Call View) (slot : 
 yield_allowed sizes size id me slot (offer, p, met) =
     allowed sizes size id me (2 * slot) (λ n. n) (has_yielded (step size (2 * slot) 0 0 none) me)
     (λ s kept at. (let x = leaves me.0 slot offer p met s kept id at in (x.0, x.1.0, (x.1.1.1, x.1.1.0, refl))))
+
+-- ---- what the seat is told
+
+module _ (before : View) (handle name found : ℕ) (knows : HasOffer before.sizes before.account handle name) (after : View) where
+  yielded_by : (none one : Bool) → (found == undecided) ≡ none → (found == carried_out) ≡ one → YieldedAs none before (2 * name) found after → HasYielded before name
+      (if none then became.Undecided else (if one then became.CarriedOut else became.TakenBack)) after
+  yielded_by true one e f h = h
+  yielded_by false true e f h = settled_as before name found after h true e f
+  yielded_by false false e f h = settled_as before name found after h false e f
+
+  pub yield_told : YieldedAs (found == undecided) before (2 * name) found after → HasYielded before name (fate_by found) after
+  yield_told h = yielded_by (found == undecided) (found == carried_out) refl refl h

@@ -1,12 +1,11 @@
 -- COPY: where an operation is on its way from the root to an offer that is carried out, and what it comes to.
-use Rattle.std.specs.Prelude.{◌≡◌, ℕ, Bool, Contains, if◌then◌else◌}
+use Rattle.std.specs.Prelude.{◌≡◌, ℕ, Bool, if◌then◌else◌}
 use Rattle.machine_model.specs.Beneath.slot_arena.specs.declared.refs.Ref.{Ref}
 use Rattle.machine_model.specs.declared.copying.CopyLine.{CopyLine}
 use Rattle.machine_model.specs.declared.copying.CopyLine.TheVariants as copy
 use Rattle.machine_model.specs.declared.lines.Line.{Line}
 use Rattle.machine_model.specs.declared.lines.Line.TheVariants as line
 use Rattle.machine_model.specs.declared.operations.Operation.{Operation}
-use Rattle.machine_model.specs.declared.roots.Descriptor.{Descriptor}
 use Rattle.machine_model.specs.Calls.{handle_of}
 use Rattle.machine_model.specs.Copying.{after_given, copied_reply}
 use Rattle.machine_model.specs.Lines.{new_try}
@@ -15,8 +14,8 @@ use Rattle.machine_model.specs.Swapping.{completing}
 use Rattle.lock_free.specs.declared.reading.Given.{Given}
 use Rattle.lock_free.specs.declared.rules.View.{View}
 use Rattle.lock_free.specs.GoingDown.{HasMoved}
+use Rattle.lock_free.specs.HandleWords.{HasOffer}
 use Rattle.lock_free.specs.Loading.{Runs}
-use Rattle.lock_free.specs.Offering.{known_at}
 use Rattle.lock_free.specs.Passing.{IsPlaced, KnowsLink, KnowsMain}
 use Rattle.lock_free.specs.Roots.{IsItsTry}
 
@@ -41,14 +40,12 @@ HasOriginal before given after = (root : Ref) → IsAtCopy before (copy.Read roo
 
 -- ---- its offer is completed
 
--- Its offer, which is in this slot, stands; its root is in that one, and the main node that it expects in the last.
-pub record IsToComplete (v : View) (slot root expected : ℕ) : Type 0 where
-  pub offer : Descriptor
-  pub at : IsAtCopy v (copy.Complete (completing offer))
-  pub its_try : IsItsTry at.0 offer
-  pub known : Contains v.account.offers (known_at slot (handle_of at.0.call) offer)
-  pub root_placed : IsPlaced v offer.root root
-  pub expected_placed : IsPlaced v offer.expected expected
+-- Its offer, which is in this slot, stands.
+pub record IsToComplete (v : View) (handle slot : ℕ) : Type 0 where
+  pub its : HasOffer v.sizes v.account handle slot
+  pub at : IsAtCopy v (copy.Complete (completing its.its.offer))
+  pub on : handle_of at.0.call ≡ handle
+  pub its_try : IsItsTry at.0 its.its.offer
 
 -- it was carried out, and the operation is to end, or else it starts anew
 abbrev pub copied_line : Bool → Operation → Line

@@ -15,12 +15,13 @@ use Rattle.lock_free.specs.declared.accounts.Known.{Known}
 use Rattle.lock_free.specs.declared.rules.Closing.{Closing}
 use Rattle.lock_free.specs.declared.rules.View.{View}
 use Rattle.lock_free.specs.declared.sizes.Sizes.{Sizes}
-use Rattle.lock_free.specs.Accounts.{past_of, state_of}
+use Rattle.lock_free.specs.Accounts.{state_of}
 use Rattle.lock_free.specs.Beginning.{closed_by}
 use Rattle.lock_free.specs.Loading.{IsSound, Saw, Waited}
 use Rattle.lock_free.specs.Places.{words_of, words_in, root_word}
 use Rattle.lock_free.specs.Roots.{SaysPlain}
 use Rattle.lock_free.specs.SeatWords.{IsIdle, WouldClose}
+use Rattle.lock_free.specs.Telling.{history_of}
 
 -- an offer for this handle was made in this slot
 pub record HasOffer (sizes : Sizes) (account : Account) (handle slot : ℕ) : Type 0 where
@@ -93,7 +94,7 @@ pub record ShutBy (before : View) (handle : ℕ) (after : View) : Type 0 where
   pub after_is : after ≡ once_closed before handle account
   pub idle : IsIdle after
   pub id : ℕ
-  pub told : (past_of after.sizes after.account).events ≡ (past_of before.sizes account).events ++ event.Begin id before.actor (Close handle) None ∷ event.End id reply.Closed ∷ []
+  pub told : history_of after.sizes after.account ≡ history_of before.sizes account ++ event.Begin id before.actor (Close handle) None ∷ event.End id reply.Closed ∷ []
 
 -- or the word was another
 abbrev pub HasClosed : View → ℕ → Bool → View → Type 0

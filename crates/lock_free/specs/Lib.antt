@@ -20,10 +20,10 @@ pub mod Storing
 pub mod OfferWords
 pub mod HandleWords
 pub mod Closing
-pub mod RootOffers
 pub mod Calling
-pub mod Numbers
 pub mod RootWords
+pub mod RootOffers
+pub mod Numbers
 pub mod OfReads
 pub mod Passing
 pub mod Swaps
@@ -37,3 +37,4 @@ pub mod Telling
 pub mod Finishing
 pub mod Answers
 pub mod OneKey
+pub mod Answering

@@ -154,6 +154,16 @@ IsAsking v handle =
 abbrev pub HasAsked : View → Option ℕ → View → Type 0
 HasAsked before told after = (i main replaced : Ref) → IsReading before i (read.AskRoot main replaced) → HasCome (Goes (read.Decide main replaced told)) before after
 
+-- it is still to be asked
+abbrev pub HasAskedAgain : View → View → Type 0
+HasAskedAgain before after = (i main replaced : Ref) → IsReading before i (read.AskRoot main replaced) → HasCome (Goes (read.AskRoot main replaced)) before after
+
+-- after some looks it still is
+pub record HasAskedSome (words handle : ℕ) (before after : View) : Type 0 where
+  pub sound : IsSound words after
+  pub asking : IsAsking after handle
+  pub again : HasAskedAgain before after
+
 -- the main node that was read has failed
 abbrev pub IsFailed : View → ℕ → Link → Name → Type 0
 IsFailed v name link former =

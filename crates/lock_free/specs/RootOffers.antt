@@ -12,15 +12,19 @@ use Rattle.machine_model.specs.Calls.{handle_of}
 use Rattle.machine_model.specs.States.{word_at}
 use Rattle.machine_model.specs.Swapping.{is_plain}
 use Rattle.lock_free.specs.declared.accounts.Account.{Account}
+use Rattle.lock_free.specs.declared.offers.Fate.{Fate}
+use Rattle.lock_free.specs.declared.offers.Fate.TheVariants as fate
 use Rattle.lock_free.specs.declared.root_offers.Proposed.{Proposed}
 use Rattle.lock_free.specs.declared.root_offers.Proposed.TheVariants.{Stands, Misses, Meets}
 use Rattle.lock_free.specs.declared.rules.View.{View}
 use Rattle.lock_free.specs.Accounts.{place_of}
 use Rattle.lock_free.specs.Exchanging.{given_up}
 use Rattle.lock_free.specs.HandleWords.{HasOffer, HasSeenRoot}
-use Rattle.lock_free.specs.Loading.{now, seen, IsAt, IsSound, Runs, Saw, Waited, Took}
+use Rattle.lock_free.specs.Loading.{now, seen, HasSeen, IsAt, IsSound, Runs, Saw, Waited, Took}
 use Rattle.lock_free.specs.Offering.{DraftsOffer, offered_by}
 use Rattle.lock_free.specs.Places.{words_of}
+use Rattle.lock_free.specs.RootWords.{HasSeenSettled}
+use Rattle.lock_free.specs.Roots.{undecided, carried_out, taken_back}
 use Rattle.lock_free.specs.Rules.{pool_of}
 
 -- ---- what is asked
@@ -73,15 +77,30 @@ has_proposed step before found after =
 
 -- ---- an offer that was met
 
--- an offer was found in the place of the root, which is in this slot
+-- an offer in this slot stands, or stood, where the operation is to offer
 abbrev pub MeetsOffer : View → ℕ → Type 0
 MeetsOffer v slot = (offer : Descriptor) × (p : IsAt v (act.Offer offer)) × HasOffer v.sizes v.account (handle_of p.operation.call) slot
 
--- it is undecided: so the step was taken, and the offer that was to come to stand there doesn't; or it is settled, and none was
-abbrev pub HasYielded : View → Bool → View → Type 0
-HasYielded before true after = HasMissed before after
-HasYielded before false after = Saw before after
+-- where it is undecided, the load of its first word is the step by which the operation misses
+abbrev pub YieldedAs : Bool → View → ℕ → ℕ → View → Type 0
+YieldedAs true before word found after = HasMissed before after
+YieldedAs false before word found after = HasSeen before word found after
 
 abbrev pub has_yielded : Step Call → Me Call View → ℕ → Me Call View → Type 0
-has_yielded step before found after =
-    HasYielded before.0 (found == 0) after.0 × IsSound (words_of before.0.sizes) after.0 × (after.1 ≡ before.1)
+has_yielded step before found after = YieldedAs (found == undecided) before.0 step.word found after.0 × IsSound (words_of before.0.sizes) after.0 × (after.1 ≡ before.1)
+
+abbrev pub HasYielded : View → ℕ → Fate → View → Type 0
+HasYielded before name fate.Undecided after = HasMissed before after
+HasYielded before name fate.CarriedOut after = HasSeenSettled before name carried_out after
+HasYielded before name fate.TakenBack after = HasSeenSettled before name taken_back after
+
+-- the way was made free for it, or another offer stands there
+abbrev pub HasMadeWay : View → Bool → View → Type 0
+HasMadeWay before true after = HasMissed before after
+HasMadeWay before false after = Saw before after
+
+-- ---- in the end
+
+abbrev pub HasOfferedOrMissed : View → ℕ → Bool → View → Type 0
+HasOfferedOrMissed before slot true after = HasOffered before slot after
+HasOfferedOrMissed before slot false after = HasMissed before after

@@ -18,13 +18,16 @@ use Rattle.machine_model.specs.Climbing.{climbed, climbing}
 use Rattle.machine_model.specs.Operations.{from_root}
 use Rattle.machine_model.specs.Paths.{is_start}
 use Rattle.machine_model.specs.Swapping.{completing}
-use Rattle.lock_free.specs.declared.rooting.Root.{Root}
+use Rattle.lock_free.specs.declared.reading.Way.{Way}
+use Rattle.lock_free.specs.declared.rooting.Rooted.{Rooted}
 use Rattle.lock_free.specs.declared.rules.View.{View}
 use Rattle.lock_free.specs.Fates.{HasSettled}
+use Rattle.lock_free.specs.GoingDown.{HasStayed}
 use Rattle.lock_free.specs.HandleWords.{HasOffer}
-use Rattle.lock_free.specs.Loading.{now, Runs}
+use Rattle.lock_free.specs.Loading.{now, IsSound, Runs}
 use Rattle.lock_free.specs.OfferWords.{HasCompleted, outcome_by}
-use Rattle.lock_free.specs.Passing.{HasCome, Later}
+use Rattle.lock_free.specs.Passing.{HasCome, IsOnWay, Later}
+use Rattle.lock_free.specs.Places.{words_of}
 use Rattle.lock_free.specs.RootWords.{IsRootAt}
 
 -- ---- an offer that is settled
@@ -63,7 +66,7 @@ pub record IsCompleting (v : View) (handle offer : ℕ) : Type 0 where
 
 -- it has read the root's main node, and then settled the offer, or found it settled
 abbrev pub HasHelped : View → Bool → View → Type 0
-HasHelped before carried after = (main : Ref) × (middle : View) × HasCome (Gives main) before middle × HasCompleted middle carried after
+HasHelped before carried after = (main : Ref) × (middle : View) × HasCome (Gives main) before middle × HasCompleted middle carried after × IsSound (words_of before.sizes) middle
 
 -- ---- ROOT
 
@@ -81,6 +84,23 @@ rooting_of l = None
 abbrev pub IsAtRoot : View → Type 0
 IsAtRoot v = (operation : Operation) × Runs v operation × (rooting_of operation.line ≡ Some root.Read)
 
+-- after some looks it still is
+pub record HasLookedSome (words : ℕ) (way : Way) (before after : View) : Type 0 where
+  pub sound : IsSound words after
+  pub on : IsOnWay after way
+  pub at : IsAtRoot after
+  pub stayed : HasStayed before after
+
+-- the line with its ROOT on this one
+abbrev pub climbing_on : ClimbLine → RootLine → ClimbLine
+climbing_on (climb.Root c l) x = climb.Root c x
+climbing_on l x = l
+
+abbrev pub rooting_on : Line → RootLine → Line
+rooting_on (line.Root l) x = line.Root x
+rooting_on (line.Climb l) x = line.Climb (climbing_on l x)
+rooting_on l x = l
+
 -- what comes after a ROOT that gave this root of this generation
 abbrev pub climb_rooted : Operation → ClimbLine → ℕ → Line
 climb_rooted operation (climb.Root c l) generation = if is_start operation generation then climbing operation c else climbed operation c.former
@@ -91,7 +111,7 @@ rooted r generation operation (line.Root l) = record operation { generation = So
 rooted r generation operation (line.Climb l) = record operation { line = climb_rooted operation l generation }
 rooted r generation operation l = operation
 
-pub record HasRooted (before : View) (given : Root) (after : View) : Type 0 where
+pub record HasRooted (before : View) (given : Rooted) (after : View) : Type 0 where
   pub later : Later before after
   pub root : Ref
   pub at : IsRootAt after root given.slot

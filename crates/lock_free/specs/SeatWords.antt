@@ -13,9 +13,10 @@ use Rattle.machine_model.specs.States.{operation_of}
 use Rattle.lock_free.specs.declared.accounts.Account.{Account}
 use Rattle.lock_free.specs.declared.rules.Closing.{Closing}
 use Rattle.lock_free.specs.declared.rules.View.{View}
-use Rattle.lock_free.specs.Accounts.{gone_on, past_of, running}
+use Rattle.lock_free.specs.Accounts.{gone_on, running}
 use Rattle.lock_free.specs.Loading.{now, IsAt, IsSound, Runs, Waited}
 use Rattle.lock_free.specs.Places.{pin_word, words_of}
+use Rattle.lock_free.specs.Telling.{history_of}
 
 -- the seat runs nothing
 abbrev pub IsIdle : View → Type 0
@@ -60,7 +61,7 @@ pub record HasEnded (before : View) (answer : Reply) (after : View) : Type 0 whe
   pub its : (o : Operation) → Runs before o → operation ≡ record o { is_marked = operation.is_marked }
   pub after_is : after ≡ once_ended before operation.is_marked account
   pub idle : IsIdle after
-  pub told : (past_of after.sizes after.account).events ≡ (past_of before.sizes account).events ++ event.End operation.id answer ∷ []
+  pub told : history_of after.sizes after.account ≡ history_of before.sizes account ++ event.End operation.id answer ∷ []
 
 abbrev pub has_ended : Step Call → Me Call View → ℕ → Me Call View → Type 0
 has_ended step before found after =

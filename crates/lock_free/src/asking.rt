@@ -1,6 +1,6 @@
 //! The root of a handle is asked for, in single accesses.
 
-ghost use Rattle.std.specs.Prelude.{◌≡◌, ◌<◌};
+ghost use Rattle.std.specs.Prelude.{◌≡◌};
 ghost use Rattle.lock_free.specs.Loading.{IsSound};
 ghost use Rattle.lock_free.specs.RootWords.{AsksAt, HasAskedRoot, HasSeenGeneration, IsRootIn, named_by};
 
@@ -40,7 +40,6 @@ fn named_of(word: RootWord) -> Named
 pub fn ask_word(words: &Words, actor: &mut Actor, handle: u16) -> Named
     requires table { actor.old.table_id ≡ words.now.table_id }
     requires sound { IsSound words.now.table_id.words actor.old.me.0 }
-    requires low { handle < 256 }
     requires asking { AsksAt actor.old.me.0 handle }
     ensures table { actor.new.table_id ≡ actor.old.table_id }
     ensures sound { IsSound words.now.table_id.words actor.new.me.0 }

@@ -4,7 +4,7 @@ ghost use Rattle.std.specs.Prelude.{◌≡◌, ◌<◌, ◌*◌};
 ghost use Rattle.lock_free.specs.Loading.{IsSound};
 ghost use Rattle.lock_free.specs.HandleWords.{HasOffer};
 ghost use Rattle.lock_free.specs.OfferWords.{IsAtAbort, IsAtComplete, HasAborted, HasCompleted, carried_by, outcome_by};
-ghost use Rattle.lock_free.specs.RootWords.{AsksAt, HasMetOffer, HasSeenNews, HasSeenOlds, KnowsOffer, fate_by};
+ghost use Rattle.lock_free.specs.RootWords.{AsksAt, HasMetOffer, HasSeenFate, HasSeenNews, HasSeenOlds, KnowsOffer, fate_by};
 
 use crate::loads::{Actor, Words};
 use crate::rules::{Completes, Goes, Meets, Sees};
@@ -31,7 +31,7 @@ pub enum Fate {
 }
 
 /// What this first word says of its offer.
-fn fate_of(found: u64) -> Fate
+pub(crate) fn fate_of(found: u64) -> Fate
     ensures { result ≡ fate_by found }
 {
     match found {
@@ -53,6 +53,18 @@ pub fn meet_offer(words: &Words, actor: &mut Actor, handle: u16, offer: u32) -> 
     ensures met { HasMetOffer actor.old.me.0 handle offer result actor.new.me.0 }
 {
     fate_of(words.load::<Meets>(actor, 2 * offer as usize))
+}
+
+/// What has become of the offer in this slot.
+pub fn see_fate(words: &Words, actor: &mut Actor, offer: u32) -> Fate
+    requires table { actor.old.table_id ≡ words.now.table_id }
+    requires sound { IsSound words.now.table_id.words actor.old.me.0 }
+    requires known { KnowsOffer actor.old.me.0 offer }
+    ensures table { actor.new.table_id ≡ actor.old.table_id }
+    ensures sound { IsSound words.now.table_id.words actor.new.me.0 }
+    ensures seen { HasSeenFate actor.old.me.0 offer result actor.new.me.0 }
+{
+    fate_of(words.load::<Sees>(actor, 2 * offer as usize))
 }
 
 /// The slots of the root that the offer in this slot is to replace, and of the main node that this must have.

@@ -11,7 +11,6 @@ use Rattle.machine_model.specs.Beneath.slot_arena.proofs.Live.{slot_of_ref}
 use Rattle.machine_model.specs.declared.actions.Action.{Action}
 use Rattle.machine_model.specs.declared.actions.Action.TheVariants as act
 use Rattle.machine_model.specs.declared.operations.Operation.{Operation}
-use Rattle.machine_model.specs.declared.roots.Descriptor.{Descriptor}
 use Rattle.machine_model.specs.declared.reading.ReadLine.TheVariants as read
 use Rattle.machine_model.specs.declared.steps.Bounds.{Bounds}
 use Rattle.machine_model.specs.declared.steps.Step.{Step}
@@ -197,9 +196,6 @@ module _ (sizes : Sizes) (account : Account) (bounds : AreBounds (bounds_for siz
 
     pub looked_at_lives : (r : Ref) → action_of state operation ≡ act.Look r → IsLive state r
     looked_at_lives r is = safe_of (subst (λ action. AllHold (IsLive state) state.heap (action_wants action)) is claims).0
-
-    pub completed_live : (offer : Descriptor) (main : Ref) → action_of state operation ≡ act.Complete offer main → IsLive state main × IsLive state offer.expected
-    completed_live offer main is = let all = subst (λ action. AllHold (IsLive state) state.heap (action_wants action)) is claims in (safe_of all.0, safe_of all.1.1.0)
 
 -- a node that stands stays, but for its main word, while the sweep takes no step
 slots_stay : (sizes : Sizes) (steps more : List Step) → AreBounds (bounds_for sizes (steps ++ more)) → HasNoSweeps more → (k : ℕ) (slot : Slot) →

@@ -21,4 +21,4 @@ pub returns-clause-helped : goal.returns-clause-helped
 returns-clause-helped g c =
     helped c.args.words.now.table_id.words c.args.actor.now.me.0 c.requires.sound c.args.way c.args.offer c.requires.completing c.see_olds-root.new.actor.me.0 c.see_olds-root.result
     c.see_olds-root.ensures.seen c.read-given.new.actor.me.0 c.read-given.ensures.sound c.read-given.result c.read-given.ensures.given c.see_olds-expected.new.actor.me.0 c.see_olds-expected.result
-    c.see_olds-expected.ensures.seen c.complete.result c.complete.new.actor.me.0 c.complete.ensures.completed
+    c.see_olds-expected.ensures.seen c.complete.result c.complete.new.actor.me.0 c.complete.ensures.completed c.see_olds-expected.ensures.sound
