@@ -14,7 +14,7 @@ use Rattle.lock_free.specs.declared.sizes.Sizes.{Sizes}
 use Rattle.lock_free.specs.Accounts.{bounds_for}
 use Rattle.lock_free.specs.Finishing.{IsTold, Knows, no_view}
 use Rattle.lock_free.specs.Rules.{IsKept}
-use Rattle.lock_free.proofs.Answered.{answers_go_on}
+use Rattle.lock_free.proofs.AnswersTold.{answers_go_on}
 use Rattle.lock_free.proofs.Hearing.{knows_trans}
 use Rattle.lock_free.proofs.HistoriesOn.{histories_go_on}
 

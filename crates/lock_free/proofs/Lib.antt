@@ -117,8 +117,8 @@ mod HistoriesOn
 mod Hearing
 mod Gathering
 mod Talks
-mod Answered
-mod CallsAnswered
+mod AnswersTold
 mod KeyValues
 mod Timelines
 mod OwnKeys
+mod Answered

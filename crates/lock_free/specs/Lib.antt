@@ -34,7 +34,7 @@ pub mod CopySteps
 pub mod Opening
 pub mod Splitting
 pub mod Telling
-pub mod Answering
 pub mod Finishing
 pub mod Answers
 pub mod OneKey
+pub mod Answering

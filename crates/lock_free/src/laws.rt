@@ -1,8 +1,8 @@
 //! Laws of what seats have seen.
 
-ghost use Rattle.lock_free.specs.Answering.{CallsAreAnswered, ClosesAreAnswered};
 ghost use Rattle.lock_free.specs.Answers.{AnswersGoOn, BeginsTellNothing, EndsAreTold, OthersTellNothing};
 ghost use Rattle.lock_free.specs.OneKey.{OwnKeysAreAnswered};
+ghost use Rattle.lock_free.specs.Answering.{CallsAreAnswered, ClosesAreAnswered};
 ghost use Rattle.lock_free.specs.Telling.{HistoriesGoOn, SeatsAreExplained};
 
 use proof_linearizable::every_order_is_legal;
@@ -18,17 +18,6 @@ pub fn seats_are_explained()
 /// A law: a history goes on, and never changes what it has told.
 pub fn histories_go_on()
     ensures { HistoriesGoOn }
-{}
-
-/// A law: a call that has begun and whose operation has ended was answered so in the history, as an operation of its seat's that began
-/// and ended meanwhile.
-pub fn calls_are_answered()
-    ensures { CallsAreAnswered }
-{}
-
-/// A law: so was a call that has closed its handle.
-pub fn closes_are_answered()
-    ensures { ClosesAreAnswered }
 {}
 
 /// A law: what an actor was answered stays so, and later answers stand after it.
@@ -57,4 +46,15 @@ pub fn ends_are_told()
 /// take it away are among those that nobody else makes.
 pub fn own_keys_are_answered()
     ensures { OwnKeysAreAnswered }
+{}
+
+/// A law: a call that has begun and whose operation has ended was answered so in the history, as an operation of its seat's that began
+/// and ended meanwhile.
+pub fn calls_are_answered()
+    ensures { CallsAreAnswered }
+{}
+
+/// A law: so was a call that has closed its handle.
+pub fn closes_are_answered()
+    ensures { ClosesAreAnswered }
 {}

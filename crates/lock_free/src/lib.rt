@@ -37,7 +37,7 @@ pub use finishing::finish_map;
 pub use handles::{clean, open_number, see_root};
 pub use laws::{
     answers_go_on, begins_tell_nothing, calls_are_answered, closes_are_answered, ends_are_told,
-    histories_go_on, others_tell_nothing, seats_are_explained,
+    histories_go_on, others_tell_nothing, own_keys_are_answered, seats_are_explained,
 };
 pub use licensing::Asker;
 pub use loads::{
@@ -51,7 +51,7 @@ pub use pins::finish;
 pub use reading::{AsksRoot, Given, Passed, Way, read, read_within};
 pub use root_offers::{Proposed, offer, propose, yields};
 pub use rooting::{Rooted, clean_settled, complete_offer, open_handle, root};
-pub use rules::{Closing, Empties, Hears, Parts, Picks, Pool, Rule, View};
+pub use rules::{Closing, Parts, Pool, Rule, View};
 pub use sizes::Sizes;
 pub use stores::{Tried, draft, make, make_root, try_take};
 pub use swapping::{Swapped, swap};

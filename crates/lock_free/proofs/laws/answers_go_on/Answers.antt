@@ -1,4 +1,4 @@
-use Rattle.lock_free.proofs.Answered.{answers_go_on}
+use Rattle.lock_free.proofs.AnswersTold.{answers_go_on}
 use Rattle.lock_free.proofs.laws.answers_go_on.Goals as goal
 
 pub returns : goal.returns

@@ -1,4 +1,4 @@
-use Rattle.lock_free.proofs.Answered.{begins_tell_nothing}
+use Rattle.lock_free.proofs.AnswersTold.{begins_tell_nothing}
 use Rattle.lock_free.proofs.laws.begins_tell_nothing.Goals as goal
 
 pub returns : goal.returns

@@ -1,4 +1,4 @@
-use Rattle.lock_free.proofs.Answered.{others_tell_nothing}
+use Rattle.lock_free.proofs.AnswersTold.{others_tell_nothing}
 use Rattle.lock_free.proofs.laws.others_tell_nothing.Goals as goal
 
 pub returns : goal.returns
