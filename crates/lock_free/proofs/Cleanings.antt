@@ -1,16 +1,17 @@
 -- A settled offer is ready to be taken out of the word of its handle, once the root that it leaves was seen, and the handle that it opens to be opened.
-use Rattle.std.proofs.Common.{◌≡◌, ℕ, true, false, is_some, Option, Some, None, refl, sym, subst}
+use Rattle.std.proofs.Common.{◌≡◌, ℕ, Bool, true, false, is_some, Option, Some, None, refl, sym, subst}
 use Rattle.std.proofs.lemmas.Bool.{true≢false, false≢true}
 use Rattle.trie_words.specs.declared.roots.RootWord.TheVariants as word
 use Rattle.machine_model.specs.Beneath.slot_arena.specs.declared.refs.Ref.{Ref}
 use Rattle.trie_words.specs.declared.entries.Pair.{Pair}
 use Rattle.lock_free.specs.declared.rules.View.{View}
+use Rattle.lock_free.specs.Fates.{HasSettled}
 use Rattle.lock_free.specs.HandleWords.{HasOpening}
 use Rattle.lock_free.specs.Loading.{IsSound}
 use Rattle.lock_free.specs.Passing.{IsPlaced, Later}
 use Rattle.lock_free.specs.Rooting.{IsSettledAt}
 use Rattle.lock_free.specs.Roots.{carried_out, taken_back}
-use Rattle.lock_free.specs.RootWords.{HasSeenNews, HasSeenOlds, IsAtClean, IsAtOpen, IsOpenedBy, KnowsOffer, as_copy, for_readers}
+use Rattle.lock_free.specs.RootWords.{HasSeenNews, HasSeenOlds, HasSeenSettled, IsAtClean, IsAtOpen, IsOpenedBy, IsToOpen, KnowsOffer, as_copy, for_readers}
 use Rattle.lock_free.proofs.Laters.{saw_later}
 use Rattle.lock_free.proofs.OffersLater.{offer_later, opening_later, settled_later}
 
@@ -68,3 +69,12 @@ module _ (n : ℕ) (v : View) (sound : IsSound n v) (handle offer : ℕ) (w : Vi
         settled = settled_later v w l h.its carried_out settled;
         opens = for_readers pair.low (none_is h.its.offer.second writable) (subst (λ x. IsPlaced x h.its.offer.root pair.low) (sym s.after_is) (said h.its h.here h.place).root);
       }
+
+-- an offer that is found carried out
+pub opened_now : (n : ℕ) (v : View) → IsSound n v → (handle offer : ℕ) (w : View) (writable : Bool) → IsToOpen v handle offer writable → HasSeenSettled v offer carried_out w →
+    IsOpenedBy w handle offer writable
+opened_now n v sound handle offer w writable (h, is) (s, said) = (
+  opening_later v w (saw_later n v sound w s) handle offer h,
+  subst (λ (x : View). HasSettled x.sizes x.account h.its carried_out) (sym s.after_is) (said h.its h.here h.place),
+  is,
+)

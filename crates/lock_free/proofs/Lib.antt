@@ -53,6 +53,7 @@ mod DecidedKept
 mod Restored
 mod Drafting
 mod Taking
+mod OneOffer
 mod Offered
 mod Tries
 mod Settled

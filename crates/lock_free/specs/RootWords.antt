@@ -177,6 +177,10 @@ pub record IsAtOpen (v : View) (handle offer : ℕ) (opened : HandleWord) : Type
   pub settled : HasSettled v.sizes v.account its.its carried_out
   pub opens : OpensAs v its.its.offer opened
 
--- the offer was carried out, and opens a handle that may be written, or one for readers
+-- the offer opens a handle that may be written, or one for readers
+abbrev pub IsToOpen : View → ℕ → ℕ → Bool → Type 0
+IsToOpen v handle offer writable = (h : HasOpening v.sizes v.account handle offer) × (is_some h.its.offer.second ≡ writable)
+
+-- and it was carried out
 abbrev pub IsOpenedBy : View → ℕ → ℕ → Bool → Type 0
 IsOpenedBy v handle offer writable = (h : HasOpening v.sizes v.account handle offer) × HasSettled v.sizes v.account h.its carried_out × (is_some h.its.offer.second ≡ writable)

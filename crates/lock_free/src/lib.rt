@@ -50,7 +50,7 @@ pub use opening::{Board, OpenError, open, split};
 pub use pins::finish;
 pub use reading::{AsksRoot, Given, Passed, Way, read, read_within};
 pub use root_offers::{Proposed, offer, propose, yields};
-pub use rooting::{Rooted, clean_settled, complete_offer, open_handle, root};
+pub use rooting::{Rooted, clean_settled, complete_offer, open_handle, open_if_carried_out, root};
 pub use rules::{Closing, Parts, Pool, Rule, View};
 pub use sizes::Sizes;
 pub use stores::{Tried, draft, make, make_root, try_take};
