@@ -1,5 +1,5 @@
 use Rattle.lock_free.proofs.Cleanings.{opened_now, opening_known}
-use Rattle.lock_free.proofs.OfferTries.{saw_since}
+use Rattle.lock_free.proofs.Waiting.{saw_both}
 use Rattle.lock_free.proofs.rooting.open_if_carried_out.Goals as goal
 
 pub see_fate-requires-clause-known : goal.see_fate-requires-clause-known
@@ -12,4 +12,4 @@ open_handle-requires-clause-opened c =
 
 pub returns-in-CarriedOut-clause-saw : goal.returns-in-CarriedOut-clause-saw
 returns-in-CarriedOut-clause-saw c =
-    saw_since c.args.actor.now.me.0 c.see_fate.new.actor.me.0 (c.in-CarriedOut.ensures {u = tt}).seen.0 c.open_handle.new.actor.me.0 c.open_handle.ensures.saw
+    saw_both c.args.actor.now.me.0 c.see_fate.new.actor.me.0 (c.in-CarriedOut.ensures {u = tt}).seen.0 c.open_handle.new.actor.me.0 c.open_handle.ensures.saw
