@@ -1,7 +1,7 @@
 -- The exchange of a handle's word that is to bring an offer to stand: it finds its root there, another one, or what is no root.
 use Rattle.history.specs.declared.calls.Call.{Call}
-use Rattle.std.proofs.Common.{◌≡◌, ◌≢◌, ◌+◌, ◌*◌, ◌<◌, ◌^◌, ◌==◌, ℕ, inl, inr, true, false, List, [], ◌∷◌, ◌++◌, Contains, set, slice_index, Option, Some, None, refl, sym, ap, subst, ◌∙◌, arith, eq-eqb, ne_eqb, get_or, if◌then◌else◌}
-use Rattle.std.proofs.Common.{append-nil}
+use Rattle.std.proofs.Common.{◌≡◌, ◌≢◌, ◌+◌, ◌*◌, ◌<◌, ◌^◌, ◌==◌, ℕ, inl, inr, true, false, List, [], ◌∷◌, ◌++◌, Contains, set, slice_index, Option, Some, None, refl, sym, ap, subst, ◌∙◌, arith}
+use Rattle.std.proofs.Common.{append-nil, eq-eqb, get_or, if◌then◌else◌, ne_eqb}
 use Rattle.std.proofs.lemmas.Bool.{cases_eq}
 use Rattle.std.proofs.lemmas.List.{same_from_push}
 use Rattle.std.proofs.lemmas.List.Elements.{Contains-append_left, Contains-append_right, Contains-get_or, Contains-push}
@@ -251,7 +251,8 @@ module _ (v : View) (root slot : ℕ) (offer : Descriptor) (rest : List ℕ) (p 
         (
           (waited_so v s kept id at).sound,
           subst (λ y. HasProposed v handle slot y (seen v there)) (sym is)
-              (subst (λ y. HasSeenRoot v handle y (seen v there)) (ap root_of e ∙ root_back x fits) (root_told v handle found (seen v there) low (record { table = s; kept = kept; id = id; at = at; finds = refl }, refl))),
+              (subst (λ y. HasSeenRoot v handle y (seen v there)) (ap root_of e ∙ root_back x fits)
+              (root_told v handle found (seen v there) low (record { table = s; kept = kept; id = id; at = at; finds = refl }, refl))),
         ),
       ),
     )
