@@ -65,7 +65,7 @@ module _ (actor : ℕ) (state : State) (past : Record) (books : Books state past
       let differs : it.id ≢ o.id = λ same. apart
       (let at = subst (λ n. slice_get past.events own.0 ≡ Some (Begin n actor it.call it.opens)) same own.1 in
       let here = begins_once past.events t.0 own.0 o.id (record { actor = other; call = o.call; opens = o.opens })
-          (record { actor = actor; call = it.call; opens = it.opens }) books.well_formed t.1 at in
+      (record { actor = actor; call = it.call; opens = it.opens }) books.well_formed t.1 at in
       cc (sym t.1 ∙ ap (slice_get past.events) here ∙ at)) in
       ap (λ b. cond b (record { answers = (talk_of actor past.events).answers ++ record { of = it; reply = reply } ∷ []; runs = None }) (talk_of actor past.events)) (ne_eqb it.id o.id differs)
 
@@ -90,7 +90,7 @@ module _ (actor : ℕ) (state : State) (past : Record) (books : Books state past
       (talk_of actor (noted past state.steps (told_in state s)).events).answers ≡ (talk_of actor past.events).answers
   begins_noted s o after who call number is (Begins {actor = w} {call = c} {number = n} d) =
       let it = begun_operation state c n in ap (λ (t : Talk). t.answers) (talk_push actor past.events (Begin it.id w c it.opens))
-          ∙ same (w == actor) (record { id = it.id; call = c; opens = it.opens })
+      ∙ same (w == actor) (record { id = it.id; call = c; opens = it.opens })
     where
       same : (b : Bool) (it : Begun) → (cond b (record (talk_of actor past.events) { runs = Some it }) (talk_of actor past.events)).answers ≡ (talk_of actor past.events).answers
       same true it = refl
@@ -176,7 +176,7 @@ module _ (actor : ℕ) (sizes : Sizes) (before after : Account) (o p : Operation
   one_place : there.0 ≡ here.0
   one_place =
       begins_once last there.0 here.0 o.id (record { actor = actor; call = o.call; opens = o.opens }) (record { actor = actor; call = p.call; opens = p.opens })
-          (books_at actor sizes after).well_formed
+      (books_at actor sizes after).well_formed
       still_there (subst (λ n. slice_get last here.0 ≡ Some (Begin n actor p.call p.opens)) same here.1)
 
   one_begun : its ≡ it
@@ -203,7 +203,7 @@ module _ (actor : ℕ) (sizes : Sizes) (before after : Account) (o p : Operation
       ap (λ l. (talk_of actor l).answers) (end_told sizes after (omega arith, ok.1, ok.2) actor p reply runs_p is)
       ∙ ap (λ (t : Talk). t.answers) (talk_push actor last (End p.id reply)) ∙ ap (λ t. (after_event actor t (End p.id reply)).answers) talk_now
       ∙ ap (λ b. (cond {A = Talk} b (record { answers = answers_of actor sizes before ++ record { of = its; reply = reply } ∷ []; runs = None })
-          (record { answers = answers_of actor sizes before; runs = Some its })).answers)
+      (record { answers = answers_of actor sizes before; runs = Some its })).answers)
       (eq-eqb o.id p.id (sym same))
 
 pub ends_are_told : EndsAreTold

@@ -170,7 +170,7 @@ module _ (hash : ℕ → ℕ) (history : List Event) (order : List ℕ) (world :
   scan (x ∷ ids) (one ∷ calls) n w (t ∷ ts) low at ((told, answered), recalls) (next, effect, replays) timed on here mine =
       by (λ later least timed_later on_later here_later mine_later.
       scan ids calls (n + 1) next later least (λ i. at (suc i) ∙ ap (slice_get order) (omega arith)) recalls replays timed_later on_later here_later mine_later)
-          (touches handle key one.call one.opens) refl
+      (touches handle key one.call one.opens) refl
     where
       Rest : Type 0
       Rest = (later : List Answer) (least : ℕ) → AreTimed history actor later least high → AllOn handle key later → AllHere (n + 1) later → AllMine (n + 1) later →

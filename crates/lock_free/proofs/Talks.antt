@@ -58,7 +58,7 @@ runs_after actor talk (Begin id owner call opens) it e = elim (cases_eq owner ac
   | inl own ↦
       (let is : record { id = id; call = call; opens = opens } ≡ it =
       same_Some (record { id = id; call = call; opens = opens }) it (sym (ap (λ b. (cond b (record talk { runs = Some (record { id = id; call = call; opens = opens }) }) talk).runs)
-          (eq-eqb owner actor own)) ∙ e) in
+      (eq-eqb owner actor own)) ∙ e) in
       inr (subst (λ (x : Begun). Begin id owner call opens ≡ Begin x.id actor x.call x.opens) is (ap (λ a. Begin id a call opens) own)))
   | inr other ↦ inl (sym (ap (λ b. (cond b (record talk { runs = Some (record { id = id; call = call; opens = opens }) }) talk).runs) (ne_eqb owner actor other)) ∙ e)
 ]

@@ -176,11 +176,11 @@ module _ (actor : ℕ) (xs : List Event) where
   by_begin id owner call opens well may talk line = elim (cases_eq owner actor) [
     | inr apart ↦
         subst (IsLine (xs ++ Begin id owner call opens ∷ []) actor) (sym (ap (λ b. cond b (record talk { runs = Some (record { id = id; call = call; opens = opens }) }) talk)
-            (ne_eqb owner actor apart)))
+        (ne_eqb owner actor apart)))
         (other_begin id owner call opens apart talk line)
     | inl own ↦
         subst (IsLine (xs ++ Begin id owner call opens ∷ []) actor) (sym (ap (λ b. cond b (record talk { runs = Some (record { id = id; call = call; opens = opens }) }) talk)
-            (eq-eqb owner actor own)))
+        (eq-eqb owner actor own)))
         (subst (λ a. IsLine (xs ++ Begin id a call opens ∷ []) actor (record talk { runs = Some (record { id = id; call = call; opens = opens }) })) (sym own)
         (its (subst (λ a. MayFollow xs (Begin id a call opens)) own may) talk.runs refl line.follows))
   ]
@@ -198,11 +198,11 @@ module _ (actor : ℕ) (xs : List Event) where
       by (Some it) is (busy _ place at unended timed) = elim (cases_eq it.id id) [
         | inr apart ↦
             subst (IsLine (xs ++ End id reply ∷ []) actor) (sym (ap (λ b. cond b (record { answers = talk.answers ++ record { of = it; reply = reply } ∷ []; runs = None }) talk)
-                (ne_eqb it.id id apart)))
+            (ne_eqb it.id id apart)))
             (other_end id reply talk (λ other e. subst (λ (x : Begun). x.id ≢ id) (same_Some it other (sym is ∙ e)) apart) line)
         | inl own ↦
             subst (IsLine (xs ++ End id reply ∷ []) actor) (sym (ap (λ b. cond b (record { answers = talk.answers ++ record { of = it; reply = reply } ∷ []; runs = None }) talk)
-                (eq-eqb it.id id own)))
+            (eq-eqb it.id id own)))
             (subst (λ n. IsLine (xs ++ End n reply ∷ []) actor (record { answers = talk.answers ++ record { of = it; reply = reply } ∷ []; runs = None })) own
             (own_end reply talk.answers it place at timed (λ other there e. elim (line.all other there e) [ inl told ↦ inl told | inr runs ↦ inr (sym is ∙ runs) ])))
       ]
@@ -212,7 +212,7 @@ unfolding talk_from
 line_of actor =
     by_last (λ xs. IsWellFormed xs → IsLine xs actor (talk_of actor xs)) (λ well. record { follows = idle (omega arith); all = λ it place at. absurd (none-some _ at) })
     (λ xs event before well. subst (IsLine (xs ++ event ∷ []) actor) (sym (talk_push actor xs event))
-        (by xs event (front_well xs event well) (last_follows xs event well) (before (front_well xs event well))))
+    (by xs event (front_well xs event well) (last_follows xs event well) (before (front_well xs event well))))
   where
     by : (xs : List Event) (event : Event) → IsWellFormed xs → MayFollow xs event → IsLine xs actor (talk_of actor xs) → IsLine (xs ++ event ∷ []) actor (after_event actor (talk_of actor xs) event)
     by xs (Begin id owner call opens) well may line = by_begin actor xs id owner call opens well may (talk_of actor xs) line

@@ -59,7 +59,7 @@ answers_of actor sizes account = (talk_of actor (history_of sizes account)).answ
 abbrev pub AnswersGoOn : Type 0
 AnswersGoOn =
     (actor : ℕ) (sizes : Sizes) (before after : Account) → AreBounds (bounds_for sizes before.steps) → GoesOn before.steps after.steps →
-        GoesOn (answers_of actor sizes before) (answers_of actor sizes after)
+    GoesOn (answers_of actor sizes before) (answers_of actor sizes after)
 
 -- What others do tells it nothing: all that it was ever answered is told in the account at its own last step.
 abbrev pub OthersTellNothing : Type 0
@@ -80,6 +80,6 @@ answer_to o reply = record { of = record { id = o.id; call = o.call; opens = o.o
 abbrev pub EndsAreTold : Type 0
 EndsAreTold =
     (actor : ℕ) (sizes : Sizes) (before after : Account) (o p : Operation) (reply : Reply) → AreBounds (bounds_for sizes before.steps) → running sizes before actor o →
-        GoesOn before.steps after.steps →
+    GoesOn before.steps after.steps →
     running sizes after actor p → p.id ≡ o.id → action_of (state_of sizes after) p ≡ act.End reply →
     answers_of actor sizes (gone_on actor after) ≡ answers_of actor sizes before ++ answer_to o reply ∷ []

@@ -9,14 +9,14 @@ pub gather-requires-clause-table : goal.gather-requires-clause-table
 gather-requires-clause-table c =
     let table = c.args.board.shared.table_id in
     let (rest, last) = All-pop (λ seat. IsSeatOf table c.args.board.shared.key seat.table_id seat.me.0) c.args.seats.items c.pop.new.self.items
-        (Some c.in-Some.last) c.in-Some.ensures.items c.requires.seats in
+    (Some c.in-Some.last) c.in-Some.ensures.items c.requires.seats in
     (last.0, λ k d low. (rest k d low).0)
 
 pub gather-requires-clause-sound : goal.gather-requires-clause-sound
 gather-requires-clause-sound c =
     let table = c.args.board.shared.table_id in
     let (rest, last) = All-pop (λ seat. IsSeatOf table c.args.board.shared.key seat.table_id seat.me.0) c.args.seats.items c.pop.new.self.items
-        (Some c.in-Some.last) c.in-Some.ensures.items c.requires.seats in
+    (Some c.in-Some.last) c.in-Some.ensures.items c.requires.seats in
     last.1
 
 pub returns-in_default : goal.returns-in_default
