@@ -136,4 +136,11 @@ mod Idle
 mod SplitSeats
 mod SameSteps
 mod HistoriesOn
+mod Hearing
+mod Gathering
+mod Talks
+mod AnswersTold
+mod KeyValues
+mod Timelines
+mod OwnKeys
 mod Answered

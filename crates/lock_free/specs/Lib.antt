@@ -39,4 +39,7 @@ pub mod Repairing
 pub mod Opening
 pub mod Splitting
 pub mod Telling
+pub mod Finishing
+pub mod Answers
+pub mod OneKey
 pub mod Answering

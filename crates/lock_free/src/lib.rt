@@ -12,6 +12,7 @@ mod copying;
 mod entries;
 mod exchanges;
 mod finding;
+mod finishing;
 mod handles;
 mod holding;
 mod laws;
@@ -41,8 +42,12 @@ pub use copying::make_copy;
 pub use entries::see_entries;
 pub use exchanges::{decide, publish, restore};
 pub use finding::{Entered, Level, Met, go_down};
+pub use finishing::finish_map;
 pub use handles::{clean, open_number, see_root};
-pub use laws::{calls_are_answered, closes_are_answered, histories_go_on, seats_are_explained};
+pub use laws::{
+    answers_go_on, begins_tell_nothing, calls_are_answered, closes_are_answered, ends_are_told,
+    histories_go_on, others_tell_nothing, own_keys_are_answered, seats_are_explained,
+};
 pub use licensing::Asker;
 pub use loads::{
     Actor, Words, look_at_key, look_at_link, look_at_main, look_at_value, read_header, read_link,

@@ -24,7 +24,7 @@ pub enum Tried {
 }
 
 /// How many slots of a class were handed out stands in this word.
-fn taken_word_of(class: u32) -> usize
+pub(crate) fn taken_word_of(class: u32) -> usize
     requires { class < 3 }
     ensures { result ≡ taken_word class }
 {
