@@ -127,7 +127,8 @@ module _ (before : View) (handle slot : ℕ) (to : IsToComplete before handle sl
     state = now (seen middle account)
 
     later_then : Later middle after
-    later_then = subst (λ x. Later middle x) (sym helped.3.2) (gone_later (words_of before.sizes) middle helped.4 account helped.3.1 (subst (λ (x : View). AreBounds (bounds_for x.sizes x.account.steps)) helped.3.2 sound_after.bounds))
+    later_then = subst (λ x. Later middle x) (sym helped.3.2) (gone_later (words_of before.sizes) middle helped.4 account helped.3.1
+        (subst (λ (x : View). AreBounds (bounds_for x.sizes x.account.steps)) helped.3.2 sound_after.bounds))
 
     ends : (q : Operation) → Runs before q → Runs after (record q { line = copied_line carried q })
     ends q r =

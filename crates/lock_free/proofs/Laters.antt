@@ -1,57 +1,27 @@
 -- What a seat knows of nodes stays so, whatever it has seen since.
-use Rattle.std.proofs.Common.{◌≡◌, ◌<◌, ℕ, Bool, true, [], ◌∷◌, ◌++◌, Contains, get_or, length, Some, None, refl, sym, ap, subst, ◌∙◌, arith, append_assoc, append-nil}
-use Rattle.std.proofs.lemmas.List.Elements.{Contains-get_or, Contains-append_right}
+use Rattle.std.proofs.Common.{◌≡◌, ◌<◌, ℕ, Bool, [], ◌∷◌, ◌++◌, Contains, get_or, length, Some, None, refl, sym, ap, subst, ◌∙◌, arith, append_assoc, append-nil}
+use Rattle.std.proofs.lemmas.List.Elements.{Contains-append_right}
 use Rattle.trie_words.specs.declared.headers.Header.{Header}
-use Rattle.trie_words.specs.declared.headers.Shape.{Shape}
-use Rattle.trie_words.specs.declared.headers.Shape.TheVariants as shape
 use Rattle.trie_words.specs.declared.links.Link.{Link}
 use Rattle.trie_words.specs.declared.names.Name.{Name}
 use Rattle.machine_model.specs.Beneath.slot_arena.specs.declared.refs.Ref.{Ref}
-use Rattle.machine_model.specs.Beneath.slot_arena.specs.declared.nodes.Node.{Node}
-use Rattle.machine_model.specs.Beneath.slot_arena.specs.declared.nodes.Node.TheVariants.{Indirection, Branch, Single, Tomb, List as Listed}
 use Rattle.machine_model.specs.Beneath.slot_arena.specs.declared.nodes.Slot.{Slot}
-use Rattle.machine_model.specs.Beneath.slot_arena.specs.Heaps.{refs_of_node, with_main_word, generation_at}
+use Rattle.machine_model.specs.Beneath.slot_arena.specs.Heaps.{generation_at}
 use Rattle.machine_model.specs.Beneath.slot_arena.specs.Refs.{slot_of}
 use Rattle.machine_model.specs.declared.steps.Step.TheVariants as step
-use Rattle.proof_memory.specs.Laws.{SameNode}
-use Rattle.proof_memory.specs.Wants.{is_main_node}
 use Rattle.lock_free.specs.declared.accounts.Account.{Account}
 use Rattle.lock_free.specs.declared.accounts.Known.{Known}
 use Rattle.lock_free.specs.declared.rules.View.{View}
 use Rattle.lock_free.specs.Accounts.{bounds_for, place_of, OwnIs, IsOwn, gone_on}
 use Rattle.lock_free.specs.Exchanging.{IsNamed, IsPendingOver}
 use Rattle.lock_free.specs.Loading.{now, seen, IsUsed, IsSound, Waited, Went, Saw}
-use Rattle.lock_free.specs.Nodes.{SaysShape, of_branch, of_tomb, of_list}
 use Rattle.lock_free.specs.Passing.{Later, KnowsLink, IsPlaced, KnowsMain, KnowsPending}
 use Rattle.machine_model.specs.Machine.{AreBounds}
 use Rattle.lock_free.proofs.Asked.{in_use_made, nodes_stay, nodes_go}
-use Rattle.lock_free.proofs.LinkWords.{generation_is, generations}
 use Rattle.lock_free.proofs.Moments.{place_stays, owns_in_front}
-use Rattle.lock_free.proofs.Verdicts.{main_same}
-
-pub same_self : (n : Node) → SameNode n n
-same_self (Indirection generation main) = (main, refl)
-same_self (Branch bitmap entries) = (0, refl)
-same_self (Single key value) = (0, refl)
-same_self (Tomb single) = (0, refl)
-same_self (Listed singles) = (0, refl)
-
-with_both : (n : Node) (a b : Ref) → with_main_word b (with_main_word a n) ≡ with_main_word b n
-with_both (Indirection generation main) a b = refl
-with_both (Branch bitmap entries) a b = refl
-with_both (Single key value) a b = refl
-with_both (Tomb single) a b = refl
-with_both (Listed singles) a b = refl
-
-pub same_both : (a b c : Node) → SameNode a b → SameNode b c → SameNode a c
-same_both a b c (m, p) (n, q) = (n, q ∙ ap (with_main_word n) p ∙ with_both a m n)
-
-pub main_kind : (a b : Node) → SameNode a b → is_main_node a ≡ true → is_main_node b ≡ true
-main_kind (Indirection generation main) b same is = ap is_main_node same.1 ∙ is
-main_kind (Branch bitmap entries) b same is = ap is_main_node same.1 ∙ is
-main_kind (Single key value) b same is = ap is_main_node same.1 ∙ is
-main_kind (Tomb single) b same is = ap is_main_node same.1 ∙ is
-main_kind (Listed singles) b same is = ap is_main_node same.1 ∙ is
+use Rattle.lock_free.specs.Becoming.{Follows}
+pub use Rattle.lock_free.proofs.Followings.{same_self, same_both, main_kind}
+use Rattle.lock_free.proofs.Followings.{follows_later, used_on, placed_on, named_on, generation_on, link_on, main_on, pending_on}
 
 pub later_self : (v : View) → Later v v
 later_self v = record {
@@ -127,56 +97,29 @@ module _ (n : ℕ) (v : View) (sound : IsSound n v) where
 -- ---- what is known
 
 module _ (v w : View) (l : Later v w) where
+  f : Follows v w
+  f = follows_later v w l
+
   pub used_later : (r : Ref) → (slot : Slot) × IsUsed v r slot → (slot : Slot) × IsUsed w r slot
-  used_later r u = let x = l.nodes r u.0 u.1 in (x.0, x.1)
+  used_later = used_on v w f
 
   pub placed_later : (r : Ref) (name : ℕ) → IsPlaced v r name → IsPlaced w r name
-  placed_later r name p = (used_later r p.0, l.places r p.0.0 p.0.1 ∙ p.1)
+  placed_later = placed_on v w f
 
   pub named_later : (i r : Ref) (name : Name) → (slot : Slot) × IsUsed v r slot → IsNamed v i r name → IsNamed w i r name
-  named_later i r name u h = record { place = l.places r u.0 u.1 ∙ h.place; is_own = l.owns i r name.own h.is_own }
+  named_later = named_on v w f
 
   pub generation_later : (i : Ref) → (slot : Slot) × IsUsed v i slot → generation_at (now w).heap i ≡ generation_at (now v).heap i
-  generation_later i u = let x = l.nodes i u.0 u.1 in generation_is (now w) i x.0 x.1 ∙ generations u.0.node x.0.node x.2 ∙ sym (generation_is (now v) i u.0 u.1)
+  generation_later = generation_on v w f
 
   pub link_later : (i main : Ref) (link : Link) → KnowsLink v i main link → KnowsLink w i main link
-  link_later i main link k = record {
-    is = record { generation = k.is.generation ∙ sym (generation_later i k.link_used); names = named_later i main link.main k.main_used k.is.names };
-    fits = k.fits;
-    link_used = used_later i k.link_used;
-    main_used = used_later main k.main_used;
-  }
-
-  kept_shape : (k : Ref) (n : Node) (s : Shape) → ((r : Ref) → Contains (refs_of_node n) r → (slot : Slot) × IsUsed v r slot) → SaysShape v.account (slot_of k) n s → SaysShape w.account
-      (slot_of k) n s
-  kept_shape k n s used (of_branch bitmap entries) = of_branch bitmap entries
-  kept_shape k n s used (of_tomb single own is) =
-      let u = used single (Contains-get_or (single ∷ []) 0 single (omega arith)) in
-      subst (λ p. SaysShape w.account (slot_of k) (Tomb single) (shape.Tomb (record { slot = p; own = own; is_single = true }))) (l.places single u.0 u.1) (of_tomb single own (l.owns k single own is))
-  kept_shape k n s used (of_list singles) = of_list singles
+  link_later = link_on v w f
 
   pub main_later : (main : Ref) (header : Header) → KnowsMain v main header → KnowsMain w main header
-  main_later main header k =
-      let x = l.nodes main k.slot k.used in
-      let is_main = main_kind k.slot.node x.0.node x.2 k.is_main in
-      let same = main_same k.slot.node x.0.node x.2 is_main in
-      record {
-        slot = x.0;
-        used = x.1;
-        is_main = is_main;
-        is_shape = subst (λ n. SaysShape w.account (slot_of main) n header.shape) (sym same) (kept_shape main k.slot.node header.shape k.names k.is_shape);
-        fits = k.fits;
-        names = λ r c. used_later r (k.names r (subst (λ n. Contains (refs_of_node n) r) same c));
-      }
+  main_later = main_on v w f
 
   pub pending_later : (i main replaced : Ref) (header : Header) → KnowsPending v i main replaced header → KnowsPending w i main replaced header
-  pending_later i main replaced header k = record {
-    main_is = main_later main header k.main_is;
-    name = k.name;
-    says = k.says;
-    names = named_later i replaced k.name k.used k.names;
-    used = used_later replaced k.used;
-  }
+  pending_later = pending_on v w f
 
 pub pending_over : (v : View) (i main replaced : Ref) (header : Header) → KnowsPending v i main replaced header → IsPendingOver v i main replaced header
 pending_over v i main replaced header k = record { name = k.name; says = k.says; names = k.names; slot = k.main_is.slot; stores = k.main_is.used; is_shape = k.main_is.is_shape }

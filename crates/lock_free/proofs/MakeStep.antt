@@ -41,7 +41,8 @@ use Rattle.lock_free.specs.Making.{over_of, Drafted, IsOverBy, shape_with, Draft
 use Rattle.lock_free.specs.Nodes.{Has, is_single, AreEntries, class_of}
 use Rattle.lock_free.specs.Places.{words_of}
 use Rattle.lock_free.specs.Rules.{pool_of, IsFree, IsKept}
-use Rattle.lock_free.specs.Storing.{IsOwnWord, Writes, IsAtMake, has_made}
+use Rattle.lock_free.specs.Storing.{IsOwnWord, Writes, IsAtMake, IsAdded, has_made}
+use Rattle.lock_free.proofs.Added.{added}
 
 -- what is written is written so later too, where places stay, whose own nodes are, and which entries are singles
 module _ (before after : Account) (first later : Heap) (has : Has) (name : ℕ) (own : Bool) (over : Option (Ref × Ref))
@@ -94,7 +95,7 @@ module _ (before after : Account) (first later : Heap) (has : Has) (name : ℕ) 
     drafts_stay (Tomb single) same h = (h.0, h.1, header_stays (Tomb single) h.0 (λ r c. (same r c).0) h.2)
     drafts_stay (Listed singles) same h = ((h.0.0, h.0.1, header_stays (Listed singles) h.0.0 (λ r c. (same r c).0) h.0.2), entries_stay singles.items same h.1)
 
-single_stays : (before after : Node) → SameNode before after → is_single after ≡ is_single before
+pub single_stays : (before after : Node) → SameNode before after → is_single after ≡ is_single before
 single_stays (Indirection generation main) after same = ap is_single same.1
 single_stays (Branch bitmap entries) after same = ap is_single same.1
 single_stays (Single key value) after same = ap is_single same.1
@@ -174,6 +175,9 @@ module _ (v : View) (word value : ℕ) (node : Node) (rest : List ℕ) (name : �
   pub took_after : Took v there after
   took_after q runs = makes.own ∙ ap (λ x. Some (operation_after state x)) (same_Some o q (sym stays.1 ∙ runs))
 
+  pub added_after : IsAdded v there node after
+  added_after = added v (class_of node) name rest own node there kept.bounds kept.quiet kept.counted o 0 makes
+
 pub make_allowed : (sizes : Sizes) (size id : ℕ) (me : Me Call View) (word value : ℕ) → IsAtMake me.0 word value → Allows (IsKept sizes) size id me word (λ n. value)
     (λ n. has_made (step size word value 0 none) me value)
 make_allowed sizes size id me word value (node, rest, name, own, p, w) =
@@ -182,7 +186,7 @@ make_allowed sizes size id me word value (node, rest, name, own, p, w) =
       made_by me.0 (class_of node) name rest own node kept.account,
       kept_after me.0 word value node rest name own p w s kept id at,
       (
-        (kept.account, waited_so me.0 s kept id at, took_after me.0 word value node rest name own p w s kept id at, (node, rest, name, own, p, w, refl)),
+        (kept.account, waited_so me.0 s kept id at, took_after me.0 word value node rest name own p w s kept id at, (node, rest, name, own, p, w, refl, added_after me.0 word value node rest name own p w s kept id at)),
         sound_after me.0 word value node rest name own p w s kept id at,
         refl,
       ),

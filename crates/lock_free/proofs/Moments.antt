@@ -67,7 +67,7 @@ owns_in_front [] owned k m b h = h
 owns_in_front (x ∷ xs) owned k m b h = later x (xs ++ owned) k m b (owns_in_front xs owned k m b h)
 
 -- the entries of a main node stay
-same_entries : (before after : Node) → SameNode before after → entries_of after ≡ entries_of before
+pub same_entries : (before after : Node) → SameNode before after → entries_of after ≡ entries_of before
 same_entries (Indirection generation main) after same = ap entries_of same.1
 same_entries (Branch bitmap entries) after same = ap entries_of same.1
 same_entries (Single key value) after same = ap entries_of same.1

@@ -30,7 +30,8 @@ use Rattle.lock_free.specs.Making.{over_of, AreDrafted, DraftsNode, made_at, mad
 use Rattle.lock_free.specs.Nodes.{class_of}
 use Rattle.lock_free.specs.Places.{generation_word, words_of}
 use Rattle.lock_free.specs.Rules.{pool_of, IsFree, IsKept}
-use Rattle.lock_free.specs.Storing.{WritesRoot, IsAtMakeRoot, has_made_root}
+use Rattle.lock_free.specs.Storing.{WritesRoot, IsAtMakeRoot, IsAdded, has_made_root}
+use Rattle.lock_free.proofs.Added.{added}
 use Rattle.lock_free.proofs.Exchanged.{words_hit, words_miss}
 use Rattle.lock_free.proofs.MadeKept.{root_made, make_root_kept}
 use Rattle.lock_free.proofs.Moments.{allowed, waited_so, same_place, free_inside}
@@ -61,7 +62,7 @@ module _ (v : View) (generation : ℕ) (main : Ref) (rest : List ℕ) (name : �
   after = made_by v 0 name rest own root there
 
   module _ (found : slice_index s.words generation_word ≡ generation) where
-    next_is : state.generations ≡ generation
+    pub next_is : (state_of v.sizes kept.account).generations ≡ generation
     next_is = sym kept.generations ∙ found
 
     makes : Makes v.sizes there (made_at v.actor name own root there) v.actor o root 1
@@ -105,6 +106,9 @@ module _ (v : View) (generation : ℕ) (main : Ref) (rest : List ℕ) (name : �
     pub took_after : Took v there after
     took_after q runs = makes.own ∙ ap (λ x. Some (operation_after state x)) (same_Some o q (sym stays.1 ∙ runs))
 
+    pub added_after : IsAdded v there root after
+    added_after = added v 0 name rest own root there kept.bounds kept.quiet kept.counted o 1 makes
+
 abbrev AllowsRoot : Sizes → ℕ → ℕ → Me Call View → ℕ → Type 0
 AllowsRoot sizes size id me generation =
     Allows (IsKept sizes) size id me generation_word (λ n. either (n == generation) (generation + 1) n) (has_made_root (step size generation_word generation (generation + 1) none) me)
@@ -120,7 +124,8 @@ root_allowed sizes size id me generation (main, rest, name, own, p, w) =
             (kept_after me.0 generation main rest name own p w s kept id at e),
         (
           (
-            λ h. (kept.account, waited_so me.0 s kept id at, took_after me.0 generation main rest name own p w s kept id at e, (main, rest, name, own, p, w, refl)),
+            λ h. (kept.account, waited_so me.0 s kept id at, took_after me.0 generation main rest name own p w s kept id at e, (main, rest, name, own, p, w, refl, added_after me.0 generation main rest name own p w s kept id at e,
+            next_is me.0 generation main rest name own p w s kept id at e)),
             λ h. absurd (true≢false (sym (eq-eqb (slice_index s.words generation_word) generation e) ∙ h)),
           ),
           λ h. sound_after me.0 generation main rest name own p w s kept id at e,

@@ -247,8 +247,8 @@ module _ (v : View) (name : ℕ) (link : Link) (fresh : ℕ) (is_at : IsAtSwap v
           later_y : Later v (seen x h.0.account)
           later_y = later_both v x (seen x h.0.account) later_x (waited_later n x sound_x h.0.account h.0.waited)
 
-          own_left : z ≡ seen v z.account
-          own_left = (later_both v x z later_x (went_later n x sound_x n z sound_z h.0)).is
+          own_left : Later v z
+          own_left = later_both v x z later_x (went_later n x sound_x n z sound_z h.0)
 
           goes_z : (done : Bool) → is_none says.slot.prev ≡ done → (o : Operation) → Runs v o → Runs z (swap_done why (node_at (now v).heap f) done o)
           goes_z done is o r =

@@ -49,7 +49,8 @@ module _ (v : View) (slot : ℕ) (offer : Descriptor) (p : IsAt v (act.Offer off
 
   abbrev Left : View → Type 0
   Left after =
-      IsKept v.sizes (record { words = set s.words (2 * slot) found; homes = s.homes; views = set s.views id after }) × (IsSound (words_of v.sizes) after × YieldedAs (found == undecided) v (2 * slot) found after)
+      IsKept v.sizes (record { words = set s.words (2 * slot) found; homes = s.homes; views = set s.views id after }) ×
+          (IsSound (words_of v.sizes) after × YieldedAs (found == undecided) v (2 * slot) found after)
 
   same_words : (after : View) → IsKept v.sizes (record { words = s.words; homes = s.homes; views = set s.views id after }) → IsKept v.sizes
       (record { words = set s.words (2 * slot) found; homes = s.homes; views = set s.views id after })

@@ -29,8 +29,13 @@ pub mod Passing
 pub mod Swaps
 pub mod Rooting
 pub mod SeatWords
+pub mod Becoming
+pub mod Stocks
+pub mod SeenEntries
 pub mod GoingDown
 pub mod CopySteps
+pub mod Holding
+pub mod Repairing
 pub mod Opening
 pub mod Splitting
 pub mod Telling

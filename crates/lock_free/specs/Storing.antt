@@ -1,6 +1,6 @@
 -- What stores in slots of a seat's own ask and tell, and what taking a slot does.
 use Rattle.history.specs.declared.calls.Call.{Call}
-use Rattle.std.specs.Prelude.{◌≡◌, ◌≢◌, ℕ, ◌+◌, ◌*◌, ◌^◌, ◌<◌, ◌≤◌, ◌==◌, Bool, true, false, Contains, List, [], ◌∷◌, ◌++◌, length}
+use Rattle.std.specs.Prelude.{◌≡◌, ◌≢◌, ℕ, ◌+◌, ◌*◌, ◌^◌, ◌<◌, ◌≤◌, ◌==◌, Bool, true, false, Contains, List, [], ◌∷◌, ◌++◌, length, slice_index_or, Some, None}
 use Rattle.atomic_table.specs.Table.{Me, Step}
 use Rattle.trie_words.specs.Codes.{link_code}
 use Rattle.machine_model.specs.Beneath.slot_arena.specs.declared.refs.Ref.{Ref}
@@ -8,14 +8,15 @@ use Rattle.machine_model.specs.Beneath.slot_arena.specs.declared.nodes.Node.{Nod
 use Rattle.machine_model.specs.Beneath.slot_arena.specs.declared.nodes.Node.TheVariants.{Indirection}
 use Rattle.machine_model.specs.Beneath.slot_arena.specs.declared.nodes.Slot.{Slot}
 use Rattle.lock_free.specs.Accounts.{place_of}
-use Rattle.machine_model.specs.Beneath.slot_arena.specs.Heaps.{entries_of}
+use Rattle.machine_model.specs.Beneath.slot_arena.specs.Heaps.{entries_of, next_ref}
+use Rattle.machine_model.specs.Beneath.slot_arena.specs.Refs.{slot_of}
 use Rattle.machine_model.specs.declared.actions.Action.TheVariants as act
 use Rattle.machine_model.specs.declared.lines.Line.{Line}
 use Rattle.lock_free.specs.declared.accounts.Account.{Account}
 use Rattle.lock_free.specs.declared.rules.View.{View}
 use Rattle.lock_free.specs.declared.stores.Tried.{Tried}
 use Rattle.lock_free.specs.declared.stores.Tried.TheVariants as tried
-use Rattle.lock_free.specs.Loading.{now, IsAt, IsUsed, IsSound, Waited, Took}
+use Rattle.lock_free.specs.Loading.{now, seen, IsAt, IsUsed, IsSound, Waited, Took}
 use Rattle.lock_free.specs.Making.{over_of, with_draft, with_slot, Drafted, DraftsNode, made_by}
 use Rattle.lock_free.specs.Nodes.{class_of}
 use Rattle.lock_free.specs.Places.{words_in, words_of, part_of, taken_word}
@@ -68,11 +69,21 @@ abbrev pub IsAtMake : View → ℕ → ℕ → Type 0
 IsAtMake v word value =
     (node : Node) × (rest : List ℕ) × (name : ℕ) × (own : Bool) × (p : IsAt v (act.Make node)) × Writes v p.operation.line word value node rest name own
 
+-- the new node has the next number, and all others are what they were
+pub record IsAdded (before : View) (account : Account) (node : Node) (after : View) : Type 0 where
+  pub made : Ref
+  pub next : next_ref (now (seen before account)).heap ≡ Some made
+  pub number : slot_of made ≡ length account.names
+  pub slot : Slot
+  pub used : IsUsed after made slot
+  pub node_is : slot.node ≡ node
+  pub others : (k : ℕ) → k ≢ slot_of made → slice_index_or (now after).heap.slots k None ≡ slice_index_or (now (seen before account)).heap.slots k None
+
 -- it was made
 abbrev pub IsMade : View → ℕ → ℕ → Account → View → Type 0
 IsMade before word value account after =
     (node : Node) × (rest : List ℕ) × (name : ℕ) × (own : Bool) × (p : IsAt before (act.Make node)) × Writes before p.operation.line word value node rest name own
-    × (after ≡ made_by before (class_of node) name rest own node account)
+    × (after ≡ made_by before (class_of node) name rest own node account) × IsAdded before account node after
 
 abbrev pub HasMade : View → ℕ → ℕ → View → Type 0
 HasMade before word value after = (account : Account) × Waited before account × Took before account after × IsMade before word value account after
@@ -97,7 +108,8 @@ IsAtMakeRoot v generation = (main : Ref) × (rest : List ℕ) × (name : ℕ) ×
 abbrev pub IsRootMade : View → ℕ → Account → View → Type 0
 IsRootMade before generation account after =
     (main : Ref) × (rest : List ℕ) × (name : ℕ) × (own : Bool) × IsAt before (act.MakeRoot main) × WritesRoot before generation main rest name own
-    × (after ≡ made_by before 0 name rest own (Indirection generation main) account)
+    × (after ≡ made_by before 0 name rest own (Indirection generation main) account) × IsAdded before account (Indirection generation main) after
+    × ((now (seen before account)).generations ≡ generation)
 
 abbrev pub HasMadeRoot : View → ℕ → Bool → View → Type 0
 HasMadeRoot before generation stood after =

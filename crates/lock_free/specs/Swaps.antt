@@ -15,8 +15,8 @@ use Rattle.lock_free.specs.declared.rules.View.{View}
 use Rattle.lock_free.specs.declared.swapping.Swapped.{Swapped}
 use Rattle.lock_free.specs.declared.swapping.Swapped.TheVariants.{Commits, Fails, Misses}
 use Rattle.lock_free.specs.Exchanging.{given_up}
-use Rattle.lock_free.specs.Loading.{now, seen, Runs, Waited}
-use Rattle.lock_free.specs.Passing.{KnowsLink, IsPlaced}
+use Rattle.lock_free.specs.Loading.{now, Runs, Waited}
+use Rattle.lock_free.specs.Passing.{Later, KnowsLink, IsPlaced}
 
 -- the operation on this line of its SWAP, and all that it has made is handed over
 abbrev pub swap_on : Purpose → Ref → Ref → Ref → SwapLine → Operation → Operation
@@ -42,8 +42,8 @@ is_done Misses = false
 
 -- what is left of the seat's own: where the replaced node wasn't found, all that it has made is free for it again
 abbrev pub LeavesOwn : View → Swapped → View → Type 0
-LeavesOwn before Commits after = after ≡ seen before after.account
-LeavesOwn before Fails after = after ≡ seen before after.account
+LeavesOwn before Commits after = Later before after
+LeavesOwn before Fails after = Later before after
 LeavesOwn before Misses after = (account : Account) × Waited before account × ((o : Operation) → Runs before o → after ≡ given_up before account o.private)
 
 abbrev pub HasSwapDone : View → Swapped → View → Type 0

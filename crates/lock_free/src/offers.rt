@@ -11,7 +11,7 @@ use crate::rules::{Completes, Goes, Meets, Sees};
 use trie_words::Pair;
 
 /// An offer's first word: it is neither carried out nor taken back.
-const UNDECIDED: u64 = 0;
+pub(crate) const UNDECIDED: u64 = 0;
 
 /// It is carried out.
 const CARRIED_OUT: u64 = 1;

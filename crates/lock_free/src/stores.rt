@@ -10,7 +10,7 @@ use crate::rules::{Drafts, Makes, MakesRoot, Takes};
 use crate::sizes::Sizes;
 
 /// How many generations were given out stands in this word.
-const GENERATION: usize = 16;
+pub(crate) const GENERATION: usize = 16;
 
 /// What came of trying to take a slot.
 #[derive(Clone, Copy, Drop)]

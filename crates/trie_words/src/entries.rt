@@ -6,7 +6,7 @@ ghost use Rattle.trie_words.specs.Codes.{entry_code, entry_of, IsEntry, pair_cod
 use crate::names::bit_of;
 
 /// An entry of a main node.
-#[derive(Clone, Copy, Debug, PartialEq, Eq, Drop)]
+#[derive(Clone, Copy, Debug, Default, PartialEq, Eq, Drop)]
 pub struct Entry {
     /// The slot of a single or of an indirection, below 2^27.
     pub slot: u32,

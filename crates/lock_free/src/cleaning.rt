@@ -1,0 +1,33 @@
+//! CLEAN: below an indirection tombs give way to their singles.
+
+ghost use Rattle.std.specs.Prelude.{◌≡◌, ◌<◌};
+ghost use Rattle.lock_free.specs.Loading.{IsSound};
+ghost use Rattle.lock_free.specs.Repairing.{HasLookedOver, IsAtCleaned};
+
+use crate::loads::{Actor, Words, look_at_key, look_at_link};
+use trie_words::Entry;
+
+/// What an entry of a branch that is cleaned gives way to.
+#[derive(Clone, Copy, Drop)]
+pub struct Cleaned {
+    /// The entry that comes to its place.
+    pub entry: Entry,
+    /// It was a tomb's single's.
+    pub is_changed: bool,
+}
+
+/// Looks at this entry, which is next: a single is kept, an indirection is read.
+fn look_over(words: &Words, actor: &mut Actor, entry: Entry)
+    requires table { actor.old.table_id ≡ words.now.table_id }
+    requires sound { IsSound words.now.table_id.words actor.old.me.0 }
+    requires at { IsAtCleaned actor.old.me.0 entry }
+    ensures table { actor.new.table_id ≡ actor.old.table_id }
+    ensures sound { IsSound words.now.table_id.words actor.new.me.0 }
+    ensures looked { HasLookedOver actor.old.me.0 entry.is_single actor.new.me.0 }
+{
+    if entry.is_single {
+        look_at_key(words, actor, entry.slot);
+    } else {
+        look_at_link(words, actor, entry.slot);
+    }
+}

@@ -1,0 +1,216 @@
+//! Nodes of an operation's own: each is written in a slot of its seat's own, and then made.
+
+ghost use Rattle.std.specs.Prelude.{◌≡◌, ◌<◌, ◌^◌, ◌≤◌, length};
+ghost use Rattle.machine_model.specs.declared.actions.Action.TheVariants as act;
+ghost use Rattle.machine_model.specs.Beneath.slot_arena.specs.declared.refs.Ref.{Ref as ARef};
+ghost use Rattle.machine_model.specs.Beneath.slot_arena.specs.declared.nodes.Node.TheVariants.{Indirection, Single, Tomb};
+ghost use Rattle.lock_free.specs.Loading.{IsAt, IsSound};
+ghost use Rattle.lock_free.specs.Passing.{IsPlaced};
+ghost use Rattle.lock_free.specs.Places.{class_for};
+ghost use Rattle.lock_free.specs.SeenEntries.{half_at, AreFit, HasMadeNext, HasWritten, IsAtBranch, IsAtList, IsAtMain, IsOver, IsOwnSlot};
+ghost use Rattle.lock_free.specs.Stocks.{IsStock};
+
+use crate::loads::{Actor, Words};
+use crate::stock::{Stock, take};
+use crate::stores::{draft, make};
+use std::sync::Wait;
+use trie_words::{Entry, Header, Link, Name, Pair, Previous, Shape};
+
+/// The class of the slot of a main node with so many entries.
+fn class_for(entries: usize) -> u32
+    ensures { result ≡ class_for entries }
+{
+    match entries {
+        0..=2 => 0,
+        3..=14 => 1,
+        _ => 2,
+    }
+}
+
+/// Makes a single of this key and value. Returns its slot, or none where no slot is had: then nothing has changed.
+pub fn make_single<R: Wait>(
+    rt: &R,
+    words: &Words,
+    actor: &mut Actor,
+    stock: &mut Stock,
+    key: u64,
+    value: u64,
+) -> Option<u32>
+    requires table { actor.old.table_id ≡ words.now.table_id }
+    requires sound { IsSound words.now.table_id.words actor.old.me.0 }
+    requires stock { IsStock stock.old actor.old.me.0 }
+    requires making { IsAt actor.old.me.0 (act.Make (Single key value)) }
+    ensures table { actor.new.table_id ≡ actor.old.table_id }
+    ensures sound { IsSound words.now.table_id.words actor.new.me.0 }
+    ensures stock { IsStock stock.new actor.new.me.0 }
+    ensures made { HasMadeNext actor.old.me.0 result actor.new.me.0 }
+{
+    let slot = take(rt, words, actor, stock, 0)?;
+    draft(words, actor, 2 * slot as usize, key);
+    make(words, actor, 2 * slot as usize + 1, value);
+    stock.note(0);
+    Some(slot)
+}
+
+/// Makes an indirection of this generation, to the main node of this name. Returns its slot, or none where no slot is had: then
+/// nothing has changed.
+pub fn make_link<R: Wait>(
+    rt: &R,
+    words: &Words,
+    actor: &mut Actor,
+    stock: &mut Stock,
+    generation: u64,
+    main: Name,
+) -> Option<u32>
+    requires table { actor.old.table_id ≡ words.now.table_id }
+    requires sound { IsSound words.now.table_id.words actor.old.me.0 }
+    requires stock { IsStock stock.old actor.old.me.0 }
+    requires generation { generation < 2 ^ 36 }
+    requires making { (r : ARef) × IsAt actor.old.me.0 (act.Make (Indirection generation r)) × IsPlaced actor.old.me.0 r main.slot }
+    ensures table { actor.new.table_id ≡ actor.old.table_id }
+    ensures sound { IsSound words.now.table_id.words actor.new.me.0 }
+    ensures stock { IsStock stock.new actor.new.me.0 }
+    ensures made { HasMadeNext actor.old.me.0 result actor.new.me.0 }
+{
+    let slot = take(rt, words, actor, stock, 0)?;
+    let link = Link { generation, main };
+    make(words, actor, 2 * slot as usize, link.to_word());
+    stock.note(0);
+    Some(slot)
+}
+
+/// The half of a word for the entry at this position, 0 where there is none.
+fn half_at(entries: &[Entry], position: usize) -> u32
+    requires { AreFit entries.now }
+    ensures { result ≡ half_at entries.now position }
+{
+    match entries.get(position) {
+        Some(entry) => entry.to_half(),
+        None => 0,
+    }
+}
+
+/// Writes these entries after the first word of this slot, two in a word.
+fn write_entries(words: &Words, actor: &mut Actor, slot: u32, entries: &[Entry])
+    requires table { actor.old.table_id ≡ words.now.table_id }
+    requires sound { IsSound words.now.table_id.words actor.old.me.0 }
+    requires fit { AreFit entries.now }
+    requires own { IsOwnSlot actor.old.me.0 slot (length entries.now) }
+    ensures table { actor.new.table_id ≡ actor.old.table_id }
+    ensures sound { IsSound words.now.table_id.words actor.new.me.0 }
+    ensures written { HasWritten actor.old.me.0 slot entries.now (length entries.now) actor.new.me.0 }
+{
+    for n in 0..entries.len().div_ceil(2) {
+        let pair = Pair {
+            low: half_at(entries, 2 * n),
+            high: half_at(entries, 2 * n + 1),
+        };
+        draft(words, actor, 2 * slot as usize + 1 + n, pair.to_word());
+    }
+}
+
+/// Makes the main node with this header and these entries. Returns its slot, or none where no slot is had: then nothing has changed.
+fn make_main<R: Wait>(
+    rt: &R,
+    words: &Words,
+    actor: &mut Actor,
+    stock: &mut Stock,
+    header: Header,
+    entries: &[Entry],
+) -> Option<u32>
+    requires table { actor.old.table_id ≡ words.now.table_id }
+    requires sound { IsSound words.now.table_id.words actor.old.me.0 }
+    requires stock { IsStock stock.old actor.old.me.0 }
+    requires making { IsAtMain actor.old.me.0 header.shape entries.now }
+    requires over { IsOver actor.old.me.0 header.previous }
+    ensures table { actor.new.table_id ≡ actor.old.table_id }
+    ensures sound { IsSound words.now.table_id.words actor.new.me.0 }
+    ensures stock { IsStock stock.new actor.new.me.0 }
+    ensures made { HasMadeNext actor.old.me.0 result actor.new.me.0 }
+{
+    let class = class_for(entries.len());
+    let slot = take(rt, words, actor, stock, class)?;
+    write_entries(words, actor, slot, entries);
+    make(words, actor, 2 * slot as usize, header.to_word());
+    stock.note(class);
+    Some(slot)
+}
+
+/// Makes a tomb of the single of this name, whose header says this of the main node that it is to replace. Returns its slot, or none
+/// where no slot is had: then nothing has changed.
+pub fn make_tomb<R: Wait>(
+    rt: &R,
+    words: &Words,
+    actor: &mut Actor,
+    stock: &mut Stock,
+    single: Name,
+    previous: Previous,
+) -> Option<u32>
+    requires table { actor.old.table_id ≡ words.now.table_id }
+    requires sound { IsSound words.now.table_id.words actor.old.me.0 }
+    requires stock { IsStock stock.old actor.old.me.0 }
+    requires making { (r : ARef) × IsAt actor.old.me.0 (act.Make (Tomb r)) × IsPlaced actor.old.me.0 r single.slot }
+    requires over { IsOver actor.old.me.0 previous }
+    ensures table { actor.new.table_id ≡ actor.old.table_id }
+    ensures sound { IsSound words.now.table_id.words actor.new.me.0 }
+    ensures stock { IsStock stock.new actor.new.me.0 }
+    ensures made { HasMadeNext actor.old.me.0 result actor.new.me.0 }
+{
+    let shape = Shape::Tomb(Entry {
+        slot: single.slot,
+        own: single.own,
+        is_single: true,
+    });
+    make_main(rt, words, actor, stock, Header { previous, shape }, &[])
+}
+
+/// Makes a branch with this bitmap and these entries, whose header says this of the main node that it is to replace. Returns its
+/// slot, or none where no slot is had: then nothing has changed.
+pub fn make_branch<R: Wait>(
+    rt: &R,
+    words: &Words,
+    actor: &mut Actor,
+    stock: &mut Stock,
+    bitmap: u32,
+    entries: &[Entry],
+    previous: Previous,
+) -> Option<u32>
+    requires table { actor.old.table_id ≡ words.now.table_id }
+    requires sound { IsSound words.now.table_id.words actor.old.me.0 }
+    requires stock { IsStock stock.old actor.old.me.0 }
+    requires few { length entries.now ≤ 32 }
+    requires making { IsAtBranch actor.old.me.0 bitmap entries.now }
+    requires over { IsOver actor.old.me.0 previous }
+    ensures table { actor.new.table_id ≡ actor.old.table_id }
+    ensures sound { IsSound words.now.table_id.words actor.new.me.0 }
+    ensures stock { IsStock stock.new actor.new.me.0 }
+    ensures made { HasMadeNext actor.old.me.0 result actor.new.me.0 }
+{
+    let shape = Shape::Branch(bitmap);
+    make_main(rt, words, actor, stock, Header { previous, shape }, entries)
+}
+
+/// Makes a list of these singles, whose header says this of the main node that it is to replace. Returns its slot, or none where no
+/// slot is had: then nothing has changed.
+pub fn make_list<R: Wait>(
+    rt: &R,
+    words: &Words,
+    actor: &mut Actor,
+    stock: &mut Stock,
+    entries: &[Entry],
+    previous: Previous,
+) -> Option<u32>
+    requires table { actor.old.table_id ≡ words.now.table_id }
+    requires sound { IsSound words.now.table_id.words actor.old.me.0 }
+    requires stock { IsStock stock.old actor.old.me.0 }
+    requires few { length entries.now ≤ 32 }
+    requires making { IsAtList actor.old.me.0 entries.now }
+    requires over { IsOver actor.old.me.0 previous }
+    ensures table { actor.new.table_id ≡ actor.old.table_id }
+    ensures sound { IsSound words.now.table_id.words actor.new.me.0 }
+    ensures stock { IsStock stock.new actor.new.me.0 }
+    ensures made { HasMadeNext actor.old.me.0 result actor.new.me.0 }
+{
+    let shape = Shape::List(entries.len() as u32);
+    make_main(rt, words, actor, stock, Header { previous, shape }, entries)
+}

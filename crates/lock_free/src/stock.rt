@@ -1,0 +1,225 @@
+//! What a seat owns in plain memory: slots that are free for it, and those of the nodes that its operation has made.
+
+ghost use Rattle.std.specs.Prelude.{◌≡◌, ℕ, ◌<◌, ◌≤◌, [], IsTrue, OnSome, length};
+ghost use Rattle.lock_free.specs.Loading.{IsSound};
+ghost use Rattle.lock_free.specs.Making.{with_slot};
+ghost use Rattle.lock_free.specs.Rules.{pool_of};
+ghost use Rattle.lock_free.specs.Stocks.{HasRoom, HasSlotOrNone, IsLast, IsPopped, IsStock, NotesLast, put_back};
+
+use crate::loads::{Actor, Words};
+use crate::sizes::Sizes;
+use crate::stores::{Tried, try_take};
+use arrayvec::ArrayVec;
+use std::marker::Model;
+use std::sync::Wait;
+
+/// So many slots of a class are kept at most, with those of all nodes that were made. One try of an operation makes 33 at most.
+const MOST_KEPT: usize = 128;
+
+/// A node that the seat's operation has made and nobody else knows.
+#[derive(Clone, Copy, Default, Drop)]
+pub struct OwnNode {
+    /// The class of its slot, below 3.
+    pub class: u32,
+    /// Its slot.
+    pub slot: u32,
+}
+
+/// Free slots by class, the next one last.
+#[derive(Drop)]
+struct Free {
+    small: ArrayVec<u32, 128>,
+    medium: ArrayVec<u32, 128>,
+    wide: ArrayVec<u32, 128>,
+}
+
+impl Model for Free {
+    ghost use Rattle.lock_free.specs.declared.rules.Pool.{Pool};
+
+    ghost Value = { Pool };
+
+    ghost view = { λ s. record { small = s.small.items; medium = s.medium.items; wide = s.wide.items } };
+}
+
+impl Free {
+    fn new() -> Free
+        ensures small { result.small ≡ [] }
+        ensures medium { result.medium ≡ [] }
+        ensures wide { result.wide ≡ [] }
+    {
+        Free {
+            small: ArrayVec::new(),
+            medium: ArrayVec::new(),
+            wide: ArrayVec::new(),
+        }
+    }
+
+    /// The last one of this class.
+    fn last(&self, class: u32) -> Option<u32>
+        ensures { IsLast (pool_of self.now class) result }
+    {
+        match class {
+            0 => self.small.last().copied(),
+            1 => self.medium.last().copied(),
+            _ => self.wide.last().copied(),
+        }
+    }
+
+    /// How many there are of the class that has most.
+    fn most(&self) -> usize
+        ensures most { (class : ℕ) → length (pool_of self.now class) ≤ result }
+        ensures fits { result ≤ 128 }
+    {
+        self.small
+            .len()
+            .max(self.medium.len())
+            .max(self.wide.len())
+    }
+
+    /// One slot more, the next one of its class.
+    fn add(&mut self, class: u32, slot: u32)
+        requires { length (pool_of self.old class) < 128 }
+        ensures { self.new ≡ with_slot self.old class slot }
+    {
+        match class {
+            0 => self.small.push(slot),
+            1 => self.medium.push(slot),
+            _ => self.wide.push(slot),
+        }
+    }
+
+    /// The last one of this class isn't free any more.
+    fn pop(&mut self, class: u32) -> Option<u32>
+        ensures { IsPopped self.old class result self.new }
+    {
+        match class {
+            0 => self.small.pop(),
+            1 => self.medium.pop(),
+            _ => self.wide.pop(),
+        }
+    }
+}
+
+/// What a seat owns. It takes no memory but its own.
+#[derive(Drop)]
+pub struct Stock {
+    sizes: Sizes,
+    free: Free,
+    /// What its operation has made, in order.
+    made: ArrayVec<OwnNode, 128>,
+}
+
+impl Model for Stock {
+    ghost use Rattle.lock_free.specs.Stocks.{Stocked, AreFew};
+
+    ghost Value = { Stocked };
+
+    ghost view = { λ s. record { sizes = s.sizes; pool = s.free; made = s.made.items } };
+
+    ghost invariant = { λ s. AreFew s.free s.made.items };
+}
+
+impl Stock {
+    /// Of a seat that has nothing yet.
+    pub fn new(sizes: Sizes) -> Stock
+        ensures sizes { result.sizes ≡ sizes }
+        ensures small { result.pool.small ≡ [] }
+        ensures medium { result.pool.medium ≡ [] }
+        ensures wide { result.pool.wide ≡ [] }
+        ensures made { result.made ≡ [] }
+    {
+        Stock {
+            sizes,
+            free: Free::new(),
+            made: ArrayVec::new(),
+        }
+    }
+
+    /// The last free slot of this class.
+    fn last(&self, class: u32) -> Option<u32>
+        ensures { IsLast (pool_of self.now.pool class) result }
+    {
+        self.free.last(class)
+    }
+
+    /// Whether two slots more can be kept.
+    fn has_room(&self) -> bool
+        ensures { IsTrue result → HasRoom self.now 2 }
+    {
+        self.made.len() + self.free.most() + 2 <= MOST_KEPT
+    }
+
+    /// One slot more is free.
+    fn add(&mut self, class: u32, slot: u32)
+        requires room { HasRoom self.old 1 }
+        ensures sizes { self.new.sizes ≡ self.old.sizes }
+        ensures pool { self.new.pool ≡ with_slot self.old.pool class slot }
+        ensures made { self.new.made ≡ self.old.made }
+    {
+        self.free.add(class, slot);
+    }
+
+    /// A node was made in the last free slot of this class.
+    pub fn note(&mut self, class: u32)
+        requires room { HasRoom self.old 1 }
+        ensures sizes { self.new.sizes ≡ self.old.sizes }
+        ensures noted { NotesLast self.old class self.new }
+    {
+        if let Some(slot) = self.free.pop(class) {
+            self.made.push(OwnNode { class, slot });
+        }
+    }
+
+    /// Nobody ever knew what was made: its slots are free again.
+    pub fn give_back(&mut self)
+        ensures sizes { self.new.sizes ≡ self.old.sizes }
+        ensures pool { self.new.pool ≡ put_back self.old.made self.old.pool }
+        ensures made { self.new.made ≡ [] }
+    {
+        for n in 0..self.made.len() {
+            let made = self.made[n];
+            self.free.add(made.class, made.slot);
+        }
+        self.made.clear();
+    }
+
+    /// What was made has become others' too.
+    pub fn hand_over(&mut self)
+        ensures sizes { self.new.sizes ≡ self.old.sizes }
+        ensures pool { self.new.pool ≡ self.old.pool }
+        ensures made { self.new.made ≡ [] }
+    {
+        self.made.clear();
+    }
+}
+
+/// A slot of this class for the next node: the last of those that are free then. None where all were handed out.
+pub fn take<R: Wait>(rt: &R, words: &Words, actor: &mut Actor, stock: &mut Stock, class: u32) -> Option<u32>
+    requires table { actor.old.table_id ≡ words.now.table_id }
+    requires sound { IsSound words.now.table_id.words actor.old.me.0 }
+    requires stock { IsStock stock.old actor.old.me.0 }
+    requires class { class < 3 }
+    ensures table { actor.new.table_id ≡ actor.old.table_id }
+    ensures sound { IsSound words.now.table_id.words actor.new.me.0 }
+    ensures stock { IsStock stock.new actor.new.me.0 }
+    ensures room { OnSome result (HasRoom stock.new 1) }
+    ensures slot { HasSlotOrNone actor.old.me.0 class result actor.new.me.0 }
+{
+    if !stock.has_room() {
+        return None;
+    }
+    if let Some(slot) = stock.last(class) {
+        return Some(slot);
+    }
+    for _ in rt.forever() {
+        match try_take(words, actor, &stock.sizes, class) {
+            Tried::Slot(slot) => {
+                stock.add(class, slot);
+                return Some(slot);
+            }
+            Tried::Full => return None,
+            Tried::Lost => {}
+        }
+    }
+    unreachable!()
+}
