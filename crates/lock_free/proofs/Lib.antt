@@ -92,6 +92,7 @@ mod Cleanings
 mod Licenses
 mod RootLines
 mod Rootings
+mod WalkRoots
 mod EndStep
 mod PinnedFor
 mod PinStep

@@ -34,6 +34,7 @@ pub mod Stocks
 pub mod SeenEntries
 pub mod GoingDown
 pub mod CopySteps
+pub mod Walks
 pub mod Holding
 pub mod Repairing
 pub mod Opening

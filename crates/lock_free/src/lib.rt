@@ -32,6 +32,7 @@ mod sizes;
 mod stock;
 mod stores;
 mod swapping;
+mod walking;
 
 pub use accounts::{Account, Known, Owned};
 pub use asking::{Named, ask_word, see_generation};
@@ -66,3 +67,4 @@ pub use sizes::Sizes;
 pub use stock::{OwnNode, Stock, take};
 pub use stores::{Tried, draft, make, make_root, try_take};
 pub use swapping::{Swapped, swap, swap_made};
+pub use walking::walk_root;
