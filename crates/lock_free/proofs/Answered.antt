@@ -2,13 +2,17 @@
 use Rattle.history.specs.declared.calls.Call.TheVariants.{Close}
 use Rattle.history.specs.declared.events.Event.{Event}
 use Rattle.history.specs.declared.events.Event.TheVariants as event
+use Rattle.history.specs.declared.replies.Reply.{Reply}
 use Rattle.history.specs.declared.replies.Reply.TheVariants as reply
-use Rattle.std.proofs.Common.{◌≡◌, ◌++◌, ◌∷◌, [], List, None, sym, ap, subst, ◌∙◌, append_assoc}
+use Rattle.std.proofs.Common.{◌≡◌, ◌++◌, ◌∷◌, [], List, None, refl, sym, ap, subst, ◌∙◌, append_assoc, append-nil}
+use Rattle.machine_model.specs.declared.steps.Step.TheVariants as step
 use Rattle.machine_model.specs.Machine.{AreBounds}
 use Rattle.machine_model.specs.declared.operations.Operation.{Operation}
 use Rattle.lock_free.specs.declared.rules.View.{View}
 use Rattle.lock_free.specs.Accounts.{bounds_for}
-use Rattle.lock_free.specs.Answering.{CallsAreAnswered, ClosesAreAnswered}
+use Rattle.lock_free.specs.Answering.{CallsAreAnswered, ClosesAreAnswered, Continues}
+use Rattle.lock_free.specs.Calling.{GaveUp}
+use Rattle.lock_free.specs.Passing.{Later}
 use Rattle.lock_free.specs.Telling.{history_of, GoesOn}
 use Rattle.lock_free.proofs.HistoriesOn.{histories_go_on}
 
@@ -47,7 +51,8 @@ closes_are_answered words before after handle sound h =
     let sizes_at : h.at.sizes ≡ before.sizes = ap (λ (v : View). v.sizes) at_is ∙ ap (λ (v : View). v.sizes) w.after_is in
     let actor_at : h.at.actor ≡ before.actor = ap (λ (v : View). v.actor) at_is ∙ ap (λ (v : View). v.actor) w.after_is in
     let account_at = ap (λ (v : View). v.account) at_is ∙ ap (λ (v : View). v.account) w.after_is in
-    let steps_at : GoesOn before.account.steps h.at.account.steps = (w.waited.waited.steps, ap (λ (v : View). v.account.steps) at_is ∙ ap (λ (v : View). v.account.steps) w.after_is ∙ w.waited.waited.goes_on) in
+    let steps_at : GoesOn before.account.steps h.at.account.steps =
+    (w.waited.waited.steps, ap (λ (v : View). v.account.steps) at_is ∙ ap (λ (v : View). v.account.steps) w.after_is ∙ w.waited.waited.goes_on) in
     let all_steps = goes_both before.account.steps h.at.account.steps h.shuts.account.steps steps_at (h.shuts.waited.waited.steps, h.shuts.waited.waited.goes_on) in
     let first = histories_go_on before.sizes before.account h.shuts.account sound.bounds all_steps in
     record {
@@ -59,3 +64,26 @@ closes_are_answered words before after handle sound h =
           ∙ ap (λ a. history_of before.sizes h.shuts.account ++ event.Begin h.shuts.id a (Close handle) None ∷ event.End h.shuts.id reply.Closed ∷ []) actor_at
           ∙ sym (append_assoc (history_of before.sizes h.shuts.account) (event.Begin h.shuts.id before.actor (Close handle) None ∷ []) (event.End h.shuts.id reply.Closed ∷ []));
     }
+
+-- ---- how a seat goes on
+
+pub continues_self : (v : View) → Continues v v
+continues_self v = record { sizes = refl; actor = refl; goes_on = ([], sym (append-nil v.account.steps)) }
+
+pub continues_both : (u v w : View) → Continues u v → Continues v w → Continues u w
+continues_both u v w p q = record {
+  sizes = q.sizes ∙ p.sizes;
+  actor = q.actor ∙ p.actor;
+  goes_on = goes_both u.account.steps v.account.steps w.account.steps p.goes_on q.goes_on;
+}
+
+pub continues_later : (v w : View) → Later v w → Continues v w
+continues_later v w l = record { sizes = ap (λ (x : View). x.sizes) l.is; actor = ap (λ (x : View). x.actor) l.is; goes_on = l.goes_on }
+
+pub continues_given_up : (v w : View) (operation : Operation) (answer : Reply) → GaveUp v operation answer w → Continues v w
+continues_given_up v w operation answer g = record {
+  sizes = ap (λ (x : View). x.sizes) g.after_is;
+  actor = ap (λ (x : View). x.actor) g.after_is;
+  goes_on = goes_both v.account.steps g.account.steps w.account.steps (g.waited.waited.steps, g.waited.waited.goes_on)
+      (step.GiveUp v.actor ∷ [], ap (λ (x : View). x.account.steps) g.after_is);
+}

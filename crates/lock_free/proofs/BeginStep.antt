@@ -1,7 +1,8 @@
 -- A load of a handle's word begins the operation for which the seat has pinned itself, where the handle is open for it.
 use Rattle.history.specs.declared.calls.Access.TheVariants.{Writable, ReadOnly}
 use Rattle.history.specs.declared.calls.Call.{Call}
-use Rattle.std.proofs.Common.{◌≡◌, ◌<◌, ◌≤◌, ◌^◌, ℕ, zero, suc, Bool, true, false, List, [], ◌∷◌, get_or, set, slice_index, is_some, not, Option, Some, None, Result, Ok, Err, refl, sym, ap, subst, ◌∙◌, arith, ne_eqb}
+use Rattle.std.proofs.Common.{◌≡◌, ◌<◌, ◌≤◌, ◌^◌, ℕ, zero, suc, Bool, true, false, List, [], ◌∷◌, get_or, set, slice_index, is_some, not, Option, Some, None}
+use Rattle.std.proofs.Common.{Result, Ok, Err, refl, sym, ap, subst, ◌∙◌, arith, ne_eqb}
 use Rattle.std.specs.Prelude.{◌&&◌, ◌||◌, ◌++◌, unwrap_or, if◌then◌else◌}
 use Rattle.std.specs.List.{list_any}
 use Rattle.std.proofs.lemmas.Bool.{lt-ltb}
@@ -166,7 +167,8 @@ module _ (v : View) (call : Call) (b : IsBeginner v call) (low : handle_of call 
       runs : Starts (Ok (started.Runs w))
       runs = (
         once_begun v call there,
-        begin_kept v.sizes s kept id v at (taken.Begin v.actor call v.opens) call begins idle b.pin b.pinned b.its low (ap is_some is_open) (λ who h. not_closing w who fits few (subst (λ n. SaysClosing n who) code h)),
+        begin_kept v.sizes s kept id v at (taken.Begin v.actor call v.opens) call begins idle b.pin b.pinned b.its low (ap is_some is_open)
+            (λ who h. not_closing w who fits few (subst (λ n. SaysClosing n who) code h)),
         has_begun,
         sound,
       )

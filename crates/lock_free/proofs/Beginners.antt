@@ -1,32 +1,17 @@
 -- A call begins, once the marks that it meets are taken away.
 use Rattle.history.specs.declared.calls.Call.{Call}
-use Rattle.std.proofs.Common.{ℕ, sym, subst, ◌∙◌}
+use Rattle.std.proofs.Common.{◌≡◌, ℕ, refl, sym, subst}
 use Rattle.lock_free.specs.declared.accounts.Account.{Account}
 use Rattle.lock_free.specs.declared.calling.Started.{Started}
 use Rattle.lock_free.specs.declared.calling.Started.TheVariants as started
 use Rattle.lock_free.specs.declared.rules.View.{View}
-use Rattle.lock_free.specs.Calling.{HasStarted, IsBeginner}
+use Rattle.trie_words.specs.declared.pins.Pin.{Pin}
+use Rattle.machine_model.specs.Calls.{handle_of}
+use Rattle.lock_free.specs.Calling.{HasStarted, IsBeginner, IsCaller}
 use Rattle.lock_free.specs.Loading.{seen, IsSound, Saw, Waited}
+use Rattle.lock_free.specs.SeatWords.{pinned_for}
 use Rattle.lock_free.proofs.OneStep.Idle.{idle_stays}
-use Rattle.lock_free.proofs.Waiting.{waited_both}
-
--- ---- others' steps, and then more of them
-
-module _ (v : View) (first second : Account) (w : Waited v first) (x : Waited (seen v first) second) where
-  pub waited_twice : Waited v second
-  waited_twice = record {
-    waited = waited_both v.actor v.account first second w.waited x.waited;
-    sound = x.sound;
-    stays = λ o runs.
-        (let a = w.stays o runs in
-        let b = x.stays (record o { is_marked = a.0 }) a.1 in
-        (b.0, b.1, b.2 ∙ a.2));
-  }
-
-pub saw_both : (u v w : View) → Saw u v → Saw v w → Saw u w
-saw_both u v w s t =
-    let x = subst (λ z. Saw z w) s.after_is t in
-    record { account = x.account; waited = waited_twice u s.account x.account s.waited x.waited; after_is = x.after_is }
+use Rattle.lock_free.proofs.Waiting.{waited_twice}
 
 -- ---- so far it has only seen
 
@@ -73,3 +58,8 @@ waits_more words call before v after h sound s = record {
   beginner = subst (λ x. IsBeginner x call) (sym s.after_is) (beginner_by v call s.account s.waited h.beginner);
   then = λ result last k. h.then result last (later_by v call s.account s.waited result last (subst (λ x. HasStarted x call result last) s.after_is k));
 }
+
+-- ---- a seat has pinned itself for the call
+
+pub beginner_of : (v : View) (pin : Pin) (call : Call) → IsCaller v call → pin.handle ≡ handle_of call → IsBeginner (pinned_for v pin call) call
+beginner_of v pin call c its = record { idle = c.idle; asks = refl; pin = pin; pinned = refl; its = its; number = c.number; stays = c.stays }

@@ -123,7 +123,8 @@ module _ (sizes : Sizes) (s : Table.State Call View) (kept : IsKept sizes s) (id
 
     own_then : IsSeat sizes account_then kept.stands s.words view_then
     own_then =
-        own_else sizes s kept id v at account_then kept.stands s.words stays account_then (waited_none v.actor account_then) (λ a above below. waited_none a account_then) all_then.counted v.pin (Some (handle_of call)) v.closing v.opens
+        own_else sizes s kept id v at account_then kept.stands s.words stays account_then (waited_none v.actor account_then)
+        (λ a above below. waited_none a account_then) all_then.counted v.pin (Some (handle_of call)) v.closing v.opens
         v.opening seat.pinned
         (λ g e. (let same = same_Some (handle_of call) g e in
         (subst (λ n. n < handle_limit) same low, ap (λ n. is_some (root_at next n)) (sym same) ∙ ap is_some (root_then (handle_of call)) ∙ is_open, (pin, pinned, its ∙ same))))

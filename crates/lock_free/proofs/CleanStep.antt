@@ -46,6 +46,13 @@ placed_small words v sound r name p =
     let place = p.1 in
     omega (arith, inside, two, range, place)
 
+-- an access that changes nothing
+pub untouched : (v : View) (s : Table.State Call View) (kept : IsKept v.sizes s) (id : ℕ) → get_elem? s.views id ≡ some v → IsKept v.sizes
+    (record { words = s.words; homes = s.homes; views = set s.views id v })
+untouched v s kept id at =
+    seat_kept v.sizes s kept id v at v.entered v.closing (kept.seats id v at).entered (kept.seats id v at).calls
+    (λ g who below h. closing_at v.sizes s kept id v at v refl refl g who (λ x. x) (λ c x y z. x) (kept.closings g who below h))
+
 module _ (v : View) (handle offer root : ℕ) (low : handle < 256) (a : IsAtClean v handle offer root) (s : Table.State Call View) (kept : IsKept v.sizes s) (id : ℕ)
     (at : get_elem? s.views id ≡ some v) where
   abbrev old : ℕ
@@ -88,17 +95,13 @@ module _ (v : View) (handle offer root : ℕ) (low : handle < 256) (a : IsAtClea
       (subst (λ n. n < 2 ^ 27) place_is (root_fits v.sizes s kept handle low Writable left plain))
       (subst (λ n. IsPlainWord Writable (place_of kept.account left) (word.Writable n)) place_is (is_writable refl)) (omega arith)
 
-  misses : IsKept v.sizes (record { words = s.words; homes = s.homes; views = set s.views id v })
-  misses =
-      seat_kept v.sizes s kept id v at v.entered v.closing (kept.seats id v at).entered (kept.seats id v at).calls
-      (λ g who below h. closing_at v.sizes s kept id v at v refl refl g who (λ x. x) (λ c x y z. x) (kept.closings g who below h))
-
   pub cleans : IsKept v.sizes (record { words = words_then v s kept id at (root_word handle) old new; homes = s.homes; views = set s.views id v })
   cleans = elim (cases_eq found old) [
     | inl e ↦
         subst (λ ws. IsKept v.sizes (record { words = ws; homes = s.homes; views = set s.views id v })) (words_hit v s kept id at (root_word handle) old new e (root_word handle) refl) (hits e)
     | inr differs ↦
-        subst (λ ws. IsKept v.sizes (record { words = ws; homes = s.homes; views = set s.views id v })) (words_miss v s kept id at (root_word handle) old new differs) misses
+        subst (λ ws. IsKept v.sizes (record { words = ws; homes = s.homes; views = set s.views id v })) (words_miss v s kept id at (root_word handle) old new differs)
+        (untouched v s kept id at)
   ]
 
 pub clean_allowed : (sizes : Sizes) (size id : ℕ) (me : Me Call View) (handle offer root : ℕ) → handle < 256 → IsAtClean me.0 handle offer root →

@@ -35,7 +35,8 @@ some_of : {A : Type 0} (r : Option A) → is_some r ≡ true → (a : A) × (r �
 some_of (Some a) e = (a, refl)
 some_of None e = absurd (false≢true e)
 
-module _ (v : View) (handle looked : ℕ) (low : handle < 256) (others : List Closing) (would : v.closing ≡ closes handle looked ∷ others) (all_looked : v.sizes.seats ≤ looked) (outside : v.entered ≢ Some handle)
+module _ (v : View) (handle looked : ℕ) (low : handle < 256) (others : List Closing) (would : v.closing ≡ closes handle looked ∷ others)
+    (all_looked : v.sizes.seats ≤ looked) (outside : v.entered ≢ Some handle)
     (idle : IsIdle v)
     (w : RootWord) (mine : SaysClosing (root_code w) v.actor) (s : Table.State Call View) (kept : IsKept v.sizes s) (id : ℕ) (at : get_elem? s.views id ≡ some v) where
   abbrev found : ℕ

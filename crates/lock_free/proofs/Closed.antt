@@ -47,7 +47,8 @@ use Rattle.lock_free.proofs.Stood.{plain_not}
 use Rattle.lock_free.proofs.Waiting.{waited_none, waited_more, quiet_more}
 
 module _ (sizes : Sizes) (s : Table.State Call View) (kept : IsKept sizes s) (id : ℕ) (v : View) (at : get_elem? s.views id ≡ some v) (handle : ℕ) (low : handle < handle_limit) (looked : ℕ)
-    (others : List Closing) (closing : v.closing ≡ record { handle = handle; looked = looked } ∷ others) (all_looked : sizes.seats ≤ looked) (says : SaysClosing (slice_index s.words (root_word handle)) v.actor)
+    (others : List Closing) (closing : v.closing ≡ record { handle = handle; looked = looked } ∷ others)
+    (all_looked : sizes.seats ≤ looked) (says : SaysClosing (slice_index s.words (root_word handle)) v.actor)
     (outside : v.entered ≡ Some handle → ⊥) (idle : operation_of (state_of sizes kept.account) v.actor ≡ None) where
   abbrev now : State
   now = state_of sizes kept.account
@@ -68,7 +69,8 @@ module _ (sizes : Sizes) (s : Table.State Call View) (kept : IsKept sizes s) (id
       let is = closer.its in
       let same : closer.id ≡ id = kept.alone closer.id id closer.view v v.actor closer.at at (omega (arith, is), omega (arith, is, top)) (omega arith, seat.top) in
       let mine : closer.view ≡ v = some-injective closer.view v (sym closer.at ∙ ap (λ n. get_elem? s.views n) same ∙ at) in
-      ap (λ (c : Closing). c.looked) (same_Some closer.closing (record { handle = handle; looked = looked }) (sym closer.is ∙ ap (λ (x : View). latest x.closing handle) mine ∙ ap (λ marks. latest marks handle) closing ∙ newest (record { handle = handle; looked = looked }) others))
+      ap (λ (c : Closing). c.looked) (same_Some closer.closing (record { handle = handle; looked = looked })
+      (sym closer.is ∙ ap (λ (x : View). latest x.closing handle) mine ∙ ap (λ marks. latest marks handle) closing ∙ newest (record { handle = handle; looked = looked }) others))
 
   pub nobody_inside : (other : ℕ) (w : View) → get_elem? s.views other ≡ some w → w.entered ≡ Some handle → ⊥
   nobody_inside other w e inside = elim (cases_eq other id) [
@@ -251,7 +253,8 @@ module _ (sizes : Sizes) (s : Table.State Call View) (kept : IsKept sizes s) (id
 
     own_then : IsSeat sizes account_then kept.stands words_then view_then
     own_then =
-        own_else sizes s kept id v at account_then kept.stands words_then stays account_then (waited_none v.actor account_then) (λ a above below. waited_none a account_then) all_then.counted v.pin v.entered v.closing v.opens v.opening
+        own_else sizes s kept id v at account_then kept.stands words_then stays account_then (waited_none v.actor account_then)
+        (λ a above below. waited_none a account_then) all_then.counted v.pin v.entered v.closing v.opens v.opening
         (pin_same v.actor seat.low ∙ seat.pinned) (λ g e. (let x = seat.entered g e in (x.0, still_open id v at g e x.1, x.2))) (λ o e. absurd (idle_then o e)) (held id v at)
         (λ o e. absurd (idle_then o e))
         (λ g slot o n. (let x = seat.opening g slot o n in record { low = x.low; fits = x.fits; is = named v g slot x ∙ x.is; free = x.free })) (λ b name free. spare_by id v b name at free)

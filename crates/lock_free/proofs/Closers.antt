@@ -57,7 +57,8 @@ module _ (sizes : Sizes) (s : Table.State Call View) (kept : IsKept sizes s) (id
 
     own_then : IsSeat sizes kept.account kept.stands s.words view_then
     own_then =
-        own_else sizes s kept id v at kept.account kept.stands s.words stays v.account seat.waited seat.rested seat.counts v.pin entered closing v.opens v.opening seat.pinned inside calls seat.opens seat.reserves
+        own_else sizes s kept id v at kept.account kept.stands s.words stays v.account seat.waited seat.rested seat.counts v.pin entered closing v.opens v.opening
+        seat.pinned inside calls seat.opens seat.reserves
         (λ g slot o n. (let x = seat.opening g slot o n in names_kept sizes s kept id v at kept.account kept.stands s.words stays v view_then g slot x refl x.free))
         (λ b name free. ((seat.spare b name free).1, λ j its. refl))
 

@@ -42,9 +42,6 @@ module _ (v : View) (l : CopyLine) (at : IsAtCopy v l) where
   pub copy_line : (o : Operation) → Runs v o → o.line ≡ line.Copy l
   copy_line o runs = ap (λ (z : Operation). z.line) (runs_one v o at.0 runs at.1) ∙ at.2
 
-  pub copy_call : (o : Operation) → Runs v o → o.call ≡ at.0.call
-  copy_call o runs = ap (λ (z : Operation). z.call) (runs_one v o at.0 runs at.1)
-
 -- which root is read there
 abbrev root_in : Line → Ref
 root_in (line.Copy (copy.Read root r)) = root
@@ -127,7 +124,8 @@ module _ (before : View) (handle slot : ℕ) (to : IsToComplete before handle sl
     state = now (seen middle account)
 
     later_then : Later middle after
-    later_then = subst (λ x. Later middle x) (sym helped.3.2) (gone_later (words_of before.sizes) middle helped.4 account helped.3.1 (subst (λ (x : View). AreBounds (bounds_for x.sizes x.account.steps)) helped.3.2 sound_after.bounds))
+    later_then = subst (λ x. Later middle x) (sym helped.3.2) (gone_later (words_of before.sizes) middle helped.4 account helped.3.1
+        (subst (λ (x : View). AreBounds (bounds_for x.sizes x.account.steps)) helped.3.2 sound_after.bounds))
 
     ends : (q : Operation) → Runs before q → Runs after (record q { line = copied_line carried q })
     ends q r =

@@ -8,6 +8,7 @@ use mathlib.Core.Option.{some, none}
 use lib.ListN.{get_elem?}
 use Rattle.atomic_table.specs.Table.{Me, Allows, step}
 use Rattle.atomic_table.specs.Table as Table
+use Rattle.machine_model.specs.declared.actions.Action.TheVariants as act
 use Rattle.machine_model.specs.declared.operations.Operation.{Operation}
 use Rattle.machine_model.specs.declared.steps.Step.TheVariants as machine
 use Rattle.machine_model.specs.GivingUp.{gave_up, given_up}
@@ -17,8 +18,8 @@ use Rattle.lock_free.specs.declared.rules.View.{View}
 use Rattle.lock_free.specs.declared.sizes.Sizes.{Sizes}
 use Rattle.lock_free.specs.Accounts.{running}
 use Rattle.lock_free.specs.Beginning.{taking}
-use Rattle.lock_free.specs.Calling.{HasGivenUp, MayGiveUp, once_given_up, has_given_up}
-use Rattle.lock_free.specs.Loading.{now, seen, IsSound, Runs, Waited}
+use Rattle.lock_free.specs.Calling.{GaveUp, HasGivenUp, MayGiveUp, once_given_up, has_given_up}
+use Rattle.lock_free.specs.Loading.{now, seen, IsAt, IsSound, Runs, Waited}
 use Rattle.lock_free.specs.Places.{epoch_word, words_of}
 use Rattle.lock_free.specs.Rules.{IsKept}
 use Rattle.lock_free.specs.Steps.{Leads}
@@ -83,3 +84,10 @@ give_up_allowed sizes size id me (operation, answer, runs, may) =
 -- the word is one of the table's
 pub epoch_inside : (words : ℕ) (v : View) → IsSound words v → epoch_word < words
 epoch_inside words v sound = let size = sound.size in omega (arith, size)
+
+-- then it is to end
+pub ends_then : (before at : View) (operation : Operation) (answer : Reply) → GaveUp before operation answer at → IsAt at (act.End answer)
+ends_then before at operation answer g = record { operation = record (gave_up operation answer) { is_marked = g.runs.0 }; runs = g.runs.1; acts = refl }
+
+pub gave_by : (before at : View) (m : MayGiveUp before) → HasGivenUp before at → GaveUp before m.0 m.1 at
+gave_by before at (operation, answer, runs, may) h = h operation answer runs may

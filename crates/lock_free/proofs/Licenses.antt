@@ -46,7 +46,8 @@ asked_handle v handle (i, main, replaced, p, r, is, on) o runs = ap (λ (z : Ope
 pub asking_then : (v w : View) (handle : ℕ) → IsAsking v handle → HasAskedAgain v w → IsAsking w handle
 asking_then v w handle (i, main, replaced, o, runs, is, on) again =
     let come = again i main replaced (o, runs, is) in
-    (i, main, replaced, read_to (Goes (read.AskRoot main replaced)) o, come.comes o runs, read_on o.line (record { indirection = i; line = read.AskRoot main replaced }) (read.AskRoot main replaced) is, on)
+    let still = read_on o.line (record { indirection = i; line = read.AskRoot main replaced }) (read.AskRoot main replaced) is in
+    (i, main, replaced, read_to (Goes (read.AskRoot main replaced)) o, come.comes o runs, still, on)
 
 pub again_both : (u v w : View) → HasAskedAgain u v → HasAskedAgain v w → HasAskedAgain u w
 again_both u v w p q i main replaced reading =

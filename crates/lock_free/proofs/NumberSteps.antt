@@ -40,7 +40,8 @@ use Rattle.lock_free.proofs.RootCodes.{root_back}
 abbrev reserved_code : ℕ
 reserved_code = root_code word.Reserved
 
-module _ (v : View) (number : ℕ) (low : number < 256) (idle : IsIdle v) (opens : v.opens ≡ None) (s : Table.State Call View) (kept : IsKept v.sizes s) (id : ℕ) (at : get_elem? s.views id ≡ some v) where
+module _ (v : View) (number : ℕ) (low : number < 256) (idle : IsIdle v) (opens : v.opens ≡ None)
+    (s : Table.State Call View) (kept : IsKept v.sizes s) (id : ℕ) (at : get_elem? s.views id ≡ some v) where
   abbrev found : ℕ
   found = slice_index s.words (root_word number)
 
@@ -76,14 +77,16 @@ reserve_allowed sizes size id me number low idle opens =
 -- ---- its word is stored
 
 -- no offer that stands opens the seat's number, unless its operation completes one
-module _ (v : View) (s : Table.State Call View) (kept : IsKept v.sizes s) (id : ℕ) (at : get_elem? s.views id ≡ some v) (number : ℕ) (reserves : Reserves (state_of v.sizes kept.account) v number) where
+module _ (v : View) (s : Table.State Call View) (kept : IsKept v.sizes s) (id : ℕ) (at : get_elem? s.views id ≡ some v)
+    (number : ℕ) (reserves : Reserves (state_of v.sizes kept.account) v number) where
   pub none_stands : ((o : Operation) → running v.sizes kept.account v.actor o → (c : Complete) → o.line ≡ line.Copy (copy.Complete c) → ⊥) → (k : Known) → Contains kept.account.offers k →
       fate s.words k ≡ undecided → k.offer.opens ≡ Some number → ⊥
   none_stands other k c stands opens =
       let own = own_pending v.sizes s kept (owner_of v.sizes kept.account kept.bounds) id v at number reserves k c stands opens in other own.0 own.1 own.2.0 own.2.1
 
 pub name_allowed : (sizes : Sizes) (size id : ℕ) (me : Me Call View) (number slot : ℕ) → number < 256 → IsNaming me.0 number slot → IsRootWord (word.Opening slot) →
-    Allows (IsKept sizes) size id me (root_word number) (λ n. root_code (word.Opening slot)) (λ n. has_named (step size (root_word number) (root_code (word.Opening slot)) 0 none) me (root_code (word.Opening slot)))
+    Allows (IsKept sizes) size id me (root_word number) (λ n. root_code (word.Opening slot))
+    (λ n. has_named (step size (root_word number) (root_code (word.Opening slot)) 0 none) me (root_code (word.Opening slot)))
 name_allowed sizes size id me number slot low n fits =
     allowed sizes size id me (root_word number) (λ x. root_code (word.Opening slot))
     (λ x. has_named (step size (root_word number) (root_code (word.Opening slot)) 0 none) me (root_code (word.Opening slot)))

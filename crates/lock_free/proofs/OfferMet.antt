@@ -23,7 +23,7 @@ use Rattle.lock_free.specs.HandleWords.{HasOffer}
 use Rattle.lock_free.specs.Loading.{Moment, now, HasGone, HasSeen, IsSound}
 use Rattle.lock_free.specs.Places.{words_of}
 use Rattle.lock_free.specs.Roots.{fate, undecided, carried_out, taken_back, open_with}
-use Rattle.lock_free.specs.RootWords.{AsksAt, HasFoundOffer, HasMetOffer, HasSeenSettled, MetAs, fate_by, has_met}
+use Rattle.lock_free.specs.RootWords.{AsksAt, HasFoundOffer, HasMetOffer, HasSeenFate, HasSeenSettled, MetAs, fate_by, has_met}
 use Rattle.lock_free.specs.Rules.{IsKept}
 use Rattle.lock_free.proofs.AbortStep.{known_there}
 use Rattle.lock_free.proofs.Definition.{IsReading}
@@ -87,6 +87,37 @@ carried_or_back : (n : ℕ) (before later : State) (k : Known) → n ≢ carried
 carried_or_back n before later k other (is_carried_out e h) = absurd (other e)
 carried_or_back n before later k other (is_taken_back e h) = e
 
+-- by a load that is no step
+
+module _ (before : View) (name found : ℕ) (after : View) (h : HasSeen before (2 * name) found after) where
+  found_standing : found ≡ undecided → HasSeenFate before name became.Undecided after
+  found_standing e = (
+    saw before name (2 * name) found after h,
+    λ k c in_it. stands_there before.sizes h.0.table h.0.kept k (here before name found h.0 k c in_it) (fate_found before name found h.0 k c in_it ∙ e),
+  )
+
+  found_settled : (n : ℕ) → ((k : Known) (account : Account) → HasSettled before.sizes account k found → found ≡ n) → found ≢ undecided → HasSeenSettled before name n after
+  found_settled n is decided = (
+    saw before name (2 * name) found after h,
+    λ k c in_it.
+        (let x = settled_there before name found h.0 k c in_it decided in
+        subst (HasSettled before.sizes h.0.kept.account k) (is k h.0.kept.account x) x),
+  )
+
+  pub settled_as : (one : Bool) → (found == undecided) ≡ false → (found == carried_out) ≡ one → HasSeenSettled before name (if one then carried_out else taken_back) after
+  settled_as true e f = found_settled carried_out (λ k account x. eqb-true found carried_out f) (eqb-false found undecided e)
+  settled_as false e f = found_settled taken_back (λ k account x. carried_or_back found _ _ k (eqb-false found carried_out f) x.settled) (eqb-false found undecided e)
+
+  fate_seen : (none one : Bool) → (found == undecided) ≡ none → (found == carried_out) ≡ one → HasSeenFate before name
+      (if none then became.Undecided else (if one then became.CarriedOut else became.TakenBack)) after
+  fate_seen true one e f = found_standing (eqb-true found undecided e)
+  fate_seen false true e f = settled_as true e f
+  fate_seen false false e f = settled_as false e f
+
+  pub fate_told : HasSeenFate before name (fate_by found) after
+  fate_told = fate_seen (found == undecided) (found == carried_out) refl refl
+
+-- by one that is, where it stands
 module _ (before : View) (handle name found : ℕ) (knows : HasOffer before.sizes before.account handle name) (after : View) where
   abbrev word : ℕ
   word = 2 * name
@@ -100,24 +131,11 @@ module _ (before : View) (handle name found : ℕ) (knows : HasOffer before.size
         (stands_there before.sizes g.0.table g.0.kept k (here before name found g.0 k c in_it) (fate_found before name found g.0 k c in_it ∙ e)));
   }
 
-  seen_settled : (n : ℕ) → ((k : Known) (account : Account) → HasSettled before.sizes account k found → found ≡ n) → found ≢ undecided → HasSeen before word found after →
-      HasSeenSettled before name n after
-  seen_settled n is decided (m, after_is) = (
-    saw before name word found after (m, after_is),
-    λ k c in_it. (let h = settled_there before name found m k c in_it decided in subst (HasSettled before.sizes m.kept.account k) (is k m.kept.account h) h),
-  )
-
-  pub settled_as : (one : Bool) → (found == undecided) ≡ false → (found == carried_out) ≡ one → HasSeen before word found after → HasSeenSettled before name
-      (if one then carried_out else taken_back) after
-  settled_as true e f h = seen_settled carried_out (λ k account x. eqb-true found carried_out f) (eqb-false found undecided e) h
-  settled_as false e f h =
-      seen_settled taken_back (λ k account x. carried_or_back found _ _ k (eqb-false found carried_out f) x.settled) (eqb-false found undecided e) h
-
   met_by : (none one : Bool) → (found == undecided) ≡ none → (found == carried_out) ≡ one → MetAs none before word found after → HasMetOffer before handle name
       (if none then became.Undecided else (if one then became.CarriedOut else became.TakenBack)) after
   met_by true one e f g = offer_found (eqb-true found undecided e) g
-  met_by false true e f h = settled_as true e f h
-  met_by false false e f h = settled_as false e f h
+  met_by false true e f h = settled_as before name found after h true e f
+  met_by false false e f h = settled_as before name found after h false e f
 
   pub meet_told : MetAs (found == undecided) before word found after → HasMetOffer before handle name (fate_by found) after
   meet_told h = met_by (found == undecided) (found == carried_out) refl refl h

@@ -1,5 +1,5 @@
 -- Loads of what an offer offers.
-use Rattle.std.proofs.Common.{◌≡◌, ◌+◌, ◌*◌, ◌<◌, ◌^◌, ◌∷◌, [], ℕ, Contains, slice_index, get_or, Option, Some, None, sym, ap, ◌∙◌, arith}
+use Rattle.std.proofs.Common.{◌≡◌, ◌+◌, ◌*◌, ◌<◌, ◌^◌, ◌∷◌, [], ℕ, Contains, slice_index, get_or, Option, Some, None, sym, subst, ap, ◌∙◌, arith}
 use Rattle.std.proofs.lemmas.List.Elements.{Contains-get_or, Contains-append_right}
 use Rattle.trie_words.specs.Codes.{pair_of, IsPair}
 use Rattle.trie_words.specs.declared.entries.Pair.{Pair}
@@ -16,12 +16,11 @@ use Rattle.lock_free.specs.declared.accounts.Known.{Known}
 use Rattle.lock_free.specs.declared.rules.View.{View}
 use Rattle.lock_free.specs.Accounts.{state_of, place_of}
 use Rattle.lock_free.specs.HandleWords.{HasOffer}
-use Rattle.lock_free.specs.Loading.{Moment, seen, Holds, IsSound, HasSeen}
+use Rattle.lock_free.specs.Loading.{Moment, Holds, IsSound, HasSeen}
 use Rattle.lock_free.specs.Making.{refs_of_offer}
 use Rattle.lock_free.specs.Nodes.{class_of}
-use Rattle.lock_free.specs.Passing.{IsPlaced}
 use Rattle.lock_free.specs.Roots.{IsWritten, second_of}
-use Rattle.lock_free.specs.RootWords.{SaysOlds, HasSeenNews, HasSeenOlds}
+use Rattle.lock_free.specs.RootWords.{SaysNews, SaysOlds, HasSeenNews, HasSeenOlds}
 use Rattle.lock_free.proofs.AbortStep.{known_there}
 use Rattle.lock_free.proofs.Framing.{class_small}
 use Rattle.lock_free.proofs.Looking.{saw}
@@ -73,6 +72,9 @@ module _ (before : View) (word found : ℕ) (m : Moment before word found) (k : 
   successor_in : Contains (refs_of_offer k.offer) k.offer.successor
   successor_in = Contains-get_or (refs_of_offer k.offer) 2 k.offer.root (omega arith)
 
+  seconds_in : (r : Ref) → Contains (refs_of_option k.offer.second) r → Contains (refs_of_offer k.offer) r
+  seconds_in r d = Contains-append_right (k.offer.root ∷ k.offer.expected ∷ k.offer.successor ∷ []) (refs_of_option k.offer.second) r d
+
   second_small : (o : Option Ref) → ((r : Ref) → Contains (refs_of_option o) r → Contains (refs_of_offer k.offer) r) → second_of there o < 2 ^ 32
   second_small None in_it = omega arith
   second_small (Some r) in_it = small r (in_it r (Contains-get_or (r ∷ []) 0 r (omega arith)))
@@ -112,13 +114,19 @@ module _ (before : View) (word found : ℕ) (m : Moment before word found) (k : 
     abbrev news : Pair
     news = record { low = place_of there k.offer.successor; high = second_of there k.offer.second }
 
-    pub news_said : IsPlaced (seen before there) k.offer.successor (pair_of found).low
-    news_said =
-        let fits : IsPair news = (
-          small k.offer.successor successor_in,
-          second_small k.offer.second (λ r d. Contains-append_right (k.offer.root ∷ k.offer.expected ∷ k.offer.successor ∷ []) (refs_of_option k.offer.second) r d),
-        ) in
-        (used k.offer.successor successor_in, sym (ap (λ (p : Pair). p.low) (ap pair_of (sym m.finds ∙ ap (slice_index m.table.words) its_word ∙ written.news) ∙ pair_back news fits)))
+    news_found : pair_of found ≡ news
+    news_found =
+        let fits : IsPair news = (small k.offer.successor successor_in, second_small k.offer.second seconds_in) in
+        ap pair_of (sym m.finds ∙ ap (slice_index m.table.words) its_word ∙ written.news) ∙ pair_back news fits
+
+    pub news_said : SaysNews before there k (pair_of found)
+    news_said = record {
+      successor = (used k.offer.successor successor_in, sym (ap (λ (p : Pair). p.low) news_found));
+      second = λ r e. (
+        used r (seconds_in r (subst (λ o. Contains (refs_of_option o) r) (sym e) (Contains-get_or (r ∷ []) 0 r (omega arith)))),
+        ap (second_of there) (sym e) ∙ sym (ap (λ (p : Pair). p.high) news_found),
+      );
+    }
 
 -- what the seat is told
 pub olds_told : (before : View) (name found : ℕ) (after : View) → HasSeen before (2 * name + 1) found after → HasSeenOlds before name (pair_of found) after

@@ -1,6 +1,7 @@
 -- The exchange of a handle's word that is to bring an offer to stand: it finds its root there, another one, or what is no root.
 use Rattle.history.specs.declared.calls.Call.{Call}
-use Rattle.std.proofs.Common.{◌≡◌, ◌≢◌, ◌+◌, ◌*◌, ◌<◌, ◌^◌, ◌==◌, ℕ, inl, inr, true, false, List, [], ◌∷◌, ◌++◌, Contains, set, slice_index, Option, Some, None, refl, sym, ap, subst, ◌∙◌, arith, eq-eqb, ne_eqb, get_or, if◌then◌else◌}
+use Rattle.std.proofs.Common.{◌≡◌, ◌≢◌, ◌+◌, ◌*◌, ◌<◌, ◌^◌, ◌==◌, ℕ, inl, inr, true, false, List, [], ◌∷◌, ◌++◌}
+use Rattle.std.proofs.Common.{Contains, set, slice_index, Option, Some, None, refl, sym, ap, subst, ◌∙◌, arith, eq-eqb, ne_eqb, get_or, if◌then◌else◌}
 use Rattle.std.proofs.Common.{append-nil}
 use Rattle.std.proofs.lemmas.Bool.{cases_eq}
 use Rattle.std.proofs.lemmas.List.{same_from_push}
@@ -251,7 +252,8 @@ module _ (v : View) (root slot : ℕ) (offer : Descriptor) (rest : List ℕ) (p 
         (
           (waited_so v s kept id at).sound,
           subst (λ y. HasProposed v handle slot y (seen v there)) (sym is)
-              (subst (λ y. HasSeenRoot v handle y (seen v there)) (ap root_of e ∙ root_back x fits) (root_told v handle found (seen v there) low (record { table = s; kept = kept; id = id; at = at; finds = refl }, refl))),
+              (subst (λ y. HasSeenRoot v handle y (seen v there)) (ap root_of e ∙ root_back x fits) (root_told v handle found (seen v there) low
+              (record { table = s; kept = kept; id = id; at = at; finds = refl }, refl))),
         ),
       ),
     )
@@ -297,7 +299,8 @@ abbrev pub AllowsOffer : Sizes → ℕ → ℕ → Me Call View → ℕ → ℕ 
 AllowsOffer sizes size id me word old new = Allows (IsKept sizes) size id me word (λ n. either (n == old) new n) (has_proposed (step size word old new none) me)
 
 -- what is asked names but one handle, root and slot
-told_so : (v : View) (handle root slot found : ℕ) (after : View) → IsToOffer v handle root slot → HasProposed v handle slot (proposed_by root (root_of found)) after → (h r n : ℕ) → IsToOffer v h r n →
+told_so : (v : View) (handle root slot found : ℕ) (after : View) → IsToOffer v handle root slot → HasProposed v handle slot (proposed_by root (root_of found)) after → (h r n : ℕ) → IsToOffer v
+    h r n →
     HasProposed v h n (proposed_by r (root_of found)) after
 told_so v handle root slot found after (offer, rest, p, w, on) told h r n (other, others, q, x, also) =
     let same_d = same_offer v offer other p q in

@@ -1,6 +1,5 @@
 -- A seat that is to offer still is so once it has seen more happen, and what comes of it is what would have come of it before.
-use Rattle.std.proofs.Common.{◌≡◌, ◌++◌, ℕ, Bool, true, false, Contains, refl, sym, ap, subst, ◌∙◌, append_assoc}
-use Rattle.std.proofs.lemmas.List.Elements.{All-append}
+use Rattle.std.proofs.Common.{◌≡◌, ℕ, Bool, true, false, Contains, sym, subst, ◌∙◌}
 use Rattle.machine_model.specs.Beneath.slot_arena.specs.declared.refs.Ref.{Ref}
 use Rattle.machine_model.specs.declared.actions.Action.{Action}
 use Rattle.machine_model.specs.declared.actions.Action.TheVariants as act
@@ -10,7 +9,7 @@ use Rattle.trie_words.specs.declared.roots.RootWord.{RootWord}
 use Rattle.trie_words.specs.declared.roots.RootWord.TheVariants as word
 use Rattle.lock_free.specs.declared.accounts.Account.{Account}
 use Rattle.lock_free.specs.declared.rules.View.{View}
-use Rattle.lock_free.specs.Accounts.{HasWaited, IsOfOther, place_of}
+use Rattle.lock_free.specs.Accounts.{place_of}
 use Rattle.lock_free.specs.Fates.{HasSettled}
 use Rattle.lock_free.specs.HandleWords.{HasOffer, HasSeenRoot, TellsRoot}
 use Rattle.lock_free.specs.Loading.{seen, IsAt, IsSound, Saw, Waited}
@@ -23,40 +22,13 @@ use Rattle.lock_free.specs.RootWords.{HasSeenSettled}
 use Rattle.lock_free.proofs.Asked.{live_in_use}
 use Rattle.lock_free.proofs.Laters.{waited_later}
 use Rattle.lock_free.proofs.OfferStep.{drafts_moved, offer_lives, root_of_offer}
-use Rattle.lock_free.proofs.Waiting.{waited_none}
+use Rattle.lock_free.proofs.Waiting.{waited_twice}
 
 -- ---- it has seen more
-
-pub waited_both : (actor : ℕ) (first middle last : Account) → HasWaited actor first middle → HasWaited actor middle last → HasWaited actor first last
-waited_both actor first middle last p q = record {
-  steps = p.steps ++ q.steps;
-  goes_on = q.goes_on ∙ ap (λ xs. xs ++ q.steps) p.goes_on ∙ append_assoc first.steps p.steps q.steps;
-  others = All-append (IsOfOther actor) p.steps q.steps p.others q.others;
-  names = p.names ++ q.names;
-  more_names = q.more_names ∙ ap (λ xs. xs ++ q.names) p.more_names ∙ append_assoc first.names p.names q.names;
-  owned = q.owned ++ p.owned;
-  more_owned = q.more_owned ∙ ap (λ xs. q.owned ++ xs) p.more_owned ∙ sym (append_assoc q.owned p.owned first.owned);
-  offers = q.offers ++ p.offers;
-  more_offers = q.more_offers ∙ ap (λ xs. q.offers ++ xs) p.more_offers ∙ sym (append_assoc q.offers p.offers first.offers);
-}
-
-pub saw_none : (n : ℕ) (v : View) → IsSound n v → Saw v v
-saw_none n v sound = record {
-  account = v.account;
-  waited = record { waited = waited_none v.actor v.account; sound = subst (λ k. IsSound k v) sound.size sound; stays = λ o runs. (o.is_marked, runs, refl) };
-  after_is = refl;
-}
 
 module _ (u : View) (a : Account) (first : Waited u a) where
   abbrev v : View
   v = seen u a
-
-  waited_since : (b : Account) → Waited v b → Waited u b
-  waited_since b w = record {
-    waited = waited_both u.actor u.account a b first.waited w.waited;
-    sound = w.sound;
-    stays = λ o runs. (let x = first.stays o runs in let y = w.stays (record o { is_marked = x.0 }) x.1 in (y.0, y.1, y.2 ∙ x.2));
-  }
 
   abbrev at_since : (does : Action) → IsAt u does → IsAt v does
   at_since does p = record {
@@ -66,16 +38,13 @@ module _ (u : View) (a : Account) (first : Waited u a) where
   }
 
   took_since : (b : Account) (stands : Bool) (w : View) → TookOffer v b stands w → TookOffer u b stands w
-  took_since b stands w (waited, took, plain) = (waited_since b waited, took, λ offer p. plain offer (at_since (act.Offer offer) p))
+  took_since b stands w (waited, took, plain) = (waited_twice u a b first waited, took, λ offer p. plain offer (at_since (act.Offer offer) p))
 
   offered_from : (slot : ℕ) (w : View) → HasOffered v slot w → HasOffered u slot w
   offered_from slot w (b, took, is) = (b, took_since b true w took, λ offer p rest pool. is offer (at_since (act.Offer offer) p) rest pool)
 
   missed_from : (w : View) → HasMissed v w → HasMissed u w
   missed_from w (b, took, is) = (b, took_since b false w took, λ o (mark, runs). (let x = first.stays (record o { is_marked = mark }) runs in is o (x.0, x.1)))
-
-  saw_from : (w : View) → Saw v w → Saw u w
-  saw_from w s = record { account = s.account; waited = waited_since s.account s.waited; after_is = s.after_is }
 
   to_offer_from : (n handle root slot : ℕ) → IsSound n u → IsToOffer u handle root slot → IsToOffer v handle root slot
   to_offer_from n handle root slot sound (offer, rest, p, w, on) =
@@ -100,9 +69,6 @@ module _ (u v : View) (s : Saw u v) where
 
   pub missed_since : (w : View) → HasMissed v w → HasMissed u w
   missed_since w h = missed_from u s.account s.waited w (subst (λ x. HasMissed x w) s.after_is h)
-
-  pub saw_since : (w : View) → Saw v w → Saw u w
-  saw_since w h = saw_from u s.account s.waited w (subst (λ x. Saw x w) s.after_is h)
 
   pub to_offer_since : (n handle root slot : ℕ) → IsSound n u → IsToOffer u handle root slot → IsToOffer v handle root slot
   to_offer_since n handle root slot sound h = subst (λ x. IsToOffer x handle root slot) (sym s.after_is) (to_offer_from u s.account s.waited n handle root slot sound h)

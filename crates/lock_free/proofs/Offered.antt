@@ -33,10 +33,9 @@ use Rattle.lock_free.specs.Fates.{TellsFate}
 use Rattle.lock_free.specs.Rules.{Stands, IsClosing, SaysClosing, IsFree, IsSpare, IsOpening, IsHeld, Reserves, IsSeat, IsKept, pool_of}
 use Rattle.lock_free.specs.Trying.{try_of, KeepsTries, anew}
 use Rattle.lock_free.proofs.Assembling.{AllStand, all_stand, closing_stays, opening_stays, Numbers, assembled}
-use Rattle.lock_free.proofs.Fates as fates
-use Rattle.lock_free.proofs.Fates.{fate_said}
 use Rattle.lock_free.proofs.Geometry.{IsWordOf}
 use Rattle.lock_free.proofs.Meanings.{means_then, stood_still, ran, reserved, reserves_on, marks_kept}
+use Rattle.lock_free.proofs.OneOffer.{fates_more, single_more, tries_more}
 use Rattle.lock_free.proofs.Pools.{first_or_more, first_there, more_there}
 use Rattle.lock_free.proofs.RootCodes.{same_kind}
 use Rattle.lock_free.proofs.RootFound.{not_plain, slot_fits, offered_is, opening_is, later_is}
@@ -111,10 +110,6 @@ module _ (sizes : Sizes) (s : Table.State Call View) (kept : IsKept sizes s) (id
     fresh = offers.fresh;
     others = λ a differs. ap (λ o. option_map try_of o) (offers.others a differs);
   })
-
-  -- an older offer is in another slot
-  another : (k : Known) → Contains kept.account.offers k → k.slot ≢ slot
-  another k c = spare.1.1 k c
 
   fate_old : (k : Known) → Contains kept.account.offers k → fate words_then k ≡ fate s.words k
   fate_old = root.fate_rooted sizes kept.account kept.stands s.words all handle low (root_code (word.Offered slot))
@@ -204,32 +199,14 @@ module _ (sizes : Sizes) (s : Table.State Call View) (kept : IsKept sizes s) (id
   ]
 
   single_all : (k l : Known) → Contains account_then.offers k → Contains account_then.offers l → k.slot ≡ l.slot → k ≡ l
-  single_all k l c d same = elim (first_or_more new kept.account.offers k c) [
-    | inl kn ↦ elim (first_or_more new kept.account.offers l d) [
-      | inl ln ↦ kn ∙ sym ln
-      | inr lo ↦ absurd (another l lo (sym same ∙ ap (λ (x : Known). x.slot) kn))
-    ]
-    | inr ko ↦ elim (first_or_more new kept.account.offers l d) [
-      | inl ln ↦ absurd (another k ko (same ∙ ap (λ (x : Known). x.slot) ln))
-      | inr lo ↦ kept.roots.single k l ko lo same
-    ]
-  ]
+  single_all = single_more new kept.account.offers spare.1.1 kept.roots.single
 
   -- no older offer is of the new one's try
   newer : (k : Known) → Contains kept.account.offers k → k.offer.operation ≡ offer.operation → k.offer.attempt ≡ offer.attempt → ⊥
   newer k c same_id same_try = offers.fresh k c (record { its = offers.its_try.its ∙ sym same_id; now = offers.its_try.now ∙ sym same_try })
 
   tries_all : (k l : Known) → Contains account_then.offers k → Contains account_then.offers l → k.offer.operation ≡ l.offer.operation → k.offer.attempt ≡ l.offer.attempt → k ≡ l
-  tries_all k l c d same_id same_try = elim (first_or_more new kept.account.offers k c) [
-    | inl kn ↦ elim (first_or_more new kept.account.offers l d) [
-      | inl ln ↦ kn ∙ sym ln
-      | inr lo ↦ absurd (newer l lo (sym same_id ∙ ap (λ (x : Known). x.offer.operation) kn) (sym same_try ∙ ap (λ (x : Known). x.offer.attempt) kn))
-    ]
-    | inr ko ↦ elim (first_or_more new kept.account.offers l d) [
-      | inl ln ↦ absurd (newer k ko (same_id ∙ ap (λ (x : Known). x.offer.operation) ln) (same_try ∙ ap (λ (x : Known). x.offer.attempt) ln))
-      | inr lo ↦ kept.roots.tries k l ko lo same_id same_try
-    ]
-  ]
+  tries_all = tries_more new kept.account.offers newer kept.roots.tries
 
   stood_all : (k : Known) → Contains account_then.offers k → HasStood sizes account_then k.offer
   stood_all k c = elim (first_or_more new kept.account.offers k c) [
@@ -284,16 +261,9 @@ module _ (sizes : Sizes) (s : Table.State Call View) (kept : IsKept sizes s) (id
   not_there_yet d e = plain_not offer.root d (sym (ap word_of offers.stood) ∙ e)
 
   fates_all : (k : Known) → Contains account_then.offers k → TellsFate sizes account_then k (fate words_then k)
-  fates_all k c = elim (first_or_more new kept.account.offers k c) [
-    | inl is_new ↦
-        subst (λ x. TellsFate sizes account_then x (fate words_then x)) (sym is_new)
-        (fate_said sizes account_then new undecided (fate words_then new) fate_new
-        (fates.fate_new sizes kept.account account_then (step.Go v.actor) refl new offers.never (not_there_yet offer)))
-    | inr old ↦
-        fate_said sizes account_then k (fate s.words k) (fate words_then k) (fate_old k old)
-        (fates.fate_kept sizes kept.account account_then (step.Go v.actor) refl k (fate s.words k)
-        (λ e. ap word_of (offers.roots k.handle (λ same. not_there_yet k.offer (ap (word_at now) (sym same) ∙ e))) ∙ e) (kept.roots.fates k old))
-  ]
+  fates_all =
+      fates_more sizes kept.account account_then (step.Go v.actor) refl new offers.never not_there_yet (λ h differs. ap word_of (offers.roots h differs)) s.words words_then fate_new fate_old
+      kept.roots.fates
 
   -- ---- all that stands
 
@@ -314,7 +284,17 @@ module _ (sizes : Sizes) (s : Table.State Call View) (kept : IsKept sizes s) (id
     generations = root.generations_rooted sizes kept.account kept.stands s.words all handle low (root_code (word.Offered slot)) ∙ sym offers.leaves.generations;
     nodes = root.nodes_left sizes kept.account account_then.steps account_then.offers offers.leaves kept.stands words_then not_its_slot
         (root.nodes_rooted sizes kept.account kept.stands s.words all handle low (root_code (word.Offered slot)));
-    roots = record { means = means_all; offers = written_all; blocks = blocks_all; single = single_all; tries = tries_all; stood = stood_all; marks = marks_all; fates = fates_all; pending = pending_all };
+    roots = record {
+      means = means_all;
+      offers = written_all;
+      blocks = blocks_all;
+      single = single_all;
+      tries = tries_all;
+      stood = stood_all;
+      marks = marks_all;
+      fates = fates_all;
+      pending = pending_all;
+    };
   }
 
   -- ---- seats

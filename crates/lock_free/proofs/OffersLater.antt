@@ -6,7 +6,7 @@ use Rattle.lock_free.specs.declared.accounts.Known.{Known}
 use Rattle.lock_free.specs.declared.rules.View.{View}
 use Rattle.lock_free.specs.Accounts.{WasReached}
 use Rattle.lock_free.specs.Fates.{HasSettled}
-use Rattle.lock_free.specs.HandleWords.{HasOffer}
+use Rattle.lock_free.specs.HandleWords.{HasOffer, HasOpening}
 use Rattle.lock_free.specs.Passing.{Later}
 use Rattle.lock_free.specs.Places.{words_in, words_of}
 use Rattle.lock_free.specs.RootWords.{IsRootAt}
@@ -23,6 +23,15 @@ module _ (v w : View) (l : Later v w) where
     here = l.offers h.its h.here;
     place = h.place;
     on = h.on;
+    inside = subst (λ z. 2 * slot + words_in 1 ≤ words_of z) (sym sizes_same) h.inside;
+  }
+
+  abbrev pub opening_later : (handle slot : ℕ) → HasOpening v.sizes v.account handle slot → HasOpening w.sizes w.account handle slot
+  opening_later handle slot h = record {
+    its = h.its;
+    here = l.offers h.its h.here;
+    place = h.place;
+    opens = h.opens;
     inside = subst (λ z. 2 * slot + words_in 1 ≤ words_of z) (sym sizes_same) h.inside;
   }
 

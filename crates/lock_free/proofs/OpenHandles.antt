@@ -165,5 +165,6 @@ module _ (sizes : Sizes) (s : Table.State Call View) (kept : IsKept sizes s) (id
               subst (λ n. IsClosing (set s.views id marking) n who) (sym same)
               (closes_here who (marks who (subst (λ n. SaysClosing n who) (ap (λ n. slice_index words_then (root_word n)) same ∙ root_here) says)))
           | inr differs ↦
-              closing_at sizes s kept id v at marking refl refl g who (λ e. e) (λ c is_it on own. older begins v.closing g (λ e. differs (sym e)) ∙ is_it) (kept.closings g who below (says_else g who differs says))
+              closing_at sizes s kept id v at marking refl refl g who (λ e. e) (λ c is_it on own. older begins v.closing g (λ e. differs (sym e)) ∙ is_it)
+              (kept.closings g who below (says_else g who differs says))
         ])

@@ -64,8 +64,10 @@ module _ (sizes : Sizes) where
 
   pub size_is : length (first_words sizes) ≡ words_of sizes
   size_is =
-      length-set {A = ℕ} (set (counted_words sizes) (root_word 0) (first_handle sizes)) (2 * root_slot sizes) (first_link sizes) ∙ length-set {A = ℕ} (counted_words sizes) (root_word 0) (first_handle sizes)
-      ∙ length-set {A = ℕ} (set (replicate (words_of sizes) 0) generation_word 1) (taken_word 0) 2 ∙ length-set {A = ℕ} (replicate (words_of sizes) 0) generation_word 1 ∙ length-replicate {A = ℕ} (words_of sizes) 0
+      length-set {A = ℕ} (set (counted_words sizes) (root_word 0) (first_handle sizes)) (2 * root_slot sizes) (first_link sizes)
+      ∙ length-set {A = ℕ} (counted_words sizes) (root_word 0) (first_handle sizes)
+      ∙ length-set {A = ℕ} (set (replicate (words_of sizes) 0) generation_word 1) (taken_word 0) 2 ∙ length-set {A = ℕ} (replicate (words_of sizes) 0) generation_word 1
+      ∙ length-replicate {A = ℕ} (words_of sizes) 0
 
   module _ (ok : AreSizes sizes) where
     bounds_are : AreBounds (bounds_for sizes [])
@@ -92,13 +94,26 @@ module _ (sizes : Sizes) where
     handle_is =
         before_link 80 (λ e. omega (arith, e))
         ∙ get_or-set_same (counted_words sizes) 80 (first_handle sizes) 0
-        (omega (arith, length-set {A = ℕ} (set (replicate (words_of sizes) 0) generation_word 1) (taken_word 0) 2, length-set {A = ℕ} (replicate (words_of sizes) 0) generation_word 1, length-replicate {A = ℕ} (words_of sizes) 0))
+        (omega (
+          arith,
+          length-set {A = ℕ} (set (replicate (words_of sizes) 0) generation_word 1) (taken_word 0) 2,
+          length-set {A = ℕ} (replicate (words_of sizes) 0) generation_word 1,
+          length-replicate {A = ℕ} (words_of sizes) 0,
+        ))
 
     link_is : slice_index (first_words sizes) (2 * root_slot sizes) ≡ first_link sizes
     link_is =
         let root = ok.root in
         get_or-set_same (set (counted_words sizes) (root_word 0) (first_handle sizes)) (2 * root_slot sizes) (first_link sizes) 0
-        (omega (arith, root, length-set {A = ℕ} (counted_words sizes) (root_word 0) (first_handle sizes), length-set {A = ℕ} (set (replicate (words_of sizes) 0) generation_word 1) (taken_word 0) 2, length-set {A = ℕ} (replicate (words_of sizes) 0) generation_word 1, length-replicate {A = ℕ} (words_of sizes) 0))
+        (omega (
+          arith,
+          root,
+          length-set {A = ℕ} (counted_words sizes) (root_word 0) (first_handle sizes),
+          length-set {A = ℕ} (set (replicate (words_of sizes) 0) generation_word 1)
+              (taken_word 0) 2,
+          length-set {A = ℕ} (replicate (words_of sizes) 0) generation_word 1,
+          length-replicate {A = ℕ} (words_of sizes) 0,
+        ))
 
     zero_is : (k : ℕ) → k ≢ 2 * root_slot sizes → k ≢ 80 → k ≢ 32 → k ≢ 16 → slice_index (first_words sizes) k ≡ 0
     zero_is k a b c d =

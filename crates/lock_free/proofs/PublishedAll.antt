@@ -189,7 +189,8 @@ module _ (sizes : Sizes) (account : Account) (actor : ℕ) (operation : Operatio
         tries = roots.tries;
         stood = λ k c. stood_still sizes account later (step.Go actor ∷ []) refl k.offer (roots.stood k c);
         marks = marks_kept account.offers (state_of sizes account) (state_of sizes later) (as_before publishes.tries) words_then words_then (λ k c. refl) roots.marks;
-        fates = λ k c. fate_kept sizes account later (step.Go actor) refl k (fate words_then k) (λ e. words_same (state_of sizes account) (state_of sizes later) publishes.roots k.handle ∙ e) (roots.fates k c);
+        fates = λ k c.
+            fate_kept sizes account later (step.Go actor) refl k (fate words_then k) (λ e. words_same (state_of sizes account) (state_of sizes later) publishes.roots k.handle ∙ e) (roots.fates k c);
       }
 
   pub all_then : AllStand sizes later stands words_then

@@ -128,7 +128,8 @@ module _ (sizes : Sizes) (s : Table.State Call View) (kept : IsKept sizes s) (id
 
     own_then : IsSeat sizes kept.account kept.stands words_then view_then
     own_then =
-        own_else sizes s kept id v at kept.account kept.stands words_then stays v.account seat.waited seat.rested seat.counts v.pin entered closing v.opens v.opening (pin_same v.actor seat.low ∙ seat.pinned)
+        own_else sizes s kept id v at kept.account kept.stands words_then stays v.account seat.waited seat.rested seat.counts v.pin entered closing v.opens v.opening
+        (pin_same v.actor seat.low ∙ seat.pinned)
         inside calls (held id v at)
         seat.reserves (λ g slot o n. (let x = seat.opening g slot o n in names_kept sizes s kept id v at kept.account kept.stands words_then stays v view_then g slot x (stays_named g slot x) x.free))
         (λ b name free. stays_spare id v b name at free)

@@ -24,8 +24,8 @@ use Rattle.machine_model.specs.Swapping.{after_root_word, completing, root_actio
 use Rattle.lock_free.specs.OfReads.{on_given}
 use Rattle.lock_free.specs.Rooting.{completing_of, in_root, rooted, rooting_of, rooting_on}
 
-by_program : (P : Line → RootLine → Type 0) → ((x : RootLine) → P (line.Root x) x) → ((c : Climb) (x : RootLine) → P (line.Climb (climb.Root c x)) x) → (l : Line) (x : RootLine) → rooting_of l ≡ Some x →
-    P l x
+by_program : (P : Line → RootLine → Type 0) → ((x : RootLine) → P (line.Root x) x) → ((c : Climb) (x : RootLine) → P (line.Climb (climb.Root c x)) x) →
+    (l : Line) (x : RootLine) → rooting_of l ≡ Some x → P l x
 by_program P roots climbs (line.Root y) x e = subst (P (line.Root y)) (same_Some y x e) (roots y)
 by_program P roots climbs (line.Climb (climb.Root c y)) x e = subst (P (line.Climb (climb.Root c y))) (same_Some y x e) (climbs c y)
 by_program P roots climbs (line.Climb l) x e = absurd (grind arith)
@@ -62,7 +62,8 @@ rooting_completes = by_program (λ l x. completing_of l ≡ in_root x) (λ x. re
 pub completing_on : (call : Call) (offer : Descriptor) (m : Ref) (l : Line) (x : RootLine) → rooting_of l ≡ Some x →
     on_given call (rooting_on l (root.Completing (completing offer))) m ≡ rooting_on l (root.Completing (record { offer = offer; line = complete.Swap m }))
 completing_on call offer m =
-    by_program (λ l x. on_given call (rooting_on l (root.Completing (completing offer))) m ≡ rooting_on l (root.Completing (record { offer = offer; line = complete.Swap m }))) (λ x. refl) (λ c x. refl)
+    by_program (λ l x. on_given call (rooting_on l (root.Completing (completing offer))) m ≡ rooting_on l (root.Completing (record { offer = offer; line = complete.Swap m }))) (λ x. refl)
+    (λ c x. refl)
 
 -- ---- steps
 

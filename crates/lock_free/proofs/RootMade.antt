@@ -62,7 +62,7 @@ module _ (v : View) (generation : ℕ) (main : Ref) (rest : List ℕ) (name : �
   after = made_by v 0 name rest own root there
 
   module _ (found : slice_index s.words generation_word ≡ generation) where
-    next_is : state.generations ≡ generation
+    pub next_is : (state_of v.sizes kept.account).generations ≡ generation
     next_is = sym kept.generations ∙ found
 
     makes : Makes v.sizes there (made_at v.actor name own root there) v.actor o root 1
@@ -124,7 +124,22 @@ root_allowed sizes size id me generation (main, rest, name, own, p, w) =
             (kept_after me.0 generation main rest name own p w s kept id at e),
         (
           (
-            λ h. (kept.account, waited_so me.0 s kept id at, took_after me.0 generation main rest name own p w s kept id at e, (main, rest, name, own, p, w, refl, added_after me.0 generation main rest name own p w s kept id at e)),
+            λ h. (
+              kept.account,
+              waited_so me.0 s kept id at,
+              took_after me.0 generation main rest name own p w s kept id at e,
+              (
+                main,
+                rest,
+                name,
+                own,
+                p,
+                w,
+                refl,
+                added_after me.0 generation main rest name own p w s kept id at e,
+                next_is me.0 generation main rest name own p w s kept id at e,
+              ),
+            ),
             λ h. absurd (true≢false (sym (eq-eqb (slice_index s.words generation_word) generation e) ∙ h)),
           ),
           λ h. sound_after me.0 generation main rest name own p w s kept id at e,

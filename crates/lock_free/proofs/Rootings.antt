@@ -43,7 +43,7 @@ asks_root v way (p, (mark, runs), is) on = record {
   on = (on p (mark, runs)).1;
 }
 
-stayed_none : (v : View) → HasStayed v v
+pub stayed_none : (v : View) → HasStayed v v
 stayed_none v = record { later = later_self v; comes = λ o r. r }
 
 pub stayed_both : (u v w : View) → HasStayed u v → HasStayed v w → HasStayed u w
@@ -55,7 +55,7 @@ stayed_saw n v w sound s = record { later = saw_later n v sound w s; comes = saw
 pub root_then : (v w : View) → HasStayed v w → IsAtRoot v → IsAtRoot w
 root_then v w stayed (p, r, is) = (p, stayed.comes p r, is)
 
-on_then : (v w : View) (way : Way) (p : Operation) → Runs v p → (q : Operation) → Runs w q → q.access ≡ p.access → handle_of q.call ≡ handle_of p.call → IsOnWay v way → IsOnWay w way
+pub on_then : (v w : View) (way : Way) (p : Operation) → Runs v p → (q : Operation) → Runs w q → q.access ≡ p.access → handle_of q.call ≡ handle_of p.call → IsOnWay v way → IsOnWay w way
 on_then v w way p r q s access call on o runs =
     let same = runs_one w o q runs s in
     let it = on p r in

@@ -1,5 +1,5 @@
 -- Whether steps are the same can be told.
-use Rattle.std.proofs.Common.{◌≡◌, ◌==◌, ◌&&◌, ℕ, Bool, true, false, List, [], ◌∷◌, ◌++◌, Option, Some, None, refl, sym, ap, subst, arith}
+use Rattle.std.proofs.Common.{◌≡◌, ◌==◌, ◌&&◌, ℕ, ◌⊎◌, inl, inr, Bool, true, false, List, [], ◌∷◌, ◌++◌, Option, Some, None, refl, sym, ap, subst, arith}
 use Rattle.std.proofs.lemmas.Bool.{false≢true}
 use Rattle.history.specs.declared.calls.Call.{Call}
 use Rattle.history.specs.declared.calls.Call.TheVariants.{Get, Put, PutIfAbsent, Replace, ReplaceIf, Remove, RemoveIf, Clear, Snapshot, Freeze, Close, Entries, Count}
@@ -106,3 +106,17 @@ pub goes_on_so : (xs more : List Step) → goes_on xs (xs ++ more) ≡ true
 unfolding goes_on
 goes_on_so [] more = refl
 goes_on_so (x ∷ xs) more = grind (arith, step_itself x, goes_on_so xs more)
+
+-- of two that go on as the same one, the one goes on as the other
+pub goes_on_either : (xs ys more rest : List Step) → xs ++ more ≡ ys ++ rest → (goes_on xs ys ≡ true) ⊎ (goes_on ys xs ≡ true)
+unfolding goes_on
+goes_on_either [] ys more rest e = inl refl
+goes_on_either (x ∷ xs) [] more rest e = inr refl
+goes_on_either (x ∷ xs) (y ∷ ys) more rest e =
+    let first : x ≡ y = cc e in
+    let there : same_step x y ≡ true = subst (λ z. same_step x z ≡ true) first (step_itself x) in
+    let back : same_step y x ≡ true = subst (λ z. same_step z x ≡ true) first (step_itself x) in
+    elim (goes_on_either xs ys more rest (cc e)) [
+      | inl h ↦ inl (grind (arith, there, h))
+      | inr h ↦ inr (grind (arith, back, h))
+    ]

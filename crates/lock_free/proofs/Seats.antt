@@ -157,7 +157,8 @@ module _ (sizes : Sizes) (s : Table.State Call View) (kept : IsKept sizes s) (id
           }
 
     -- and the seat itself, where it pins itself, enters a handle, would close one, or reserves a number
-    module _ (first : Account) (waited : HasWaited v.actor first account) (rested : (a : ℕ) → v.actor < a → a ≤ v.last → HasWaited a first account) (counted : length first.names ≡ (state_of sizes first).heap.births) (pin : Option Pin) (entered : Option ℕ)
+    module _ (first : Account) (waited : HasWaited v.actor first account) (rested : (a : ℕ) → v.actor < a → a ≤ v.last → HasWaited a first account)
+        (counted : length first.names ≡ (state_of sizes first).heap.births) (pin : Option Pin) (entered : Option ℕ)
         (closing : List Closing)
         (opens : Option ℕ) (opening : Option ℕ) where
       abbrev pub seat_else : View

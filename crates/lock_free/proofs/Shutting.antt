@@ -7,11 +7,12 @@ use Rattle.trie_words.specs.declared.roots.RootWord.TheVariants as word
 use Rattle.lock_free.specs.declared.rules.Closing.{Closing}
 use Rattle.lock_free.specs.declared.rules.View.{View}
 use Rattle.lock_free.specs.Closing.{with_marks, Watched}
-use Rattle.lock_free.specs.HandleWords.{is_unmarked, marked_by}
+use Rattle.lock_free.specs.HandleWords.{is_unmarked, marked_by, HasSeenRoot}
 use Rattle.lock_free.specs.Loading.{IsSound, Saw}
 use Rattle.lock_free.specs.Rules.{SaysClosing}
 use Rattle.lock_free.specs.SeatWords.{closes, passing, IsIdle, WouldClose}
 use Rattle.lock_free.proofs.OneStep.Idle.{idle_stays}
+use Rattle.lock_free.proofs.Waiting.{waited_twice}
 
 -- what is sound stays so with other marks
 pub marks_sound : (words : ℕ) (v : View) (marks : List Closing) → IsSound words v → IsSound words (with_marks v marks)
@@ -54,3 +55,9 @@ watched_by before at after s marks e = record { at = at; saw = s; marks = marks;
 -- who ran nothing runs nothing
 pub idle_seen : (before after : View) (s : Saw before after) → IsIdle before → IsIdle after
 idle_seen before after s idle = subst IsIdle (sym s.after_is) (idle_stays before.sizes before.actor before.account s.account s.waited.waited s.waited.sound.bounds idle)
+
+-- what a seat has seen of a handle's word it has seen since before
+pub seen_since : (before at after : View) (handle : ℕ) (w : RootWord) → Saw before at → HasSeenRoot at handle w after → HasSeenRoot before handle w after
+seen_since before at after handle w s h =
+    let x = subst (λ z. HasSeenRoot z handle w after) s.after_is h in
+    (record { account = x.0.account; waited = waited_twice before s.account x.0.account s.waited x.0.waited; after_is = x.0.after_is }, x.1, x.2)

@@ -231,4 +231,13 @@ left_sound words v h = record { size = h.size; range = h.range; bounds = h.bound
 
 pub right_sound : (words : ℕ) (v : View) → IsSound words v → IsSound words (of_last v)
 right_sound words v h =
-    record { size = h.size; range = h.range; bounds = h.bounds; keys = h.keys; counted = h.counted; inside = h.inside; free = λ b name free. absurd (none_free v.sizes v.last v.last v.account b name free) }
+    record {
+      size = h.size;
+      range = h.range;
+      bounds = h.bounds;
+      keys = h.keys;
+      counted = h.counted;
+      inside = h.inside;
+      free = λ b name free. absurd
+          (none_free v.sizes v.last v.last v.account b name free);
+    }

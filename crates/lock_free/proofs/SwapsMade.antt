@@ -24,7 +24,7 @@ use Rattle.lock_free.proofs.Laters.{gone_later, waited_later}
 use Rattle.lock_free.proofs.NewNodes.{all_made_same, own_used}
 
 -- slots that are put back are those that are given back
-back_is : (v : View) (account : Account) (rs : List Ref) (pool : Pool) → put_back (map (made_of (seen v account)) rs) pool ≡ given_back (now (seen v account)) account rs pool
+pub back_is : (v : View) (account : Account) (rs : List Ref) (pool : Pool) → put_back (map (made_of (seen v account)) rs) pool ≡ given_back (now (seen v account)) account rs pool
 back_is v account [] pool = refl
 back_is v account (r ∷ rs) pool = back_is v account rs (with_slot pool (made_of (seen v account) r).class (made_of (seen v account) r).slot)
 

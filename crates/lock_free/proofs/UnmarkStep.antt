@@ -68,7 +68,8 @@ module _ (v : View) (handle : ℕ) (low : handle < 256) (s : Table.State Call Vi
     | inl e ↦ subst (λ ws. IsKept v.sizes (record { words = ws; homes = s.homes; views = set s.views id v }))
         (words_hit v s kept id at (root_word handle) (root_code w) (root_code (without_mark w)) e (root_word handle) refl) (hits w fits marked e)
     | inr differs ↦
-        subst (λ ws. IsKept v.sizes (record { words = ws; homes = s.homes; views = set s.views id v })) (words_miss v s kept id at (root_word handle) (root_code w) (root_code (without_mark w)) differs)
+        subst (λ ws. IsKept v.sizes (record { words = ws; homes = s.homes; views = set s.views id v }))
+        (words_miss v s kept id at (root_word handle) (root_code w) (root_code (without_mark w)) differs)
         misses
   ]
 

@@ -1,5 +1,5 @@
 -- How accounts go on.
-use Rattle.std.proofs.Common.{◌++◌, ℕ, List, [], ◌∷◌, All, refl, sym, ap, ◌∙◌, append_assoc, append-nil}
+use Rattle.std.proofs.Common.{◌++◌, ℕ, List, [], ◌∷◌, All, refl, sym, ap, subst, ◌∙◌, append_assoc, append-nil}
 use Rattle.std.proofs.lemmas.List.Elements.{All-append, All-nil}
 use Rattle.machine_model.specs.declared.steps.Step.{Step}
 use Rattle.machine_model.specs.declared.steps.Step.TheVariants as step
@@ -7,7 +7,9 @@ use Rattle.proof_waiting.specs.Beneath.proof_slots.specs.Unswept.{HasNoSweeps, I
 use Rattle.lock_free.specs.declared.accounts.Account.{Account}
 use Rattle.lock_free.specs.declared.accounts.Owned.{Owned}
 use Rattle.lock_free.specs.declared.accounts.Known.{Known}
+use Rattle.lock_free.specs.declared.rules.View.{View}
 use Rattle.lock_free.specs.Accounts.{IsOfOther, HasWaited}
+use Rattle.lock_free.specs.Loading.{seen, IsSound, Saw, Waited}
 
 -- one step more that isn't the sweep's
 pub quiet_more : (steps : List Step) (s : Step) → HasNoSweeps steps → IsNoSweep s → HasNoSweeps (steps ++ s ∷ [])
@@ -66,3 +68,28 @@ waited_more actor first account steps names owned offers others h = record {
   offers = offers ++ h.offers;
   more_offers = ap (λ xs. offers ++ xs) h.more_offers ∙ sym (append_assoc offers h.offers first.offers);
 }
+
+-- ---- what a seat has seen of it
+
+module _ (v : View) (first second : Account) (w : Waited v first) (x : Waited (seen v first) second) where
+  pub waited_twice : Waited v second
+  waited_twice = record {
+    waited = waited_both v.actor v.account first second w.waited x.waited;
+    sound = x.sound;
+    stays = λ o runs.
+        (let a = w.stays o runs in
+        let b = x.stays (record o { is_marked = a.0 }) a.1 in
+        (b.0, b.1, b.2 ∙ a.2));
+  }
+
+pub saw_none : (n : ℕ) (v : View) → IsSound n v → Saw v v
+saw_none n v sound = record {
+  account = v.account;
+  waited = record { waited = waited_none v.actor v.account; sound = subst (λ k. IsSound k v) sound.size sound; stays = λ o runs. (o.is_marked, runs, refl) };
+  after_is = refl;
+}
+
+pub saw_both : (u v : View) → Saw u v → (w : View) → Saw v w → Saw u w
+saw_both u v s w t =
+    let x = subst (λ z. Saw z w) s.after_is t in
+    record { account = x.account; waited = waited_twice u s.account x.account s.waited x.waited; after_is = x.after_is }

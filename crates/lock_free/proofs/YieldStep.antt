@@ -49,7 +49,8 @@ module _ (v : View) (slot : ℕ) (offer : Descriptor) (p : IsAt v (act.Offer off
 
   abbrev Left : View → Type 0
   Left after =
-      IsKept v.sizes (record { words = set s.words (2 * slot) found; homes = s.homes; views = set s.views id after }) × (IsSound (words_of v.sizes) after × YieldedAs (found == undecided) v (2 * slot) found after)
+      IsKept v.sizes (record { words = set s.words (2 * slot) found; homes = s.homes; views = set s.views id after }) ×
+      (IsSound (words_of v.sizes) after × YieldedAs (found == undecided) v (2 * slot) found after)
 
   same_words : (after : View) → IsKept v.sizes (record { words = s.words; homes = s.homes; views = set s.views id after }) → IsKept v.sizes
       (record { words = set s.words (2 * slot) found; homes = s.homes; views = set s.views id after })
@@ -89,8 +90,8 @@ module _ (before : View) (handle name found : ℕ) (knows : HasOffer before.size
   yielded_by : (none one : Bool) → (found == undecided) ≡ none → (found == carried_out) ≡ one → YieldedAs none before (2 * name) found after → HasYielded before name
       (if none then became.Undecided else (if one then became.CarriedOut else became.TakenBack)) after
   yielded_by true one e f h = h
-  yielded_by false true e f h = settled_as before handle name found knows after true e f h
-  yielded_by false false e f h = settled_as before handle name found knows after false e f h
+  yielded_by false true e f h = settled_as before name found after h true e f
+  yielded_by false false e f h = settled_as before name found after h false e f
 
   pub yield_told : YieldedAs (found == undecided) before (2 * name) found after → HasYielded before name (fate_by found) after
   yield_told h = yielded_by (found == undecided) (found == carried_out) refl refl h

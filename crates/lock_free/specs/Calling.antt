@@ -23,14 +23,16 @@ use Rattle.lock_free.specs.declared.calling.Denial.{Denial}
 use Rattle.lock_free.specs.declared.calling.Denial.TheVariants as denial
 use Rattle.lock_free.specs.declared.calling.Started.{Started}
 use Rattle.lock_free.specs.declared.calling.Started.TheVariants as started
+use Rattle.lock_free.specs.declared.reading.Way.{Way}
 use Rattle.lock_free.specs.declared.rules.View.{View}
 use Rattle.lock_free.specs.Accounts.{running}
 use Rattle.lock_free.specs.Beginning.{taking}
 use Rattle.lock_free.specs.Exchanging.{given_back}
 use Rattle.lock_free.specs.HandleWords.{is_marked, HasSeenRoot, TellsRoot}
 use Rattle.lock_free.specs.Loading.{now, seen, IsSound, Runs, Saw, Waited}
+use Rattle.lock_free.specs.Passing.{IsOnWay}
 use Rattle.lock_free.specs.Places.{root_word, words_of}
-use Rattle.lock_free.specs.SeatWords.{IsIdle}
+use Rattle.lock_free.specs.SeatWords.{pinned_for, unpinned, HasEnded, IsIdle}
 use Rattle.lock_free.specs.Telling.{history_of}
 
 -- The seat runs nothing, has pinned itself for this call, and has reserved a number if it opens a handle.
@@ -111,6 +113,25 @@ has_started access before found after =
     ((call : Call) → before.0.asks ≡ Some call → access.word ≡ root_word (handle_of call) → HasTriedToStart before.0 call (started_by (root_of found) call) after.0)
     × IsSound (words_of before.0.sizes) after.0 × (after.1 ≡ before.1)
 
+-- ---- the beginning of a call
+
+-- The seat runs nothing, isn't pinned, and has reserved a number if this call opens a handle.
+pub record IsCaller (v : View) (call : Call) : Type 0 where
+  pub idle : IsIdle v
+  pub free : v.pin ≡ None
+  pub number : opens_handle call ≡ is_some v.opens
+  pub stays : is_close call ≡ false
+
+-- the handle isn't open for the call, as the definition has it, or is only being opened
+pub data IsRefused (before : View) (call : Call) : Denial → View → Type 0 where
+  is_denied : (why : Denial) (after : View) → IsDenied before call why after → IsRefused before call why after
+  is_opening : (slot : ℕ) (after : View) → HasSeenRoot before (handle_of call) (word.Opening slot) after → IsRefused before call denial.NoHandle after
+
+-- it has begun, or the seat isn't pinned any more
+abbrev pub HasCalled : View → Call → Result Way Denial → View → Type 0
+HasCalled before call (Ok way) after = (pin : Pin) × (found : RootWord) × HasBegun (pinned_for before pin call) call found after × IsOnWay after way
+HasCalled before call (Err why) after = (pin : Pin) × (at : View) × IsRefused (pinned_for before pin call) call why at × (after ≡ unpinned at)
+
 -- ---- an operation gives up, at any load
 
 abbrev pub MayGiveUp : View → Type 0
@@ -131,3 +152,8 @@ HasGivenUp before after = (operation : Operation) (answer : Reply) → Runs befo
 
 abbrev pub has_given_up : Step Call → Me Call View → ℕ → Me Call View → Type 0
 has_given_up access before found after = HasGivenUp before.0 after.0 × IsSound (words_of before.0.sizes) after.0 × (after.1 ≡ before.1)
+
+-- it has given up, and has ended with what it then had to answer
+abbrev pub IsCancelled : View → View → Type 0
+IsCancelled before after =
+    (operation : Operation) (answer : Reply) → Runs before operation → given_up operation.call operation.line ≡ Some answer → (at : View) × GaveUp before operation answer at × HasEnded at answer after

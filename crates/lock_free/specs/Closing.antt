@@ -1,17 +1,24 @@
 -- What closing a handle comes to.
-use Rattle.std.specs.Prelude.{◌≡◌, ℕ, Bool, true, false, List, None}
+use Rattle.std.specs.Prelude.{◌≡◌, ℕ, Bool, true, false, List, Option, Some, None}
+use Rattle.trie_words.specs.declared.roots.RootWord.{RootWord}
 use Rattle.machine_model.specs.States.{root_at}
 use Rattle.lock_free.specs.declared.closing.Shut.{Shut}
 use Rattle.lock_free.specs.declared.closing.Shut.TheVariants as shut
 use Rattle.lock_free.specs.declared.rules.Closing.{Closing}
 use Rattle.lock_free.specs.declared.rules.View.{View}
-use Rattle.lock_free.specs.HandleWords.{ShutBy}
+use Rattle.lock_free.specs.HandleWords.{HasSeenRoot, ShutBy}
 use Rattle.lock_free.specs.Loading.{now, Saw}
 use Rattle.lock_free.specs.SeatWords.{WouldClose}
 
 -- the seat with these marks of handles: where its marks are gone from the words they say nothing
 abbrev pub with_marks : View → List Closing → View
 with_marks v marks = record v { closing = marks }
+
+-- ---- it looks at the handle's word
+
+abbrev pub HasLooked : View → ℕ → Option RootWord → View → Type 0
+HasLooked before handle (Some found) after = HasSeenRoot before handle found after
+HasLooked before handle None after = Saw before after
 
 -- ---- it looks at all pins
 

@@ -1,7 +1,7 @@
 -- What accesses ask and tell by which an operation asks for the root of its handle, and meets the offer that stands there.
 use Rattle.history.specs.declared.calls.Call.{Call}
 use Rattle.history.specs.declared.calls.Access.{Access}
-use Rattle.std.specs.Prelude.{◌≡◌, ◌==◌, ℕ, Bool, true, false, Contains, if◌then◌else◌}
+use Rattle.std.specs.Prelude.{◌≡◌, ◌==◌, ℕ, Bool, true, false, Contains, is_some, Some, None, if◌then◌else◌}
 use Rattle.atomic_table.specs.Table.{Me, Step}
 use Rattle.trie_words.specs.Codes.{root_of}
 use Rattle.trie_words.specs.declared.entries.Pair.{Pair}
@@ -26,7 +26,7 @@ use Rattle.lock_free.specs.declared.offers.Fate.TheVariants as fate
 use Rattle.lock_free.specs.declared.rules.View.{View}
 use Rattle.lock_free.specs.Accounts.{place_of, WasReached}
 use Rattle.lock_free.specs.Fates.{HasSettled}
-use Rattle.lock_free.specs.HandleWords.{HasOffer}
+use Rattle.lock_free.specs.HandleWords.{HasOffer, HasOpening}
 use Rattle.lock_free.specs.Loading.{now, seen, Holds, IsAt, IsUsed, Saw, Went, SameSlots, HasSeen, HasGone, IsSound}
 use Rattle.lock_free.specs.Passing.{IsPlaced}
 use Rattle.lock_free.specs.Places.{words_of}
@@ -120,6 +120,13 @@ HasMetOffer before handle name fate.Undecided after = HasFoundOffer before handl
 HasMetOffer before handle name fate.CarriedOut after = HasSeenSettled before name carried_out after
 HasMetOffer before handle name fate.TakenBack after = HasSeenSettled before name taken_back after
 
+-- the same, by a load that is no step
+abbrev pub HasSeenFate : View → ℕ → Fate → View → Type 0
+HasSeenFate before name fate.Undecided after =
+    (s : Saw before after) × ((k : Known) → Contains before.account.offers k → k.slot ≡ name → root_at (now (seen before s.account)) k.handle ≡ open_with Writable (Offer k.offer))
+HasSeenFate before name fate.CarriedOut after = HasSeenSettled before name carried_out after
+HasSeenFate before name fate.TakenBack after = HasSeenSettled before name taken_back after
+
 -- ---- what it offers
 
 -- the old root and its main node; of what the operation holds only that one is in its slot
@@ -134,10 +141,13 @@ KnowsOffer v name = (handle : ℕ) × HasOffer v.sizes v.account handle name
 abbrev pub HasSeenOlds : View → ℕ → Pair → View → Type 0
 HasSeenOlds before name pair after = (s : Saw before after) × ((k : Known) → Contains before.account.offers k → k.slot ≡ name → SaysOlds before s.account k pair)
 
--- the new root
+-- the new root, and that of the handle that it opens
+pub record SaysNews (before : View) (account : Account) (k : Known) (pair : Pair) : Type 0 where
+  pub successor : IsPlaced (seen before account) k.offer.successor pair.low
+  pub second : (r : Ref) → k.offer.second ≡ Some r → IsPlaced (seen before account) r pair.high
+
 abbrev pub HasSeenNews : View → ℕ → Pair → View → Type 0
-HasSeenNews before name pair after =
-    (s : Saw before after) × ((k : Known) → Contains before.account.offers k → k.slot ≡ name → IsPlaced (seen before s.account) k.offer.successor pair.low)
+HasSeenNews before name pair after = (s : Saw before after) × ((k : Known) → Contains before.account.offers k → k.slot ≡ name → SaysNews before s.account k pair)
 
 -- ---- it is taken out of the word
 
@@ -154,3 +164,23 @@ pub record IsAtClean (v : View) (handle offer root : ℕ) : Type 0 where
 -- nothing of it concerns the seat
 abbrev pub has_cleaned : Step Call → Me Call View → ℕ → Me Call View → Type 0
 has_cleaned step before found after = after ≡ before
+
+-- ---- the handle that it opens is opened
+
+-- so: writable over a root of its own, or for readers over the old one
+pub data OpensAs (v : View) (offer : Descriptor) : HandleWord → Type 0 where
+  as_copy : (r : Ref) (name : ℕ) → offer.second ≡ Some r → IsPlaced v r name → OpensAs v offer (word.Writable name)
+  for_readers : (name : ℕ) → offer.second ≡ None → IsPlaced v offer.root name → OpensAs v offer (word.ReadOnly name)
+
+pub record IsAtOpen (v : View) (handle offer : ℕ) (opened : HandleWord) : Type 0 where
+  pub its : HasOpening v.sizes v.account handle offer
+  pub settled : HasSettled v.sizes v.account its.its carried_out
+  pub opens : OpensAs v its.its.offer opened
+
+-- the offer opens a handle that may be written, or one for readers
+abbrev pub IsToOpen : View → ℕ → ℕ → Bool → Type 0
+IsToOpen v handle offer writable = (h : HasOpening v.sizes v.account handle offer) × (is_some h.its.offer.second ≡ writable)
+
+-- and it was carried out
+abbrev pub IsOpenedBy : View → ℕ → ℕ → Bool → Type 0
+IsOpenedBy v handle offer writable = (h : HasOpening v.sizes v.account handle offer) × HasSettled v.sizes v.account h.its carried_out × (is_some h.its.offer.second ≡ writable)

@@ -109,6 +109,7 @@ abbrev pub IsRootMade : View → ℕ → Account → View → Type 0
 IsRootMade before generation account after =
     (main : Ref) × (rest : List ℕ) × (name : ℕ) × (own : Bool) × IsAt before (act.MakeRoot main) × WritesRoot before generation main rest name own
     × (after ≡ made_by before 0 name rest own (Indirection generation main) account) × IsAdded before account (Indirection generation main) after
+    × ((now (seen before account)).generations ≡ generation)
 
 abbrev pub HasMadeRoot : View → ℕ → Bool → View → Type 0
 HasMadeRoot before generation stood after =

@@ -1,16 +1,18 @@
 //! Operations begin, and give up.
 
-ghost use Rattle.std.specs.Prelude.{◌≡◌, ◌<◌, ◌^◌};
+ghost use Rattle.std.specs.Prelude.{◌≡◌, ◌<◌, ◌≤◌, ◌^◌};
 ghost use Rattle.machine_model.specs.Calls.{handle_of, key_of, needs_read_only, needs_writable};
-ghost use Rattle.lock_free.specs.Calling.{started_by, HasGivenUp, HasStarted, HasTriedToStart, IsBeginner, MayGiveUp};
+ghost use Rattle.lock_free.specs.Calling.{access_in, started_by, HasCalled, HasGivenUp, HasStarted, HasTriedToStart, IsBeginner, IsCancelled, IsCaller, MayGiveUp};
 ghost use Rattle.lock_free.specs.Loading.{IsSound};
 
 use crate::handles::{root_word_of, unmark};
 use crate::loads::{Actor, Words};
+use crate::pins::{finish, pin, unpin};
+use crate::reading::Way;
 use crate::rules::{Abandons, Starts};
-use history::Call;
+use history::{Access, Call};
 use std::sync::Wait;
-use trie_words::RootWord;
+use trie_words::{Pin, RootWord};
 
 /// The epoch stands in this word.
 const EPOCH: usize = 0;
@@ -128,6 +130,51 @@ pub fn begin<R: Wait>(rt: &R, words: &Words, actor: &mut Actor, call: &Call) -> 
     unreachable!()
 }
 
+/// The access of an open handle with this word.
+fn access_of(found: RootWord) -> Access
+    ensures { result ≡ access_in found }
+{
+    match found {
+        RootWord::ReadOnly(_) => Access::ReadOnly,
+        _ => Access::Writable,
+    }
+}
+
+/// The beginning of a call: pins this seat, `seat`, in this epoch and begins the operation; its handle and what that allows is returned.
+/// An `Err` says why none has begun: the seat is as before. A handle isn't open yet while the call that opens it hasn't ended.
+pub fn start<R: Wait>(
+    rt: &R,
+    words: &Words,
+    actor: &mut Actor,
+    seat: u8,
+    epoch: u64,
+    call: &Call,
+) -> Result<Way, Denial>
+    requires table { actor.old.table_id ≡ words.now.table_id }
+    requires sound { IsSound words.now.table_id.words actor.old.me.0 }
+    requires its { actor.old.me.0.actor ≡ seat }
+    requires few { actor.old.me.0.actor ≤ actor.old.me.0.sizes.seats }
+    requires low { handle_of call.now < 256 }
+    requires epoch { epoch < 2 ^ 54 }
+    requires caller { IsCaller actor.old.me.0 call.now }
+    ensures table { actor.new.table_id ≡ actor.old.table_id }
+    ensures sound { IsSound words.now.table_id.words actor.new.me.0 }
+    ensures called { HasCalled actor.old.me.0 call.now result actor.new.me.0 }
+{
+    let handle = call.handle();
+    pin(words, actor, seat, Pin { epoch, handle }, call);
+    let denial = match begin(rt, words, actor, call) {
+        Started::Runs(found) => {
+            let access = access_of(found);
+            return Ok(Way { handle, access });
+        }
+        Started::Denied(denial) => denial,
+        Started::Opening(_) => Denial::NoHandle,
+    };
+    unpin(words, actor, seat);
+    Err(denial)
+}
+
 /// Lets the operation of this seat give up, where nothing of its own is published and pending: from then on it is to end, as one that
 /// found no free slot, or, in a climb, with the answer that it has already. What it made is free for the seat again.
 pub fn give_up(words: &Words, actor: &mut Actor)
@@ -139,4 +186,19 @@ pub fn give_up(words: &Words, actor: &mut Actor)
     ensures gave { HasGivenUp actor.old.me.0 actor.new.me.0 }
 {
     words.load::<Abandons>(actor, EPOCH);
+}
+
+/// Ends the operation of this seat at once, as one that gives up. The seat is pinned no more.
+pub fn cancel(words: &Words, actor: &mut Actor, seat: u8)
+    requires table { actor.old.table_id ≡ words.now.table_id }
+    requires sound { IsSound words.now.table_id.words actor.old.me.0 }
+    requires its { actor.old.me.0.actor ≡ seat }
+    requires few { actor.old.me.0.actor ≤ actor.old.me.0.sizes.seats }
+    requires may { MayGiveUp actor.old.me.0 }
+    ensures table { actor.new.table_id ≡ actor.old.table_id }
+    ensures sound { IsSound words.now.table_id.words actor.new.me.0 }
+    ensures cancelled { IsCancelled actor.old.me.0 actor.new.me.0 }
+{
+    give_up(words, actor);
+    finish(words, actor, seat);
 }

@@ -2,14 +2,16 @@
 
 ghost use Rattle.std.specs.Prelude.{◌≡◌, ◌≢◌, ◌<◌, true, Some};
 ghost use Rattle.trie_words.specs.Codes.{IsRootWord};
-ghost use Rattle.lock_free.specs.Closing.{HasMarkedAndShut, HasPassedAll, HasShut};
-ghost use Rattle.lock_free.specs.HandleWords.{is_unmarked};
-ghost use Rattle.lock_free.specs.Loading.{IsSound};
+ghost use Rattle.lock_free.specs.Closing.{HasLooked, HasMarkedAndShut, HasPassedAll, HasShut};
+ghost use Rattle.lock_free.specs.HandleWords.{is_unmarked, HasOffer};
+ghost use Rattle.lock_free.specs.Loading.{IsSound, Saw};
 ghost use Rattle.lock_free.specs.SeatWords.{IsIdle, WouldClose};
 
 use crate::handles::{close, mark, once_marked, see_root, unmark};
 use crate::loads::{Actor, Words};
+use crate::offers::{Fate, see_fate};
 use crate::pins::pass;
+use crate::rooting::clean_settled;
 use crate::sizes::Sizes;
 use trie_words::RootWord;
 
@@ -80,6 +82,43 @@ fn close_marked(
     false
 }
 
+/// Takes the offer in this slot, which was found in the word of this handle, out of it if it is settled. Returns whether it is.
+fn clean_if_settled(words: &Words, actor: &mut Actor, handle: u16, offer: u32) -> bool
+    requires table { actor.old.table_id ≡ words.now.table_id }
+    requires sound { IsSound words.now.table_id.words actor.old.me.0 }
+    requires low { handle < 256 }
+    requires known { HasOffer actor.old.me.0.sizes actor.old.me.0.account handle offer }
+    ensures table { actor.new.table_id ≡ actor.old.table_id }
+    ensures sound { IsSound words.now.table_id.words actor.new.me.0 }
+    ensures saw { Saw actor.old.me.0 actor.new.me.0 }
+{
+    match see_fate(words, actor, offer) {
+        Fate::Undecided => return false,
+        Fate::CarriedOut => clean_settled(words, actor, handle, offer, true),
+        Fate::TakenBack => clean_settled(words, actor, handle, offer, false),
+    }
+    true
+}
+
+/// Looks at the word of the handle, once a settled offer is taken out of it. `None` where an offer stands there that isn't settled.
+fn see_settled(words: &Words, actor: &mut Actor, handle: u16) -> Option<RootWord>
+    requires table { actor.old.table_id ≡ words.now.table_id }
+    requires sound { IsSound words.now.table_id.words actor.old.me.0 }
+    requires low { handle < 256 }
+    ensures table { actor.new.table_id ≡ actor.old.table_id }
+    ensures sound { IsSound words.now.table_id.words actor.new.me.0 }
+    ensures looked { HasLooked actor.old.me.0 handle result actor.new.me.0 }
+{
+    let word = see_root(words, actor, handle);
+    let RootWord::Offered(offer) = word else {
+        return Some(word);
+    };
+    if !clean_if_settled(words, actor, handle, offer) {
+        return None;
+    }
+    Some(see_root(words, actor, handle))
+}
+
 /// Closes the handle, if it is open and no other seat is in a call on it. It never waits, and helps nobody: `own` is the seat's number.
 pub fn close_handle(words: &Words, actor: &mut Actor, sizes: &Sizes, own: u8, handle: u16) -> Shut
     requires table { actor.old.table_id ≡ words.now.table_id }
@@ -93,7 +132,9 @@ pub fn close_handle(words: &Words, actor: &mut Actor, sizes: &Sizes, own: u8, ha
     ensures sound { IsSound words.now.table_id.words actor.new.me.0 }
     ensures shut { HasShut actor.old.me.0 handle result actor.new.me.0 }
 {
-    let word = see_root(words, actor, handle);
+    let Some(word) = see_settled(words, actor, handle) else {
+        return Shut::Busy;
+    };
     match word {
         RootWord::Closed | RootWord::Reserved => Shut::NoHandle,
         RootWord::Writable(_) | RootWord::ReadOnly(_) => {

@@ -1,5 +1,7 @@
 //! Laws of what seats have seen.
 
+ghost use Rattle.lock_free.specs.Answers.{AnswersGoOn, BeginsTellNothing, EndsAreTold, OthersTellNothing};
+ghost use Rattle.lock_free.specs.OneKey.{OwnKeysAreAnswered};
 ghost use Rattle.lock_free.specs.Answering.{CallsAreAnswered, ClosesAreAnswered};
 ghost use Rattle.lock_free.specs.Telling.{HistoriesGoOn, SeatsAreExplained};
 
@@ -16,6 +18,34 @@ pub fn seats_are_explained()
 /// A law: a history goes on, and never changes what it has told.
 pub fn histories_go_on()
     ensures { HistoriesGoOn }
+{}
+
+/// A law: what an actor was answered stays so, and later answers stand after it.
+pub fn answers_go_on()
+    ensures { AnswersGoOn }
+{}
+
+/// A law: what others do tells an actor nothing, so all that it was answered is told in the account at its own last step.
+pub fn others_tell_nothing()
+    ensures { OthersTellNothing }
+{}
+
+/// A law: where an operation begins nobody is answered.
+pub fn begins_tell_nothing()
+    ensures { BeginsTellNothing }
+{}
+
+/// A law: where an operation ends its actor is answered, after all that it was answered before: its call, and the reply by which it
+/// ends.
+pub fn ends_are_told()
+    ensures { EndsAreTold }
+{}
+
+/// A law: where nobody else ever calls on a key of a handle, an actor's calls on it are answered, one after the other, as on a map of
+/// this key alone; or `Crowded`, since keys of others may have its hash. The calls that empty the handle's map, open the handle or
+/// take it away are among those that nobody else makes.
+pub fn own_keys_are_answered()
+    ensures { OwnKeysAreAnswered }
 {}
 
 /// A law: a call that has begun and whose operation has ended was answered so in the history, as an operation of its seat's that began

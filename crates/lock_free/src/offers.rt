@@ -4,14 +4,14 @@ ghost use Rattle.std.specs.Prelude.{◌≡◌, ◌<◌, ◌*◌};
 ghost use Rattle.lock_free.specs.Loading.{IsSound};
 ghost use Rattle.lock_free.specs.HandleWords.{HasOffer};
 ghost use Rattle.lock_free.specs.OfferWords.{IsAtAbort, IsAtComplete, HasAborted, HasCompleted, carried_by, outcome_by};
-ghost use Rattle.lock_free.specs.RootWords.{AsksAt, HasMetOffer, HasSeenNews, HasSeenOlds, KnowsOffer, fate_by};
+ghost use Rattle.lock_free.specs.RootWords.{AsksAt, HasMetOffer, HasSeenFate, HasSeenNews, HasSeenOlds, KnowsOffer, fate_by};
 
 use crate::loads::{Actor, Words};
 use crate::rules::{Completes, Goes, Meets, Sees};
 use trie_words::Pair;
 
 /// An offer's first word: it is neither carried out nor taken back.
-const UNDECIDED: u64 = 0;
+pub(crate) const UNDECIDED: u64 = 0;
 
 /// It is carried out.
 const CARRIED_OUT: u64 = 1;
@@ -53,6 +53,18 @@ pub fn meet_offer(words: &Words, actor: &mut Actor, handle: u16, offer: u32) -> 
     ensures met { HasMetOffer actor.old.me.0 handle offer result actor.new.me.0 }
 {
     fate_of(words.load::<Meets>(actor, 2 * offer as usize))
+}
+
+/// What has become of the offer in this slot.
+pub fn see_fate(words: &Words, actor: &mut Actor, offer: u32) -> Fate
+    requires table { actor.old.table_id ≡ words.now.table_id }
+    requires sound { IsSound words.now.table_id.words actor.old.me.0 }
+    requires known { KnowsOffer actor.old.me.0 offer }
+    ensures table { actor.new.table_id ≡ actor.old.table_id }
+    ensures sound { IsSound words.now.table_id.words actor.new.me.0 }
+    ensures seen { HasSeenFate actor.old.me.0 offer result actor.new.me.0 }
+{
+    fate_of(words.load::<Sees>(actor, 2 * offer as usize))
 }
 
 /// The slots of the root that the offer in this slot is to replace, and of the main node that this must have.

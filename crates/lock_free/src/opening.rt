@@ -7,9 +7,11 @@ ghost use Rattle.lock_free.specs.Places.{AreSizes, words_of};
 ghost use Rattle.lock_free.specs.Rules.{first_view};
 ghost use Rattle.lock_free.specs.Splitting.{of_last, without_last};
 
+use crate::handles::root_word_of;
 use crate::loads::{Actor, Words};
 use crate::rules::{Parts, Rule, View};
 use crate::sizes::Sizes;
+use crate::stores::{GENERATION, taken_word_of};
 use atomic_table::Table;
 use history::Call;
 use std::alloc::{AllocError, Global};
@@ -47,13 +49,13 @@ pub fn open(alloc: Global, sizes: Sizes) -> Result<(Board, Actor), OpenError>
     }
 }
 
-/// The first words.
+/// The first words: of the small slots the first one has an empty branch, whose header is 0, and the next one the root over it.
 fn words_for(alloc: Global, sizes: &Sizes) -> Result<Vec<u64>, AllocError>
     requires { AreSizes sizes.now }
     ensures { IfOk result (λ words. words.items ≡ first_words sizes.now) }
 {
-    let branch = 176 + 8 * u32::from(sizes.seats);
-    let root = branch + 1;
+    let branch = sizes.slot(0, 0);
+    let root = sizes.slot(0, 1);
     let link = Link {
         generation: 0,
         main: Name {
@@ -62,9 +64,9 @@ fn words_for(alloc: Global, sizes: &Sizes) -> Result<Vec<u64>, AllocError>
         },
     };
     let mut words = Vec::from_elem(alloc, 0, sizes.words() as usize)?;
-    words[16] = 1;
-    words[32] = 2;
-    words[80] = RootWord::Writable(root).to_word();
+    words[GENERATION] = 1;
+    words[taken_word_of(0)] = 2;
+    words[root_word_of(0)] = RootWord::Writable(root).to_word();
     words[2 * root as usize] = link.to_word();
     Ok(words)
 }

@@ -40,7 +40,7 @@ fn outcome_of(root: u32, found: RootWord) -> Proposed
 }
 
 /// Brings the offer in this slot to stand in the word of the handle, if the root in its slot stands there still.
-pub fn propose(words: &Words, actor: &mut Actor, handle: u16, root: u32, slot: u32) -> Proposed
+fn propose(words: &Words, actor: &mut Actor, handle: u16, root: u32, slot: u32) -> Proposed
     requires table { actor.old.table_id ≡ words.now.table_id }
     requires sound { IsSound words.now.table_id.words actor.old.me.0 }
     requires low { handle < 256 }
@@ -57,7 +57,7 @@ pub fn propose(words: &Words, actor: &mut Actor, handle: u16, root: u32, slot: u
 
 /// Looks at the offer in this slot, which was met where the seat's own is to stand: where it is undecided, the seat's own doesn't, and
 /// all that was made for it is given up.
-pub fn yields(words: &Words, actor: &mut Actor, met: u32) -> Fate
+fn yields(words: &Words, actor: &mut Actor, met: u32) -> Fate
     requires table { actor.old.table_id ≡ words.now.table_id }
     requires sound { IsSound words.now.table_id.words actor.old.me.0 }
     requires met { MeetsOffer actor.old.me.0 met }

@@ -1,9 +1,11 @@
 //! The rule of the words.
 
+ghost use Rattle.lock_free.specs.declared.rules.View.{View};
 ghost use Rattle.lock_free.specs.Rules.{IsKept, first_view};
 ghost use Rattle.lock_free.specs.Loading.{has_seen, has_gone};
 ghost use Rattle.lock_free.specs.Calling.{has_given_up, has_started};
 ghost use Rattle.lock_free.specs.Exchanging.{has_published};
+ghost use Rattle.lock_free.specs.Finishing.{has_emptied, no_view};
 ghost use Rattle.lock_free.specs.HandleWords.{has_closed, has_marked, has_unmarked};
 ghost use Rattle.lock_free.specs.Numbers.{has_given_back, has_named, has_reserved};
 ghost use Rattle.lock_free.specs.OfferWords.{has_completed};
@@ -15,9 +17,10 @@ ghost use Rattle.lock_free.specs.Storing.{has_drafted, has_made, has_made_root, 
 
 use crate::accounts::Account;
 use crate::sizes::Sizes;
-use atomic_table::{Play, Split, TableRule};
+use atomic_table::{Join, Play, Split, TableRule};
 use history::Call;
 use std::collections::LinkedList;
+use std::marker::{Brand, PhantomData};
 use trie_words::Pin;
 
 /// The slots that are free for one seat alone, by their size. No value of it is made.
@@ -77,6 +80,37 @@ impl Split<View> for Parts {
     ghost left = { without_last };
 
     ghost right = { of_last };
+}
+
+/// What is picked where a seat hears of another one: what it knows then, and what is left of the other.
+pub trait Picks {
+    ghost heard: { View };
+
+    ghost spent: { View };
+}
+
+impl Picks for Brand {
+    ghost heard = { no_view };
+
+    ghost spent = { no_view };
+}
+
+/// A seat hears of another one.
+pub struct Hears<N> {
+    marker: PhantomData<N>,
+}
+
+impl<N: Picks> Join<View> for Hears<N> {
+    ghost both = { λ v w. N.heard };
+
+    ghost spent = { N.spent };
+}
+
+/// A seat gives back whatever slots of the table it has.
+pub struct Empties;
+
+impl Play<Call, View> for Empties {
+    ghost then = { has_emptied };
 }
 
 /// Something is looked at, and no step is taken.

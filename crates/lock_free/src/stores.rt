@@ -10,7 +10,7 @@ use crate::rules::{Drafts, Makes, MakesRoot, Takes};
 use crate::sizes::Sizes;
 
 /// How many generations were given out stands in this word.
-const GENERATION: usize = 16;
+pub(crate) const GENERATION: usize = 16;
 
 /// What came of trying to take a slot.
 #[derive(Clone, Copy, Drop)]
@@ -24,7 +24,7 @@ pub enum Tried {
 }
 
 /// How many slots of a class were handed out stands in this word.
-fn taken_word_of(class: u32) -> usize
+pub(crate) fn taken_word_of(class: u32) -> usize
     requires { class < 3 }
     ensures { result ≡ taken_word class }
 {

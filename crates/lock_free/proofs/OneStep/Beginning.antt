@@ -203,7 +203,8 @@ module _ (sizes : Sizes) (account : Account) (bounds : AreBounds (bounds_for siz
   }
 
   -- the history has both
-  pub close_told : (past_of sizes (closed_by actor handle account)).events ≡ (past_of sizes account).events ++ event.Begin state.begun actor (Close handle) None ∷ event.End state.begun reply.Closed ∷ []
+  pub close_told : (past_of sizes (closed_by actor handle account)).events ≡ (past_of sizes account).events ++ event.Begin state.begun actor (Close handle) None ∷
+      event.End state.begun reply.Closed ∷ []
   close_told =
       ap (λ a. (past_of sizes a).events) same_steps ∙ end_told sizes middle middle_bounds actor (begun_operation state (Close handle) None) reply.Closed runs refl
       ∙ ap (λ es. es ++ event.End state.begun reply.Closed ∷ []) (begin_told sizes account bounds actor (Close handle) None allowed)

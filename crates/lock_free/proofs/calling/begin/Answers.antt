@@ -1,4 +1,7 @@
+use Rattle.history.specs.declared.calls.Call.{Call}
 use Rattle.std.proofs.Common.{refl, ◌∙◌, sym, subst}
+use Rattle.atomic_table.specs.Table.{Me}
+use Rattle.lock_free.specs.declared.rules.View.{View}
 use Rattle.lock_free.proofs.Beginners.{Waits, waits_first, waits_more}
 use Rattle.lock_free.proofs.calling.begin.Goals as goal
 
@@ -22,6 +25,6 @@ loop-preserved g c =
       tt,
       tt,
       c.unmark.ensures.table ∙ c.try_begin.ensures.table ∙ c.loop.invariant.2,
-      subst (λ me. Waits words call before me.0) (sym c.unmark.ensures.same)
+      subst (λ (me : Me Call View). Waits words call before me.0) (sym {A = Me Call View} c.unmark.ensures.same)
           (waits_more words call before c.loop.actor.me.0 c.try_begin.new.actor.me.0 c.loop.invariant.3 c.try_begin.ensures.sound (c.in-Err.ensures {u = tt}).tried.0.0),
     )

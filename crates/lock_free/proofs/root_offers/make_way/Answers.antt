@@ -1,7 +1,8 @@
 use Rattle.std.proofs.Common.{true, false, refl, sym, ap, subst}
 use Rattle.lock_free.specs.Loading.{Saw}
 use Rattle.lock_free.specs.RootOffers.{HasYielded}
-use Rattle.lock_free.proofs.OfferTries.{offer_met, saw_none, saw_since, settled_at, told_offer}
+use Rattle.lock_free.proofs.Waiting.{saw_both, saw_none}
+use Rattle.lock_free.proofs.OfferTries.{offer_met, settled_at, told_offer}
 use Rattle.lock_free.proofs.root_offers.make_way.Goals as goal
 
 pub yields-requires-clause-met : goal.yields-requires-clause-met
@@ -29,13 +30,13 @@ clean_settled-requires-in-TakenBack-clause-settled c =
 pub returns-in-CarriedOut-clause-made : goal.returns-in-CarriedOut-clause-made
 returns-in-CarriedOut-clause-made c =
     let v = c.args.actor.now.me.0 in
-    saw_since v c.yields.new.actor.me.0 (subst (λ f. HasYielded v c.in-Offered.other f c.yields.new.actor.me.0) c.in-CarriedOut.is c.yields.ensures.yielded).0 c.clean_settled.new.actor.me.0
+    saw_both v c.yields.new.actor.me.0 (subst (λ f. HasYielded v c.in-Offered.other f c.yields.new.actor.me.0) c.in-CarriedOut.is c.yields.ensures.yielded).0 c.clean_settled.new.actor.me.0
     c.clean_settled.ensures.saw
 
 pub returns-in-TakenBack-clause-made : goal.returns-in-TakenBack-clause-made
 returns-in-TakenBack-clause-made c =
     let v = c.args.actor.now.me.0 in
-    saw_since v c.yields.new.actor.me.0 (subst (λ f. HasYielded v c.in-Offered.other f c.yields.new.actor.me.0) c.in-TakenBack.is c.yields.ensures.yielded).0
+    saw_both v c.yields.new.actor.me.0 (subst (λ f. HasYielded v c.in-Offered.other f c.yields.new.actor.me.0) c.in-TakenBack.is c.yields.ensures.yielded).0
     c.clean_settled-in-TakenBack.new.actor.me.0 c.clean_settled-in-TakenBack.ensures.saw
 
 pub returns-in-ClosingWritable-clause-made : goal.returns-in-ClosingWritable-clause-made

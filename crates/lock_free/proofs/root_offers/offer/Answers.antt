@@ -1,6 +1,7 @@
 use Rattle.std.proofs.Common.{◌∙◌, refl, subst}
 use Rattle.lock_free.specs.RootOffers.{HasMadeWay, HasProposed}
-use Rattle.lock_free.proofs.OfferTries.{missed_since, offered_since, saw_none, saw_since, seen_saw, seen_tells, still_to_offer, to_offer_since}
+use Rattle.lock_free.proofs.Waiting.{saw_both, saw_none}
+use Rattle.lock_free.proofs.OfferTries.{missed_since, offered_since, seen_saw, seen_tells, still_to_offer, to_offer_since}
 use Rattle.lock_free.proofs.root_offers.offer.Goals as goal
 
 pub loop-init : goal.loop-init
@@ -42,7 +43,7 @@ make_way-requires-clause-offering g c =
     let w = c.propose.new.actor.me.0 in
     let told = subst (λ p. HasProposed v c.args.handle c.args.slot p w) c.in-Meets.is c.propose.ensures.proposed in
     still_to_offer w c.args.handle c.args.root c.args.slot
-    (to_offer_since u w (saw_since u v c.loop.invariant.4 w (seen_saw v w c.args.handle c.in-Meets.found told)) c.args.words.now.table_id.words c.args.handle c.args.root c.args.slot
+    (to_offer_since u w (saw_both u v c.loop.invariant.4 w (seen_saw v w c.args.handle c.in-Meets.found told)) c.args.words.now.table_id.words c.args.handle c.args.root c.args.slot
     c.requires.sound c.requires.offering)
 
 pub make_way-requires-clause-tells : goal.make_way-requires-clause-tells
@@ -60,7 +61,7 @@ returns-then-make_way-clause-offered g c =
     let v = c.loop.actor.me.0 in
     let w = c.propose.new.actor.me.0 in
     let told = subst (λ p. HasProposed v c.args.handle c.args.slot p w) c.in-Meets.is c.propose.ensures.proposed in
-    missed_since u w (saw_since u v c.loop.invariant.4 w (seen_saw v w c.args.handle c.in-Meets.found told)) c.make_way.new.actor.me.0
+    missed_since u w (saw_both u v c.loop.invariant.4 w (seen_saw v w c.args.handle c.in-Meets.found told)) c.make_way.new.actor.me.0
     (subst (λ b. HasMadeWay w b c.make_way.new.actor.me.0) c.if-make_way.true c.make_way.ensures.made)
 
 pub loop-preserved : goal.loop-preserved
@@ -69,10 +70,10 @@ loop-preserved g c =
     let v = c.loop.actor.me.0 in
     let w = c.propose.new.actor.me.0 in
     let told = subst (λ p. HasProposed v c.args.handle c.args.slot p w) c.in-Meets.is c.propose.ensures.proposed in
-    let seen = saw_since u v c.loop.invariant.4 w (seen_saw v w c.args.handle c.in-Meets.found told) in (
+    let seen = saw_both u v c.loop.invariant.4 w (seen_saw v w c.args.handle c.in-Meets.found told) in (
       tt,
       tt,
       c.make_way.ensures.table ∙ c.propose.ensures.table ∙ c.loop.invariant.2,
       c.make_way.ensures.sound,
-      saw_since u w seen c.make_way.new.actor.me.0 (subst (λ b. HasMadeWay w b c.make_way.new.actor.me.0) c.if-make_way.false c.make_way.ensures.made),
+      saw_both u w seen c.make_way.new.actor.me.0 (subst (λ b. HasMadeWay w b c.make_way.new.actor.me.0) c.if-make_way.false c.make_way.ensures.made),
     )

@@ -1,0 +1,297 @@
+-- A try of a copy, from the root that it reads to what comes of its offer.
+use Rattle.std.proofs.Common.{◌≡◌, ◌+◌, ◌*◌, ◌≤◌, ℕ, Bool, true, false, List, [], Contains, Option, Some, map, refl, sym, ap, subst, ◌∙◌, arith}
+use Rattle.std.proofs.lemmas.List.Elements.{Contains-push}
+use Rattle.machine_model.specs.Beneath.slot_arena.specs.declared.refs.Ref.{Ref}
+use Rattle.machine_model.specs.declared.actions.Action.TheVariants as act
+use Rattle.machine_model.specs.declared.copying.CopyLine.TheVariants as copy
+use Rattle.machine_model.specs.declared.lines.Line.{Line}
+use Rattle.machine_model.specs.declared.lines.Line.TheVariants as line
+use Rattle.machine_model.specs.declared.operations.Operation.{Operation}
+use Rattle.machine_model.specs.declared.roots.Descriptor.{Descriptor}
+use Rattle.machine_model.specs.Acting.{operation_after}
+use Rattle.machine_model.specs.Calls.{handle_of}
+use Rattle.machine_model.specs.Copying.{after_given, after_offer}
+use Rattle.machine_model.specs.States.{State, word_at}
+use Rattle.machine_model.specs.Swapping.{completing, is_plain}
+use Rattle.lock_free.specs.declared.accounts.Account.{Account}
+use Rattle.lock_free.specs.declared.copy_roots.CopyKind.{CopyKind}
+use Rattle.lock_free.specs.declared.reading.Given.{Given}
+use Rattle.lock_free.specs.declared.reading.Way.{Way}
+use Rattle.lock_free.specs.declared.rules.View.{View}
+use Rattle.lock_free.specs.CopySteps.{HasCopied, HasOriginal, HasPrepared, HasReadOriginal, HasStopped, HasTried, IsAtOriginal, IsCopying}
+use Rattle.lock_free.specs.CopySteps.{IsReady, IsStill, IsToComplete, IsToOpenAll, copied_line, copied_on, copy_kind, given_line, is_snapshot}
+use Rattle.lock_free.specs.Exchanging.{given_up}
+use Rattle.lock_free.specs.Loading.{now, seen, IsAt, IsSound, Runs, Saw}
+use Rattle.lock_free.specs.Making.{with_slots}
+use Rattle.lock_free.specs.Offering.{known_at, offered_by}
+use Rattle.lock_free.specs.Passing.{IsOnWay}
+use Rattle.lock_free.specs.Places.{words_in, words_of}
+use Rattle.lock_free.specs.RootOffers.{HasMissed, HasOffered, TookOffer}
+use Rattle.lock_free.specs.RootWords.{IsToOpen}
+use Rattle.lock_free.specs.Roots.{IsItsTry}
+use Rattle.lock_free.specs.Rules.{pool_of}
+use Rattle.lock_free.specs.Stocks.{Stocked, IsStock, NotesLast, made_of, own_nodes, own_of, put_back}
+use Rattle.lock_free.proofs.Comings.{runs_one, saw_runs}
+use Rattle.lock_free.proofs.CopyRoots.{given_so}
+use Rattle.lock_free.proofs.Followings.{follows_later}
+use Rattle.lock_free.proofs.Laters.{placed_later, saw_later, waited_later}
+use Rattle.lock_free.proofs.NewNodes.{all_made_same, own_used}
+use Rattle.lock_free.proofs.OfferMisses.{same_offer}
+use Rattle.lock_free.proofs.Pools.{first_there}
+use Rattle.lock_free.proofs.StockStays.{stock_later, stock_moved}
+use Rattle.lock_free.proofs.SwapsMade.{back_is}
+
+-- ---- the root is read
+
+module _ (n : ℕ) (u : View) (sound : IsSound n u) (k : CopyKind) (handle : ℕ) (opens : Option ℕ) (c : IsCopying u k handle opens) (name : ℕ) (at : IsAtOriginal u name) (given : Given) (v : View)
+    (read : HasOriginal u given v) where
+  abbrev root : Ref
+  root = at.0
+
+  abbrev o : Operation
+  o = at.1.0
+
+  abbrev r : HasReadOriginal u root given v
+  r = read root at.1
+
+  abbrev main : Ref
+  main = r.main
+
+  abbrev line_then : Operation → Line
+  line_then q = after_given q.call root main
+
+  -- each operation that runs then is this one
+  abbrev o_then : Operation
+  o_then = record o { line = line_then o }
+
+  runs_then : Runs v o_then
+  runs_then = r.moved.comes o at.1.1
+
+  pub stock_read : (stock : Stocked) → IsStock stock u → IsStock stock v
+  stock_read stock is = stock_moved n u v sound o at.1.1 stock is line_then r.moved
+
+  pub copying_then : IsCopying v k handle opens
+  copying_then = record {
+    reserved = ap (λ (x : View). x.opens) r.moved.later.is ∙ c.reserved;
+    low = c.low;
+    which = λ q s. ap (λ (z : Operation). copy_kind z.call) (runs_one v q o_then s runs_then) ∙ c.which o at.1.1;
+    on = λ q s.
+        (let same = runs_one v q o_then s runs_then in
+        let its = c.on o at.1.1 in
+        (ap (λ (z : Operation). handle_of z.call) same ∙ its.0, ap (λ (z : Operation). z.opens) same ∙ its.1));
+  }
+
+  ready_line : line_then o ≡ line.Copy (given_line k root main)
+  ready_line = given_so o.call root main ∙ ap (λ x. line.Copy (given_line x root main)) (c.which o at.1.1)
+
+  pub ready_then : IsReady v k name given.link.main.slot
+  ready_then = (
+    root,
+    main,
+    (record o { line = line.Copy (given_line k root main) }, subst (λ l. Runs v (record o { line = l })) ready_line runs_then, refl),
+    (r.link.main_used, r.link.is.names.place),
+    placed_later u v r.moved.later root name at.2,
+  )
+
+  pub stopped_read : (w : View) → HasStopped v w → HasStopped u w
+  stopped_read w h = record {
+    is = h.is ∙ ap (λ (x : View). record x { account = w.account; pool = w.pool; drafts = w.drafts }) r.moved.later.is;
+    stops = λ q s. h.stops (record q { line = line_then q }) (r.moved.comes q s);
+  }
+
+  -- ---- the offer is ready
+
+  module _ (slot : ℕ) (w : View) (ready : HasPrepared v k opens handle name slot w) where
+    abbrev offer : Descriptor
+    offer = ready.offers.0
+
+    abbrev its : IsAt w (act.Offer offer)
+    its = ready.offers.2
+
+    -- each operation is then about to offer it
+    record IsOffering (q : Operation) : Type 0 where
+      private : List Ref
+      runs : Runs w (record q { private = private; line = line.Copy (copy.Offer offer) })
+      its_try : IsItsTry (record q { attempt = q.attempt + 1 }) offer
+
+    is_offering : (q : Operation) → Runs u q → IsOffering q
+    is_offering q s =
+        let (private, other, runs, its_try) = ready.comes (record q { line = line_then q }) (r.moved.comes q s) in
+        let p : IsAt w (act.Offer other) = record { operation = record q { private = private; line = line.Copy (copy.Offer other); is_marked = runs.0 }; runs = runs.1; acts = refl } in
+        let same = same_offer w other offer p its in
+        record {
+          private = private;
+          runs = subst (λ d. Runs w (record q { private = private; line = line.Copy (copy.Offer d) })) same runs;
+          its_try = subst (λ d. IsItsTry (record q { attempt = q.attempt + 1 }) d) same (record { its = its_try.its; now = its_try.now });
+        }
+
+    still_w : IsStill u w
+    still_w = ready.is ∙ ap (λ (x : View). record x { account = w.account; pool = w.pool; drafts = w.drafts; opening = w.opening }) r.moved.later.is
+
+    -- ---- by its step
+
+    offer_step : (s : State) (q : Operation) (stands : Bool) → is_plain (word_at s (handle_of q.call)) offer.root ≡ stands →
+        operation_after s (record q { line = line.Copy (copy.Offer offer) }) ≡ record q { private = []; attempt = q.attempt + 1; is_marked = false; line = after_offer offer stands }
+    offer_step s q stands e = ap (λ b. record q { private = []; attempt = q.attempt + 1; is_marked = false; line = after_offer offer b }) e
+
+    module _ (x : View) (stands : Bool) (account : Account) (took : TookOffer w account stands x) where
+      took_so : (q : Operation) → Runs u q → Runs x (record q { private = []; attempt = q.attempt + 1; line = after_offer offer stands })
+      took_so q s =
+          let is = is_offering q s in
+          let there = took.0.stays (record q { private = is.private; line = line.Copy (copy.Offer offer); is_marked = is.runs.0 }) is.runs.1 in
+          let p : IsAt w (act.Offer offer) = record { operation = record q { private = is.private; line = line.Copy (copy.Offer offer); is_marked = is.runs.0 }; runs = is.runs.1; acts = refl } in (
+            false,
+            took.1 (record q { private = is.private; line = line.Copy (copy.Offer offer); is_marked = there.0 }) there.1
+                ∙ ap Some (offer_step (now (seen w account)) (record q { private = is.private; is_marked = there.0 }) stands (took.2 offer p)),
+          )
+
+      -- nothing is its own any more
+      none_own : own_nodes x ≡ []
+      none_own = ap own_of (took_so o at.1.1).1
+
+    -- what the seat was is still so
+    still_by : (x y : View) → y ≡ record x { account = y.account; pool = y.pool; drafts = y.drafts; opening = y.opening } → IsStill u x → IsStill u y
+    still_by x y e h = e ∙ ap (λ (z : View). record z { account = y.account; pool = y.pool; drafts = y.drafts; opening = y.opening }) h
+
+    -- ---- it missed
+
+    module _ (sound_w : IsSound n w) (x : View) (missed : HasMissed w x) where
+      abbrev account : Account
+      account = missed.0
+
+      abbrev mine : IsOffering o
+      mine = is_offering o at.1.1
+
+      given_back_so : x ≡ given_up w account mine.private
+      given_back_so = missed.2 (record o { private = mine.private; line = line.Copy (copy.Offer offer) }) mine.runs
+
+      pub missed_tried : HasTried u false x
+      missed_tried = record {
+        is = still_by w x
+            (given_back_so ∙ ap (λ (z : View). record w { account = z.account; pool = z.pool; drafts = z.drafts; opening = z.opening }) (sym given_back_so))
+            still_w;
+        comes = took_so x false account missed.1;
+      }
+
+      pub missed_stock : (stock next : Stocked) → IsStock stock w → next.sizes ≡ stock.sizes → next.pool ≡ put_back stock.made stock.pool → next.made ≡ [] → IsStock next x
+      missed_stock stock next is sizes pool none = record {
+        sizes = sizes ∙ is.sizes ∙ ap (λ (z : View). z.sizes) (sym given_back_so);
+        pool = pool ∙ ap (put_back stock.made) is.pool ∙ ap (λ ms. put_back ms w.pool) (is.made ∙ ap (λ z. map (made_of w) (own_of z)) mine.runs.1 ∙ sym same)
+            ∙ back_is w account mine.private w.pool ∙ ap (λ (z : View). z.pool) (sym given_back_so);
+        made = none ∙ ap (map (made_of x)) (sym (none_own x false account missed.1));
+      }
+        where
+          same : map (made_of (seen w account)) mine.private ≡ map (made_of w) mine.private
+          same =
+              all_made_same w (seen w account) (follows_later w (seen w account) (waited_later n w sound_w account missed.1.0)) mine.private
+              (own_used n w sound_w (record o { private = mine.private; line = line.Copy (copy.Offer offer); is_marked = mine.runs.0 }) mine.runs.1)
+
+    -- ---- it stands
+
+    module _ (sound_w : IsSound n w) (x : View) (stands : HasOffered w slot x) where
+      abbrev then : Account
+      then = stands.0
+
+      abbrev rest : List ℕ
+      rest = ready.offers.1
+
+      abbrev stood : View
+      stood = offered_by w slot (handle_of its.operation.call) rest offer then
+
+      stood_so : x ≡ stood
+      stood_so = stands.2 offer its rest ready.offers.3.last
+
+      abbrev completes : Operation → Operation
+      completes q = record q { private = []; attempt = q.attempt + 1; line = line.Copy (copy.Complete (completing offer)) }
+
+      completing_it : (q : Operation) → Runs u q → Runs x (completes q)
+      completing_it q s = took_so x true then stands.1 q s
+
+      pub to_complete : IsToComplete x handle slot
+      to_complete =
+          let free = sound_w.free 1 slot (omega arith, subst (λ xs. Contains xs slot) (sym ready.offers.3.last) (Contains-push rest slot)) in
+          subst (λ y. IsToComplete y handle slot) (sym stood_so)
+          (record {
+            its = record {
+              its = known_at slot (handle_of its.operation.call) offer;
+              here = first_there (known_at slot (handle_of its.operation.call) offer) then.offers;
+              place = refl;
+              on = ready.offers.4;
+              inside = free;
+            };
+            at = (completes o, subst (λ y. Runs y (completes o)) stood_so (completing_it o at.1.1), refl);
+            on = (c.on o at.1.1).0;
+            its_try = record { its = (is_offering o at.1.1).its_try.its; now = (is_offering o at.1.1).its_try.now };
+          })
+
+      -- what it opens, once it is carried out
+      to_open : (number : ℕ) → opens ≡ Some number → IsToOpen x number slot (is_snapshot k)
+      to_open number is =
+          let free = sound_w.free 1 slot (omega arith, subst (λ xs. Contains xs slot) (sym ready.offers.3.last) (Contains-push rest slot)) in
+          subst (λ y. IsToOpen y number slot (is_snapshot k)) (sym stood_so) (
+            record {
+              its = known_at slot (handle_of its.operation.call) offer;
+              here = first_there (known_at slot (handle_of its.operation.call) offer) then.offers;
+              place = refl;
+              opens = ready.opening ∙ is;
+              inside = free;
+            },
+            ready.two,
+          )
+
+      pub way_then : (way : Way) → IsOnWay u way → IsOnWay x way
+      way_then way on q s =
+          let same = runs_one x q (completes o) s (completing_it o at.1.1) in
+          let it = on o at.1.1 in
+          (ap (λ (z : Operation). z.access) same ∙ it.0, ap (λ (z : Operation). handle_of z.call) same ∙ it.1)
+
+      stock_then : (stock noted next : Stocked) → IsStock stock w → noted.sizes ≡ stock.sizes → NotesLast stock 1 noted → next.sizes ≡ noted.sizes → next.pool ≡ noted.pool → next.made ≡ [] →
+          IsStock next x
+      stock_then stock noted next is sizes notes sizes_next pool none = record {
+        sizes = sizes_next ∙ sizes ∙ is.sizes ∙ ap (λ (z : View). z.sizes) (sym stood_so);
+        pool = pool ∙ (notes rest slot (ap (λ z. pool_of z 1) is.pool ∙ ready.offers.3.last)).0 ∙ ap (λ z. with_slots z 1 rest) is.pool ∙ ap (λ (z : View). z.pool) (sym stood_so);
+        made = none ∙ ap (map (made_of x)) (sym (none_own x true then stands.1));
+      }
+
+      -- and is completed
+      module _ (sound_x : IsSound n x) (carried : Bool) (y : View) (copied : HasCopied x carried y) where
+        pub copied_stock : (stock noted next : Stocked) → IsStock stock w → noted.sizes ≡ stock.sizes → NotesLast stock 1 noted → next.sizes ≡ noted.sizes → next.pool ≡ noted.pool → next.made ≡ [] →
+            IsStock next y
+        copied_stock stock noted next is sizes notes sizes_next pool none =
+            stock_moved n x y sound_x (completes o) (completing_it o at.1.1) next (stock_then stock noted next is sizes notes sizes_next pool none) (copied_line carried) copied
+
+        pub copied_tried : HasTried u carried y
+        copied_tried = record {
+          is = still_by x y (copied.later.is ∙ ap (λ (z : View). record x { account = z.account; pool = z.pool; drafts = z.drafts; opening = z.opening }) (sym copied.later.is))
+              (still_by w x (stood_so ∙ ap (λ (z : View). record w { account = z.account; pool = z.pool; drafts = z.drafts; opening = z.opening }) (sym stood_so)) still_w);
+          comes = λ q s. copied.comes (completes q) (completing_it q s);
+        }
+
+        pub opens_all : IsToOpenAll y k opens slot
+        opens_all number is =
+            let (has, two) = to_open number is in (
+              c.low number is,
+              (
+                record {
+                  its = has.its;
+                  here = copied.later.offers has.its has.here;
+                  place = has.place;
+                  opens = has.opens;
+                  inside = subst (λ (z : View). 2 * slot + words_in 1 ≤ words_of z.sizes) (sym copied.later.is) has.inside;
+                },
+                two,
+              ),
+            )
+
+        -- and is open
+        module _ (sound_y : IsSound n y) (z : View) (saw : Saw y z) where
+          pub opened_tried : HasTried u carried y → HasTried u carried z
+          opened_tried t = record {
+            is = still_by y z (saw.after_is ∙ ap (λ (e : View). record y { account = e.account; pool = e.pool; drafts = e.drafts; opening = e.opening }) (sym saw.after_is)) t.is;
+            comes = λ q s. saw_runs y z saw (copied_on carried q) (t.comes q s);
+          }
+
+          pub opened_stock : (stock : Stocked) → HasTried u carried y → IsStock stock y → IsStock stock z
+          opened_stock stock t is =
+              stock_later n y z sound_y (copied_on carried o) (t.comes o at.1.1) stock is (saw_later n y sound_y z saw) (copied_on carried o)
+              (saw_runs y z saw (copied_on carried o) (t.comes o at.1.1)) refl

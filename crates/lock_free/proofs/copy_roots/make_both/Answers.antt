@@ -1,0 +1,34 @@
+use Rattle.std.proofs.Common.{refl, sym, subst}
+use Rattle.machine_model.specs.declared.copying.CopyLine.TheVariants as copy
+use Rattle.lock_free.specs.declared.copy_roots.CopyKind.TheVariants as kind
+use Rattle.lock_free.specs.CopySteps.{HasRootsOrNone}
+use Rattle.lock_free.proofs.CopyRoots.{at_second, both_made, main_at_second, second_missing, stopped}
+use Rattle.lock_free.proofs.copy_roots.make_both.Goals as goal
+
+pub returns-in_err-successor-clause-made : goal.returns-in_err-successor-clause-made
+returns-in_err-successor-clause-made g c root main at =
+    let before = c.args.actor.now.me.0 in
+    let after = c.make_new_root.new.actor.me.0 in
+    subst (λ x. HasRootsOrNone before kind.Snapshot root main x after) (sym c.from_residual.ensures)
+    (stopped before (copy.Successor root main) at refl after ((c.in_err-successor.ensures {u = tt}).made (copy.Successor root main) main at refl))
+
+pub make_new_root-requires-2-clause-making : goal.make_new_root-requires-2-clause-making
+make_new_root-requires-2-clause-making g c =
+    let (root, main, at, placed) = c.requires.given in
+    main_at_second c.args.actor.now.me.0 root main at c.in_ok-successor.successor c.make_new_root.new.actor.me.0 (c.in_ok-successor.ensures {u = tt}).made c.requires.which c.args.main placed
+
+pub returns-in_err-second-clause-made : goal.returns-in_err-second-clause-made
+returns-in_err-second-clause-made g c root main at =
+    let before = c.args.actor.now.me.0 in
+    let middle = c.make_new_root.new.actor.me.0 in
+    let after = c.make_new_root-2.new.actor.me.0 in
+    let first = (c.in_ok-successor.ensures {u = tt}).made in
+    let there = at_second before root main at c.in_ok-successor.successor middle first c.requires.which in
+    subst (λ x. HasRootsOrNone before kind.Snapshot root main x after) (sym c.from_residual-in_err-second.ensures)
+    (second_missing before root main at c.in_ok-successor.successor middle first c.requires.which after
+    ((c.in_err-second.ensures {u = tt}).made (copy.Second root main (first (copy.Successor root main) main at refl).made) main there refl))
+
+pub returns-clause-made : goal.returns-clause-made
+returns-clause-made g c root main at =
+    both_made c.args.actor.now.me.0 root main at c.in_ok-successor.successor c.make_new_root.new.actor.me.0 (c.in_ok-successor.ensures {u = tt}).made c.requires.which
+    c.make_new_root-2.new.actor.me.0 c.in_ok-second.second (c.in_ok-second.ensures {u = tt}).made
