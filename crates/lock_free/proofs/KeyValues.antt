@@ -1,5 +1,5 @@
 -- What calls do to one key of a handle.
-use Rattle.std.proofs.Common.{◌≡◌, ◌≢◌, ◌==◌, ◌&&◌, ℕ, inl, inr, Bool, true, false, cond, is_some, nat_cmp, Option, Some, None, option_and_then, refl, sym}
+use Rattle.std.proofs.Common.{◌≡◌, ◌≢◌, ◌==◌, ◌&&◌, ℕ, inl, inr, Bool, true, false, not, cond, is_some, nat_cmp, Option, Some, None, option_and_then, refl, sym}
 use Rattle.std.proofs.Common.{ap, subst, ◌∙◌, eqb-true, eq-eqb, ne_eqb, if◌then◌else◌}
 use Rattle.std.proofs.lemmas.Bool.{cases_eq, true≢false, and_parts, eqb-false}
 use Rattle.std.proofs.lemmas.Option.{none-some, same_Some}
@@ -12,7 +12,7 @@ use Rattle.history.specs.declared.calls.Call.TheVariants.{Get, Put, PutIfAbsent,
 use Rattle.history.specs.declared.replies.Reply.{Reply}
 use Rattle.history.specs.declared.replies.Reply.TheVariants as reply
 use Rattle.history.specs.Effects.{Effect, changing, copying, naming, map_of, writable_map_of, read_only_map_of, with_access, put_in, put_if_absent_in, replace_in, replace_if_in}
-use Rattle.history.specs.Effects.{remove_in, remove_if_in, is_crowded, has_value}
+use Rattle.history.specs.Effects.{others, remove_in, remove_if_in, is_crowded, has_value}
 use Rattle.history.specs.Worlds.{KeyMap, HandleState, HandleMap, first_world}
 use Rattle.lock_free.specs.OneKey.{value_in, is_number, touches, KeyAnswers, KeyStep}
 
@@ -53,12 +53,24 @@ put_beside hash m k v q apart = by (is_crowded hash m k)
     by true = refl
     by false = got_other m k v q apart
 
-put_itself : (hash : ℕ → ℕ) (m : KeyMap) (h k v : ℕ) → Itself (Put h k v) m k (put_in hash m k v)
-put_itself hash m h k v = by (is_crowded hash m k)
+-- a key that is crowded has no value
+no_value : (o : Option ℕ) → is_some o ≡ false → o ≡ None
+no_value None e = refl
+no_value (Some x) e = absurd (true≢false e)
+
+crowded_none : (hash : ℕ → ℕ) (m : KeyMap) (k : ℕ) → is_crowded hash m k ≡ true → map.get m k ≡ None
+crowded_none hash m k e = no_value (map.get m k) (by (is_some (map.get m k)) (and_parts (not (map.contains_key m k)) (others hash m k == 32) e).0)
   where
-    by : (b : Bool) → Itself (Put h k v) m k (cond b (reply.Crowded, m) (reply.Found (map.get m k), map.insert m k v))
-    by true = inr (refl, refl)
-    by false = inl (ap (λ x. (reply.Found (map.get m k), x)) (got_same m k v))
+    by : (b : Bool) → not b ≡ true → b ≡ false
+    by true e = absurd (true≢false (sym e))
+    by false e = refl
+
+put_itself : (hash : ℕ → ℕ) (m : KeyMap) (h k v : ℕ) → Itself (Put h k v) m k (put_in hash m k v)
+put_itself hash m h k v = by (is_crowded hash m k) refl
+  where
+    by : (b : Bool) → is_crowded hash m k ≡ b → Itself (Put h k v) m k (cond b (reply.Crowded, m) (reply.Found (map.get m k), map.insert m k v))
+    by true crowded = (let none = crowded_none hash m k crowded in inr (refl, none, refl, none))
+    by false crowded = inl (ap (λ x. (reply.Found (map.get m k), x)) (got_same m k v))
 
 absent_beside : (hash : ℕ → ℕ) (m : KeyMap) (k v : ℕ) → Beside m k (put_if_absent_in hash m k v).1
 absent_beside hash m k v q apart = by (map.contains_key m k)
@@ -71,7 +83,7 @@ absent_itself : (hash : ℕ → ℕ) (m : KeyMap) (h k v : ℕ) → Itself (PutI
 absent_itself hash m h k v = by (map.contains_key m k) refl
   where
     put : (b : Bool) → is_some (map.get m k) ≡ false → Itself (PutIfAbsent h k v) m k (cond b (reply.Crowded, m) (reply.Found (map.get m k), map.insert m k v))
-    put true none = inr (refl, refl)
+    put true none = (let absent = no_value (map.get m k) none in inr (refl, absent, refl, absent))
     put false none = inl (ap (λ x. (reply.Found (map.get m k), x)) (got_same m k v ∙ sym (ap (λ b. cond b (map.get m k) (Some v)) none)))
 
     by : (b : Bool) → is_some (map.get m k) ≡ b → Itself (PutIfAbsent h k v) m k (cond b (reply.Found (map.get m k), m) (put_in hash m k v))

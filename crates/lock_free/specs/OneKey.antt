@@ -48,9 +48,14 @@ key_effect (Remove h k) x = (reply.Found x, None)
 key_effect (RemoveIf h k v) x = (reply.Truth (option_eq nat_eq x (Some v)), if option_eq nat_eq x (Some v) then None else x)
 key_effect call x = (reply.NoSlots, x)
 
--- or other keys crowd it, and nothing changes
+abbrev pub may_add : Call → Bool
+may_add (Put h k v) = true
+may_add (PutIfAbsent h k v) = true
+may_add call = false
+
+-- Or the call would add the key, and other keys crowd it: then nothing changes.
 abbrev pub KeyAnswers : Call → Option ℕ → Reply → Option ℕ → Type 0
-KeyAnswers call x answer next = ((answer, next) ≡ key_effect call x) ⊎ ((answer ≡ reply.Crowded) × (next ≡ x))
+KeyAnswers call x answer next = ((answer, next) ≡ key_effect call x) ⊎ ((may_add call ≡ true) × (x ≡ None) × (answer ≡ reply.Crowded) × (next ≡ None))
 
 -- A map that is emptied, or a handle that is taken away, has no value; a copy has what the copied map had.
 abbrev pub KeyStep : Call → Option ℕ → Reply → Option ℕ → Type 0

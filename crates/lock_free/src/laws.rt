@@ -42,8 +42,8 @@ pub fn ends_are_told()
 {}
 
 /// A law: where nobody else ever calls on a key of a handle, an actor's calls on it are answered, one after the other, as on a map of
-/// this key alone; or `Crowded`, since keys of others may have its hash. The calls that empty the handle's map, open the handle or
-/// take it away are among those that nobody else makes.
+/// this key alone; but one that would add the key may be `Crowded`, since keys of others may have its hash. The calls that empty the
+/// handle's map, open the handle or take it away are among those that nobody else makes.
 pub fn own_keys_are_answered()
     ensures { OwnKeysAreAnswered }
 {}
