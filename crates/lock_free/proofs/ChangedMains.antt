@@ -141,7 +141,6 @@ module _ (n : ℕ) (v : View) (sound : IsSound n v) (name : Name) (what : Shape)
       is_shape = h.is_shape;
       is_flag = λ p r. h.is_flag h.on.0 h.on.1 ∙ flags p r;
       is_change = change_on w s e h.its h.former claims.1.1.1 h.is_change;
-      has_place = h.has_place;
     }
 
     pub main_still : node_at (now w).heap h.main ≡ node_at (now v).heap h.main

@@ -85,6 +85,7 @@ mod SwapsMade
 mod AllEntries
 mod StockStays
 mod MainChanges
+mod KnownLines
 mod ChangedMains
 mod ChangedBranches
 mod ChangedLists
