@@ -90,6 +90,10 @@ mod ChangedMains
 mod ChangedBranches
 mod ChangedLists
 mod Entombed
+mod Reachings
+mod NewSingles
+mod Pairs
+mod Leads
 mod MainLooks
 mod EntryLooks
 mod EntryMeets

@@ -26,6 +26,7 @@ pub mod Becoming
 pub mod Stocks
 pub mod SeenEntries
 pub mod Changing
+pub mod BuildingUp
 pub mod GoingDown
 pub mod Holding
 pub mod Repairing

@@ -3,6 +3,7 @@
 #![tactic(auto)]
 
 mod accounts;
+mod building;
 mod changing;
 mod cleaning;
 mod entries;
@@ -23,6 +24,7 @@ mod stores;
 mod swapping;
 
 pub use accounts::{Account, Known, Owned};
+pub use building::{Builder, build};
 pub use changing::{Edit, build_main};
 pub use entries::see_entries;
 pub use exchanges::{decide, publish, restore};
