@@ -1,32 +1,28 @@
 -- The indirections and branches between two singles and the main node where one of them stood.
-use Rattle.std.proofs.Common.{◌≡◌, ◌<◌, ◌≤◌, ◌+◌, ◌-◌, ◌==◌, ◌∷◌, ◌^◌, ℕ, Bool, true, false, List, [], Option, Some, None, refl, sym, ap, ap₂, subst, ◌∙◌, if◌then◌else◌, eq-eqb, ne_eqb, arith}
-use Rattle.trie_words.specs.declared.entries.Entry.{Entry}
+use Rattle.std.proofs.Common.{◌≡◌, ◌<◌, ◌≤◌, ◌+◌, ◌-◌, ◌∷◌, ℕ, Bool, false, List, [], Option, Some, None, refl, sym, ap, ap₂, subst, ◌∙◌, if◌then◌else◌, eq-eqb, ne_eqb, arith}
 use Rattle.trie_words.specs.declared.headers.Previous.TheVariants as previous
 use Rattle.machine_model.specs.Beneath.slot_arena.specs.declared.refs.Ref.{Ref}
-use Rattle.machine_model.specs.Beneath.slot_arena.specs.declared.nodes.Node.{Node}
 use Rattle.machine_model.specs.Beneath.slot_arena.specs.declared.nodes.Node.TheVariants.{Indirection, Branch}
-use Rattle.machine_model.specs.Beneath.slot_arena.specs.Heaps.{no_ref, node_at, entries_from}
+use Rattle.machine_model.specs.Beneath.slot_arena.specs.Heaps.{no_ref, entries_from}
 use Rattle.machine_model.specs.Beneath.ctrie_base.specs.Hashes.{hash_of}
 use Rattle.machine_model.specs.declared.actions.Action.TheVariants as act
-use Rattle.machine_model.specs.declared.building.BuildLine.{BuildLine}
 use Rattle.machine_model.specs.declared.building.BuildLine.TheVariants as build
 use Rattle.machine_model.specs.declared.building.Change.TheVariants as change
 use Rattle.machine_model.specs.declared.lines.Line.{Line}
 use Rattle.machine_model.specs.declared.lines.Line.TheVariants as line
 use Rattle.machine_model.specs.declared.operations.Operation.{Operation}
 use Rattle.machine_model.specs.Building.{after_link}
-use Rattle.machine_model.specs.Calls.{key_of}
 use Rattle.machine_model.specs.Operations.{line_action}
-use Rattle.machine_model.specs.Paths.{depth_of, hash_in, start_of}
+use Rattle.machine_model.specs.Paths.{depth_of}
 use Rattle.nodes.specs.Builders.{rung}
 use Rattle.nodes.specs.Levels.{flag_of}
 use Rattle.lock_free.specs.declared.building.Builder.{Builder}
 use Rattle.lock_free.specs.declared.rules.View.{View}
 use Rattle.lock_free.specs.Accounts.{place_of}
 use Rattle.lock_free.specs.Becoming.{HasNew}
-use Rattle.lock_free.specs.BuildingUp.{HasLed, HasLedOrNone, HasLinked, HasReached, HasStopped, IsAtLink, IsBuilder, MakesRung}
+use Rattle.lock_free.specs.BuildingUp.{HasLed, HasLinked, HasReached, HasStopped, IsAtLink, IsBuilder, MakesRung}
 use Rattle.lock_free.specs.Holding.{IsOn}
-use Rattle.lock_free.specs.Loading.{now, Runs, IsAt, IsSound}
+use Rattle.lock_free.specs.Loading.{now, IsAt}
 use Rattle.lock_free.specs.Making.{over_of, IsOverBy}
 use Rattle.lock_free.specs.Nodes.{is_single}
 use Rattle.lock_free.specs.Passing.{IsPlaced}

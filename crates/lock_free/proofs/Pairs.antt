@@ -1,19 +1,18 @@
 -- The main node of two singles, and the branches above it.
-use Rattle.std.proofs.Common.{◌≡◌, ◌≢◌, ◌==◌, ◌∷◌, ℕ, Bool, true, false, List, [], refl, sym, ap, ap₂, subst, ◌∙◌, map, nat_lt, if◌then◌else◌, eq-eqb, ne_eqb}
+use Rattle.std.proofs.Common.{◌≡◌, ◌≢◌, ◌∷◌, ℕ, Bool, true, false, [], sym, ap, ap₂, subst, map, nat_lt, if◌then◌else◌, eq-eqb, ne_eqb}
 use Rattle.std.specs.Prelude.{bit_or}
 use Rattle.trie_words.specs.declared.entries.Entry.{Entry}
-use Rattle.machine_model.specs.Beneath.slot_arena.specs.declared.refs.Ref.{Ref}
 use Rattle.machine_model.specs.Beneath.slot_arena.specs.declared.nodes.Node.{Node}
 use Rattle.machine_model.specs.Beneath.slot_arena.specs.declared.nodes.Node.TheVariants.{Branch, List as Listed}
 use Rattle.machine_model.specs.Beneath.slot_arena.specs.Heaps.{entries_from}
 use Rattle.machine_model.specs.declared.actions.Action.TheVariants as act
-use Rattle.nodes.specs.Builders.{by_index, pair}
+use Rattle.nodes.specs.Builders.{by_index}
 use Rattle.nodes.specs.Levels.{flag_of, index_in, list_depth}
 use Rattle.lock_free.specs.declared.building.Builder.{Builder}
 use Rattle.lock_free.specs.declared.rules.View.{View}
 use Rattle.lock_free.specs.BuildingUp.{by_rising, MakesPair, MakesRung}
 use Rattle.lock_free.specs.Loading.{IsAt}
-use Rattle.lock_free.specs.SeenEntries.{entry_to, unowned, AreEntriesTo, IsAtBranch, IsAtList}
+use Rattle.lock_free.specs.SeenEntries.{entry_to, unowned, IsAtBranch, IsAtList}
 
 module _ (v : View) (by : Builder) (depth hash : ℕ) (old single : Entry) (m : MakesPair v by depth hash old single) where
   abbrev parted : Node

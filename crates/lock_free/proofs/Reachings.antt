@@ -2,7 +2,6 @@
 use Rattle.std.proofs.Common.{◌≡◌, ◌∷◌, ◌++◌, ℕ, List, [], refl, sym, ap, subst, ◌∙◌, append_assoc, append-nil}
 use Rattle.machine_model.specs.Beneath.slot_arena.specs.declared.refs.Ref.{Ref}
 use Rattle.machine_model.specs.Beneath.slot_arena.specs.declared.nodes.Node.{Node}
-use Rattle.machine_model.specs.Beneath.slot_arena.specs.Heaps.{node_at}
 use Rattle.machine_model.specs.Beneath.ctrie_base.specs.Hashes.{hash_of}
 use Rattle.machine_model.specs.declared.building.BuildLine.{BuildLine}
 use Rattle.machine_model.specs.declared.lines.Line.{Line}
@@ -14,7 +13,7 @@ use Rattle.nodes.specs.Levels.{flag_of}
 use Rattle.lock_free.specs.declared.building.Builder.{Builder}
 use Rattle.lock_free.specs.declared.reading.Given.{Given}
 use Rattle.lock_free.specs.declared.rules.View.{View}
-use Rattle.lock_free.specs.Becoming.{Follows, HasNew, line_made}
+use Rattle.lock_free.specs.Becoming.{HasNew, line_made}
 use Rattle.lock_free.specs.BuildingUp.{grown, HasReached, HasStopped, IsBuilder, IsMain}
 use Rattle.lock_free.specs.GoingDown.{HasStayed, IsFlag}
 use Rattle.lock_free.specs.Holding.{IsOn}

@@ -1,10 +1,8 @@
 -- BUILD: from a new single to the SWAP of a main node.
 use Rattle.std.specs.Prelude.{◌≡◌, ◌<◌, ◌^◌, ℕ, false, List, [], ◌∷◌, ◌++◌, nat_lt, if◌then◌else◌, Option, Some, None}
-use Rattle.proof_memory.specs.Vocabulary.{HashKind}
 use Rattle.trie_words.specs.declared.entries.Entry.{Entry}
 use Rattle.machine_model.specs.Beneath.ctrie_base.specs.Hashes.{hash_of}
 use Rattle.machine_model.specs.Beneath.slot_arena.specs.declared.refs.Ref.{Ref}
-use Rattle.machine_model.specs.Beneath.slot_arena.specs.declared.nodes.Node.{Node}
 use Rattle.machine_model.specs.Beneath.slot_arena.specs.declared.nodes.Node.TheVariants.{Branch}
 use Rattle.trie_words.specs.declared.headers.Previous.TheVariants as previous
 use Rattle.machine_model.specs.declared.actions.Action.TheVariants as act
@@ -19,9 +17,9 @@ use Rattle.machine_model.specs.declared.lines.Line.{Line}
 use Rattle.machine_model.specs.declared.lines.Line.TheVariants as line
 use Rattle.machine_model.specs.declared.lines.Purpose.TheVariants as purpose
 use Rattle.machine_model.specs.declared.operations.Operation.{Operation}
-use Rattle.machine_model.specs.Building.{changed, old_hash, pair_depth}
+use Rattle.machine_model.specs.Building.{changed}
 use Rattle.machine_model.specs.Calls.{key_of, value_of}
-use Rattle.machine_model.specs.Paths.{current, depth_of, flag_in, start_of}
+use Rattle.machine_model.specs.Paths.{current, depth_of, start_of}
 use Rattle.machine_model.specs.Swapping.{swapping}
 use Rattle.lock_free.specs.declared.building.Builder.{Builder}
 use Rattle.lock_free.specs.declared.reading.Given.{Given}

@@ -168,7 +168,7 @@ fn lead<R: Wait>(
 {
     let mut link = make_link(rt, words, actor, stock, by.start, owned(main))?;
     for n in by.depth + 1..depth {
-        let flag = flag_of(by.hash, depth + by.depth - n);
+        let flag = flag_of(by.hash, depth - (n - by.depth));
         let rung = make_rung(rt, words, actor, stock, flag, link)?;
         link = make_link(rt, words, actor, stock, by.start, owned(rung))?;
     }
