@@ -94,6 +94,7 @@ mod Reachings
 mod NewSingles
 mod Pairs
 mod Leads
+mod Besides
 mod MainLooks
 mod EntryLooks
 mod EntryMeets

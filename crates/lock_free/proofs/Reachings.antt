@@ -75,6 +75,7 @@ module _ (v w : View) (x l : Line) (at : IsOn v x) (h : HasReached v l w) where
     hashes = b.hashes ∙ ap (λ (z : View). z.sizes.hash) (sym h.become.follows.is);
     hash = b.hash ∙ ap (λ (z : View). hash_of z.sizes.hash by.key) (sym h.become.follows.is);
     depth = b.depth;
+    short = b.short;
     low = b.low;
   }
 

@@ -38,6 +38,7 @@ pub record IsBuilder (v : View) (by : Builder) (path : List Ref) : Type 0 where
   pub hashes : by.hashes ≡ v.sizes.hash
   pub hash : by.hash ≡ hash_of v.sizes.hash by.key
   pub depth : by.depth ≡ depth_of path
+  pub short : by.depth < 14
   pub low : by.start < 2 ^ 36
 
 -- READ gave this main node at the end of the path
