@@ -4,7 +4,6 @@ use Rattle.std.proofs.lemmas.Bool.{true≢false}
 use Rattle.std.proofs.lemmas.List.Elements.{Contains-get_or, Contains-append_left, Contains-append_right}
 use Rattle.arrayvec.specs.ArrayVec.{ArrayVec}
 use Rattle.trie_words.specs.declared.entries.Entry.{Entry}
-use Rattle.trie_words.specs.declared.headers.Previous.TheVariants as previous
 use Rattle.machine_model.specs.Beneath.ctrie_base.specs.Hashes.{hash_of}
 use Rattle.machine_model.specs.Beneath.slot_arena.specs.declared.refs.Ref.{Ref}
 use Rattle.machine_model.specs.Beneath.slot_arena.specs.declared.nodes.Node.{Node}
@@ -25,20 +24,18 @@ use Rattle.nodes.specs.Builders.{pair}
 use Rattle.nodes.specs.Levels.{index_in, list_depth, parting}
 use Rattle.proof_linearizable.specs.Beneath.proof_contents.specs.Lines.Changes.{Known, KnowsBuild, KnowsLine, Neighbour}
 use Rattle.proof_memory.specs.Laws.{IsInUse}
-use Rattle.proof_memory.specs.Vocabulary.{HashKind}
-use Rattle.proof_memory.specs.Wants.{AllHold, Holds as Claimed, EntryIs, ASingle, entry_is, is_branch, is_branch_or_list, is_main_node, line_wants}
+use Rattle.proof_memory.specs.Wants.{AllHold, Holds as Claimed, EntryIs, ASingle, entry_is, is_branch, is_branch_or_list, line_wants}
 use Rattle.proof_memory.proofs.Claims.Uses.{safe_of, meets_of}
 use Rattle.lock_free.specs.declared.building.Builder.{Builder}
 use Rattle.lock_free.specs.declared.reading.Given.{Given}
 use Rattle.lock_free.specs.declared.rules.View.{View}
 use Rattle.lock_free.specs.Accounts.{place_of}
 use Rattle.lock_free.specs.Becoming.{HasNew}
-use Rattle.lock_free.specs.BuildingUp.{HasLed, HasLedOrNone, HasLinked, HasPaired, HasReached, HasStopped, IsAtLink, IsAtPair, IsBuilder, IsMain, MakesPair}
+use Rattle.lock_free.specs.BuildingUp.{HasLedOrNone, HasLinked, HasPaired, HasReached, IsAtLink, IsAtPair, IsBuilder, IsMain, MakesPair}
 use Rattle.lock_free.specs.GoingDown.{HasStayed, entry_in, IsEntryIn}
 use Rattle.lock_free.specs.Holding.{IsOn, HoldsEntry, HoldsEntryAt, HasSeenHeld}
 use Rattle.lock_free.specs.Live.{IsLive, at_hand, line_claims, refs_of_claims}
-use Rattle.lock_free.specs.Loading.{now, seen, Runs, IsAt, IsSound, IsUsed, Holds, HoldsSlot, HasSeenKey, Saw}
-use Rattle.lock_free.specs.Nodes.{is_single}
+use Rattle.lock_free.specs.Loading.{now, IsAt, IsSound, IsUsed, Holds, HoldsSlot, HasSeenKey}
 use Rattle.lock_free.specs.SeenEntries.{entry_to, unowned, HasMadeNext}
 use Rattle.lock_free.specs.Stocks.{Stocked, IsStock}
 use Rattle.lock_free.proofs.StockStays.{stock_stayed}

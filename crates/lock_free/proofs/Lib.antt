@@ -95,6 +95,7 @@ mod NewSingles
 mod Pairs
 mod Leads
 mod Besides
+mod SingleSites
 mod MainLooks
 mod EntryLooks
 mod EntryMeets

@@ -1,21 +1,15 @@
 -- BUILD, with the new single made: what it makes of the main node.
-use Rattle.std.proofs.Common.{◌≡◌, ◌∷◌, ℕ, true, false, List, [], Option, Some, None, refl, sym, ap, subst, ◌∙◌}
-use Rattle.trie_words.specs.declared.entries.Entry.{Entry}
+use Rattle.std.proofs.Common.{◌≡◌, ℕ, true, false, List, [], Option, Some, None, refl, sym, ap, ◌∙◌}
 use Rattle.machine_model.specs.Beneath.slot_arena.specs.declared.refs.Ref.{Ref}
-use Rattle.machine_model.specs.Beneath.slot_arena.specs.declared.nodes.Node.{Node}
 use Rattle.machine_model.specs.Beneath.slot_arena.specs.declared.nodes.Node.TheVariants.{Single}
-use Rattle.machine_model.specs.Beneath.slot_arena.specs.Heaps.{no_ref, node_at}
+use Rattle.machine_model.specs.Beneath.slot_arena.specs.Heaps.{no_ref}
 use Rattle.machine_model.specs.declared.actions.Action.TheVariants as act
-use Rattle.machine_model.specs.declared.building.BuildLine.{BuildLine}
 use Rattle.machine_model.specs.declared.building.BuildLine.TheVariants as build
 use Rattle.machine_model.specs.declared.building.Change.{Change}
-use Rattle.machine_model.specs.declared.building.Change.TheVariants as change
 use Rattle.machine_model.specs.declared.building.Site.{Site}
-use Rattle.machine_model.specs.declared.building.Site.TheVariants as site
 use Rattle.machine_model.specs.declared.lines.Line.{Line}
 use Rattle.machine_model.specs.declared.lines.Line.TheVariants as line
 use Rattle.machine_model.specs.declared.lines.Purpose.TheVariants as purpose
-use Rattle.machine_model.specs.declared.operations.Operation.{Operation}
 use Rattle.machine_model.specs.Building.{changed}
 use Rattle.machine_model.specs.Calls.{value_of}
 use Rattle.machine_model.specs.Operations.{line_action}
@@ -28,16 +22,16 @@ use Rattle.lock_free.specs.declared.reading.Given.{Given}
 use Rattle.lock_free.specs.declared.rules.View.{View}
 use Rattle.lock_free.specs.Accounts.{place_of}
 use Rattle.lock_free.specs.Becoming.{HasNew}
-use Rattle.lock_free.specs.BuildingUp.{grown, HasBuiltUp, HasBuiltSingle, HasFresh, HasReached, HasStopped, IsBuilder, IsMain, IsAtSingle}
+use Rattle.lock_free.specs.BuildingUp.{HasBuiltUp, HasReached, HasStopped, IsBuilder, IsMain}
 use Rattle.lock_free.specs.Changing.{HasBuilt, HasBuiltNode, IsChange, IsChanging}
 use Rattle.lock_free.specs.Holding.{IsOn}
-use Rattle.lock_free.specs.Loading.{now, Runs, IsAt, IsSound}
+use Rattle.lock_free.specs.Loading.{now, IsAt, IsSound}
 use Rattle.lock_free.specs.Nodes.{is_single}
-use Rattle.lock_free.specs.SeenEntries.{entry_to, unowned, HasMadeNext}
+use Rattle.lock_free.specs.SeenEntries.{entry_to, HasMadeNext}
 use Rattle.lock_free.proofs.ChangedMains.{its_node, at_make}
 use Rattle.lock_free.proofs.Followings.{main_node_on}
 use Rattle.lock_free.proofs.OnLines.{line_is}
-use Rattle.lock_free.proofs.Reachings.{reached_both, reached_on, reached_new, reached_stayed, stopped_here, stopped_then, builder_then, main_then, builder_flag}
+use Rattle.lock_free.proofs.Reachings.{reached_both, reached_on, reached_new, reached_stayed, stopped_here, builder_then, main_then, builder_flag}
 
 -- the entry of a single that was made
 pub single_entry : (v w : View) (key value name : ℕ) (h : HasNew v (Single key value) name w) → record { slot = name; own = false; is_single = true } ≡ entry_to w h.made

@@ -13,6 +13,10 @@ use Rattle.machine_model.specs.declared.building.BuildLine.TheVariants as build
 use Rattle.machine_model.specs.declared.building.Change.{Change}
 use Rattle.machine_model.specs.declared.building.Change.TheVariants as change
 use Rattle.machine_model.specs.declared.building.Site.{Site}
+use Rattle.machine_model.specs.declared.building.Site.TheVariants as site
+use Rattle.machine_model.specs.Beneath.slot_arena.specs.declared.nodes.Slot.{Slot}
+use Rattle.lock_free.specs.declared.changing.Edit.{Edit}
+use Rattle.lock_free.specs.Changing.{IsChange}
 use Rattle.machine_model.specs.declared.lines.Line.{Line}
 use Rattle.machine_model.specs.declared.lines.Line.TheVariants as line
 use Rattle.machine_model.specs.declared.lines.Purpose.TheVariants as purpose
@@ -26,7 +30,7 @@ use Rattle.lock_free.specs.declared.reading.Given.{Given}
 use Rattle.lock_free.specs.declared.rules.View.{View}
 use Rattle.lock_free.specs.Becoming.{HasBecome}
 use Rattle.lock_free.specs.Holding.{IsOn}
-use Rattle.lock_free.specs.Loading.{now, Runs, IsAt}
+use Rattle.lock_free.specs.Loading.{now, Runs, IsAt, IsUsed}
 use Rattle.lock_free.specs.Passing.{KnowsLink, KnowsMain, IsPlaced}
 use Rattle.lock_free.specs.SeenEntries.{entry_to, unowned, IsOver}
 
@@ -77,11 +81,11 @@ HasBuiltUp before path main former (Some name) after = HasFresh before path main
 -- ---- from the new single
 
 abbrev pub IsAtSingle : View → Builder → Given → Site → Option ℕ → Type 0
-IsAtSingle v by given site former = (path : List Ref) × (main : Ref) × IsOn v (line.Build (build.Single path main site former)) × IsBuilder v by path × IsMain v path main given
+IsAtSingle v by given place former = (path : List Ref) × (main : Ref) × IsOn v (line.Build (build.Single path main place former)) × IsBuilder v by path × IsMain v path main given
 
 abbrev pub HasBuiltSingle : View → Site → Option ℕ → Option ℕ → View → Type 0
-HasBuiltSingle before site former result after =
-    (path : List Ref) (main : Ref) → IsOn before (line.Build (build.Single path main site former)) → HasBuiltUp before path main former result after
+HasBuiltSingle before place former result after =
+    (path : List Ref) (main : Ref) → IsOn before (line.Build (build.Single path main place former)) → HasBuiltUp before path main former result after
 
 -- ---- beside another single
 
@@ -132,3 +136,29 @@ HasLinked before depth result after = (path : List Ref) (main below : Ref) (posi
 abbrev pub HasPaired : View → ℕ → Option ℕ → View → Type 0
 HasPaired before position result after =
     (path : List Ref) (main made : Ref) (depth : ℕ) → IsOn before (line.Build (build.Pair path main position made depth)) → HasLedOrNone before path main position result after
+
+-- ---- with the new single
+
+-- the line that comes after it
+abbrev pub sited : List Ref → Ref → Option ℕ → Site → Ref → ℕ → BuildLine
+sited path main former site.Absent made depth = build.Main path main (change.Insert made) former
+sited path main former (site.At position) made depth = build.Main path main (change.Update position made) former
+sited path main former (site.Beside position) made depth = build.Pair path main position made depth
+
+abbrev pub former_at : Site → Option ℕ → Option ℕ
+former_at site.Absent former = former
+former_at (site.At position) former = former
+former_at (site.Beside position) former = None
+
+abbrev pub IsAtSite : View → Builder → Given → Site → Option ℕ → Entry → Type 0
+IsAtSite v by given place former single = (path : List Ref) × (main : Ref) × (made : Ref) × (depth : ℕ) × IsOn v (line.Build (sited path main former place made depth)) × IsBuilder v by path
+    × IsMain v path main given × ((slot : Slot) × IsUsed v made slot) × (unowned single ≡ entry_to v made)
+
+-- the main node is to be changed so, or no slot was had
+abbrev pub HasEditAt : View → List Ref → Ref → Option ℕ → Option Edit → View → Type 0
+HasEditAt before path main former None after = HasStopped before after
+HasEditAt before path main former (Some e) after = (its : Change) × HasReached before (line.Build (build.Main path main its former)) after × IsChange after e its
+
+abbrev pub HasEdit : View → Site → Option ℕ → Option Edit → View → Type 0
+HasEdit before place former result after =
+    (path : List Ref) (main made : Ref) (depth : ℕ) → IsOn before (line.Build (sited path main former place made depth)) → HasEditAt before path main (former_at place former) result after

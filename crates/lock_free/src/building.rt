@@ -1,7 +1,7 @@
 //! BUILD: the nodes that a change of one key makes, up to the main node that is to be swapped in.
 
 ghost use Rattle.std.specs.Prelude.{◌≡◌, ◌<◌};
-ghost use Rattle.lock_free.specs.BuildingUp.{by_rising, HasBuiltSingle, HasLinked, HasPaired, IsAtLink, IsAtPair, IsAtSingle, MakesPair, MakesRung};
+ghost use Rattle.lock_free.specs.BuildingUp.{by_rising, HasBuiltSingle, HasEdit, HasLinked, HasPaired, IsAtLink, IsAtPair, IsAtSingle, IsAtSite, MakesPair, MakesRung};
 ghost use Rattle.lock_free.specs.Loading.{IsSound};
 ghost use Rattle.lock_free.specs.SeenEntries.{HasMadeNext};
 ghost use Rattle.lock_free.specs.Stocks.{IsStock};
@@ -61,9 +61,36 @@ pub fn build<R: Wait>(
         own: true,
         is_single: true,
     };
-    let change = match site {
-        Site::Absent => Edit::Insert(single),
-        Site::At { position } => Edit::Update(position, single),
+    let change = edit_for(rt, words, actor, stock, by, given, site, former, single)?;
+    let flag = flag_of(by.hash, by.depth);
+    let main = given.link.main;
+    build_main(rt, words, actor, stock, main, given.header.shape, flag, change)
+}
+
+/// The change of the main node for this new single, with what leads to it where it stands beside another one.
+fn edit_for<R: Wait>(
+    rt: &R,
+    words: &Words,
+    actor: &mut Actor,
+    stock: &mut Stock,
+    by: Builder,
+    given: Given,
+    site: Site,
+    former: Option<u64>,
+    single: Entry,
+) -> Option<Edit>
+    requires table { actor.old.table_id ≡ words.now.table_id }
+    requires sound { IsSound words.now.table_id.words actor.old.me.0 }
+    requires stock { IsStock stock.old actor.old.me.0 }
+    requires at { IsAtSite actor.old.me.0 by given site former single }
+    ensures table { actor.new.table_id ≡ actor.old.table_id }
+    ensures sound { IsSound words.now.table_id.words actor.new.me.0 }
+    ensures stock { IsStock stock.new actor.new.me.0 }
+    ensures edit { HasEdit actor.old.me.0 site former result actor.new.me.0 }
+{
+    match site {
+        Site::Absent => Some(Edit::Insert(single)),
+        Site::At { position } => Some(Edit::Update(position, single)),
         Site::Beside { position } => {
             let slot = build_beside(rt, words, actor, stock, by, given, position, single)?;
             let link = Entry {
@@ -71,12 +98,9 @@ pub fn build<R: Wait>(
                 own: false,
                 is_single: false,
             };
-            Edit::Update(position, link)
+            Some(Edit::Update(position, link))
         }
-    };
-    let flag = flag_of(by.hash, by.depth);
-    let main = given.link.main;
-    build_main(rt, words, actor, stock, main, given.header.shape, flag, change)
+    }
 }
 
 /// The two entries by the rising index of what they lead to.

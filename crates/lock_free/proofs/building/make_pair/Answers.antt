@@ -1,4 +1,4 @@
-use Rattle.std.proofs.Common.{◌∙◌, sym, subst, subst₂, ap₂}
+use Rattle.std.proofs.Common.{◌∙◌, sym, subst₂, ap₂}
 use Rattle.std.specs.Prelude.{bit_or}
 use Rattle.lock_free.specs.BuildingUp.{by_rising}
 use Rattle.lock_free.specs.SeenEntries.{IsAtBranch}
