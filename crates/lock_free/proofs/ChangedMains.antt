@@ -69,7 +69,7 @@ module _ (n : ℕ) (v : View) (sound : IsSound n v) (name : Name) (what : Shape)
   pub claims : AllHold (IsLive (now v)) (now v).heap (line_wants v.sizes.hash h.on.0.call h.on.0.access l)
   claims = finds_now v l h.on n sound
 
-  known_node : node_at (now v).heap h.main ≡ h.known.slot.node
+  pub known_node : node_at (now v).heap h.main ≡ h.known.slot.node
   known_node = node_is (now v) h.main h.known.slot h.known.used
 
   pub kind : is_branch_or_list h.known.slot.node ≡ true

@@ -108,3 +108,4 @@ mod HeldEntries
 mod OnLines
 mod NextEntries
 mod RepairLooks
+mod Updates

@@ -1,34 +1,41 @@
 -- BUILD, with the new single made: what it makes of the main node.
-use Rattle.std.proofs.Common.{◌≡◌, ℕ, true, false, List, [], Option, Some, None, refl, sym, ap, ◌∙◌}
+use Rattle.std.proofs.Common.{◌≡◌, ℕ, true, false, List, [], Option, Some, None, refl, sym, ap, subst, ◌∙◌}
+use Rattle.std.proofs.lemmas.Bool.{true≢false}
 use Rattle.machine_model.specs.Beneath.slot_arena.specs.declared.refs.Ref.{Ref}
-use Rattle.machine_model.specs.Beneath.slot_arena.specs.declared.nodes.Node.TheVariants.{Single}
-use Rattle.machine_model.specs.Beneath.slot_arena.specs.Heaps.{no_ref}
+use Rattle.machine_model.specs.Beneath.slot_arena.specs.declared.nodes.Node.{Node}
+use Rattle.machine_model.specs.Beneath.slot_arena.specs.declared.nodes.Node.TheVariants.{Branch, Indirection, List as Listed, Single, Tomb}
+use Rattle.machine_model.specs.Beneath.slot_arena.specs.Heaps.{no_ref, node_at}
 use Rattle.machine_model.specs.declared.actions.Action.TheVariants as act
 use Rattle.machine_model.specs.declared.building.BuildLine.TheVariants as build
 use Rattle.machine_model.specs.declared.building.Change.{Change}
+use Rattle.machine_model.specs.declared.building.Change.TheVariants as change
 use Rattle.machine_model.specs.declared.building.Site.{Site}
 use Rattle.machine_model.specs.declared.lines.Line.{Line}
 use Rattle.machine_model.specs.declared.lines.Line.TheVariants as line
 use Rattle.machine_model.specs.declared.lines.Purpose.TheVariants as purpose
+use Rattle.machine_model.specs.declared.operations.Operation.{Operation}
 use Rattle.machine_model.specs.Building.{changed}
 use Rattle.machine_model.specs.Calls.{value_of}
-use Rattle.machine_model.specs.Operations.{line_action}
+use Rattle.machine_model.specs.Climbing.{climbed}
+use Rattle.machine_model.specs.Operations.{after_update, line_action}
 use Rattle.machine_model.specs.Paths.{current, flag_in}
 use Rattle.machine_model.specs.Swapping.{swapping}
 use Rattle.nodes.specs.Levels.{flag_of}
+use Rattle.proof_memory.specs.Wants.{is_branch_or_list}
 use Rattle.lock_free.specs.declared.building.Builder.{Builder}
 use Rattle.lock_free.specs.declared.changing.Edit.{Edit}
+use Rattle.lock_free.specs.declared.changing.Edit.TheVariants as edit
 use Rattle.lock_free.specs.declared.reading.Given.{Given}
 use Rattle.lock_free.specs.declared.rules.View.{View}
 use Rattle.lock_free.specs.Accounts.{place_of}
 use Rattle.lock_free.specs.Becoming.{HasNew}
 use Rattle.lock_free.specs.BuildingUp.{HasBuiltUp, HasReached, HasStopped, IsBuilder, IsMain}
-use Rattle.lock_free.specs.Changing.{HasBuilt, HasBuiltNode, IsChange, IsChanging}
+use Rattle.lock_free.specs.Changing.{HasBuilt, HasBuiltNode, IsChange, IsChanging, IsNoTomb}
 use Rattle.lock_free.specs.Holding.{IsOn}
 use Rattle.lock_free.specs.Loading.{now, IsAt, IsSound}
 use Rattle.lock_free.specs.Nodes.{is_single}
 use Rattle.lock_free.specs.SeenEntries.{entry_to, HasMadeNext}
-use Rattle.lock_free.proofs.ChangedMains.{its_node, at_make}
+use Rattle.lock_free.proofs.ChangedMains.{its_node, at_make, kind, known_node}
 use Rattle.lock_free.proofs.Followings.{main_node_on}
 use Rattle.lock_free.proofs.OnLines.{line_is}
 use Rattle.lock_free.proofs.Reachings.{reached_both, reached_on, reached_new, reached_stayed, stopped_here, builder_then, main_then, builder_flag}
@@ -51,6 +58,28 @@ one_place v path other main its place former p q =
     let same = ap parts_in (sym (line_is v (line.Build (build.Single path main place former)) p q.0 q.1) ∙ q.2) in (ap (λ (x : List Ref × Ref). x.0) same, ap (λ (x : List Ref × Ref). x.1) same)
 
 -- ---- its last line, after others
+
+no_entomb : (w : View) (single : Ref) (e : Edit) → IsChange w e (change.Entomb single) → IsNoTomb e → ⊥
+no_entomb w single (edit.Insert entry) is kept = is
+no_entomb w single (edit.Update position entry) is kept = is
+no_entomb w single (edit.Remove position) is kept = is
+no_entomb w single (edit.Entomb name) is kept = kept
+
+-- a change that makes no tomb is answered
+is_answered : (w : View) (o : Operation) (path : List Ref) (former : Option ℕ) (flag : ℕ) (node : Node) (c : Change) (e : Edit) → is_branch_or_list node ≡ true → IsChange w e c → IsNoTomb e →
+    after_update o path former (changed flag node c) ≡ climbed o former
+is_answered w o path former flag (Branch bitmap es) (change.Insert single) e branch is kept = refl
+is_answered w o path former flag (Branch bitmap es) (change.Update position other) e branch is kept = refl
+is_answered w o path former flag (Branch bitmap es) (change.Remove position) e branch is kept = refl
+is_answered w o path former flag (Branch bitmap es) (change.Entomb single) e branch is kept = absurd (no_entomb w single e is kept)
+is_answered w o path former flag (Listed es) (change.Insert single) e list is kept = refl
+is_answered w o path former flag (Listed es) (change.Update position other) e list is kept = refl
+is_answered w o path former flag (Listed es) (change.Remove position) e list is kept = refl
+is_answered w o path former flag (Listed es) (change.Entomb single) e list is kept = absurd (no_entomb w single e is kept)
+is_answered w o path former flag (Single key value) c e none is kept = absurd (true≢false (sym none))
+is_answered w o path former flag (Indirection generation main) c e none is kept = absurd (true≢false (sym none))
+is_answered w o path former flag (Tomb single) c e none is kept = absurd (true≢false (sym none))
+
 
 module _ (n : ℕ) (v w : View) (sound_w : IsSound n w) (x : Line) (at : IsOn v x) (by : Builder) (given : Given) (path : List Ref) (main : Ref) (b : IsBuilder v by path) (m : IsMain v path main given)
     (its : Change) (former : Option ℕ) (h : HasReached v (line.Build (build.Main path main its former)) w) (e : Edit) (is : IsChange w e its) (flag : ℕ) (flag_is : flag ≡ flag_of by.hash by.depth) where
@@ -75,9 +104,9 @@ module _ (n : ℕ) (v w : View) (sound_w : IsSound n w) (x : Line) (at : IsOn v 
     is_change = is;
   }
 
-  pub built_up : (result : Option ℕ) (after : View) → HasBuilt w result after → HasBuiltUp v path main former result after
+  pub built_up : IsNoTomb e → (result : Option ℕ) (after : View) → HasBuilt w result after → HasBuiltUp v path main former result after
   unfolding changing
-  built_up result after built = from result (built (its_node n w sound_w given.link.main given.header.shape flag e changing) (at_make n w sound_w given.link.main given.header.shape flag e changing))
+  built_up kept result after built = from result (built (its_node n w sound_w given.link.main given.header.shape flag e changing) (at_make n w sound_w given.link.main given.header.shape flag e changing))
     where
       from : (r : Option ℕ) → HasBuiltNode w (its_node n w sound_w given.link.main given.header.shape flag e changing) r after → HasBuiltUp v path main former r after
       from None s = (build.Main path main its former, reached_both v w after (line.Build (build.Main path main its former)) (line.Build (build.Main path main its former)) h
@@ -91,6 +120,9 @@ module _ (n : ℕ) (v w : View) (sound_w : IsSound n w) (x : Line) (at : IsOn v 
             (sym (main_node_on w after new.become.follows main m_then.header.slot m_then.header.used m_then.header.is_main));
         reached = reached_both v w after (line.Build (build.Main path main its former)) (line.Swap (purpose.Update path former) (swapping (current path) main new.made)) h
             (reached_new w after (line.Build (build.Main path main its former)) on_main _ name new (line.Swap (purpose.Update path former) (swapping (current path) main new.made)) (λ o r. refl));
+        answers = λ o. ap (after_update o path former) new.node_is
+            ∙ is_answered w o path former (flag_in (now w) (record on_main.0 { is_marked = on_main.1.0 }) path) (node_at (now w).heap main) its e
+            (subst (λ x. is_branch_or_list x ≡ true) (sym (known_node n w sound_w given.link.main given.header.shape flag e changing)) (kind n w sound_w given.link.main given.header.shape flag e changing)) is kept;
       }
 
 -- ---- its first line

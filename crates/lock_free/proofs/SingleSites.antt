@@ -51,6 +51,7 @@ module _ (v : View) (by : Builder) (given : Given) (former : Option ℕ) (single
     change.Insert x,
     reached_stayed v v (line.Build (build.Main q c (change.Insert x) former)) other (still v),
     to ∙ ap (entry_to v) (ap made_in (sym (line_is v (line.Build (build.Main path main (change.Insert made) former)) on other.0 other.1) ∙ other.2)),
+    tt,
   )
 
   pub at_edit : (position : ℕ) → IsAtSite v by given (site.At position) former single → HasEdit v (site.At position) former (Some (edit.Update position single)) v
@@ -59,6 +60,7 @@ module _ (v : View) (by : Builder) (given : Given) (former : Option ℕ) (single
     change.Update position x,
     reached_stayed v v (line.Build (build.Main q c (change.Update position x) former)) other (still v),
     (refl, to ∙ ap (entry_to v) (ap made_in (sym (line_is v (line.Build (build.Main path main (change.Update position made) former)) on other.0 other.1) ∙ other.2))),
+    tt,
   )
 
   pub pair_at : (position : ℕ) → IsAtSite v by given (site.Beside position) former single → IsAtPair v by given position single
@@ -69,7 +71,7 @@ module _ (v : View) (by : Builder) (given : Given) (former : Option ℕ) (single
 
   pub beside_edit : (position : ℕ) (w : View) (slot : ℕ) → HasPaired v position (Some slot) w →
       HasEdit v (site.Beside position) former (Some (edit.Update position (record { slot = slot; own = false; is_single = false }))) w
-  beside_edit position w slot paired q c x y other = let led = paired q c x y other in (change.Update position led.top, led.reached, (refl, sym led.entry))
+  beside_edit position w slot paired q c x y other = let led = paired q c x y other in (change.Update position led.top, led.reached, (refl, sym led.entry), tt)
 
 -- ---- from the first line on
 
@@ -158,7 +160,7 @@ module _ (n : ℕ) (v : View) (sound : IsSound n v) (by : Builder) (given : Give
       site_built result after built q c other =
           let same = one_place v path q main c place former on other in
           subst (λ (z : List Ref × Ref). HasBuiltUp v z.0 z.1 former result after) (both path q main c same.0 same.1)
-          (built_up n v x sound_x (line.Build (build.Single path main place former)) on by given path main b m got.0 former on_main e got.2 flag flag_is result after built)
+          (built_up n v x sound_x (line.Build (build.Single path main place former)) on by given path main b m got.0 former on_main e got.2 flag flag_is got.3 result after built)
         where
           both : (p q : List Ref) (r s : Ref) → p ≡ q → r ≡ s → ◌≡◌ {A = List Ref × Ref} (p, r) (q, s)
           both p q r s e f = ap (λ (z : List Ref). (z, r)) e ∙ ap (λ (z : Ref). (q, z)) f

@@ -1,5 +1,5 @@
 -- What a seat owns after a SWAP of what its operation has made.
-use Rattle.std.proofs.Common.{◌≡◌, ◌∷◌, ◌⊎◌, inl, inr, ℕ, Bool, true, false, List, [], refl, sym, ap, subst, ◌∙◌, map}
+use Rattle.std.proofs.Common.{◌≡◌, ◌∷◌, ◌⊎◌, inl, inr, ℕ, Bool, false, List, [], refl, sym, ap, subst, ◌∙◌, map}
 use Rattle.trie_words.specs.declared.links.Link.{Link}
 use Rattle.machine_model.specs.Beneath.slot_arena.specs.declared.refs.Ref.{Ref}
 use Rattle.machine_model.specs.Beneath.slot_arena.specs.Heaps.{node_at}
@@ -14,11 +14,11 @@ use Rattle.lock_free.specs.declared.swapping.Swapped.TheVariants.{Commits, Fails
 use Rattle.lock_free.specs.Accounts.{bounds_for, gone_on}
 use Rattle.lock_free.specs.Becoming.{Follows, HasBecome}
 use Rattle.lock_free.specs.Exchanging.{given_back, given_up}
-use Rattle.lock_free.specs.Loading.{now, seen, Runs, IsSound, Waited}
+use Rattle.lock_free.specs.Loading.{now, seen, Runs, IsSound}
 use Rattle.lock_free.specs.Making.{with_slot}
 use Rattle.lock_free.specs.Passing.{Later}
 use Rattle.lock_free.specs.Stocks.{Stocked, IsStock, HasSwapped, own_of, own_nodes, made_of, put_back}
-use Rattle.lock_free.specs.Swaps.{IsAtSwap, IsSwapping, HasSwapDone, LeavesOwn, swap_done, is_done}
+use Rattle.lock_free.specs.Swaps.{IsAtSwap, IsSwapping, HasSwapDone, swap_done, is_done}
 use Rattle.lock_free.proofs.Followings.{follows_later}
 use Rattle.lock_free.proofs.Laters.{gone_later, waited_later}
 use Rattle.lock_free.proofs.NewNodes.{all_made_same, own_used}

@@ -16,13 +16,15 @@ use Rattle.machine_model.specs.declared.building.Site.{Site}
 use Rattle.machine_model.specs.declared.building.Site.TheVariants as site
 use Rattle.machine_model.specs.Beneath.slot_arena.specs.declared.nodes.Slot.{Slot}
 use Rattle.lock_free.specs.declared.changing.Edit.{Edit}
-use Rattle.lock_free.specs.Changing.{IsChange}
+use Rattle.lock_free.specs.Changing.{IsChange, IsNoTomb}
 use Rattle.machine_model.specs.declared.lines.Line.{Line}
 use Rattle.machine_model.specs.declared.lines.Line.TheVariants as line
 use Rattle.machine_model.specs.declared.lines.Purpose.TheVariants as purpose
 use Rattle.machine_model.specs.declared.operations.Operation.{Operation}
 use Rattle.machine_model.specs.Building.{changed}
 use Rattle.machine_model.specs.Calls.{key_of, value_of}
+use Rattle.machine_model.specs.Climbing.{climbed}
+use Rattle.machine_model.specs.Operations.{after_update}
 use Rattle.machine_model.specs.Paths.{current, depth_of, start_of}
 use Rattle.machine_model.specs.Swapping.{swapping}
 use Rattle.lock_free.specs.declared.building.Builder.{Builder}
@@ -72,6 +74,7 @@ pub record HasFresh (before : View) (path : List Ref) (main : Ref) (former : Opt
   pub flag : ℕ
   pub node_is : node_at (now after).heap fresh ≡ changed flag (node_at (now after).heap main) its
   pub reached : HasReached before (line.Swap (purpose.Update path former) (swapping (current path) main fresh)) after
+  pub answers : (operation : Operation) → after_update operation path former (node_at (now after).heap fresh) ≡ climbed operation former
 
 -- or no slot was had
 abbrev pub HasBuiltUp : View → List Ref → Ref → Option ℕ → Option ℕ → View → Type 0
@@ -157,7 +160,7 @@ IsAtSite v by given place former single = (path : List Ref) × (main : Ref) × (
 -- the main node is to be changed so, or no slot was had
 abbrev pub HasEditAt : View → List Ref → Ref → Option ℕ → Option Edit → View → Type 0
 HasEditAt before path main former None after = HasStopped before after
-HasEditAt before path main former (Some e) after = (its : Change) × HasReached before (line.Build (build.Main path main its former)) after × IsChange after e its
+HasEditAt before path main former (Some e) after = (its : Change) × HasReached before (line.Build (build.Main path main its former)) after × IsChange after e its × IsNoTomb e
 
 abbrev pub HasEdit : View → Site → Option ℕ → Option Edit → View → Type 0
 HasEdit before place former result after =

@@ -27,6 +27,7 @@ pub mod Stocks
 pub mod SeenEntries
 pub mod Changing
 pub mod BuildingUp
+pub mod Updating
 pub mod GoingDown
 pub mod Holding
 pub mod Repairing

@@ -22,6 +22,7 @@ mod sizes;
 mod stock;
 mod stores;
 mod swapping;
+mod updating;
 
 pub use accounts::{Account, Known, Owned};
 pub use building::{Builder, build};
@@ -46,3 +47,4 @@ pub use sizes::Sizes;
 pub use stock::{OwnNode, Stock, take};
 pub use stores::{Tried, draft, make, make_root, try_take};
 pub use swapping::{Swapped, swap, swap_made};
+pub use updating::update;
