@@ -109,3 +109,4 @@ mod OnLines
 mod NextEntries
 mod RepairLooks
 mod Updates
+mod AfterChanges

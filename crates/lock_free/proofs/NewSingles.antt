@@ -35,6 +35,7 @@ use Rattle.lock_free.specs.Holding.{IsOn}
 use Rattle.lock_free.specs.Loading.{now, IsAt, IsSound}
 use Rattle.lock_free.specs.Nodes.{is_single}
 use Rattle.lock_free.specs.SeenEntries.{entry_to, HasMadeNext}
+use Rattle.lock_free.proofs.AfterChanges.{after_changed, is_answered}
 use Rattle.lock_free.proofs.ChangedMains.{its_node, at_make, kind, known_node}
 use Rattle.lock_free.proofs.Followings.{main_node_on}
 use Rattle.lock_free.proofs.OnLines.{line_is}
@@ -58,28 +59,6 @@ one_place v path other main its place former p q =
     let same = ap parts_in (sym (line_is v (line.Build (build.Single path main place former)) p q.0 q.1) ∙ q.2) in (ap (λ (x : List Ref × Ref). x.0) same, ap (λ (x : List Ref × Ref). x.1) same)
 
 -- ---- its last line, after others
-
-no_entomb : (w : View) (single : Ref) (e : Edit) → IsChange w e (change.Entomb single) → IsNoTomb e → ⊥
-no_entomb w single (edit.Insert entry) is kept = is
-no_entomb w single (edit.Update position entry) is kept = is
-no_entomb w single (edit.Remove position) is kept = is
-no_entomb w single (edit.Entomb name) is kept = kept
-
--- a change that makes no tomb is answered
-is_answered : (w : View) (o : Operation) (path : List Ref) (former : Option ℕ) (flag : ℕ) (node : Node) (c : Change) (e : Edit) → is_branch_or_list node ≡ true → IsChange w e c → IsNoTomb e →
-    after_update o path former (changed flag node c) ≡ climbed o former
-is_answered w o path former flag (Branch bitmap es) (change.Insert single) e branch is kept = refl
-is_answered w o path former flag (Branch bitmap es) (change.Update position other) e branch is kept = refl
-is_answered w o path former flag (Branch bitmap es) (change.Remove position) e branch is kept = refl
-is_answered w o path former flag (Branch bitmap es) (change.Entomb single) e branch is kept = absurd (no_entomb w single e is kept)
-is_answered w o path former flag (Listed es) (change.Insert single) e list is kept = refl
-is_answered w o path former flag (Listed es) (change.Update position other) e list is kept = refl
-is_answered w o path former flag (Listed es) (change.Remove position) e list is kept = refl
-is_answered w o path former flag (Listed es) (change.Entomb single) e list is kept = absurd (no_entomb w single e is kept)
-is_answered w o path former flag (Single key value) c e none is kept = absurd (true≢false (sym none))
-is_answered w o path former flag (Indirection generation main) c e none is kept = absurd (true≢false (sym none))
-is_answered w o path former flag (Tomb single) c e none is kept = absurd (true≢false (sym none))
-
 
 module _ (n : ℕ) (v w : View) (sound_w : IsSound n w) (x : Line) (at : IsOn v x) (by : Builder) (given : Given) (path : List Ref) (main : Ref) (b : IsBuilder v by path) (m : IsMain v path main given)
     (its : Change) (former : Option ℕ) (h : HasReached v (line.Build (build.Main path main its former)) w) (e : Edit) (is : IsChange w e its) (flag : ℕ) (flag_is : flag ≡ flag_of by.hash by.depth) where
@@ -120,9 +99,11 @@ module _ (n : ℕ) (v w : View) (sound_w : IsSound n w) (x : Line) (at : IsOn v 
             (sym (main_node_on w after new.become.follows main m_then.header.slot m_then.header.used m_then.header.is_main));
         reached = reached_both v w after (line.Build (build.Main path main its former)) (line.Swap (purpose.Update path former) (swapping (current path) main new.made)) h
             (reached_new w after (line.Build (build.Main path main its former)) on_main _ name new (line.Swap (purpose.Update path former) (swapping (current path) main new.made)) (λ o r. refl));
-        answers = λ o. ap (after_update o path former) new.node_is
-            ∙ is_answered w o path former (flag_in (now w) (record on_main.0 { is_marked = on_main.1.0 }) path) (node_at (now w).heap main) its e
-            (subst (λ x. is_branch_or_list x ≡ true) (sym (known_node n w sound_w given.link.main given.header.shape flag e changing)) (kind n w sound_w given.link.main given.header.shape flag e changing)) is kept;
+        answers = λ o.
+            ap (after_update o path former) new.node_is
+            ∙ after_changed o path former (flag_in (now w) (record on_main.0 { is_marked = on_main.1.0 }) path) (node_at (now w).heap main) its
+            (subst (λ x. is_branch_or_list x ≡ true) (sym (known_node n w sound_w given.link.main given.header.shape flag e changing)) (kind n w sound_w given.link.main given.header.shape flag e changing))
+            ∙ is_answered o path former w e its is kept;
       }
 
 -- ---- its first line

@@ -7,17 +7,19 @@ use Rattle.machine_model.specs.declared.building.BuildLine.{BuildLine}
 use Rattle.machine_model.specs.declared.lines.Line.{Line}
 use Rattle.machine_model.specs.declared.lines.Line.TheVariants as line
 use Rattle.machine_model.specs.declared.operations.Operation.{Operation}
-use Rattle.machine_model.specs.Calls.{key_of, value_of}
+use Rattle.machine_model.specs.Calls.{handle_of, key_of, value_of}
 use Rattle.machine_model.specs.Paths.{current, start_of}
 use Rattle.nodes.specs.Levels.{flag_of}
 use Rattle.lock_free.specs.declared.building.Builder.{Builder}
 use Rattle.lock_free.specs.declared.reading.Given.{Given}
+use Rattle.lock_free.specs.declared.reading.Way.{Way}
 use Rattle.lock_free.specs.declared.rules.View.{View}
 use Rattle.lock_free.specs.Becoming.{HasNew, line_made}
 use Rattle.lock_free.specs.BuildingUp.{grown, HasReached, HasStopped, IsBuilder, IsMain}
 use Rattle.lock_free.specs.GoingDown.{HasStayed, IsFlag}
 use Rattle.lock_free.specs.Holding.{IsOn}
 use Rattle.lock_free.specs.Loading.{now, Runs}
+use Rattle.lock_free.specs.Passing.{IsOnWay}
 use Rattle.lock_free.proofs.Comings.{runs_one}
 use Rattle.lock_free.proofs.Followings.{follows_later, follows_both, link_on, main_on}
 use Rattle.lock_free.proofs.Laters.{later_self}
@@ -84,6 +86,10 @@ module _ (v w : View) (x l : Line) (at : IsOn v x) (h : HasReached v l w) where
     link = link_on v w h.become.follows (current path) main given.link m.link;
     header = main_on v w h.become.follows main given.header m.header;
   }
+
+  pub way_then : (way : Way) → IsOnWay v way → IsOnWay w way
+  way_then way its p r =
+      subst (λ (z : Operation). (z.access ≡ way.access) × (handle_of z.call ≡ way.handle)) (runs_one w (grown h.more l at.0) p (h.become.comes at.0 at.1) r) (its at.0 at.1)
 
 -- the flag of its key
 pub builder_flag : (v : View) (by : Builder) (path : List Ref) → IsBuilder v by path → (flag : ℕ) → flag ≡ flag_of by.hash by.depth → IsFlag v path flag

@@ -47,4 +47,4 @@ pub use sizes::Sizes;
 pub use stock::{OwnNode, Stock, take};
 pub use stores::{Tried, draft, make, make_root, try_take};
 pub use swapping::{Swapped, swap, swap_made};
-pub use updating::update;
+pub use updating::{change_main, update};
