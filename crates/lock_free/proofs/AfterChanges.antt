@@ -6,6 +6,7 @@ use Rattle.machine_model.specs.Beneath.slot_arena.specs.declared.nodes.Node.{Nod
 use Rattle.machine_model.specs.Beneath.slot_arena.specs.declared.nodes.Node.TheVariants.{Branch, Indirection, List as Listed, Single, Tomb}
 use Rattle.machine_model.specs.declared.building.Change.{Change}
 use Rattle.machine_model.specs.declared.building.Change.TheVariants as change
+use Rattle.machine_model.specs.declared.lines.Line.{Line}
 use Rattle.machine_model.specs.declared.operations.Operation.{Operation}
 use Rattle.machine_model.specs.Building.{changed}
 use Rattle.machine_model.specs.Climbing.{climbed}
@@ -14,6 +15,7 @@ use Rattle.proof_memory.specs.Wants.{is_branch_or_list}
 use Rattle.lock_free.specs.declared.changing.Edit.{Edit}
 use Rattle.lock_free.specs.declared.changing.Edit.TheVariants as edit
 use Rattle.lock_free.specs.declared.rules.View.{View}
+use Rattle.lock_free.specs.BuildingUp.{grown}
 use Rattle.lock_free.specs.Changing.{IsChange, IsNoTomb}
 use Rattle.lock_free.specs.Updating.{changed_to}
 
@@ -40,3 +42,10 @@ module _ (o : Operation) (path : List Ref) (former : Option ℕ) where
   is_answered v (edit.Insert entry) (change.Entomb single) is kept = absurd is
   is_answered v (edit.Update position entry) (change.Entomb single) is kept = absurd is
   is_answered v (edit.Remove position) (change.Entomb single) is kept = absurd is
+
+  -- whatever it has made
+  pub grown_to : (more : List Ref) (l : Line) (c : Change) → changed_to path former c (grown more l o) ≡ changed_to path former c o
+  grown_to more l (change.Insert single) = refl
+  grown_to more l (change.Update position other) = refl
+  grown_to more l (change.Remove position) = refl
+  grown_to more l (change.Entomb single) = refl

@@ -106,8 +106,7 @@ module _ (n : ℕ) (before : View) (sound : IsSound n before) (name count : ℕ)
     -- the next one can be seen
     pub position_there : (position : ℕ) → position < count → HasEntries before name count → HasPosition v name position
     position_there position low (r, slot, h, u, kind, is, few, place) =
-        let x = s.stayed.later.nodes r slot u in
-        (
+        let x = s.stayed.later.nodes r slot u in (
           r,
           x.0,
           holds_on before v s.stayed r h,
@@ -156,8 +155,8 @@ module _ (n : ℕ) (before : View) (sound : IsSound n before) (name count : ℕ)
           is ∙ ap (λ m. unowned (entry_of m)) found.code
           ∙ ap unowned (entry_back said (slot_small n middle (subst (IsSound n) g.0.after_is sound_w) e used_w.0 (subst (λ z. IsUsed z e used_w.0) g.0.after_is used_w.1)))
           ∙ ap (λ (z : View). entry_to z e) (sym g.0.after_is)
+      -- one more
 
-    -- one more
   pub one_more : (w : View) (entries : List Entry) (s : SeenSome before name count w entries) → length entries < count → (entry : Entry) →
       ((r : Ref) (slot : Slot) → Holds before r → IsUsed before r slot → is_branch_or_list slot.node ≡ true → count ≡ length (entries_of slot.node) → place_of before.account r ≡ name →
       unowned entry ≡ entry_to w (get_or (entries_of slot.node) (length entries) 0)) → SeenSome before name count w (entries ++ entry ∷ [])
@@ -172,8 +171,11 @@ module _ (n : ℕ) (before : View) (sound : IsSound n before) (name count : ℕ)
           ∙ ap (map (entry_to w)) (sym (take_more (entries_of slot.node) (length entries) 0 (subst (λ k. length entries < k) count_is low)) ∙ ap (λ k. take k (entries_of slot.node)) (sym (length-append entries (entry ∷ []))))
 
   pub all_seen : (v : View) (entries : List Entry) → SeenSome before name count v entries → length entries ≡ count → HasSeenEntries before name count entries v
-  all_seen v entries s all = (s.stayed, λ r slot h u kind is place.
-      s.entries_to r slot h u kind is place ∙ ap (λ rs. map (entry_to v) rs) (take_all (length entries) (entries_of slot.node) (omega (arith, all, is))))
+  all_seen v entries s all = (
+    s.stayed,
+    λ r slot h u kind is place.
+        s.entries_to r slot h u kind is place ∙ ap (λ rs. map (entry_to v) rs) (take_all (length entries) (entries_of slot.node) (omega (arith, all, is))),
+  )
 
 -- ---- a word of them
 

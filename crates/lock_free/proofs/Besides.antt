@@ -178,8 +178,18 @@ module _ (n : ℕ) (v : View) (sound : IsSound n v) (by : Builder) (given : Give
   depth_known = pair_known.1.2
 
   holds_old : Holds v old
-  holds_old = (o, on.1.1, inr (main, m.header.slot, main_at_hand, m.header.used, subst (λ e. Contains (entries_of m.header.slot.node) e) (ap (λ x. get_or (entries_of x) position no_ref) (sym main_node))
-      (Contains-get_or (entries_of m.header.slot.node) position no_ref inside)))
+  holds_old = (
+    o,
+    on.1.1,
+    inr (
+      main,
+      m.header.slot,
+      main_at_hand,
+      m.header.used,
+      subst (λ e. Contains (entries_of m.header.slot.node) e) (ap (λ x. get_or (entries_of x) position no_ref) (sym main_node))
+          (Contains-get_or (entries_of m.header.slot.node) position no_ref inside),
+    ),
+  )
 
   -- ---- its entry is seen
 

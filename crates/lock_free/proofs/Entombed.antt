@@ -62,8 +62,7 @@ module _ (n : ℕ) (v : View) (sound : IsSound n v) (name : Name) (what : Shape)
 
     pub tomb_ready : (r : Ref) × IsAt v (act.Make (Tomb r)) × IsPlaced v r single.slot
     tomb_ready =
-        let u = live_in_use v.sizes v.account sound.bounds left.0 (used h.its left.1 (claims n v sound name what flag e h).1.1.1) in
-        (
+        let u = live_in_use v.sizes v.account sound.bounds left.0 (used h.its left.1 (claims n v sound name what flag e h).1.1.1) in (
           left.0,
           subst (λ x. IsAt v (act.Make x))
               (ap (λ c. changed (flag_in (now v) (o n v sound name what flag e h) h.path) (node_at (now v).heap h.main) c) left.1

@@ -110,3 +110,4 @@ mod NextEntries
 mod RepairLooks
 mod Updates
 mod AfterChanges
+mod ChangedSwaps

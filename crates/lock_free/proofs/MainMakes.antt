@@ -96,9 +96,12 @@ module _ (v : View) (entries : List Entry) (refs : List Ref) (to : AreEntriesTo 
   entry_there k r at =
       let inside : k < length entries = subst (λ m. k < m) (sym same_length) (slice_get_within refs k r at) in
       let some = slice_get-get_or entries k (entry_to v r) inside in
-      let e = get_or entries k (entry_to v r) in
-      (e, some, same_Some (unowned e) (entry_to v r) (ap (option_map unowned) (sym some) ∙ sym (slice_get-map unowned entries k) ∙ ap (λ xs. slice_get xs k) to ∙ slice_get-map (entry_to v) refs k
-      ∙ ap (option_map (entry_to v)) at))
+      let e = get_or entries k (entry_to v r) in (
+        e,
+        some,
+        same_Some (unowned e) (entry_to v r) (ap (option_map unowned) (sym some) ∙ sym (slice_get-map unowned entries k) ∙ ap (λ xs. slice_get xs k) to ∙ slice_get-map (entry_to v) refs k
+            ∙ ap (option_map (entry_to v)) at),
+      )
 
   -- and the node at the position of an entry
   pub node_there : (k : ℕ) (entry : Entry) → slice_get entries k ≡ Some entry → (r : Ref) × (slice_get refs k ≡ Some r) × (unowned entry ≡ entry_to v r)

@@ -1,22 +1,17 @@
 -- BUILD, with the new single made: what it makes of the main node.
 use Rattle.std.proofs.Common.{◌≡◌, ℕ, true, false, List, [], Option, Some, None, refl, sym, ap, subst, ◌∙◌}
-use Rattle.std.proofs.lemmas.Bool.{true≢false}
 use Rattle.machine_model.specs.Beneath.slot_arena.specs.declared.refs.Ref.{Ref}
-use Rattle.machine_model.specs.Beneath.slot_arena.specs.declared.nodes.Node.{Node}
-use Rattle.machine_model.specs.Beneath.slot_arena.specs.declared.nodes.Node.TheVariants.{Branch, Indirection, List as Listed, Single, Tomb}
+use Rattle.machine_model.specs.Beneath.slot_arena.specs.declared.nodes.Node.TheVariants.{Single}
 use Rattle.machine_model.specs.Beneath.slot_arena.specs.Heaps.{no_ref, node_at}
 use Rattle.machine_model.specs.declared.actions.Action.TheVariants as act
 use Rattle.machine_model.specs.declared.building.BuildLine.TheVariants as build
 use Rattle.machine_model.specs.declared.building.Change.{Change}
-use Rattle.machine_model.specs.declared.building.Change.TheVariants as change
 use Rattle.machine_model.specs.declared.building.Site.{Site}
 use Rattle.machine_model.specs.declared.lines.Line.{Line}
 use Rattle.machine_model.specs.declared.lines.Line.TheVariants as line
 use Rattle.machine_model.specs.declared.lines.Purpose.TheVariants as purpose
-use Rattle.machine_model.specs.declared.operations.Operation.{Operation}
 use Rattle.machine_model.specs.Building.{changed}
 use Rattle.machine_model.specs.Calls.{value_of}
-use Rattle.machine_model.specs.Climbing.{climbed}
 use Rattle.machine_model.specs.Operations.{after_update, line_action}
 use Rattle.machine_model.specs.Paths.{current, flag_in}
 use Rattle.machine_model.specs.Swapping.{swapping}
@@ -24,7 +19,6 @@ use Rattle.nodes.specs.Levels.{flag_of}
 use Rattle.proof_memory.specs.Wants.{is_branch_or_list}
 use Rattle.lock_free.specs.declared.building.Builder.{Builder}
 use Rattle.lock_free.specs.declared.changing.Edit.{Edit}
-use Rattle.lock_free.specs.declared.changing.Edit.TheVariants as edit
 use Rattle.lock_free.specs.declared.reading.Given.{Given}
 use Rattle.lock_free.specs.declared.rules.View.{View}
 use Rattle.lock_free.specs.Accounts.{place_of}
@@ -88,8 +82,11 @@ module _ (n : ℕ) (v w : View) (sound_w : IsSound n w) (x : Line) (at : IsOn v 
   built_up kept result after built = from result (built (its_node n w sound_w given.link.main given.header.shape flag e changing) (at_make n w sound_w given.link.main given.header.shape flag e changing))
     where
       from : (r : Option ℕ) → HasBuiltNode w (its_node n w sound_w given.link.main given.header.shape flag e changing) r after → HasBuiltUp v path main former r after
-      from None s = (build.Main path main its former, reached_both v w after (line.Build (build.Main path main its former)) (line.Build (build.Main path main its former)) h
-          (reached_stayed w after (line.Build (build.Main path main its former)) on_main s))
+      from None s = (
+        build.Main path main its former,
+        reached_both v w after (line.Build (build.Main path main its former)) (line.Build (build.Main path main its former)) h
+            (reached_stayed w after (line.Build (build.Main path main its former)) on_main s),
+      )
       from (Some name) new = record {
         fresh = new.made;
         placed = new.placed;

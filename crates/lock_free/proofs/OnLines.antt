@@ -34,8 +34,10 @@ by_action state o l generation action = record o {
   line = l;
 }
 
-looked_step : (state : State) (o : Operation) (r : Ref) → action_of state o ≡ act.Look r → generation_from state o o.line ≡ o.generation → operation_after state o ≡ record o { line = line_after
-    state o o.line }
+looked_step : (state : State) (o : Operation) (r : Ref) → action_of state o ≡ act.Look r → generation_from state o o.line ≡ o.generation → operation_after state o ≡ record o {
+  line = line_after
+      state o o.line;
+}
 unfolding by_action
 looked_step state o r is same =
     ap (by_action state o (line_after state o o.line) (generation_from state o o.line)) is ∙ ap (λ g. by_action state o (line_after state o o.line) g (act.Look r)) same

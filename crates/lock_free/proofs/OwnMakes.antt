@@ -64,8 +64,7 @@ module _ (before : View) (class name : ℕ) (mid : View) (slot : HasSlot before 
     pub ready : (word value : ℕ) (own : Bool) → length (entries_of node) ≤ 32 → 2 * name ≤ word → word < 2 * name + words_in class →
         DraftsNode d.account (now d).heap (over_of p.operation.line) (Drafted d.drafts word value) name own node → IsAtMake d word value
     ready word value own small low high drafts =
-        let q = at_there (act.Make node) p in
-        (
+        let q = at_there (act.Make node) p in (
           node,
           slot.last.0,
           name,
@@ -168,8 +167,7 @@ module _ (n : ℕ) (before : View) (sound : IsSound n before) (name : ℕ) (mid 
 
   pub link_ready : (value : ℕ) → value ≡ link_code (record { generation = generation; main = main }) → IsAtMake mid (2 * name) value
   link_ready value is =
-      ready before 0 name mid slot mid refl (Indirection generation r) p refl (2 * name) value main.own (omega arith) (omega arith) (omega arith)
-      (
+      ready before 0 name mid slot mid refl (Indirection generation r) p refl (2 * name) value main.own (omega arith) (omega arith) (omega arith) (
         small,
         (
           λ e. ap (λ k. link_code (record { generation = generation; main = record { slot = k; own = main.own } })) place ∙ sym is,

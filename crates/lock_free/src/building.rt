@@ -64,7 +64,16 @@ pub fn build<R: Wait>(
     let change = edit_for(rt, words, actor, stock, by, given, site, former, single)?;
     let flag = flag_of(by.hash, by.depth);
     let main = given.link.main;
-    build_main(rt, words, actor, stock, main, given.header.shape, flag, change)
+    build_main(
+        rt,
+        words,
+        actor,
+        stock,
+        main,
+        given.header.shape,
+        flag,
+        change,
+    )
 }
 
 /// The change of the main node for this new single, with what leads to it where it stands beside another one.

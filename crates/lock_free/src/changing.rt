@@ -80,7 +80,15 @@ fn build_branch<R: Wait>(
     let mut entries = see_entries(words, actor, main.slot, count, main.own);
     apply(&mut entries, position_of(flag, bitmap), change);
     let bitmap = edited_bitmap(bitmap, flag, change);
-    make_branch(rt, words, actor, stock, bitmap, &entries, Previous::Pending(main))
+    make_branch(
+        rt,
+        words,
+        actor,
+        stock,
+        bitmap,
+        &entries,
+        Previous::Pending(main),
+    )
 }
 
 /// Makes a list from the one of this name, with so many singles.

@@ -70,10 +70,7 @@ impl Free {
         ensures most { (class : ℕ) → length (pool_of self.now class) ≤ result }
         ensures fits { result ≤ 128 }
     {
-        self.small
-            .len()
-            .max(self.medium.len())
-            .max(self.wide.len())
+        self.small.len().max(self.medium.len()).max(self.wide.len())
     }
 
     /// One slot more, the next one of its class.
@@ -194,7 +191,13 @@ impl Stock {
 }
 
 /// A slot of this class for the next node: the last of those that are free then. None where all were handed out.
-pub fn take<R: Wait>(rt: &R, words: &Words, actor: &mut Actor, stock: &mut Stock, class: u32) -> Option<u32>
+pub fn take<R: Wait>(
+    rt: &R,
+    words: &Words,
+    actor: &mut Actor,
+    stock: &mut Stock,
+    class: u32,
+) -> Option<u32>
     requires table { actor.old.table_id ≡ words.now.table_id }
     requires sound { IsSound words.now.table_id.words actor.old.me.0 }
     requires stock { IsStock stock.old actor.old.me.0 }

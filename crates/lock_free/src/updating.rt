@@ -41,7 +41,17 @@ pub fn update<R: Wait, A: AsksRoot>(
     ensures updated { HasUpdated actor.old.me.0 former result actor.new.me.0 }
 {
     let fresh = build(rt, words, actor, stock, by, given, site, former)?;
-    Some(swap_made(rt, asker, words, actor, stock, way, indirection, given.link, fresh))
+    Some(swap_made(
+        rt,
+        asker,
+        words,
+        actor,
+        stock,
+        way,
+        indirection,
+        given.link,
+        fresh,
+    ))
 }
 
 /// Makes this change of the main node that READ gave, where the operation's key has this flag, and swaps it in: the operation is
@@ -70,6 +80,25 @@ pub fn change_main<R: Wait, A: AsksRoot>(
     ensures changed { HasChanged actor.old.me.0 result actor.new.me.0 }
 {
     let main = given.link.main;
-    let fresh = build_main(rt, words, actor, stock, main, given.header.shape, flag, change)?;
-    Some(swap_made(rt, asker, words, actor, stock, way, indirection, given.link, fresh))
+    let fresh = build_main(
+        rt,
+        words,
+        actor,
+        stock,
+        main,
+        given.header.shape,
+        flag,
+        change,
+    )?;
+    Some(swap_made(
+        rt,
+        asker,
+        words,
+        actor,
+        stock,
+        way,
+        indirection,
+        given.link,
+        fresh,
+    ))
 }

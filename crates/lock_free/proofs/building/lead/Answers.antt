@@ -17,8 +17,7 @@ returns-in_err-link-clause-led g c =
 
 pub loop-n-init : goal.loop-n-init
 loop-n-init g c =
-    let deep = c.requires.at.7 in
-    (
+    let deep = c.requires.at.7 in (
       c.make_link.ensures.table,
       c.make_link.ensures.sound,
       c.make_link.ensures.stock,
@@ -61,8 +60,7 @@ returns-in_err-link-2-clause-led g c =
 pub loop-n-preserved : goal.loop-n-preserved
 loop-n-preserved g c =
     let (t, sound, stock, leads, low, top) = c.loop-n.invariant in
-    let more = c.loop-n-test.true in
-    (
+    let more = c.loop-n-test.true in (
       c.make_link-in-loop-n.ensures.table ∙ c.make_rung.ensures.table ∙ t,
       c.make_link-in-loop-n.ensures.sound,
       c.make_link-in-loop-n.ensures.stock,

@@ -8,8 +8,7 @@ use Rattle.lock_free.proofs.entries.see_entries.Goals as goal
 pub loop-n-init : goal.loop-n-init
 loop-n-init c =
     let none = c.new-entries.ensures in
-    let all = c.div_ceil-n-end.ensures in
-    (
+    let all = c.div_ceil-n-end.ensures in (
       refl,
       c.requires.sound,
       subst (SeenSome c.args.actor.now.me.0 c.args.main c.args.count c.args.actor.now.me.0) (sym none) (seen_none c.args.actor.now.me.0 c.args.main c.args.count),
@@ -33,8 +32,7 @@ loop-n-preserved c =
     let few : 2 * c.loop-n.n < c.args.count = omega (arith, n, least) in
     let v = c.args.actor.now.me.0 in
     let w = c.see_pair-pair.new.actor.me.0 in
-    let pushed = c.push.ensures.items in
-    (
+    let pushed = c.push.ensures.items in (
       c.see_pair-pair.ensures.table ∙ t,
       c.see_pair-pair.ensures.sound,
       elim c.if-n-count.branch [

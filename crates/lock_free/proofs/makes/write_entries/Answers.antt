@@ -13,8 +13,7 @@ draft-requires-clause-own c =
 pub loop-n-preserved : goal.loop-n-preserved
 loop-n-preserved c =
     let (t, s, h, few, most, low) = c.loop-n.invariant in
-    let n = c.loop-n-test.true in
-    (
+    let n = c.loop-n-test.true in (
       c.draft.ensures.table ∙ t,
       c.draft.ensures.sound,
       one_written c.args.actor.now.me.0 c.args.slot c.args.entries.now c.loop-n.n c.loop-n.actor.me.0 h c.draft.new.actor.me.0

@@ -1,6 +1,6 @@
 use Rattle.std.proofs.Common.{sym, subst}
 use Rattle.lock_free.specs.Updating.{HasChanged}
-use Rattle.lock_free.proofs.Updates.{no_change, change_way, change_ready, change_done}
+use Rattle.lock_free.proofs.ChangedSwaps.{no_change, change_way, change_ready, change_done}
 use Rattle.lock_free.proofs.updating.change_main.Goals as goal
 
 pub build_main-requires-clause-at : goal.build_main-requires-clause-at
