@@ -1,5 +1,6 @@
 -- BUILD beside another single: what is made first, for both.
-use Rattle.std.proofs.Common.{◌≡◌, ◌<◌, ◌≤◌, ◌+◌, ◌-◌, ◌==◌, ◌∷◌, inl, inr, ℕ, zero, suc, Bool, true, false, List, [], Option, Some, None, refl, sym, ap, ap₂, subst, ◌∙◌, length, Contains, get_or, if◌then◌else◌, arith}
+use Rattle.std.proofs.Common.{◌≡◌, ◌<◌, ◌≤◌, ◌+◌, ◌-◌, ◌==◌, ◌∷◌, inl, inr, ℕ, zero, suc, Bool, true, false}
+use Rattle.std.proofs.Common.{List, [], Option, Some, None, refl, sym, ap, ap₂, subst, ◌∙◌, length, Contains, get_or, if◌then◌else◌, arith}
 use Rattle.std.proofs.lemmas.Bool.{true≢false}
 use Rattle.std.proofs.lemmas.List.Elements.{Contains-get_or, Contains-append_left, Contains-append_right}
 use Rattle.arrayvec.specs.ArrayVec.{ArrayVec}
@@ -226,7 +227,9 @@ module _ (n : ℕ) (v : View) (sound : IsSound n v) (by : Builder) (given : Give
           (x.0, x.1, x.2.1 ∙ ap (with_main_word x.2.0) (sym (node_is (now v) old old_used.0 old_used.1) ∙ old_node))
 
       key_is : key ≡ beside.other
-      key_is = k.1 old (holds_on v v1 g.0 old holds_old) (ap (λ (e : Entry). e.slot) (sym seen_to)) old_slot.0 beside.other beside.own (subst (λ z. IsUsed z old old_slot.0) k.0.after_is old_slot.1) old_slot.2
+      key_is =
+          k.1 old (holds_on v v1 g.0 old holds_old) (ap (λ (e : Entry). e.slot) (sym seen_to)) old_slot.0 beside.other beside.own
+          (subst (λ z. IsUsed z old old_slot.0) k.0.after_is old_slot.1) old_slot.2
 
       on2 : IsOn v2 l
       on2 = stays_on v l on v2 stayed

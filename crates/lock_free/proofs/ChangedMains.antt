@@ -104,7 +104,8 @@ module _ (n : ℕ) (v : View) (sound : IsSound n v) (name : Name) (what : Shape)
   main_placed = ((h.known.slot, h.known.used), h.names.place)
 
   -- what the change names is in use
-  pub change_on : (w : View) (s : HasStayed v w) (d : Edit) (c : Change) (former : Option ℕ) → AllHold (IsLive (now v)) (now v).heap (change_wants h.main (flag_on v.sizes.hash o.call h.path) former c) →
+  pub change_on : (w : View) (s : HasStayed v w) (d : Edit) (c : Change) (former : Option ℕ) → AllHold (IsLive (now v)) (now v).heap
+      (change_wants h.main (flag_on v.sizes.hash o.call h.path) former c) →
       IsChange v d c → IsChange w d c
   change_on w s (edit.Insert entry) (change.Insert single) former wants is = is ∙ sym (still w s single (safe_of wants.0))
     where

@@ -93,7 +93,8 @@ module _ (v : View) (by : Builder) (path : List Ref) (main : Ref) (position : �
 
     pub rung_reached : HasReached v (line.Build (build.Link path main position rung_new.made depth)) w
     rung_reached =
-        reached_new v w (line.Build (build.Rung path main position below depth)) at (rung by.hash depth below) name rung_new (line.Build (build.Link path main position rung_new.made depth)) (λ o r. refl)
+        reached_new v w (line.Build (build.Rung path main position below depth)) at (rung by.hash depth below) name rung_new
+        (line.Build (build.Link path main position rung_new.made depth)) (λ o r. refl)
 
 -- ---- level after level
 
@@ -225,7 +226,10 @@ module _ (size : ℕ) (before : View) (by : Builder) (depth name0 : ℕ) (at : I
             elsewhere (λ y z p. IsLeading before by y z p (depth + by.depth + 1 - (n + 1)) name2 x) (record {
               link = (link_new w by path main position new.made (depth + by.depth - n) there_w builder_w x name2 next).made;
               entry = link_entry w x by.start new.made name2 (link_new w by path main position new.made (depth + by.depth - n) there_w builder_w x name2 next);
-              reached = subst (λ e. HasReached before (after_link path main position e (link_new w by path main position new.made (depth + by.depth - n) there_w builder_w x name2 next).made) x) (omega arith)
-                  (reached_both before w x at_link (after_link path main position (depth + by.depth - n) (link_new w by path main position new.made (depth + by.depth - n) there_w builder_w x name2 next).made)
+              reached =
+                  subst (λ e. HasReached before (after_link path main position e (link_new w by path main position new.made (depth + by.depth - n) there_w builder_w x name2 next).made)
+                  x) (omega arith)
+                  (reached_both before w x at_link (after_link path main position (depth + by.depth - n)
+                  (link_new w by path main position new.made (depth + by.depth - n) there_w builder_w x name2 next).made)
                   on_link (link_reached w by path main position new.made (depth + by.depth - n) there_w builder_w x name2 next));
             }) q m c k other

@@ -117,7 +117,15 @@ mark_allowed sizes size id me handle low small not_yet w fits plain =
 -- what is sound stays so
 by_made : (words : ℕ) (before : View) (handle : ℕ) (made : Bool) (after : View) → HasMarked before handle made after → IsSound words before → IsSound words after
 by_made words before handle true after h sound =
-    subst (IsSound words) (sym (h.0 refl)) (record { size = sound.size; range = sound.range; bounds = sound.bounds; keys = sound.keys; counted = sound.counted; inside = sound.inside; free = sound.free })
+    subst (IsSound words) (sym (h.0 refl)) (record {
+      size = sound.size;
+      range = sound.range;
+      bounds = sound.bounds;
+      keys = sound.keys;
+      counted = sound.counted;
+      inside = sound.inside;
+      free = sound.free;
+    })
 by_made words before handle false after h sound = subst (IsSound words) (sym (h.1 refl)) sound
 
 pub mark_sound : (words : ℕ) (before : View) (handle : ℕ) (made : Bool) (after : View) → HasMarked before handle made after → IsSound words before → IsSound words after

@@ -55,7 +55,8 @@ one_place v path other main its place former p q =
 -- ---- its last line, after others
 
 module _ (n : ℕ) (v w : View) (sound_w : IsSound n w) (x : Line) (at : IsOn v x) (by : Builder) (given : Given) (path : List Ref) (main : Ref) (b : IsBuilder v by path) (m : IsMain v path main given)
-    (its : Change) (former : Option ℕ) (h : HasReached v (line.Build (build.Main path main its former)) w) (e : Edit) (is : IsChange w e its) (flag : ℕ) (flag_is : flag ≡ flag_of by.hash by.depth) where
+    (its : Change) (former : Option ℕ) (h : HasReached v (line.Build (build.Main path main its former)) w) (e : Edit) (is : IsChange w e its) (flag : ℕ)
+    (flag_is : flag ≡ flag_of by.hash by.depth) where
   on_main : IsOn w (line.Build (build.Main path main its former))
   on_main = reached_on v w x (line.Build (build.Main path main its former)) at h
 
@@ -79,7 +80,8 @@ module _ (n : ℕ) (v w : View) (sound_w : IsSound n w) (x : Line) (at : IsOn v 
 
   pub built_up : IsNoTomb e → (result : Option ℕ) (after : View) → HasBuilt w result after → HasBuiltUp v path main former result after
   unfolding changing
-  built_up kept result after built = from result (built (its_node n w sound_w given.link.main given.header.shape flag e changing) (at_make n w sound_w given.link.main given.header.shape flag e changing))
+  built_up kept result after built =
+      from result (built (its_node n w sound_w given.link.main given.header.shape flag e changing) (at_make n w sound_w given.link.main given.header.shape flag e changing))
     where
       from : (r : Option ℕ) → HasBuiltNode w (its_node n w sound_w given.link.main given.header.shape flag e changing) r after → HasBuiltUp v path main former r after
       from None s = (
@@ -99,7 +101,8 @@ module _ (n : ℕ) (v w : View) (sound_w : IsSound n w) (x : Line) (at : IsOn v 
         answers = λ o.
             ap (after_update o path former) new.node_is
             ∙ after_changed o path former (flag_in (now w) (record on_main.0 { is_marked = on_main.1.0 }) path) (node_at (now w).heap main) its
-            (subst (λ x. is_branch_or_list x ≡ true) (sym (known_node n w sound_w given.link.main given.header.shape flag e changing)) (kind n w sound_w given.link.main given.header.shape flag e changing))
+            (subst (λ x. is_branch_or_list x ≡ true) (sym (known_node n w sound_w given.link.main given.header.shape flag e changing))
+            (kind n w sound_w given.link.main given.header.shape flag e changing))
             ∙ is_answered o path former w e its is kept;
       }
 

@@ -106,7 +106,16 @@ module _ (sizes : Sizes) (size id : ℕ) (me : Me Call View) (class : ℕ) (smal
 pub taken_sound : (words : ℕ) (v : View) (class count name : ℕ) → class < 3 → count < slots_in v.sizes class → 2 * name ≡ part_of v.sizes class + words_in class * count → IsSound words v →
     IsSound words (with_free v class name)
 taken_sound words v class count name small few is h =
-    record { size = h.size; range = h.range; bounds = h.bounds; keys = h.keys; counted = h.counted; inside = h.inside; free = λ b n f. free_then b n f.0 (was_free v.pool class name small b n f.0 f.1) }
+    record {
+      size = h.size;
+      range = h.range;
+      bounds = h.bounds;
+      keys = h.keys;
+      counted = h.counted;
+      inside = h.inside;
+      free = λ b n f. free_then b n f.0
+          (was_free v.pool class name small b n f.0 f.1);
+    }
   where
     free_then : (b n : ℕ) → b < 3 → Contains (pool_of v.pool b) n ⊎ ((b ≡ class) × (name ≡ n)) → 2 * n + words_in b ≤ words_of v.sizes
     free_then b n low (inl old) = h.free b n (low, old)

@@ -80,7 +80,15 @@ pass_allowed sizes size id me handle looked low would =
 -- what is sound stays so
 pub pass_sound : (words : ℕ) (before : View) (handle looked : ℕ) (out : Bool) (after : View) → HasPassed before handle looked out after → IsSound words before → IsSound words after
 pass_sound words before handle looked true after h sound =
-    subst (IsSound words) (sym (h.0 refl)) (record { size = sound.size; range = sound.range; bounds = sound.bounds; keys = sound.keys; counted = sound.counted; inside = sound.inside; free = sound.free })
+    subst (IsSound words) (sym (h.0 refl)) (record {
+      size = sound.size;
+      range = sound.range;
+      bounds = sound.bounds;
+      keys = sound.keys;
+      counted = sound.counted;
+      inside = sound.inside;
+      free = sound.free;
+    })
 pass_sound words before handle looked false after h sound = subst (IsSound words) (sym (h.1 refl)) sound
 
 -- the word is one of the table's

@@ -37,7 +37,8 @@ reached_both u v w l m p q = record {
 pub reached_on : (v w : View) (x l : Line) → IsOn v x → HasReached v l w → IsOn w l
 reached_on v w x l at h = (grown h.more l at.0, h.become.comes at.0 at.1, refl)
 
-pub reached_new : (v w : View) (l : Line) → IsOn v l → (node : Node) (name : ℕ) (h : HasNew v node name w) (next : Line) → ((o : Operation) → Runs v o → line_made (now v) o l h.made ≡ next) → HasReached
+pub reached_new : (v w : View) (l : Line) → IsOn v l → (node : Node) (name : ℕ) (h : HasNew v node name w)
+    (next : Line) → ((o : Operation) → Runs v o → line_made (now v) o l h.made ≡ next) → HasReached
     v next w
 reached_new v w l at node name h next is = record {
   more = h.made ∷ [];

@@ -124,7 +124,12 @@ root_allowed sizes size id me generation (main, rest, name, own, p, w) =
             (kept_after me.0 generation main rest name own p w s kept id at e),
         (
           (
-            λ h. (kept.account, waited_so me.0 s kept id at, took_after me.0 generation main rest name own p w s kept id at e, (main, rest, name, own, p, w, refl, added_after me.0 generation main rest name own p w s kept id at e)),
+            λ h. (
+              kept.account,
+              waited_so me.0 s kept id at,
+              took_after me.0 generation main rest name own p w s kept id at e,
+              (main, rest, name, own, p, w, refl, added_after me.0 generation main rest name own p w s kept id at e),
+            ),
             λ h. absurd (true≢false (sym (eq-eqb (slice_index s.words generation_word) generation e) ∙ h)),
           ),
           λ h. sound_after me.0 generation main rest name own p w s kept id at e,

@@ -133,7 +133,8 @@ HasLedOrNone before path main position None after = HasStopped before after
 HasLedOrNone before path main position (Some name) after = HasLed before path main position name after
 
 abbrev pub HasLinked : View → ℕ → Option ℕ → View → Type 0
-HasLinked before depth result after = (path : List Ref) (main below : Ref) (position : ℕ) → IsOn before (line.Build (build.Link path main position below depth)) → HasLedOrNone before path main position
+HasLinked before depth result after =
+    (path : List Ref) (main below : Ref) (position : ℕ) → IsOn before (line.Build (build.Link path main position below depth)) → HasLedOrNone before path main position
     result after
 
 abbrev pub HasPaired : View → ℕ → Option ℕ → View → Type 0

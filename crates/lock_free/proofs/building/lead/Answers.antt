@@ -21,7 +21,8 @@ loop-n-init g c =
       c.make_link.ensures.table,
       c.make_link.ensures.sound,
       c.make_link.ensures.stock,
-      first_leads c.args.words.now.table_id.words c.args.actor.now.me.0 c.args.by c.args.depth c.args.main c.requires.at c.make_link.new.actor.me.0 c.in_ok-link.link (c.in_ok-link.ensures {u = tt}).made,
+      first_leads c.args.words.now.table_id.words c.args.actor.now.me.0 c.args.by c.args.depth c.args.main c.requires.at c.make_link.new.actor.me.0 c.in_ok-link.link
+          (c.in_ok-link.ensures {u = tt}).made,
       omega arith,
       omega (arith, deep),
     )

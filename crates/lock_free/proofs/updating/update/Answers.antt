@@ -10,7 +10,8 @@ returns-in_err-fresh-clause-updated g c =
 
 pub swap_made-requires-clause-way : goal.swap_made-requires-clause-way
 swap_made-requires-clause-way g c =
-    way_on c.args.actor.now.me.0 c.build.new.actor.me.0 c.args.by c.args.given c.args.site c.args.former c.args.indirection c.requires.at c.in_ok-fresh.fresh (c.in_ok-fresh.ensures {u = tt}).built c.args.way c.requires.way
+    way_on c.args.actor.now.me.0 c.build.new.actor.me.0 c.args.by c.args.given c.args.site c.args.former c.args.indirection c.requires.at c.in_ok-fresh.fresh
+    (c.in_ok-fresh.ensures {u = tt}).built c.args.way c.requires.way
 
 pub swap_made-requires-clause-swapping : goal.swap_made-requires-clause-swapping
 swap_made-requires-clause-swapping g c =
@@ -18,5 +19,6 @@ swap_made-requires-clause-swapping g c =
 
 pub returns-clause-updated : goal.returns-clause-updated
 returns-clause-updated g c =
-    update_done c.args.actor.now.me.0 c.build.new.actor.me.0 c.args.by c.args.given c.args.site c.args.former c.args.indirection c.requires.at c.in_ok-fresh.fresh (c.in_ok-fresh.ensures {u = tt}).built
+    update_done c.args.actor.now.me.0 c.build.new.actor.me.0 c.args.by c.args.given c.args.site c.args.former c.args.indirection c.requires.at c.in_ok-fresh.fresh
+    (c.in_ok-fresh.ensures {u = tt}).built
     c.swap_made.result c.swap_made.new.actor.me.0 c.swap_made.ensures.done
