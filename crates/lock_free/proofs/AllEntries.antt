@@ -1,5 +1,6 @@
 -- The entries of a main node, word after word.
-use Rattle.std.proofs.Common.{◌≡◌, ◌<◌, ◌*◌, ◌+◌, ◌/◌, ◌++◌, ◌∷◌, ◌⊎◌, ℕ, Bool, true, false, inl, inr, List, [], refl, sym, ap, subst, ◌∙◌, length, map, take, take_all, get_or, slice_get, Contains, arith, length-append, min, ◌%◌, if◌then◌else◌, eq-eqb, ne_eqb}
+use Rattle.std.proofs.Common.{◌≡◌, ◌<◌, ◌*◌, ◌+◌, ◌/◌, ◌++◌, ◌∷◌, ◌⊎◌, ℕ, Bool, true, false, inl, inr, List, [], refl}
+use Rattle.std.proofs.Common.{sym, ap, subst, ◌∙◌, length, map, take, take_all, get_or, slice_get, Contains, arith, length-append, min, ◌%◌, if◌then◌else◌, eq-eqb, ne_eqb}
 use Rattle.std.proofs.lemmas.Bool.{true≢false}
 use Rattle.std.proofs.lemmas.List.{map-append, take_more, length-take, get_or-take}
 use Rattle.std.proofs.lemmas.List.Elements.{Contains-get_or}
@@ -136,7 +137,8 @@ module _ (n : ℕ) (before : View) (sound : IsSound n before) (name count : ℕ)
               (λ e c. (let x = used_there before sound r slot h u e (taken_from (length entries) (entries_of slot.node) e c) in let y = s.stayed.later.nodes e x.0 x.1 in (y.0, y.1))))
 
       -- a half of the pair
-      pub half_seen : (k : ℕ) → k / 2 ≡ position / 2 → k < count → (entry : Entry) → unowned entry ≡ unowned (entry_of (half_in pair k)) → (r : Ref) (slot : Slot) → Holds before r → IsUsed before r slot →
+      pub half_seen : (k : ℕ) → k / 2 ≡ position / 2 → k < count → (entry : Entry) → unowned entry ≡ unowned (entry_of (half_in pair k)) → (r : Ref) (slot : Slot) → Holds before
+          r → IsUsed before r slot →
           is_branch_or_list slot.node ≡ true → count ≡ length (entries_of slot.node) → place_of before.account r ≡ name → unowned entry ≡ entry_to w (get_or (entries_of slot.node) k 0)
       half_seen k beside low entry is r slot h u kind count_is place =
           let x = s.stayed.later.nodes r slot u in
@@ -168,7 +170,8 @@ module _ (n : ℕ) (before : View) (sound : IsSound n before) (name count : ℕ)
           map-append unowned entries (entry ∷ []) ∙ ap (λ xs. xs ++ unowned entry ∷ []) (s.entries_to r slot h u kind count_is place)
           ∙ ap (λ x. map (entry_to w) (take (length entries) (entries_of slot.node)) ++ x ∷ []) (is r slot h u kind count_is place)
           ∙ sym (map-append (entry_to w) (take (length entries) (entries_of slot.node)) (get_or (entries_of slot.node) (length entries) 0 ∷ []))
-          ∙ ap (map (entry_to w)) (sym (take_more (entries_of slot.node) (length entries) 0 (subst (λ k. length entries < k) count_is low)) ∙ ap (λ k. take k (entries_of slot.node)) (sym (length-append entries (entry ∷ []))))
+          ∙ ap (map (entry_to w)) (sym (take_more (entries_of slot.node) (length entries) 0 (subst (λ k. length entries < k) count_is low))
+          ∙ ap (λ k. take k (entries_of slot.node)) (sym (length-append entries (entry ∷ []))))
 
   pub all_seen : (v : View) (entries : List Entry) → SeenSome before name count v entries → length entries ≡ count → HasSeenEntries before name count entries v
   all_seen v entries s all = (
@@ -194,7 +197,8 @@ module _ (size : ℕ) (before : View) (sound : IsSound size before) (name count 
   low_seen low is =
       one_more size before sound name count w entries (seen_still size before sound name count v sound_v entries s w sound_w (2 * n) pair g) (omega (arith, few, here)) low
       (λ r slot h u kind count_is place.
-      half_seen size before sound name count v sound_v entries s w sound_w (2 * n) pair g (2 * n) refl few low (is ∙ ap (λ m. unowned (entry_of m)) (sym (low_half pair n))) r slot h u kind count_is place
+      half_seen size before sound name count v sound_v entries s w sound_w (2 * n) pair g (2 * n) refl few low (is ∙ ap (λ m. unowned (entry_of m)) (sym (low_half pair n))) r slot h u
+      kind count_is place
       ∙ ap (λ k. entry_to w (get_or (entries_of slot.node) k 0)) (sym here_is))
 
   pub high_seen : (low high : Entry) → unowned low ≡ unowned (entry_of pair.low) → unowned high ≡ unowned (entry_of pair.high) → 2 * n + 1 < count →

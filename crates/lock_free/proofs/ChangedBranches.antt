@@ -23,6 +23,7 @@ use Rattle.lock_free.specs.Loading.{now, IsAt, IsSound}
 use Rattle.lock_free.specs.SeenEntries.{HasSeenEntries, IsAtBranch}
 use Rattle.lock_free.proofs.Counts.{entries_counted, entries_few, place_least, room_there}
 use Rattle.lock_free.proofs.GivenBack.{node_is}
+use Rattle.lock_free.proofs.KnownLines.{has_place}
 use Rattle.lock_free.proofs.MainChanges.{refs_edited, branch_changed}
 use Rattle.lock_free.proofs.MainLooks.{branch_says}
 use Rattle.lock_free.proofs.ChangedMains.{flag_is, its_node, size, edited_there, make_there}
@@ -56,7 +57,7 @@ module _ (n : ℕ) (v : View) (sound : IsSound n v) (name : Name) (bitmap : ℕ)
     its_size = size n v sound name (shape.Branch bitmap) flag e h refs refs_are counted few w entries g
 
     pub branch_can : CanEdit entries (position_of flag bitmap) e
-    branch_can = by e h.has_place
+    branch_can = by e (has_place n v sound name (shape.Branch bitmap) flag e h)
       where
         by : (d : Edit) → HasPlaceFor (shape.Branch bitmap) flag d → CanEdit entries (position_of flag bitmap) d
         by (edit.Insert entry) has = (

@@ -18,6 +18,7 @@ use Rattle.lock_free.specs.Loading.{now, IsAt, IsSound}
 use Rattle.lock_free.specs.SeenEntries.{HasSeenEntries, IsAtList}
 use Rattle.lock_free.proofs.Counts.{list_few, list_counted}
 use Rattle.lock_free.proofs.GivenBack.{node_is}
+use Rattle.lock_free.proofs.KnownLines.{has_place}
 use Rattle.lock_free.proofs.MainChanges.{refs_edited, list_changed}
 use Rattle.lock_free.proofs.MainLooks.{list_says}
 use Rattle.lock_free.proofs.ChangedMains.{flag_is, its_node, size, edited_there, make_there}
@@ -43,7 +44,7 @@ module _ (n : ℕ) (v : View) (sound : IsSound n v) (name : Name) (count : ℕ) 
     its_size = size n v sound name (shape.List count) flag e h refs refs_are counted few w entries g
 
     pub list_can : CanEdit entries count e
-    list_can = by e h.has_place
+    list_can = by e (has_place n v sound name (shape.List count) flag e h)
       where
         by : (d : Edit) → HasPlaceFor (shape.List count) flag d → CanEdit entries count d
         by (edit.Insert entry) has = (subst (λ k. k ≤ length entries) (sym (counted ∙ sym its_size)) (omega arith), subst (λ k. k < 32) (counted ∙ sym its_size) has)

@@ -69,7 +69,7 @@ module _ (n : ℕ) (v : View) (sound : IsSound n v) (name : Name) (what : Shape)
   pub claims : AllHold (IsLive (now v)) (now v).heap (line_wants v.sizes.hash h.on.0.call h.on.0.access l)
   claims = finds_now v l h.on n sound
 
-  known_node : node_at (now v).heap h.main ≡ h.known.slot.node
+  pub known_node : node_at (now v).heap h.main ≡ h.known.slot.node
   known_node = node_is (now v) h.main h.known.slot h.known.used
 
   pub kind : is_branch_or_list h.known.slot.node ≡ true
@@ -104,7 +104,8 @@ module _ (n : ℕ) (v : View) (sound : IsSound n v) (name : Name) (what : Shape)
   main_placed = ((h.known.slot, h.known.used), h.names.place)
 
   -- what the change names is in use
-  pub change_on : (w : View) (s : HasStayed v w) (d : Edit) (c : Change) (former : Option ℕ) → AllHold (IsLive (now v)) (now v).heap (change_wants h.main (flag_on v.sizes.hash o.call h.path) former c) →
+  pub change_on : (w : View) (s : HasStayed v w) (d : Edit) (c : Change) (former : Option ℕ) → AllHold (IsLive (now v)) (now v).heap
+      (change_wants h.main (flag_on v.sizes.hash o.call h.path) former c) →
       IsChange v d c → IsChange w d c
   change_on w s (edit.Insert entry) (change.Insert single) former wants is = is ∙ sym (still w s single (safe_of wants.0))
     where
@@ -141,7 +142,6 @@ module _ (n : ℕ) (v : View) (sound : IsSound n v) (name : Name) (what : Shape)
       is_shape = h.is_shape;
       is_flag = λ p r. h.is_flag h.on.0 h.on.1 ∙ flags p r;
       is_change = change_on w s e h.its h.former claims.1.1.1 h.is_change;
-      has_place = h.has_place;
     }
 
     pub main_still : node_at (now w).heap h.main ≡ node_at (now v).heap h.main

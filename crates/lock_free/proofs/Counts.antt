@@ -106,6 +106,7 @@ says_length account k node s (of_branch bitmap entries) = refl
 says_length account k node s (of_tomb single own is) = refl
 says_length account k node s (of_list singles) = refl
 
-pub list_counted : (account : Account) (k : ℕ) (node : Node) (s : Shape) (count : ℕ) (es : ArrayVec Ref) → s ≡ shape.List count → node ≡ Listed es → SaysShape account k node s → count ≡ length es.items
+pub list_counted : (account : Account) (k : ℕ) (node : Node) (s : Shape) (count : ℕ) (es : ArrayVec Ref) → s ≡ shape.List count → node ≡ Listed es → SaysShape account k node
+    s → count ≡ length es.items
 unfolding length_in list_length
 list_counted account k node s count es e is says = ap length_in (sym e) ∙ says_length account k node s says ∙ ap list_length is

@@ -57,7 +57,8 @@ module _ (n : ℕ) (v : View) (sound : IsSound n v) (name : Name) (what : Shape)
     left : (r : Ref) × (h.its ≡ change.Entomb r) × (place_of v.account r ≡ single.slot)
     left = left_in v single h.its (subst (λ d. IsChange v d h.its) is h.is_change)
 
-    used : (c : Change) → c ≡ change.Entomb left.0 → AllHold (IsLive (now v)) (now v).heap (change_wants h.main (flag_on v.sizes.hash (o n v sound name what flag e h).call h.path) h.former c) → IsLive (now v) left.0
+    used : (c : Change) → c ≡ change.Entomb left.0 → AllHold (IsLive (now v)) (now v).heap
+        (change_wants h.main (flag_on v.sizes.hash (o n v sound name what flag e h).call h.path) h.former c) → IsLive (now v) left.0
     used c same wants = safe_of (subst (λ d. AllHold (IsLive (now v)) (now v).heap (change_wants h.main (flag_on v.sizes.hash (o n v sound name what flag e h).call h.path) h.former d)) same wants).0
 
     pub tomb_ready : (r : Ref) × IsAt v (act.Make (Tomb r)) × IsPlaced v r single.slot

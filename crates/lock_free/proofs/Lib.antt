@@ -114,10 +114,17 @@ mod SwapsMade
 mod AllEntries
 mod StockStays
 mod MainChanges
+mod KnownLines
 mod ChangedMains
 mod ChangedBranches
 mod ChangedLists
 mod Entombed
+mod Reachings
+mod NewSingles
+mod Pairs
+mod Leads
+mod Besides
+mod SingleSites
 mod MainLooks
 mod Holding
 mod EntryLooks
@@ -181,3 +188,6 @@ mod OwnKeys
 mod Answered
 mod Seekings
 mod Trials
+mod Updates
+mod AfterChanges
+mod ChangedSwaps

@@ -145,7 +145,8 @@ module _ (before after : State) (S : Ref → Type 0) (stay : Stay before after S
     copied_then (copy.Empty r main) is = ap (copy_if_made its (copy.Empty r main)) next
     copied_then (copy.Cleared r main branch) is = ap (copy_if_made its (copy.Cleared r main branch)) next
 
-    pub made_line : (l : Line) → AllHold S before.heap (line_wants before.limits.hash o.call o.access l) → made_node after (line_action after its l) ≡ Some node → line_after after its l ≡ line_made before
+    pub made_line : (l : Line) → AllHold S before.heap (line_wants before.limits.hash o.call o.access l) → made_node after (line_action after its l) ≡ Some node → line_after after its
+        l ≡ line_made before
         o l made
     made_line (line.Build l) h is = ap (build_if_made after its l) next ∙ built l h
     made_line (line.Renew (renew.Link path main done child)) h is = ap (renew_after_link after path main done) next ∙ renewed_next path main (done ++ made ∷ []) h.1.1.0

@@ -1,5 +1,6 @@
 -- A main node is written in the last free slot of its class: its entries, and its header last.
-use Rattle.std.proofs.Common.{◌≡◌, ◌<◌, ◌≤◌, ◌*◌, ◌+◌, ◌/◌, ◌%◌, ◌^◌, ◌==◌, ◌≢◌, ℕ, Bool, true, false, List, [], Option, Some, None, refl, sym, ap, subst, ◌∙◌, length, Contains, get_or, arith, nat_le, take, take_all, if◌then◌else◌}
+use Rattle.std.proofs.Common.{◌≡◌, ◌<◌, ◌≤◌, ◌*◌, ◌+◌, ◌/◌, ◌%◌, ◌^◌, ◌==◌, ◌≢◌, ℕ, Bool, true, false, List, []}
+use Rattle.std.proofs.Common.{Option, Some, None, refl, sym, ap, subst, ◌∙◌, length, Contains, get_or, arith, nat_le, take, take_all, if◌then◌else◌}
 use Rattle.std.proofs.lemmas.Bool.{leb-true, eqb-true, eqb-false}
 use Rattle.std.proofs.lemmas.List.{length-map}
 use Rattle.std.proofs.lemmas.List.Elements.{All-get_or, All-from_get_or}
@@ -74,7 +75,8 @@ halves_small entries fit k = by (slice_get entries k) refl
 half_back : (entries : List Entry) → AreFit entries → (k : ℕ) →
     half_of (pair_code (record { low = half_at entries (2 * (k / 2)); high = half_at entries (2 * (k / 2) + 1) })) k ≡ half_at entries k
 half_back entries fit k =
-    ap (λ p. half_in p k) (pair_back (record { low = half_at entries (2 * (k / 2)); high = half_at entries (2 * (k / 2) + 1) }) (halves_small entries fit (2 * (k / 2)), halves_small entries fit (2 * (k / 2) + 1)))
+    ap (λ p. half_in p k) (pair_back (record { low = half_at entries (2 * (k / 2)); high = half_at entries (2 * (k / 2) + 1) })
+    (halves_small entries fit (2 * (k / 2)), halves_small entries fit (2 * (k / 2) + 1)))
     ∙ by (k % 2 == 0) refl
   where
     by : (b : Bool) → (k % 2 == 0) ≡ b → half_in (record { low = half_at entries (2 * (k / 2)); high = half_at entries (2 * (k / 2) + 1) }) k ≡ half_at entries k

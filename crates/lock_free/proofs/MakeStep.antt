@@ -186,7 +186,12 @@ make_allowed sizes size id me word value (node, rest, name, own, p, w) =
       made_by me.0 (class_of node) name rest own node kept.account,
       kept_after me.0 word value node rest name own p w s kept id at,
       (
-        (kept.account, waited_so me.0 s kept id at, took_after me.0 word value node rest name own p w s kept id at, (node, rest, name, own, p, w, refl, added_after me.0 word value node rest name own p w s kept id at)),
+        (
+          kept.account,
+          waited_so me.0 s kept id at,
+          took_after me.0 word value node rest name own p w s kept id at,
+          (node, rest, name, own, p, w, refl, added_after me.0 word value node rest name own p w s kept id at),
+        ),
         sound_after me.0 word value node rest name own p w s kept id at,
         refl,
       ),

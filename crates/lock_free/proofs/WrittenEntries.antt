@@ -16,7 +16,8 @@ passes f [] x is c = absurd (omega (arith, c.1))
 passes f (y ∷ ys) x is c = by (f y) refl (first_or_more y ys x c) (passes f ys x is)
   where
     by : (b : Bool) → f y ≡ b → (x ≡ y) ⊎ Contains ys x → (Contains ys x → Contains (filter f ys) x) → Contains (filter f (y ∷ ys)) x
-    by b e (inl same) rest = subst (λ z. Contains (cond z (y ∷ filter f ys) (filter f ys)) x) (sym (ap f (sym same) ∙ is)) (subst (λ z. Contains (y ∷ filter f ys) z) (sym same) (first_there y (filter f ys)))
+    by b e (inl same) rest = subst (λ z. Contains (cond z (y ∷ filter f ys) (filter f ys)) x) (sym (ap f (sym same) ∙ is))
+        (subst (λ z. Contains (y ∷ filter f ys) z) (sym same) (first_there y (filter f ys)))
     by true e (inr more) rest = subst (λ z. Contains (cond z (y ∷ filter f ys) (filter f ys)) x) (sym e) (more_there y (filter f ys) x (rest more))
     by false e (inr more) rest = subst (λ z. Contains (cond z (y ∷ filter f ys) (filter f ys)) x) (sym e) (rest more)
 

@@ -95,7 +95,6 @@ pub record IsChanging (v : View) (name : Name) (what : Shape) (flag : ℕ) (e : 
   pub is_shape : header.shape ≡ what
   pub is_flag : IsFlag v path flag
   pub is_change : IsChange v e its
-  pub has_place : HasPlaceFor what flag e
 
 -- it has made the node, or had no slot for it, and stays where it was
 abbrev pub HasBuiltNode : View → Node → Option ℕ → View → Type 0

@@ -34,6 +34,8 @@ pub mod Becoming
 pub mod Stocks
 pub mod SeenEntries
 pub mod Changing
+pub mod BuildingUp
+pub mod Updating
 pub mod GoingDown
 pub mod CopySteps
 pub mod Walks

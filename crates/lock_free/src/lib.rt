@@ -4,6 +4,7 @@
 
 mod accounts;
 mod asking;
+mod building;
 mod calling;
 mod changing;
 mod cleaning;
@@ -37,10 +38,12 @@ mod stock;
 mod stores;
 mod swapping;
 mod tasks;
+mod updating;
 mod walking;
 
 pub use accounts::{Account, Known, Owned};
 pub use asking::{Named, ask_word, see_generation};
+pub use building::{Builder, build};
 pub use calling::{Denial, Started, cancel, give_up, start};
 pub use changing::{Edit, build_main};
 pub use cleaning::clean_below;
@@ -72,4 +75,5 @@ pub use stock::{OwnNode, Stock, take};
 pub use stores::{Tried, draft, make, make_root, try_take};
 pub use swapping::{Swapped, swap, swap_made};
 pub use tasks::Task;
+pub use updating::{change_main, update};
 pub use walking::walk_root;

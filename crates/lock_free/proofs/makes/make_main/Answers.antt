@@ -8,27 +8,37 @@ pub take-requires-clause-class : goal.take-requires-clause-class
 take-requires-clause-class g c = subst (λ k. k < 3) (sym c.class_for-class.ensures) (small_class (length c.args.entries.now))
 
 pub write_entries-requires-clause-fit : goal.write_entries-requires-clause-fit
-write_entries-requires-clause-fit g c = entries_fit c.args.words.now.table_id.words c.args.actor.now.me.0 c.requires.sound c.args.header.shape c.args.entries.now c.requires.making c.args.header.previous c.requires.over
+write_entries-requires-clause-fit g c =
+    entries_fit c.args.words.now.table_id.words c.args.actor.now.me.0 c.requires.sound c.args.header.shape c.args.entries.now c.requires.making c.args.header.previous c.requires.over
 
 pub write_entries-requires-clause-own : goal.write_entries-requires-clause-own
-write_entries-requires-clause-own g c = own_slot c.args.words.now.table_id.words c.args.actor.now.me.0 c.requires.sound c.args.header.shape c.args.entries.now c.requires.making c.args.header.previous c.requires.over c.in_ok-slot.slot c.take.new.actor.me.0
+write_entries-requires-clause-own g c =
+    own_slot c.args.words.now.table_id.words c.args.actor.now.me.0 c.requires.sound c.args.header.shape c.args.entries.now c.requires.making c.args.header.previous c.requires.over
+    c.in_ok-slot.slot c.take.new.actor.me.0
     (subst (λ k. HasSlot c.args.actor.now.me.0 k c.in_ok-slot.slot c.take.new.actor.me.0) c.class_for-class.ensures (c.in_ok-slot.ensures {u = tt}).slot)
 
 pub to_word-requires : goal.to_word-requires
-to_word-requires g c = header_fits c.args.words.now.table_id.words c.args.actor.now.me.0 c.requires.sound c.args.header.shape c.args.entries.now c.requires.making c.args.header.previous c.requires.over
+to_word-requires g c =
+    header_fits c.args.words.now.table_id.words c.args.actor.now.me.0 c.requires.sound c.args.header.shape c.args.entries.now c.requires.making c.args.header.previous c.requires.over
 
 pub make-requires-clause-making : goal.make-requires-clause-making
-make-requires-clause-making g c = main_ready c.args.words.now.table_id.words c.args.actor.now.me.0 c.requires.sound c.args.header.shape c.args.entries.now c.requires.making c.args.header.previous c.requires.over c.in_ok-slot.slot c.take.new.actor.me.0
+make-requires-clause-making g c =
+    main_ready c.args.words.now.table_id.words c.args.actor.now.me.0 c.requires.sound c.args.header.shape c.args.entries.now c.requires.making c.args.header.previous c.requires.over
+    c.in_ok-slot.slot c.take.new.actor.me.0
     (subst (λ k. HasSlot c.args.actor.now.me.0 k c.in_ok-slot.slot c.take.new.actor.me.0) c.class_for-class.ensures (c.in_ok-slot.ensures {u = tt}).slot)
     c.write_entries.new.actor.me.0 c.write_entries.ensures.written c.to_word.result c.to_word.ensures
 
 pub returns-clause-stock : goal.returns-clause-stock
 returns-clause-stock g c = stock_there c.args.actor.now.me.0 c.class_for-class.result c.in_ok-slot.slot c.take.new.actor.me.0 (c.in_ok-slot.ensures {u = tt}).slot c.write_entries.new.actor.me.0
-    c.write_entries.ensures.written.is c.requires.making.node c.requires.making.making (c.class_for-class.ensures ∙ class_is c.args.words.now.table_id.words c.args.actor.now.me.0 c.requires.sound c.args.header.shape c.args.entries.now c.requires.making c.args.header.previous c.requires.over)
+    c.write_entries.ensures.written.is c.requires.making.node c.requires.making.making
+    (c.class_for-class.ensures ∙ class_is c.args.words.now.table_id.words c.args.actor.now.me.0 c.requires.sound c.args.header.shape c.args.entries.now c.requires.making
+    c.args.header.previous c.requires.over)
     c.args.words.now.table_id.words c.write_entries.ensures.sound _ c.to_word.result c.make.new.actor.me.0 c.make.ensures.made c.take.new.stock c.note.new.self c.take.ensures.stock
     c.note.ensures.sizes c.note.ensures.noted
 
 pub returns-clause-made : goal.returns-clause-made
 returns-clause-made g c = new_there c.args.actor.now.me.0 c.class_for-class.result c.in_ok-slot.slot c.take.new.actor.me.0 (c.in_ok-slot.ensures {u = tt}).slot c.write_entries.new.actor.me.0
-    c.write_entries.ensures.written.is c.requires.making.node c.requires.making.making (c.class_for-class.ensures ∙ class_is c.args.words.now.table_id.words c.args.actor.now.me.0 c.requires.sound c.args.header.shape c.args.entries.now c.requires.making c.args.header.previous c.requires.over)
+    c.write_entries.ensures.written.is c.requires.making.node c.requires.making.making
+    (c.class_for-class.ensures ∙ class_is c.args.words.now.table_id.words c.args.actor.now.me.0 c.requires.sound c.args.header.shape c.args.entries.now c.requires.making
+    c.args.header.previous c.requires.over)
     c.args.words.now.table_id.words c.write_entries.ensures.sound _ c.to_word.result c.make.new.actor.me.0 c.make.ensures.made
