@@ -33,10 +33,10 @@ use Rattle.lock_free.specs.declared.rules.View.{View}
 use Rattle.lock_free.specs.Accounts.{place_of}
 use Rattle.lock_free.specs.Becoming.{HasNew}
 use Rattle.lock_free.specs.BuildingUp.{HasLedOrNone, HasLinked, HasPaired, HasReached, IsAtLink, IsAtPair, IsBuilder, IsMain, MakesPair}
-use Rattle.lock_free.specs.GoingDown.{HasStayed, entry_in, IsEntryIn}
-use Rattle.lock_free.specs.Holding.{IsOn, HoldsEntry, HoldsEntryAt, HasSeenHeld}
+use Rattle.lock_free.specs.Entries.{HasStayed, entry_in, IsEntryIn, HoldsEntry, HasSeenEntry}
+use Rattle.lock_free.specs.Holding.{IsOn}
 use Rattle.lock_free.specs.Live.{IsLive, at_hand, line_claims, refs_of_claims}
-use Rattle.lock_free.specs.Loading.{now, IsAt, IsSound, IsUsed, Holds, HoldsSlot, HasSeenKey}
+use Rattle.lock_free.specs.Loading.{now, IsAt, IsSound, IsUsed, Holds, HoldsSlot, HasSeenKey, HasPosition}
 use Rattle.lock_free.specs.SeenEntries.{entry_to, unowned, HasMadeNext}
 use Rattle.lock_free.specs.Stocks.{Stocked, IsStock}
 use Rattle.lock_free.proofs.StockStays.{stock_stayed}
@@ -134,23 +134,22 @@ module _ (n : ℕ) (v : View) (sound : IsSound n v) (by : Builder) (given : Give
 
   held : HoldsEntry v main position
   held = record {
-    holds = (o, on.1.1, inl main_at_hand);
     slot = m.header.slot;
     used = m.header.used;
-    is_main = m.header.is_main;
+    holds = (o, on.1.1, inl main_at_hand);
     kind = ap is_branch_or_list branch.2;
     inside = inside;
-    entry_used = old_used;
   }
-
-  pub pair_held : HoldsEntryAt v given.link.main.slot position
-  pair_held = (main, held, m.link.is.names.place)
 
   pub position_small : position < 32
   position_small =
       let few = entries_few n v sound main m.header.slot m.header.used branch.0 branch.1 branch.2 in
       let low = subst (λ x. position < length (entries_of x)) branch.2 inside in
       omega (arith, few, low)
+
+  pub pair_held : HasPosition v given.link.main.slot position
+  unfolding held
+  pair_held = (main, m.header.slot, held.holds, m.header.used, held.kind, inside, position_small, m.link.is.names.place)
 
   pub depth_small : by.depth < 14
   depth_small = b.short
@@ -194,7 +193,7 @@ module _ (n : ℕ) (v : View) (sound : IsSound n v) (by : Builder) (given : Give
 
   -- ---- its entry is seen
 
-  module _ (v1 : View) (seen_old : Entry) (g : HasSeenHeld v given.link.main.slot position seen_old v1) where
+  module _ (v1 : View) (seen_old : Entry) (g : HasSeenEntry v given.link.main.slot position seen_old v1) where
     its : IsEntryIn v1 main position seen_old.slot seen_old.is_single
     its = g.1 main held m.link.is.names.place
 

@@ -16,7 +16,8 @@ use Rattle.lock_free.specs.declared.reading.Way.{Way}
 use Rattle.lock_free.specs.declared.rules.View.{View}
 use Rattle.lock_free.specs.Becoming.{HasNew, line_made}
 use Rattle.lock_free.specs.BuildingUp.{grown, HasReached, HasStopped, IsBuilder, IsMain}
-use Rattle.lock_free.specs.GoingDown.{HasStayed, IsFlag}
+use Rattle.lock_free.specs.GoingDown.{IsFlag}
+use Rattle.lock_free.specs.Entries.{HasStayed}
 use Rattle.lock_free.specs.Holding.{IsOn}
 use Rattle.lock_free.specs.Loading.{now, Runs}
 use Rattle.lock_free.specs.Passing.{IsOnWay}

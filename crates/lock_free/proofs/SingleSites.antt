@@ -24,7 +24,7 @@ use Rattle.lock_free.specs.declared.rules.View.{View}
 use Rattle.lock_free.specs.Becoming.{HasNew}
 use Rattle.lock_free.specs.BuildingUp.{former_at, sited, HasBuiltSingle, HasBuiltUp, HasEdit, HasEditAt, HasPaired, HasReached, IsAtPair, IsAtSingle, IsAtSite, IsBuilder, IsMain}
 use Rattle.lock_free.specs.Changing.{HasBuilt, IsChanging}
-use Rattle.lock_free.specs.GoingDown.{HasStayed}
+use Rattle.lock_free.specs.Entries.{HasStayed}
 use Rattle.lock_free.specs.Holding.{IsOn}
 use Rattle.lock_free.specs.Loading.{now, Runs, IsSound}
 use Rattle.lock_free.specs.SeenEntries.{entry_to, HasMadeNext}

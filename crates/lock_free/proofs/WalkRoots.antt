@@ -11,7 +11,7 @@ use Rattle.machine_model.specs.Operations.{line_action}
 use Rattle.machine_model.specs.States.{State, root_of, word_at, word_of}
 use Rattle.lock_free.specs.declared.reading.Way.{Way}
 use Rattle.lock_free.specs.declared.rules.View.{View}
-use Rattle.lock_free.specs.GoingDown.{HasStayed}
+use Rattle.lock_free.specs.Entries.{HasStayed}
 use Rattle.lock_free.specs.Loading.{now, seen, IsSound, Runs, Saw}
 use Rattle.lock_free.specs.Passing.{IsOnWay}
 use Rattle.lock_free.specs.RootWords.{AsksAt, HasFoundRoot}

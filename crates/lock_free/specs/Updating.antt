@@ -20,7 +20,7 @@ use Rattle.lock_free.specs.declared.swapping.Swapped.TheVariants.{Commits, Fails
 use Rattle.lock_free.specs.Becoming.{HasBecome}
 use Rattle.lock_free.specs.BuildingUp.{HasStopped, IsAtSingle}
 use Rattle.lock_free.specs.Changing.{IsChanging}
-use Rattle.lock_free.specs.GoingDown.{HasStayed}
+use Rattle.lock_free.specs.Entries.{HasStayed}
 use Rattle.lock_free.specs.Holding.{IsOn}
 use Rattle.lock_free.specs.Passing.{IsPlaced, KnowsLink}
 

@@ -7,8 +7,7 @@ ghost use Rattle.lock_free.specs.SeenEntries.{HasMadeNext};
 ghost use Rattle.lock_free.specs.Stocks.{IsStock};
 
 use crate::changing::{Edit, build_main};
-use crate::holding::see_held;
-use crate::loads::{Actor, Words, see_key};
+use crate::loads::{Actor, Words, see_entry, see_key};
 use crate::makes::{make_branch, make_link, make_list, make_single};
 use crate::reading::Given;
 use crate::stock::Stock;
@@ -235,7 +234,7 @@ fn build_beside<R: Wait>(
     ensures stock { IsStock stock.new actor.new.me.0 }
     ensures paired { HasPaired actor.old.me.0 position result actor.new.me.0 }
 {
-    let old = see_held(words, actor, given.link.main.slot, position as u32);
+    let old = see_entry(words, actor, given.link.main.slot, position as u32);
     let old_hash = by.hashes.hash(see_key(words, actor, old.slot));
     let most = list_depth(by.hashes);
     let depth = parting(old_hash, by.hash, by.depth + 1, most);

@@ -4,11 +4,8 @@ use Rattle.lock_free.specs.BuildingUp.{HasPaired}
 use Rattle.lock_free.proofs.Besides.{pair_held, position_small, depth_small, key_held, pair_ready, pair_stock, pair_none, link_ready, paired}
 use Rattle.lock_free.proofs.building.build_beside.Goals as goal
 
-pub see_held-old-requires-clause-within : goal.see_held-old-requires-clause-within
-see_held-old-requires-clause-within g c = position_small c.args.words.now.table_id.words c.args.actor.now.me.0 c.requires.sound c.args.by c.args.given c.args.position c.args.single c.requires.at
-
-pub see_held-old-requires-clause-held : goal.see_held-old-requires-clause-held
-see_held-old-requires-clause-held g c = pair_held c.args.words.now.table_id.words c.args.actor.now.me.0 c.requires.sound c.args.by c.args.given c.args.position c.args.single c.requires.at
+pub see_entry-old-requires-clause-held : goal.see_entry-old-requires-clause-held
+see_entry-old-requires-clause-held g c = pair_held c.args.words.now.table_id.words c.args.actor.now.me.0 c.requires.sound c.args.by c.args.given c.args.position c.args.single c.requires.at
 
 pub overflow_cast-position : goal.overflow_cast-position
 overflow_cast-position g c =
@@ -20,45 +17,45 @@ overflow_add-by g c =
 
 pub see_key-requires-clause-held : goal.see_key-requires-clause-held
 see_key-requires-clause-held g c =
-    key_held c.args.words.now.table_id.words c.args.actor.now.me.0 c.requires.sound c.args.by c.args.given c.args.position c.args.single c.requires.at c.see_held-old.new.actor.me.0
-    c.see_held-old.result c.see_held-old.ensures.seen
+    key_held c.args.words.now.table_id.words c.args.actor.now.me.0 c.requires.sound c.args.by c.args.given c.args.position c.args.single c.requires.at c.see_entry-old.new.actor.me.0
+    c.see_entry-old.result c.see_entry-old.ensures.seen
 
 pub make_pair-requires-clause-stock : goal.make_pair-requires-clause-stock
 make_pair-requires-clause-stock g c =
-    pair_stock c.args.words.now.table_id.words c.args.actor.now.me.0 c.requires.sound c.args.by c.args.given c.args.position c.args.single c.requires.at c.see_held-old.new.actor.me.0
-    c.see_held-old.result c.see_held-old.ensures.seen
-    c.see_held-old.ensures.sound c.see_key.new.actor.me.0 c.see_key.ensures.sound c.see_key.result c.see_key.ensures.seen c.hash-old_hash.result c.hash-old_hash.ensures c.parting-depth.result
+    pair_stock c.args.words.now.table_id.words c.args.actor.now.me.0 c.requires.sound c.args.by c.args.given c.args.position c.args.single c.requires.at c.see_entry-old.new.actor.me.0
+    c.see_entry-old.result c.see_entry-old.ensures.seen
+    c.see_entry-old.ensures.sound c.see_key.new.actor.me.0 c.see_key.ensures.sound c.see_key.result c.see_key.ensures.seen c.hash-old_hash.result c.hash-old_hash.ensures c.parting-depth.result
     (c.parting-depth.ensures ∙ ap (λ x. parting (x - (c.args.by.depth + 1)) c.hash-old_hash.result c.args.by.hash (c.args.by.depth + 1)) c.list_depth-most.ensures.depth)
     c.args.stock.now c.requires.stock
 
 pub make_pair-requires-clause-making : goal.make_pair-requires-clause-making
 make_pair-requires-clause-making g c =
-    pair_ready c.args.words.now.table_id.words c.args.actor.now.me.0 c.requires.sound c.args.by c.args.given c.args.position c.args.single c.requires.at c.see_held-old.new.actor.me.0
-    c.see_held-old.result c.see_held-old.ensures.seen
-    c.see_held-old.ensures.sound c.see_key.new.actor.me.0 c.see_key.ensures.sound c.see_key.result c.see_key.ensures.seen c.hash-old_hash.result c.hash-old_hash.ensures c.parting-depth.result
+    pair_ready c.args.words.now.table_id.words c.args.actor.now.me.0 c.requires.sound c.args.by c.args.given c.args.position c.args.single c.requires.at c.see_entry-old.new.actor.me.0
+    c.see_entry-old.result c.see_entry-old.ensures.seen
+    c.see_entry-old.ensures.sound c.see_key.new.actor.me.0 c.see_key.ensures.sound c.see_key.result c.see_key.ensures.seen c.hash-old_hash.result c.hash-old_hash.ensures c.parting-depth.result
     (c.parting-depth.ensures ∙ ap (λ x. parting (x - (c.args.by.depth + 1)) c.hash-old_hash.result c.args.by.hash (c.args.by.depth + 1)) c.list_depth-most.ensures.depth)
 
 pub returns-in_err-main-clause-paired : goal.returns-in_err-main-clause-paired
 returns-in_err-main-clause-paired g c =
     subst (λ r. HasPaired c.args.actor.now.me.0 c.args.position r c.make_pair.new.actor.me.0) (sym c.from_residual.ensures)
-    (pair_none c.args.words.now.table_id.words c.args.actor.now.me.0 c.requires.sound c.args.by c.args.given c.args.position c.args.single c.requires.at c.see_held-old.new.actor.me.0
-    c.see_held-old.result c.see_held-old.ensures.seen
-    c.see_held-old.ensures.sound c.see_key.new.actor.me.0 c.see_key.ensures.sound c.see_key.result c.see_key.ensures.seen c.hash-old_hash.result c.hash-old_hash.ensures c.parting-depth.result
+    (pair_none c.args.words.now.table_id.words c.args.actor.now.me.0 c.requires.sound c.args.by c.args.given c.args.position c.args.single c.requires.at c.see_entry-old.new.actor.me.0
+    c.see_entry-old.result c.see_entry-old.ensures.seen
+    c.see_entry-old.ensures.sound c.see_key.new.actor.me.0 c.see_key.ensures.sound c.see_key.result c.see_key.ensures.seen c.hash-old_hash.result c.hash-old_hash.ensures c.parting-depth.result
     (c.parting-depth.ensures ∙ ap (λ x. parting (x - (c.args.by.depth + 1)) c.hash-old_hash.result c.args.by.hash (c.args.by.depth + 1)) c.list_depth-most.ensures.depth)
     c.make_pair.new.actor.me.0 (c.in_err-main.ensures {u = tt}).made)
 
 pub lead-requires-clause-at : goal.lead-requires-clause-at
 lead-requires-clause-at g c =
-    link_ready c.args.words.now.table_id.words c.args.actor.now.me.0 c.requires.sound c.args.by c.args.given c.args.position c.args.single c.requires.at c.see_held-old.new.actor.me.0
-    c.see_held-old.result c.see_held-old.ensures.seen
-    c.see_held-old.ensures.sound c.see_key.new.actor.me.0 c.see_key.ensures.sound c.see_key.result c.see_key.ensures.seen c.hash-old_hash.result c.hash-old_hash.ensures c.parting-depth.result
+    link_ready c.args.words.now.table_id.words c.args.actor.now.me.0 c.requires.sound c.args.by c.args.given c.args.position c.args.single c.requires.at c.see_entry-old.new.actor.me.0
+    c.see_entry-old.result c.see_entry-old.ensures.seen
+    c.see_entry-old.ensures.sound c.see_key.new.actor.me.0 c.see_key.ensures.sound c.see_key.result c.see_key.ensures.seen c.hash-old_hash.result c.hash-old_hash.ensures c.parting-depth.result
     (c.parting-depth.ensures ∙ ap (λ x. parting (x - (c.args.by.depth + 1)) c.hash-old_hash.result c.args.by.hash (c.args.by.depth + 1)) c.list_depth-most.ensures.depth)
     c.make_pair.new.actor.me.0 c.in_ok-main.main (c.in_ok-main.ensures {u = tt}).made
 
 pub returns-clause-paired : goal.returns-clause-paired
 returns-clause-paired g c =
-    paired c.args.words.now.table_id.words c.args.actor.now.me.0 c.requires.sound c.args.by c.args.given c.args.position c.args.single c.requires.at c.see_held-old.new.actor.me.0
-    c.see_held-old.result c.see_held-old.ensures.seen
-    c.see_held-old.ensures.sound c.see_key.new.actor.me.0 c.see_key.ensures.sound c.see_key.result c.see_key.ensures.seen c.hash-old_hash.result c.hash-old_hash.ensures c.parting-depth.result
+    paired c.args.words.now.table_id.words c.args.actor.now.me.0 c.requires.sound c.args.by c.args.given c.args.position c.args.single c.requires.at c.see_entry-old.new.actor.me.0
+    c.see_entry-old.result c.see_entry-old.ensures.seen
+    c.see_entry-old.ensures.sound c.see_key.new.actor.me.0 c.see_key.ensures.sound c.see_key.result c.see_key.ensures.seen c.hash-old_hash.result c.hash-old_hash.ensures c.parting-depth.result
     (c.parting-depth.ensures ∙ ap (λ x. parting (x - (c.args.by.depth + 1)) c.hash-old_hash.result c.args.by.hash (c.args.by.depth + 1)) c.list_depth-most.ensures.depth)
     c.make_pair.new.actor.me.0 c.in_ok-main.main (c.in_ok-main.ensures {u = tt}).made c.lead.result c.lead.new.actor.me.0 c.lead.ensures.led
