@@ -1,18 +1,15 @@
 -- An operation becomes another one, and what is known of it goes on.
-use Rattle.std.proofs.Common.{◌≡◌, ◌++◌, ℕ, Bool, List, [], Contains, map, Some, sym, ap, subst, ◌∙◌}
-use Rattle.machine_model.specs.Beneath.slot_arena.specs.declared.refs.Ref.{Ref}
-use Rattle.machine_model.specs.Beneath.slot_arena.specs.declared.nodes.Slot.{Slot}
+use Rattle.std.proofs.Common.{◌≡◌, ℕ, map, sym, ap, subst, ◌∙◌}
 use Rattle.machine_model.specs.declared.lines.Line.{Line}
 use Rattle.machine_model.specs.declared.operations.Operation.{Operation}
 use Rattle.machine_model.specs.Calls.{handle_of}
-use Rattle.machine_model.specs.States.{operation_of}
 use Rattle.lock_free.specs.declared.reading.Way.{Way}
 use Rattle.lock_free.specs.declared.rules.View.{View}
-use Rattle.lock_free.specs.Becoming.{Follows, HasBecome}
+use Rattle.lock_free.specs.Becoming.{HasBecome}
 use Rattle.lock_free.specs.GoingDown.{HasMoved}
 use Rattle.lock_free.specs.Holding.{IsOn}
-use Rattle.lock_free.specs.Loading.{now, Runs, IsSound, IsUsed}
-use Rattle.lock_free.specs.Passing.{Later, IsOnWay}
+use Rattle.lock_free.specs.Loading.{Runs, IsSound}
+use Rattle.lock_free.specs.Passing.{IsOnWay}
 use Rattle.lock_free.specs.Repairing.{HasStart}
 use Rattle.lock_free.specs.Stocks.{Stocked, IsStock, own_of, own_nodes, made_of}
 use Rattle.lock_free.proofs.Comings.{runs_one}

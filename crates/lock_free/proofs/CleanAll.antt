@@ -1,15 +1,13 @@
 -- CLEAN goes over the entries of a branch.
-use Rattle.std.proofs.Common.{◌≡◌, ◌≤◌, ◌<◌, ◌==◌, ◌&&◌, ◌||◌, ◌++◌, ◌+◌, ℕ, suc, Bool, true, false, not, List, [], ◌∷◌, All, take, length, length-append, get_or, Contains, nat_eq, nat_lt, refl, sym, ap, ap₂, subst, ◌∙◌, arith, if◌then◌else◌}
+use Rattle.std.proofs.Common.{◌≡◌, ◌≤◌, ◌<◌, ◌==◌, ◌||◌, ◌++◌, ◌+◌, ℕ, suc, Bool, true, false, not, List, [], ◌∷◌, All, take, length, length-append, get_or, Contains, nat_eq, nat_lt, refl, sym, ap, ap₂, subst, ◌∙◌, arith, if◌then◌else◌}
 use Rattle.std.proofs.Math.Seq.{take-suc, take-length}
 use Rattle.std.specs.Cmp.Lexicographic.{pointwise}
 use Rattle.std.proofs.lemmas.Bool.{true≢false, lt-ltb, le-ltb}
 use Rattle.std.proofs.lemmas.List.{length-take-le}
 use Rattle.std.proofs.lemmas.List.Elements.{All-weaker, Contains-get_or}
-use Rattle.arrayvec.specs.ArrayVec.{ArrayVec}
 use Rattle.trie_words.specs.declared.entries.Entry.{Entry}
 use Rattle.trie_words.specs.declared.headers.Header.{Header}
 use Rattle.machine_model.specs.Beneath.slot_arena.specs.declared.refs.Ref.{Ref}
-use Rattle.machine_model.specs.Beneath.slot_arena.specs.declared.nodes.Node.{Node}
 use Rattle.machine_model.specs.Beneath.slot_arena.specs.declared.nodes.Node.TheVariants.{Branch}
 use Rattle.machine_model.specs.Beneath.slot_arena.specs.declared.nodes.Slot.{Slot}
 use Rattle.machine_model.specs.Beneath.slot_arena.specs.Heaps.{no_ref, node_at, entries_of}
@@ -28,7 +26,7 @@ use Rattle.lock_free.specs.declared.rules.View.{View}
 use Rattle.lock_free.specs.Becoming.{Follows}
 use Rattle.lock_free.specs.Holding.{IsOn, HasComeTo}
 use Rattle.lock_free.specs.Live.{IsLive}
-use Rattle.lock_free.specs.Loading.{now, seen, IsUsed, IsSound, IsAtSlot, Went, HasLookedAtMain}
+use Rattle.lock_free.specs.Loading.{now, seen, IsUsed, IsSound, IsAtSlot, HasLookedAtMain}
 use Rattle.lock_free.specs.Passing.{Later, IsOnWay}
 use Rattle.lock_free.specs.Repairing.{IsAtCleaned, HasCleaned, IsCleaning, clean_end, CleanedTo, CleanedAll, HasCleanedAll}
 use Rattle.lock_free.specs.SeenEntries.{AreEntriesTo, entry_to, unowned}
@@ -37,9 +35,8 @@ use Rattle.lock_free.proofs.EntriesTo.{Used, entry_to_on, entries_on}
 use Rattle.lock_free.proofs.Followings.{follows_later, main_node_on, used_on}
 use Rattle.lock_free.proofs.GivenBack.{node_is}
 use Rattle.lock_free.proofs.GoingOver.{as_many, one_more, entry_at_place, pointwise_more, not_both}
-use Rattle.lock_free.proofs.Laters.{later_both, waited_later, went_later}
+use Rattle.lock_free.proofs.Laters.{waited_later, went_later}
 use Rattle.lock_free.proofs.Moments.{entry_lives}
-use Rattle.lock_free.proofs.NextEntries.{holds_next}
 use Rattle.lock_free.proofs.OnLines.{line_is, at_look, finds_now, moves_on, moved, moved_both, way_on}
 use Rattle.lock_free.proofs.RepairLooks.{clean_same}
 

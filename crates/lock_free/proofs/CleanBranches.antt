@@ -4,51 +4,46 @@ use Rattle.std.proofs.lemmas.List.Elements.{All-head, All-weaker, Contains-get_o
 use Rattle.nodes.specs.Builders.{contracted}
 use Rattle.history.specs.declared.replies.Reply.TheVariants as reply
 use Rattle.trie_words.specs.declared.entries.Entry.{Entry}
-use Rattle.trie_words.specs.declared.headers.Header.{Header}
 use Rattle.trie_words.specs.declared.headers.Previous.TheVariants as previous
-use Rattle.trie_words.specs.declared.headers.Shape.{Shape}
-use Rattle.trie_words.specs.declared.headers.Shape.TheVariants as shape
 use Rattle.trie_words.specs.declared.links.Link.{Link}
 use Rattle.machine_model.specs.Beneath.slot_arena.specs.declared.refs.Ref.{Ref}
 use Rattle.machine_model.specs.Beneath.slot_arena.specs.declared.nodes.Node.{Node}
 use Rattle.machine_model.specs.Beneath.slot_arena.specs.declared.nodes.Node.TheVariants.{Indirection, Branch, Single, Tomb, List as Listed}
-use Rattle.machine_model.specs.Beneath.slot_arena.specs.Heaps.{no_ref, node_at, bitmap_of}
+use Rattle.machine_model.specs.Beneath.slot_arena.specs.Heaps.{node_at, bitmap_of}
 use Rattle.machine_model.specs.declared.actions.Action.TheVariants as act
 use Rattle.machine_model.specs.declared.lines.Line.{Line}
 use Rattle.machine_model.specs.declared.lines.Line.TheVariants as line
 use Rattle.machine_model.specs.declared.lines.Purpose.TheVariants as purpose
 use Rattle.machine_model.specs.declared.operations.Operation.{Operation}
 use Rattle.machine_model.specs.declared.repairs.CleanLine.TheVariants as clean
-use Rattle.machine_model.specs.Cleaning.{leaves_single, cleaned}
+use Rattle.machine_model.specs.Cleaning.{leaves_single}
 use Rattle.machine_model.specs.Cleaning.{is_single as is_a_single}
-use Rattle.machine_model.specs.Lines.{new_try}
 use Rattle.machine_model.specs.Paths.{current, is_below_root}
-use Rattle.machine_model.specs.States.{State}
 use Rattle.proof_memory.proofs.Claims.Uses.{Meets, all_of}
 use Rattle.proof_memory.specs.Wants.{AnEntry}
 use Rattle.lock_free.specs.declared.reading.Way.{Way}
 use Rattle.lock_free.specs.declared.rules.View.{View}
 use Rattle.lock_free.specs.declared.swapping.Swapped.{Swapped}
-use Rattle.lock_free.specs.Becoming.{HasNew, line_made}
+use Rattle.lock_free.specs.Becoming.{HasNew}
 use Rattle.lock_free.specs.Contracting.{IsAtContracted}
 use Rattle.lock_free.specs.Entries.{HasStayed}
 use Rattle.lock_free.specs.Holding.{IsOn, HasComeTo}
-use Rattle.lock_free.specs.Live.{IsLive, line_claims, refs_of_claims, at_hand}
+use Rattle.lock_free.specs.Live.{IsLive, line_claims, refs_of_claims}
 use Rattle.lock_free.specs.Loading.{now, Runs, IsSound, Holds}
 use Rattle.lock_free.specs.Nodes.{is_single}
-use Rattle.lock_free.specs.Passing.{Later, KnowsLink, IsPlaced, IsOnWay}
-use Rattle.lock_free.specs.Repairing.{GivesUp, HasEndedAt, IsBranch, IsBranchBelow, IsAtCleanedBranch, AgainOrNot, HasCleanedBranch, IsCleaning, clean_end, CleanedAll, HasCleanedAll}
-use Rattle.lock_free.specs.SeenEntries.{AreEntriesTo, HasEntries, HasSeenEntries, HasMadeNext, HasNewOrNone, IsOver}
+use Rattle.lock_free.specs.Passing.{KnowsLink, IsOnWay}
+use Rattle.lock_free.specs.Repairing.{GivesUp, IsBranchBelow, IsAtCleanedBranch, AgainOrNot, HasCleanedBranch, IsCleaning, clean_end, CleanedAll, HasCleanedAll}
+use Rattle.lock_free.specs.SeenEntries.{HasEntries, HasSeenEntries, HasMadeNext, HasNewOrNone, IsOver}
 use Rattle.lock_free.specs.Stocks.{Stocked, IsStock, HasSwapped}
 use Rattle.lock_free.specs.Swaps.{IsAtSwap}
 use Rattle.lock_free.proofs.Asked.{live_in_use}
-use Rattle.lock_free.proofs.BecomesOn.{moved_become, stock_moved}
+use Rattle.lock_free.proofs.BecomesOn.{stock_moved}
 use Rattle.lock_free.proofs.EntriesTo.{Used}
 use Rattle.lock_free.proofs.Followings.{follows_both, follows_later, main_node_on}
 use Rattle.lock_free.proofs.GivenBack.{node_is}
 use Rattle.lock_free.proofs.Laters.{placed_later, link_later}
 use Rattle.lock_free.proofs.OnLines.{line_is, finds_now, stays_on, moves_on, stayed_moved, way_on}
-use Rattle.lock_free.proofs.Replaces.{branch_is_main, has_entries, entries_seen, at_make, is_over, is_swapping, at_swap, swap_way, swap_follows, swap_comes}
+use Rattle.lock_free.proofs.Replaces.{branch_is_main, has_entries, entries_seen, at_make, is_over, at_swap, swap_way, swap_follows, swap_comes}
 
 single_kinds : (node : Node) → is_a_single node ≡ is_single node
 single_kinds (Single k v) = refl

@@ -8,7 +8,7 @@ use Rattle.trie_words.specs.declared.headers.Shape.{Shape}
 use Rattle.trie_words.specs.declared.headers.Shape.TheVariants as shape
 use Rattle.machine_model.specs.Beneath.slot_arena.specs.declared.refs.Ref.{Ref}
 use Rattle.machine_model.specs.Beneath.slot_arena.specs.declared.nodes.Node.{Node}
-use Rattle.machine_model.specs.Beneath.slot_arena.specs.declared.nodes.Node.TheVariants.{Indirection, Branch, Single, Tomb, List as Listed}
+use Rattle.machine_model.specs.Beneath.slot_arena.specs.declared.nodes.Node.TheVariants.{Tomb}
 use Rattle.machine_model.specs.Beneath.slot_arena.specs.declared.nodes.Slot.{Slot}
 use Rattle.machine_model.specs.Beneath.slot_arena.specs.Heaps.{no_ref, node_at, entries_of, refs_of_node}
 use Rattle.machine_model.specs.Beneath.slot_arena.specs.Refs.{slot_of}
@@ -29,18 +29,18 @@ use Rattle.lock_free.specs.declared.reading.Passed.TheVariants as passed
 use Rattle.lock_free.specs.declared.reading.Way.{Way}
 use Rattle.lock_free.specs.declared.rules.View.{View}
 use Rattle.lock_free.specs.Accounts.{place_of}
-use Rattle.lock_free.specs.Entries.{IsEntryIn, entry_in}
+use Rattle.lock_free.specs.Entries.{entry_in}
 use Rattle.lock_free.specs.Holding.{IsOn, HasComeTo}
 use Rattle.lock_free.specs.Loading.{now, seen, IsUsed, IsSound, IsAtSlot, Went, HasLookedAtMain}
 use Rattle.lock_free.specs.Nodes.{is_single, SaysShape, of_branch, of_tomb, of_list}
-use Rattle.lock_free.specs.Passing.{Later, IsPlaced, IsReading, IsPassing, IsOnWay, HasPassed, HasGiven}
+use Rattle.lock_free.specs.Passing.{Later, IsReading, IsPassing, IsOnWay, HasPassed, HasGiven}
 use Rattle.lock_free.specs.Repairing.{IsAtCleaned, clean_looked, HasLookedOver, CleanedTo, HasCleaned}
 use Rattle.lock_free.specs.SeenEntries.{entry_to, unowned}
 use Rattle.lock_free.proofs.EntriesTo.{entry_named, entry_to_on, single_on}
 use Rattle.lock_free.proofs.Followings.{follows_later, main_node_on}
 use Rattle.lock_free.proofs.GivenBack.{node_is}
 use Rattle.lock_free.proofs.KeyHolds.{LooksIn, node_then}
-use Rattle.lock_free.proofs.Laters.{later_both, placed_later, used_later, waited_later, went_later}
+use Rattle.lock_free.proofs.Laters.{later_both, placed_later, waited_later, went_later}
 use Rattle.lock_free.proofs.NextEntries.{holds_next}
 use Rattle.lock_free.proofs.OnLines.{line_is, at_look, finds_now, moves_on, moved, reading_on, given_moved, moved_both, way_on}
 use Rattle.lock_free.proofs.RepairLooks.{clean_same, clean_parts}

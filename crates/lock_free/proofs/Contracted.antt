@@ -8,7 +8,6 @@ use Rattle.machine_model.specs.Beneath.slot_arena.specs.declared.nodes.Node.TheV
 use Rattle.machine_model.specs.Beneath.slot_arena.specs.Heaps.{node_at}
 use Rattle.machine_model.specs.declared.actions.Action.TheVariants as act
 use Rattle.lock_free.specs.declared.rules.View.{View}
-use Rattle.lock_free.specs.Accounts.{place_of}
 use Rattle.lock_free.specs.Contracting.{IsAtContracted, IsLone}
 use Rattle.lock_free.specs.Loading.{now, IsAt}
 use Rattle.lock_free.specs.Nodes.{is_single}

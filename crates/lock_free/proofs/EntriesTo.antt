@@ -1,5 +1,5 @@
 -- Entries to nodes that a seat knows stay so, whatever it has seen or made since.
-use Rattle.std.proofs.Common.{◌≡◌, Bool, false, List, [], ◌∷◌, All, map, refl, sym, ap, ap₂, ◌∙◌}
+use Rattle.std.proofs.Common.{◌≡◌, false, List, [], ◌∷◌, All, map, refl, sym, ap, ap₂, ◌∙◌}
 use Rattle.std.proofs.lemmas.List.Elements.{All-head, All-tail}
 use Rattle.trie_words.specs.declared.entries.Entry.{Entry}
 use Rattle.machine_model.specs.Beneath.slot_arena.specs.declared.refs.Ref.{Ref}
@@ -9,7 +9,6 @@ use Rattle.machine_model.specs.Beneath.slot_arena.specs.declared.nodes.Slot.{Slo
 use Rattle.machine_model.specs.Beneath.slot_arena.specs.Heaps.{node_at}
 use Rattle.proof_memory.specs.Laws.{SameNode}
 use Rattle.lock_free.specs.declared.rules.View.{View}
-use Rattle.lock_free.specs.Accounts.{place_of}
 use Rattle.lock_free.specs.Becoming.{Follows}
 use Rattle.lock_free.specs.Entries.{IsEntryIn, entry_in}
 use Rattle.lock_free.specs.Loading.{now, IsUsed}

@@ -1,6 +1,6 @@
 -- What a seat knows of nodes stays so, whatever it has seen since.
-use Rattle.std.proofs.Common.{◌≡◌, ◌<◌, ℕ, Bool, true, [], ◌∷◌, ◌++◌, Contains, get_or, length, Some, None, refl, sym, ap, subst, ◌∙◌, arith, append_assoc, append-nil}
-use Rattle.std.proofs.lemmas.List.Elements.{Contains-get_or, Contains-append_right}
+use Rattle.std.proofs.Common.{◌≡◌, ◌<◌, ℕ, Bool, [], ◌∷◌, ◌++◌, Contains, get_or, length, Some, None, refl, sym, ap, subst, ◌∙◌, arith, append_assoc, append-nil}
+use Rattle.std.proofs.lemmas.List.Elements.{Contains-append_right}
 use Rattle.trie_words.specs.declared.headers.Header.{Header}
 use Rattle.trie_words.specs.declared.links.Link.{Link}
 use Rattle.trie_words.specs.declared.names.Name.{Name}

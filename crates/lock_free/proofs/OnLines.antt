@@ -19,7 +19,7 @@ use Rattle.lock_free.specs.GoingDown.{HasMoved}
 use Rattle.lock_free.specs.Holding.{IsOn}
 use Rattle.lock_free.specs.Live.{IsLive}
 use Rattle.lock_free.specs.Loading.{now, seen, Runs, IsAt, IsSound, Went}
-use Rattle.lock_free.specs.OfReads.{on_given, read_to}
+use Rattle.lock_free.specs.OfReads.{on_given}
 use Rattle.lock_free.specs.Passing.{Later, HasCome, IsReading, IsOnWay}
 use Rattle.lock_free.proofs.Asked.{line_stands}
 use Rattle.lock_free.proofs.Comings.{runs_one}

@@ -1,5 +1,5 @@
 -- RENEW goes over the entries of a branch.
-use Rattle.std.proofs.Common.{◌≡◌, ◌<◌, ◌+◌, ◌++◌, ℕ, Bool, true, false, List, [], ◌∷◌, All, Contains, length, length-append, get_or, nat_lt, Option, None, Some, append_assoc, append-nil, refl, sym, ap, ap₂, subst, ◌∙◌, arith, if◌then◌else◌}
+use Rattle.std.proofs.Common.{◌≡◌, ◌<◌, ◌+◌, ◌++◌, ℕ, Bool, true, false, List, [], ◌∷◌, All, Contains, length, length-append, get_or, nat_lt, None, Some, append_assoc, append-nil, refl, sym, ap, ap₂, subst, ◌∙◌, arith, if◌then◌else◌}
 use Rattle.std.proofs.lemmas.Bool.{lt-ltb, le-ltb}
 use Rattle.std.proofs.lemmas.List.Elements.{All-weaker, Contains-get_or}
 use Rattle.arrayvec.specs.ArrayVec.{ArrayVec}
@@ -20,9 +20,9 @@ use Rattle.lock_free.specs.declared.rules.View.{View}
 use Rattle.lock_free.specs.Becoming.{Follows, HasBecome}
 use Rattle.lock_free.specs.Holding.{IsOn}
 use Rattle.lock_free.specs.Live.{IsLive}
-use Rattle.lock_free.specs.Loading.{now, Runs, IsSound}
+use Rattle.lock_free.specs.Loading.{now, IsSound}
 use Rattle.lock_free.specs.Passing.{IsOnWay}
-use Rattle.lock_free.specs.Repairing.{HasStart, IsAtRenewed, GivesUp, RenewedTo, HasRenewed, IsRenewing, RenewedAll, AllRenewedOrNot, HasRenewedAll}
+use Rattle.lock_free.specs.Repairing.{HasStart, IsAtRenewed, GivesUp, RenewedTo, HasRenewed, IsRenewing, RenewedAll, HasRenewedAll}
 use Rattle.lock_free.specs.SeenEntries.{AreEntriesTo, entry_to, unowned}
 use Rattle.lock_free.proofs.KeyHolds.{LooksIn}
 use Rattle.lock_free.proofs.Asked.{live_in_use}

@@ -1,5 +1,5 @@
 -- RENEW of a branch.
-use Rattle.std.proofs.Common.{◌≡◌, ◌++◌, ℕ, Bool, true, false, List, [], count_ones, Option, None, Some, refl, sym, ap, subst, ◌∙◌}
+use Rattle.std.proofs.Common.{◌≡◌, ◌++◌, ℕ, List, [], count_ones, Option, None, Some, refl, sym, ap, subst, ◌∙◌}
 use Rattle.arrayvec.specs.ArrayVec.{ArrayVec}
 use Rattle.history.specs.declared.replies.Reply.TheVariants as reply
 use Rattle.trie_words.specs.declared.entries.Entry.{Entry}
@@ -24,11 +24,11 @@ use Rattle.lock_free.specs.declared.renewing.Renewed.TheVariants as outcome
 use Rattle.lock_free.specs.declared.rules.View.{View}
 use Rattle.lock_free.specs.declared.swapping.Swapped.{Swapped}
 use Rattle.lock_free.specs.declared.swapping.Swapped.TheVariants.{Commits, Fails, Misses}
-use Rattle.lock_free.specs.Becoming.{Follows, HasBecome, HasNew}
+use Rattle.lock_free.specs.Becoming.{Follows, HasNew}
 use Rattle.lock_free.specs.Entries.{HasStayed}
 use Rattle.lock_free.specs.Holding.{IsOn}
 use Rattle.lock_free.specs.Loading.{now, Runs, IsSound, Holds}
-use Rattle.lock_free.specs.Passing.{KnowsLink, IsPlaced, IsOnWay}
+use Rattle.lock_free.specs.Passing.{KnowsLink, IsOnWay}
 use Rattle.lock_free.specs.Repairing.{HasStart, GivesUp, HasEndedAt, IsBranchBelow, IsAtRenew, RenewedBy, HasRenewedBranch, IsRenewing, RenewedAll, AllRenewedOrNot, HasRenewedAll}
 use Rattle.lock_free.specs.SeenEntries.{HasEntries, HasSeenEntries, IsAtBranch, HasMadeNext, HasNewOrNone, IsOver}
 use Rattle.lock_free.specs.Stocks.{Stocked, IsStock, HasSwapped}

@@ -4,7 +4,6 @@ use Rattle.history.specs.declared.replies.Reply.TheVariants as reply
 use Rattle.trie_words.specs.declared.entries.Entry.{Entry}
 use Rattle.machine_model.specs.Beneath.slot_arena.specs.declared.refs.Ref.{Ref}
 use Rattle.machine_model.specs.Beneath.slot_arena.specs.declared.nodes.Node.TheVariants.{Indirection}
-use Rattle.machine_model.specs.Beneath.slot_arena.specs.Heaps.{node_at}
 use Rattle.machine_model.specs.declared.actions.Action.TheVariants as act
 use Rattle.machine_model.specs.declared.lines.Line.{Line}
 use Rattle.machine_model.specs.declared.lines.Line.TheVariants as line
@@ -13,27 +12,25 @@ use Rattle.machine_model.specs.declared.reading.ReadLine.TheVariants as read
 use Rattle.machine_model.specs.declared.repairs.RenewLine.TheVariants as renew
 use Rattle.machine_model.specs.Operations.{action_of}
 use Rattle.machine_model.specs.Reading.{reading}
-use Rattle.machine_model.specs.Renewing.{renew_next, next_entry}
+use Rattle.machine_model.specs.Renewing.{renew_next}
 use Rattle.lock_free.specs.declared.reading.Given.{Given}
 use Rattle.lock_free.specs.declared.reading.Passed.TheVariants as passed
 use Rattle.lock_free.specs.declared.reading.Way.{Way}
 use Rattle.lock_free.specs.declared.rules.View.{View}
-use Rattle.lock_free.specs.Accounts.{place_of}
-use Rattle.lock_free.specs.Becoming.{HasBecome, HasNew, line_made, made_on}
+use Rattle.lock_free.specs.Becoming.{HasNew, made_on}
 use Rattle.lock_free.specs.Entries.{entry_in}
-use Rattle.lock_free.specs.GoingDown.{HasMoved}
 use Rattle.lock_free.specs.Holding.{IsOn, HasComeTo}
 use Rattle.lock_free.specs.Loading.{now, Runs, IsAt, IsSound}
 use Rattle.lock_free.specs.Nodes.{is_single}
 use Rattle.lock_free.specs.Passing.{Later, IsPlaced, IsReading, IsPassing, IsOnWay, HasPassed, HasGiven}
-use Rattle.lock_free.specs.Repairing.{HasStart, IsAtRenewed, renew_looked, HasLookedOld, GivesUp, RenewedTo, RenewedOrNot, HasRenewed}
-use Rattle.lock_free.specs.SeenEntries.{HasMadeNext, HasNewOrNone, entry_to, unowned}
+use Rattle.lock_free.specs.Repairing.{HasStart, IsAtRenewed, renew_looked, HasLookedOld, GivesUp, RenewedOrNot, HasRenewed}
+use Rattle.lock_free.specs.SeenEntries.{HasMadeNext, HasNewOrNone}
 use Rattle.lock_free.specs.Stocks.{Stocked, IsStock}
 use Rattle.lock_free.proofs.BecomesOn.{become_so, moved_become, start_become, stock_moved}
 use Rattle.lock_free.proofs.EntriesTo.{entry_named, entry_to_on}
 use Rattle.lock_free.proofs.Followings.{become_both, follows_later}
 use Rattle.lock_free.proofs.KeyHolds.{LooksIn, node_then}
-use Rattle.lock_free.proofs.Laters.{later_both, placed_later}
+use Rattle.lock_free.proofs.Laters.{placed_later}
 use Rattle.lock_free.proofs.NextEntries.{holds_next}
 use Rattle.lock_free.proofs.OnLines.{line_is, moves_on, reading_on, given_moved, moved_both, way_on}
 use Rattle.lock_free.proofs.RepairLooks.{renew_same, renew_parts}

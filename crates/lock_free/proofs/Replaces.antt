@@ -1,38 +1,32 @@
 -- A main node that is made and swapped in, in whichever repair.
-use Rattle.std.proofs.Common.{◌≡◌, ◌++◌, ◌≤◌, ℕ, Bool, true, false, List, [], ◌∷◌, Contains, length, count_ones, Option, Some, None, inl, refl, sym, ap, subst, ◌∙◌}
-use Rattle.arrayvec.specs.ArrayVec.{ArrayVec}
-use Rattle.history.specs.declared.replies.Reply.TheVariants as reply
+use Rattle.std.proofs.Common.{◌≡◌, ◌≤◌, ℕ, true, List, [], length, count_ones, Some, refl, sym, ap, subst, ◌∙◌}
 use Rattle.trie_words.specs.declared.entries.Entry.{Entry}
 use Rattle.trie_words.specs.declared.headers.Previous.TheVariants as previous
 use Rattle.trie_words.specs.declared.links.Link.{Link}
 use Rattle.machine_model.specs.Beneath.slot_arena.specs.declared.refs.Ref.{Ref}
 use Rattle.machine_model.specs.Beneath.slot_arena.specs.declared.nodes.Node.{Node}
-use Rattle.machine_model.specs.Beneath.slot_arena.specs.declared.nodes.Node.TheVariants.{Branch}
-use Rattle.machine_model.specs.Beneath.slot_arena.specs.declared.nodes.Slot.{Slot}
-use Rattle.machine_model.specs.Beneath.slot_arena.specs.Heaps.{node_at, entries_of}
+use Rattle.machine_model.specs.Beneath.slot_arena.specs.Heaps.{entries_of}
 use Rattle.machine_model.specs.declared.actions.Action.{Action}
-use Rattle.machine_model.specs.declared.actions.Action.TheVariants as act
 use Rattle.machine_model.specs.declared.lines.Line.{Line}
 use Rattle.machine_model.specs.declared.lines.Line.TheVariants as line
 use Rattle.machine_model.specs.declared.lines.Purpose.{Purpose}
 use Rattle.machine_model.specs.declared.operations.Operation.{Operation}
 use Rattle.machine_model.specs.Operations.{line_action, swapped}
-use Rattle.machine_model.specs.States.{State}
 use Rattle.machine_model.specs.Swapping.{swapping}
 use Rattle.proof_memory.specs.Wants.{is_main_node, is_branch_or_list}
 use Rattle.lock_free.specs.declared.reading.Way.{Way}
 use Rattle.lock_free.specs.declared.rules.View.{View}
 use Rattle.lock_free.specs.declared.swapping.Swapped.{Swapped}
 use Rattle.lock_free.specs.Accounts.{place_of}
-use Rattle.lock_free.specs.Becoming.{Follows, HasBecome, HasNew, line_made, made_on}
+use Rattle.lock_free.specs.Becoming.{Follows, HasNew, line_made, made_on}
 use Rattle.lock_free.specs.Holding.{IsOn}
-use Rattle.lock_free.specs.Loading.{now, Runs, IsAt, IsUsed, IsSound, Holds}
+use Rattle.lock_free.specs.Loading.{now, Runs, IsAt, IsSound, Holds}
 use Rattle.lock_free.specs.Making.{over_of, IsOverBy}
-use Rattle.lock_free.specs.Passing.{Later, KnowsLink, IsPlaced, IsOnWay}
-use Rattle.lock_free.specs.Repairing.{HasEndedAt, IsBranch}
+use Rattle.lock_free.specs.Passing.{KnowsLink, IsPlaced, IsOnWay}
+use Rattle.lock_free.specs.Repairing.{IsBranch}
 use Rattle.lock_free.specs.SeenEntries.{AreEntriesTo, HasEntries, HasSeenEntries, IsOver}
 use Rattle.lock_free.specs.Stocks.{HasSwapped}
-use Rattle.lock_free.specs.Swaps.{swap_done, is_done, IsSwapping, IsAtSwap}
+use Rattle.lock_free.specs.Swaps.{is_done, IsSwapping, IsAtSwap}
 use Rattle.lock_free.proofs.BecomesOn.{way_become}
 use Rattle.lock_free.proofs.Counts.{entries_counted, entries_few}
 use Rattle.lock_free.proofs.Followings.{follows_both, placed_on, link_on}

@@ -1,5 +1,5 @@
 -- KEY with RENEW and CLEAN.
-use Rattle.std.proofs.Common.{◌≡◌, ◌<◌, ◌-◌, ◌⊎◌, ℕ, Bool, true, false, get_or, length, nat_lt, take, List, [], ◌∷◌, refl, sym, ap, subst, ◌∙◌, inl, inr, arith, ltb-true}
+use Rattle.std.proofs.Common.{◌≡◌, ◌<◌, ◌-◌, ◌⊎◌, ℕ, Bool, true, false, get_or, length, nat_lt, List, [], ◌∷◌, refl, sym, ap, subst, ◌∙◌, inl, inr, arith, ltb-true}
 use Rattle.std.proofs.lemmas.Bool.{true≢false, cases_lt, lt-ltb, le-ltb}
 use Rattle.std.proofs.lemmas.List.{length-take-le, get_or-take}
 use Rattle.history.specs.declared.replies.Reply.{Reply}
@@ -7,7 +7,7 @@ use Rattle.history.specs.declared.replies.Reply.TheVariants as reply
 use Rattle.trie_words.specs.declared.headers.Shape.TheVariants as shape
 use Rattle.machine_model.specs.Beneath.ctrie_base.specs.Hashes.{hash_of}
 use Rattle.machine_model.specs.Beneath.slot_arena.specs.declared.refs.Ref.{Ref}
-use Rattle.machine_model.specs.Beneath.slot_arena.specs.Heaps.{no_ref, node_at}
+use Rattle.machine_model.specs.Beneath.slot_arena.specs.Heaps.{no_ref}
 use Rattle.machine_model.specs.Beneath.slot_arena.specs.Refs.{slot_of}
 use Rattle.machine_model.specs.declared.finding.KeyLine.TheVariants as key
 use Rattle.machine_model.specs.declared.repairs.CleanLine.TheVariants as clean
@@ -16,7 +16,7 @@ use Rattle.machine_model.specs.declared.lines.Line.{Line}
 use Rattle.machine_model.specs.declared.lines.Line.TheVariants as line
 use Rattle.machine_model.specs.declared.operations.Operation.{Operation}
 use Rattle.machine_model.specs.Lines.{new_try}
-use Rattle.machine_model.specs.Paths.{above, current, is_below_root}
+use Rattle.machine_model.specs.Paths.{above, current}
 use Rattle.machine_model.specs.Reading.{reading}
 use Rattle.proof_memory.specs.Wants.{is_branch}
 use Rattle.proof_memory.proofs.Claims.Uses.{fact_of, meets_of}
@@ -37,7 +37,7 @@ use Rattle.lock_free.specs.Holding.{IsOn}
 use Rattle.lock_free.specs.Loading.{now, Runs, IsSound}
 use Rattle.lock_free.specs.Passing.{IsPlaced}
 use Rattle.lock_free.specs.Repairing.{GivesUp, RenewedBy, HasCleanedBelow, HasEndedAt, HasRenewedBranch, HasStart, IsAtClean, IsAtRenew}
-use Rattle.lock_free.specs.Seeking.{HasComeToChange, HasRenewedLast, HasSought, IsSeeking, IsToClean, IsToRenew}
+use Rattle.lock_free.specs.Seeking.{HasRenewedLast, HasSought, IsSeeking, IsToClean, IsToRenew}
 use Rattle.lock_free.specs.Stocks.{IsStock, Stocked}
 use Rattle.lock_free.proofs.CleanBelow.{known_branch}
 use Rattle.lock_free.proofs.Comings.{runs_one}

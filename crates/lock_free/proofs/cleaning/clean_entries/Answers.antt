@@ -1,7 +1,7 @@
-use Rattle.std.proofs.Common.{◌≡◌, false, get_or, refl, ◌∙◌, sym, ap, ap₂, subst, arith, length, ◌<◌, ◌++◌, ◌∷◌, [], suc}
+use Rattle.std.proofs.Common.{◌≡◌, false, get_or, ◌∙◌, sym, subst, arith, length, ◌<◌}
 use Rattle.trie_words.specs.declared.entries.Entry.{Entry}
 use Rattle.lock_free.specs.Repairing.{IsAtCleaned}
-use Rattle.lock_free.proofs.CleanAll.{GoesOver, main_ready, goes_first, entry_ready, goes_on, all_cleaned}
+use Rattle.lock_free.proofs.CleanAll.{main_ready, goes_first, entry_ready, goes_on, all_cleaned}
 use Rattle.lock_free.proofs.cleaning.clean_entries.Goals as goal
 
 pub look_at_main-requires-clause-looking : goal.look_at_main-requires-clause-looking

@@ -1,4 +1,4 @@
-use Rattle.std.proofs.Common.{sym, subst, None}
+use Rattle.std.proofs.Common.{sym, subst}
 use Rattle.lock_free.specs.Contracting.{IsLone}
 use Rattle.lock_free.specs.SeenEntries.{IsAtBranch}
 use Rattle.lock_free.proofs.Contracted.{branch_making}
