@@ -37,7 +37,8 @@ module _ (v : View) (call : Call) (slots : List ℕ) (given : Given) (position v
 
   pub sets : Sets ≡ when_found call value → HasFound v slots (found.Changes (update.Builds (site.At position) (Some value)) given) v
   sets is =
-      found_here v slots (found.Changes (update.Builds (site.At position) (Some value)) given) path main no_ref (line.Build (build.Single path main (site.At position) (Some value))) (on_by Sets is) refl
+      found_here v slots (found.Changes (update.Builds (site.At position) (Some value)) given) path main no_ref (line.Build (build.Single path main (site.At position) (Some value)))
+      (on_by Sets is) refl
       (is_at.2, is_at.3.0)
 
   pub removing_here : Removes ≡ when_found call value → IsHere v slots given (IsRemovingAt v position value)

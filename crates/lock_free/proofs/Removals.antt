@@ -166,7 +166,8 @@ module _ (n : ℕ) (v : View) (sound : IsSound n v) (slots : List ℕ) (given : 
     pub single_ready : HasPosition v given.link.main.slot (1 - position)
     single_ready = has_position_in v main (1 - position) looks kind (omega arith) given.link.main.slot place.link.is.names.place
 
-    pub entombs : (after : View) (entry : Entry) → IsSound n after → HasSeenEntry v given.link.main.slot (1 - position) entry after → HasFound v slots (found.Changes (update.Entombs entry former) given) after
+    pub entombs : (after : View) (entry : Entry) → IsSound n after → HasSeenEntry v given.link.main.slot (1 - position) entry after → HasFound v slots
+        (found.Changes (update.Entombs entry former) given) after
     entombs after entry last g =
         let entry_is : IsEntryIn after main (1 - position) entry.slot entry.is_single = g.1 main (holds_entry_in v main (1 - position) looks kind) place.link.is.names.place in
         let same : entry_in after main (1 - position) ≡ other =
@@ -181,4 +182,5 @@ module _ (n : ℕ) (v : View) (sound : IsSound n v) (slots : List ℕ) (given : 
   -- anything else
   pub removes : rest.Any ≡ rest_in given.header.shape (length slots) → HasFound v slots (found.Changes (update.Removes position former) given) v
   removes is =
-      found_here v slots (found.Changes (update.Removes position former) given) path main other (line.Build (build.Main path main (change.Remove position) (Some former))) (on_by rest.Any is) refl (place, inside)
+      found_here v slots (found.Changes (update.Removes position former) given) path main other (line.Build (build.Main path main (change.Remove position) (Some former))) (on_by rest.Any is) refl
+      (place, inside)

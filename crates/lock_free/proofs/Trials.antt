@@ -1,23 +1,16 @@
 -- KEY from a handle's root.
-use Rattle.std.proofs.Common.{◌≡◌, ◌<◌, ◌^◌, ◌/◌, ◌*◌, ◌==◌, ℕ, false, true, length, List, [], ◌∷◌, Some, refl, sym, ap, subst, ◌∙◌, arith, if◌then◌else◌}
+use Rattle.std.proofs.Common.{◌≡◌, ℕ, false, [], ◌∷◌, Some, refl, sym, ap, subst, ◌∙◌, arith}
 use Rattle.std.proofs.lemmas.Bool.{true≢false}
 use Rattle.history.specs.declared.calls.Access.{Access}
 use Rattle.history.specs.declared.calls.Call.{Call}
 use Rattle.history.specs.declared.calls.Call.TheVariants.{Get, Put, PutIfAbsent, Replace, ReplaceIf, Remove, RemoveIf, Clear, Snapshot, Freeze, Close, Entries, Count}
 use Rattle.machine_model.specs.Beneath.ctrie_base.specs.Hashes.{hash_of}
-use Rattle.machine_model.specs.Beneath.ctrie_base.specs.declared.hashes.HashKind.{HashKind}
 use Rattle.machine_model.specs.Beneath.slot_arena.specs.declared.refs.Ref.{Ref}
-use Rattle.machine_model.specs.declared.finding.KeyLine.TheVariants as key
-use Rattle.machine_model.specs.declared.lines.Line.{Line}
-use Rattle.machine_model.specs.declared.lines.Line.TheVariants as line
 use Rattle.machine_model.specs.declared.operations.Operation.{Operation}
 use Rattle.machine_model.specs.Calls.{copies, handle_of, key_of}
 use Rattle.machine_model.specs.Finding.{going_down}
 use Rattle.machine_model.specs.Lines.{new_try}
 use Rattle.machine_model.specs.Operations.{from_root}
-use Rattle.machine_model.specs.Paths.{current}
-use Rattle.machine_model.specs.Reading.{reading}
-use Rattle.lock_free.specs.declared.reading.Way.{Way}
 use Rattle.lock_free.specs.declared.rooting.Rooted.{Rooted}
 use Rattle.lock_free.specs.declared.rules.View.{View}
 use Rattle.lock_free.specs.declared.tasks.Task.{Task}
@@ -25,7 +18,7 @@ use Rattle.lock_free.specs.Descending.{IsOnPath, IsTask}
 use Rattle.lock_free.specs.Holding.{IsOn}
 use Rattle.lock_free.specs.Loading.{Runs, IsSound}
 use Rattle.lock_free.specs.Passing.{IsOnWay}
-use Rattle.lock_free.specs.Rooting.{HasRooted, IsAtRoot, rooted, rooting_of}
+use Rattle.lock_free.specs.Rooting.{HasRooted, rooted}
 use Rattle.lock_free.specs.Seeking.{IsCalled}
 use Rattle.lock_free.specs.Stocks.{IsStock, Stocked}
 use Rattle.lock_free.proofs.Comings.{runs_one}

@@ -29,12 +29,14 @@ returns-in-Answers-clause-table g c = c.descend.ensures.table ∙ c.loop.invaria
 pub returns-in-Answers-clause-stock : goal.returns-in-Answers-clause-stock
 returns-in-Answers-clause-stock g c =
     let i = c.loop.invariant in
-    stock_there c.args.actor.now.me.0 c.args.path.now.items c.requires.at c.args.task.now c.loop.path.items c.loop.actor.me.0 i.5 c.descend.new.path.items (found.Answers c.in-Answers.reply) c.descend.new.actor.me.0 (c.in-Answers.ensures {u = tt}).found c.args.words.now.table_id.words i.3 c.loop.stock i.4
+    stock_there c.args.actor.now.me.0 c.args.path.now.items c.requires.at c.args.task.now c.loop.path.items c.loop.actor.me.0 i.5 c.descend.new.path.items (found.Answers c.in-Answers.reply)
+    c.descend.new.actor.me.0 (c.in-Answers.ensures {u = tt}).found c.args.words.now.table_id.words i.3 c.loop.stock i.4
 
 pub returns-in-Answers-clause-sought : goal.returns-in-Answers-clause-sought
 returns-in-Answers-clause-sought g c =
     let i = c.loop.invariant in
-    answers c.args.actor.now.me.0 c.args.path.now.items c.requires.at c.args.task.now c.loop.path.items c.loop.actor.me.0 i.5 c.descend.new.path.items c.in-Answers.reply c.descend.new.actor.me.0 (c.in-Answers.ensures {u = tt}).found
+    answers c.args.actor.now.me.0 c.args.path.now.items c.requires.at c.args.task.now c.loop.path.items c.loop.actor.me.0 i.5 c.descend.new.path.items c.in-Answers.reply c.descend.new.actor.me.0
+    (c.in-Answers.ensures {u = tt}).found
 
 pub returns-in-Changes-clause-table : goal.returns-in-Changes-clause-table
 returns-in-Changes-clause-table g c = c.descend.ensures.table ∙ c.loop.invariant.2
@@ -42,12 +44,14 @@ returns-in-Changes-clause-table g c = c.descend.ensures.table ∙ c.loop.invaria
 pub returns-in-Changes-clause-stock : goal.returns-in-Changes-clause-stock
 returns-in-Changes-clause-stock g c =
     let i = c.loop.invariant in
-    stock_there c.args.actor.now.me.0 c.args.path.now.items c.requires.at c.args.task.now c.loop.path.items c.loop.actor.me.0 i.5 c.descend.new.path.items (found.Changes c.in-Changes.update c.in-Changes.given) c.descend.new.actor.me.0 (c.in-Changes.ensures {u = tt}).found c.args.words.now.table_id.words i.3 c.loop.stock i.4
+    stock_there c.args.actor.now.me.0 c.args.path.now.items c.requires.at c.args.task.now c.loop.path.items c.loop.actor.me.0 i.5 c.descend.new.path.items
+    (found.Changes c.in-Changes.update c.in-Changes.given) c.descend.new.actor.me.0 (c.in-Changes.ensures {u = tt}).found c.args.words.now.table_id.words i.3 c.loop.stock i.4
 
 pub returns-in-Changes-clause-sought : goal.returns-in-Changes-clause-sought
 returns-in-Changes-clause-sought g c =
     let i = c.loop.invariant in
-    changes c.args.actor.now.me.0 c.args.path.now.items c.requires.at c.args.task.now c.loop.path.items c.loop.actor.me.0 i.5 c.descend.new.path.items c.in-Changes.update c.in-Changes.given c.descend.new.actor.me.0 (c.in-Changes.ensures {u = tt}).found
+    changes c.args.actor.now.me.0 c.args.path.now.items c.requires.at c.args.task.now c.loop.path.items c.loop.actor.me.0 i.5 c.descend.new.path.items c.in-Changes.update c.in-Changes.given
+    c.descend.new.actor.me.0 (c.in-Changes.ensures {u = tt}).found
 
 pub clean_parent-requires-clause-table : goal.clean_parent-requires-clause-table
 clean_parent-requires-clause-table g c = c.descend.ensures.table ∙ c.loop.invariant.2 ∙ c.requires.table
@@ -55,23 +59,29 @@ clean_parent-requires-clause-table g c = c.descend.ensures.table ∙ c.loop.inva
 pub clean_parent-requires-clause-stock : goal.clean_parent-requires-clause-stock
 clean_parent-requires-clause-stock g c =
     let i = c.loop.invariant in
-    stock_there c.args.actor.now.me.0 c.args.path.now.items c.requires.at c.args.task.now c.loop.path.items c.loop.actor.me.0 i.5 c.descend.new.path.items (found.Cleans) c.descend.new.actor.me.0 (c.in-Cleans.ensures {u = tt}).found c.args.words.now.table_id.words i.3 c.loop.stock i.4
+    stock_there c.args.actor.now.me.0 c.args.path.now.items c.requires.at c.args.task.now c.loop.path.items c.loop.actor.me.0 i.5 c.descend.new.path.items (found.Cleans) c.descend.new.actor.me.0
+    (c.in-Cleans.ensures {u = tt}).found c.args.words.now.table_id.words i.3 c.loop.stock i.4
 
 pub clean_parent-requires-clause-task : goal.clean_parent-requires-clause-task
 clean_parent-requires-clause-task g c =
     let i = c.loop.invariant in
-    task_there c.args.actor.now.me.0 c.args.path.now.items c.requires.at c.args.task.now c.loop.path.items c.loop.actor.me.0 i.5 c.descend.new.path.items found.Cleans c.descend.new.actor.me.0 (c.in-Cleans.ensures {u = tt}).found
+    task_there c.args.actor.now.me.0 c.args.path.now.items c.requires.at c.args.task.now c.loop.path.items c.loop.actor.me.0 i.5 c.descend.new.path.items found.Cleans c.descend.new.actor.me.0
+    (c.in-Cleans.ensures {u = tt}).found
 
 pub clean_parent-requires-clause-some : goal.clean_parent-requires-clause-some
 clean_parent-requires-clause-some g c =
     let i = c.loop.invariant in
     subst (λ xs. 1 < length xs) (sym c.as_slice.ensures.value)
-    (two c.descend.new.actor.me.0 c.descend.new.path.items (parent_ready c.args.actor.now.me.0 c.args.path.now.items c.requires.at c.args.task.now c.loop.path.items c.loop.actor.me.0 i.5 c.descend.new.path.items c.descend.new.actor.me.0 (c.in-Cleans.ensures {u = tt}).found))
+    (two c.descend.new.actor.me.0 c.descend.new.path.items
+    (parent_ready c.args.actor.now.me.0 c.args.path.now.items c.requires.at c.args.task.now c.loop.path.items c.loop.actor.me.0 i.5 c.descend.new.path.items c.descend.new.actor.me.0
+    (c.in-Cleans.ensures {u = tt}).found))
 
 pub clean_parent-requires-clause-at : goal.clean_parent-requires-clause-at
 clean_parent-requires-clause-at g c =
     let i = c.loop.invariant in
-    subst (λ xs. IsToClean c.descend.new.actor.me.0 xs) (sym c.as_slice.ensures.value) (parent_ready c.args.actor.now.me.0 c.args.path.now.items c.requires.at c.args.task.now c.loop.path.items c.loop.actor.me.0 i.5 c.descend.new.path.items c.descend.new.actor.me.0 (c.in-Cleans.ensures {u = tt}).found)
+    subst (λ xs. IsToClean c.descend.new.actor.me.0 xs) (sym c.as_slice.ensures.value)
+    (parent_ready c.args.actor.now.me.0 c.args.path.now.items c.requires.at c.args.task.now c.loop.path.items c.loop.actor.me.0 i.5 c.descend.new.path.items c.descend.new.actor.me.0
+    (c.in-Cleans.ensures {u = tt}).found)
 
 pub returns-in-Cleans-clause-table : goal.returns-in-Cleans-clause-table
 returns-in-Cleans-clause-table g c = c.clean_parent.ensures.table ∙ c.descend.ensures.table ∙ c.loop.invariant.2
@@ -79,7 +89,8 @@ returns-in-Cleans-clause-table g c = c.clean_parent.ensures.table ∙ c.descend.
 pub returns-in-Cleans-clause-sought : goal.returns-in-Cleans-clause-sought
 returns-in-Cleans-clause-sought g c =
     let i = c.loop.invariant in
-    cleaned c.args.actor.now.me.0 c.args.path.now.items c.requires.at c.args.task.now c.loop.path.items c.loop.actor.me.0 i.5 c.descend.new.path.items c.descend.new.actor.me.0 (c.in-Cleans.ensures {u = tt}).found c.clean_parent.result c.clean_parent.new.actor.me.0
+    cleaned c.args.actor.now.me.0 c.args.path.now.items c.requires.at c.args.task.now c.loop.path.items c.loop.actor.me.0 i.5 c.descend.new.path.items c.descend.new.actor.me.0
+    (c.in-Cleans.ensures {u = tt}).found c.clean_parent.result c.clean_parent.new.actor.me.0
     (subst (λ xs. HasSought c.descend.new.actor.me.0 xs c.clean_parent.result c.clean_parent.new.actor.me.0) c.as_slice.ensures.value c.clean_parent.ensures.sought)
 
 pub renew_last-requires-clause-table : goal.renew_last-requires-clause-table
@@ -88,24 +99,28 @@ renew_last-requires-clause-table g c = c.descend.ensures.table ∙ c.loop.invari
 pub renew_last-requires-clause-stock : goal.renew_last-requires-clause-stock
 renew_last-requires-clause-stock g c =
     let i = c.loop.invariant in
-    stock_there c.args.actor.now.me.0 c.args.path.now.items c.requires.at c.args.task.now c.loop.path.items c.loop.actor.me.0 i.5 c.descend.new.path.items (found.Renews c.in-Renews.given) c.descend.new.actor.me.0 (c.in-Renews.ensures {u = tt}).found c.args.words.now.table_id.words i.3 c.loop.stock i.4
+    stock_there c.args.actor.now.me.0 c.args.path.now.items c.requires.at c.args.task.now c.loop.path.items c.loop.actor.me.0 i.5 c.descend.new.path.items (found.Renews c.in-Renews.given)
+    c.descend.new.actor.me.0 (c.in-Renews.ensures {u = tt}).found c.args.words.now.table_id.words i.3 c.loop.stock i.4
 
 pub renew_last-requires-clause-task : goal.renew_last-requires-clause-task
 renew_last-requires-clause-task g c =
     let i = c.loop.invariant in
-    task_there c.args.actor.now.me.0 c.args.path.now.items c.requires.at c.args.task.now c.loop.path.items c.loop.actor.me.0 i.5 c.descend.new.path.items (found.Renews c.in-Renews.given) c.descend.new.actor.me.0 (c.in-Renews.ensures {u = tt}).found
+    task_there c.args.actor.now.me.0 c.args.path.now.items c.requires.at c.args.task.now c.loop.path.items c.loop.actor.me.0 i.5 c.descend.new.path.items (found.Renews c.in-Renews.given)
+    c.descend.new.actor.me.0 (c.in-Renews.ensures {u = tt}).found
 
 pub renew_last-requires-clause-some : goal.renew_last-requires-clause-some
 renew_last-requires-clause-some g c =
     let i = c.loop.invariant in
     subst (λ xs. 0 < length xs) (sym c.as_slice-in-Renews.ensures.value)
-    (last_some c.args.actor.now.me.0 c.args.path.now.items c.requires.at c.args.task.now c.loop.path.items c.loop.actor.me.0 i.5 c.descend.new.path.items c.in-Renews.given c.descend.new.actor.me.0 (c.in-Renews.ensures {u = tt}).found c.args.words.now.table_id.words c.descend.ensures.sound)
+    (last_some c.args.actor.now.me.0 c.args.path.now.items c.requires.at c.args.task.now c.loop.path.items c.loop.actor.me.0 i.5 c.descend.new.path.items c.in-Renews.given
+    c.descend.new.actor.me.0 (c.in-Renews.ensures {u = tt}).found c.args.words.now.table_id.words c.descend.ensures.sound)
 
 pub renew_last-requires-clause-at : goal.renew_last-requires-clause-at
 renew_last-requires-clause-at g c =
     let i = c.loop.invariant in
     subst (λ xs. IsHere c.descend.new.actor.me.0 xs c.in-Renews.given (IsToRenew c.descend.new.actor.me.0)) (sym c.as_slice-in-Renews.ensures.value)
-    (last_ready c.args.actor.now.me.0 c.args.path.now.items c.requires.at c.args.task.now c.loop.path.items c.loop.actor.me.0 i.5 c.descend.new.path.items c.in-Renews.given c.descend.new.actor.me.0 (c.in-Renews.ensures {u = tt}).found)
+    (last_ready c.args.actor.now.me.0 c.args.path.now.items c.requires.at c.args.task.now c.loop.path.items c.loop.actor.me.0 i.5 c.descend.new.path.items c.in-Renews.given
+    c.descend.new.actor.me.0 (c.in-Renews.ensures {u = tt}).found)
 
 pub loop-preserved : goal.loop-preserved
 loop-preserved g c =
@@ -115,7 +130,8 @@ loop-preserved g c =
       c.renew_last.ensures.table ∙ c.descend.ensures.table ∙ i.2,
       c.renew_last.ensures.sound,
       c.renew_last.ensures.stock,
-      reads_again c.args.actor.now.me.0 c.args.path.now.items c.requires.at c.args.task.now c.loop.path.items c.loop.actor.me.0 i.5 c.descend.new.path.items c.in-Renews.given c.descend.new.actor.me.0 (c.in-Renews.ensures {u = tt}).found c.args.words.now.table_id.words c.descend.ensures.sound c.renew_last.new.actor.me.0
+      reads_again c.args.actor.now.me.0 c.args.path.now.items c.requires.at c.args.task.now c.loop.path.items c.loop.actor.me.0 i.5 c.descend.new.path.items c.in-Renews.given
+          c.descend.new.actor.me.0 (c.in-Renews.ensures {u = tt}).found c.args.words.now.table_id.words c.descend.ensures.sound c.renew_last.new.actor.me.0
           (subst (λ xs. HasRenewedLast c.descend.new.actor.me.0 xs renewed.Reads c.renew_last.new.actor.me.0) c.as_slice-in-Renews.ensures.value (c.in-Reads.ensures {u = tt}).renewed),
     )
 
@@ -125,7 +141,8 @@ returns-in-Again-clause-table g c = c.renew_last.ensures.table ∙ c.descend.ens
 pub returns-in-Again-clause-sought : goal.returns-in-Again-clause-sought
 returns-in-Again-clause-sought g c =
     let i = c.loop.invariant in
-    begins_anew c.args.actor.now.me.0 c.args.path.now.items c.requires.at c.args.task.now c.loop.path.items c.loop.actor.me.0 i.5 c.descend.new.path.items c.in-Renews.given c.descend.new.actor.me.0 (c.in-Renews.ensures {u = tt}).found c.renew_last.new.actor.me.0
+    begins_anew c.args.actor.now.me.0 c.args.path.now.items c.requires.at c.args.task.now c.loop.path.items c.loop.actor.me.0 i.5 c.descend.new.path.items c.in-Renews.given
+    c.descend.new.actor.me.0 (c.in-Renews.ensures {u = tt}).found c.renew_last.new.actor.me.0
     (subst (λ xs. HasRenewedLast c.descend.new.actor.me.0 xs renewed.Again c.renew_last.new.actor.me.0) c.as_slice-in-Renews.ensures.value (c.in-Again.ensures {u = tt}).renewed)
 
 pub returns-in-Full-clause-table : goal.returns-in-Full-clause-table
@@ -134,5 +151,6 @@ returns-in-Full-clause-table g c = c.renew_last.ensures.table ∙ c.descend.ensu
 pub returns-in-Full-clause-sought : goal.returns-in-Full-clause-sought
 returns-in-Full-clause-sought g c =
     let i = c.loop.invariant in
-    has_no_slot c.args.actor.now.me.0 c.args.path.now.items c.requires.at c.args.task.now c.loop.path.items c.loop.actor.me.0 i.5 c.descend.new.path.items c.in-Renews.given c.descend.new.actor.me.0 (c.in-Renews.ensures {u = tt}).found c.renew_last.new.actor.me.0
+    has_no_slot c.args.actor.now.me.0 c.args.path.now.items c.requires.at c.args.task.now c.loop.path.items c.loop.actor.me.0 i.5 c.descend.new.path.items c.in-Renews.given
+    c.descend.new.actor.me.0 (c.in-Renews.ensures {u = tt}).found c.renew_last.new.actor.me.0
     (subst (λ xs. HasRenewedLast c.descend.new.actor.me.0 xs renewed.Full c.renew_last.new.actor.me.0) c.as_slice-in-Renews.ensures.value (c.in-Full.ensures {u = tt}).renewed)

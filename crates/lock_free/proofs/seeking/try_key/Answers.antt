@@ -1,6 +1,6 @@
-use Rattle.std.proofs.Common.{◌≡◌, ◌++◌, ◌∷◌, [], false, sym, ap, subst, ◌∙◌}
+use Rattle.std.proofs.Common.{◌++◌, ◌∷◌, [], sym, ap, subst, ◌∙◌}
 use Rattle.machine_model.specs.Beneath.ctrie_base.specs.Hashes.{hash_of}
-use Rattle.lock_free.specs.Descending.{IsOnPath, IsTask}
+use Rattle.lock_free.specs.Descending.{IsOnPath}
 use Rattle.lock_free.specs.Passing.{IsOnWay}
 use Rattle.lock_free.specs.Rooting.{HasRooted}
 use Rattle.lock_free.proofs.Trials.{way_called, root_ready, task_ready, stock_ready}
@@ -37,7 +37,8 @@ returns-clause-tried g c =
       x.new.actor.me.0,
       x.result.slot,
       subst (λ k. HasRooted c.args.actor.now.me.0 (record { slot = x.result.slot; generation = k }) x.new.actor.me.0) (sym t.ensures.given.2) x.ensures.rooted,
-      task_ready c.args.actor.now.me.0 c.requires.at c.args.call c.args.access c.requires.called c.requires.keyed x.result x.new.actor.me.0 x.ensures.rooted t.result t.ensures.given.0 t.ensures.given.1
+      task_ready c.args.actor.now.me.0 c.requires.at c.args.call c.args.access c.requires.called c.requires.keyed x.result x.new.actor.me.0 x.ensures.rooted t.result t.ensures.given.0
+          t.ensures.given.1
           t.ensures.given.2 t.ensures.key (t.ensures.hash ∙ ap (λ h. hash_of h t.result.key) c.requires.hashes),
       c.seek-sought.ensures.sought,
     )
