@@ -23,9 +23,9 @@ What is otherwise than of a dictionary:
 - `|`, `reversed`, `copy` and `fromkeys` aren't there, and `repr` shows how many keys there are, by such a walk, and no entries.
 
 A map and its copies may be used by any thread: the calls of a map take turns at its lock, and those that may take long let other threads
-run meanwhile. Each call is made whole; what takes several, as `setdefault`, `update`, `popitem` of all or a listing, others may come
-between. (That a thread may go on with a map that another one made is tested, and not proved: include/ctrie.h says what is.) They aren't
-used in a child made by fork.
+run meanwhile. Each is made whole; where a method takes several, as `setdefault`, `update` or a listing, those of other threads may come
+between them. (That a thread may go on with a map that another one made is tested, and not proved: include/ctrie.h says what is.) They
+aren't used in a child made by fork.
 
 The library is the shared object that `./build ctrie_c` makes. It is the file that the environment's CTRIE_LIBRARY names, or else
 libctrie.so beside this file, the one that was built, or the one that the system finds. Where there is none, or another version, the
