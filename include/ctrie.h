@@ -7,7 +7,7 @@
  *
  *     struct ctrie map = CTRIE_NONE;
  *     uint64_t value;
- *     uint32_t code = ctrie_new(&map, 1024, CTRIE_WIDE);
+ *     uint32_t code = ctrie_new(&map, ctrie_slots_for(300), CTRIE_WIDE); // for some 300 keys
  *     if (!CTRIE_REFUSED(code)) code = ctrie_put(&map, 0, 7, 250, NULL);
  *     if (!CTRIE_REFUSED(code)) code = ctrie_get(&map, 0, 7, &value);
  *     if (code == CTRIE_YES) printf("%llu\n", (unsigned long long)value);
@@ -248,8 +248,8 @@ CTRIE_MUST_USE
 uint32_t ctrie_free_slots(struct ctrie *map, uint32_t *free);
 
 /* ---- changing: NO_HANDLE, READ_ONLY, FULL, WORN_OUT, NO_MAP; others only where it is said, and no memory but there.
-   FULL is none while one handle alone is open, but a call that gives a value to a key that has none. For the place of
-   the value before NULL may stand */
+   While one handle alone is open none is FULL but a call that gives a value to a key that has none, and ctrie_put_all,
+   which works on a copy. For the place of the value before NULL may stand */
 
 /* Sets the key's value. YES with the value before, or NO where it had none. CROWDED. */
 CTRIE_MUST_USE

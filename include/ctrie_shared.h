@@ -11,7 +11,7 @@
  * hasn't slots, diff, put_all, pop, open_handles and entries after a cursor (scan has one).
  *
  *     struct ctrie_seat seats[4] = {CTRIE_NO_SEAT, CTRIE_NO_SEAT, CTRIE_NO_SEAT, CTRIE_NO_SEAT};
- *     if (ctrie_shared_new(seats, 4, 1024, CTRIE_WIDE, 8) != CTRIE_DONE) return 1;
+ *     if (ctrie_shared_new(seats, 4, ctrie_slots_for(300), CTRIE_WIDE, 8) != CTRIE_DONE) return 1; // for some 2,000 keys
  *     ... each thread has one of them: ctrie_shared_put(&seats[i], 0, 7, 250, NULL) ...
  *     for (int i = 0; i < 4; i++) ctrie_shared_free(&seats[i]);
  *

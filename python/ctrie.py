@@ -2,14 +2,14 @@
 
     import ctrie
 
-    with ctrie.Map(1024) as stock:
+    with ctrie.Map(keys=300) as stock:
         stock[7] = 250
         with stock.freeze() as morning:
             stock[7] = 300
             print(morning[7], stock[7])
 
-It prints 250 300. A `Map` is a dictionary of whole numbers from 0 to 2^64 - 1, in a given number of slots for nodes, whose memory is what
-it took at first. A snapshot or a freeze of it is one too, in the same slots: it has what the map has at that moment, by a bounded number of
+It prints 250 300. A `Map` is a dictionary of whole numbers from 0 to 2^64 - 1, in a fixed number of slots for nodes, that it is given or
+that goes by a number of keys; its memory is what it took at first. A snapshot or a freeze of it is one too, in the same slots: it has what the map has at that moment, by a bounded number of
 steps, and changes on its own or never. A map goes back to a copy by `restore`, `diff` returns what has changed since, and `put_all`
 sets several keys, all or none.
 

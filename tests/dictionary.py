@@ -357,6 +357,23 @@ class Lives(unittest.TestCase):
         for call in (lambda: one.get_many([1]), lambda: one.get_many([]), lambda: one.put_many({})):
             self.assertRaises(ctrie.Closed, call)
 
+    def test_a_full_map_goes_on(self):
+        """What is there can be changed and removed, after a copy was open too."""
+        with ctrie.Map(64) as one:
+            with self.assertRaises(ctrie.Full) as refused:
+                one.put_many((7_919 * at, at) for at in range(1_000))
+            keys = list(one)
+            self.assertEqual((len(keys), one.free_slots), (refused.exception.done, 0))
+            self.assertRaises(ctrie.Full, one.freeze)
+            while not one.free_slots:
+                del one[keys.pop()]
+            one.freeze().close()
+            for key in keys:
+                one[key] = 1
+            for key in keys:
+                del one[key]
+            self.assertEqual(dict(one), {})
+
     def test_how_many_were_set(self):
         """Of 33 keys of one hash the last is refused."""
         with ctrie.Map(4_096, ctrie.Hash.LOW) as one:

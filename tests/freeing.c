@@ -5,9 +5,9 @@
 
 enum { MAPS = 200, SLOTS = 65536, SHARDS = 8, SEATS = 4 };
 
-/* Whether a map was made; what was told of it is written where it wasn't. */
+/* Whether a map was made; its answer is written where it wasn't. */
 static bool is_made(const char *call, uint32_t code, int made) {
-    if (code != CTRIE_DONE) printf("%s told %u behind %d maps\n", call, (unsigned)code, made);
+    if (code != CTRIE_DONE) printf("%s answered %u after %d maps\n", call, (unsigned)code, made);
     return code == CTRIE_DONE;
 }
 
@@ -15,11 +15,11 @@ int main(void) {
     struct ctrie map = CTRIE_NONE;
     struct ctrie_seat seats[SEATS] = {CTRIE_NO_SEAT, CTRIE_NO_SEAT, CTRIE_NO_SEAT, CTRIE_NO_SEAT};
     for (int made = 0; made < MAPS; made++) {
-        if (!is_made("ctrie_new", ctrie_new(&map, SLOTS, CTRIE_LOW), made)) return 1;
+        if (!is_made("ctrie_new", ctrie_new(&map, SLOTS, CTRIE_WIDE), made)) return 1;
         ctrie_free(&map);
     }
     for (int made = 0; made < MAPS; made++) {
-        if (!is_made("ctrie_shared_new", ctrie_shared_new(seats, SEATS, SLOTS / SHARDS, CTRIE_LOW, SHARDS), made)) return 1;
+        if (!is_made("ctrie_shared_new", ctrie_shared_new(seats, SEATS, SLOTS / SHARDS, CTRIE_WIDE, SHARDS), made)) return 1;
         for (int seat = 0; seat < SEATS; seat++) ctrie_shared_free(&seats[seat]);
     }
     return 0;

@@ -107,7 +107,7 @@ int main(void) {
     for (uint32_t code = 0; code <= CTRIE_NULL; code++) printf("code %u: %s\n", (unsigned)code, ctrie_error(code));
     TELL("get of no map", ctrie_get(&map, 0, 1, &value), value);
     lists_no_map();
-    TELL("new of 2 slots", ctrie_new(&map, 2, CTRIE_LOW), 0);
+    TELL("new of 2 slots", ctrie_new(&map, 2, CTRIE_WIDE), 0);
     TELL("new of no hash", ctrie_new(&map, 64, 4), 0);
     TELL("new", ctrie_new(&map, 64, CTRIE_WIDE), 0);
     TELL("new again", ctrie_new(&map, 64, CTRIE_WIDE), 0);

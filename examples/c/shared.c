@@ -145,6 +145,6 @@ int main(void) {
     for (i = 0; i <= WORKERS; i++) ctrie_shared_free(&seats[i]);
     ctrie_shared_free(mine); /* once more, where none is held */
     printf("after that: %s\n", ctrie_shared_error(ctrie_shared_put(mine, 0, 7, 1, NULL)));
-    printf("a map without seats: %s\n", ctrie_shared_error(ctrie_shared_open(mine, 64, CTRIE_LOW, 0, 1)));
+    printf("a map without seats: %s\n", ctrie_shared_error(ctrie_shared_open(mine, 64, CTRIE_WIDE, 0, 1)));
     return 0;
 }

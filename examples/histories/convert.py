@@ -6,6 +6,7 @@ It reads
 - Jepsen's histories of a register, with :read, :write and :cas; where all values are tuples `[k v]`, of a register for each k;
 - porcupine's logs of a map from strings to strings, with :get, :put and :append;
 - the same as JSON: `{"process": 0, "type": "invoke", "f": "read", "value": null}`, one event a line or all in an array;
+- whole operations as JSON, with the times of their begins and ends: `{"process": 0, "f": "read", "value": 5, "begin": 10, "end": 12.5}`;
 - Jepsen's older logs, `0 :invoke :read nil`, one event a line; standard error says how many other lines were passed over.
 
 A register is a key of the map, which has no value at first (nil, and in a log ""), or with --initial this one: then each key is put first.

@@ -1,10 +1,13 @@
 """Reads events that stand as JSON: objects one after the other, as one a line, or in an array. They become what edn.py makes of the same
-events in edn, where the names of an event's parts, its type and its call are keywords."""
+events in edn, where the names of an event's parts, its type and its call are keywords. An object may also be a whole operation, with the
+times of its begin and its end: then all are, and become events in order of time."""
 import json
 import re
+from fractions import Fraction
 
 from edn import Fault, Word
 
+TYPE, CALL, VALUE, BEGIN, END = (Word(f":{name}") for name in ("type", "f", "value", "begin", "end"))
 BEGINS = re.compile(r'\s*(?:\[\s*)?\{\s*["}]')
 SPACE = re.compile(r"\s*")
 
@@ -33,6 +36,42 @@ def event(value):
         return form(value)
     parts = {keyword(name): form(part) for name, part in value.items()}
     return {name: keyword(part) if str(name) in (":type", ":f") else part for name, part in parts.items()}
+
+
+def time_of(line, form, name):
+    """Returns a time of an operation, a number in whatever unit; None where there is none."""
+    told = form.get(name)
+    if told is None:
+        return None
+    try:
+        if isinstance(told, (int, Word)):
+            return Fraction(str(told))
+    except ValueError:
+        pass
+    raise Fault(line, f"the time of its {str(name)[1:]} is no number")
+
+
+def events_of(line, form):
+    """Yields the events of a whole operation, each with what it is sorted by. At one time begins go first, so the two overlap."""
+    begin, end = time_of(line, form, BEGIN), time_of(line, form, END)
+    if begin is None or (end is not None and end < begin):
+        raise Fault(line, "this operation has no begin, or ends before it")
+    # A read's value is what it found.
+    value = form.get(VALUE)
+    unread = [value[0], None] if isinstance(value, list) and value else None
+    yield (begin, 0), (line, {**form, TYPE: Word(":invoke"), VALUE: unread if str(form.get(CALL)) in (":read", ":get") else value})
+    if end is not None:
+        yield (end, 1), (line, {**form, TYPE: form.get(TYPE, Word(":ok"))})
+
+
+def in_time(found):
+    """Returns the events of these forms, where they are whole operations by time."""
+    whole = [isinstance(form, dict) and (BEGIN in form or END in form) for _, form in found]
+    if not any(whole):
+        return found
+    if not all(whole):
+        raise Fault(found[whole.index(False)][0], "others are whole operations, with a begin and an end, and this isn't")
+    return [event for _, event in sorted((it for line, form in found for it in events_of(line, form)), key=lambda it: it[0])]
 
 
 class Reader:
@@ -73,11 +112,11 @@ def forms(text):
     if not reader.takes("["):
         while reader.at < len(text):
             found.append(reader.event())
-        return found
+        return in_time(found)
     while not reader.takes("]"):
         if found and not reader.takes(","):
             raise Fault(reader.line, "a comma or the end of the array is missing here")
         found.append(reader.event())
     if reader.at < len(text):
         raise Fault(reader.line, "something stands after the array")
-    return found
+    return in_time(found)

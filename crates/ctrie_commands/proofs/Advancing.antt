@@ -1,6 +1,6 @@
 -- What a thread has done once it has performed one call more.
 use Rattle.std.proofs.Common.{◌≡◌, ℕ, ◌+◌, ◌<◌, ◌==◌, inl, inr, List, [], ◌∷◌, ◌++◌, take, get_or, length, Bool, true, false, if◌then◌else◌, refl, sym, ap, subst, ◌∙◌, append-nil}
-use Rattle.std.specs.Prelude.{Err}
+use Rattle.std.specs.Prelude.{Err, None as Unchosen}
 use Rattle.std.proofs.lemmas.Option.{none-some}
 use Rattle.std.proofs.lemmas.List.{take_more, map-append}
 use Rattle.std.proofs.lemmas.List.Elements.{Contains-push, Contains-append_left}
@@ -58,8 +58,8 @@ module _ (actor : ℕ) (before after : Worker) (gone : HasGoneOn before.seat aft
   denies : (call : Call) (refusal : Refusal) → HasEnded before → WasDenied call refusal before.seat after.seat → RunsJust actor (past_of after.seat.seen).events after.seat.running →
       Denies actor before.denied.items call refusal after.seat.seen
   denies call refusal (inl idle) (inl (still, denied)) just =
-      inl (inl (nothing_runs actor after.seat.seen after.seat just (still ∙ idle)), subst (λ a. next (state_of after.seat.seen) (step.Begin a call) ≡ Err refusal) owns denied)
-  denies call refusal (inr told) (inl (still, denied)) just = inl (inr told, subst (λ a. next (state_of after.seat.seen) (step.Begin a call) ≡ Err refusal) owns denied)
+      inl (inl (nothing_runs actor after.seat.seen after.seat just (still ∙ idle)), subst (λ a. next (state_of after.seat.seen) (step.Begin a call Unchosen) ≡ Err refusal) owns denied)
+  denies call refusal (inr told) (inl (still, denied)) just = inl (inr told, subst (λ a. next (state_of after.seat.seen) (step.Begin a call Unchosen) ≡ Err refusal) owns denied)
   denies call refusal ended (inr (runs, denied, spent)) just =
       inr ((runs.0, just.own runs.0 runs.1, runs.2), subst (λ a. next (state_of after.seat.seen) (step.Go a) ≡ Err Spent) owns denied, spent)
 

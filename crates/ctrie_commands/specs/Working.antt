@@ -1,5 +1,6 @@
 -- What a thread does with the lines of a script that are its actor's.
 use Rattle.std.specs.Prelude.{◌≡◌, ℕ, ◌+◌, ◌<◌, ◌≤◌, ◌==◌, ◌⊎◌, Bool, true, false, List, [], ◌∷◌, ◌++◌, map, length, slice_get, Some, Result, Ok, Err, All, sum_by, count_by, if◌then◌else◌}
+use Rattle.std.specs.Prelude.{None as Unchosen}
 use Rattle.std.specs.List.{flat_map, AllZip, Contains}
 use Rattle.std.specs.declared.alloc.AllocError.{AllocError}
 use Rattle.std.specs.Global.{Vec}
@@ -70,7 +71,7 @@ RunsCall actor call board = (operation : Running) × IsBegunIn (past_of board).e
 -- call has begun, and its next step is denied since the machine has taken all its steps.
 abbrev pub Denies : ℕ → List Refusal → Call → Refusal → Taken → Type 0
 Denies actor denied call refusal board =
-    ((RunsNothing actor board ⊎ Contains denied Spent) × (next (state_of board) (step.Begin actor call) ≡ Err refusal))
+    ((RunsNothing actor board ⊎ Contains denied Spent) × (next (state_of board) (step.Begin actor call Unchosen) ≡ Err refusal))
     ⊎ (RunsCall actor call board × (next (state_of board) (step.Go actor) ≡ Err Spent) × (refusal ≡ Spent))
 
 -- just these calls of the actor have been answered
@@ -111,7 +112,7 @@ SeatRuns call seat = (operation : Running) × (seat.running ≡ Some operation) 
 -- the call didn't begin, since the definition denies it, and what ran before runs still; or it runs, and the machine has taken all its steps
 abbrev pub WasDenied : Call → Refusal → Seated → Seated → Type 0
 WasDenied call refusal before after =
-    ((after.running ≡ before.running) × IsDenied after (step.Begin after.actor call) refusal)
+    ((after.running ≡ before.running) × IsDenied after (step.Begin after.actor call Unchosen) refusal)
     ⊎ (SeatRuns call after × IsDenied after (step.Go after.actor) Spent × (refusal ≡ Spent))
 
 -- the answers that the seat has, and what it runs, are all that the machine tells of its actor

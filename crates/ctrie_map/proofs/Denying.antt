@@ -93,7 +93,7 @@ module _ (state : State) (run : IsOfRun state) (rest : is_busy state ≡ false) 
     is_the_actor : is_actor state the_actor ≡ true
     is_the_actor = ap (λ n. nat_le the_actor n) one
 
-    denial_so : begin_denial state the_actor c ≡ reasons true false (access_of (root_at state (handle_of c))) (needs_writable c) false false (opens_handle c)
+    denial_so : begin_denial state the_actor c None ≡ reasons true false (access_of (root_at state (handle_of c))) (needs_writable c) false false (opens_handle c)
         (nat_le handle_limit (map.len (world_of state))) (is_spent state)
     denial_so =
         let access = access_of (root_at state (handle_of c)) in
@@ -110,7 +110,7 @@ module _ (state : State) (run : IsOfRun state) (rest : is_busy state ≡ false) 
         ∙ ap (λ n. reasons true false access writes false false opens (nat_le handle_limit n) spent) (taken_at_rest)
 
     -- so it is due in the map
-    pub due : Due (core_denial state c) (is_spent state) (begin_denial state the_actor c)
+    pub due : Due (core_denial state c) (is_spent state) (begin_denial state the_actor c None)
     due =
         let world = world_of state in
         let spent = is_spent state in
@@ -118,7 +118,7 @@ module _ (state : State) (run : IsOfRun state) (rest : is_busy state ≡ false) 
         ≡ denial_by (needs_writable c) (opens_handle c) (option_map (named_at state (handle_of c)) (root_at state (handle_of c))) (map.len world) =
         ap (λ s. denial_by (needs_writable c) (opens_handle c) s (map.len world)) (shows_roots state (handle_of c)) in
         let by_root = denial_by (needs_writable c) (opens_handle c) (option_map (named_at state (handle_of c)) (root_at state (handle_of c))) (map.len world) in
-        subst (λ d. Due d spent (begin_denial state the_actor c)) (sym at) (subst (Due by_root spent) (sym denial_so)
+        subst (λ d. Due d spent (begin_denial state the_actor c None)) (sym at) (subst (Due by_root spent) (sym denial_so)
         (due_by state (handle_of c) (root_at state (handle_of c)) (needs_writable c) (opens_handle c) spent (map.len world)))
 
 -- ---- what is told
@@ -155,11 +155,11 @@ worn_when_spent state spent = grind (arith, spent)
 
 -- so a call is begun that nothing denies in the map, where it isn't worn out
 pub is_begun : (state : State) → IsOfRun state → is_busy state ≡ false → state.limits.actors ≡ 1 →
-    (c : Call) → IsChange c → core_denial state c ≡ None → is_worn_out state ≡ false → begin_denial state the_actor c ≡ None
+    (c : Call) → IsChange c → core_denial state c ≡ None → is_worn_out state ≡ false → begin_denial state the_actor c None ≡ None
 is_begun state run rest one c change allowed life =
-    by_denial (begin_denial state the_actor c) refl (subst (λ d. Due d (is_spent state) (begin_denial state the_actor c)) allowed (due state run rest one c change))
+    by_denial (begin_denial state the_actor c None) refl (subst (λ d. Due d (is_spent state) (begin_denial state the_actor c None)) allowed (due state run rest one c change))
   where
-    by_denial : (d : Option Refusal) → begin_denial state the_actor c ≡ d → Due None (is_spent state) d → begin_denial state the_actor c ≡ None
+    by_denial : (d : Option Refusal) → begin_denial state the_actor c None ≡ d → Due None (is_spent state) d → begin_denial state the_actor c None ≡ None
     by_denial None is due_so = is
     by_denial (Some why) is due_so = absurd (false≢true (sym life ∙ worn_when_spent state due_so.1))
 

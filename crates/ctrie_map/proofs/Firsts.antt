@@ -143,7 +143,7 @@ module _ (slots : ℕ) (hash : HashKind) where
 
   pub refuses : AreSlots slots → (why : Refusal) (told : MapError) → told ≡ of_refusal why → RefusesBounds sizes why → RefusesSizes slots told
   refuses asked why told e (inl (bad, is)) =
-      let low = asked.0 in let high = asked.1 in absurd (bad ((omega (arith, low), omega arith, omega arith), omega arith, omega (arith, high)))
+      let low = asked.0 in let high = asked.1 in absurd (bad ((omega (arith, low), omega arith, omega arith), omega arith, omega arith, omega (arith, high)))
   refuses asked why told e (inr (ok, is)) = inr (asked, e ∙ ap of_refusal is)
 
 -- ---- how many slots may be asked for

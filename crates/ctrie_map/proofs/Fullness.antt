@@ -6,7 +6,7 @@ use Rattle.ctrie_map.specs.Vocabulary.{Call, Reply, NoSlots, State}
 use Rattle.history.specs.declared.calls.Call.TheVariants as call
 use Rattle.ctrie_map.specs.declared.errors.MapError.{MapError}
 use Rattle.ctrie_map.specs.declared.errors.MapError.TheVariants as error
-use Rattle.ctrie_map.specs.Changes.{HasKey, IsAlone, IsFullFor, Refuses, core_call}
+use Rattle.ctrie_map.specs.Changes.{HasKey, IsAlone, IsFullFor, OneHandleHasSlots, Refuses, core_call}
 use Rattle.ctrie_map.specs.Cores.{LacksSlotsBy, adds, is_without}
 use Rattle.ctrie_map.specs.Maps.{MapState, handles_of}
 use Rattle.ctrie_map.specs.Popping.{RefusesPop, key_in}
@@ -18,9 +18,12 @@ others_open : (b : Bool) (many : ℕ) (core : State) (c : Call) → LacksSlotsBy
 others_open true many core c lacks e = cc e
 others_open false many core c lacks e = lacks.0
 
+pub one_handle_has_slots : OneHandleHasSlots
+one_handle_has_slots before c alone none lacks =
+    let two = others_open (adds (handles_of before) c) (map.len (handles_of before)) before.core (core_call before c) lacks none in omega (arith, two, alone)
+
 never_full : (before : MapState) (c : Call) (Crowds : Type 0) (after : MapState) → IsAlone before → adds (handles_of before) c ≡ false → Refuses before c Crowds after error.Full → ⊥
-never_full before c Crowds after alone none p =
-    let two = others_open (adds (handles_of before) c) (map.len (handles_of before)) before.core (core_call before c) p.2 none in omega (arith, two, alone)
+never_full before c Crowds after alone none p = one_handle_has_slots before c alone none p.2
 
 -- it goes on
 pub goes_on : {A : Type 0} (before : MapState) (c : Call) (Crowds : Type 0) (after : MapState) (told : Result A MapError) → IfErr told (Refuses before c Crowds after) →

@@ -1,5 +1,5 @@
 -- A call of the core that goes on to its end, and the sweep behind it: no step of either is refused.
-use Rattle.std.specs.Prelude.{◌≡◌, ◌+◌, ◌-◌, ◌<◌, ℕ, zero, suc, true, false, Some, Result, Ok, Err}
+use Rattle.std.specs.Prelude.{None, ◌≡◌, ◌+◌, ◌-◌, ◌<◌, ℕ, zero, suc, true, false, Some, Result, Ok, Err}
 use Rattle.std.proofs.Common.{sym, ap, subst, inl, inr, arith, ◌∙◌}
 use Rattle.ctrie_map.specs.Vocabulary.{Kind, Refusal, Call, Reply, Operation, Outcome, Began, Went, Ended, Go, needs_read_only, Answer, is_busy, is_spent, next, State, operation_of}
 use Rattle.history.specs.declared.calls.Call.TheVariants as call
@@ -34,18 +34,18 @@ IsOnWay start c now = (n : ℕ) × GoesOn start the_actor c n now
 
 module _ (start : State) (c : Call) (can : CanCall start the_actor c) where
   module _ (law : CallsBegin) where
-    begins_by : (id : ℕ) (after first : State) → GoesOn start the_actor c zero first → next start (Begin the_actor c) ≡ Ok (Began id, after) → GoesOn start the_actor c zero after
+    begins_by : (id : ℕ) (after first : State) → GoesOn start the_actor c zero first → next start (Begin the_actor c None) ≡ Ok (Began id, after) → GoesOn start the_actor c zero after
     begins_by id after first (starts e) is =
         let same : first ≡ after = ap (λ p. p.1) (same_answer _ _ (sym e ∙ is)) in subst (GoesOn start the_actor c zero) same (starts e)
 
     -- it begins
-    pub begins : (id : ℕ) (after : State) → next start (Begin the_actor c) ≡ Ok (Began id, after) → IsOnWay start c after
+    pub begins : (id : ℕ) (after : State) → next start (Begin the_actor c None) ≡ Ok (Began id, after) → IsOnWay start c after
     begins id after is = let (first, goes) = law start the_actor c can in (0, begins_by id after first goes is)
 
-    not_refused_by : (why : Refusal) (first : State) → GoesOn start the_actor c zero first → next start (Begin the_actor c) ≡ Err why → ⊥
+    not_refused_by : (why : Refusal) (first : State) → GoesOn start the_actor c zero first → next start (Begin the_actor c None) ≡ Err why → ⊥
     not_refused_by why first (starts e) is = no_refusal _ _ why e is
 
-    pub begin_not_refused : (why : Refusal) (after : State) → Answers (Err why) start (next start (Begin the_actor c)) after → ⊥
+    pub begin_not_refused : (why : Refusal) (after : State) → Answers (Err why) start (next start (Begin the_actor c None)) after → ⊥
     begin_not_refused why after refused = let (first, goes) = law start the_actor c can in not_refused_by why first goes refused.1
 
   module _ (law : CallsGoOn) (now : State) (way : IsOnWay start c now) where

@@ -113,6 +113,10 @@ IsFullFor before call = (denial_in before call ≡ None) × HasLife before × (a
 abbrev pub IsAlone : MapState → Type 0
 IsAlone before = map.len (handles_of before) ≡ 1
 
+-- then no call lacks slots but one that adds a key or a copy
+abbrev pub OneHandleHasSlots : Type 0
+OneHandleHasSlots = (before : MapState) (call : Call) → IsAlone before → adds (handles_of before) call ≡ false → ¬ LacksSlots before call
+
 -- the handle is open, and the key has a value in its map
 abbrev pub HasKey : MapState → ℕ → ℕ → Type 0
 HasKey before handle key = (shown : HandleState) × (map.get (handles_of before) handle ≡ Some shown) × (map.contains_key shown.pairs key ≡ true)

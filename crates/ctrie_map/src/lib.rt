@@ -32,7 +32,7 @@ pub use ctrie_base::HashKind;
 pub use errors::MapError;
 pub use handle::Handle;
 pub use handles::OpenHandles;
-pub use laws::{all_are_listed, parts_join};
+pub use laws::{all_are_listed, one_handle_has_slots, parts_join};
 pub use machine_core::Difference;
 pub use map::Map;
 pub use sizing::slots_for;

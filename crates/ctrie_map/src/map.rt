@@ -39,8 +39,8 @@ fn is_no_size(slots: u32) -> bool
 /// `MapError` holds of every call that names it: so `NoHandle` comes where a handle isn't open, `ReadOnly` where the map was
 /// to be changed by a read-only one, `WornOut` where no more steps are left than the call may take.
 ///
-/// While one handle alone is open, no call is `Full` that adds no key and no copy: what is there can always be changed and
-/// taken out. A call that adds is `Full` exactly where `free` is 0. Another one can be `Full` where `free` is 0 and other
+/// While one handle alone is open, no call is `Full` that adds no key and no copy, as `put_all` does: what is there can always
+/// be changed and taken out. A call that adds is `Full` exactly where `free` is 0. Another one can be `Full` where `free` is 0 and other
 /// handles are open; closing these, which is never `Full`, helps.
 #[repr(C)]
 pub struct Map {

@@ -46,9 +46,6 @@ length-with_prev heap r p = length-set heap.slots (slot_of r) (option_map (prev_
 pub length-freed : (heap : Heap) (r : Ref) → length (freed heap r).slots ≡ length heap.slots
 length-freed heap r = ap (λ (h : Heap). length h.slots) (freed_seen heap r) ∙ length-set heap.slots (slot_of r) None
 
-pub live_slot : (heap : Heap) (r : Ref) → IsLive heap r → slot_of r < length heap.slots
-live_slot heap r has = live_within heap.slots r (live_seen heap r has)
-
 -- ---- members
 
 pub all_members : (rs : List Ref) → All (λ r. 0 < times r rs) rs

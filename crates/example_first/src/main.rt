@@ -1,11 +1,11 @@
 //! The plain map in ten lines.
 #![tactic(auto)]
 
-use ctrie_map::{Handle, HashKind, Map, MapError};
+use ctrie_map::{Handle, HashKind, Map, MapError, slots_for};
 
 fn main(rt: HostRuntime) -> Result<(), MapError> {
     let stock = Handle::first();
-    let mut map = Map::new(rt.alloc(), 1_024, HashKind::Wide)?;
+    let mut map = Map::new(rt.alloc(), slots_for(300), HashKind::Wide)?;
     map.put(stock, 7, 250)?;
     map.put(stock, 8, 40)?;
     let morning = map.freeze(stock)?;

@@ -1,5 +1,5 @@
 -- How the numbers of keys with one hash change with the entries.
-use Rattle.std.proofs.Common.{◌≡◌, ℕ, ◌+◌, ◌-◌, ◌<◌, ◌≤◌, Bool, true, false, cond, not, ◌&&◌, ◌==◌, List, [], ◌∷◌, length, Option, Some, None, is_some, IsSome, unwrap_or}
+use Rattle.std.proofs.Common.{◌≡◌, ℕ, ◌+◌, ◌-◌, ◌<◌, Bool, true, false, cond, not, ◌&&◌, ◌==◌, List, [], ◌∷◌, Option, Some, None, is_some, IsSome, unwrap_or}
 use Rattle.std.proofs.Common.{count_by, nat_cmp, is_eq, Less, Equal, Greater, sym, refl, ap, ap₂, ◌∙◌, arith, add_comm, zero-add, eqb-true, eq-eqb}
 use Rattle.std.specs.Cmp.{unsigned_tied, nat_cmp_total, eq_by_cmp_equiv}
 use Rattle.std.specs.Ordering.{match_ordering}
@@ -8,8 +8,7 @@ use Rattle.std.specs.Map.{lookup, keys_of, remove_entry}
 use Rattle.std.specs.BTreeMap.{is_at, insert_entry}
 use Rattle.std.specs.FinMap.{from_entries}
 use Rattle.std.proofs.lemmas.Map.Lookups.{exact_unsigned}
-use Rattle.std.proofs.lemmas.List.Sums.{count_by-le-length, sum_by-cons}
-use Rattle.std.proofs.lemmas.Map.Entries.{length-keys_of}
+use Rattle.std.proofs.lemmas.List.Sums.{sum_by-cons}
 use Rattle.history.specs.Crowds.{crowd_of, kept_count, WritesCount, IsCounted}
 use Rattle.history.specs.Effects.{others, is_crowded}
 use Rattle.history.proofs.EntryMaps.{entries_made, get_made}
@@ -56,10 +55,6 @@ module _ (hash : ℕ → ℕ) where
         | Equal ↦ λ tie _. ap (λ q. cond (hash q == h) 1 0 + crowd_of hash es h) (exact_unsigned k e.0 tie) ∙ sym (crowd_of-cons h e es)
         | Greater ↦ λ _ rest. before_head _ _ _ _ _ _ (crowd_of-cons h e (remove_entry (is_at (nat_cmp k)) es)) (crowd_of-cons h e es) (crowd_of-remove_entry h k v es rest)
       ] refl some
-
-  -- no hash has more keys than there are
-  pub crowd_of-le-length : (h : ℕ) (es : List (ℕ × ℕ)) → crowd_of hash es h ≤ length es
-  crowd_of-le-length h es = omega (arith, count_by-le-length (λ q. hash q == h) (keys_of es), length-keys_of es)
 
   -- the other keys with the hash of an absent key are all that have it
   others_of_absent : (k : ℕ) (es : List (ℕ × ℕ)) → lookup (is_at (nat_cmp k)) es ≡ None → count_by (λ q. (hash q == hash k) && not (q == k)) (keys_of es) ≡ crowd_of hash es (hash k)

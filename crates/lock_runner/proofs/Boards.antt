@@ -15,7 +15,7 @@ use Rattle.lock_runner.proofs.ActorHistory.Steps.{denied_push, others_leave_the_
 
 -- the step is one of this actor's operations, or of the sweep
 abbrev pub IsDoneBy : ℕ → Step → Type 0
-IsDoneBy actor (step.Begin other call) = other ≡ actor
+IsDoneBy actor (step.Begin other call number) = other ≡ actor
 IsDoneBy actor (step.Go other) = other ≡ actor
 IsDoneBy actor (step.GiveUp other) = other ≡ actor
 IsDoneBy actor step.Sweep = Unit {0}
@@ -67,7 +67,7 @@ has_worked_same actor board = record { limits = refl; steps = inl refl }
 
 -- what one actor or the sweep does isn't another actor's step
 not_anothers : (actor other : ℕ) (s : Step) → IsDoneBy actor s → (other ≡ actor → ⊥) → IsStepOf other s → ⊥
-not_anothers actor other (step.Begin owner call) own apart is = apart (sym is ∙ own)
+not_anothers actor other (step.Begin owner call number) own apart is = apart (sym is ∙ own)
 not_anothers actor other (step.Go owner) own apart is = apart (sym is ∙ own)
 not_anothers actor other (step.GiveUp owner) own apart is = apart (sym is ∙ own)
 not_anothers actor other step.Sweep own apart is = is

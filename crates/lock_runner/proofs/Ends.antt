@@ -1,5 +1,5 @@
 -- The end of a runner.
-use Rattle.std.specs.Prelude.{◌≡◌, ℕ, ◌+◌, ◌≤◌, List, [], ◌∷◌, ◌++◌, Option, Some, slice_get, slice_index_or, unwrap_or, All, sum_by, length, Ok, Err}
+use Rattle.std.specs.Prelude.{None, ◌≡◌, ℕ, ◌+◌, ◌≤◌, List, [], ◌∷◌, ◌++◌, Option, Some, slice_get, slice_index_or, unwrap_or, All, sum_by, length, Ok, Err}
 use Rattle.std.proofs.Common.{refl, sym, ap, subst, ◌∙◌, append_assoc, ne_eqb, arith}
 use Rattle.std.proofs.lemmas.List.Sums.{sum_by-cons}
 use Rattle.std.proofs.lemmas.List.Elements.{All-head, All-tail}
@@ -62,7 +62,7 @@ limits_along start (e ∷ es) last leads =
     limits_along leads.0 es last leads.2 ∙ (has_worked e.seat e.call.work e.answer start.machine e.call.heard leads.0.machine leads.1).limits
 
 one_swept : (seat heard : ℕ) (asked : Work) (answer : Told) (before after : Taken) → Worked answer before (step_of seat asked) heard after → sweeps_in after ≡ sweeps_in before + swept_by answer asked
-one_swept seat heard (work.Begin call) (Ok done) before after w = sweeps_push before after (step.Begin seat call) w.2
+one_swept seat heard (work.Begin call) (Ok done) before after w = sweeps_push before after (step.Begin seat call None) w.2
 one_swept seat heard work.Go (Ok done) before after w = sweeps_push before after (step.Go seat) w.2
 one_swept seat heard work.Sweep (Ok done) before after w = sweeps_push before after step.Sweep w.2
 one_swept seat heard asked (Err Ahead) before after w = omega (arith, ap sweeps_in w.0)

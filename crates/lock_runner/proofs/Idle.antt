@@ -82,15 +82,15 @@ tested : (o : Option Operation) → (o ≡ None → ⊥) → is_some o ≡ true
 tested None some = absurd (some refl)
 tested (Some operation) some = refl
 
-busy_denial : (state : State) (actor : ℕ) (call : Call) → is_actor state actor ≡ true → is_running state actor ≡ true → begin_denial state actor call ≡ Some refuse.ActorBusy
+busy_denial : (state : State) (actor : ℕ) (call : Call) → is_actor state actor ≡ true → is_running state actor ≡ true → begin_denial state actor call None ≡ Some refuse.ActorBusy
 busy_denial state actor call own busy = rw (own, busy) refl
 
 -- where the account runs something a begin is denied as busy
 pub busy_is_denied : (actor : ℕ) (board : Taken) (call : Call) (operation : Running) → 1 ≤ actor → actor ≤ board.limits.actors →
-    (account_in actor board).running ≡ Some operation → next (state_of board) (step.Begin actor call) ≡ Err refuse.ActorBusy
+    (account_in actor board).running ≡ Some operation → next (state_of board) (step.Begin actor call None) ≡ Err refuse.ActorBusy
 unfolding next
 busy_is_denied actor board call operation low high ran =
     let within : actor ≤ (state_of board).limits.actors = omega (arith, high, ap (λ l. l.actors) (limits_along (bounded board.limits) board.steps)) in
     let own : is_actor (state_of board) actor ≡ true = actor_by actor (state_of board).limits.actors low within in
     let busy : is_running (state_of board) actor ≡ true = tested _ (λ none. none-some operation (sym ((idle_alike actor board).0 none) ∙ ran)) in
-    ap (λ denial. begin_unless (state_of board) actor call denial) (busy_denial (state_of board) actor call own busy)
+    ap (λ denial. begin_unless (state_of board) actor call None denial) (busy_denial (state_of board) actor call own busy)

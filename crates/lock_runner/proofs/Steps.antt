@@ -130,7 +130,7 @@ begin_stops before me after heard answers items running sweeps stop call is idle
     )
 
 -- only a begin's outcome is told of one
-began_by : (history : _) (actor : ℕ) (before after : Account) (call : Call) (o : Outcome) → IsMadeBy history actor before (step.Begin actor call) o after →
+began_by : (history : _) (actor : ℕ) (before after : Account) (call : Call) (o : Outcome) → IsMadeBy history actor before (step.Begin actor call None) o after →
     ((id : ℕ) → o ≡ outcome.Began id → ⊥) → ⊥
 began_by history actor before after call (outcome.Began id) made other = other id refl
 began_by history actor before after call (outcome.Went kind) made other = made
@@ -147,7 +147,7 @@ pub begun : (me after : Pass) (heard : ℕ) (answers items : List Answer) (runni
     IsSeated me answers running sweeps → items ≡ answers → Held me (work.Begin call) heard (Ok done) after → done.1 ≡ outcome.Began id →
     IsSeated after items (Some (begun_at done.0 id call)) sweeps
 begun me after heard answers items running sweeps call done id seat same h is =
-    let made = subst (λ o. IsMadeBy (past_of h.board).events me.number (record { answers = answers; running = running }) (step.Begin me.number call) o (account_in me.number (seen_in after))) is
+    let made = subst (λ o. IsMadeBy (past_of h.board).events me.number (record { answers = answers; running = running }) (step.Begin me.number call None) o (account_in me.number (seen_in after))) is
     (own_step me after answers running sweeps seat (Ok done) (work.Begin call) heard h done.1 refl h.worked.2 h.worked.3) in
     subst (λ xs. IsSeated after xs (Some (begun_at done.0 id call)) sweeps) (sym same)
     (seated_step me after answers running sweeps seat (Ok done) (work.Begin call) heard h done.1 h.worked.2 refl h.worked.3 answers

@@ -1,5 +1,5 @@
 -- What the seats ask of the machine behind the gate, and what they are told.
-use Rattle.std.specs.Prelude.{ℕ, Result, Ok, Err}
+use Rattle.std.specs.Prelude.{None, ℕ, Result, Ok, Err}
 use Rattle.lock_runner.specs.Vocabulary.{Step, Outcome}
 use Rattle.lock_runner.specs.Beneath.machine_model.specs.declared.steps.Step.TheVariants as step
 use Rattle.gate.specs.declared.objects.Entry.{Entry}
@@ -24,7 +24,7 @@ Pass = gate.Seated Shared Ask Told
 
 -- the step of the actor whose seat has this number
 abbrev pub step_of : ℕ → Work → Step
-step_of seat (work.Begin call) = step.Begin seat call
+step_of seat (work.Begin call) = step.Begin seat call None
 step_of seat work.Go = step.Go seat
 step_of seat work.Sweep = step.Sweep
 

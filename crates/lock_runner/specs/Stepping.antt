@@ -60,12 +60,12 @@ abbrev pub IsNotBegun : Stop → Call → Seated → Type 0
 IsNotBegun Ahead call seat = IsIdle seat × (events_in seat.seen < seat.heard)
 IsNotBegun Memory call seat = IsIdle seat
 IsNotBegun (Denied refusal) call seat =
-    IsDenied seat (step.Begin seat.actor call) refusal × MatchOption seat.running (seat.heard ≤ events_in seat.seen) (λ operation. refusal ≡ ActorBusy)
+    IsDenied seat (step.Begin seat.actor call None) refusal × MatchOption seat.running (seat.heard ≤ events_in seat.seen) (λ operation. refusal ≡ ActorBusy)
 
 abbrev pub Begins : Result (Unit {0}) Stop → Seated → Call → Seated → Type 0
 Begins (Ok done) before call after =
     IsUntold before after × (operation : Running) × RunsAs operation call before after
-    × HasTaken (step.Begin before.actor call) (outcome.Began operation.id) before after
+    × HasTaken (step.Begin before.actor call None) (outcome.Began operation.id) before after
 Begins (Err stop) before call after = IsUntold before after × (after.running ≡ before.running) × HasTakenNone before after × IsNotBegun stop call after
 
 -- ---- a step of the operation

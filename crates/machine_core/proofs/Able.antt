@@ -1,6 +1,6 @@
 -- An operation's programs can take its next step.
 use Rattle.std.proofs.Common.{arith, length, ◌≡◌, ℕ, ◌+◌, ◌-◌, ◌<◌, ◌^◌, Some, None, sym, ap, subst, ◌∙◌}
-use Rattle.machine_core.specs.Vocabulary.{Call, IsLive, Action, Line, Operation, Descriptor, ReadLine, handle_of, action_of, line_action, State, birth_limit}
+use Rattle.machine_core.specs.Vocabulary.{Call, IsLive, Action, Line, Operation, Descriptor, ReadLine, handle_of, action_of, line_action, State, birth_limit, with_read}
 use Rattle.epochs.specs.Memories.{Memory}
 use Rattle.machine_model.specs.declared.reading.ReadLine.TheVariants as read
 use Rattle.machine_core.specs.Beneath.proof_memory.specs.Wants.{action_wants, line_wants}
@@ -15,8 +15,7 @@ use Rattle.machine_core.specs.Beneath.rdcss_root.specs.Tables.{Table}
 use Rattle.machine_core.specs.Beneath.root_asking.specs.declared.asking.Asking.{Asking}
 use Rattle.machine_core.specs.Beneath.root_asking.specs.declared.asking.Asking.TheVariants.{Unasked, Met, Told}
 use Rattle.machine_core.specs.Beneath.root_asking.specs.Asked.{abort_of}
-use Rattle.machine_core.specs.Beneath.root_asking.specs.Inside.{with_read}
-use Rattle.machine_core.specs.Beneath.root_asking.proofs.Embedding.{each_embeds}
+use Rattle.machine_core.specs.Beneath.machine_model.proofs.Embedding.{each_embeds}
 use Rattle.machine_core.specs.Beneath.operate.specs.Steps.{operation_for as as_key}
 use Rattle.machine_core.specs.Beneath.snapshot.specs.Copies.{IsReadyBeside}
 use Rattle.running.specs.declared.job.Program.{Program}

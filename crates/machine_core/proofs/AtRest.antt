@@ -32,17 +32,17 @@ rests_at state h rest = record {
 }
 
 -- a call that may begin is ready to go on alone
-pub ready_at : (state : State) (actor : ℕ) (call : Call) (root : Ref) → IsOfRun state → is_busy state ≡ false → begin_denial state actor call ≡ None →
+pub ready_at : (state : State) (actor : ℕ) (call : Call) (root : Ref) → IsOfRun state → is_busy state ≡ false → begin_denial state actor call None ≡ None →
     word_at state (handle_of call) ≡ Plain root → IsReady state actor call root
 ready_at state actor call root h rest allowed word = record { rests = rests_at state h rest; allowed = allowed; word = word }
 
 -- ---- what a root leads to
 
-pub trie_at : (state : State) (actor : ℕ) (call : Call) (root : Ref) → IsOfRun state → begin_denial state actor call ≡ None → word_at state (handle_of call) ≡ Plain root → IsTrie state.heap root
-trie_at state actor call root h allowed word = trie_of_run state (handle_of call) root h (handle_given state actor call allowed) word
+pub trie_at : (state : State) (actor : ℕ) (call : Call) (root : Ref) → IsOfRun state → begin_denial state actor call None ≡ None → word_at state (handle_of call) ≡ Plain root → IsTrie state.heap root
+trie_at state actor call root h allowed word = trie_of_run state (handle_of call) root h (handle_given state actor call None allowed) word
 
 -- the root and its main node are in use
-pub root_lives : (state : State) → IsOfRun state → (actor : ℕ) (call : Call) (root main : Ref) → begin_denial state actor call ≡ None → word_at state (handle_of call) ≡ Plain root →
+pub root_lives : (state : State) → IsOfRun state → (actor : ℕ) (call : Call) (root main : Ref) → begin_denial state actor call None ≡ None → word_at state (handle_of call) ≡ Plain root →
     main ≡ main_at state.heap root → IsLive state.heap root × IsLive state.heap main
 root_lives state h actor call root main allowed word there =
     let t = trie_at state actor call root h allowed word in
@@ -51,7 +51,7 @@ root_lives state h actor call root main allowed word there =
     (in_use_lives state.heap root t.used, in_use_lives state.heap main (safe_of over))
 
 -- a call on one key can be carried out
-pub fit_at : (parts : Parts) (actor : ℕ) (call : Call) (root : Ref) (levels : ℕ) → IsCore parts → is_busy (seen parts) ≡ false → begin_denial (seen parts) actor call ≡ None →
+pub fit_at : (parts : Parts) (actor : ℕ) (call : Call) (root : Ref) (levels : ℕ) → IsCore parts → is_busy (seen parts) ≡ false → begin_denial (seen parts) actor call None ≡ None →
     IsClear (seen parts) call root → levels < most_levels → 33 * levels + 32 ≤ length (seen parts).heap.free → IsFit parts actor call root levels
 fit_at parts actor call root levels core rest allowed clear few free =
     let state = seen parts in

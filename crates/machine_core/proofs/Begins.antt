@@ -66,7 +66,7 @@ pub record BeginsAt (before middle after : Parts) (actor : ℕ) (call : Call) (u
   pub numbers : after.handles ≡ begun_on before.handles call u.job.opens
 
 module _ (before middle after : Parts) (actor : ℕ) (call : Call) (u : UnderWay) (a : BeginsAt before middle after actor call u) (h : IsKept before) (run : IsOfRun (seen before))
-    (allowed : begin_denial (seen before) actor call ≡ None) where
+    (allowed : begin_denial (seen before) actor call None ≡ None) where
   stands : StandsAt (seen before).actors actor None
   stands = begin_stands (seen before) actor call run allowed
 
@@ -80,7 +80,7 @@ module _ (before middle after : Parts) (actor : ℕ) (call : Call) (u : UnderWay
       by (Some v) e = absurd (none-some _ (sym e))
 
   -- the operation is the definition's
-  operation_is : operation_at after.table a.seated.is.programs u ≡ begun_operation (seen before) call
+  operation_is : operation_at after.table a.seated.is.programs u ≡ begun_operation (seen before) call None
   operation_is =
       let job = a.new.job in
       let d = a.seated.does in
@@ -96,7 +96,7 @@ module _ (before middle after : Parts) (actor : ℕ) (call : Call) (u : UnderWay
   middle_actors : (seen middle).actors ≡ (seen before).actors
   middle_actors = ap (λ (p : Parts). actors_seen p.table p.actors.items) a.same
 
-  actors_begun : (seen after).actors ≡ set (seen before).actors (actor - 1) (Some (begun_operation (seen before) call))
+  actors_begun : (seen after).actors ≡ set (seen before).actors (actor - 1) (Some (begun_operation (seen before) call None))
   actors_begun =
       replaced_seen before.table after.table before.actors.items after.actors.items (actor - 1) (Begins u _) a.seated
       (λ j other apart at. remarked before.table after.table other (λ v e.
@@ -108,9 +108,9 @@ module _ (before middle after : Parts) (actor : ℕ) (call : Call) (u : UnderWay
       (ap (option_map (operation_at after.table a.seated.is.programs)) a.seated.does.under_way ∙ ap Some operation_is)
 
   -- the state is the definition's
-  pub seen_begun : seen after ≡ with_begin (seen before) actor call (begun_operation (seen before) call)
+  pub seen_begun : seen after ≡ with_begin (seen before) actor call (begun_operation (seen before) call None)
   seen_begun =
-      let operation = begun_operation (seen before) call in
+      let operation = begun_operation (seen before) call None in
       let actors : (seen after).actors ≡ set (seen middle).actors (actor - 1) (Some operation) = actors_begun ∙ ap (λ os. set os (actor - 1) (Some operation)) (sym middle_actors) in
       put_together operation actors ∙ ap (λ (s : State). record (with_operation s actor (Some operation)) { begun = before.begun + 1 }) a.closed
     where
@@ -145,7 +145,7 @@ module _ (before middle after : Parts) (actor : ℕ) (call : Call) (u : UnderWay
   -- and all is kept
   pub kept_begun : IsKept after
   kept_begun =
-      let operation : Operation = begun_operation (seen before) call in
+      let operation : Operation = begun_operation (seen before) call None in
       let roots : after.table.roots ≡ middle.table.roots = ap (λ (t : Table). t.roots) a.table in
       let limits : after.limits ≡ before.limits = ap (λ (p : Parts). p.limits) a.rest ∙ ap (λ (p : Parts). p.limits) a.same in
       let kept = a.moves.keeps in

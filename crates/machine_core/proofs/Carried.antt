@@ -35,11 +35,11 @@ use Rattle.machine_core.proofs.Kept.{kept_alike}
 
 -- ---- a run leads to what a call comes to
 
-pub goes_run : (state : State) (actor : ℕ) (call : Call) (n : ℕ) (now : State) → IsOfRun state → FitsKey (step.Begin actor call) → GoesOn state actor call n now → IsOfRun now
-goes_run state actor call n now run fits (starts is) = taken_run state now (step.Begin actor call) _ is fits run
+pub goes_run : (state : State) (actor : ℕ) (call : Call) (n : ℕ) (now : State) → IsOfRun state → FitsKey (step.Begin actor call None) → GoesOn state actor call n now → IsOfRun now
+goes_run state actor call n now run fits (starts is) = taken_run state now (step.Begin actor call None) _ is fits run
 goes_run state actor call n now run fits (walks {n = m} {before} earlier is) = taken_run before now (step.Go actor) _ is tt (goes_run state actor call m before run fits earlier)
 
-pub comes_run : (state : State) (actor : ℕ) (call : Call) (n : ℕ) (answer : Reply) (after : State) → IsOfRun state → FitsKey (step.Begin actor call) →
+pub comes_run : (state : State) (actor : ℕ) (call : Call) (n : ℕ) (answer : Reply) (after : State) → IsOfRun state → FitsKey (step.Begin actor call None) →
     Comes state actor call n answer after → IsOfRun after
 comes_run state actor call n answer after run fits h = taken_run h.last after (step.Go actor) _ h.ends tt (goes_run state actor call n h.last run fits h.goes)
 
@@ -103,7 +103,7 @@ comes_from start now actor call depth n answer after to long h =
 
 -- the call is carried out, in so many steps between its begin and its end, and leaves a core
 pub carried : (start : State) (before after : Parts) (memory : Memory) (draft : Draft) (actor : ℕ) (call : Call) (depth n all : ℕ) (reply : Reply) → IsKept before →
-    LeadsTo start (seen before) actor call depth → FitsKey (step.Begin actor call) → ComesAsFar before memory draft → after ≡ counted before memory all → all ≡ n + 2 → 4 * depth + 3 ≤ n →
+    LeadsTo start (seen before) actor call depth → FitsKey (step.Begin actor call None) → ComesAsFar before memory draft → after ≡ counted before memory all → all ≡ n + 2 → 4 * depth + 3 ≤ n →
     Comes (seen before) actor call n reply (after_call (seen before) draft (n + 2)) → CarriesFrom start actor call reply after
 carried start before after memory draft actor call depth n all reply kept leads fits to is many long comes =
     let (m, so) = comes_from start (seen before) actor call depth n reply (after_call (seen before) draft (n + 2)) leads long comes in

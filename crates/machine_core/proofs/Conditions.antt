@@ -1,7 +1,8 @@
 -- What a step of an operation's programs asks is what its line takes its references for.
 use Rattle.std.proofs.Common.{◌≡◌, ℕ, ◌+◌, ◌<◌, List, length, Option, Some, None, refl, sym, ap, subst, ◌∙◌}
 use Rattle.machine_core.specs.Vocabulary.{Access, Writable, ReadOnly, Ref, Node, Indirection, Heap, empty_branch, Action, Line, Operation, Read as Defined, ReadLine, Climb, Descriptor}
-use Rattle.machine_core.specs.Vocabulary.{completing_read, line_action, read_of, rooting_read, swapping_read, above, State, action_at, complete_action_at, root_action, birth_limit}
+use Rattle.machine_core.specs.Vocabulary.{completing_read, line_action, read_of, rooting_read, swapping_read, above, State, action_at, complete_action_at, root_action, birth_limit, completing_at}
+use Rattle.machine_core.specs.Vocabulary.{rooting_at, swapping_at, with_read}
 use Rattle.epochs.specs.Memories.{Memory}
 use Rattle.machine_model.specs.declared.actions.Action.TheVariants as act
 use Rattle.machine_model.specs.declared.lines.Line.TheVariants as line
@@ -24,7 +25,6 @@ use Rattle.machine_core.specs.Beneath.rdcss_root.specs.declared.root.ReadRoot.Th
 use Rattle.machine_core.specs.Beneath.rdcss_root.specs.Holding.{IsReady}
 use Rattle.machine_core.specs.Beneath.rdcss_root.specs.Programs.{CanCompleteAt, CanRootOn, ReadsItsRoot, ReadsOffered, complete_line_at, root_of}
 use Rattle.machine_core.specs.Beneath.rdcss_root.specs.Tables.{Table}
-use Rattle.machine_core.specs.Beneath.root_asking.specs.Inside.{completing_at, rooting_at, swapping_at, with_read}
 use Rattle.machine_core.specs.Beneath.operate.specs.Beneath.key_change.specs.declared.change.ChangeAt.{ChangeAt}
 use Rattle.machine_core.specs.Beneath.operate.specs.Beneath.key_change.specs.declared.change.ChangeAt.TheVariants as change
 use Rattle.machine_core.specs.Beneath.operate.specs.Beneath.key_change.specs.Lines.{line_at as change_at}

@@ -53,11 +53,11 @@ use Rattle.machine_core.proofs.AtRest.{ready_at, rests_at}
 pub first_coursed : (parts : Parts) → IsCore parts → IsCourse (first_course (seen parts)) parts
 first_coursed parts core = record { draft = first_drafted parts core; roots = refl; generations = refl }
 
-some_there : (state : State) (actor : ℕ) (call : Call) → begin_denial state actor call ≡ None → is_some (access_of (root_at state (handle_of call))) ≡ true
+some_there : (state : State) (actor : ℕ) (call : Call) → begin_denial state actor call None ≡ None → is_some (access_of (root_at state (handle_of call))) ≡ true
 some_there state actor call d = grind arith
 
 -- the handle is a writable one with this root
-pub root_found : (state : State) (actor : ℕ) (call : Call) (root : Ref) → begin_denial state actor call ≡ None → needs_writable call ≡ true → word_at state (handle_of call) ≡ Plain root →
+pub root_found : (state : State) (actor : ℕ) (call : Call) (root : Ref) → begin_denial state actor call None ≡ None → needs_writable call ≡ true → word_at state (handle_of call) ≡ Plain root →
     root_at state (handle_of call) ≡ writable (Plain root)
 root_found state actor call root allowed writes word = by (root_at state (handle_of call)) refl
   where
@@ -69,7 +69,7 @@ root_found state actor call root allowed writes word = by (root_at state (handle
         e ∙ ap (λ a. Some (record found { access = a })) kind ∙ ap (λ w. Some (record { access = Writable; word = w })) there
 
 -- the root and its main node are in use
-pub over_lives : (before : Parts) (actor : ℕ) (call : Call) (root main : Ref) → IsCore before → begin_denial (seen before) actor call ≡ None → word_at (seen before) (handle_of call) ≡ Plain root →
+pub over_lives : (before : Parts) (actor : ℕ) (call : Call) (root main : Ref) → IsCore before → begin_denial (seen before) actor call None ≡ None → word_at (seen before) (handle_of call) ≡ Plain root →
     IsOverDecided before.heap.heap root main → IsLive before.heap.heap root × IsLive before.heap.heap main
 over_lives before actor call root main core allowed word over = root_lives (seen before) core.run actor call root main allowed word (sym (ap main_of over.indirection))
 
@@ -120,7 +120,7 @@ course_with state generations draft = record { base = record state { generations
 
 -- a copy or a clear is carried out
 pub copy_done : (before after : Parts) (actor : ℕ) (call : Call) (handle : ℕ) (root : Ref) (offer : Descriptor) (generations : ℕ) (draft : Draft) (n all : ℕ) (reply : Reply) → IsCore before →
-    is_busy (seen before) ≡ false → FitsKey (step.Begin actor call) → root_at (seen before) handle ≡ writable (Plain root) →
+    is_busy (seen before) ≡ false → FitsKey (step.Begin actor call None) → root_at (seen before) handle ≡ writable (Plain root) →
     IsCourse (with_offer (course_with (seen before) generations draft) handle offer) after → IsCopied before after (reserved before.handles offer.opens) all → KeepsRecords before.heap after.heap →
     all ≡ n + 2 →
     Comes (seen before) actor call n reply
@@ -149,28 +149,28 @@ copy_done before after actor call handle root offer generations draft n all repl
 -- ---- what the calls come to
 
 module _ (state : State) (actor handle : ℕ) (run : IsOfRun state) (rest : is_busy state ≡ false) where
-  pub freeze_comes : (root : Ref) → begin_denial state actor (call.Freeze handle) ≡ None → IsClear state (call.Freeze handle) root → IsSettled state.heap root →
+  pub freeze_comes : (root : Ref) → begin_denial state actor (call.Freeze handle) None ≡ None → IsClear state (call.Freeze handle) root → IsSettled state.heap root →
       Comes state actor (call.Freeze handle) 8 (reply.Opened (least_free state)) (after_call (frozen state handle root).base (frozen state handle root).draft 10)
   freeze_comes root allowed clear settled =
       comes_without_record state (first_record state.limits) actor (call.Freeze handle) 8 _ _ _
       (freezes_straight state (first_record state.limits) actor handle root (ready_at state actor (call.Freeze handle) root run rest allowed clear.word) (first_is_record state) settled
       (omega (arith, clear.slots)) (omega (arith, clear.steps)))
 
-  pub snapshot_comes : (root : Ref) → begin_denial state actor (call.Snapshot handle) ≡ None → IsClear state (call.Snapshot handle) root → IsSettled state.heap root →
+  pub snapshot_comes : (root : Ref) → begin_denial state actor (call.Snapshot handle) None ≡ None → IsClear state (call.Snapshot handle) root → IsSettled state.heap root →
       Comes state actor (call.Snapshot handle) 9 (reply.Opened (least_free state)) (after_call (snapshotted state handle root).base (snapshotted state handle root).draft 11)
   snapshot_comes root allowed clear settled =
       comes_without_record state (first_record state.limits) actor (call.Snapshot handle) 9 _ _ _
       (snapshots_straight state (first_record state.limits) actor handle root (ready_at state actor (call.Snapshot handle) root run rest allowed clear.word) (first_is_record state) settled
       (omega (arith, clear.slots)) (omega (arith, clear.steps)))
 
-  pub clear_comes : (root : Ref) → begin_denial state actor (call.Clear handle) ≡ None → IsClear state (call.Clear handle) root → IsSettled state.heap root →
+  pub clear_comes : (root : Ref) → begin_denial state actor (call.Clear handle) None ≡ None → IsClear state (call.Clear handle) root → IsSettled state.heap root →
       Comes state actor (call.Clear handle) 9 reply.Cleared (after_call (cleared state handle root).base (cleared state handle root).draft 11)
   clear_comes root allowed clear settled =
       comes_without_record state (first_record state.limits) actor (call.Clear handle) 9 _ _ _
       (clears_straight state (first_record state.limits) actor handle root (ready_at state actor (call.Clear handle) root run rest allowed clear.word) (first_is_record state) settled
       (omega (arith, clear.slots)) (omega (arith, clear.steps)))
 
-  pub close_comes : begin_denial state actor (call.Close handle) ≡ None → state.steps + 2 ≤ state.limits.steps →
+  pub close_comes : begin_denial state actor (call.Close handle) None ≡ None → state.steps + 2 ≤ state.limits.steps →
       Comes state actor (call.Close handle) 0 reply.Closed (after_call (closed state handle).base (closed state handle).draft 2)
   close_comes allowed left =
       comes_without_record state (first_record state.limits) actor (call.Close handle) 0 _ _ _
@@ -203,8 +203,8 @@ room_again heap after node empty free births is =
     (omega (arith, free, takes.fewer, ap (λ (h : Heap). length h.free) is), omega (arith, births, births_more heap after node empty (omega (arith, free)) is))
 
 -- the handle of a call is one of the machine's
-pub handle_small : (state : State) (actor : ℕ) (call : Call) → IsOfRun state → begin_denial state actor call ≡ None → handle_of call < 256
-handle_small state actor call run allowed = by (root_at state (handle_of call)) refl (handle_given state actor call allowed)
+pub handle_small : (state : State) (actor : ℕ) (call : Call) → IsOfRun state → begin_denial state actor call None ≡ None → handle_of call < 256
+handle_small state actor call run allowed = by (root_at state (handle_of call)) refl (handle_given state actor call None allowed)
   where
     by : (o : Option Root) → root_at state (handle_of call) ≡ o → is_some o ≡ true → handle_of call < 256
     by None e some = absurd (false≢true some)
@@ -230,7 +230,7 @@ copied_parts before made swapped after handles n makes swaps table counts = reco
 
 -- the call made what it offers, swapped the root, and was counted
 pub copy_after : (before made swapped after : Parts) (actor : ℕ) (call : Call) (handle : ℕ) (root : Ref) (offer own : Descriptor) (generations : ℕ) (draft : Draft) (n all : ℕ) (reply : Reply) →
-    IsCore before → is_busy (seen before) ≡ false → FitsKey (step.Begin actor call) → root_at (seen before) handle ≡ writable (Plain root) → offer ≡ own →
+    IsCore before → is_busy (seen before) ≡ false → FitsKey (step.Begin actor call None) → root_at (seen before) handle ≡ writable (Plain root) → offer ≡ own →
     IsCourse (with_offer (course_with (seen before) generations draft) handle offer) swapped → made ≡ record before { heap = made.heap; generations = made.generations } →
     swapped ≡ record made { heap = swapped.heap; table = swapped.table; handles = reserved made.handles offer.opens } → swapped.table ≡ record made.table { roots = swapped.table.roots } →
     after ≡ record swapped { begun = swapped.begun + 1; steps = swapped.steps + all } → KeepsRecords before.heap made.heap → KeepsRecords made.heap swapped.heap → all ≡ n + 2 →
@@ -247,7 +247,7 @@ copy_after before made swapped after actor call handle root offer own generation
     (ap (λ (p : Parts). p.heap.cursor) counts ∙ second.0 ∙ first.0, ap (λ (p : Parts). p.heap.pins) counts ∙ second.1 ∙ first.1) many comes
 
 -- a close is carried out
-pub close_done : (before after : Parts) (actor : ℕ) (call : Call) (handle : ℕ) (draft : Draft) (reply : Reply) → IsCore before → is_busy (seen before) ≡ false → FitsKey (step.Begin actor call) →
+pub close_done : (before after : Parts) (actor : ℕ) (call : Call) (handle : ℕ) (draft : Draft) (reply : Reply) → IsCore before → is_busy (seen before) ≡ false → FitsKey (step.Begin actor call None) →
     handle < 256 → IsCourse (record { base = with_root (seen before) handle None; draft = draft }) after → draft.private ≡ [] → IsCopied before after (given_back before.handles (Some handle)) 2 →
     KeepsRecords before.heap after.heap → Comes (seen before) actor call 0 reply (after_call (with_root (seen before) handle None) draft 2) → CarriesBy before actor call reply after
 close_done before after actor call handle draft reply core rest fits small is private a records comes =

@@ -1,5 +1,5 @@
 -- One level further down: the branch before stays, or is renewed.
-use Rattle.std.proofs.Common.{arith, ◌≡◌, ℕ, suc, ◌+◌, ◌-◌, ◌*◌, ◌<◌, ◌≤◌, ◌==◌, Bool, true, false, not, nat_eq, is_some, All, Some, refl, sym, ap, ◌∙◌, subst, eq-eqb, eqb-true}
+use Rattle.std.proofs.Common.{None, arith, ◌≡◌, ℕ, suc, ◌+◌, ◌-◌, ◌*◌, ◌<◌, ◌≤◌, ◌==◌, Bool, true, false, not, nat_eq, is_some, All, Some, refl, sym, ap, ◌∙◌, subst, eq-eqb, eqb-true}
 use Rattle.std.specs.Option.{option_eq}
 use Rattle.std.proofs.lemmas.Bool.{false≢true, true≢false}
 use Rattle.arrayvec.specs.ArrayVec.{ArrayVec}
@@ -162,7 +162,7 @@ module _ (start state : State) (actor : ℕ) (call : Call) (root : Ref) (place :
   abbrev now : State
   now = renewed_state state root indirection bitmap entries
 
-  access_is : (begun_operation state call).access ≡ Writable
+  access_is : (begun_operation state call None).access ≡ Writable
   access_is = writable_at state actor call on.can.ready.allowed on.writes
 
   slots_here : renewal_slots state root entries.items ≤ 32
@@ -207,7 +207,7 @@ module _ (start state : State) (actor : ℕ) (call : Call) (root : Ref) (place :
         let handle = handle_of call in
         subst (λ h. IsTrie h root) renewed.visits.heap
         (trie_of_run there handle root visited
-        (ap (λ roots. is_some (root_at (record state { roots = roots }) handle)) renewed.visits.roots ∙ handle_given state actor call on.can.ready.allowed)
+        (ap (λ roots. is_some (root_at (record state { roots = roots }) handle)) renewed.visits.roots ∙ handle_given state actor call None on.can.ready.allowed)
         (ap (λ roots. word_at (record state { roots = roots }) handle) renewed.visits.roots ∙ on.can.ready.word))
 
     now_births : now.heap.births + 66 < birth_limit

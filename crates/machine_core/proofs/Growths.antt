@@ -2,8 +2,7 @@
 use Rattle.std.proofs.Common.{arith, ◌≡◌, ◌≢◌, ℕ, zero, suc, ◌+◌, ◌<◌, ◌≤◌, true, false, [], length, map, Ok, refl, sym, ap, ◌∙◌, subst}
 use Rattle.std.proofs.lemmas.List.{length-map}
 use Rattle.epochs.specs.Memories.{reclaimer_of as what_it_works_on}
-use Rattle.machine_core.specs.Vocabulary.{TakesUpTo, times, Swept, limbo_after, Reclaimer, passes_all, Sweep, outside, is_spent, next, pin_of, reclaimer_of}
-use Rattle.machine_core.specs.Vocabulary.{settled_after, swept_with, State}
+use Rattle.machine_core.specs.Vocabulary.{TakesUpTo, times, Swept, limbo_after, Reclaimer, passes_all, Sweep, outside, is_spent, next, pin_of, reclaimer_of, settled_after, swept_with, State}
 use Rattle.epochs.specs.declared.limbo.Swept.TheVariants as swept
 use Rattle.epochs.proofs.Growing.{from_first, grows_last, passes_next}
 use Rattle.epochs.specs.Memories.{Memory}

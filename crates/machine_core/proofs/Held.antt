@@ -17,7 +17,7 @@ few_held memory state h tied r =
     let (roots, actors) = sizes state h in
     let in_roots = times_most r refs_of_root state.roots None 4 (λ i. root_few r (get_or state.roots i None)) in
     let in_privates = times_most r refs_of_operation state.actors None 1 (λ i. operation_few r (get_or state.actors i None) (λ operation e. private_once state h (suc i) operation r e)) in
-    omega (arith, tied.held r, in_roots, in_privates, roots, actors, h.limits.2)
+    omega (arith, tied.held r, in_roots, in_privates, roots, actors, h.actors)
 
 pub ready_run : (memory : Memory) (state : State) → IsOfRun state → IsTied memory state.roots state.actors → IsReady memory state.roots 8
 ready_run memory state h tied = record { held = λ r. omega (arith, tied.held r); room = λ r. omega (arith, few_held memory state h tied r) }

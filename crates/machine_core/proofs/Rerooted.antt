@@ -118,7 +118,7 @@ seen_course before after roots generations n draft a is records counted =
     ) refl
 
 pub course_done : (before after : Parts) (actor : ℕ) (call : Call) (n all : ℕ) (reply : Reply) (roots : List (Option Root)) (generations : ℕ) (draft : Draft) → IsCore before →
-    is_busy (seen before) ≡ false → FitsKey (step.Begin actor call) → IsRerooted before after → IsCourse (course_to (seen before) roots generations draft) after → draft.private ≡ [] →
+    is_busy (seen before) ≡ false → FitsKey (step.Begin actor call None) → IsRerooted before after → IsCourse (course_to (seen before) roots generations draft) after → draft.private ≡ [] →
     KeepsRecords before.heap after.heap → IsCounted before after all → all ≡ n + 2 →
     Comes (seen before) actor call n reply (after_call (course_to (seen before) roots generations draft).base draft (n + 2)) → CarriesBy before actor call reply after
 course_done before after actor call n all reply roots generations draft core rest fits a is private records counted many comes =

@@ -25,7 +25,7 @@ sweep_denied state false why e = absurd (none-some why e)
 -- a step is denied as the definition says
 pub denied : (state : State) (s : Step) (why : Refusal) → denial_of state s ≡ Some why → next state s ≡ Err why
 unfolding next
-denied state (step.Begin actor call) why e = ap (λ d. begin_unless state actor call d) e
+denied state (step.Begin actor call number) why e = ap (λ d. begin_unless state actor call number d) e
 denied state (step.Go actor) why e = ap (λ d. go_unless state actor d) e
 denied state step.Sweep why e = sweep_denied state (is_spent state) why e
 denied state (step.GiveUp actor) why e = giving_up_denied state actor why e
@@ -39,10 +39,10 @@ refused_so state actor why e = (refl, inl (denied state (step.Go actor) why e))
 
 -- ---- steps that aren't denied
 
-begin_answer : (state : State) (actor : ℕ) (call : Call) → begin_denial state actor call ≡ None →
-    next state (step.Begin actor call) ≡ Ok (outcome.Began (state.begun), settled state (with_begin state actor call (begun_operation state call)))
+begin_answer : (state : State) (actor : ℕ) (call : Call) (number : Option ℕ) → begin_denial state actor call number ≡ None →
+    next state (step.Begin actor call number) ≡ Ok (outcome.Began (state.begun), settled state (with_begin state actor call (begun_operation state call number)))
 unfolding next
-begin_answer state actor call e = ap (λ d. begin_unless state actor call d) e
+begin_answer state actor call number e = ap (λ d. begin_unless state actor call number d) e
 
 pub sweep_answer : (state : State) → is_spent state ≡ false → next state step.Sweep ≡ settled_after state (swept state)
 unfolding next
@@ -72,7 +72,7 @@ sweep_unspent state d = unspent_by (is_spent state) d
 
 -- a step that isn't denied is taken
 allowed : (state : State) (s : Step) → denial_of state s ≡ None → is_taken_step (next state s) ≡ true
-allowed state (step.Begin actor call) d = ap is_taken_step (begin_answer state actor call d)
+allowed state (step.Begin actor call number) d = ap is_taken_step (begin_answer state actor call number d)
 allowed state (step.Go actor) d = let (operation, found) = running state actor d in ap is_taken_step (go_answer state actor operation d found)
 allowed state step.Sweep d = ap is_taken_step (sweep_answer state (sweep_unspent state d))
 allowed state (step.GiveUp actor) d = giving_up_taken state actor d
@@ -96,12 +96,12 @@ pub begin_actors : (state : State) (actor : ℕ) (call : Call) (operation : Oper
 begin_actors state actor call operation = grind arith
 
 -- a begin that isn't denied
-pub begin_leads : (state after : State) (actor : ℕ) (call : Call) (id : ℕ) → begin_denial state actor call ≡ None → id ≡ state.begun →
-    after ≡ with_begin state actor call (begun_operation state call) → Leads state (step.Begin actor call) (outcome.Began id) after
+pub begin_leads : (state after : State) (actor : ℕ) (call : Call) (id : ℕ) → begin_denial state actor call None ≡ None → id ≡ state.begun →
+    after ≡ with_begin state actor call (begun_operation state call None) → Leads state (step.Begin actor call None) (outcome.Began id) after
 begin_leads state after actor call id d e is =
-    let left = begin_leaves state actor call (begun_operation state call) in
+    let left = begin_leaves state actor call (begun_operation state call None) in
     record {
-      answer = begin_answer state actor call d ∙ ap (λ n. Ok (outcome.Began n, settled state (with_begin state actor call (begun_operation state call)))) (sym e)
+      answer = begin_answer state actor call None d ∙ ap (λ n. Ok (outcome.Began n, settled state (with_begin state actor call (begun_operation state call None)))) (sym e)
           ∙ ap (λ x. Ok (outcome.Began id, settled state x)) (sym is);
       limbo = ap (λ x. x.limbo) is ∙ left.0;
       steps = ap (λ x. x.steps) is ∙ left.1;

@@ -61,7 +61,7 @@ on_kept start parts actor call root place node depth indirection on less generat
 -- ---- at its beginning and its end
 
 pub on_started : (parts : Parts) (actor : ℕ) (call : Call) (root : Ref) (place : Place) (key hash : ℕ) → IsCore parts → is_busy (seen parts) ≡ false →
-    begin_denial (seen parts) actor call ≡ None → IsClear (seen parts) call root → IsKeyed call → needs_writable call ≡ true → FitsKey (step.Begin actor call) → key ≡ key_of call →
+    begin_denial (seen parts) actor call None ≡ None → IsClear (seen parts) call root → IsKeyed call → needs_writable call ≡ true → FitsKey (step.Begin actor call None) → key ≡ key_of call →
     hash ≡ key_hash (seen parts) key → EndsPast parts.heap.heap root hash key place → 33 * place.depth + 32 ≤ length parts.heap.heap.free →
     IsOn (seen parts) parts actor call root place (node_at parts.heap.heap place.main) 0 root
 on_started parts actor call root place key hash core rest allowed clear keyed writes fits own hashed ends free =

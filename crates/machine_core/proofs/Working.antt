@@ -3,8 +3,7 @@ use Rattle.std.proofs.Common.{arith, ◌≡◌, ℕ, ◌+◌, ◌-◌, ◌*◌, 
 use Rattle.std.specs.Prelude.{slice_get}
 use Rattle.std.proofs.lemmas.Option.{same_Some}
 use Rattle.epochs.specs.Memories.{reclaimer_of}
-use Rattle.machine_core.specs.Vocabulary.{TakesUpTo, Swept, Zeroed, limbo_after, newly_zero, freed_by, staying, swept_once, Operation, refs_of_operation, State, operation_of}
-use Rattle.machine_core.specs.Vocabulary.{most_slots}
+use Rattle.machine_core.specs.Vocabulary.{TakesUpTo, Swept, Zeroed, limbo_after, newly_zero, freed_by, staying, swept_once, Operation, refs_of_operation, State, operation_of, most_slots}
 use Rattle.epochs.specs.declared.limbo.Swept.TheVariants as swept
 use Rattle.epochs.specs.Memories.{Memory}
 use Rattle.machine_core.specs.Beneath.proof_operations.proofs.Privates.{privates_short}

@@ -1,5 +1,5 @@
 -- The way down to a key past indirections of any generation, and what is renewed on it.
-use Rattle.std.specs.Prelude.{◌≡◌, ℕ, suc, ◌+◌, ◌<◌, ◌≤◌, true, List, [], drop, length}
+use Rattle.std.specs.Prelude.{None, ◌≡◌, ℕ, suc, ◌+◌, ◌<◌, ◌≤◌, true, List, [], drop, length}
 use Rattle.arrayvec.specs.ArrayVec.{ArrayVec}
 use Rattle.machine_core.specs.Vocabulary.{position_of, Writable, Call, Node, Branch, Indirection, Single, Ref, AreLive, IsLive, Heap, entries_of, entry_at, generation_at, main_at, node_at, prev_at}
 use Rattle.machine_core.specs.Vocabulary.{key_of, needs_writable, most_levels, FitsKey, State, key_hash, flag_of, has_flag}
@@ -106,7 +106,7 @@ pub record IsDown (start state : State) (actor : ℕ) (call : Call) (root : Ref)
   pub can : CanGo state actor call root levels
   pub keyed : IsKeyed call
   pub writes : needs_writable call ≡ true
-  pub fits : FitsKey (step.Begin actor call)
+  pub fits : FitsKey (step.Begin actor call None)
   pub leads : LeadsTo start state actor call depth
   pub down : Leads state.heap Writable (key_hash state (key_of call)) root depth indirection
   pub on : LeadsOn state.heap (key_hash state (key_of call)) (key_of call) place node depth (main_at state.heap indirection)

@@ -1,5 +1,5 @@
 -- What the steps of a core tell: their outcome, and what the definition tells of them beside it.
-use Rattle.std.specs.Prelude.{◌≡◌, ℕ, Option, option_and_then, Result, Ok, Err}
+use Rattle.std.specs.Prelude.{None, ◌≡◌, ℕ, Option, option_and_then, Result, Ok, Err}
 use Rattle.machine_core.specs.Vocabulary.{Refusal, Call, Operation, Publication, Outcome, Reply, State, operation_of, published_by, told_in}
 use Rattle.machine_model.specs.declared.records.Told.TheVariants as told
 use Rattle.machine_model.specs.declared.steps.Outcome.TheVariants as outcome
@@ -26,7 +26,7 @@ ended (Err refusal) = Err refusal
 -- ---- what is told beside it
 
 abbrev pub TellsBegin : State → ℕ → Call → Begun → Type 0
-TellsBegin state actor call begun = told_in state (step.Begin actor call) ≡ told.Began begun.id actor call begun.opens
+TellsBegin state actor call begun = told_in state (step.Begin actor call None) ≡ told.Began begun.id actor call begun.opens
 
 abbrev pub TellsStep : State → ℕ → Stepped → Type 0
 TellsStep state actor taken = told_in state (step.Go actor) ≡ told.Went actor taken.progress

@@ -48,6 +48,7 @@ pub use Rattle.machine_model.specs.Moves.{GoesOn}
 pub use Rattle.machine_model.specs.Operations.{action_of, completing_read, first_line, generation_from, kind_of, line_action, read_of, rooting_read, swapping_read}
 pub use Rattle.machine_model.specs.Pairs.{by_key, comes_before}
 pub use Rattle.machine_model.specs.Paths.{above}
+pub use Rattle.machine_model.specs.Reads.{completing_at, rooting_at, swapping_at, with_read}
 pub use Rattle.machine_model.specs.Records.{first_record}
 pub use Rattle.machine_model.specs.States.{State, empty_heap, first_heap, handle_limit, key_hash, operation_of, rewritten, root_at, root_of, with_operation, with_root, with_word, word_at, word_of}
 unfoldable pub use Rattle.machine_model.specs.States.{first_state}

@@ -89,8 +89,8 @@ impl Actor {
 /// Lets the operation begin: the actor runs it, and records the epoch.
 pub fn begin_operation(parts: &mut Parts, actor: u8, call: Call) -> Begun
     requires core { IsCore parts.old }
-    requires allowed { begin_denial (seen parts.old) actor call ≡ None }
-    ensures begun { seen parts.new ≡ with_begin (seen parts.old) actor call (begun_operation (seen parts.old) call) }
+    requires allowed { begin_denial (seen parts.old) actor call None ≡ None }
+    ensures begun { seen parts.new ≡ with_begin (seen parts.old) actor call (begun_operation (seen parts.old) call None) }
     ensures tells { TellsBegin (seen parts.old) actor call result }
     ensures kept { IsKept parts.new }
     ensures work { NotesUpTo 8 8 parts.old.heap parts.new.heap }

@@ -39,7 +39,7 @@ pub fn decided_main(heap: &Heap, root: Ref) -> Option<Ref>
 pub fn freeze(parts: &mut Parts, _actor: u8, handle: u16, root: Ref, main: Ref) -> Reply
     requires core { IsCore parts.old }
     requires rest { is_busy (seen parts.old) ≡ false }
-    requires allowed { begin_denial (seen parts.old) _actor (Call.Freeze handle) ≡ None }
+    requires allowed { begin_denial (seen parts.old) _actor (Call.Freeze handle) None ≡ None }
     requires clear { IsClear (seen parts.old) (Call.Freeze handle) root }
     requires over { IsOverDecided parts.old.heap.heap root main }
     ensures { CarriesBy parts.old _actor (Call.Freeze handle) result parts.new }
@@ -64,7 +64,7 @@ pub fn freeze(parts: &mut Parts, _actor: u8, handle: u16, root: Ref, main: Ref) 
 pub fn snapshot(parts: &mut Parts, _actor: u8, handle: u16, root: Ref, main: Ref) -> Reply
     requires core { IsCore parts.old }
     requires rest { is_busy (seen parts.old) ≡ false }
-    requires allowed { begin_denial (seen parts.old) _actor (Call.Snapshot handle) ≡ None }
+    requires allowed { begin_denial (seen parts.old) _actor (Call.Snapshot handle) None ≡ None }
     requires clear { IsClear (seen parts.old) (Call.Snapshot handle) root }
     requires over { IsOverDecided parts.old.heap.heap root main }
     ensures { CarriesBy parts.old _actor (Call.Snapshot handle) result parts.new }
@@ -90,7 +90,7 @@ pub fn snapshot(parts: &mut Parts, _actor: u8, handle: u16, root: Ref, main: Ref
 pub fn clear(parts: &mut Parts, _actor: u8, handle: u16, root: Ref, main: Ref) -> Reply
     requires core { IsCore parts.old }
     requires rest { is_busy (seen parts.old) ≡ false }
-    requires allowed { begin_denial (seen parts.old) _actor (Call.Clear handle) ≡ None }
+    requires allowed { begin_denial (seen parts.old) _actor (Call.Clear handle) None ≡ None }
     requires clear { IsClear (seen parts.old) (Call.Clear handle) root }
     requires over { IsOverDecided parts.old.heap.heap root main }
     ensures { CarriesBy parts.old _actor (Call.Clear handle) result parts.new }
@@ -121,7 +121,7 @@ pub fn clear(parts: &mut Parts, _actor: u8, handle: u16, root: Ref, main: Ref) -
 pub fn close(parts: &mut Parts, _actor: u8, handle: u16) -> Reply
     requires core { IsCore parts.old }
     requires rest { is_busy (seen parts.old) ≡ false }
-    requires allowed { begin_denial (seen parts.old) _actor (Call.Close handle) ≡ None }
+    requires allowed { begin_denial (seen parts.old) _actor (Call.Close handle) None ≡ None }
     requires left { parts.old.steps + 2 ≤ parts.old.limits.steps }
     ensures { CarriesBy parts.old _actor (Call.Close handle) result parts.new }
 {

@@ -42,7 +42,7 @@ pub fn is_access(access: Access, found: Option<Access>) -> bool
 #[inline(always)]
 pub fn begin_denial(parts: &Parts, actor: u8, call: Call) -> Option<Refusal>
     requires { KnowsNumbers parts.now.handles (seen parts.now) }
-    ensures { result ≡ begin_denial (seen parts.now) actor call }
+    ensures { result ≡ begin_denial (seen parts.now) actor call None }
 {
     let handle = call.handle();
     let access = parts.access(handle);

@@ -165,7 +165,7 @@ impl Core {
     /// has changed. Which of the two no clause says.
     pub fn at_once(&mut self, actor: u8, call: Call) -> Option<Reply>
         requires rest { is_busy self.old.state ≡ false }
-        requires allowed { begin_denial self.old.state actor call ≡ None }
+        requires allowed { begin_denial self.old.state actor call None ≡ None }
         ensures done { IfSome result (λ reply. CarriesOut self.old.state actor call reply self.new.state) }
         ensures none { IfNone result (self.new ≡ self.old) }
     {

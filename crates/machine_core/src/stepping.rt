@@ -28,7 +28,7 @@ use machine_model::{Outcome, Publication};
 #[inline(always)]
 pub fn take_begin(parts: &mut Parts, actor: u8, call: Call) -> Begun
     requires core { IsCore parts.old }
-    requires allowed { begin_denial (seen parts.old) actor call ≡ None }
+    requires allowed { begin_denial (seen parts.old) actor call None ≡ None }
     ensures taken { next (seen parts.old) (steps.Begin actor call) ≡ Ok (Outcome.Began result.id, seen parts.new) }
     ensures tells { TellsBegin (seen parts.old) actor call result }
     ensures core { IsCore parts.new }

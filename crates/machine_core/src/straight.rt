@@ -39,7 +39,7 @@ const MOST_STEPS: u64 = 4096;
 pub fn at_once(parts: &mut Parts, actor: u8, call: Call) -> Option<Reply>
     requires core { IsCore parts.old }
     requires rest { is_busy (seen parts.old) ≡ false }
-    requires allowed { begin_denial (seen parts.old) actor call ≡ None }
+    requires allowed { begin_denial (seen parts.old) actor call None ≡ None }
     ensures done { IfSome result (λ reply. CarriesOut (seen parts.old) actor call reply (seen parts.new)) }
     ensures none { IfNone result (parts.new ≡ parts.old) }
     ensures core { IsCore parts.new }
@@ -57,7 +57,7 @@ pub fn at_once(parts: &mut Parts, actor: u8, call: Call) -> Option<Reply>
 fn change_at_once(parts: &mut Parts, actor: u8, call: Call) -> Option<Reply>
     requires core { IsCore parts.old }
     requires rest { is_busy (seen parts.old) ≡ false }
-    requires allowed { begin_denial (seen parts.old) actor call ≡ None }
+    requires allowed { begin_denial (seen parts.old) actor call None ≡ None }
     ensures done { IfSome result (λ reply. CarriesOut (seen parts.old) actor call reply (seen parts.new)) }
     ensures none { IfNone result (parts.new ≡ parts.old) }
     ensures core { IsCore parts.new }
@@ -80,7 +80,7 @@ fn change_at_once(parts: &mut Parts, actor: u8, call: Call) -> Option<Reply>
 fn renew_at_once(parts: &mut Parts, actor: u8, call: Call, root: Ref) -> Option<Reply>
     requires core { IsCore parts.old }
     requires rest { is_busy (seen parts.old) ≡ false }
-    requires allowed { begin_denial (seen parts.old) actor call ≡ None }
+    requires allowed { begin_denial (seen parts.old) actor call None ≡ None }
     requires clear { IsClear (seen parts.old) call root }
     requires keyed { IsKeyed call }
     ensures done { IfSome result (λ reply. CarriesOut (seen parts.old) actor call reply (seen parts.new)) }
@@ -165,7 +165,7 @@ fn carry_out(
 fn copy_at_once(parts: &mut Parts, actor: u8, call: Call) -> Option<Reply>
     requires core { IsCore parts.old }
     requires rest { is_busy (seen parts.old) ≡ false }
-    requires allowed { begin_denial (seen parts.old) actor call ≡ None }
+    requires allowed { begin_denial (seen parts.old) actor call None ≡ None }
     ensures done { IfSome result (λ reply. CarriesOut (seen parts.old) actor call reply (seen parts.new)) }
     ensures none { IfNone result (parts.new ≡ parts.old) }
     ensures core { IsCore parts.new }
@@ -184,7 +184,7 @@ fn copy_at_once(parts: &mut Parts, actor: u8, call: Call) -> Option<Reply>
 fn close_at_once(parts: &mut Parts, actor: u8, handle: u16) -> Option<Reply>
     requires core { IsCore parts.old }
     requires rest { is_busy (seen parts.old) ≡ false }
-    requires allowed { begin_denial (seen parts.old) actor (Call.Close handle) ≡ None }
+    requires allowed { begin_denial (seen parts.old) actor (Call.Close handle) None ≡ None }
     ensures done { IfSome result (λ reply. CarriesOut (seen parts.old) actor (Call.Close handle) reply (seen parts.new)) }
     ensures none { IfNone result (parts.new ≡ parts.old) }
     ensures core { IsCore parts.new }

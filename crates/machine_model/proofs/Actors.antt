@@ -107,14 +107,14 @@ found_marked (Some id) xs k found e = from_marked id (get_or xs k None) found (s
 
 -- the step is one of this actor
 abbrev pub IsOf : ℕ → Step → Type 0
-IsOf actor (step.Begin other call) = other ≡ actor
+IsOf actor (step.Begin other call number) = other ≡ actor
 IsOf actor (step.Go other) = other ≡ actor
 IsOf actor step.Sweep = ⊥
 IsOf actor (step.GiveUp other) = other ≡ actor
 
 -- a step is of an actor or not
 pub is_of : (actor : ℕ) (s : Step) → Dec (IsOf actor s)
-is_of actor (step.Begin other call) = ℕ_discrete other actor
+is_of actor (step.Begin other call number) = ℕ_discrete other actor
 is_of actor (step.Go other) = ℕ_discrete other actor
 is_of actor step.Sweep = no (λ h. h)
 is_of actor (step.GiveUp other) = ℕ_discrete other actor
@@ -125,18 +125,18 @@ not_own_go actor s other e = other (subst (λ x. IsOf actor x) (sym e) refl)
 
 -- the id of the operation that a step marks, if it does
 abbrev pub marks_in : State → Step → Option ℕ
-marks_in state (step.Begin actor call) = None
+marks_in state (step.Begin actor call number) = None
 marks_in state (step.Go actor) = marks_by state (operation_of state actor)
 marks_in state step.Sweep = None
 marks_in state (step.GiveUp actor) = None
 
 -- an actor whose step is taken isn't 0
-pub begin_counts : (state : State) (actor : ℕ) (call : Call) → begin_denial state actor call ≡ None → 0 < actor
-begin_counts state actor call d = grind arith
+pub begin_counts : (state : State) (actor : ℕ) (call : Call) (number : Option ℕ) → begin_denial state actor call number ≡ None → 0 < actor
+begin_counts state actor call number d = grind arith
 
 -- it is one of the machine's
-pub begin_actor : (state : State) (actor : ℕ) (call : Call) → begin_denial state actor call ≡ None → is_actor state actor ≡ true
-begin_actor state actor call d = grind arith
+pub begin_actor : (state : State) (actor : ℕ) (call : Call) (number : Option ℕ) → begin_denial state actor call number ≡ None → is_actor state actor ≡ true
+begin_actor state actor call number d = grind arith
 
 -- who goes on isn't 0 either
 pub go_counts : (state : State) (actor : ℕ) → go_denial state actor ≡ None → 0 < actor
@@ -155,8 +155,8 @@ found_of_other xs actor k put pos other = sym (found_elsewhere xs (actor - 1) k 
 pub of_others : (state : State) (s : Step) (o : Outcome) (after : State) → Moves state s o after → (k : ℕ) → (IsOf (suc k) s → ⊥) →
     (found : Operation) → get_or after.actors k None ≡ Some found →
     (operation : Operation) × (get_or state.actors k None ≡ Some operation) × (found ≡ mark_one (marks_in state s) operation)
-of_others state s o after (Begins {actor} {call} d) k other found h =
-    (found, found_of_other state.actors actor k _ (begin_counts state actor call d) other ∙ (rw begin_actors at h), refl)
+of_others state s o after (Begins {actor} {call} {number} d) k other found h =
+    (found, found_of_other state.actors actor k _ (begin_counts state actor call number d) other ∙ (rw begin_actors at h), refl)
 of_others state s o after (Goes {actor} {operation} d is a g) k other found h =
     let (was, at_was, same) = found_marked (marks_by state (Some operation)) _ k found (rw gone_actors at h) in
     (was, found_of_other state.actors actor k _ (go_counts state actor d) other ∙ at_was, same ∙ ap (λ x. mark_one (marks_by state x) was) (sym is))

@@ -37,8 +37,8 @@ pub record AreAlike (state : State) (past : Record) : Type 0 where
 
 pub noted_alike : (state : State) (past : Record) (s : Step) (o : Outcome) (after : State) → Moves state s o after → AreAlike state past →
     AreAlike after (noted past state.steps (told_in state s))
-noted_alike state past s o after (Begins {actor} {call} d) k = record {
-  begun_are = begun_push past.events _ refl ∙ (ap (λ n. n + 1) k.begun_are ∙ sym (begin_counted state actor call (begun_operation state call)));
+noted_alike state past s o after (Begins {actor} {call} {number} d) k = record {
+  begun_are = begun_push past.events _ refl ∙ (ap (λ n. n + 1) k.begun_are ∙ sym (begin_counted state actor call (begun_operation state call number)));
   moments = length-set past.moments (actor - 1) no_moment ∙ (k.moments ∙ ap (λ (b : Bounds). b.actors) (sym (limits_kept state s o after (Begins d))));
 }
 noted_alike state past s o after (Goes {actor} {operation} {action} d is a g) k =
@@ -96,7 +96,7 @@ moment_others past (suc n) (suc j) m pos apart =
 -- a step of another leaves what is known of an operation's READs
 pub moment_rests : (state : State) (past : Record) (s : Step) (o : Outcome) (after : State) → Moves state s o after → (k : ℕ) → (IsOf (suc k) s → ⊥) →
     moment_at (noted past state.steps (told_in state s)) (suc k) ≡ moment_at past (suc k)
-moment_rests state past s o after (Begins {actor} {call} d) k other = moment_others past actor (suc k) no_moment (begin_counts state actor call d) (λ e. other (sym e))
+moment_rests state past s o after (Begins {actor} {call} {number} d) k other = moment_others past actor (suc k) no_moment (begin_counts state actor call number d) (λ e. other (sym e))
 moment_rests state past s o after (Goes {actor} {operation} {action} d is a g) k other =
     ap (λ r. moment_at r (suc k)) (noted_going state past actor operation action is a g) ∙ moment_others past actor (suc k) _ (go_counts state actor d) (λ e. other (sym e))
 moment_rests state past s o after (Ends {actor} {operation} {answer} d is a) k other = ap (λ r. moment_at r (suc k)) (noted_ending state past actor operation answer is a)

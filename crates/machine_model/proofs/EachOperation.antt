@@ -1,5 +1,5 @@
 -- What each running operation meets along every run.
-use Rattle.std.proofs.Common.{◌≡◌, ℕ, zero, suc, Some, None, List, get_or, subst}
+use Rattle.std.proofs.Common.{◌≡◌, ℕ, zero, suc, Option, Some, None, List, get_or, subst}
 use Rattle.std.proofs.lemmas.Option.{none-some}
 use Rattle.history.specs.declared.calls.Call.{Call}
 use Rattle.history.specs.declared.replies.Reply.{Reply}
@@ -32,8 +32,8 @@ of_running P state all (suc k) operation e = all k operation e
 -- P holds of an operation that begins, of one that goes on after its step, of one that gives up, and of any other still after a step. The steps so far are given, so that what
 -- was shown of all runs before can be used.
 module _ (limits : Bounds) (P : State → Operation → Type 0)
-    (begins : (steps : List Step) (actor : ℕ) (call : Call) → begin_denial (run limits steps) actor call ≡ None →
-    let operation = begun_operation (run limits steps) call in
+    (begins : (steps : List Step) (actor : ℕ) (call : Call) (number : Option ℕ) → begin_denial (run limits steps) actor call number ≡ None →
+    let operation = begun_operation (run limits steps) call number in
     P (settled (run limits steps) (with_begin (run limits steps) actor call operation)) operation)
     (goes : (steps : List Step) (actor : ℕ) (operation : Operation) → operation_of (run limits steps) actor ≡ Some operation →
     GoesOn (action_of (run limits steps) operation) → P (run limits steps) operation →
@@ -51,8 +51,8 @@ module _ (limits : Bounds) (P : State → Operation → Type 0)
   of_each_after steps s o after m h k (no other) found at_k =
       let (was, at_was, same) = of_others (run limits steps) s o after m k other found at_k in
       rw same (others steps s o after m k other was at_was (h k was at_was))
-  of_each_after steps s o after (Begins {actor} {call} d) h k (yes own) found at_k =
-      rw (of_begin (run limits steps) actor call (begun_operation (run limits steps) call) k own found at_k) (begins steps actor call d)
+  of_each_after steps s o after (Begins {actor} {call} {number} d) h k (yes own) found at_k =
+      rw (of_begin (run limits steps) actor call (begun_operation (run limits steps) call number) k own found at_k) (begins steps actor call number d)
   of_each_after steps s o after (Goes {actor} {operation} d is a g) h k (yes own) found at_k =
       rw (of_itself (run limits steps) actor operation k own found at_k)
       (goes steps actor operation is (rw a g) (of_running P (run limits steps) h actor operation is))

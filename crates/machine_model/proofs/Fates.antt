@@ -50,8 +50,8 @@ marked_runs None xs k operation at_k = at_k
 marked_runs (Some id) xs k operation at_k = get_or-map (marked id) xs k None ∙ ap (marked id) at_k
 
 -- an actor that runs an operation begins no other
-pub begin_not_running : (state : State) (k actor : ℕ) (call : Call) (operation : Operation) → begin_denial state actor call ≡ None → actor ≡ suc k → Runs state k operation → ⊥
-begin_not_running state k actor call operation d own is = denied (subst (λ a. operation_of state a ≡ Some operation) (sym own) is)
+pub begin_not_running : (state : State) (k actor : ℕ) (call : Call) (number : Option ℕ) (operation : Operation) → begin_denial state actor call number ≡ None → actor ≡ suc k → Runs state k operation → ⊥
+begin_not_running state k actor call number operation d own is = denied (subst (λ a. operation_of state a ≡ Some operation) (sym own) is)
   where
     denied : operation_of state actor ≡ Some operation → ⊥
     denied e = grind arith
@@ -67,8 +67,8 @@ not_place : (actor k : ℕ) → (k ≡ actor - 1 → ⊥) → step.Go actor ≡ 
 not_place actor k apart e = let same : actor ≡ suc k = cc e in apart (omega arith)
 
 pub follows : (state : State) (s : Step) (o : Outcome) (after : State) → Moves state s o after → (k : ℕ) (operation : Operation) → Runs state k operation → Follows state s after k operation
-follows state s o after (Begins {actor} {call} d) k operation at_k = elim (write_cases state.actors (actor - 1) k (Some (begun_operation state call)) operation at_k) [
-  | inl here ↦ absurd (begin_not_running state k actor call operation d (actor_at actor k (begin_counts state actor call d) here.0) at_k)
+follows state s o after (Begins {actor} {call} {number} d) k operation at_k = elim (write_cases state.actors (actor - 1) k (Some (begun_operation state call number)) operation at_k) [
+  | inl here ↦ absurd (begin_not_running state k actor call number operation d (actor_at actor k (begin_counts state actor call number d) here.0) at_k)
   | inr there ↦ rests (λ e. let wrong : ⊥ = cc e in wrong) (rw begin_actors there.1)
 ]
 follows state s o after (Goes {actor} {operation = own} d is a g) k operation at_k = elim (write_cases state.actors (actor - 1) k (Some (operation_after state own)) operation at_k) [
@@ -110,15 +110,15 @@ follows state s o after (Sweeps spent) k operation at_k = rests (λ e. let wrong
 
 -- where what runs after a step comes from: the step begins it, or it rested, or went on, or gave up
 pub data Comes (state : State) (s : Step) (k : ℕ) (found : Operation) : Type 0 where
-  began : (call : Call) → s ≡ step.Begin (suc k) call → begin_denial state (suc k) call ≡ None → found ≡ begun_operation state call → Comes state s k found
+  began : (call : Call) (number : Option ℕ) → s ≡ step.Begin (suc k) call number → begin_denial state (suc k) call number ≡ None → found ≡ begun_operation state call number → Comes state s k found
   rested : (was : Operation) → Runs state k was → found ≡ mark_one (marks_in state s) was → (IsOf (suc k) s → ⊥) → Comes state s k found
   went : (was : Operation) → s ≡ step.Go (suc k) → Runs state k was → GoesOn (action_of state was) → found ≡ mark_one (marks_in state s) (operation_after state was) → Comes state s k found
   gave : (was : Operation) (answer : Reply) → s ≡ step.GiveUp (suc k) → Runs state k was → given_up was.call was.line ≡ Some answer → found ≡ gave_up was answer → Comes state s k found
 
 comes_by : (state : State) (s : Step) (o : Outcome) (after : State) → Moves state s o after → (k : ℕ) (found : Operation) → Runs after k found → Dec (IsOf (suc k) s) → Comes state s k found
 comes_by state s o after m k found at_k (no other) = let (was, at_was, same) = of_others state s o after m k other found at_k in rested was at_was same other
-comes_by state s o after (Begins {actor} {call} d) k found at_k (yes own) =
-    began call (ap (λ a. step.Begin a call) own) (subst (λ a. begin_denial state a call ≡ None) own d) (of_begin state actor call (begun_operation state call) k own found at_k)
+comes_by state s o after (Begins {actor} {call} {number} d) k found at_k (yes own) =
+    began call number (ap (λ a. step.Begin a call number) own) (subst (λ a. begin_denial state a call number ≡ None) own d) (of_begin state actor call (begun_operation state call number) k own found at_k)
 comes_by state s o after (Goes {actor} {operation} d is a g) k found at_k (yes own) =
     went operation (ap (λ a. step.Go a) own) (at_place state actor k operation own is) (rw a g)
     (of_itself state actor operation k own found at_k ∙ ap (λ x. mark_one (marks_by state x) (operation_after state operation)) (sym is))
@@ -137,8 +137,8 @@ marks_length (Some id) xs = length-map xs (marked id)
 
 -- there are as many actors behind a move
 pub actors_length : (state : State) (s : Step) (o : Outcome) (after : State) → Moves state s o after → length after.actors ≡ length state.actors
-actors_length state s o after (Begins {actor} {call} d) =
-    ap (λ xs. length xs) (begin_actors state actor call (begun_operation state call)) ∙ length-set state.actors _ _
+actors_length state s o after (Begins {actor} {call} {number} d) =
+    ap (λ xs. length xs) (begin_actors state actor call (begun_operation state call number)) ∙ length-set state.actors _ _
 actors_length state s o after (Goes {actor} {operation} d is a g) =
     ap (λ xs. length xs) (gone_actors state actor operation) ∙ marks_length (marks_by state (Some operation)) _ ∙ length-set state.actors _ _
 actors_length state s o after (Ends d is a) = length-set state.actors _ _

@@ -63,7 +63,7 @@ sweep_limits state = refl
 
 -- a machine keeps its limits
 pub limits_kept : (state : State) (s : Step) (o : Outcome) (after : State) → Moves state s o after → after.limits ≡ state.limits
-limits_kept state s o after (Begins {actor} {call} d) = begin_limits state actor call (begun_operation state call)
+limits_kept state s o after (Begins {actor} {call} {number} d) = begin_limits state actor call (begun_operation state call number)
 limits_kept state s o after (Goes {actor} {operation} d found a g) = (acted_framed _ _ (action_of state operation)).limits
 limits_kept state s o after (Ends d found a) = refl
 limits_kept state s o after (Sweeps spent) = sweep_limits state

@@ -1,5 +1,5 @@
 -- Where an operation is to make a node and no slot is free, to give up comes to the same as to go on.
-use Rattle.std.proofs.Common.{◌≡◌, ℕ, Bool, List, [], Option, Some, None, Ok, refl, ap, ◌∙◌, sym, subst, arith}
+use Rattle.std.proofs.Common.{◌≡◌, ℕ, Bool, List, [], Option, Some, None, Ok, refl, ap, ◌∙◌, sym, arith}
 use Rattle.history.specs.declared.replies.Reply.{Reply}
 use Rattle.history.specs.declared.replies.Reply.TheVariants as reply
 use Rattle.machine_model.specs.Beneath.ctrie_base.specs.declared.kinds.Kind.{Kind}
@@ -26,12 +26,12 @@ use Rattle.machine_model.specs.declared.lines.Line.{Line}
 use Rattle.machine_model.specs.declared.lines.Line.TheVariants as line
 use Rattle.machine_model.specs.declared.steps.Outcome.TheVariants as outcome
 use Rattle.machine_model.specs.States.{State, operation_of, with_operation}
-use Rattle.machine_model.specs.Operations.{action_of, line_action, line_after, kind_of, generation_from, generation_after}
+use Rattle.machine_model.specs.Operations.{action_of, line_action, line_after, kind_of, generation_from}
 use Rattle.machine_model.specs.Acting.{operation_after, gone, acted, private_after, attempt_after, mark_after}
 use Rattle.machine_model.specs.Counting.{settled}
 use Rattle.machine_model.specs.GivingUp.{given_up, gave_up, former_of}
 use Rattle.machine_model.specs.Calls.{handle_of, changed_reply}
-use Rattle.machine_model.specs.Laws.{FindsNoSlot, GivingUpIsFindingNone}
+use Rattle.machine_model.specs.Laws.{GivingUpIsFindingNone}
 use Rattle.machine_model.specs.Machine.{next, go_denial, go_unless, go_on, step_by, give_up_unless, give_up_on, give_up_by}
 
 -- ---- the operation
@@ -114,8 +114,13 @@ gives_up_so : (state : State) (operation : Operation) (e : kind_of (action_of st
     operation_after state operation ≡ gave_up operation (comes_to state operation none operation.line e).answer
 gives_up_so state operation e none =
     let to = comes_to state operation none operation.line e in
-    rw (private_none state operation.private (action_of state operation) e none, attempt_same operation.attempt (action_of state operation) e,
-        mark_same operation.is_marked (action_of state operation) e, to.ends, to.rootless) refl
+    rw (
+      private_none state operation.private (action_of state operation) e none,
+      attempt_same operation.attempt (action_of state operation) e,
+      mark_same operation.is_marked (action_of state operation) e,
+      to.ends,
+      to.rootless,
+    ) refl
 
 -- what the step comes to
 goes_so : (state : State) (actor : ℕ) (operation : Operation) (action : Action) → kind_of action ≡ kind.Make →

@@ -97,7 +97,7 @@ sweep_heap pins r (Some at) = Frees at refl
 
 -- each step that is taken is such an effect
 pub heap_moves : (state : State) (s : Step) (o : Outcome) (after : State) → Moves state s o after → HeapMoves state.heap (ripe state.epoch state.limbo) after.heap
-heap_moves state s o after (Begins {actor} {call} d) = same_heap _ (begin_heap state actor call (begun_operation state call))
+heap_moves state s o after (Begins {actor} {call} {number} d) = same_heap _ (begin_heap state actor call (begun_operation state call number))
 heap_moves state s o after (Goes {actor} {operation} d is a g) = acted_heap _ _ (handle_of operation.call) (action_of state operation)
 heap_moves state s o after (Ends d is a) = Stays
 heap_moves state s o after (GivesUp d is a) = Stays

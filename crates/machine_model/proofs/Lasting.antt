@@ -1,6 +1,6 @@
 -- How many steps a machine may take changes nothing of those that it takes.
-use Rattle.std.proofs.Common.{◌≡◌, ℕ, zero, suc, ◌+◌, ◌<◌, ◌≤◌, ◌==◌, ◌&&◌, Bool, true, false, List, [], ◌∷◌, ◌++◌}
-use Rattle.std.proofs.Common.{length, map, Option, Some, None, Ok, Err, refl, sym, ap, ◌∙◌, arith, nat_le, is_some, not, if◌then◌else◌, length-append}
+use Rattle.std.proofs.Common.{◌≡◌, ℕ, zero, suc, ◌+◌, ◌<◌, ◌≤◌, ◌==◌, ◌&&◌, Bool, true, false, List, [], ◌∷◌}
+use Rattle.std.proofs.Common.{length, map, Option, Some, None, Ok, Err, refl, sym, ap, ◌∙◌, arith, nat_le, is_some, not, if◌then◌else◌}
 use Rattle.std.proofs.lemmas.Bool.{lt-leb}
 use Rattle.machine_model.specs.Beneath.ctrie_base.specs.declared.refusals.Refusal.{Refusal}
 use Rattle.machine_model.specs.Beneath.ctrie_base.specs.declared.refusals.Refusal.TheVariants as refuse
@@ -23,16 +23,15 @@ use Rattle.machine_model.specs.Swapping.{stands_in, is_plain}
 use Rattle.machine_model.specs.Operations.{action_of, kind_of}
 use Rattle.machine_model.specs.Acting.{acted, completed, carried_out, opened, marked, if_changed, new_root_taken, gone, operation_after}
 use Rattle.machine_model.specs.Calls.{handle_of, opens_handle, is_close, needs_writable, needs_read_only}
-use Rattle.machine_model.specs.Machine.{Answer, next, next_state, state_after, run, run_from, is_spent}
-use Rattle.machine_model.specs.Machine.{is_taken, taken_below, least_from, settled_after, begin_denial, begin_unless, begun_operation, with_begin}
+use Rattle.machine_model.specs.Machine.{Answer, next, next_state, state_after, run_from, is_spent}
+use Rattle.machine_model.specs.Machine.{is_taken, taken_below, least_from, lacks_number, settled_after, begin_denial, begin_unless, begun_operation, with_begin}
 use Rattle.machine_model.specs.Machine.{access_of, first_reason, is_actor, is_running, is_access, runs_on, go_denial, go_unless, go_on, step_by, sweep, swept, give_up_unless, give_up_on, give_up_by}
-use Rattle.machine_model.proofs.Along.{run_push, kept_by_moves, limits_along}
+use Rattle.machine_model.proofs.Along.{kept_by_moves}
 use Rattle.machine_model.proofs.Frames.{limits_kept, steps_counted}
 use Rattle.machine_model.specs.Machine.{is_taken_step}
-use Rattle.machine_model.specs.Records.{Record, first_record, noted, next_record, record_from, record_of}
+use Rattle.machine_model.specs.Records.{Record, first_record, noted, next_record, record_from}
 use Rattle.machine_model.specs.Tellings.{told_in, told_of, told_by, begin_told}
-use Rattle.machine_model.proofs.Recorded.{record_push}
-use Rattle.machine_model.specs.GivingUp.{given_up, gave_up}
+use Rattle.machine_model.specs.GivingUp.{given_up}
 use Rattle.machine_model.specs.Lasting.{lasting, living, LifeChangesNothing}
 
 abbrev lasting_answer : ℕ → Answer → Answer
@@ -129,15 +128,16 @@ module _ (m : ℕ) where
   closed_lasting state actor call operation true = refl
   closed_lasting state actor call operation false = refl
 
-  begun_same : (state : State) (call : Call) → begun_operation (lasting m state) call ≡ begun_operation state call
-  begun_same state call = ap (λ n. record (begun_operation state call) { opens = if opens_handle call then Some n else None }) (least_lasting state handle_limit 0)
+  begun_same : (state : State) (call : Call) (number : Option ℕ) → begun_operation (lasting m state) call number ≡ begun_operation state call number
+  begun_same state call None = ap (λ n. record (begun_operation state call None) { opens = if opens_handle call then Some n else None }) (least_lasting state handle_limit 0)
+  begun_same state call (Some number) = refl
 
-  begun_lasting : (state : State) (actor : ℕ) (call : Call) (denial : Option Refusal) →
-      begin_unless (lasting m state) actor call denial ≡ lasting_answer m (begin_unless state actor call denial)
-  begun_lasting state actor call (Some why) = refl
-  begun_lasting state actor call None =
-      ap (λ (o : Operation). settled_after (lasting m state) (outcome.Began o.id, with_begin (lasting m state) actor call o)) (begun_same state call)
-      ∙ ap (λ s. settled_after (lasting m state) (outcome.Began (begun_operation state call).id, s)) (closed_lasting state actor call (begun_operation state call) (is_close call))
+  begun_lasting : (state : State) (actor : ℕ) (call : Call) (number : Option ℕ) (denial : Option Refusal) →
+      begin_unless (lasting m state) actor call number denial ≡ lasting_answer m (begin_unless state actor call number denial)
+  begun_lasting state actor call number (Some why) = refl
+  begun_lasting state actor call number None =
+      ap (λ (o : Operation). settled_after (lasting m state) (outcome.Began o.id, with_begin (lasting m state) actor call o)) (begun_same state call number)
+      ∙ ap (λ s. settled_after (lasting m state) (outcome.Began (begun_operation state call number).id, s)) (closed_lasting state actor call (begun_operation state call number) (is_close call))
 
   -- ---- each step
 
@@ -148,21 +148,24 @@ module _ (m : ℕ) where
     same_spent : is_spent (lasting m state) ≡ is_spent state
     same_spent = lt-leb m state.steps m_left ∙ sym unspent
 
-    begin_reasons : ℕ → Call → ℕ → Bool → Option Refusal
-    begin_reasons actor call taken spent =
+    begin_reasons : ℕ → Call → Bool → Bool → Option Refusal
+    begin_reasons actor call lacks spent =
         let handle = handle_of call in
         let access = access_of (root_at state handle) in
         first_reason (
         (not (is_actor state actor), refuse.NoActor) ∷ (is_running state actor, refuse.ActorBusy) ∷ (not (is_some access), refuse.NoHandle)
         ∷ (needs_writable call && is_access ReadOnly access, refuse.ReadOnly) ∷ (needs_read_only call && is_access Writable access, refuse.NotReadOnly)
-        ∷ (is_close call && runs_on state handle, refuse.Busy) ∷ (opens_handle call && nat_le handle_limit taken, refuse.HandlesFull)
+        ∷ (is_close call && runs_on state handle, refuse.Busy) ∷ (opens_handle call && lacks, refuse.HandlesFull)
         ∷ (spent, refuse.Spent) ∷ [])
 
-    begin_denial_same : (actor : ℕ) (call : Call) → begin_denial (lasting m state) actor call ≡ begin_denial state actor call
+    lacks_same : (number : Option ℕ) → lacks_number (lasting m state) number ≡ lacks_number state number
+    lacks_same None = ap (λ k. nat_le handle_limit k) (taken_lasting state handle_limit)
+    lacks_same (Some number) = refl
+
+    begin_denial_same : (actor : ℕ) (call : Call) (number : Option ℕ) → begin_denial (lasting m state) actor call number ≡ begin_denial state actor call number
     unfolding begin_reasons
-    begin_denial_same actor call =
-        ap (λ k. begin_reasons actor call k (is_spent (lasting m state))) (taken_lasting state handle_limit)
-        ∙ ap (λ b. begin_reasons actor call (taken_below state handle_limit) b) same_spent
+    begin_denial_same actor call number =
+        ap (λ b. begin_reasons actor call b (is_spent (lasting m state))) (lacks_same number) ∙ ap (λ b. begin_reasons actor call (lacks_number state number) b) same_spent
 
     go_denial_same : (actor : ℕ) → go_denial (lasting m state) actor ≡ go_denial state actor
     go_denial_same actor =
@@ -170,8 +173,8 @@ module _ (m : ℕ) where
 
     next_lasting : (s : Step) → next (lasting m state) s ≡ lasting_answer m (next state s)
     unfolding next
-    next_lasting (step.Begin actor call) =
-        ap (λ d. begin_unless (lasting m state) actor call d) (begin_denial_same actor call) ∙ begun_lasting state actor call (begin_denial state actor call)
+    next_lasting (step.Begin actor call number) =
+        ap (λ d. begin_unless (lasting m state) actor call number d) (begin_denial_same actor call number) ∙ begun_lasting state actor call number (begin_denial state actor call number)
     next_lasting (step.Go actor) = ap (λ d. go_unless (lasting m state) actor d) (go_denial_same actor) ∙ go_unless_lasting state actor (go_denial state actor)
     next_lasting (step.GiveUp actor) = ap (λ d. give_up_unless (lasting m state) actor d) (go_denial_same actor) ∙ give_up_lasting state actor (go_denial state actor)
     next_lasting step.Sweep = swept_by (is_spent state) same_spent unspent
@@ -194,7 +197,7 @@ module _ (m : ℕ) where
         by_action action = refl
 
     told_lasting : (s : Step) → told_in (lasting m state) s ≡ told_in state s
-    told_lasting (step.Begin actor call) = ap (λ (o : Operation). begin_told actor call o) (begun_same state call)
+    told_lasting (step.Begin actor call number) = ap (λ (o : Operation). begin_told actor call o) (begun_same state call number)
     told_lasting (step.Go actor) = told_of_lasting actor (operation_of state actor)
     told_lasting step.Sweep = refl
     told_lasting (step.GiveUp actor) = refl

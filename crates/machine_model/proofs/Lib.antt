@@ -38,5 +38,11 @@ pub mod Numbered
 pub mod Basics
 pub mod Taking
 pub mod Fates
+pub mod Numbers
+pub mod Embedding
+mod OneWord
+pub mod Looks
+pub mod LooksOn
+pub mod LooksAfter
 pub mod GivingUp
 pub mod Edges

@@ -19,10 +19,10 @@ use Rattle.machine_model.specs.GivingUp.{given_up}
 use Rattle.machine_model.specs.Moves.{Moves, Begins, Goes, Ends, Sweeps, GivesUp, MovesIfTaken, IsTaken}
 
 -- a begin, by why it is denied
-begin_moves : (state : State) (actor : ℕ) (call : Call) (denial : Option Refusal) → begin_denial state actor call ≡ denial →
-    MovesIfTaken state (step.Begin actor call) (begin_unless state actor call denial)
-begin_moves state actor call None d = Begins d
-begin_moves state actor call (Some refusal) d = tt
+begin_moves : (state : State) (actor : ℕ) (call : Call) (number : Option ℕ) (denial : Option Refusal) → begin_denial state actor call number ≡ denial →
+    MovesIfTaken state (step.Begin actor call number) (begin_unless state actor call number denial)
+begin_moves state actor call number None d = Begins d
+begin_moves state actor call number (Some refusal) d = tt
 
 -- a step of an actor's operation, by its action
 step_moves : (state : State) (actor : ℕ) → go_denial state actor ≡ None → (operation : Operation) → operation_of state actor ≡ Some operation →
@@ -66,7 +66,7 @@ give_up_moves state actor (Some refusal) d = tt
 -- each step that is taken is a move
 pub moves : (state : State) (s : Step) → MovesIfTaken state s (next state s)
 unfolding next
-moves state (step.Begin actor call) = begin_moves state actor call (begin_denial state actor call) refl
+moves state (step.Begin actor call number) = begin_moves state actor call number (begin_denial state actor call number) refl
 moves state (step.Go actor) = go_moves state actor (go_denial state actor) refl
 moves state step.Sweep = sweep_moves state (is_spent state) refl
 moves state (step.GiveUp actor) = give_up_moves state actor (go_denial state actor) refl

@@ -147,13 +147,13 @@ readers_make_nothing state operation (line.End answer) h e = end_makes_nothing e
 readers_make_nothing state operation line.Impossible h e = root_makes_nothing state operation root.Read e
 
 -- a begin that isn't denied on a read-only handle is of a call that needs no writable one
-begun_on_read_only : (state : State) (actor : ℕ) (call : Call) → begin_denial state actor call ≡ None → (begun_operation state call).access ≡ ReadOnly →
+begun_on_read_only : (state : State) (actor : ℕ) (call : Call) (number : Option ℕ) → begin_denial state actor call number ≡ None → (begun_operation state call number).access ≡ ReadOnly →
     needs_writable call ≡ false
-begun_on_read_only state actor call d a = grind arith
+begun_on_read_only state actor call number d a = grind arith
 
 -- an operation that begins is a reader if its handle is read-only
-pub begun_reads : (state : State) (actor : ℕ) (call : Call) → begin_denial state actor call ≡ None → ReadsIfReadOnly (begun_operation state call)
-begun_reads state actor call d a = (begun_on_read_only state actor call d a, first_readers call)
+pub begun_reads : (state : State) (actor : ℕ) (call : Call) (number : Option ℕ) → begin_denial state actor call number ≡ None → ReadsIfReadOnly (begun_operation state call number)
+begun_reads state actor call number d a = (begun_on_read_only state actor call number d a, first_readers call)
 
 -- and stays one after its step
 pub gone_reads : (state : State) (operation : Operation) → ReadsIfReadOnly operation → ReadsIfReadOnly (operation_after state operation)

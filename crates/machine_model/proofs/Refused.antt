@@ -99,8 +99,8 @@ after_move : (limits : Bounds) (steps : List Step) → AllRefusedIn limits steps
     (operation : Operation) → get_or after.actors k None ≡ Some operation → IsRefusal operation.line → go_denial after (suc k) ≡ None →
     RefusedIn limits (steps ++ s ∷ []) (suc k) operation
 after_move limits steps h s o after m k (no other) operation found r allowed = after_other limits steps h s o after m k other operation found r allowed
-after_move limits steps h s o after (Begins {actor} {call} d) k (yes own) operation found r allowed =
-    let is = of_begin (run limits steps) actor call (begun_operation (run limits steps) call) k own operation found in
+after_move limits steps h s o after (Begins {actor} {call} {number} d) k (yes own) operation found r allowed =
+    let is = of_begin (run limits steps) actor call (begun_operation (run limits steps) call number) k own operation found in
     absurd (first_refusal call (rw is at r))
 after_move limits steps h s o after (Goes {actor} {operation = was} d is a g) k (yes own) operation found r allowed =
     let same = of_itself (run limits steps) actor was k own operation found in

@@ -105,7 +105,7 @@ takes_so before after P Q so h = record { one = h.one; only = λ less. so (h.onl
 
 -- each step that is taken
 move_takes : (state : State) (s : Step) (o : Outcome) (after : State) → Moves state s o after → TakesOne state.heap after.heap (IsMake state s)
-move_takes state s o after (Begins {actor} {call} d) = same_heap _ _ _ (begin_heap state actor call (begun_operation state call))
+move_takes state s o after (Begins {actor} {call} {number} d) = same_heap _ _ _ (begin_heap state actor call (begun_operation state call number))
 move_takes state s o after (Goes {actor} {operation} d is a g) =
     takes_so _ _ _ _ (λ e. (operation, is, e)) (acted_one _ (handle_of operation.call) (action_of state operation))
 move_takes state s o after (Ends d is a) = same_heap _ _ _ refl

@@ -5,7 +5,7 @@ use Rattle.machine_model.specs.declared.steps.Step.TheVariants.{Begin}
 use Rattle.machine_model.specs.Calls.{key_of}
 
 abbrev pub FitsKey : Step → Type 0
-FitsKey (Begin actor call) = key_of call < 2 ^ 64
+FitsKey (Begin actor call number) = key_of call < 2 ^ 64
 FitsKey step = Unit {0}
 
 abbrev pub KeysFit : List Step → Type 0

@@ -1,17 +1,20 @@
 -- Laws of the machine, for every list of steps.
-use Rattle.std.specs.Prelude.{◌≡◌, ℕ, ◌+◌, ◌⊎◌, List, [], ◌∷◌, ◌++◌, length, Contains, Some, Ok}
+use Rattle.std.specs.Prelude.{◌≡◌, ℕ, ◌+◌, ◌⊎◌, List, [], ◌∷◌, ◌++◌, length, Contains, true, Option, Some, None, Ok}
 use Rattle.machine_model.specs.Beneath.ctrie_base.specs.declared.kinds.Kind.TheVariants as kind
 use Rattle.history.specs.declared.calls.Access.TheVariants.{ReadOnly}
+use Rattle.history.specs.declared.calls.Call.{Call}
 use Rattle.history.specs.declared.replies.Reply.TheVariants as reply
 use Rattle.machine_model.specs.declared.operations.Operation.{Operation}
 use Rattle.machine_model.specs.declared.steps.Bounds.{Bounds}
 use Rattle.machine_model.specs.declared.steps.Step.{Step}
-use Rattle.machine_model.specs.declared.steps.Step.TheVariants.{Go, GiveUp}
+use Rattle.machine_model.specs.declared.steps.Step.TheVariants.{Begin, Go, GiveUp}
+use Rattle.machine_model.specs.declared.steps.Outcome.{Outcome}
 use Rattle.machine_model.specs.declared.steps.Outcome.TheVariants.{Ended}
 use Rattle.machine_model.specs.Beneath.slot_arena.specs.Heaps.{in_use}
 use Rattle.machine_model.specs.States.{State, operation_of}
 use Rattle.machine_model.specs.Operations.{action_of, kind_of}
-use Rattle.machine_model.specs.Machine.{AreBounds, next, run, taken_steps}
+use Rattle.machine_model.specs.Calls.{opens_handle}
+use Rattle.machine_model.specs.Machine.{AreBounds, next, run, taken_steps, is_free, number_for, least_free}
 
 -- the slots in use and the free ones are all slots
 abbrev pub SlotsAddUp : Type 0
@@ -48,6 +51,16 @@ RefusedForWantAlone =
 -- to give up is to find no free slot: where none is free for the node that an operation is to make, both come to the same
 abbrev pub GivingUpIsFindingNone : Type 0
 GivingUpIsFindingNone = (state : State) (actor id : ℕ) → FindsNoSlot state actor id → next state (GiveUp actor) ≡ next state (Go actor)
+
+-- a begin of a call that opens a handle reserves a number that is below the limit, and neither open nor reserved
+abbrev pub BeginsReserveFree : Type 0
+BeginsReserveFree =
+    (state after : State) (actor : ℕ) (call : Call) (number : Option ℕ) (o : Outcome) → next state (Begin actor call number) ≡ Ok (o, after) → opens_handle call ≡ true →
+    is_free state (number_for state number) ≡ true
+
+-- a begin that chooses the least free number is one that chooses none
+abbrev pub LeastIsChosen : Type 0
+LeastIsChosen = (state : State) (actor : ℕ) (call : Call) → next state (Begin actor call (Some (least_free state))) ≡ next state (Begin actor call None)
 
 -- an operation on a read-only handle makes no node
 abbrev pub ReadersMakeNothing : Type 0

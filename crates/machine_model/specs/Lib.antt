@@ -30,6 +30,8 @@ pub mod Laws
 pub mod Lasting
 pub mod Grown
 pub mod Moves
+pub mod Reads
+pub mod Words
 pub mod Edges
 pub mod Times
 pub mod Taking

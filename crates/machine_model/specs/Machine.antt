@@ -83,6 +83,10 @@ taken_below state (suc n) = taken_below state n + (if is_taken state n then 1 el
 abbrev pub handles_taken : State → ℕ
 handles_taken state = taken_below state handle_limit
 
+-- the handle number is below the limit, and neither open nor reserved
+abbrev pub is_free : State → ℕ → Bool
+is_free state handle = nat_lt handle handle_limit && not (is_taken state handle)
+
 unfoldable pub least_from : State → ℕ → ℕ → ℕ
 least_from state zero n = n
 least_from state (suc left) n = if is_taken state n then least_from state left (n + 1) else n
@@ -90,6 +94,16 @@ least_from state (suc left) n = if is_taken state n then least_from state left (
 -- the least handle number that is neither open nor reserved
 abbrev pub least_free : State → ℕ
 least_free state = least_from state handle_limit 0
+
+-- the number of the handle that a call opens: the chosen one, or the least free one where none is chosen
+abbrev pub number_for : State → Option ℕ → ℕ
+number_for state None = least_free state
+number_for state (Some number) = number
+
+-- there is no such number: the chosen one isn't free, or where none is chosen, all are taken
+abbrev pub lacks_number : State → Option ℕ → Bool
+lacks_number state None = nat_le handle_limit (handles_taken state)
+lacks_number state (Some number) = not (is_free state number)
 
 abbrev pub access_of : Option Root → Option Access
 access_of None = None
@@ -112,25 +126,25 @@ abbrev pub is_spent : State → Bool
 is_spent state = nat_le state.limits.steps state.steps
 
 -- why a begin is denied
-abbrev pub begin_denial : State → ℕ → Call → Option Refusal
-begin_denial state actor call =
+abbrev pub begin_denial : State → ℕ → Call → Option ℕ → Option Refusal
+begin_denial state actor call number =
     let handle = handle_of call in
     let access = access_of (root_at state handle) in
     first_reason (
     (not (is_actor state actor), refuse.NoActor) ∷ (is_running state actor, refuse.ActorBusy) ∷ (not (is_some access), refuse.NoHandle)
     ∷ (needs_writable call && is_access ReadOnly access, refuse.ReadOnly) ∷ (needs_read_only call && is_access Writable access, refuse.NotReadOnly)
-    ∷ (is_close call && runs_on state handle, refuse.Busy) ∷ (opens_handle call && nat_le handle_limit (handles_taken state), refuse.HandlesFull)
+    ∷ (is_close call && runs_on state handle, refuse.Busy) ∷ (opens_handle call && lacks_number state number, refuse.HandlesFull)
     ∷ (is_spent state, refuse.Spent) ∷ [])
 
 -- the operation of a new begin
-abbrev pub new_operation : State → Call → Access → Operation
-new_operation state call access = record {
+abbrev pub new_operation : State → Call → Access → Option ℕ → Operation
+new_operation state call access number = record {
   id = state.begun;
   call = call;
   access = access;
   epoch = state.epoch;
   private = [];
-  opens = if opens_handle call then Some (least_free state) else None;
+  opens = if opens_handle call then Some (number_for state number) else None;
   attempt = 0;
   is_marked = false;
   generation = None;
@@ -138,8 +152,8 @@ new_operation state call access = record {
 }
 
 -- the operation that a begin brings in
-abbrev pub begun_operation : State → Call → Operation
-begun_operation state call = new_operation state call (unwrap_or (access_of (root_at state (handle_of call))) Writable)
+abbrev pub begun_operation : State → Call → Option ℕ → Operation
+begun_operation state call number = new_operation state call (unwrap_or (access_of (root_at state (handle_of call))) Writable) number
 
 -- a close takes the handle away as it begins
 abbrev pub handle_closed : State → Call → State
@@ -148,15 +162,15 @@ handle_closed state call = if is_close call then with_root state (handle_of call
 abbrev pub with_begin : State → ℕ → Call → Operation → State
 with_begin state actor call operation = record (with_operation (handle_closed state call) actor (Some operation)) { begun = state.begun + 1 }
 
-abbrev pub begin_unless : State → ℕ → Call → Option Refusal → Answer
-begin_unless state actor call (Some refusal) = Err refusal
-begin_unless state actor call None =
-    let operation = begun_operation state call in
+abbrev pub begin_unless : State → ℕ → Call → Option ℕ → Option Refusal → Answer
+begin_unless state actor call number (Some refusal) = Err refusal
+begin_unless state actor call number None =
+    let operation = begun_operation state call number in
     Ok (outcome.Began operation.id, settled state (with_begin state actor call operation))
 
 -- a step that begins an operation
-abbrev pub begin : State → ℕ → Call → Answer
-begin state actor call = begin_unless state actor call (begin_denial state actor call)
+abbrev pub begin : State → ℕ → Call → Option ℕ → Answer
+begin state actor call number = begin_unless state actor call number (begin_denial state actor call number)
 
 -- ---- going on
 
@@ -239,14 +253,14 @@ give_up state actor = give_up_unless state actor (go_denial state actor)
 
 -- one atomic step
 unfoldable pub next : State → Step → Answer
-next state (step.Begin actor call) = begin state actor call
+next state (step.Begin actor call number) = begin state actor call number
 next state (step.Go actor) = go state actor
 next state step.Sweep = sweep state
 next state (step.GiveUp actor) = give_up state actor
 
 -- why a step is denied, where it is
 abbrev pub denial_of : State → Step → Option Refusal
-denial_of state (step.Begin actor call) = begin_denial state actor call
+denial_of state (step.Begin actor call number) = begin_denial state actor call number
 denial_of state (step.Go actor) = go_denial state actor
 denial_of state step.Sweep = if is_spent state then Some refuse.Spent else None
 denial_of state (step.GiveUp actor) = give_up_denial state actor
@@ -284,6 +298,10 @@ taken_steps limits steps = taken_from (first_state limits) steps
 abbrev pub longest_life : ℕ
 longest_life = 2 ^ 45 - 2 ^ 21
 
--- the bounds are in range: of slots and of steps there may be any number
+-- how many actors a program's machine has at most
+abbrev pub most_actors : ℕ
+most_actors = 64
+
+-- the bounds are in range: of slots and of steps there may be any number, and up to 255 actors
 abbrev pub AreBounds : Bounds → Type 0
-AreBounds limits = (2 ≤ limits.slots) × (1 ≤ limits.actors) × (limits.actors ≤ 64)
+AreBounds limits = (2 ≤ limits.slots) × (1 ≤ limits.actors) × (limits.actors ≤ 255)

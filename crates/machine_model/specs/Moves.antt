@@ -1,5 +1,5 @@
 -- What a step that is taken does: one constructor for each kind of step.
-use Rattle.std.specs.Prelude.{◌≡◌, ℕ, false, Some, None, Ok, Err}
+use Rattle.std.specs.Prelude.{◌≡◌, ℕ, false, Option, Some, None, Ok, Err}
 use Rattle.history.specs.declared.calls.Call.{Call}
 use Rattle.history.specs.declared.replies.Reply.{Reply}
 use Rattle.machine_model.specs.declared.operations.Operation.{Operation}
@@ -24,8 +24,8 @@ GoesOn (act.End answer) = ⊥
 GoesOn action = Unit {0}
 
 pub data Moves (state : State) : Step → Outcome → State → Type 0 where
-  Begins : {actor : ℕ} {call : Call} → begin_denial state actor call ≡ None →
-      Moves state (step.Begin actor call) (outcome.Began (begun_operation state call).id) (settled state (with_begin state actor call (begun_operation state call)))
+  Begins : {actor : ℕ} {call : Call} {number : Option ℕ} → begin_denial state actor call number ≡ None →
+      Moves state (step.Begin actor call number) (outcome.Began (begun_operation state call number).id) (settled state (with_begin state actor call (begun_operation state call number)))
   Goes : {actor : ℕ} {operation : Operation} {action : Action} → go_denial state actor ≡ None → operation_of state actor ≡ Some operation →
       action_of state operation ≡ action → GoesOn action →
       Moves state (step.Go actor) (outcome.Went (kind_of action)) (settled state (gone state actor operation))

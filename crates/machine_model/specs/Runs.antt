@@ -40,7 +40,7 @@ sized slots actors = record { slots = slots; actors = actors; hash = Low; steps 
 
 -- the actor begins this call and takes so many steps of it
 abbrev pub taking : ℕ → Call → ℕ → List Step
-taking actor call n = step.Begin actor call ∷ replicate n (step.Go actor)
+taking actor call n = step.Begin actor call None ∷ replicate n (step.Go actor)
 
 -- A put takes twelve steps, and a get then finds its value.
 abbrev pub PutAndGet : Type 0

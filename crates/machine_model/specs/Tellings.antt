@@ -104,7 +104,7 @@ begin_told actor call operation = told.Began operation.id actor call operation.o
 
 -- what a step tells
 abbrev pub told_in : State → Step → Told
-told_in state (step.Begin actor call) = begin_told actor call (begun_operation state call)
+told_in state (step.Begin actor call number) = begin_told actor call (begun_operation state call number)
 told_in state (step.Go actor) = told_of state actor (operation_of state actor)
 told_in state step.Sweep = told.Nothing
 told_in state (step.GiveUp actor) = told.Nothing

@@ -1,7 +1,9 @@
 //! Laws of the definition, for every list of steps.
 
-ghost use Rattle.machine_model.specs.Laws.{SlotsAddUp, RefusedForWantAlone, GivingUpIsFindingNone, ReadersMakeNothing, TakenStepsSuffice};
+ghost use Rattle.machine_model.specs.Laws.{SlotsAddUp, RefusedForWantAlone, GivingUpIsFindingNone, BeginsReserveFree, LeastIsChosen, ReadersMakeNothing, TakenStepsSuffice};
 ghost use Rattle.machine_model.specs.Lasting.{LifeChangesNothing};
+ghost use Rattle.machine_model.specs.Reads.{EachEmbeds, StepsOfReads};
+ghost use Rattle.machine_model.specs.Words.{StepsChangeOneWord, StepsReadOneWord};
 ghost use Rattle.machine_model.specs.Taking.{OneSlotAStep, ReadersNeverRefused};
 
 /// A law: the slots in use and the free ones are all slots.
@@ -18,6 +20,17 @@ pub fn refused_for_want_alone()
 /// A law: where an operation is to make a node and no slot is free, to give up comes to the same as to go on.
 pub fn giving_up_is_finding_none()
     ensures { GivingUpIsFindingNone }
+{}
+
+/// A law: a begin of a call that opens a handle reserves a number that is below the limit, and neither open nor
+/// reserved.
+pub fn begins_reserve_free()
+    ensures { BeginsReserveFree }
+{}
+
+/// A law: a begin that chooses the least free number is one that chooses none.
+pub fn least_is_chosen()
+    ensures { LeastIsChosen }
 {}
 
 /// A law: an operation on a read-only handle makes no node.
@@ -43,4 +56,27 @@ pub fn one_slot_a_step()
 /// A law: an operation on a read-only handle is never refused for want of slots, unless it gave up.
 pub fn readers_never_refused()
     ensures { ReadersNeverRefused }
+{}
+
+/// A law: the line of each program that is in a READ embeds it: its step is the READ's, and the program goes on with
+/// what the READ comes to.
+pub fn each_embeds()
+    ensures { EachEmbeds }
+{}
+
+/// A law: a step of a READ is the same in all programs: what it does is the READ's, and of the operation it changes the
+/// line alone.
+pub fn steps_of_reads()
+    ensures { StepsOfReads }
+{}
+
+/// A law: what an operation's next step does depends on contents of nodes alone, and what becomes of the operation on
+/// the one word besides that the step names.
+pub fn steps_read_one_word()
+    ensures { StepsReadOneWord }
+{}
+
+/// A law: a step of an operation changes the words alone that its action names.
+pub fn steps_change_one_word()
+    ensures { StepsChangeOneWord }
 {}

@@ -30,8 +30,10 @@ pub use epochs::Heap;
 pub use finding::{KeyLine, WhenFound};
 pub use history::Access;
 pub use laws::{
-    giving_up_is_finding_none, life_changes_nothing, one_slot_a_step, readers_make_nothing,
-    readers_never_refused, refused_for_want_alone, slots_add_up, taken_steps_suffice,
+    begins_reserve_free, each_embeds, giving_up_is_finding_none, least_is_chosen,
+    life_changes_nothing, one_slot_a_step, readers_make_nothing, readers_never_refused,
+    refused_for_want_alone, slots_add_up, steps_change_one_word, steps_of_reads,
+    steps_read_one_word, taken_steps_suffice,
 };
 pub use lines::{Line, Purpose};
 pub use nodes::{Kind, NodeRef, Prev, Ref};

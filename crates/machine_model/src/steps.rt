@@ -20,7 +20,7 @@ pub struct Limits {
 pub struct Bounds {
     /// The number of slots, 2 to 1,048,576.
     pub slots: u32,
-    /// The number of actors.
+    /// The number of actors, 1 to 255; a machine of a program has 64 at most.
     pub actors: u8,
     /// The hash of keys.
     pub hash: HashKind,
@@ -31,15 +31,24 @@ pub struct Bounds {
 /// One atomic step.
 #[derive(Clone, Copy, Debug, PartialEq, Eq)]
 pub enum Step {
-    /// The actor begins an operation.
-    Begin { actor: u8, call: Call },
+    /// The actor begins an operation. A handle that its call opens gets this number, or the least free one where
+    /// none is chosen, as programs have it: threads on memory words reserve a number before they begin.
+    Begin {
+        actor: u8,
+        call: Call,
+        number: Option<u16>,
+    },
     /// The next step of the actor's operation.
-    Go { actor: u8 },
+    Go {
+        actor: u8,
+    },
     /// A step of the sweep.
     Sweep,
     /// The actor's operation gives up, where it has published nothing of its own. No program asks for it: threads
     /// on memory words meet it.
-    GiveUp { actor: u8 },
+    GiveUp {
+        actor: u8,
+    },
 }
 
 /// What a step did.

@@ -27,7 +27,7 @@ use Rattle.operate.specs.Beneath.gcas.specs.Reads.{IsAsking, line_at, line_of}
 use Rattle.operate.specs.Beneath.gcas.specs.Swaps.{swap_with}
 use Rattle.operate.specs.Beneath.trie_parts.specs.Steps.{IsAskingLine}
 use Rattle.operate.specs.Beneath.rdcss_root.specs.Tables.{Table, acted_table}
-use Rattle.root_asking.specs.Inside.{with_read}
+use Rattle.operate.specs.Beneath.machine_model.specs.Reads.{with_read}
 use Rattle.operate.specs.Beneath.key_change.specs.declared.building.Building.TheVariants as building
 use Rattle.operate.specs.Beneath.key_change.specs.declared.change.ChangeAt.{ChangeAt}
 use Rattle.operate.specs.Beneath.key_change.specs.declared.change.ChangeAt.TheVariants as change

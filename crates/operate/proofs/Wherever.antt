@@ -18,7 +18,7 @@ use Rattle.operate.specs.Beneath.rdcss_root.specs.declared.root.ReadRoot.TheVari
 use Rattle.operate.specs.Beneath.rdcss_root.specs.Programs.{root_of, rooted_at}
 use Rattle.operate.specs.Beneath.rdcss_root.specs.Tables.{Table}
 use Rattle.operate.specs.Beneath.trie_parts.specs.Steps.{IsAskingLine}
-use Rattle.root_asking.specs.Inside.{with_read}
+use Rattle.operate.specs.Beneath.machine_model.specs.Reads.{with_read}
 use Rattle.contract.specs.Climbing.{climb_of}
 use Rattle.key_finding.specs.Replies.{reply_of}
 use Rattle.operate.specs.declared.key_op.BelowAt.{BelowAt}

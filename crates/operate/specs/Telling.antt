@@ -2,7 +2,7 @@
 use Rattle.std.specs.Prelude.{◌≡◌, ℕ, Option, None}
 use Rattle.operate.specs.Beneath.trie_parts.specs.Steps.{IsAskingLine}
 use Rattle.operate.specs.Beneath.gcas.specs.Reads.{line_of}
-use Rattle.root_asking.specs.Inside.{with_read}
+use Rattle.operate.specs.Beneath.machine_model.specs.Reads.{with_read}
 use Rattle.operate.specs.declared.key_op.KeyOp.{KeyOp}
 use Rattle.operate.specs.Places.{key_line}
 

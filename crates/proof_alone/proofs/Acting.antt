@@ -1,5 +1,5 @@
 -- What a call does that runs alone from rest.
-use Rattle.std.specs.Prelude.{◌≡◌, ◌≢◌, ◌≤◌, ◌+◌, ℕ, suc, true, List, [], ◌∷◌, ◌++◌, length, replicate, Option}
+use Rattle.std.specs.Prelude.{None, ◌≡◌, ◌≢◌, ◌≤◌, ◌+◌, ℕ, suc, true, List, [], ◌∷◌, ◌++◌, length, replicate, Option}
 use Rattle.std.proofs.Common.{refl, sym, ap, subst, arith, ◌∙◌}
 use Rattle.std.proofs.lemmas.List.{append_assoc}
 use Rattle.proof_alone.specs.Vocabulary.{hash_of, Call, Clear, Close, Count, Entries, Freeze, Snapshot, Reply, Closed, NoSlots, Effect, HandleMap, Heap, Bounds, Ended, Step, Go, is_close, KeysFit}
@@ -55,10 +55,10 @@ module _ (limits : Bounds) (steps : List Step) (ok : AreBounds limits) (keys : K
   before = run limits steps
 
   abbrev behind : List Step
-  behind = Begin actor call ∷ replicate (suc n) (Go actor)
+  behind = Begin actor call None ∷ replicate (suc n) (Go actor)
 
   all_steps : began limits steps actor call ++ replicate (suc n) (Go actor) ≡ steps ++ behind
-  all_steps = append_assoc steps (Begin actor call ∷ []) (replicate (suc n) (Go actor))
+  all_steps = append_assoc steps (Begin actor call None ∷ []) (replicate (suc n) (Go actor))
 
   is_after : there limits steps actor call (suc n) ≡ after
   is_after = end_is_there limits steps actor call n h.last answer after h.goes h.ends

@@ -28,23 +28,23 @@ use Rattle.proof_alone.proofs.Steps.{begins, begun, idle_waits, one_state, runs_
 module _ (limits : Bounds) (steps : List Step) (ok : AreBounds limits) (keys : KeysFit steps) (actor : ℕ) (call : Call) (can : CanCall (run limits steps) actor call) where
   -- the operation that begins
   abbrev pub own : Operation
-  own = begun_operation (run limits steps) call
+  own = begun_operation (run limits steps) call None
 
   -- ---- its begin
 
-  pub first_step : next (run limits steps) (Begin actor call) ≡ Ok (Began (run limits steps).begun, begun (run limits steps) actor call)
+  pub first_step : next (run limits steps) (Begin actor call None) ≡ Ok (Began (run limits steps).begun, begun (run limits steps) actor call)
   first_step = begins (run limits steps) actor call can.allowed
 
   middle_is : run limits (began limits steps actor call) ≡ begun (run limits steps) actor call
-  middle_is = stepped limits steps (Begin actor call) (Began (run limits steps).begun) (begun (run limits steps) actor call) first_step
+  middle_is = stepped limits steps (Begin actor call None) (Began (run limits steps).begun) (begun (run limits steps) actor call) first_step
 
-  begins_there : next (run limits steps) (Begin actor call) ≡ Ok (Began (run limits steps).begun, run limits (began limits steps actor call))
+  begins_there : next (run limits steps) (Begin actor call None) ≡ Ok (Began (run limits steps).begun, run limits (began limits steps actor call))
   begins_there = first_step ∙ ap (λ s. Ok (Began (run limits steps).begun, s)) (sym middle_is)
 
   -- it takes no slot
   pub free_first : length (run limits (began limits steps actor call)).heap.free ≡ length (run limits steps).heap.free
   free_first =
-      ap (λ (s : State). length s.heap.free) middle_is ∙ ap (λ (h : Heap). length h.free) (begin_heap (run limits steps) actor call (begun_operation (run limits steps) call))
+      ap (λ (s : State). length s.heap.free) middle_is ∙ ap (λ (h : Heap). length h.free) (begin_heap (run limits steps) actor call (begun_operation (run limits steps) call None))
 
   runs_first : operation_of (begun (run limits steps) actor call) actor ≡ Some own
   runs_first =
@@ -54,7 +54,11 @@ module _ (limits : Bounds) (steps : List Step) (ok : AreBounds limits) (keys : K
   runs = ap (λ s. operation_of s actor) middle_is ∙ runs_first
 
   pub fit : KeysFit (began limits steps actor call)
-  fit = All-push FitsKey steps (Begin actor call) keys can.fits
+  fit = All-push FitsKey steps (Begin actor call None) keys can.fits
+
+  -- it has few actors
+  few_actors : limits.actors ≤ 64
+  few_actors = let same = ap (λ (b : Bounds). b.actors) (limits_along limits steps) in omega (arith, same, can.of_run.actors)
 
   -- as many steps are left as it takes
   left : (run limits (began limits steps actor call)).steps + most_steps_alone ≤ limits.steps
@@ -66,7 +70,7 @@ module _ (limits : Bounds) (steps : List Step) (ok : AreBounds limits) (keys : K
   left_one = omega (arith, left)
 
   pub alone : IsOnKeyOrRoot call → RunsAlone limits (began limits steps actor call) actor own
-  alone on = record { limits_ok = ok; keys_fit = fit; runs = runs; call = on; left = left }
+  alone on = record { limits_ok = ok; keys_fit = fit; runs = runs; call = on; left = omega (arith, left, few_actors) }
 
   -- ---- its end
 
@@ -81,7 +85,7 @@ module _ (limits : Bounds) (steps : List Step) (ok : AreBounds limits) (keys : K
   closes closing = (closes_end limits (began limits steps actor call) actor own runs closing left_one).0
 
   leads_by : IsOnKeyOrRoot call ⊎ (is_close call ≡ true) → LeadsToEnd
-  leads_by (inl on) = let (n, few, goes, last) = each_step_leads_to_its_end limits (began limits steps actor call) actor own (alone on) in record { at = n; few = few; goes = goes; ends = last }
+  leads_by (inl on) = let (n, few, goes, last) = each_step_leads_to_its_end limits (began limits steps actor call) actor own (alone on) in record { at = n; few = omega (arith, few, few_actors); goes = goes; ends = last }
   leads_by (inr closing) = record {
     at = 0;
     few = omega arith;

@@ -1,5 +1,5 @@
 -- A call that goes on alone: it has one way, and that is a run of its steps.
-use Rattle.std.specs.Prelude.{◌≡◌, ◌⊎◌, ◌<◌, ◌≤◌, ◌+◌, ℕ, zero, suc, List, [], ◌∷◌, ◌++◌, Some, Ok}
+use Rattle.std.specs.Prelude.{None, ◌≡◌, ◌⊎◌, ◌<◌, ◌≤◌, ◌+◌, ℕ, zero, suc, List, [], ◌∷◌, ◌++◌, Some, Ok}
 use Rattle.std.proofs.Common.{inl, inr, refl, sym, ap, subst, arith, ◌∙◌}
 use Rattle.std.proofs.lemmas.Bool.{cases_lt}
 use Rattle.proof_alone.specs.Vocabulary.{Kind, Call, Reply, Operation, Bounds, Began, Ended, Went, Step, Go, FitsKey, next, next_state, run, state_after, State, operation_of}
@@ -48,8 +48,8 @@ not_later state actor call n answer after h m now goes = by (cases_lt n m)
 
 -- ---- a run leads along it
 
-pub of_run_on_its_way : (state : State) (actor : ℕ) (call : Call) → IsOfRun state → FitsKey (Begin actor call) → (n : ℕ) (now : State) → GoesOn state actor call n now → IsOfRun now
-of_run_on_its_way state actor call of_run fits n now (starts is) = of_run_behind state of_run (Begin actor call) _ now fits is
+pub of_run_on_its_way : (state : State) (actor : ℕ) (call : Call) → IsOfRun state → FitsKey (Begin actor call None) → (n : ℕ) (now : State) → GoesOn state actor call n now → IsOfRun now
+of_run_on_its_way state actor call of_run fits n now (starts is) = of_run_behind state of_run (Begin actor call None) _ now fits is
 of_run_on_its_way state actor call of_run fits n now (walks {n = m} {before} earlier is) =
     of_run_behind before (of_run_on_its_way state actor call of_run fits m before earlier) (Go actor) _ now tt is
 
@@ -58,7 +58,7 @@ of_run_on_its_way state actor call of_run fits n now (walks {n = m} {before} ear
 module _ (limits : Bounds) (steps : List Step) (actor : ℕ) (call : Call) where
   -- up to the call's begin
   abbrev pub began : List Step
-  began = steps ++ Begin actor call ∷ []
+  began = steps ++ Begin actor call None ∷ []
 
   -- behind so many steps more
   abbrev pub there : ℕ → State
@@ -67,7 +67,7 @@ module _ (limits : Bounds) (steps : List Step) (actor : ℕ) (call : Call) where
   -- ---- the state
 
   pub is_there : (n : ℕ) (now : State) → GoesOn (run limits steps) actor call n now → there n ≡ now
-  is_there n now (starts is) = none_more limits began actor ∙ stepped limits steps (Begin actor call) (Began (run limits steps).begun) now is
+  is_there n now (starts is) = none_more limits began actor ∙ stepped limits steps (Begin actor call None) (Began (run limits steps).begun) now is
   is_there n now (walks {n = m} {before} earlier is) =
       one_more limits began actor m ∙ ap (λ s. next_state s (Go actor)) (is_there m before earlier) ∙ ap (state_after before) is
 
@@ -88,7 +88,7 @@ module _ (limits : Bounds) (steps : List Step) (actor : ℕ) (call : Call) where
       step_there k here after kind (is_there k here earlier) (is_there (suc k) after (walks earlier step)) step
 
   -- and where each does, so does the call
-  pub goes_there : next (run limits steps) (Begin actor call) ≡ Ok (Began (run limits steps).begun, run limits began) → (n : ℕ) →
+  pub goes_there : next (run limits steps) (Begin actor call None) ≡ Ok (Began (run limits steps).begun, run limits began) → (n : ℕ) →
       ((k : ℕ) → k < n → GoesOnAt limits began actor k) → GoesOn (run limits steps) actor call n (there n)
   goes_there first zero on = starts (first ∙ ap (λ s. Ok (Began (run limits steps).begun, s)) (sym (none_more limits began actor)))
   goes_there first (suc n) on = let (kind, step) = on n (omega arith) in walks (goes_there first n (λ k below. on k (omega (arith, below)))) step
@@ -97,7 +97,7 @@ module _ (limits : Bounds) (steps : List Step) (actor : ℕ) (call : Call) where
 
 -- it runs all the way
 pub still_runs : (state : State) (actor : ℕ) (call : Call) (own : Operation) →
-    ((first : State) → next state (Begin actor call) ≡ Ok (Began state.begun, first) → operation_of first actor ≡ Some own) → (n : ℕ) (now : State) → GoesOn state actor call n now →
+    ((first : State) → next state (Begin actor call None) ≡ Ok (Began state.begun, first) → operation_of first actor ≡ Some own) → (n : ℕ) (now : State) → GoesOn state actor call n now →
     (operation : Operation) × (operation_of now actor ≡ Some operation) × IsSame own operation
 still_runs state actor call own first n now (starts is) = (own, first now is, record { id = refl; call = refl; opens = refl; access = refl })
 still_runs state actor call own first n now (walks {n = m} {before} {kind} earlier is) =
@@ -107,7 +107,7 @@ still_runs state actor call own first n now (walks {n = m} {before} {kind} earli
 -- ---- how many steps were taken
 
 pub steps_so_far : (state : State) (actor : ℕ) (call : Call) (n : ℕ) (now : State) → GoesOn state actor call n now → now.steps ≡ state.steps + (1 + n)
-steps_so_far state actor call n now (starts is) = let one = steps_counted state (Begin actor call) _ now (moved state (Begin actor call) _ now is) in omega (arith, one)
+steps_so_far state actor call n now (starts is) = let one = steps_counted state (Begin actor call None) _ now (moved state (Begin actor call None) _ now is) in omega (arith, one)
 steps_so_far state actor call n now (walks {n = m} {before} {kind} earlier is) =
     let so_far = steps_so_far state actor call m before earlier in
     let one = steps_counted before (Go actor) (Went kind) now (moved before (Go actor) (Went kind) now is) in

@@ -2,8 +2,8 @@
 use Rattle.std.specs.Prelude.{◌≡◌, ◌≤◌, List, [], ◌∷◌, ◌++◌, Ok}
 use Rattle.std.proofs.Common.{cond, sym, ap, subst, ◌∙◌}
 use Rattle.std.proofs.lemmas.List.Elements.{All-push}
-use Rattle.proof_alone.specs.Vocabulary.{Bounds, Outcome, Step, FitsKey, KeysFit, AreBounds, longest_life, is_taken_step, next, run, state_after, first_record, noted, record_of, State, first_state}
-use Rattle.proof_alone.specs.Vocabulary.{told_in, most_slots}
+use Rattle.proof_alone.specs.Vocabulary.{Bounds, Outcome, Step, FitsKey, KeysFit, AreBounds, longest_life, most_actors, is_taken_step, next, run, state_after, first_record, noted, record_of, State}
+use Rattle.proof_alone.specs.Vocabulary.{first_state, told_in, most_slots}
 use Rattle.proof_alone.specs.Beneath.machine_model.proofs.Along.{limits_along, run_push}
 use Rattle.proof_alone.specs.Beneath.machine_model.proofs.Recorded.{record_push}
 use Rattle.proof_straight.specs.Resting.{IsOfRun}
@@ -13,13 +13,14 @@ pub by_run : (P : State → Type 0) → ((limits : Bounds) (steps : List Step) �
 by_run P each state h = subst P (sym h.is) (each state.limits h.steps h.limits h.keys)
 
 -- a run leads to the state behind it
-pub of_run : (limits : Bounds) (steps : List Step) → AreBounds limits → limits.slots ≤ most_slots → limits.steps ≤ longest_life → KeysFit steps →
+pub of_run : (limits : Bounds) (steps : List Step) → AreBounds limits → limits.slots ≤ most_slots → limits.actors ≤ most_actors → limits.steps ≤ longest_life → KeysFit steps →
     IsOfRun (run limits steps)
-of_run limits steps ok few life fit = record {
+of_run limits steps ok few actors life fit = record {
   steps = steps;
   is = ap (λ l. run l steps) (sym (limits_along limits steps));
   limits = subst AreBounds (sym (limits_along limits steps)) ok;
   few = subst (λ (l : Bounds). l.slots ≤ most_slots) (sym (limits_along limits steps)) few;
+  actors = subst (λ (l : Bounds). l.actors ≤ most_actors) (sym (limits_along limits steps)) actors;
   life = subst (λ (l : Bounds). l.steps ≤ longest_life) (sym (limits_along limits steps)) life;
   keys = fit;
 }
@@ -42,4 +43,4 @@ pub of_run_behind : (state : State) → IsOfRun state → LeadsBehind state
 of_run_behind state h =
     subst LeadsBehind (sym h.is)
     (λ s o after fits e. subst IsOfRun (stepped state.limits h.steps s o after e)
-    (of_run state.limits (h.steps ++ s ∷ []) h.limits h.few h.life (All-push FitsKey h.steps s h.keys fits)))
+    (of_run state.limits (h.steps ++ s ∷ []) h.limits h.few h.actors h.life (All-push FitsKey h.steps s h.keys fits)))

@@ -40,26 +40,26 @@ end_or_on id answer x kind y e = true≢false (ap is_end e)
 
 -- the state behind it
 abbrev pub begun : State → ℕ → Call → State
-begun state actor call = settled state (with_begin state actor call (begun_operation state call))
+begun state actor call = settled state (with_begin state actor call (begun_operation state call None))
 
 -- where nothing denies it, it is taken
-pub begins : (state : State) (actor : ℕ) (call : Call) → begin_denial state actor call ≡ None → next state (Begin actor call) ≡ Ok (Began state.begun, begun state actor call)
+pub begins : (state : State) (actor : ℕ) (call : Call) → begin_denial state actor call None ≡ None → next state (Begin actor call None) ≡ Ok (Began state.begun, begun state actor call)
 unfolding next
-begins state actor call allowed = ap (begin_unless state actor call) allowed
+begins state actor call allowed = ap (begin_unless state actor call None) allowed
 
 -- the actor has a place among as many as there are
-place_of : (state : State) (k : ℕ) (call : Call) → length state.actors ≡ state.limits.actors → begin_denial state (suc k) call ≡ None → k < length state.actors
-place_of state k call sizes allowed = let one = begin_actor state (suc k) call allowed in grind (arith, one, sizes)
+place_of : (state : State) (k : ℕ) (call : Call) → length state.actors ≡ state.limits.actors → begin_denial state (suc k) call None ≡ None → k < length state.actors
+place_of state k call sizes allowed = let one = begin_actor state (suc k) call None allowed in grind (arith, one, sizes)
 
 -- so the operation runs then
-pub runs_then : (state : State) (actor : ℕ) (call : Call) → length state.actors ≡ state.limits.actors → begin_denial state actor call ≡ None →
-    operation_of (begun state actor call) actor ≡ Some (begun_operation state call)
-runs_then state zero call sizes allowed = absurd (let counts = begin_counts state zero call allowed in omega (arith, counts))
+pub runs_then : (state : State) (actor : ℕ) (call : Call) → length state.actors ≡ state.limits.actors → begin_denial state actor call None ≡ None →
+    operation_of (begun state actor call) actor ≡ Some (begun_operation state call None)
+runs_then state zero call sizes allowed = absurd (let counts = begin_counts state zero call None allowed in omega (arith, counts))
 runs_then state (suc k) call sizes allowed =
     let at : suc k - 1 ≡ k = omega arith in
-    ap (λ xs. get_or xs k None) (begin_actors state (suc k) call (begun_operation state call))
-    ∙ ap (λ i. get_or (set state.actors i (Some (begun_operation state call))) k None) at
-    ∙ get_or-set_same state.actors k (Some (begun_operation state call)) None (place_of state k call sizes allowed)
+    ap (λ xs. get_or xs k None) (begin_actors state (suc k) call (begun_operation state call None))
+    ∙ ap (λ i. get_or (set state.actors i (Some (begun_operation state call None))) k None) at
+    ∙ get_or-set_same state.actors k (Some (begun_operation state call None)) None (place_of state k call sizes allowed)
 
 -- ---- a step that goes on
 

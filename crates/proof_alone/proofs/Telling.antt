@@ -1,5 +1,5 @@
 -- What a call tells that runs alone: its begin and its end, and nothing else.
-use Rattle.std.specs.Prelude.{◌≡◌, ◌<◌, ℕ, zero, suc, List, [], ◌∷◌, ◌++◌, Option, Ok}
+use Rattle.std.specs.Prelude.{None, ◌≡◌, ◌<◌, ℕ, zero, suc, List, [], ◌∷◌, ◌++◌, Option, Ok}
 use Rattle.std.proofs.Common.{cond, refl, ap, arith, ◌∙◌}
 use Rattle.std.proofs.lemmas.List.{append-nil, append_assoc}
 use Rattle.proof_alone.specs.Vocabulary.{Kind, Call, Event, Reply, Bounds, Outcome, Began, Ended, Went, Step, Go, begun_operation, is_taken_step, next, run, Begins, Ends, Moves, Sweeps, GivesUp}
@@ -59,9 +59,9 @@ tells_end state past actor id answer after e =
 -- ---- all of them
 
 module _ (limits : Bounds) (steps : List Step) (actor : ℕ) (call : Call) (first : State)
-    (begins : next (run limits steps) (Begin actor call) ≡ Ok (Began (run limits steps).begun, first)) where
+    (begins : next (run limits steps) (Begin actor call None) ≡ Ok (Began (run limits steps).begun, first)) where
   abbrev opens_of : Option ℕ
-  opens_of = (begun_operation (run limits steps) call).opens
+  opens_of = (begun_operation (run limits steps) call None).opens
 
   abbrev its_begin : Event
   its_begin = event.Begin (run limits steps).begun actor call opens_of
@@ -75,7 +75,7 @@ module _ (limits : Bounds) (steps : List Step) (actor : ℕ) (call : Call) (firs
   told_so_far : (n : ℕ) → ((k : ℕ) → k < n → GoesOnAt limits (began limits steps actor call) actor k) → (recorded n).events ≡ before ++ its_begin ∷ []
   told_so_far zero on =
       ap (λ l. (record_of limits l).events) (append-nil (began limits steps actor call))
-      ∙ ap (λ (r : Record). r.events) (noted_step limits steps (Begin actor call) (Began (run limits steps).begun) first begins)
+      ∙ ap (λ (r : Record). r.events) (noted_step limits steps (Begin actor call None) (Began (run limits steps).begun) first begins)
   told_so_far (suc n) on =
       let (kind, step) = on n (omega arith) in
       ap (λ (r : Record). r.events) (one_more_recorded limits (began limits steps actor call) actor n)

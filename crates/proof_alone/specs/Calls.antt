@@ -26,7 +26,7 @@ steps_of call = most_steps_alone
 pub record CanCall (state : State) (actor : ℕ) (call : Call) : Type 0 where
   pub of_run : IsOfRun state
   pub rest : is_busy state ≡ false
-  pub allowed : begin_denial state actor call ≡ None
+  pub allowed : begin_denial state actor call None ≡ None
   pub short : IsNoWalk call
   pub fits : key_of call < 2 ^ 64
   pub left : state.steps + (1 + most_steps_alone) ≤ state.limits.steps

@@ -16,8 +16,8 @@ pub use Rattle.proof_alone.specs.Beneath.machine_model.specs.Contents.{content_a
 pub use Rattle.proof_alone.specs.Beneath.machine_model.specs.Counting.{settled}
 pub use Rattle.proof_alone.specs.Beneath.machine_model.specs.Keys.{FitsKey, KeysFit}
 pub use Rattle.proof_alone.specs.Beneath.machine_model.specs.Laws.{FindsNoSlot}
-pub use Rattle.proof_alone.specs.Beneath.machine_model.specs.Machine.{Answer, AreBounds, begin_denial, begin_unless, begun_operation, is_busy, is_taken_step, longest_life, next_state, run}
-pub use Rattle.proof_alone.specs.Beneath.machine_model.specs.Machine.{state_after, with_begin}
+pub use Rattle.proof_alone.specs.Beneath.machine_model.specs.Machine.{Answer, AreBounds, begin_denial, begin_unless, begun_operation, is_busy, is_taken_step, longest_life, most_actors, next_state}
+pub use Rattle.proof_alone.specs.Beneath.machine_model.specs.Machine.{run, state_after, with_begin}
 unfoldable pub use Rattle.proof_alone.specs.Beneath.machine_model.specs.Machine.{next}
 pub use Rattle.proof_alone.specs.Beneath.machine_model.specs.Moves.{Begins, Ends, GivesUp, Moves, Sweeps}
 pub use Rattle.proof_alone.specs.Beneath.machine_model.specs.Records.{Record, first_record, next_record, noted, record_of}

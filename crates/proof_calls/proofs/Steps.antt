@@ -43,8 +43,8 @@ module _ (before : State) (s : Step) (op : KeyOp) (told : Option ℕ) (place : B
   leaves = subst (λ l. LeavesRoots (line_action before operation l)) (sym x.stands) (calm_below before operation op told place).leaves
 
   -- another step than the call's
-  begins : (actor : ℕ) (handle : ℕ) → s ≡ step.Begin actor (Close handle) → ⊥
-  begins actor handle e = cc
+  begins : (actor : ℕ) (handle : ℕ) (number : Option ℕ) → s ≡ step.Begin actor (Close handle) number → ⊥
+  begins actor handle number e = cc
 
   same_operation : (actor : ℕ) (other : Operation) → s ≡ step.Go actor → operation_of before actor ≡ Some other → other ≡ operation
   same_operation actor other is runs = cc
@@ -56,7 +56,7 @@ module _ (before : State) (s : Step) (op : KeyOp) (told : Option ℕ) (place : B
       let carries = c.carries in
       let same = same_operation carries.0 carries.1 carries.3 carries.4 in
       subst LeavesRoots (ap (action_of before) (sym same) ∙ carries.5) leaves
-  touches_by handle none (closes actor e) = begins actor handle e
+  touches_by handle none (closes actor number e) = begins actor handle number e
 
   touches_none : committed before op told place ≡ None → (handle : ℕ) → Touches before s handle → ⊥
   touches_none none handle = touches_by handle (λ i call former u reaches. none-some u.swap.fresh (sym (commits ∙ none) ∙ u.commits))

@@ -8,3 +8,4 @@ pub mod Moments
 pub mod Changers
 pub mod OfLists
 pub mod AlongLists
+pub mod Unmet

@@ -54,7 +54,7 @@ rest_if_idle actor state only idle =
     all_idle state.actors (λ k operation e. none-some operation (sym idle ∙ ap (operation_of state) (sym (only (suc k) operation e)) ∙ e))
 
 one_actor : (a b : ℕ) (s : Step) → IsOf a s → IsOf b s → a ≡ b
-one_actor a b (Begin actor call) x y = sym x ∙ y
+one_actor a b (Begin actor call number) x y = sym x ∙ y
 one_actor a b (Go actor) x y = sym x ∙ y
 one_actor a b Sweep x y = absurd x
 one_actor a b (GiveUp actor) x y = sym x ∙ y

@@ -1,10 +1,11 @@
 -- Laws of main words and prev words, for every list of steps: who decides what, and what a READ gives.
-use Rattle.std.specs.Prelude.{◌≡◌, ℕ, suc, ◌+◌, ◌<◌, ◌≤◌, ◌⊎◌, List, Some, slice_get}
+use Rattle.std.specs.Prelude.{◌≡◌, ℕ, suc, ◌+◌, ◌<◌, ◌≤◌, ◌⊎◌, List, Option, Some, None, slice_get}
 use Rattle.proof_commits.specs.Vocabulary.{Ref, Node, Tomb, node_at, main_at, prev_at, generation_at, logical_main, Operation, Moment, Gives, Read, ReadLine, SwapLine, Publish, Deciding, Check}
 use Rattle.proof_commits.specs.Vocabulary.{Purpose, Line, Bounds, Step, Go, State, operation_of, closed_at, moment_at, record_of, read_step, read_of, AreBounds, run, taken_steps, states_of}
 use Rattle.proof_commits.specs.Vocabulary.{records_of, last_of}
 use Rattle.proof_commits.specs.Beneath.slot_arena.specs.declared.nodes.Prev.TheVariants as prev
 use Rattle.proof_commits.specs.Beneath.machine_model.specs.declared.lines.Line.TheVariants as line
+use Rattle.proof_commits.specs.Beneath.machine_model.specs.declared.reading.ReadLine.TheVariants as read
 use Rattle.proof_commits.specs.Runs.{HasIndirection}
 use Rattle.proof_memory.specs.Laws.{IsInUse}
 
@@ -38,6 +39,30 @@ CheckedIsDecided =
     (limits : Bounds) (steps : List Step) → AreBounds limits → (actor : ℕ) (operation : Operation) (indirection replaced fresh other : Ref) →
     operation_of (run limits steps) actor ≡ Some operation → IsInSwap operation indirection replaced fresh Check → IsInUse (run limits steps).heap fresh →
     ¬ (prev_at (run limits steps).heap fresh ≡ prev.Pending other)
+
+-- ---- fresh nodes
+
+-- the main node that a line of a READ names, if it names one
+abbrev pub named_in : ReadLine → Option Ref
+named_in read.Main = None
+named_in (read.Prev main) = Some main
+named_in (read.AskRoot main previous) = Some main
+named_in (read.Abort main previous offer) = Some main
+named_in (read.Decide main previous told) = Some main
+named_in (read.Restore main previous) = Some main
+
+-- nobody has met the node: no READ is about it, it is undecided, and no other actor is in a SWAP of it
+pub record IsUnmet (state : State) (owner : ℕ) (fresh : Ref) : Type 0 where
+  pub unread : (actor : ℕ) (operation : Operation) (r : Read) → operation_of state actor ≡ Some operation → read_of operation.line ≡ Some r → ¬ (named_in r.line ≡ Some fresh)
+  pub undecided : IsInUse state.heap fresh → prev_at state.heap fresh ≡ prev.None
+  pub unswapped : (actor : ℕ) (operation : Operation) (indirection replaced : Ref) (l : SwapLine) → operation_of state actor ≡ Some operation →
+      IsInSwap operation indirection replaced fresh l → actor ≡ owner
+
+-- a fresh node that an operation is yet to swap in is met by nobody
+abbrev pub FreshIsUnmet : Type 0
+FreshIsUnmet =
+    (limits : Bounds) (steps : List Step) → AreBounds limits → (actor : ℕ) (operation : Operation) (indirection replaced fresh : Ref) →
+    operation_of (run limits steps) actor ≡ Some operation → IsInSwap operation indirection replaced fresh Publish → IsUnmet (run limits steps) actor fresh
 
 -- ---- prev words
 

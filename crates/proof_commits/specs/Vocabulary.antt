@@ -30,6 +30,7 @@ pub use Rattle.proof_commits.specs.Beneath.machine_model.specs.Machine.{AreBound
 unfoldable pub use Rattle.proof_commits.specs.Beneath.machine_model.specs.Machine.{next}
 pub use Rattle.proof_commits.specs.Beneath.machine_model.specs.Moves.{Begins, Ends, GivesUp, GoesOn, Moves, Sweeps}
 pub use Rattle.proof_commits.specs.Beneath.machine_model.specs.Operations.{action_of, after_root, after_update, climbed_on, first_line, generation_from, line_action, line_after, read_of, swapped}
+pub use Rattle.proof_commits.specs.Beneath.machine_model.specs.Operations.{swapping_read}
 pub use Rattle.proof_commits.specs.Beneath.machine_model.specs.Paths.{above, current}
 pub use Rattle.proof_commits.specs.Beneath.machine_model.specs.Reading.{Commits, Fails, Overtaken, Verdict, after_ask, after_decide, after_prev, after_restore, at_indirection, committed_by}
 pub use Rattle.proof_commits.specs.Beneath.machine_model.specs.Reading.{committed_so, is_licensed, is_pending, read_action, read_after, read_step, reading, verdict, verdict_by}

@@ -1,6 +1,6 @@
 //! Laws of main words and prev words, for every list of steps.
 
-ghost use Rattle.proof_commits.specs.Laws.{PendingHasOwner, CheckedIsDecided, PrevWordsChange, DecidedForGood, MainsChangeByCommits, ReplacedForGood, TombsStay, MomentIsFirst};
+ghost use Rattle.proof_commits.specs.Laws.{PendingHasOwner, CheckedIsDecided, FreshIsUnmet, PrevWordsChange, DecidedForGood, MainsChangeByCommits, ReplacedForGood, TombsStay, MomentIsFirst};
 
 /// A law: a pending node has one running operation that swapped it in, still in that SWAP.
 pub fn pending_has_owner()
@@ -10,6 +10,12 @@ pub fn pending_has_owner()
 /// A law: who is about to see how its fresh node was decided finds it decided.
 pub fn checked_is_decided()
     ensures { CheckedIsDecided }
+{}
+
+/// A law: a fresh node that an operation is yet to swap in is met by nobody: no READ is about it, it is undecided,
+/// and no other actor is in a SWAP of it.
+pub fn fresh_is_unmet()
+    ensures { FreshIsUnmet }
 {}
 
 /// A law: a prev word goes from none to pending in the step that swaps the node in, and from pending to

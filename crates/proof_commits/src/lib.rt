@@ -9,6 +9,6 @@
 mod laws;
 
 pub use laws::{
-    checked_is_decided, decided_for_good, mains_change_by_commits, moment_is_first,
+    checked_is_decided, decided_for_good, fresh_is_unmet, mains_change_by_commits, moment_is_first,
     pending_has_owner, prev_words_change, replaced_for_good, tombs_stay,
 };

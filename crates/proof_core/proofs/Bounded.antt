@@ -2,8 +2,8 @@
 use Rattle.std.proofs.Common.{◌≡◌, ℕ, ◌+◌, ◌*◌, ◌≤◌, false, length, List, [], ◌∷◌, ◌++◌, Option, Some, None, Ok, refl, sym, ap, ◌∙◌, subst, arith, leb-false, map}
 use Rattle.proof_core.specs.Vocabulary.{Call, Ref, Node, Action, Operation, Bounds, Outcome, Step, handle_of, Heap, empty_branch, with_main, with_prev, taken, take_from, freed, ref_to, Indirection}
 use Rattle.proof_core.specs.Vocabulary.{State, empty_heap, first_state, action_of, Prev, Reclaimer, ripe, sweep_by, acted, new_root_taken, attempt_after, operation_after, next, next_state}
-use Rattle.proof_core.specs.Vocabulary.{state_after, is_spent, begin_denial, go_denial, with_begin, pin_of, reclaimer_of, run, run_from, AreBounds, longest_life, most_slots, Begins, Ends, Sweeps}
-use Rattle.proof_core.specs.Vocabulary.{Moves, begun_operation, FitsKey}
+use Rattle.proof_core.specs.Vocabulary.{state_after, is_spent, begin_denial, go_denial, with_begin, pin_of, reclaimer_of, run, run_from, AreBounds, longest_life, most_actors, most_slots, Begins}
+use Rattle.proof_core.specs.Vocabulary.{Ends, Sweeps, Moves, begun_operation, FitsKey, GivesUp}
 use Rattle.proof_core.specs.Beneath.machine_model.specs.declared.actions.Action.TheVariants as act
 use Rattle.proof_core.specs.Beneath.machine_model.specs.declared.steps.Step.TheVariants as step
 use Rattle.std.proofs.lemmas.List.FromFn.{length-range_with_len}
@@ -13,7 +13,7 @@ use Rattle.proof_core.specs.Beneath.machine_model.proofs.Actors.{mark_one, mark_
 use Rattle.proof_core.specs.Beneath.machine_model.proofs.EachOperation.{OfEach, of_each_along, of_running}
 use Rattle.proof_core.specs.Beneath.machine_model.proofs.Frames.{acted_framed, limits_kept, steps_counted}
 use Rattle.proof_core.specs.Beneath.machine_model.proofs.HeapMoves.{HeapMoves, Stays, Takes, Publishes, Restores, Commit, Fail, Frees, heap_moves}
-use Rattle.proof_core.specs.Beneath.machine_model.specs.Moves.{Goes, GivesUp}
+use Rattle.proof_core.specs.Beneath.machine_model.specs.Moves.{Goes}
 use Rattle.proof_core.specs.Beneath.machine_model.proofs.Slots.{sound_along}
 use Rattle.proof_core.specs.Beneath.proof_memory.proofs.Safety.Steps.{gone_epoch}
 use Rattle.proof_core.specs.Beneath.proof_generations.proofs.Counter.Drawn.{aborted_generations, completed_generations, offered_generations}
@@ -24,8 +24,8 @@ use Rattle.proof_straight.specs.Resting.{IsOfRun}
 -- ---- steps
 
 -- a begin that isn't denied is of a machine that isn't spent
-begin_unspent : (state : State) (actor : ℕ) (call : Call) → begin_denial state actor call ≡ None → is_spent state ≡ false
-begin_unspent state actor call d = grind arith
+begin_unspent : (state : State) (actor : ℕ) (call : Call) (number : Option ℕ) → begin_denial state actor call number ≡ None → is_spent state ≡ false
+begin_unspent state actor call number d = grind arith
 
 -- so is a step that goes on
 go_unspent : (state : State) (actor : ℕ) → go_denial state actor ≡ None → is_spent state ≡ false
@@ -33,7 +33,7 @@ go_unspent state actor d = grind arith
 
 -- a step is taken only where the machine isn't spent
 unspent : (state : State) (s : Step) (o : Outcome) (after : State) → Moves state s o after → is_spent state ≡ false
-unspent state s o after (Begins {actor} {call} d) = begin_unspent state actor call d
+unspent state s o after (Begins {actor} {call} {number} d) = begin_unspent state actor call number d
 unspent state s o after (Goes {actor} d is a g) = go_unspent state actor d
 unspent state s o after (Ends {actor} d is a) = go_unspent state actor d
 unspent state s o after (GivesUp {actor} d is a) = go_unspent state actor d
@@ -111,7 +111,7 @@ begin_generations : (state : State) (actor : ℕ) (call : Call) (operation : Ope
 begin_generations state actor call operation = grind arith
 
 generations_after : (state : State) (s : Step) (o : Outcome) (after : State) → Moves state s o after → after.generations ≤ state.generations + 1
-generations_after state s o after (Begins {actor} {call} d) = omega (arith, begin_generations state actor call (begun_operation state call))
+generations_after state s o after (Begins {actor} {call} {number} d) = omega (arith, begin_generations state actor call (begun_operation state call number))
 generations_after state s o after (Goes {actor} {operation} d is a g) = acted_generations _ (handle_of operation.call) (action_of state operation)
 generations_after state s o after (Ends d is a) = omega arith
 generations_after state s o after (GivesUp d is a) = omega arith
@@ -126,7 +126,7 @@ sweep_epoch : (pins : List (Option ℕ)) (r : Reclaimer) (due : Option Ref) → 
 sweep_epoch pins r due = grind arith
 
 epoch_after : (state : State) (s : Step) (o : Outcome) (after : State) → Moves state s o after → after.epoch ≤ state.epoch + 1
-epoch_after state s o after (Begins {actor} {call} d) = omega (arith, begin_epoch state actor call (begun_operation state call))
+epoch_after state s o after (Begins {actor} {call} {number} d) = omega (arith, begin_epoch state actor call (begun_operation state call number))
 epoch_after state s o after (Goes {actor} {operation} d is a g) = omega (arith, gone_epoch state actor operation)
 epoch_after state s o after (Ends d is a) = omega arith
 epoch_after state s o after (GivesUp d is a) = omega arith
@@ -136,14 +136,14 @@ epoch_after state s o after (Sweeps spent) = sweep_epoch (map pin_of state.actor
 
 -- whether a step begins an operation
 abbrev pub one_if_begin : Step → ℕ
-one_if_begin (step.Begin actor call) = 1
+one_if_begin (step.Begin actor call number) = 1
 one_if_begin (step.Go actor) = 0
 one_if_begin (step.GiveUp actor) = 0
 one_if_begin step.Sweep = 0
 
 -- a begin is one more, and nothing else is
 begins_after : (state : State) (s : Step) (o : Outcome) (after : State) → Moves state s o after → after.begun ≡ state.begun + one_if_begin s
-begins_after state s o after (Begins {actor} {call} d) = omega arith
+begins_after state s o after (Begins {actor} {call} {number} d) = omega arith
 begins_after state s o after (Goes {actor} {operation} d is a g) =
     (acted_framed _ (handle_of operation.call) (action_of state operation)).begun ∙ (let none : state.begun ≡ state.begun + 0 = omega arith in none)
 begins_after state s o after (Ends d is a) = omega arith
@@ -152,7 +152,7 @@ begins_after state s o after (Sweeps spent) = omega arith
 
 -- at most one
 one_if_begin_most : (s : Step) → one_if_begin s ≤ 1
-one_if_begin_most (step.Begin actor call) = omega arith
+one_if_begin_most (step.Begin actor call number) = omega arith
 one_if_begin_most (step.Go actor) = omega arith
 one_if_begin_most (step.GiveUp actor) = omega arith
 one_if_begin_most step.Sweep = omega arith
@@ -176,7 +176,7 @@ attempt_most attempt action = omega arith
 few_attempts : (limits : Bounds) (steps : List Step) → OfEach FewAttempts (run limits steps)
 few_attempts limits =
     of_each_along limits FewAttempts
-    (λ steps actor call d. omega arith)
+    (λ steps actor call number d. omega arith)
     (λ steps actor operation is g h.
     omega (
       arith,
@@ -265,6 +265,7 @@ run_on state s fits h =
       is = ap (λ x. next_state x s) h.is ∙ sym (run_push (first_state state.limits) h.steps s) ∙ ap (λ l. run l (h.steps ++ s ∷ [])) (sym same);
       limits = subst (λ l. AreBounds l) (sym same) h.limits;
       few = subst (λ (l : Bounds). l.slots ≤ most_slots) (sym same) h.few;
+      actors = subst (λ (l : Bounds). l.actors ≤ most_actors) (sym same) h.actors;
       life = subst (λ (l : Bounds). l.steps ≤ longest_life) (sym same) h.life;
       keys = All-push FitsKey h.steps s h.keys fits;
     }
@@ -280,8 +281,9 @@ first_run limits state ok e = record {
   steps = [];
   is = e ∙ ap first_state (sym (ap (λ x. x.limits) e));
   limits = subst (λ l. AreBounds l) (sym (ap (λ x. x.limits) e)) ok.0;
-  few = subst (λ (l : Bounds). l.slots ≤ most_slots) (sym (ap (λ x. x.limits) e)) ok.2;
-  life = subst (λ (l : Bounds). l.steps ≤ longest_life) (sym (ap (λ x. x.limits) e)) ok.1;
+  few = subst (λ (l : Bounds). l.slots ≤ most_slots) (sym (ap (λ x. x.limits) e)) ok.3;
+  actors = subst (λ (l : Bounds). l.actors ≤ most_actors) (sym (ap (λ x. x.limits) e)) ok.1;
+  life = subst (λ (l : Bounds). l.steps ≤ longest_life) (sym (ap (λ x. x.limits) e)) ok.2;
   keys = All-nil FitsKey;
 }
 

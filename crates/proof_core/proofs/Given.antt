@@ -40,16 +40,16 @@ private_once state h actor operation r found =
 -- ---- a begin
 
 -- a begin that isn't denied is of an actor that runs nothing
-begin_idle : (state : State) (actor : ℕ) (call : Call) → begin_denial state actor call ≡ None → is_running state actor ≡ false
+begin_idle : (state : State) (actor : ℕ) (call : Call) → begin_denial state actor call None ≡ None → is_running state actor ≡ false
 begin_idle state actor call d = grind arith
 
 within_by : (actor actors : ℕ) → (nat_lt 0 actor && nat_le actor actors) ≡ true → (0 < actor) × (actor ≤ actors)
 within_by actor actors e = grind (arith, nat_tests)
 
-pub begin_stands : (state : State) (actor : ℕ) (call : Call) → IsOfRun state → begin_denial state actor call ≡ None → StandsAt state.actors actor None
-begin_stands state zero call h d = absurd (let (some, most) = within_by 0 state.limits.actors (begin_actor state 0 call d) in omega (arith, some))
+pub begin_stands : (state : State) (actor : ℕ) (call : Call) → IsOfRun state → begin_denial state actor call None ≡ None → StandsAt state.actors actor None
+begin_stands state zero call h d = absurd (let (some, most) = within_by 0 state.limits.actors (begin_actor state 0 call None d) in omega (arith, some))
 begin_stands state (suc n) call h d =
-    let (some, most) = within_by (suc n) state.limits.actors (begin_actor state (suc n) call d) in
+    let (some, most) = within_by (suc n) state.limits.actors (begin_actor state (suc n) call None d) in
     let (roots, actors) = sizes state h in
     record {
       counts = omega arith;

@@ -7,6 +7,7 @@ use Rattle.std.proofs.lemmas.List.Sums.{sum_by-cons}
 use Rattle.handle_table.specs.Numbers.{IsLeastFree, Numbers, how_many, running_on}
 use Rattle.proof_core.specs.Vocabulary.{handles_taken, is_taken, least_free, least_from, names, runs_on, taken_below, State}
 use Rattle.proof_core.specs.Numbering.{KnowsNumbers}
+use Rattle.proof_core.specs.Beneath.machine_model.proofs.Numbers.{few_below}
 
 -- ---- counting
 
@@ -36,14 +37,6 @@ taken_counted numbers state h =
     omega (arith, counted, whole, none_taken state)
 
 -- there are no more than there are numbers
-few_below : (state : State) (n : ℕ) → taken_below state n ≤ n
-few_below state zero = omega (arith, none_taken state)
-few_below state (suc n) = omega (arith, few_below state n, one_most (is_taken state n), taken_more state n, ap (taken_below state) (add-one n))
-  where
-    one_most : (b : Bool) → cond b 1 0 ≤ 1
-    one_most true = omega arith
-    one_most false = omega arith
-
 pub few_taken : (state : State) → handles_taken state ≤ 256
 few_taken state = few_below state 256
 

@@ -88,11 +88,11 @@ some_root (Some root) e = (root, refl)
 -- no more run on a handle than there are actors
 pub few_run : (numbers : Numbers) (state : State) (handle : ℕ) → IsOfRun state → KnowsNumbers numbers state → running_on numbers handle < 255
 few_run numbers state handle h known =
-    omega (arith, known.running handle, count_by-le-length (names handle) state.actors, (sizes state h).1, h.limits.2)
+    omega (arith, known.running handle, count_by-le-length (names handle) state.actors, (sizes state h).1, h.actors)
 
-module _ (numbers : Numbers) (state : State) (actor : ℕ) (call : Call) (h : IsOfRun state) (d : begin_denial state actor call ≡ None) (known : KnowsNumbers numbers state) where
+module _ (numbers : Numbers) (state : State) (actor : ℕ) (call : Call) (h : IsOfRun state) (d : begin_denial state actor call None ≡ None) (known : KnowsNumbers numbers state) where
   abbrev operation : Operation
-  operation = begun_operation state call
+  operation = begun_operation state call None
 
   abbrev after : State
   after = with_begin state actor call operation
@@ -101,7 +101,7 @@ module _ (numbers : Numbers) (state : State) (actor : ℕ) (call : Call) (h : Is
   stands = begin_stands state actor call h d
 
   root : (found : Root) × (root_at state (handle_of call) ≡ Some found)
-  root = some_root (root_at state (handle_of call)) (handle_given state actor call d)
+  root = some_root (root_at state (handle_of call)) (handle_given state actor call None d)
 
   handle_within : handle_of call < 256
   handle_within = omega (arith, found_within state.roots (handle_of call) root.0 root.1, (sizes state h).0)

@@ -1,6 +1,7 @@
 -- What bounds the numbers of a machine, and what a step that may lack memory comes to.
 use Rattle.std.specs.Prelude.{◌≡◌, ℕ, ◌+◌, ◌*◌, ◌≤◌, ◌⊎◌, true, length, Option, Some, None, Result, Ok, Err}
-use Rattle.proof_core.specs.Vocabulary.{Refusal, Operation, Bounds, Outcome, Step, needs_read_only, State, operation_of, settled, Answer, next, is_taken_step, longest_life, AreBounds, most_slots}
+use Rattle.proof_core.specs.Vocabulary.{Refusal, Operation, Bounds, Outcome, Step, needs_read_only, State, operation_of, settled, Answer, next, is_taken_step, longest_life, AreBounds, most_actors}
+use Rattle.proof_core.specs.Vocabulary.{most_slots}
 use Rattle.proof_core.specs.Beneath.ctrie_base.specs.declared.refusals.Refusal.TheVariants as refuse
 
 -- No number outgrows its type: most grow by at most 1 in each step. A step draws a birth or frees a slot, and not both, so about every other one draws a birth.
@@ -13,9 +14,9 @@ pub record IsBounded (state : State) : Type 0 where
   pub attempts : (actor : ℕ) (operation : Operation) → operation_of state actor ≡ Some operation → operation.attempt ≤ state.steps
   pub begins : state.begun ≤ state.steps
 
--- the bounds with which a program's machine begins: it ends before its counters outgrow their types, and a word names each of its slots
+-- the bounds with which a program's machine begins: it has 64 actors at most, it ends before its counters outgrow their types, and a word names each of its slots
 abbrev pub AreInRange : Bounds → Type 0
-AreInRange bounds = AreBounds bounds × (bounds.steps ≤ longest_life) × (bounds.slots ≤ most_slots)
+AreInRange bounds = AreBounds bounds × (bounds.actors ≤ most_actors) × (bounds.steps ≤ longest_life) × (bounds.slots ≤ most_slots)
 
 -- the bounds are out of range, or memory was lacking for bounds in range
 abbrev pub RefusesBounds : Bounds → Refusal → Type 0

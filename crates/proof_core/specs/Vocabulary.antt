@@ -32,10 +32,10 @@ pub use Rattle.proof_core.specs.Beneath.machine_model.specs.Counting.{outside, r
 pub use Rattle.proof_core.specs.Beneath.machine_model.specs.Grown.{node_under}
 pub use Rattle.proof_core.specs.Beneath.machine_model.specs.Keys.{FitsKey, KeysFit}
 pub use Rattle.proof_core.specs.Beneath.machine_model.specs.Machine.{Answer, AreBounds, begin_denial, begun_operation, go_denial, handle_closed, handles_taken, is_number, is_running, is_spent}
-pub use Rattle.proof_core.specs.Beneath.machine_model.specs.Machine.{is_taken, is_taken_step, least_free, longest_life, names, next_state, pin_of, reclaimer_of, reserved_by, run, runs_on}
-pub use Rattle.proof_core.specs.Beneath.machine_model.specs.Machine.{state_after, with_begin}
+pub use Rattle.proof_core.specs.Beneath.machine_model.specs.Machine.{is_taken, is_taken_step, least_free, longest_life, most_actors, names, next_state, pin_of, reclaimer_of, reserved_by, run}
+pub use Rattle.proof_core.specs.Beneath.machine_model.specs.Machine.{runs_on, state_after, with_begin}
 unfoldable pub use Rattle.proof_core.specs.Beneath.machine_model.specs.Machine.{least_from, next, run_from, taken_below}
-pub use Rattle.proof_core.specs.Beneath.machine_model.specs.Moves.{Begins, Ends, GoesOn, Moves, Sweeps}
+pub use Rattle.proof_core.specs.Beneath.machine_model.specs.Moves.{Begins, Ends, GivesUp, GoesOn, Moves, Sweeps}
 pub use Rattle.proof_core.specs.Beneath.machine_model.specs.Operations.{action_of}
 pub use Rattle.proof_core.specs.Beneath.machine_model.specs.Pairs.{by_key, comes_before}
 pub use Rattle.proof_core.specs.Beneath.machine_model.specs.States.{State, empty_heap, handle_limit, operation_of, root_at, root_of, word_at, word_of}

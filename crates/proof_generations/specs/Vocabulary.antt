@@ -32,9 +32,9 @@ pub use Rattle.proof_generations.specs.Beneath.machine_model.specs.GivingUp.{gav
 pub use Rattle.proof_generations.specs.Beneath.machine_model.specs.Grown.{main_before, main_word, node_under, or_before, prev_word, standing}
 unfoldable pub use Rattle.proof_generations.specs.Beneath.machine_model.specs.Grown.{grown}
 pub use Rattle.proof_generations.specs.Beneath.machine_model.specs.Lines.{new_try}
-pub use Rattle.proof_generations.specs.Beneath.machine_model.specs.Machine.{AreBounds, access_of, begin_denial, begun_operation, handle_closed, handles_taken, is_actor, is_number, is_taken}
-pub use Rattle.proof_generations.specs.Beneath.machine_model.specs.Machine.{least_free, next_state, pin_of, reclaimer_of, reserved_by, run, runs_on, taken_steps, with_begin}
-unfoldable pub use Rattle.proof_generations.specs.Beneath.machine_model.specs.Machine.{least_from, run_from, taken_below}
+pub use Rattle.proof_generations.specs.Beneath.machine_model.specs.Machine.{AreBounds, access_of, begin_denial, begun_operation, handle_closed, is_actor, is_number, is_taken, next_state, pin_of}
+pub use Rattle.proof_generations.specs.Beneath.machine_model.specs.Machine.{reclaimer_of, reserved_by, run, runs_on, taken_steps, with_begin}
+unfoldable pub use Rattle.proof_generations.specs.Beneath.machine_model.specs.Machine.{run_from}
 pub use Rattle.proof_generations.specs.Beneath.machine_model.specs.Moves.{Begins, Ends, GivesUp, GoesOn, Moves, Sweeps}
 pub use Rattle.proof_generations.specs.Beneath.machine_model.specs.Operations.{action_of, after_root, completing_read, first_line, generation_from, given_root, line_action, line_after, read_of}
 pub use Rattle.proof_generations.specs.Beneath.machine_model.specs.Operations.{rooting_read}

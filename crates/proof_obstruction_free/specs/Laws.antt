@@ -1,5 +1,5 @@
 -- Laws of an operation that alone takes steps.
-use Rattle.std.specs.Prelude.{◌≡◌, ℕ, suc, ◌+◌, ◌<◌, ◌≤◌, List, ◌++◌, Contains, replicate, Some, None, Ok}
+use Rattle.std.specs.Prelude.{◌≡◌, ℕ, suc, ◌+◌, ◌*◌, ◌<◌, ◌≤◌, List, ◌++◌, Contains, replicate, Some, None, Ok}
 use Rattle.proof_obstruction_free.specs.Vocabulary.{Kind, Call, Close, Entries, Count, Event, End, Reply, Operation, Bounds, Went, Ended, Step, Go, KeysFit, AreBounds, next, run, record_of, State}
 use Rattle.proof_obstruction_free.specs.Vocabulary.{operation_of}
 
@@ -10,7 +10,11 @@ IsOnKeyOrRoot (Entries h) = ⊥
 IsOnKeyOrRoot (Count h) = ⊥
 IsOnKeyOrRoot call = Unit {0}
 
--- the most steps that such an operation takes where its actor alone takes steps, whatever others left behind
+-- the most steps that such an operation takes in a machine of so many actors, where its own alone takes steps, whatever the others left behind
+abbrev pub most_steps_of : ℕ → ℕ
+most_steps_of actors = 3642 + 5 * actors
+
+-- that is, in a program's machine, which has 64 actors at most
 abbrev pub most_steps_alone : ℕ
 most_steps_alone = 3962
 
@@ -28,7 +32,7 @@ pub record RunsAlone (limits : Bounds) (steps : List Step) (actor : ℕ) (operat
   pub keys_fit : KeysFit steps
   pub runs : operation_of (run limits steps) actor ≡ Some operation
   pub call : IsOnKeyOrRoot operation.call
-  pub left : (run limits steps).steps + most_steps_alone ≤ limits.steps
+  pub left : (run limits steps).steps + most_steps_of limits.actors ≤ limits.steps
 
 -- ---- it ends
 
@@ -42,7 +46,7 @@ pub record HasEnded (state : State) (history : List Event) (actor id : ℕ) : Ty
 abbrev pub AloneItEnds : Type 0
 AloneItEnds =
     (limits : Bounds) (steps : List Step) (actor : ℕ) (operation : Operation) → RunsAlone limits steps actor operation →
-    HasEnded (alone_after limits steps actor most_steps_alone) (history_after limits steps actor most_steps_alone) actor operation.id
+    HasEnded (alone_after limits steps actor (most_steps_of limits.actors)) (history_after limits steps actor (most_steps_of limits.actors)) actor operation.id
 
 -- ---- and none of its steps is denied
 
@@ -58,4 +62,4 @@ EndsAt limits steps actor id n = (answer : Reply) × (next (alone_after limits s
 abbrev pub EachStepLeadsToItsEnd : Type 0
 EachStepLeadsToItsEnd =
     (limits : Bounds) (steps : List Step) (actor : ℕ) (operation : Operation) → RunsAlone limits steps actor operation →
-    (n : ℕ) × (n < most_steps_alone) × ((k : ℕ) → k < n → GoesOnAt limits steps actor k) × EndsAt limits steps actor operation.id n
+    (n : ℕ) × (n < most_steps_of limits.actors) × ((k : ℕ) → k < n → GoesOnAt limits steps actor k) × EndsAt limits steps actor operation.id n

@@ -4,7 +4,7 @@ use Rattle.proof_obstruction_free.specs.Vocabulary.{Kind, Make, Call, Reply, NoS
 use Rattle.proof_obstruction_free.specs.Beneath.machine_model.specs.declared.lines.Line.TheVariants.{End}
 use Rattle.proof_obstruction_free.specs.Beneath.machine_model.specs.declared.steps.Step.TheVariants.{Begin}
 use Rattle.proof_obstruction_free.specs.Copies.{IsCopying}
-use Rattle.proof_obstruction_free.specs.Laws.{RunsAlone, alone_after, most_steps_alone}
+use Rattle.proof_obstruction_free.specs.Laws.{RunsAlone, alone_after, most_steps_of}
 
 -- ---- makes
 
@@ -27,21 +27,21 @@ makes_alone limits steps actor (suc n) = makes_alone limits steps actor n + (if 
 abbrev pub MakesAtMost : Type 0
 MakesAtMost =
     (limits : Bounds) (steps : List Step) (actor : ℕ) (operation : Operation) → RunsAlone limits steps actor operation → (n : ℕ) →
-    makes_alone limits steps actor n ≤ most_steps_alone
+    makes_alone limits steps actor n ≤ most_steps_of limits.actors
 
 -- so where as many slots are free, and it isn't refused already, it isn't refused for want of slots
 abbrev pub EnoughSlots : Type 0
 EnoughSlots =
     (limits : Bounds) (steps : List Step) (actor : ℕ) (operation : Operation) → RunsAlone limits steps actor operation → operation.line ≢ End NoSlots →
-    most_steps_alone ≤ length (run limits steps).heap.free →
+    most_steps_of limits.actors ≤ length (run limits steps).heap.free →
     (n id : ℕ) (answer : Reply) (after : State) → next (alone_after limits steps actor n) (Go actor) ≡ Ok (Ended id answer, after) → answer ≢ NoSlots
 
 -- the same of a call that begins where as many slots are free
 abbrev pub EnoughAtBegin : Type 0
 EnoughAtBegin =
-    (limits : Bounds) (steps : List Step) (actor : ℕ) (call : Call) (operation : Operation) → operation_of (run limits steps) actor ≡ None →
-    RunsAlone limits (steps ++ Begin actor call ∷ []) actor operation → most_steps_alone ≤ length (run limits steps).heap.free →
-    (n id : ℕ) (answer : Reply) (after : State) → next (alone_after limits (steps ++ Begin actor call ∷ []) actor n) (Go actor) ≡ Ok (Ended id answer, after) → answer ≢ NoSlots
+    (limits : Bounds) (steps : List Step) (actor : ℕ) (call : Call) (number : Option ℕ) (operation : Operation) → operation_of (run limits steps) actor ≡ None →
+    RunsAlone limits (steps ++ Begin actor call number ∷ []) actor operation → most_steps_of limits.actors ≤ length (run limits steps).heap.free →
+    (n id : ℕ) (answer : Reply) (after : State) → next (alone_after limits (steps ++ Begin actor call number ∷ []) actor n) (Go actor) ≡ Ok (Ended id answer, after) → answer ≢ NoSlots
 
 -- ---- from where a try begins
 
@@ -64,9 +64,9 @@ EnoughForTries =
 -- nor is a call that begins where as many are free
 abbrev pub TriesEnoughAtBegin : Type 0
 TriesEnoughAtBegin =
-    (limits : Bounds) (steps : List Step) (actor : ℕ) (call : Call) (operation : Operation) → operation_of (run limits steps) actor ≡ None →
-    RunsAlone limits (steps ++ Begin actor call ∷ []) actor operation → most_makes_alone ≤ length (run limits steps).heap.free →
-    (n id : ℕ) (answer : Reply) (after : State) → next (alone_after limits (steps ++ Begin actor call ∷ []) actor n) (Go actor) ≡ Ok (Ended id answer, after) → answer ≢ NoSlots
+    (limits : Bounds) (steps : List Step) (actor : ℕ) (call : Call) (number : Option ℕ) (operation : Operation) → operation_of (run limits steps) actor ≡ None →
+    RunsAlone limits (steps ++ Begin actor call number ∷ []) actor operation → most_makes_alone ≤ length (run limits steps).heap.free →
+    (n id : ℕ) (answer : Reply) (after : State) → next (alone_after limits (steps ++ Begin actor call number ∷ []) actor n) (Go actor) ≡ Ok (Ended id answer, after) → answer ≢ NoSlots
 
 -- ---- a snapshot, a freeze or a clear
 
@@ -87,6 +87,6 @@ EnoughForCopies =
 
 abbrev pub CopiesEnoughAtBegin : Type 0
 CopiesEnoughAtBegin =
-    (limits : Bounds) (steps : List Step) (actor : ℕ) (call : Call) (operation : Operation) → operation_of (run limits steps) actor ≡ None →
-    RunsAlone limits (steps ++ Begin actor call ∷ []) actor operation → IsCopying call → most_steps_of_copies ≤ length (run limits steps).heap.free →
-    (n id : ℕ) (answer : Reply) (after : State) → next (alone_after limits (steps ++ Begin actor call ∷ []) actor n) (Go actor) ≡ Ok (Ended id answer, after) → answer ≢ NoSlots
+    (limits : Bounds) (steps : List Step) (actor : ℕ) (call : Call) (number : Option ℕ) (operation : Operation) → operation_of (run limits steps) actor ≡ None →
+    RunsAlone limits (steps ++ Begin actor call number ∷ []) actor operation → IsCopying call → most_steps_of_copies ≤ length (run limits steps).heap.free →
+    (n id : ℕ) (answer : Reply) (after : State) → next (alone_after limits (steps ++ Begin actor call number ∷ []) actor n) (Go actor) ≡ Ok (Ended id answer, after) → answer ≢ NoSlots

@@ -225,7 +225,7 @@ swept_few pins r None h = cond_both (nat_le r.cursor (length pins)) _ _ (λ (don
 swept_few pins r (Some at) h = freed_few r.heap at h
 
 moved_few : (state : State) (s : Step) (o : Outcome) (after : State) → Moves state s o after → AreFew state.heap → AreFew after.heap
-moved_few state s o after (Begins {actor} {call} d) h = subst AreFew (sym (begin_heap state actor call (begun_operation state call))) h
+moved_few state s o after (Begins {actor} {call} {number} d) h = subst AreFew (sym (begin_heap state actor call (begun_operation state call number))) h
 moved_few state s o after (Goes {actor} {operation} d is a g) h =
     acted_few _ (handle_of operation.call) (action_of state operation) (makes_few state operation operation.line) h
 moved_few state s o after (Ends d is a) h = h

@@ -118,8 +118,8 @@ module _ (state : State) (I : HasOffers state) (H : HasHandles state) (actor : �
   same_actor : (other : ℕ) → step.Go actor ≡ step.Go other → actor ≡ other
   same_actor other e = cc e
 
-  no_begin : (other : ℕ) (call : Call) → step.Go actor ≡ step.Begin other call → ⊥
-  no_begin other call e = cc e
+  no_begin : (other : ℕ) (call : Call) (number : Option ℕ) → step.Go actor ≡ step.Begin other call number → ⊥
+  no_begin other call number e = cc e
 
   -- ---- what was taken still is
 
@@ -155,7 +155,7 @@ module _ (state : State) (I : HasOffers state) (H : HasHandles state) (actor : �
     where
       by : (o : Option Root) → root_at state handle ≡ o → is_taken after handle ≡ true
       by (Some root) r =
-          let (now, found, access) = stays state I H (step.Go actor) _ after move handle root r (λ other call go d' closes here. no_begin other call go) in
+          let (now, found, access) = stays state I H (step.Go actor) _ after move handle root r (λ other call number go d' closes here. no_begin other call number go) in
           open_taken after handle now found
       by None r =
           let x = reserved_somewhere handle state.actors (ap (λ o. is_some o || list_any (reserves handle) state.actors) (sym r) ∙ e) in
@@ -166,7 +166,7 @@ module _ (state : State) (I : HasOffers state) (H : HasHandles state) (actor : �
   was_reserved : (k : ℕ) (found : Operation) → Runs after k found → found.is_marked ≡ false → found.opens ≡ Some handle → is_taken state handle ≡ true
   was_reserved k found at_k unmarked opens = elim (ran_or_began state I H (step.Go actor) k found (comes state (step.Go actor) _ after move k found at_k)) [
     | inl r ↦ reserved_taken state handle (reserved_at handle state.actors k r.was r.at_k (r.unmarked unmarked) (sym r.opens ∙ opens))
-    | inr began ↦ absurd (no_begin (suc k) began.0 began.1)
+    | inr began ↦ absurd (no_begin (suc k) began.0 began.1 began.2)
   ]
 
   was_free : is_taken state handle ≡ false → root_at after handle ≡ None

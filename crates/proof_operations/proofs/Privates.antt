@@ -19,7 +19,7 @@ first_holds call = omega arith
 
 each_holds : (limits : Bounds) (steps : List Step) → OfEach HoldsFew (run limits steps)
 each_holds limits =
-    of_each_along limits HoldsFew (λ steps actor call d. first_holds call)
+    of_each_along limits HoldsFew (λ steps actor call number d. first_holds call)
     (λ steps actor operation is g h. rw (mark_only (marks_by (run limits steps) (Some operation)) (operation_after (run limits steps) operation))
     (holds_after (run limits steps) (few_entries limits steps) operation operation.private operation.line h))
     (λ steps actor operation answer is may h. omega arith)

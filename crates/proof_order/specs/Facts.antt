@@ -40,7 +40,7 @@ committed_of state (Some operation) = committed_now state operation
 
 -- the main node that the step commits, if it does
 abbrev pub committed_by_step : State → Step → Option Ref
-committed_by_step state (step.Begin actor call) = None
+committed_by_step state (step.Begin actor call number) = None
 committed_by_step state (step.Go actor) = committed_of state (operation_of state actor)
 committed_by_step state step.Sweep = None
 committed_by_step state (step.GiveUp actor) = None

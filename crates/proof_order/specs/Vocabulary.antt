@@ -39,8 +39,7 @@ pub use Rattle.proof_order.specs.Beneath.machine_model.specs.GivingUp.{former_of
 pub use Rattle.proof_order.specs.Beneath.machine_model.specs.Grown.{main_before, node_under, prev_word}
 unfoldable pub use Rattle.proof_order.specs.Beneath.machine_model.specs.Grown.{grown}
 pub use Rattle.proof_order.specs.Beneath.machine_model.specs.Lines.{new_try}
-pub use Rattle.proof_order.specs.Beneath.machine_model.specs.Machine.{AreBounds, begin_denial, begun_operation, handles_taken, is_taken, least_free, next_state, run, with_begin}
-unfoldable pub use Rattle.proof_order.specs.Beneath.machine_model.specs.Machine.{least_from, taken_below}
+pub use Rattle.proof_order.specs.Beneath.machine_model.specs.Machine.{AreBounds, begin_denial, begun_operation, next_state, number_for, run, with_begin}
 pub use Rattle.proof_order.specs.Beneath.machine_model.specs.Moves.{Begins, Ends, GivesUp, GoesOn, Moves, Sweeps}
 pub use Rattle.proof_order.specs.Beneath.machine_model.specs.Operations.{action_of, after_root, after_update, climbed_on, completing_read, first_line, generation_from, given_root, line_action}
 pub use Rattle.proof_order.specs.Beneath.machine_model.specs.Operations.{line_after, read_of, rooting_read, swapped, swapping_read}

@@ -26,7 +26,7 @@ use Rattle.proof_runs.specs.Machines.{Taken, past_of, state_of, with_step, Appli
 use Rattle.proof_runs.specs.Callers.{after_go, going_on, Resumes, Completes, CompletesUnless}
 use Rattle.proof_runs.specs.Ending.{EndsIfSure, EndsIn, IsAnswer, IsNearer, IsSure}
 use Rattle.proof_obstruction_free.specs.Calls.{slots_of}
-use Rattle.proof_runs.proofs.Bounds.{in_bounds}
+use Rattle.proof_runs.proofs.Bounds.{few_actors, in_bounds}
 use Rattle.proof_runs.proofs.Going.{goes, ends}
 
 -- one step more of the same
@@ -136,11 +136,13 @@ module _ (machine : Taken) (actor : ℕ) where
         (n : ℕ) × (n < most_steps_alone) × ((k : ℕ) → k < n → GoesOnAt (bounded machine.limits) machine.steps actor k) × EndsAt (bounded machine.limits) machine.steps actor operation.id n
 
     alone_facts : IsOnKeyOrRoot operation.call → RunsAlone (bounded machine.limits) machine.steps actor operation
-    alone_facts call = record { limits_ok = in_bounds machine.limits sizes; keys_fit = keys; runs = runs; call = call; left = steps_left }
+    alone_facts call = record { limits_ok = in_bounds machine.limits sizes; keys_fit = keys; runs = runs; call = call; left = omega (arith, steps_left, few_actors machine.limits sizes) }
 
     -- each of its steps goes on, and the last one ends it
     leads : IsOnKeyOrRoot operation.call ⊎ (is_close operation.call ≡ true) → LeadsToEnd
-    leads (inl call) = law (bounded machine.limits) machine.steps actor operation (alone_facts call)
+    leads (inl call) =
+        let (n, few, on, last) = law (bounded machine.limits) machine.steps actor operation (alone_facts call) in
+        (n, omega (arith, few, few_actors machine.limits sizes), on, last)
     leads (inr closing) =
         let ends_now = (closes (bounded machine.limits) machine.steps actor operation runs closing (omega (arith, steps_left))).0 in
         let last = alone_after (bounded machine.limits) machine.steps actor 1 in
@@ -205,76 +207,76 @@ module _ (machine : Taken) (actor : ℕ) where
 
 -- the state in which the call has begun
 begins_so : (state : State) (actor : ℕ) (call : Call) (denial : Option Refusal) → denial ≡ None →
-    (o : Outcome) × (begin_unless state actor call denial ≡ Ok (o, settled state (with_begin state actor call (begun_operation state call))))
+    (o : Outcome) × (begin_unless state actor call None denial ≡ Ok (o, settled state (with_begin state actor call (begun_operation state call None))))
 begins_so state actor call None e = (_, refl)
 begins_so state actor call (Some why) e = cc e
 
-begun_state : (state : State) (actor : ℕ) (call : Call) → begin_denial state actor call ≡ None →
-    (o : Outcome) × (next state (step.Begin actor call) ≡ Ok (o, settled state (with_begin state actor call (begun_operation state call))))
+begun_state : (state : State) (actor : ℕ) (call : Call) → begin_denial state actor call None ≡ None →
+    (o : Outcome) × (next state (step.Begin actor call None) ≡ Ok (o, settled state (with_begin state actor call (begun_operation state call None))))
 unfolding next
-begun_state state actor call d = begins_so state actor call (begin_denial state actor call) d
+begun_state state actor call d = begins_so state actor call (begin_denial state actor call None) d
 
-module _ (before : Taken) (actor : ℕ) (call : Call) (d : begin_denial (state_of before) actor call ≡ None) where
+module _ (before : Taken) (actor : ℕ) (call : Call) (d : begin_denial (state_of before) actor call None ≡ None) where
   abbrev pub middle : Taken
-  middle = with_step before (step.Begin actor call)
+  middle = with_step before (step.Begin actor call None)
 
   abbrev pub begun_so : State
-  begun_so = settled (state_of before) (with_begin (state_of before) actor call (begun_operation (state_of before) call))
+  begun_so = settled (state_of before) (with_begin (state_of before) actor call (begun_operation (state_of before) call None))
 
   pub led_so : state_of middle ≡ begun_so
-  led_so = let (o, e) = begun_state (state_of before) actor call d in stepped before (step.Begin actor call) o begun_so e
+  led_so = let (o, e) = begun_state (state_of before) actor call d in stepped before (step.Begin actor call None) o begun_so e
 
   -- the operation that began runs
-  pub begun_runs_on : operation_of (state_of middle) actor ≡ Some (begun_operation (state_of before) call)
+  pub begun_runs_on : operation_of (state_of middle) actor ≡ Some (begun_operation (state_of before) call None)
   begun_runs_on =
       let (o, e) = begun_state (state_of before) actor call d in
-      let told = ap (λ (r : Record). r.events) (noted_step before (step.Begin actor call) o begun_so e) in
+      let told = ap (λ (r : Record). r.events) (noted_step before (step.Begin actor call None) o begun_so e) in
       let (found, runs, same) =
-      begun_runs (state_of before) (state_of middle) (past_of before) (past_of middle) actor call (begun_operation (state_of before) call).opens
+      begun_runs (state_of before) (state_of middle) (past_of before) (past_of middle) actor call (begun_operation (state_of before) call None).opens
       (books_of (bounded before.limits) before.steps) (books_of (bounded before.limits) middle.steps) told in
-      elim (begin_own (state_of before) actor call (begun_operation (state_of before) call)) [
+      elim (begin_own (state_of before) actor call (begun_operation (state_of before) call None)) [
         | inl none ↦ absurd (none-some found (sym none ∙ ap (λ s. operation_of s actor) (sym led_so) ∙ runs))
         | inr own ↦ ap (λ s. operation_of s actor) led_so ∙ own
       ]
 
   -- and is as sure to end, with one step less
-  pub sure_behind : (n : ℕ) → IsSure (state_of before) call (1 + n) → IsSure (state_of middle) (begun_operation (state_of before) call).call n
+  pub sure_behind : (n : ℕ) → IsSure (state_of before) call (1 + n) → IsSure (state_of middle) (begun_operation (state_of before) call None).call n
   sure_behind n sure =
       let later : (state_of middle).steps ≡ (state_of before).steps + 1 = ap (λ (s : State). s.steps) led_so in
       let most = most_steps before in let still = most_steps middle in (sure.0, omega (arith, later, most, still, sure.1))
 
 module _ (law : EachStepLeadsToItsEnd) (closes : ClosesEnd) (before after : Taken) (actor : ℕ) (call : Call) (sizes : AreLimits before.limits) (keys : KeysFit before.steps)
-    (fits : FitsKey (step.Begin actor call)) (sure : IsSure (state_of before) call (1 + most_steps_alone)) where
-  by_denial : (denial : Option Refusal) → begin_denial (state_of before) actor call ≡ denial → (result : Result (Option Reply) Refusal) → CompletesUnless denial result before actor call after →
+    (fits : FitsKey (step.Begin actor call None)) (sure : IsSure (state_of before) call (1 + most_steps_alone)) where
+  by_denial : (denial : Option Refusal) → begin_denial (state_of before) actor call None ≡ denial → (result : Result (Option Reply) Refusal) → CompletesUnless denial result before actor call after →
       IsAnswer denial result
   by_denial (Some why) d result c = rw c.0 (inl refl)
   by_denial None d result (inl memory) = rw memory.0 (inr refl)
   by_denial None d result (inr goes) =
-      ended (middle before actor call d) actor law closes sizes (All-push FitsKey before.steps (step.Begin actor call) keys fits) (begun_operation (state_of before) call)
+      ended (middle before actor call d) actor law closes sizes (All-push FitsKey before.steps (step.Begin actor call None) keys fits) (begun_operation (state_of before) call None)
       (begun_runs_on before actor call d) (sure_behind before actor call d most_steps_alone sure) result after goes
 
-  pub completed : (result : Result (Option Reply) Refusal) → Completes result before actor call after → IsAnswer (begin_denial (state_of before) actor call) result
-  completed result c = by_denial (begin_denial (state_of before) actor call) refl result c
+  pub completed : (result : Result (Option Reply) Refusal) → Completes result before actor call after → IsAnswer (begin_denial (state_of before) actor call None) result
+  completed result c = by_denial (begin_denial (state_of before) actor call None) refl result c
 
 -- ---- enough slots
 
 module _ (law : EachStepLeadsToItsEnd) (closes : ClosesEnd) (spare : EnoughForCall) (before : Taken) (actor : ℕ) (call : Call) (sizes : AreLimits before.limits) (keys : KeysFit before.steps)
-    (fits : FitsKey (step.Begin actor call)) (sure : IsSure (state_of before) call (1 + most_steps_alone)) (free : slots_of call ≤ length (state_of before).heap.free) where
+    (fits : FitsKey (step.Begin actor call None)) (sure : IsSure (state_of before) call (1 + most_steps_alone)) (free : slots_of call ≤ length (state_of before).heap.free) where
   -- behind its begin a call isn't refused for want of slots
-  pub spared_behind : (d : begin_denial (state_of before) actor call ≡ None) (n : ℕ) (last : Taken) → going_on n actor (middle before actor call d) ≡ (Ok (Some NoSlots), last) → ⊥
+  pub spared_behind : (d : begin_denial (state_of before) actor call None ≡ None) (n : ℕ) (last : Taken) → going_on n actor (middle before actor call d) ≡ (Ok (Some NoSlots), last) → ⊥
   spared_behind d =
-      spared (middle before actor call d) actor law closes sizes (All-push FitsKey before.steps (step.Begin actor call) keys fits) (begun_operation (state_of before) call)
+      spared (middle before actor call d) actor law closes sizes (All-push FitsKey before.steps (step.Begin actor call None) keys fits) (begun_operation (state_of before) call None)
       (begun_runs_on before actor call d) (sure_behind before actor call d most_steps_alone sure) spare (tries_first call)
       (subst (λ h. slots_of call ≤ length h.free)
-      (sym (ap (λ (s : State). s.heap) (led_so before actor call d) ∙ begin_heap (state_of before) actor call (begun_operation (state_of before) call))) free)
+      (sym (ap (λ (s : State). s.heap) (led_so before actor call d) ∙ begin_heap (state_of before) actor call (begun_operation (state_of before) call None))) free)
 
-  spares_by : (after : Taken) (denial : Option Refusal) → begin_denial (state_of before) actor call ≡ denial → CompletesUnless denial (Ok (Some NoSlots)) before actor call after → ⊥
+  spares_by : (after : Taken) (denial : Option Refusal) → begin_denial (state_of before) actor call None ≡ denial → CompletesUnless denial (Ok (Some NoSlots)) before actor call after → ⊥
   spares_by after (Some why) d c = cc c.0
   spares_by after None d (inl memory) = cc memory.0
   spares_by after None d (inr goes) = spared_behind d go_limit after goes
 
   pub spares : (after : Taken) (result : Result (Option Reply) Refusal) → Completes result before actor call after → result ≢ Ok (Some NoSlots)
-  spares after result c is = spares_by after (begin_denial (state_of before) actor call) refl (subst (λ r. Completes r before actor call after) is c)
+  spares after result c is = spares_by after (begin_denial (state_of before) actor call None) refl (subst (λ r. Completes r before actor call after) is c)
 
 -- ---- a step of it
 

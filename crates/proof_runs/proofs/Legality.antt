@@ -89,38 +89,38 @@ module _ (machine : Taken) (explained : IsExplained (bounded machine.limits) (st
 
 -- ---- a call that runs alone
 
-taken_begin : (state : State) (actor : ℕ) (call : Call) (denial : Option Refusal) → denial ≡ None → (o : _) × (after : State) × (begin_unless state actor call denial ≡ Ok (o, after))
+taken_begin : (state : State) (actor : ℕ) (call : Call) (denial : Option Refusal) → denial ≡ None → (o : _) × (after : State) × (begin_unless state actor call None denial ≡ Ok (o, after))
 taken_begin state actor call None e = (_, _, refl)
 taken_begin state actor call (Some refusal) e = cc e
 
-denied_begin : (state : State) (actor : ℕ) (call : Call) (denial : Option Refusal) (why : Refusal) → denial ≡ Some why → begin_unless state actor call denial ≡ Err why
+denied_begin : (state : State) (actor : ℕ) (call : Call) (denial : Option Refusal) (why : Refusal) → denial ≡ Some why → begin_unless state actor call None denial ≡ Err why
 denied_begin state actor call None why e = cc e
 denied_begin state actor call (Some refusal) why e = ap Err (same_Some refusal why e)
 
 module _ (before after : Taken) (actor : ℕ) (call : Call) (rest : is_busy (state_of before) ≡ false) where
   abbrev middle : Taken
-  middle = with_step before (step.Begin actor call)
+  middle = with_step before (step.Begin actor call None)
 
   -- behind a begin that was denied nothing is answered
-  not_denied : (n : ℕ) (answer : Reply) (why : Refusal) → begin_denial (state_of before) actor call ≡ Some why → going_on n actor middle ≡ (Ok (Some answer), after) → ⊥
+  not_denied : (n : ℕ) (answer : Reply) (why : Refusal) → begin_denial (state_of before) actor call None ≡ Some why → going_on n actor middle ≡ (Ok (Some answer), after) → ⊥
   unfolding next
   not_denied n answer why d goes =
-      let denied : next (state_of before) (step.Begin actor call) ≡ Err why = denied_begin (state_of before) actor call (begin_denial (state_of before) actor call) why d in
-      let same : state_of middle ≡ state_of before = run_push (first_state (bounded before.limits)) before.steps (step.Begin actor call) ∙ ap (state_after (state_of before)) denied in
+      let denied : next (state_of before) (step.Begin actor call None) ≡ Err why = denied_begin (state_of before) actor call (begin_denial (state_of before) actor call None) why d in
+      let same : state_of middle ≡ state_of before = run_push (first_state (bounded before.limits)) before.steps (step.Begin actor call None) ∙ ap (state_after (state_of before)) denied in
       unanswered_at_rest n actor middle after answer (subst (λ s. is_busy s ≡ false) (sym same) rest) goes
 
   -- so it was taken
-  begin_by : (n : ℕ) (answer : Reply) (denial : Option Refusal) → begin_denial (state_of before) actor call ≡ denial → going_on n actor middle ≡ (Ok (Some answer), after) →
-      (o : Outcome) × (state : State) × (next (state_of before) (step.Begin actor call) ≡ Ok (o, state))
+  begin_by : (n : ℕ) (answer : Reply) (denial : Option Refusal) → begin_denial (state_of before) actor call None ≡ denial → going_on n actor middle ≡ (Ok (Some answer), after) →
+      (o : Outcome) × (state : State) × (next (state_of before) (step.Begin actor call None) ≡ Ok (o, state))
   unfolding next
-  begin_by n answer None d goes = taken_begin (state_of before) actor call (begin_denial (state_of before) actor call) d
+  begin_by n answer None d goes = taken_begin (state_of before) actor call (begin_denial (state_of before) actor call None) d
   begin_by n answer (Some why) d goes = absurd (not_denied n answer why d goes)
 
   rests_behind : (n : ℕ) (answer : Reply) → going_on n actor middle ≡ (Ok (Some answer), after) → is_busy (state_of after) ≡ false
   rests_behind n answer goes =
-      let (o, state, taken) = begin_by n answer (begin_denial (state_of before) actor call) refl goes in
-      let only = still_only actor (state_of before) (step.Begin actor call) o state taken refl (only_at_rest (state_of before) rest actor) in
-      leads_to_rest n actor middle after answer (subst (OnlyRuns actor) (sym (stepped before (step.Begin actor call) o state taken)) only) goes
+      let (o, state, taken) = begin_by n answer (begin_denial (state_of before) actor call None) refl goes in
+      let only = still_only actor (state_of before) (step.Begin actor call None) o state taken refl (only_at_rest (state_of before) rest actor) in
+      leads_to_rest n actor middle after answer (subst (OnlyRuns actor) (sym (stepped before (step.Begin actor call None) o state taken)) only) goes
 
   -- what went on before an answer leads to it too
   goes_further : (n k : ℕ) (machine : Taken) (answer : Reply) → going_on n actor middle ≡ (Ok None, machine) → going_on k actor machine ≡ (Ok (Some answer), after) →
@@ -133,7 +133,7 @@ module _ (before after : Taken) (actor : ℕ) (call : Call) (rest : is_busy (sta
   completed_by None answer (inr goes) = goes
 
   pub rests : (result : Result (Option Reply) Refusal) → Completes result before actor call after → RestsIfAnswered result after
-  rests (Ok (Some answer)) c = rests_behind go_limit answer (completed_by (begin_denial (state_of before) actor call) answer c)
+  rests (Ok (Some answer)) c = rests_behind go_limit answer (completed_by (begin_denial (state_of before) actor call None) answer c)
   rests (Ok None) c = tt
   rests (Err why) c = tt
 
@@ -151,11 +151,11 @@ module _ (before after : Taken) (actor : ℕ) (call : Call) (rest : is_busy (sta
 
     acted_behind : (n : ℕ) (answer : Reply) → going_on n actor middle ≡ (Ok (Some answer), after) → ActedAlone (Ok (Some answer)) before actor call after
     acted_behind n answer goes =
-        let (o, state, taken) = begin_by n answer (begin_denial (state_of before) actor call) refl goes in
+        let (o, state, taken) = begin_by n answer (begin_denial (state_of before) actor call None) refl goes in
         acted_by answer (tells n before after actor call answer goes o state taken)
 
     pub acted : (result : Result (Option Reply) Refusal) → Completes result before actor call after → ActedAlone result before actor call after
-    acted (Ok (Some answer)) c = acted_behind go_limit answer (completed_by (begin_denial (state_of before) actor call) answer c)
+    acted (Ok (Some answer)) c = acted_behind go_limit answer (completed_by (begin_denial (state_of before) actor call None) answer c)
     acted (Ok None) c = tt
     acted (Err why) c = tt
 
@@ -177,24 +177,24 @@ module _ (before machine after : Taken) (actor : ℕ) (call : Call) (went : Went
   acted_again law sizes keys (Err why) goes = tt
 
   -- the steps before it are some of those behind it
-  more : (k : ℕ) (answer : Reply) → going_on k actor machine ≡ (Ok (Some answer), after) → HasMore (with_step before (step.Begin actor call)) after
+  more : (k : ℕ) (answer : Reply) → going_on k actor machine ≡ (Ok (Some answer), after) → HasMore (with_step before (step.Begin actor call None)) after
   more k answer goes =
-      has_more (went.1.0 + k) actor (with_step before (step.Begin actor call)) after (Ok (Some answer)) (goes_further before after actor call went.0 went.1.0 k machine answer went.1.1 goes)
+      has_more (went.1.0 + k) actor (with_step before (step.Begin actor call None)) after (Ok (Some answer)) (goes_further before after actor call went.0 went.1.0 k machine answer went.1.1 goes)
 
   spared_by : (law : EachStepLeadsToItsEnd) (closes : ClosesEnd) (spare : EnoughForCall) → AreLimits after.limits → KeysFit after.steps → IsSure (state_of before) call (1 + most_steps_alone) →
       slots_of call ≤ length (state_of before).heap.free → going_on go_limit actor machine ≡ (Ok (Some NoSlots), after) → (denial : Option Refusal) →
-      begin_denial (state_of before) actor call ≡ denial → ⊥
+      begin_denial (state_of before) actor call None ≡ denial → ⊥
   spared_by law closes spare sizes keys sure free goes (Some why) d =
       not_denied before after actor call went.0 (went.1.0 + go_limit) NoSlots why d (goes_further before after actor call went.0 went.1.0 go_limit machine NoSlots went.1.1 goes)
   spared_by law closes spare sizes keys sure free goes None d =
       let h = more go_limit NoSlots goes in
-      let fit = fit_in_front (before.steps ++ step.Begin actor call ∷ []) h.more (subst KeysFit h.steps keys) in
-      spared_behind law closes spare before actor call (subst AreLimits h.limits sizes) (fit_in_front before.steps (step.Begin actor call ∷ []) fit)
-      (All-contains FitsKey (before.steps ++ step.Begin actor call ∷ []) (step.Begin actor call) fit (Contains-push before.steps (step.Begin actor call))) sure free d (went.1.0 + go_limit) after
+      let fit = fit_in_front (before.steps ++ step.Begin actor call None ∷ []) h.more (subst KeysFit h.steps keys) in
+      spared_behind law closes spare before actor call (subst AreLimits h.limits sizes) (fit_in_front before.steps (step.Begin actor call None ∷ []) fit)
+      (All-contains FitsKey (before.steps ++ step.Begin actor call None ∷ []) (step.Begin actor call None) fit (Contains-push before.steps (step.Begin actor call None))) sure free d (went.1.0 + go_limit) after
       (goes_further before after actor call went.0 went.1.0 go_limit machine NoSlots went.1.1 goes)
 
   pub spares_again : EachStepLeadsToItsEnd → ClosesEnd → EnoughForCall → AreLimits after.limits → KeysFit after.steps → (result : Result (Option Reply) Refusal) →
       Resumes result machine actor after →
       IsSpared before call result
   spares_again law closes spare sizes keys result goes sure free is =
-      spared_by law closes spare sizes keys sure free (subst (λ r. Resumes r machine actor after) is goes) (begin_denial (state_of before) actor call) refl
+      spared_by law closes spare sizes keys sure free (subst (λ r. Resumes r machine actor after) is goes) (begin_denial (state_of before) actor call None) refl

@@ -80,7 +80,7 @@ GoesTo n actor =
 by_move : (n actor : ℕ) (m : Taken) (s : Step) (o : Outcome) (state : State) → next (state_of m) s ≡ Ok (o, state) → s ≡ step.Go actor → Moves (state_of m) s o state →
     GoesTo n actor → (after : Taken) (answer : Reply) (operation : Operation) → operation_of (state_of m) actor ≡ Some operation →
     after_outcome (going_on n actor) (with_step m (step.Go actor)) o ≡ (Ok (Some answer), after) → Led m after (End operation.id answer ∷ [])
-by_move n actor m s o state e is (Begins {actor = who} {call} d) rest after answer operation runs goes = cc is
+by_move n actor m s o state e is (Begins {actor = who} {call} {number} d) rest after answer operation runs goes = cc is
 by_move n actor m s o state e is (GivesUp d found a) rest after answer operation runs goes = cc is
 by_move n actor m s o state e is (Sweeps d) rest after answer operation runs goes = cc is
 by_move n actor m s o state e is (Goes {actor = who} {operation = own} {action} d found a g) rest after answer operation runs goes =
@@ -141,20 +141,20 @@ begun_runs state after past now actor call opens before books told =
     get_at_end (y ∷ xs) x = get_at_end xs x
 
 -- so it tells these two
-pub tells : (n : ℕ) (before after : Taken) (actor : ℕ) (call : Call) (answer : Reply) → going_on n actor (with_step before (step.Begin actor call)) ≡ (Ok (Some answer), after) →
-    (o : Outcome) (state : State) → next (state_of before) (step.Begin actor call) ≡ Ok (o, state) → Tells before after actor call answer
+pub tells : (n : ℕ) (before after : Taken) (actor : ℕ) (call : Call) (answer : Reply) → going_on n actor (with_step before (step.Begin actor call None)) ≡ (Ok (Some answer), after) →
+    (o : Outcome) (state : State) → next (state_of before) (step.Begin actor call None) ≡ Ok (o, state) → Tells before after actor call answer
 tells n before after actor call answer goes o state e =
-    let middle = with_step before (step.Begin actor call) in
+    let middle = with_step before (step.Begin actor call None) in
     let id = (state_of before).begun in
-    let opens = (begun_operation (state_of before) call).opens in
+    let opens = (begun_operation (state_of before) call None).opens in
     let told : (past_of middle).events ≡ (past_of before).events ++ Begin id actor call opens ∷ [] =
-    ap (λ (r : Record). r.events) (noted_step before (step.Begin actor call) o state e) in
+    ap (λ (r : Record). r.events) (noted_step before (step.Begin actor call None) o state e) in
     let (operation, runs, same) =
     begun_runs (state_of before) (state_of middle) (past_of before) (past_of middle) actor call opens (books_of (bounded before.limits) before.steps)
     (books_of (bounded middle.limits) middle.steps) told in
     record {
       id = id;
       opens = opens;
-      led = led_on before middle after (step.Begin actor call) (Begin id actor call opens ∷ []) (End id answer ∷ []) refl told
+      led = led_on before middle after (step.Begin actor call None) (Begin id actor call opens ∷ []) (End id answer ∷ []) refl told
           (subst (λ id. Led middle after (End id answer ∷ [])) same (told_going n actor middle after answer operation runs goes));
     }

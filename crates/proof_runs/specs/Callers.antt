@@ -44,10 +44,10 @@ Resumes result before actor after = going_on go_limit actor before ≡ (result, 
 abbrev pub CompletesUnless : Option Refusal → Result (Option Reply) Refusal → Taken → ℕ → Call → Taken → Type 0
 CompletesUnless (Some refusal) result before actor call after = (result ≡ Err refusal) × (after ≡ before)
 CompletesUnless None result before actor call after =
-    ((result ≡ Err Memory) × (after ≡ before)) ⊎ Resumes result (with_step before (Begin actor call)) actor after
+    ((result ≡ Err Memory) × (after ≡ before)) ⊎ Resumes result (with_step before (Begin actor call None)) actor after
 
 abbrev pub Completes : Result (Option Reply) Refusal → Taken → ℕ → Call → Taken → Type 0
-Completes result before actor call after = CompletesUnless (denial_of (state_of before) (Begin actor call)) result before actor call after
+Completes result before actor call after = CompletesUnless (denial_of (state_of before) (Begin actor call None)) result before actor call after
 
 -- so many steps of the sweep
 unfoldable pub swept : ℕ → Taken → Taken

@@ -18,7 +18,7 @@ IsAnswer denial (Err refusal) = (denial ≡ Some refusal) ⊎ (refusal ≡ Memor
 
 -- a call that is sure to end is answered, where its begin and the most steps that it takes alone are left
 abbrev pub CompletesIfSure : Taken → ℕ → Call → Result (Option Reply) Refusal → Type 0
-CompletesIfSure machine actor call result = IsSure (state_of machine) call (1 + most_steps_alone) → IsAnswer (begin_denial (state_of machine) actor call) result
+CompletesIfSure machine actor call result = IsSure (state_of machine) call (1 + most_steps_alone) → IsAnswer (begin_denial (state_of machine) actor call None) result
 
 -- the same of the operation that the actor runs, without a begin
 abbrev pub ResumesIfSure : Taken → ℕ → Result (Option Reply) Refusal → Type 0

@@ -47,7 +47,7 @@ ActedAlone result before actor call after = Unit {0}
 
 -- the call began where the earlier machine was at rest, and since then only its actor has taken steps, which haven't ended it
 abbrev pub WentAlone : Taken → ℕ → Call → Taken → Type 0
-WentAlone before actor call machine = (is_busy (state_of before) ≡ false) × ((n : ℕ) × (going_on n actor (with_step before (Begin actor call)) ≡ (Ok None, machine)))
+WentAlone before actor call machine = (is_busy (state_of before) ≡ false) × ((n : ℕ) × (going_on n actor (with_step before (Begin actor call None)) ≡ (Ok None, machine)))
 
 -- where there is an answer, nothing runs any more
 abbrev pub RestsIfAnswered : Result (Option Reply) Refusal → Taken → Type 0

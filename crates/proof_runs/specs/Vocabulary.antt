@@ -31,7 +31,7 @@ pub use Rattle.proof_runs.specs.Beneath.machine_model.specs.Laws.{FindsNoSlot}
 pub use Rattle.proof_runs.specs.Beneath.machine_model.specs.Limits.{AreLimits, bounded}
 pub use Rattle.proof_runs.specs.Beneath.machine_model.specs.Lines.{new_try}
 pub use Rattle.proof_runs.specs.Beneath.machine_model.specs.Machine.{Answer, AreBounds, access_of, begin_denial, begin_unless, begun_operation, denial_of, go_denial, go_on, go_unless, is_access}
-pub use Rattle.proof_runs.specs.Beneath.machine_model.specs.Machine.{is_actor, is_busy, is_spent, is_taken_step, longest_life, next_state, run, state_after, with_begin}
+pub use Rattle.proof_runs.specs.Beneath.machine_model.specs.Machine.{is_actor, is_busy, is_spent, is_taken_step, longest_life, most_actors, next_state, run, state_after, with_begin}
 unfoldable pub use Rattle.proof_runs.specs.Beneath.machine_model.specs.Machine.{next}
 pub use Rattle.proof_runs.specs.Beneath.machine_model.specs.Moves.{Begins, Ends, GivesUp, Moves, MovesIfTaken, Sweeps}
 pub use Rattle.proof_runs.specs.Beneath.machine_model.specs.Operations.{action_of, completing_read, line_action, read_of, rooting_read, swapping_read}

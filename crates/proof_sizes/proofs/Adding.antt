@@ -111,7 +111,7 @@ module _ (limits : Bounds) (states : ℕ → State) (steps : ℕ → Step) (last
 
   -- ---- from rest a call alone
 
-  module _ (start actor : ℕ) (call : Call) (more : start < last) (rest : is_busy (states start) ≡ false) (begins : steps start ≡ step.Begin actor call)
+  module _ (start actor : ℕ) (call : Call) (more : start < last) (rest : is_busy (states start) ≡ false) (begins : steps start ≡ step.Begin actor call None)
       (goes : (u : ℕ) → start < u → u < last → steps u ≡ step.Go actor) (answer : Reply) (ended : HasEnded (run.records last).events (states start).begun answer) where
     abbrev id : ℕ
     id = (states start).begun
@@ -139,14 +139,14 @@ module _ (limits : Bounds) (states : ℕ → State) (steps : ℕ → Step) (last
         next = omega arith
 
         by : Comes (states start) (steps start) k operation → IsCalls k operation
-        by (began other s d it) =
-            let same : step.Begin (suc k) other ≡ step.Begin actor call = sym s ∙ begins in
+        by (began other number s d it) =
+            let same : step.Begin (suc k) other number ≡ step.Begin actor call None = sym s ∙ begins in
             let whose : suc k ≡ actor = cc in
             let what : other ≡ call = cc in
             record { actor_is = whose; id_is = ap (λ (x : Operation). x.id) it; call_is = ap (λ (x : Operation). x.call) it ∙ what }
         by (rested was at_k it other_step) = absurd (none_at (states start).actors rest k was at_k)
-        by (went was s at_k g it) = absurd (let bad : step.Begin actor call ≡ step.Go (suc k) = sym begins ∙ s in cc)
-        by (gave was answer s at_k may it) = absurd (let bad : step.Begin actor call ≡ step.GiveUp (suc k) = sym begins ∙ s in cc)
+        by (went was s at_k g it) = absurd (let bad : step.Begin actor call None ≡ step.Go (suc k) = sym begins ∙ s in cc)
+        by (gave was answer s at_k may it) = absurd (let bad : step.Begin actor call None ≡ step.GiveUp (suc k) = sym begins ∙ s in cc)
     only_calls (suc d) within k operation runs =
         by (only_calls d (omega (arith, within)))
         (comes (states (start + suc d)) (steps (start + suc d)) (takes (start + suc d) (omega (arith, within))).0 (states (suc (start + suc d)))
@@ -161,7 +161,7 @@ module _ (limits : Bounds) (states : ℕ → State) (steps : ℕ → Step) (last
 
         by : ((k : ℕ) (operation : Operation) → Runs (states (start + suc d)) k operation → IsCalls k operation) →
             Comes (states (start + suc d)) (steps (start + suc d)) k operation → IsCalls k operation
-        by before (began other s denied it) = absurd (let bad : step.Go actor ≡ step.Begin (suc k) other = sym its ∙ s in cc)
+        by before (began other number s denied it) = absurd (let bad : step.Go actor ≡ step.Begin (suc k) other number = sym its ∙ s in cc)
         by before (rested was at_k it other_step) = marked_calls k (marks_in (states (start + suc d)) (steps (start + suc d))) was operation it (before k was at_k)
         by before (went was s at_k g it) =
             let c = before k was at_k in

@@ -17,7 +17,7 @@ use Rattle.proof_sizes.proofs.Steps.{AddsKey, Copies, opened_no_larger, steps_gr
 
 module _ (limits : Bounds) (states : ℕ → State) (steps : ℕ → Step) (last : ℕ) (run : IsRun limits states last) (takes : TakesSteps states steps last) (keys : StepsFit steps last)
     (notes : (u : ℕ) → u < last → Notes states run.records u (steps u)) (start actor : ℕ) (call : Call) (more : start < last) (rest : is_busy (states start) ≡ false)
-    (begins : steps start ≡ step.Begin actor call) (goes : (u : ℕ) → start < u → u < last → steps u ≡ step.Go actor) (answer : Reply)
+    (begins : steps start ≡ step.Begin actor call None) (goes : (u : ℕ) → start < u → u < last → steps u ≡ step.Go actor) (answer : Reply)
     (ended : HasEnded (run.records last).events (states start).begun answer) where
   abbrev id : ℕ
   id = (states start).begun
@@ -141,13 +141,13 @@ module _ (limits : Bounds) (states : ℕ → State) (steps : ℕ → Step) (last
             by_step : (now : Root) → HandleStep limits states last run u lt (steps u) o m (notes u lt) handle now → call ≡ Close handle
             by_step now (keeps stands) = absurd (none-some stands.root (sym gone ∙ stands.is_open))
             by_step now (changes_root offer carries was stands) = absurd (none-some stands.root (sym gone ∙ stands.is_open))
-            by_step now (is_closed closer e shut) = by_time (cases_lt start u)
+            by_step now (is_closed closer number e shut) = by_time (cases_lt start u)
               where
                 by_time : (start < u) ⊎ (u ≤ start) → call ≡ Close handle
-                by_time (inl later) = absurd (let bad : step.Go actor ≡ step.Begin closer (Close handle) = sym (goes u later lt) ∙ e in cc)
+                by_time (inl later) = absurd (let bad : step.Go actor ≡ step.Begin closer (Close handle) number = sym (goes u later lt) ∙ e in cc)
                 by_time (inr at_first) =
                     let is : u ≡ start = omega (arith, at_first, past) in
-                    let same : step.Begin actor call ≡ step.Begin closer (Close handle) = sym begins ∙ ap steps (sym is) ∙ e in
+                    let same : step.Begin actor call None ≡ step.Begin closer (Close handle) number = sym begins ∙ ap steps (sym is) ∙ e in
                     cc
 
             by : (now : Option Root) → root_at (states u) handle ≡ now → call ≡ Close handle

@@ -117,29 +117,29 @@ module _ (limits : Bounds) (steps : List Step) (ok : AreBounds limits) (keys : K
           ap (λ j. is_taken_step (next (there limits steps actor call j) (step.Go actor))) is
           ∙ ap (λ s. is_taken_step (next s (step.Go actor))) (is_there limits steps actor call n h.last h.goes) ∙ ap is_taken_step h.ends
 
-  begins_taken : taken_steps limits first_steps ≡ taken_steps limits steps ++ step.Begin actor call ∷ []
+  begins_taken : taken_steps limits first_steps ≡ taken_steps limits steps ++ step.Begin actor call None ∷ []
   unfolding taken_from
   begins_taken =
-      taken-append (first_state limits) steps (step.Begin actor call ∷ [])
-      ∙ ap (λ l. taken_steps limits steps ++ l) (ap (λ a. cond (is_taken_step a) (step.Begin actor call ∷ []) []) (first_step limits steps ok keys actor call can))
+      taken-append (first_state limits) steps (step.Begin actor call None ∷ [])
+      ∙ ap (λ l. taken_steps limits steps ++ l) (ap (λ a. cond (is_taken_step a) (step.Begin actor call None ∷ []) []) (first_step limits steps ok keys actor call can))
 
   first_last : last_of limits first_steps ≡ suc start
-  first_last = ap length begins_taken ∙ length-append (taken_steps limits steps) (step.Begin actor call ∷ []) ∙ omega arith
+  first_last = ap length begins_taken ∙ length-append (taken_steps limits steps) (step.Begin actor call None ∷ []) ∙ omega arith
 
   last_is : last ≡ suc start + suc n
   last_is = last_all limits first_steps actor (suc n) each_taken ∙ omega (arith, first_last)
 
-  all_taken : taken_steps limits all ≡ (taken_steps limits steps ++ step.Begin actor call ∷ []) ++ taken_from (run limits first_steps) (replicate (suc n) (step.Go actor))
+  all_taken : taken_steps limits all ≡ (taken_steps limits steps ++ step.Begin actor call None ∷ []) ++ taken_from (run limits first_steps) (replicate (suc n) (step.Go actor))
   all_taken =
       taken-append (first_state limits) first_steps (replicate (suc n) (step.Go actor))
       ∙ ap (λ l. l ++ taken_from (run limits first_steps) (replicate (suc n) (step.Go actor))) begins_taken
 
-  begins_at : steps_of limits all start ≡ step.Begin actor call
+  begins_at : steps_of limits all start ≡ step.Begin actor call None
   begins_at =
-      let short : start < length (taken_steps limits steps ++ step.Begin actor call ∷ []) = omega (arith, length-append (taken_steps limits steps) (step.Begin actor call ∷ [])) in
+      let short : start < length (taken_steps limits steps ++ step.Begin actor call None ∷ []) = omega (arith, length-append (taken_steps limits steps) (step.Begin actor call None ∷ [])) in
       ap (λ l. get_or l start step.Sweep) all_taken
-      ∙ get_or_append_left (taken_steps limits steps ++ step.Begin actor call ∷ []) (taken_from (run limits first_steps) (replicate (suc n) (step.Go actor))) step.Sweep start short
-      ∙ same_Some _ _ (sym (got (taken_steps limits steps ++ step.Begin actor call ∷ []) start step.Sweep short) ∙ at_push (taken_steps limits steps) (step.Begin actor call) start refl)
+      ∙ get_or_append_left (taken_steps limits steps ++ step.Begin actor call None ∷ []) (taken_from (run limits first_steps) (replicate (suc n) (step.Go actor))) step.Sweep start short
+      ∙ same_Some _ _ (sym (got (taken_steps limits steps ++ step.Begin actor call None ∷ []) start step.Sweep short) ∙ at_push (taken_steps limits steps) (step.Begin actor call None) start refl)
 
   goes_at : (u : ℕ) → start < u → u < last → steps_of limits all u ≡ step.Go actor
   goes_at u later lt = step_at limits first_steps actor (suc n) each_taken u (omega (arith, later, first_last)) lt
@@ -149,7 +149,7 @@ module _ (limits : Bounds) (steps : List Step) (ok : AreBounds limits) (keys : K
   before_is : states_of limits all start ≡ run limits steps
   before_is =
       states_of-append limits first_steps (replicate (suc n) (step.Go actor)) start (omega (arith, first_last))
-      ∙ states_of-append limits steps (step.Begin actor call ∷ []) start (omega arith) ∙ run_ends limits steps
+      ∙ states_of-append limits steps (step.Begin actor call None ∷ []) start (omega arith) ∙ run_ends limits steps
 
   after_is : states_of limits all last ≡ after
   after_is = run_ends limits all ∙ end_is_there limits steps actor call n h.last answer after h.goes h.ends

@@ -131,7 +131,7 @@ module _ (limits : Bounds) (states : ℕ → State) (steps : ℕ → Step) (last
 
 module _ (limits : Bounds) (states : ℕ → State) (steps : ℕ → Step) (last : ℕ) (run : IsRun limits states last) (takes : TakesSteps states steps last) (keys : StepsFit steps last)
     (notes : (u : ℕ) → u < last → Notes states run.records u (steps u)) (start actor : ℕ) (call : Call) (more : start < last) (rest : is_busy (states start) ≡ false)
-    (begins : steps start ≡ step.Begin actor call) (goes : (u : ℕ) → start < u → u < last → steps u ≡ step.Go actor) (answer : Reply)
+    (begins : steps start ≡ step.Begin actor call None) (goes : (u : ℕ) → start < u → u < last → steps u ≡ step.Go actor) (answer : Reply)
     (ended : HasEnded (run.records last).events (states start).begun answer) where
   abbrev gen : Ref → ℕ
   gen r = generation_of (node_under states last r)
@@ -166,13 +166,13 @@ module _ (limits : Bounds) (states : ℕ → State) (steps : ℕ → Step) (last
             let brought = brings limits states steps u r t k (steps u) (takes u lt).0 (takes u lt).1 (notes u lt) (handle_of call) offer carries in
             let its = mine u past (omega (arith, lt)) calls.actor calls.operation calls.runs in
             absurd (false≢true (sym (brings_inserts states (suc u) u (handle_of call) offer _ brought) ∙ ap inserts (sym calls.calls ∙ its.1) ∙ inserting))
-        by (is_closed closer e gone) = by_time (cases_lt start u)
+        by (is_closed closer number e gone) = by_time (cases_lt start u)
           where
             by_time : (start < u) ⊎ (u ≤ start) → StandsOn (suc u) g
-            by_time (inl later) = absurd (let bad : step.Go actor ≡ step.Begin closer (Close (handle_of call)) = sym (goes u later lt) ∙ e in cc)
+            by_time (inl later) = absurd (let bad : step.Go actor ≡ step.Begin closer (Close (handle_of call)) number = sym (goes u later lt) ∙ e in cc)
             by_time (inr at_first) =
                 let is : u ≡ start = omega (arith, at_first, past) in
-                let same : step.Begin actor call ≡ step.Begin closer (Close (handle_of call)) = sym begins ∙ ap steps (sym is) ∙ e in
+                let same : step.Begin actor call None ≡ step.Begin closer (Close (handle_of call)) number = sym begins ∙ ap steps (sym is) ∙ e in
                 let closes : call ≡ Close (handle_of call) = cc in
                 absurd (false≢true (sym (ap inserts closes) ∙ inserting))
 

@@ -333,7 +333,7 @@ sweep_keeps limits states steps t run takes keys s o m notes sweeps handle root 
     by : MainStep limits states run.records (suc t) (assigned_at states (suc t)) t s → HandleStep limits states (suc t) run t (omega arith) s o m notes handle root →
         (now : Root) × (root_at (states (suc t)) handle ≡ Some now) × (nodes_of (states (suc t)) handle ≡ nodes_of (states t) handle)
     by (changes own) step_is = absurd (let bad : Sweep ≡ Go own.taker = sym sweeps ∙ own.takes in cc)
-    by (stays none same) (is_closed actor e gone) = absurd (let bad : Sweep ≡ Begin actor (Close handle) = sym sweeps ∙ e in cc)
+    by (stays none same) (is_closed actor e gone) = absurd (let bad : Sweep ≡ Begin actor (Close handle) None = sym sweeps ∙ e in cc)
     by (stays none same) (changes_root offer carries was stands) =
         absurd (let bad : Sweep ≡ Go carries.0 = sym sweeps ∙ carries.3 in cc)
     by (stays none same) (keeps stands) = (

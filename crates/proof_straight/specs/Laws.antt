@@ -134,6 +134,6 @@ ClearsStraight =
 -- a close
 abbrev pub ClosesStraight : Type 0
 ClosesStraight =
-    (state : State) (past : Record) (actor handle : ℕ) → IsAtRest state → begin_denial state actor (call.Close handle) ≡ None → IsRecordOf state past → LastsFor state 0 →
+    (state : State) (past : Record) (actor handle : ℕ) → IsAtRest state → begin_denial state actor (call.Close handle) None ≡ None → IsRecordOf state past → LastsFor state 0 →
     ComesTo state past actor (call.Close handle) 0 reply.Closed (after_call (closed state handle).base (closed state handle).draft 2)
     (closed_record past state actor (call.Close handle) reply.Closed)

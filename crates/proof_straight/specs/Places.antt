@@ -1,5 +1,5 @@
 -- Where a call on one key comes to, on a way that needs no repair.
-use Rattle.std.specs.Prelude.{◌≡◌, ℕ, zero, suc, ◌+◌, ◌*◌, ◌-◌, ◌<◌, ◌≤◌, ◌==◌, true, false, nat_eq, length, Some}
+use Rattle.std.specs.Prelude.{None, ◌≡◌, ℕ, zero, suc, ◌+◌, ◌*◌, ◌-◌, ◌<◌, ◌≤◌, ◌==◌, true, false, nat_eq, length, Some}
 use Rattle.std.specs.Option.{option_eq}
 use Rattle.proof_straight.specs.Vocabulary.{position_of, Access, Call, Ref, Node, Indirection, Branch, Single, List as Listed, Heap, node_at, main_at, prev_at, entry_at, generation_at, slot_of}
 use Rattle.proof_straight.specs.Vocabulary.{flag_of, has_flag, Site, key_of, passes, begun_operation, State, key_hash}
@@ -33,7 +33,7 @@ HasRoom node = Unit {0}
 module _ (state : State) (call : Call) (root : Ref) where
   -- the call comes to this indirection, of this depth
   abbrev pub ComesDown : ℕ → Ref → Type 0
-  ComesDown depth indirection = Leads state.heap (begun_operation state call).access (key_hash state (key_of call)) root depth indirection
+  ComesDown depth indirection = Leads state.heap (begun_operation state call None).access (key_hash state (key_of call)) root depth indirection
 
   -- the single of another key stands at this position of the indirection's main node
   abbrev pub IsOther : Ref → ℕ → Type 0
@@ -91,7 +91,7 @@ pub record StandsOver (state : State) (call : Call) (root : Ref) (depth : ℕ) (
   pub generation : ℕ
   pub word : Ref
   pub is : node_at state.heap (entry_for state.heap (key_hash state (key_of call)) depth above bitmap) ≡ Indirection generation word
-  pub passed : passes (begun_operation state call).access (option_eq nat_eq (Some (generation_at state.heap root)) (Some generation)) ≡ true
+  pub passed : passes (begun_operation state call None).access (option_eq nat_eq (Some (generation_at state.heap root)) (Some generation)) ≡ true
   -- they stand in two slots
   pub apart : slot_of above ≡ slot_of indirection → ⊥
 

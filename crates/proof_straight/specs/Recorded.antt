@@ -5,7 +5,7 @@ use Rattle.proof_straight.specs.Beneath.history.specs.declared.events.Event.TheV
 
 -- the call that begins in this state, once it has read this root, as the order knows it
 abbrev pub entrant_with : State → Call → Ref → Entrant
-entrant_with state call root = record { id = state.begun; access = (begun_operation state call).access; generation = Some (generation_at state.heap root) }
+entrant_with state call root = record { id = state.begun; access = (begun_operation state call None).access; generation = Some (generation_at state.heap root) }
 
 -- what is known of its READ of this main node, whose main word it read in this step
 abbrev pub moment_of : Record → (step : ℕ) → Ref → Moment
@@ -14,7 +14,7 @@ moment_of past step main = record { read_at = step; moment = max step (committed
 -- the call has begun, and this is known of its READs
 abbrev pub with_begun : Record → State → ℕ → Call → Moment → Record
 with_begun past state actor call m = record past {
-  events = past.events ++ event.Begin state.begun actor call (begun_operation state call).opens ∷ [];
+  events = past.events ++ event.Begin state.begun actor call (begun_operation state call None).opens ∷ [];
   moments = with_moment past actor m;
 }
 

@@ -8,7 +8,7 @@ use Rattle.machine_model.specs.declared.steps.Step.TheVariants as step
 
 -- The actor's call began in this state, and went on alone for so many steps to that one.
 pub data GoesOn (state : State) (actor : ℕ) (call : Call) : ℕ → State → Type 0 where
-  starts : {first : State} → next state (step.Begin actor call) ≡ Ok (outcome.Began state.begun, first) → GoesOn state actor call zero first
+  starts : {first : State} → next state (step.Begin actor call None) ≡ Ok (outcome.Began state.begun, first) → GoesOn state actor call zero first
   walks : {n : ℕ} {before after : State} {kind : Kind} → GoesOn state actor call n before → next before (step.Go actor) ≡ Ok (outcome.Went kind, after) →
       GoesOn state actor call (suc n) after
 
@@ -20,8 +20,8 @@ pub record Comes (state : State) (actor : ℕ) (call : Call) (n : ℕ) (answer :
 
 -- The same with what is recorded: where past was recorded before it, this is recorded by then.
 pub data GoesAlone (state : State) (past : Record) (actor : ℕ) (call : Call) : ℕ → State → Record → Type 0 where
-  begins : {first : State} → next state (step.Begin actor call) ≡ Ok (outcome.Began state.begun, first) →
-      GoesAlone state past actor call zero first (noted past state.steps (told_in state (step.Begin actor call)))
+  begins : {first : State} → next state (step.Begin actor call None) ≡ Ok (outcome.Began state.begun, first) →
+      GoesAlone state past actor call zero first (noted past state.steps (told_in state (step.Begin actor call None)))
   goes : {n : ℕ} {before after : State} {so_far : Record} {kind : Kind} → GoesAlone state past actor call n before so_far →
       next before (step.Go actor) ≡ Ok (outcome.Went kind, after) → GoesAlone state past actor call (suc n) after (noted so_far before.steps (told_in before (step.Go actor)))
 
@@ -67,7 +67,7 @@ IsKeyed other = ⊥
 -- the actor may call this, and no offer stands over this root of the call's handle
 pub record IsReady (state : State) (actor : ℕ) (call : Call) (root : Ref) : Type 0 where
   pub rests : IsAtRest state
-  pub allowed : begin_denial state actor call ≡ None
+  pub allowed : begin_denial state actor call None ≡ None
   pub word : word_at state (handle_of call) ≡ Plain root
 
 -- the record has a place for what each actor read, and the call that begins next has no place in the order
@@ -77,7 +77,7 @@ pub record IsRecordOf (state : State) (past : Record) : Type 0 where
 
 -- the steps of a call that goes on so many times between its begin and its end
 abbrev pub steps_of_call : ℕ → Call → ℕ → List Step
-steps_of_call actor c n = step.Begin actor c ∷ replicate (suc n) (step.Go actor)
+steps_of_call actor c n = step.Begin actor c None ∷ replicate (suc n) (step.Go actor)
 
 -- what a call comes to a run of its steps comes to
 abbrev pub ComesByRun : Type 0

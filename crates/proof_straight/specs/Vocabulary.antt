@@ -37,7 +37,7 @@ pub use Rattle.machine_model.specs.GivingUp.{gave_up}
 pub use Rattle.machine_model.specs.Keys.{KeysFit}
 pub use Rattle.machine_model.specs.Lines.{new_try}
 pub use Rattle.machine_model.specs.Machine.{Answer, AreBounds, access_of, begin_denial, begin_unless, begun_operation, first_reason, go_denial, go_on, go_unless, handles_taken, is_access, is_actor}
-pub use Rattle.machine_model.specs.Machine.{is_busy, is_running, is_taken_step, least_free, longest_life, run, runs_on, state_after, step_by, swept, with_begin}
+pub use Rattle.machine_model.specs.Machine.{is_busy, is_running, is_taken_step, least_free, longest_life, most_actors, run, runs_on, state_after, step_by, swept, with_begin}
 unfoldable pub use Rattle.machine_model.specs.Machine.{next, run_from}
 pub use Rattle.machine_model.specs.Moves.{Begins, Ends, GivesUp, GoesOn, Moves, Sweeps}
 pub use Rattle.machine_model.specs.Operations.{action_of, after_root, after_update, first_line, generation_after, given_root, kind_of, line_after, swapped}

@@ -52,4 +52,4 @@ pub record CarriesOutCall (state : State) (s : Step) (call : Call) (opens : Opti
 pub data Touches (state : State) (s : Step) (handle : ℕ) : Type 0 where
   updates : (i : Ref) (call : Call) (former : Option ℕ) → CommitsUpdate state s i call former → Reaches state handle i → Touches state s handle
   clears : (opens : Option ℕ) → CarriesOutCall state s (Clear handle) opens → Touches state s handle
-  closes : (actor : ℕ) → s ≡ step.Begin actor (Close handle) → Touches state s handle
+  closes : (actor : ℕ) (number : Option ℕ) → s ≡ step.Begin actor (Close handle) number → Touches state s handle

@@ -28,7 +28,7 @@ use Rattle.rdcss_root.specs.Tables.{Table, word_in}
 use Rattle.root_asking.specs.declared.asking.Asking.{Asking}
 use Rattle.root_asking.specs.declared.asking.Asking.TheVariants.{Unasked, Met, Told}
 use Rattle.root_asking.specs.Asked.{IsUntold, AsksOn, abort_of, asking_of, ask_action, asked_at, asked_read}
-use Rattle.root_asking.proofs.Embedding.{each_embeds}
+use Rattle.root_asking.specs.Beneath.machine_model.proofs.Embedding.{each_embeds, program_goes_on}
 
 -- what the READ of ABORT's step does
 pub same_action : (indirection main previous : Ref) (asking : Asking) → IsUntold asking → read_action indirection (asked_at main previous asking) ≡ ask_action asking
@@ -52,7 +52,7 @@ asks heap table handle before after k untold steps = λ state operation l indire
     let action = same_action indirection main previous before untold in
     let here = subst (λ n. read_after heap Writable (word_in table n) indirection at ≡ Goes (asked_at main previous after)) (sym same) step.1 in
     let goes = subst (λ a. read_after heap a (word_in table (handle_of operation.call)) indirection at ≡ Goes (asked_at main previous after)) (sym writable) here in
-    (embeds.embedded.acts there operation at ∙ action, ap kind_of (sym action) ∙ step.0, embeds.goes there operation at (asked_at main previous after) goes, embeds.embedded.reads at)
+    (embeds.embedded.acts there operation at ∙ action, ap kind_of (sym action) ∙ step.0, program_goes_on l _ embeds there operation at (asked_at main previous after) goes, embeds.embedded.reads at)
 
 pub goes_on : (heap : Heap) (table : Table) (handle : ℕ) (before : Asking) (after : AbortRead) (k : Kind) → IsUntold before →
     ((indirection main previous : Ref) → AbortsOn heap (word_in table handle) (abort_of before) after (More k) indirection main previous) → AsksOn heap table handle before (asking_of after) k

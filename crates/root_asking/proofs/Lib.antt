@@ -1,2 +1,1 @@
 pub mod Aborting
-pub mod Embedding

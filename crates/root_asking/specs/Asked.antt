@@ -19,7 +19,7 @@ use Rattle.rdcss_root.specs.declared.abort.AbortRead.TheVariants as abort
 use Rattle.rdcss_root.specs.Tables.{Table}
 use Rattle.root_asking.specs.declared.asking.Asking.{Asking}
 use Rattle.root_asking.specs.declared.asking.Asking.TheVariants.{Unasked, Met, Told}
-use Rattle.root_asking.specs.Inside.{with_read}
+use Rattle.root_asking.specs.Beneath.machine_model.specs.Reads.{with_read}
 
 abbrev pub IsUntold : Asking → Type 0
 IsUntold Unasked = Unit {0}

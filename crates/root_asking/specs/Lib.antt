@@ -1,3 +1,2 @@
 pub mod Beneath
 pub mod Asked
-pub mod Inside

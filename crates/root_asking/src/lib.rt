@@ -5,16 +5,14 @@
 //! It is the part of the Ctrie's RDCSS_READ by which a committer meets an offer: he takes the offer back and commits in the
 //! old generation, where a call that only wants the root completes it.
 //!
-//! In the definition these steps are lines of the READ, and so of the program in which it runs. `specs/Inside` says for all
-//! programs at once what it is that a READ runs in one (`Embeds`), `specs/Asked` on which line the program stands while its
-//! READ asks.
+//! In the definition these steps are lines of the READ, and so of the program in which it runs. `specs/Reads` of
+//! machine_model says for all programs at once what it is that a READ runs in one (`Embeds`), `specs/Asked` on which line
+//! the program stands while its READ asks.
 #![tactic(auto)]
 
 mod asking;
-mod laws;
 
 pub use asking::Asking;
-pub use laws::each_embeds;
 pub use rdcss_root::{
     Complete, Descriptor, Heap, MOST_ENTRIES, Next, Node, NodeRef, Offer, Read, ReadAt, ReadRoot,
     Ref, RootWord, Roots, Work, entries_at, generation_at, node_at, opened_root, renewed,

@@ -4,6 +4,7 @@ use Rattle.std.proofs.Common.{sym, ap, subst, ◌∙◌}
 use Rattle.std.proofs.lemmas.Option.{none-some, same_Some}
 use Rattle.running.specs.Vocabulary.{Kind, Access, Writable, ReadOnly, Ref, Heap, Action, Line, Operation, Read, ReadLine, CompleteLine, Descriptor, RootWord, Plain, Offer, attempt_after, handle_of}
 use Rattle.running.specs.Vocabulary.{generation_from, given_root, kind_of, line_action, line_after, read_of, rooting_read, State, word_at, committed_in, counts_from, given_in, root_after}
+use Rattle.running.specs.Vocabulary.{rooting_at, with_read}
 use Rattle.ctrie_base.specs.declared.kinds.Kind.TheVariants as kind
 use Rattle.running.specs.Beneath.epochs.specs.Memories.{Memory}
 use Rattle.running.specs.Beneath.machine_model.specs.declared.lines.Line.TheVariants as line
@@ -24,8 +25,7 @@ use Rattle.running.specs.Beneath.rdcss_root.specs.Programs.{table_after_abort}
 use Rattle.running.specs.Beneath.root_asking.specs.declared.asking.Asking.{Asking}
 use Rattle.running.specs.Beneath.root_asking.specs.declared.asking.Asking.TheVariants.{Unasked, Met, Told}
 use Rattle.running.specs.Beneath.root_asking.specs.Asked.{AsksOn, IsUntold, abort_of, ask_action, asked_at, asked_line, asked_read}
-use Rattle.running.specs.Beneath.root_asking.specs.Inside.{rooting_at, with_read}
-use Rattle.running.specs.Beneath.root_asking.proofs.Embedding.{each_embeds}
+use Rattle.running.specs.Beneath.machine_model.proofs.Embedding.{each_embeds}
 use Rattle.snapshot.specs.Tasks.{drawn_by, with_generation}
 use Rattle.snapshot.specs.declared.tasks.WalkCall.TheVariants.{Entries, Count}
 use Rattle.running.specs.declared.job.Job.{Job}

@@ -15,7 +15,7 @@ use Rattle.running.specs.Beneath.gcas.specs.declared.read.ReadAt.{ReadAt}
 use Rattle.running.specs.Beneath.gcas.specs.declared.read.ReadAt.TheVariants as at
 use Rattle.running.specs.Beneath.gcas.specs.Reads.{ReadsAlong, come_to, committed_so, given_so}
 use Rattle.running.specs.Beneath.trie_parts.specs.Steps.{Leads}
-use Rattle.running.specs.Beneath.root_asking.proofs.Embedding.{each_embeds}
+use Rattle.running.specs.Beneath.machine_model.proofs.Embedding.{each_embeds}
 use Rattle.snapshot.specs.Copies.{action_on}
 use Rattle.running.specs.Steps.{Takes, taken_in, taken_so}
 use Rattle.running.specs.Taking.{committed_if, counts_if, given_if, if_reading}

@@ -1,13 +1,12 @@
 -- Lines of the programs: what is told comes to them by their READ alone, and they swap no main node of their own.
 use Rattle.std.specs.Prelude.{◌≡◌, ℕ, List, Option, Some, None, refl}
-use Rattle.running.specs.Vocabulary.{Ref, Descriptor}
+use Rattle.running.specs.Vocabulary.{Ref, Descriptor, with_read}
 use Rattle.running.specs.Beneath.gcas.specs.declared.read.Read.{Read}
 use Rattle.running.specs.Beneath.gcas.specs.Reads.{line_of}
 use Rattle.running.specs.Beneath.trie_parts.specs.Steps.{IsAskingLine}
 use Rattle.running.specs.Beneath.rdcss_root.specs.declared.complete.CompleteAt.{CompleteAt}
 use Rattle.running.specs.Beneath.rdcss_root.specs.declared.complete.CompleteAt.TheVariants as complete
 use Rattle.running.specs.Beneath.rdcss_root.specs.declared.root.ReadRoot.TheVariants as rooting
-use Rattle.running.specs.Beneath.root_asking.specs.Inside.{with_read}
 use Rattle.snapshot.specs.declared.copy_op.Making.TheVariants as making
 use Rattle.snapshot.specs.declared.copy_op.CopyOp.{CopyOp as ACopyOp}
 use Rattle.snapshot.specs.declared.copy_op.CopyAt.{CopyAt}

@@ -1,6 +1,6 @@
 -- Where an operation of the code stands, as the definition's line.
 use Rattle.std.specs.Prelude.{◌≡◌, ℕ, slice_index_or, Bool, true, false, Option, Some, None}
-use Rattle.running.specs.Vocabulary.{Call, Reply, Line, Operation, ReadLine, Descriptor, impossible, walked_reply}
+use Rattle.running.specs.Vocabulary.{Call, Reply, Line, Operation, ReadLine, Descriptor, impossible, walked_reply, with_read}
 use Rattle.running.specs.Beneath.history.specs.declared.calls.Call.TheVariants as calls
 use Rattle.running.specs.Beneath.history.specs.declared.replies.Reply.TheVariants as reply
 use Rattle.running.specs.Beneath.machine_model.specs.declared.lines.Line.TheVariants as line
@@ -12,7 +12,6 @@ use Rattle.running.specs.Beneath.trie_parts.specs.Tasks.{call_of as key_call}
 use Rattle.running.specs.Beneath.rdcss_root.specs.Tables.{Table}
 use Rattle.running.specs.Beneath.root_asking.specs.declared.asking.Asking.{Asking}
 use Rattle.running.specs.Beneath.root_asking.specs.declared.asking.Asking.TheVariants.{Unasked, Met, Told}
-use Rattle.running.specs.Beneath.root_asking.specs.Inside.{with_read}
 use Rattle.operate.specs.Places.{key_line}
 use Rattle.operate.specs.Steps.{line_behind as line_answered, ReadsKey}
 use Rattle.snapshot.specs.declared.tasks.CopyCall.{CopyCall}

@@ -12,6 +12,7 @@ pub use Rattle.running.specs.Beneath.machine_model.specs.Calls.{handle_of}
 pub use Rattle.running.specs.Beneath.machine_model.specs.Lines.{impossible}
 pub use Rattle.running.specs.Beneath.machine_model.specs.Operations.{action_of, completing_read, generation_from, given_root, kind_of, line_action, line_after, read_of, rooting_read, swapping_read}
 pub use Rattle.running.specs.Beneath.machine_model.specs.Reading.{after_ask, at_indirection, read_action, read_after}
+pub use Rattle.running.specs.Beneath.machine_model.specs.Reads.{rooting_at, swapping_at, with_read}
 pub use Rattle.running.specs.Beneath.machine_model.specs.States.{State, word_at}
 pub use Rattle.running.specs.Beneath.machine_model.specs.Swapping.{action_at, complete_action_at, is_carried_out, is_plain, root_after, stands_in}
 pub use Rattle.running.specs.Beneath.machine_model.specs.Tellings.{carried_by, changer_for, committed_in, counts_from, given_by, given_in, progress_of, published_at, published_by}

@@ -34,7 +34,7 @@ abbrev told_behind : State → Record → Step → List Event
 told_behind state past s = (noted past state.steps (told_in state s)).events
 
 move_adds : (state : State) (past : Record) (s : Step) (o : Outcome) (after : State) → Moves state s o after → length (told_behind state past s) ≤ length past.events + 1
-move_adds state past s o after (Begins {actor} {call} d) = one_more past.events _ _ refl
+move_adds state past s o after (Begins {actor} {call} {number} d) = one_more past.events _ _ refl
 move_adds state past s o after (Goes {actor} {operation} {action} d is a g) = none_more past.events _ (ap (λ (r : Record). r.events) (noted_going state past actor operation action is a g))
 move_adds state past s o after (Ends {actor} {operation} {answer} d is a) = one_more past.events _ _ (end_event state past actor operation answer is a)
 move_adds state past s o after (GivesUp d is a) = none_more past.events _ refl
@@ -110,9 +110,9 @@ doing_adds state actor begins None =
 
 pub line_adds : (state : Recorded) (command : Command) → length (after_line state command).past.events ≤ length state.past.events + 2
 unfolding steps_of run_from record_from
-line_adds state (Begin actor call) = omega (arith, step_adds state (step.Begin actor call) (next state.state (step.Begin actor call)) refl (moves state.state (step.Begin actor call)))
+line_adds state (Begin actor call) = omega (arith, step_adds state (step.Begin actor call None) (next state.state (step.Begin actor call None)) refl (moves state.state (step.Begin actor call None)))
 line_adds state (Go actor times) = omega (arith, going_adds times None actor state)
 line_adds state (Until actor kind) = omega (arith, going_adds go_limit (Some kind) actor state)
 line_adds state (Finish actor) = omega (arith, going_adds go_limit None actor state)
-line_adds state (Do actor call) = doing_adds state actor (step.Begin actor call) (begin_denial state.state actor call)
+line_adds state (Do actor call) = doing_adds state actor (step.Begin actor call None) (begin_denial state.state actor call None)
 line_adds state (Sweep times) = omega (arith, ap length (sweeps_add_none times state))

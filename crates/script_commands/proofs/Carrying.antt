@@ -12,13 +12,13 @@ use Rattle.script_text.specs.Steps.{stops, going, doing}
 use Rattle.script_commands.specs.Denials.{denial_in}
 
 -- a begin is denied for the reason that the definition lists
-by_denial : (state : State) (actor : ℕ) (call : Call) (denial : Option Refusal) → denial_in (begin_unless state actor call denial) ≡ denial
+by_denial : (state : State) (actor : ℕ) (call : Call) (denial : Option Refusal) → denial_in (begin_unless state actor call None denial) ≡ denial
 by_denial state actor call (Some refusal) = refl
 by_denial state actor call None = refl
 
-pub begin_denied : (state : State) (actor : ℕ) (call : Call) → denial_in (next state (Begin actor call)) ≡ begin_denial state actor call
+pub begin_denied : (state : State) (actor : ℕ) (call : Call) → denial_in (next state (Begin actor call None)) ≡ begin_denial state actor call None
 unfolding next
-begin_denied state actor call = by_denial state actor call (begin_denial state actor call)
+begin_denied state actor call = by_denial state actor call (begin_denial state actor call None)
 
 -- a step alone
 pub one_alone : (before : Recorded) (s : Step) → recorded_from before (s ∷ []) ≡ recorded_next before s

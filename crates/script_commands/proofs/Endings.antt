@@ -1,5 +1,5 @@
 -- Lines of a script end the operations that are sure to end.
-use Rattle.std.proofs.Common.{◌≡◌, ◌≤◌, ℕ, zero, suc, ◌+◌, Bool, true, false, cond, List, [], ◌∷◌, ◌++◌, Option, Some, None, Ok, Err, inl, inr, refl, sym, ap, subst, ◌∙◌, arith}
+use Rattle.std.proofs.Common.{◌≡◌, ◌≤◌, ℕ, zero, suc, ◌+◌, ◌-◌, ◌*◌, Bool, true, false, cond, List, [], ◌∷◌, ◌++◌, Option, Some, None, Ok, Err, inl, inr, refl, sym, ap, subst, ◌∙◌, arith}
 use Rattle.std.specs.Prelude.{replicate}
 use Rattle.std.specs.List.{AllByRecursion}
 use Rattle.std.proofs.lemmas.List.{replicate-append-replicate}
@@ -10,12 +10,12 @@ use Rattle.script_commands.specs.Vocabulary.{State, first_state, operation_of, b
 use Rattle.history_text.specs.Grammar.{CallFits}
 use Rattle.script_commands.specs.Beneath.machine_model.specs.declared.steps.Step.TheVariants as step
 use Rattle.script_commands.specs.Beneath.machine_model.proofs.Alike.{alike_along}
-use Rattle.script_commands.specs.Beneath.proof_runs.proofs.Bounds.{in_bounds}
+use Rattle.script_commands.specs.Beneath.proof_runs.proofs.Bounds.{few_actors, in_bounds}
 use Rattle.script_commands.specs.Recorded.{Recorded, after_line, recorded_from, recorded_in, recorded_next}
 use Rattle.script_commands.proofs.Growing.{denied_step}
 use Rattle.script_commands.specs.Beneath.machine_model.proofs.Along.{limits_along}
 use Rattle.script_commands.specs.Beneath.proof_obstruction_free.specs.Closes.{ClosesEnd}
-use Rattle.script_commands.specs.Beneath.proof_obstruction_free.specs.Laws.{AloneItEnds, HasEnded, alone_after, history_after, most_steps_alone}
+use Rattle.script_commands.specs.Beneath.proof_obstruction_free.specs.Laws.{AloneItEnds, HasEnded, alone_after, history_after, most_steps_alone, most_steps_of}
 use Rattle.script_commands.specs.Beneath.proof_runs.specs.Ending.{IsSure}
 use Rattle.script_commands.specs.Beneath.proof_runs.specs.Machines.{Taken, past_of, state_of}
 use Rattle.script_commands.specs.Beneath.proof_runs.proofs.Ending.{begun_runs_on, sure_behind}
@@ -31,7 +31,7 @@ use Rattle.script_commands.proofs.Carrying.{recorded_append, taken, going_stops,
 
 -- ---- keys of a script have 64 bits
 
-call_fits : (actor : ℕ) (call : Call) → CallFits call → FitsKey (step.Begin actor call)
+call_fits : (actor : ℕ) (call : Call) → CallFits call → FitsKey (step.Begin actor call None)
 call_fits actor (Get h k) fits = omega (arith, fits.1)
 call_fits actor (Put h k v) fits = omega (arith, fits.1)
 call_fits actor (PutIfAbsent h k v) fits = omega (arith, fits.1)
@@ -57,11 +57,11 @@ doing_fits state actor begins None fits = All-cons FitsKey begins _ fits (going_
 
 line_fits : (state : State) (line : Command) → CommandFits line → KeysFit (steps_of state line)
 unfolding steps_of
-line_fits state (Begin actor call) fits = All-cons FitsKey (step.Begin actor call) [] (call_fits actor call fits.1) (All-nil FitsKey)
+line_fits state (Begin actor call) fits = All-cons FitsKey (step.Begin actor call None) [] (call_fits actor call fits.1) (All-nil FitsKey)
 line_fits state (Go actor times) fits = going_fits times None actor state
 line_fits state (Until actor kind) fits = going_fits go_limit (Some kind) actor state
 line_fits state (Finish actor) fits = going_fits go_limit None actor state
-line_fits state (Do actor call) fits = doing_fits state actor (step.Begin actor call) (begin_denial state actor call) (call_fits actor call fits.1)
+line_fits state (Do actor call) fits = doing_fits state actor (step.Begin actor call None) (begin_denial state actor call None) (call_fits actor call fits.1)
 line_fits state (Sweep times) fits = All-replicate FitsKey times step.Sweep tt
 
 all_fit : (lines : List Command) (state : State) → AllByRecursion CommandFits lines → KeysFit (all_steps state lines)
@@ -132,13 +132,13 @@ module _ (limits : Bounds) (steps : List Step) (actor : ℕ) (operation : Operat
       subst (λ (r : Recorded). HasEnded r.state r.past.events actor operation.id) (sym same) has
 
   -- by the laws of operations that end
-  ended : AloneItEnds → ClosesEnd → AreBounds limits → KeysFit steps → operation_of (run limits steps) actor ≡ Some operation → IsSure (run limits steps) operation.call most_steps_alone →
+  ended : AloneItEnds → ClosesEnd → AreBounds limits → limits.actors ≤ 64 → KeysFit steps → operation_of (run limits steps) actor ≡ Some operation → IsSure (run limits steps) operation.call most_steps_alone →
       HasEnded at_end.state at_end.past.events actor operation.id
-  ended law closes sizes keys runs sure =
+  ended law closes sizes few keys runs sure =
       let most : (run limits steps).limits.steps ≡ limits.steps = ap (λ (l : Bounds). l.steps) (limits_along limits steps) in
-      let left : (run limits steps).steps + most_steps_alone ≤ limits.steps = omega (arith, sure.1, most) in
+      let left : (run limits steps).steps + most_steps_of limits.actors ≤ limits.steps = omega (arith, sure.1, most, few) in
       elim (of_no_walk operation.call sure.0) [
-        | inl call ↦ ended_by most_steps_alone 12422 refl (law limits steps actor operation (record { limits_ok = sizes; keys_fit = keys; runs = runs; call = call; left = left }))
+        | inl call ↦ ended_by (most_steps_of limits.actors) (12742 - 5 * limits.actors) (omega (arith, few)) (law limits steps actor operation (record { limits_ok = sizes; keys_fit = keys; runs = runs; call = call; left = left }))
         | inr closing ↦ ended_by 1 16383 refl (closes limits steps actor operation runs closing (omega (arith, left))).1
       ]
 
@@ -148,26 +148,26 @@ module _ (law : AloneItEnds) (closes : ClosesEnd) (before : Taken) (sizes : AreL
   finish_ends : (actor : ℕ) → FinishEnds (recorded_in before) actor (after_line (recorded_in before) (Finish actor))
   unfolding steps_of
   finish_ends actor operation runs sure =
-      ended (bounded before.limits) before.steps actor operation law closes (in_bounds before.limits sizes) keys runs sure
+      ended (bounded before.limits) before.steps actor operation law closes (in_bounds before.limits sizes) (few_actors before.limits sizes) keys runs sure
 
   -- a begin, and the steps behind it
-  begun_ends : (actor : ℕ) (call : Call) → FitsKey (step.Begin actor call) → begin_denial (state_of before) actor call ≡ None → IsSure (state_of before) call (1 + most_steps_alone) →
-      let after = recorded_from (recorded_in before) (doing actor (step.Begin actor call) None (state_of before)) in
+  begun_ends : (actor : ℕ) (call : Call) → FitsKey (step.Begin actor call None) → begin_denial (state_of before) actor call None ≡ None → IsSure (state_of before) call (1 + most_steps_alone) →
+      let after = recorded_from (recorded_in before) (doing actor (step.Begin actor call None) None (state_of before)) in
       HasEnded after.state after.past.events actor (begun (past_of before).events)
   unfolding run_from record_from
   begun_ends actor call fits d sure =
-      let begins = step.Begin actor call in
-      let operation = begun_operation (state_of before) call in
+      let begins = step.Begin actor call None in
+      let operation = begun_operation (state_of before) call None in
       subst (λ id. let after = recorded_from (recorded_in before) (doing actor begins None (state_of before)) in HasEnded after.state after.past.events actor id)
       (sym (alike_along (bounded before.limits) before.steps).begun_are)
       (subst (λ (r : Recorded). let after = recorded_from r (going go_limit None actor r.state) in HasEnded after.state after.past.events actor operation.id) (taken before begins)
-      (ended (bounded before.limits) (before.steps ++ begins ∷ []) actor operation law closes (in_bounds before.limits sizes) (All-push FitsKey before.steps begins keys fits)
+      (ended (bounded before.limits) (before.steps ++ begins ∷ []) actor operation law closes (in_bounds before.limits sizes) (few_actors before.limits sizes) (All-push FitsKey before.steps begins keys fits)
       (begun_runs_on before actor call d) (sure_behind before actor call d most_steps_alone sure)))
 
-  do_ends : (actor : ℕ) (call : Call) → FitsKey (step.Begin actor call) → DoEnds (recorded_in before) actor call (after_line (recorded_in before) (Do actor call))
+  do_ends : (actor : ℕ) (call : Call) → FitsKey (step.Begin actor call None) → DoEnds (recorded_in before) actor call (after_line (recorded_in before) (Do actor call))
   unfolding steps_of
   do_ends actor call fits d sure =
-      subst (λ denial. let after = recorded_from (recorded_in before) (doing actor (step.Begin actor call) denial (state_of before)) in
+      subst (λ denial. let after = recorded_from (recorded_in before) (doing actor (step.Begin actor call None) denial (state_of before)) in
       HasEnded after.state after.past.events actor (begun (past_of before).events)) (sym d) (begun_ends actor call fits d sure)
 
   line_ends : (line : Command) → CommandFits line → LineEnds (recorded_in before) line

@@ -38,17 +38,17 @@ added_split xs ys zs (a, p) (b, q) =
 pub denied_step : (before : Recorded) (s : Step) (refusal : Refusal) → next before.state s ≡ Err refusal → recorded_next before s ≡ before
 denied_step before s refusal e = rw e refl
 
-begin_denied : (state : State) (actor : ℕ) (call : Call) (refusal : Refusal) → begin_denial state actor call ≡ Some refusal → next state (step.Begin actor call) ≡ Err refusal
+begin_denied : (state : State) (actor : ℕ) (call : Call) (refusal : Refusal) → begin_denial state actor call None ≡ Some refusal → next state (step.Begin actor call None) ≡ Err refusal
 unfolding next
-begin_denied state actor call refusal e = ap (λ d. begin_unless state actor call d) e
+begin_denied state actor call refusal e = ap (λ d. begin_unless state actor call None d) e
 
 go_denied : (state : State) (actor : ℕ) (refusal : Refusal) → go_denial state actor ≡ Some refusal → next state (step.Go actor) ≡ Err refusal
 unfolding next
 go_denied state actor refusal e = ap (λ d. go_unless state actor d) e
 
-begin_refused : (before : Recorded) (actor : ℕ) (call : Call) (refusal : Refusal) → begin_denial before.state actor call ≡ Some refusal →
-    recorded_next before (step.Begin actor call) ≡ before
-begin_refused before actor call refusal e = denied_step before (step.Begin actor call) refusal (begin_denied before.state actor call refusal e)
+begin_refused : (before : Recorded) (actor : ℕ) (call : Call) (refusal : Refusal) → begin_denial before.state actor call None ≡ Some refusal →
+    recorded_next before (step.Begin actor call None) ≡ before
+begin_refused before actor call refusal e = denied_step before (step.Begin actor call None) refusal (begin_denied before.state actor call refusal e)
 
 go_refused : (before : Recorded) (actor : ℕ) (refusal : Refusal) → go_denial before.state actor ≡ Some refusal → recorded_next before (step.Go actor) ≡ before
 go_refused before actor refusal e = denied_step before (step.Go actor) refusal (go_denied before.state actor refusal e)
@@ -78,5 +78,5 @@ denied_changes_nothing before (Go actor times) refusal e = going_denied times No
 denied_changes_nothing before (Until actor kind) refusal e = going_denied _ (Some kind) actor before (go_refused before actor refusal e)
 denied_changes_nothing before (Finish actor) refusal e = going_denied _ None actor before (go_refused before actor refusal e)
 denied_changes_nothing before (Do actor call) refusal e =
-    doing_denied before actor (step.Begin actor call) (begin_denial before.state actor call) refusal e (begin_refused before actor call refusal e)
+    doing_denied before actor (step.Begin actor call None) (begin_denial before.state actor call None) refusal e (begin_refused before actor call refusal e)
 denied_changes_nothing before (Sweep times) refusal e = cc e

@@ -18,7 +18,7 @@ FinishEnds before actor after =
 -- `do` has ended the operation that it began, if its call is sure to end
 abbrev pub DoEnds : Recorded → ℕ → Call → Recorded → Type 0
 DoEnds before actor call after =
-    begin_denial before.state actor call ≡ None → IsSure before.state call (1 + most_steps_alone) → HasEnded after.state after.past.events actor (begun before.past.events)
+    begin_denial before.state actor call None ≡ None → IsSure before.state call (1 + most_steps_alone) → HasEnded after.state after.past.events actor (begun before.past.events)
 
 -- a line that goes on until an operation has ended has ended it
 abbrev pub LineEnds : Recorded → Command → Type 0

@@ -47,8 +47,8 @@ fn take(machine: &mut Machine, step: Step) -> Result<Option<Refusal>, AllocError
 
 /// Begins the actor's operation.
 fn begin(machine: &mut Machine, actor: u8, call: Call) -> Result<Option<Refusal>, AllocError>
-    ensures state { OnOk result (recorded_in machine.new ≡ recorded_from (recorded_in machine.old) (Begin actor call ∷ [])) }
-    ensures denial { IfOk result (λ denial. denial ≡ begin_denial (state_of machine.old) actor call) }
+    ensures state { OnOk result (recorded_in machine.new ≡ recorded_from (recorded_in machine.old) (Begin actor call None ∷ [])) }
+    ensures denial { IfOk result (λ denial. denial ≡ begin_denial (state_of machine.old) actor call None) }
 {
     take(machine, Step::Begin { actor, call })
 }
@@ -56,8 +56,8 @@ fn begin(machine: &mut Machine, actor: u8, call: Call) -> Result<Option<Refusal>
 /// Begins the actor's operation and, if it may begin, takes steps until it has ended.
 fn perform(machine: &mut Machine, actor: u8, call: Call) -> Result<Option<Refusal>, AllocError>
     ensures state { OnOk result (recorded_in machine.new ≡ recorded_from (recorded_in machine.old)
-        (doing actor (Begin actor call) (begin_denial (state_of machine.old) actor call) (state_of machine.old))) }
-    ensures denial { IfOk result (λ denial. denial ≡ begin_denial (state_of machine.old) actor call) }
+        (doing actor (Begin actor call None) (begin_denial (state_of machine.old) actor call None) (state_of machine.old))) }
+    ensures denial { IfOk result (λ denial. denial ≡ begin_denial (state_of machine.old) actor call None) }
 {
     match begin(machine, actor, call)? {
         Some(refusal) => Ok(Some(refusal)),

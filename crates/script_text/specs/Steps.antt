@@ -31,20 +31,20 @@ doing actor begins None state = begins ∷ going go_limit None actor (next_state
 
 -- the steps that a line names in a state; where it gives no number of steps, no more than the limit
 unfoldable pub steps_of : State → Command → List Step
-steps_of state (Begin actor call) = step.Begin actor call ∷ []
+steps_of state (Begin actor call) = step.Begin actor call None ∷ []
 steps_of state (Go actor times) = going times None actor state
 steps_of state (Until actor kind) = going go_limit (Some kind) actor state
 steps_of state (Finish actor) = going go_limit None actor state
-steps_of state (Do actor call) = doing actor (step.Begin actor call) (begin_denial state actor call) state
+steps_of state (Do actor call) = doing actor (step.Begin actor call None) (begin_denial state actor call None) state
 steps_of state (Sweep times) = replicate times step.Sweep
 
 -- why a line is denied
 unfoldable pub denial_of : State → Command → Option Refusal
-denial_of state (Begin actor call) = begin_denial state actor call
+denial_of state (Begin actor call) = begin_denial state actor call None
 denial_of state (Go actor times) = go_denial state actor
 denial_of state (Until actor kind) = go_denial state actor
 denial_of state (Finish actor) = go_denial state actor
-denial_of state (Do actor call) = begin_denial state actor call
+denial_of state (Do actor call) = begin_denial state actor call None
 denial_of state (Sweep times) = None
 
 -- the state after a line. A step that is denied changes nothing.

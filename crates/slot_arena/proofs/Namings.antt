@@ -1,7 +1,7 @@
 -- Counts by slot, reference after reference.
 use Rattle.std.proofs.Common.{◌≡◌, ℕ, ◌+◌, ◌-◌, ◌<◌, ◌≤◌, ◌==◌, List, ◌∷◌, ◌++◌, length, take, get_or, set, slice_index, sym, ap, ◌∙◌, subst, inl, inr, arith}
 use Rattle.std.proofs.lemmas.Bool.{cases_eq}
-use Rattle.std.proofs.lemmas.List.{get_or-set_same, get_or-set_other, take_all}
+use Rattle.std.proofs.lemmas.List.{get_or-set_same, get_or-set_other}
 use Rattle.std.proofs.lemmas.List.Sums.{sum_by_more, sum_by-cons, sum_by-append, count_by-le-length, sum_by-take-le}
 use Rattle.slot_arena.specs.Refs.{slot_of}
 use Rattle.slot_arena.specs.declared.refs.Ref.{Ref}
@@ -17,9 +17,6 @@ naming-cons slot r rs = sum_by-cons (names slot) r rs
 
 pub naming_more : (slot : ℕ) (refs : List Ref) (i r : ℕ) → i < length refs → r ≡ get_or refs i r → naming slot (take (i + 1) refs) ≡ naming slot (take i refs) + once slot (slot_of r)
 naming_more slot refs i r within is = sum_by_more (names slot) refs i r within ∙ ap (λ q. naming slot (take i refs) + once slot (slot_of q)) (sym is)
-
-pub naming_all : (slot : ℕ) (refs : List Ref) (i : ℕ) → length refs ≤ i → naming slot (take i refs) ≡ naming slot refs
-naming_all slot refs i past = ap (naming slot) (take_all i refs past)
 
 pub naming-le : (slot : ℕ) (refs : List Ref) → naming slot refs ≤ length refs
 naming-le slot refs = count_by-le-length (λ q. slot_of q == slot) refs

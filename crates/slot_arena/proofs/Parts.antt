@@ -1,8 +1,8 @@
 -- Slots from their parts, under reads and writes of the parts.
 use Rattle.std.proofs.Common.{◌≡◌, ℕ, zero, suc, ◌<◌, List, [], ◌∷◌, length, replicate, get_or}
-use Rattle.std.proofs.Common.{set, Option, Some, None, IsSome, is_some, refl, sym, ap, ◌∙◌, subst, inl, inr, arith}
+use Rattle.std.proofs.Common.{set, Option, Some, None, IsSome, is_some, refl, sym, ap, subst, inl, inr, arith}
 use Rattle.std.proofs.lemmas.Bool.{cases_eq, false≢true}
-use Rattle.std.proofs.lemmas.List.{get_or-set_same, get_or-set_other, length-replicate, length-set, set-get_or}
+use Rattle.std.proofs.lemmas.List.{get_or-set_same, get_or-set_other, length-set, set-get_or}
 use Rattle.std.specs.Prelude.{option_map}
 use Rattle.slot_arena.specs.declared.refs.Ref.{Ref}
 use Rattle.slot_arena.specs.declared.nodes.Node.{Node}
@@ -222,14 +222,6 @@ same_all : {X : Type 0} (count : ℕ) (x : X) (i : ℕ) → get_or (replicate co
 same_all zero x i = refl
 same_all (suc n) x zero = refl
 same_all (suc n) x (suc i) = same_all n x i
-
--- no slot is in use
-pub none_parts : (count : ℕ) → AreParts (replicate count 0) (replicate count None) (replicate count prev.None)
-none_parts count = record {
-  nodes_all = (let none : Option Node = None in length-replicate count none) ∙ sym (length-replicate count 0);
-  prevs_all = length-replicate count prev.None ∙ sym (length-replicate count 0);
-  each = λ slot. agree_by 0 _ None _ prev.None _ (same_all count 0 slot) (same_all count None slot) (same_all count prev.None slot) (refl, refl);
-}
 
 pub none_used : (count : ℕ) → slots_from (replicate count 0) (replicate count None) (replicate count prev.None) ≡ replicate count None
 none_used zero = refl

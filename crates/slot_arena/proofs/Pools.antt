@@ -2,7 +2,7 @@
 use Rattle.std.proofs.Common.{◌≡◌, ℕ, zero, suc, ◌+◌, ◌<◌, ◌==◌, Bool, true, false, cond, List, [], ◌∷◌, ◌++◌, length, get_or, set, map, replicate}
 use Rattle.std.proofs.Common.{count_by, Option, Some, None, refl, sym, ap, ◌∙◌, subst, inl, inr, arith}
 use Rattle.std.proofs.lemmas.Bool.{cases_eq, cases_lt}
-use Rattle.std.proofs.lemmas.List.{get_or-set_same, get_or-set_other, get_or_push, length_push, length-map, length-replicate, length-set, map-set}
+use Rattle.std.proofs.lemmas.List.{get_or-set_same, get_or-set_other, get_or_push, length_push, length-map, length-set, map-set}
 use Rattle.std.proofs.lemmas.List.Sums.{sum_by-cons, sum_by-set, get_or-le-sum_by, count_by-le-length}
 use Rattle.std.specs.Prelude.{option_map}
 use Rattle.arrayvec.specs.ArrayVec.{ArrayVec}
@@ -315,15 +315,6 @@ module _ (cells : List Cell) (pool : Pool) (h : HasRows cells pool) (k : ℕ) (w
       ∙ ap (option_map (with_main_word m)) (map-at (node_in pool.rows) cells k (get_or cells k cell.Free) cell.Free None within refl))
 
 -- ---- at the beginning
-
-pub no_rows : (n : ℕ) → HasRows (replicate n cell.Free) (record { rows = []; spare = []; size = n })
-no_rows n = let long = length-replicate n cell.Free in record {
-  once = λ row below. absurd (omega arith);
-  never = λ row past. omega (arith, counts_none (has row) n cell.Free refl);
-  all = omega (arith, counts_none has_row n cell.Free refl);
-  room = omega arith;
-  fits = omega arith;
-}
 
 pub no_nodes : (rows : List (ArrayVec Ref)) (n : ℕ) (cells : List Cell) → cells ≡ replicate n cell.Free → map (node_in rows) cells ≡ replicate n None
 no_nodes rows n cells is = ap (map (node_in rows)) is ∙ each n

@@ -1,12 +1,11 @@
 -- What is told comes to a program by its READ, case by case.
 use Rattle.std.specs.Prelude.{◌≡◌, ℕ, List, Option, None, refl}
-use Rattle.snapshot.specs.Vocabulary.{Ref, Descriptor}
+use Rattle.snapshot.specs.Vocabulary.{Ref, Descriptor, with_read}
 use Rattle.snapshot.specs.Beneath.gcas.specs.declared.read.Read.{Read}
 use Rattle.snapshot.specs.Beneath.gcas.specs.Reads.{line_of}
 use Rattle.snapshot.specs.Beneath.rdcss_root.specs.declared.complete.CompleteAt.{CompleteAt}
 use Rattle.snapshot.specs.Beneath.rdcss_root.specs.declared.complete.CompleteAt.TheVariants as complete
 use Rattle.snapshot.specs.Beneath.rdcss_root.specs.declared.root.ReadRoot.TheVariants as rooting
-use Rattle.root_asking.specs.Inside.{with_read}
 use Rattle.snapshot.specs.declared.copy_op.Making.TheVariants as making
 use Rattle.snapshot.specs.declared.copy_op.CopyAt.{CopyAt}
 use Rattle.snapshot.specs.declared.copy_op.CopyAt.TheVariants as at

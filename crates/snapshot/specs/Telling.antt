@@ -2,7 +2,7 @@
 use Rattle.std.specs.Prelude.{◌≡◌, ℕ, Option, None}
 use Rattle.snapshot.specs.Beneath.gcas.specs.declared.read.Read.{Read}
 use Rattle.snapshot.specs.Beneath.gcas.specs.Reads.{line_of}
-use Rattle.root_asking.specs.Inside.{with_read}
+use Rattle.snapshot.specs.Vocabulary.{with_read}
 use Rattle.snapshot.specs.declared.copy_op.CopyOp.{CopyOp}
 use Rattle.snapshot.specs.declared.walk.Walk.{Walk}
 use Rattle.snapshot.specs.Copies.{copy_line}

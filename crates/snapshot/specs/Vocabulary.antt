@@ -18,6 +18,7 @@ pub use Rattle.snapshot.specs.Beneath.machine_model.specs.Lines.{impossible}
 pub use Rattle.snapshot.specs.Beneath.machine_model.specs.Operations.{generation_from, kind_of, line_action, line_after, read_of}
 pub use Rattle.snapshot.specs.Beneath.machine_model.specs.Pairs.{by_key, comes_before}
 pub use Rattle.snapshot.specs.Beneath.machine_model.specs.Reading.{read_action}
+pub use Rattle.snapshot.specs.Beneath.machine_model.specs.Reads.{with_read}
 pub use Rattle.snapshot.specs.Beneath.machine_model.specs.States.{State, with_word, word_at}
 pub use Rattle.snapshot.specs.Beneath.machine_model.specs.Swapping.{complete_action, complete_action_at, is_plain, root_action, stands_in}
 pub use Rattle.snapshot.specs.Beneath.machine_model.specs.Walking.{first_of, rest_of, walk_after_entry, walk_next, walked_reply}

@@ -43,17 +43,17 @@ spent_alone false e = grind (arith, e)
 
 -- nothing is denied for want of memory
 pub not_for_memory : (state : State) (s : Step) → denial_of state s ≡ Some refuse.Memory → ⊥
-not_for_memory state (step.Begin actor call) e = begin_reasons _ _ _ _ _ _ _ _ e
+not_for_memory state (step.Begin actor call number) e = begin_reasons _ _ _ _ _ _ _ _ e
 not_for_memory state (step.Go actor) e = go_reasons _ _ _ e
 not_for_memory state step.Sweep e = spent_alone (is_spent state) e
 not_for_memory state (step.GiveUp actor) e = give_up_reasons _ _ _ _ e
 
 -- nothing is refused for want of memory
 
-begin_refused : (state : State) (actor : ℕ) (call : Call) (denial : Option Refusal) → (denial ≡ Some refuse.Memory → ⊥) →
-    begin_unless state actor call denial ≡ Err refuse.Memory → ⊥
-begin_refused state actor call (Some refusal) other e = other (let same : refusal ≡ refuse.Memory = grind (arith, e) in rw same refl)
-begin_refused state actor call None other e = grind (arith, e)
+begin_refused : (state : State) (actor : ℕ) (call : Call) (number : Option ℕ) (denial : Option Refusal) → (denial ≡ Some refuse.Memory → ⊥) →
+    begin_unless state actor call number denial ≡ Err refuse.Memory → ⊥
+begin_refused state actor call number (Some refusal) other e = other (let same : refusal ≡ refuse.Memory = grind (arith, e) in rw same refl)
+begin_refused state actor call number None other e = grind (arith, e)
 
 go_refused : (state : State) (actor : ℕ) (denial : Option Refusal) (operation : Option Operation) → operation_of state actor ≡ operation →
     (denial ≡ Some refuse.Memory → ⊥) → go_unless state actor denial ≡ Err refuse.Memory → ⊥
@@ -79,7 +79,7 @@ sweep_refused state false is e = let d = rw is at e in grind (arith, d)
 
 pub never_memory : (state : State) (s : Step) → next state s ≡ Err refuse.Memory → ⊥
 unfolding next
-never_memory state (step.Begin actor call) e = begin_refused state actor call (begin_denial state actor call) (not_for_memory state (step.Begin actor call)) e
+never_memory state (step.Begin actor call number) e = begin_refused state actor call number (begin_denial state actor call number) (not_for_memory state (step.Begin actor call number)) e
 never_memory state (step.Go actor) e = go_refused state actor (go_denial state actor) (operation_of state actor) refl (not_for_memory state (step.Go actor)) e
 never_memory state step.Sweep e = sweep_refused state (is_spent state) refl e
 never_memory state (step.GiveUp actor) e = give_up_refused state actor (go_denial state actor) (operation_of state actor) refl (not_for_memory state (step.Go actor)) e

@@ -29,15 +29,15 @@ can_tell fit limits steps state past now h same slots room =
     (record { past = same ∙ h.past; slots = slots ∙ h.slots; generations = subst (λ (s : State). s.generations ≤ now.generations) h.led room }))
 
 -- a begin that isn't denied is of an actor
-begins_own : (state : State) (actor : ℕ) (call : Call) → begin_denial state actor call ≡ None → is_actor state actor ≡ true
+begins_own : (state : State) (actor : ℕ) (call : Call) → begin_denial state actor call None ≡ None → is_actor state actor ≡ true
 begins_own state actor call d = grind arith
 
 pub can_begin : (state : State) (kept : Chronicled) (actor : ℕ) (call : Call) (begun : Begun) (o : Outcome) (after : State) → CanTell state kept →
-    next state (step.Begin actor call) ≡ Ok (o, after) → TellsBegin state actor call begun →
+    next state (step.Begin actor call None) ≡ Ok (o, after) → TellsBegin state actor call begun →
     CanBegin kept actor begun.id
 can_begin state kept actor call begun o after can takes tells =
     let id : state.begun ≡ begun.id = cc tells in
-    subst (CanBegin kept actor) id (can.begins actor (begins_own state actor call (allowed state (step.Begin actor call) (rw takes refl))))
+    subst (CanBegin kept actor) id (can.begins actor (begins_own state actor call (allowed state (step.Begin actor call None) (rw takes refl))))
 
 -- what tells of a step that goes on is a running operation's
 went_by : (state : State) (actor : ℕ) (operation : Operation) (action : Action) (p : Progress) → told_by state actor operation action ≡ told.Went actor p → progress_of state operation ≡ p

@@ -74,8 +74,8 @@ none_told limits before after same so = subst (λ es. length es ≤ total limits
 
 told_after : (limits : Bounds) (before after : Recorded) (s : Step) (o : Outcome) → Sound before → length after.state.actors ≡ after.state.limits.actors → Turns before after s o →
     before.state.limits ≡ limits → length before.events ≤ total limits.actors (told_to before.events) → length after.events ≤ total limits.actors (told_to after.events)
-told_after limits before after s o sound fits (Comes k call opens below idle here others events) same so =
-    let turn = Comes k call opens below idle here others events in
+told_after limits before after s o sound fits (Comes k call number opens below idle here others events) same so =
+    let turn = Comes k call number opens below idle here others events in
     let own = own_step before after s o sound fits turn (suc k) refl in
     one_told limits before after k (one_event before.events after.events _ events) (omega (arith, below, sound.fits, ap (λ (l : Bounds). l.actors) same))
     (events_begun (account_of (suc k) before.events) (account_of (suc k) after.events) _ own.0 own.1)

@@ -86,7 +86,7 @@ module _ (history : List Event) (all : RunAll history) (owner id : ℕ) (reply :
 
 after_all : (before after : Recorded) (s : Step) (o : Outcome) → Sound before → length after.state.actors ≡ after.state.limits.actors → Turns before after s o →
     RunAll before.events → RunAll after.events
-after_all before after s o sound fits (Comes k call opens within idle here others events) all =
+after_all before after s o sound fits (Comes k call number opens within idle here others events) all =
     subst RunAll (sym events) (begin_all before.events all (suc k) call opens (none_told _ (sym (sound.match (suc k)) ∙ idle)))
 after_all before after s o sound fits (Stays k p kind had same events) all = subst RunAll (sym events) all
 after_all before after s o sound fits (Quits k p kind had same events) all = subst RunAll (sym events) all

@@ -198,7 +198,7 @@ module _ (before after : Recorded) (sound : Sound before) (fits : length after.s
 -- ---- every run
 
 pub kept : (before after : Recorded) (s : Step) (o : Outcome) → Sound before → length after.state.actors ≡ after.state.limits.actors → Turns before after s o → Sound after
-kept before after s o sound fits (Comes k call opens within idle here others events) = come_sound before after sound fits k call opens here others events
+kept before after s o sound fits (Comes k call number opens within idle here others events) = come_sound before after sound fits k call opens here others events
 kept before after s o sound fits (Stays k p kind had same events) = stay_sound before after sound fits same events
 kept before after s o sound fits (Quits k p kind had same events) = stay_sound before after sound fits same events
 kept before after s o sound fits (Leaves k p answer had none others events) = leave_sound before after sound fits k p answer had none others events

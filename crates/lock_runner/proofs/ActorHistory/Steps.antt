@@ -23,7 +23,7 @@ running_ids_differ limits steps i j a b e f same = differ (run limits steps) (re
 -- a step of another actor, or of the sweep
 pub others_leave : (before after : Recorded) (s : Step) (o : Outcome) → Sound before → length after.state.actors ≡ after.state.limits.actors → Turns before after s o → (actor : ℕ) →
     (IsStepOf actor s → ⊥) → account_of actor after.events ≡ account_of actor before.events
-others_leave before after s o sound fits (Comes k call opens within idle here others events) actor other =
+others_leave before after s o sound fits (Comes k call number opens within idle here others events) actor other =
     come_account before after sound fits k call opens here others events actor
     ∙ begin_other actor (length before.events) (account_of actor before.events) _ (suc k) call opens other
 others_leave before after s o sound fits (Stays k p kind had same events) actor other = ap (λ es. account_of actor es) events
@@ -79,7 +79,7 @@ some_told (Some r) p e none = none-some r (sym none)
 
 pub own_step : (before after : Recorded) (s : Step) (o : Outcome) → Sound before → length after.state.actors ≡ after.state.limits.actors → Turns before after s o → (actor : ℕ) →
     IsStepOf actor s → IsMadeBy before.events actor (account_of actor before.events) s o (account_of actor after.events)
-own_step before after s o sound fits (Comes k call opens within idle here others events) actor own =
+own_step before after s o sound fits (Comes k call number opens within idle here others events) actor own =
     let none : (account_of (suc k) before.events).running ≡ None = none_told _ (sym (sound.match (suc k)) ∙ idle) in
     let made = come_account before after sound fits k call opens here others events (suc k)
     ∙ begin_own (suc k) (length before.events) (account_of (suc k) before.events) _ call opens in

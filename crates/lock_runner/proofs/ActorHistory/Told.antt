@@ -296,7 +296,7 @@ module _ (history : List Event) (told : Told history) (owner id : ℕ) (reply : 
 -- ---- every run
 
 told_after : (before after : Recorded) (s : Step) (o : Outcome) → Sound before → length after.state.actors ≡ after.state.limits.actors → Turns before after s o → Told before.events → Told after.events
-told_after before after s o sound fits (Comes k call opens within idle here others events) told = subst Told (sym events) (later_told before.events told (suc k) call opens)
+told_after before after s o sound fits (Comes k call number opens within idle here others events) told = subst Told (sym events) (later_told before.events told (suc k) call opens)
 told_after before after s o sound fits (Stays k p kind had same events) told = subst Told (sym events) told
 told_after before after s o sound fits (Quits k p kind had same events) told = subst Told (sym events) told
 told_after before after s o sound fits (Leaves k p answer had none others events) told =

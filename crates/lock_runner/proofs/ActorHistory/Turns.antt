@@ -70,10 +70,10 @@ recorded_of limits steps = recorded (run limits steps) (record_of limits steps)
 
 -- how a step changes the history and what is run; the actor k + 1 has the place k
 pub data Turns (before after : Recorded) : Step → Outcome → Type 0 where
-  Comes : (k : ℕ) (call : Call) (opens : Option ℕ) → k < length before.state.actors → ran before.state.actors k ≡ None →
+  Comes : (k : ℕ) (call : Call) (number : Option ℕ) (opens : Option ℕ) → k < length before.state.actors → ran before.state.actors k ≡ None →
       ran after.state.actors k ≡ Some (begun before.events, call) → ((j : ℕ) → (j ≡ k → ⊥) → ran after.state.actors j ≡ ran before.state.actors j) →
       after.events ≡ before.events ++ Begin (begun before.events) (suc k) call opens ∷ [] →
-      Turns before after (step.Begin (suc k) call) (outcome.Began (begun before.events))
+      Turns before after (step.Begin (suc k) call number) (outcome.Began (begun before.events))
   Stays : (k : ℕ) (p : Shown) (kind : _) → ran before.state.actors k ≡ Some p → ((j : ℕ) → ran after.state.actors j ≡ ran before.state.actors j) →
       after.events ≡ before.events → Turns before after (step.Go (suc k)) (outcome.Went kind)
   Quits : (k : ℕ) (p : Shown) (kind : _) → ran before.state.actors k ≡ Some p → ((j : ℕ) → ran after.state.actors j ≡ ran before.state.actors j) →
@@ -89,26 +89,26 @@ back k = omega arith
 -- ---- a begin
 
 -- an actor whose begin isn't denied is one of the machine's, and runs nothing
-begins_as : (state : State) (actor : ℕ) (call : Call) → begin_denial state actor call ≡ None →
+begins_as : (state : State) (actor : ℕ) (call : Call) (number : Option ℕ) → begin_denial state actor call number ≡ None →
     (0 < actor) × (actor < state.limits.actors + 1) × (operation_of state actor ≡ None)
-begins_as state actor call d = (grind arith, grind (arith, leb-true), grind arith)
+begins_as state actor call number d = (grind arith, grind (arith, leb-true), grind arith)
 
-come : (state : State) (past now : Record) (k : ℕ) (call : Call) → length state.actors ≡ state.limits.actors → begun past.events ≡ state.begun →
-    begin_denial state (suc k) call ≡ None → (after : State) → after.actors ≡ (with_begin state (suc k) call (begun_operation state call)).actors →
-    now.events ≡ past.events ++ Begin state.begun (suc k) call (begun_operation state call).opens ∷ [] →
-    Turns (recorded state past) (recorded after now) (step.Begin (suc k) call) (outcome.Began state.begun)
-come state past now k call fits count d after actors events =
-    let operation = begun_operation state call in
-    let was = begins_as state (suc k) call d in
+come : (state : State) (past now : Record) (k : ℕ) (call : Call) (number : Option ℕ) → length state.actors ≡ state.limits.actors → begun past.events ≡ state.begun →
+    begin_denial state (suc k) call number ≡ None → (after : State) → after.actors ≡ (with_begin state (suc k) call (begun_operation state call number)).actors →
+    now.events ≡ past.events ++ Begin state.begun (suc k) call (begun_operation state call number).opens ∷ [] →
+    Turns (recorded state past) (recorded after now) (step.Begin (suc k) call number) (outcome.Began state.begun)
+come state past now k call number fits count d after actors events =
+    let operation = begun_operation state call number in
+    let was = begins_as state (suc k) call number d in
     let within : k < length state.actors = omega (arith, was.1) in
     let put : after.actors ≡ set state.actors k (Some operation) =
     actors ∙ begin_actors state (suc k) call operation ∙ ap (λ i. set state.actors i (Some operation)) (back k) in
-    let turn : Turns (recorded state past) (recorded after now) (step.Begin (suc k) call) (outcome.Began (begun past.events)) =
-    Comes k call operation.opens within (ap shown was.2)
+    let turn : Turns (recorded state past) (recorded after now) (step.Begin (suc k) call number) (outcome.Began (begun past.events)) =
+    Comes k call number operation.opens within (ap shown was.2)
     (ap (λ xs. ran xs k) put ∙ ran_set state.actors k (Some operation) within ∙ ap (λ id. Some (id, call)) (sym count))
     (λ j apart. ap (λ xs. ran xs j) put ∙ ran_elsewhere state.actors k j (Some operation) apart)
     (events ∙ ap (λ id. past.events ++ Begin id (suc k) call operation.opens ∷ []) (sym count)) in
-    subst (λ id. Turns (recorded state past) (recorded after now) (step.Begin (suc k) call) (outcome.Began id)) count turn
+    subst (λ id. Turns (recorded state past) (recorded after now) (step.Begin (suc k) call number) (outcome.Began id)) count turn
 
 -- ---- a step of an operation
 
@@ -148,8 +148,8 @@ rest state after past actors = Rests _ (λ j. ap (λ xs. ran xs j) actors) refl
 -- each step that is taken, and is told
 pub turns : (state : State) (past : Record) (s : Step) (o : Outcome) (after : State) → length state.actors ≡ state.limits.actors → begun past.events ≡ state.begun →
     Moves state s o after → Turns (recorded state past) (recorded after (noted past state.steps (told_in state s))) s o
-turns state past s o after fits count (Begins {actor = zero} {call = call} d) = no_actor (begins_as state zero call d).0
-turns state past s o after fits count (Begins {actor = suc k} {call = call} d) = come state past (noted past state.steps (told_in state (step.Begin (suc k) call))) k call fits count d _ refl refl
+turns state past s o after fits count (Begins {actor = zero} {call = call} {number} d) = no_actor (begins_as state zero call number d).0
+turns state past s o after fits count (Begins {actor = suc k} {call = call} {number} d) = come state past (noted past state.steps (told_in state (step.Begin (suc k) call number))) k call number fits count d _ refl refl
 turns state past s o after fits count (Goes {actor = zero} {operation = operation} d is a g) = absurd (none-some operation is)
 turns state past s o after fits count (Goes {actor = suc k} {operation = operation} {action = action} d is a g) =
     Stays k (operation.id, operation.call) _ (ap shown is) (gone_ran state k operation is)

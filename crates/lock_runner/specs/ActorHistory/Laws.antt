@@ -9,7 +9,7 @@ use Rattle.lock_runner.specs.ActorHistory.Answers.{AreAnswersOf}
 
 -- the step is one of this actor's operations
 abbrev pub IsStepOf : ℕ → Step → Type 0
-IsStepOf actor (step.Begin other call) = other ≡ actor
+IsStepOf actor (step.Begin other call number) = other ≡ actor
 IsStepOf actor (step.Go other) = other ≡ actor
 IsStepOf actor (step.GiveUp other) = other ≡ actor
 IsStepOf actor step.Sweep = ⊥
@@ -29,7 +29,7 @@ OthersLeaveTheAccount =
 -- What the actor's own step makes of its account: a begin brings an operation in, whose place is the history's next one;
 -- an end answers the operation that the account has, at the next place; other steps leave the account.
 abbrev pub IsMadeBy : List Event → ℕ → Account → Step → Outcome → Account → Type 0
-IsMadeBy history actor before (step.Begin owner call) (outcome.Began id) after =
+IsMadeBy history actor before (step.Begin owner call number) (outcome.Began id) after =
     (before.running ≡ None) × (after ≡ record before { running = Some (begun_at (length history) id call) })
 IsMadeBy history actor before (step.Go owner) (outcome.Ended id answer) after =
     (operation : Running) × (before.running ≡ Some operation) × (operation.id ≡ id)

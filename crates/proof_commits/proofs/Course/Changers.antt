@@ -200,20 +200,20 @@ module _ (limits : Bounds) (states : ℕ → State) (last : ℕ) (known : Known 
           ∙ all actor operation is why' i a f x same ∙ ap (changer_for operation) (because _ refl why' _ same) ∙ changer_kept (states t) operation why why' _ same
 
   at_next : (t : ℕ) → t < last → All t → NotedAt (states t) (known.run.records t) (states (suc t)) (known.run.records (suc t)) → All (suc t)
-  at_next t h all (NotesBegin actor call o m d e notes) k operation runs why i a f l is = elim (cases_eq k actor) [
+  at_next t h all (NotesBegin actor call number o m d e notes) k operation runs why i a f l is = elim (cases_eq k actor) [
     | inl same ↦
-        let found = subst (λ (s : State). (operation_of s actor ≡ None) ⊎ (operation_of s actor ≡ Some (begun_operation (states t) call))) (sym e)
-        (begin_own (states t) actor call (begun_operation (states t) call)) in
-        absurd (not_begun call (subst (λ j. operation_of (states (suc t)) j ≡ Some operation) same runs) found)
+        let found = subst (λ (s : State). (operation_of s actor ≡ None) ⊎ (operation_of s actor ≡ Some (begun_operation (states t) call number))) (sym e)
+        (begin_own (states t) actor call (begun_operation (states t) call number)) in
+        absurd (not_begun call number (subst (λ j. operation_of (states (suc t)) j ≡ Some operation) same runs) found)
     | inr other ↦
-        rests t all k None (ap (λ (s : State). operation_of s k) e ∙ begin_others (states t) actor call (begun_operation (states t) call) (begin_counts (states t) actor call d) k other)
+        rests t all k None (ap (λ (s : State). operation_of s k) e ∙ begin_others (states t) actor call (begun_operation (states t) call number) (begin_counts (states t) actor call number d) k other)
         (known.run.records (suc t)) (λ g. ap (λ past. changer_of past g) notes) operation runs why i a f l is
   ]
     where
-      not_begun : (c : Call) → operation_of (states (suc t)) actor ≡ Some operation →
-          (operation_of (states (suc t)) actor ≡ None) ⊎ (operation_of (states (suc t)) actor ≡ Some (begun_operation (states t) c)) → ⊥
-      not_begun c at (inl none) = none-some operation (sym none ∙ at)
-      not_begun c at (inr begun) = at_rest _ i a f l (first_at_rest c) (ap stage_of (ap (λ (x : Operation). x.line) (same_Some _ _ (sym begun ∙ at))) ∙ ap stage_of is)
+      not_begun : (c : Call) (number : Option ℕ) → operation_of (states (suc t)) actor ≡ Some operation →
+          (operation_of (states (suc t)) actor ≡ None) ⊎ (operation_of (states (suc t)) actor ≡ Some (begun_operation (states t) c number)) → ⊥
+      not_begun c number at (inl none) = none-some operation (sym none ∙ at)
+      not_begun c number at (inr begun) = at_rest _ i a f l (first_at_rest c) (ap stage_of (ap (λ (x : Operation). x.line) (same_Some _ _ (sym begun ∙ at))) ∙ ap stage_of is)
   at_next t h all (NotesGo actor mover o m d ran g e notes) k operation runs why i a f l is = elim (cases_eq k actor) [
     | inl same ↦
         let own = ap (λ (s : State). operation_of s actor) e ∙ go_own (states t) actor mover ran in

@@ -34,7 +34,7 @@ fewer_swept pins r None q slot e = subst (λ x. standing x q ≡ Some slot) (idl
 fewer_swept pins r (Some at) q slot e = freed_before r.heap at q slot e
 
 fewer : (before : State) (s : Step) (o : Outcome) (after : State) → Moves before s o after → IsNoGo s → Fewer before.heap after.heap
-fewer before s o after (Begins {actor} {call} d) n q slot e = subst (λ x. standing x q ≡ Some slot) (begin_heap before actor call (begun_operation before call)) e
+fewer before s o after (Begins {actor} {call} {number} d) n q slot e = subst (λ x. standing x q ≡ Some slot) (begin_heap before actor call (begun_operation before call number)) e
 fewer before s o after (Goes d is a g) n q slot e = absurd n
 fewer before s o after (Ends d is a) n q slot e = absurd n
 fewer before s o after (GivesUp d is a) n q slot e = e

@@ -22,8 +22,8 @@ use Rattle.proof_commits.specs.Words.{commit_of}
 -- ---- which step it is
 
 pub data StepAt (before after : State) : Type 0 where
-  IsBegin : (actor : ℕ) (call : Call) (o : Outcome) → Moves before (step.Begin actor call) o after → begin_denial before actor call ≡ None →
-      after ≡ settled before (with_begin before actor call (begun_operation before call)) → StepAt before after
+  IsBegin : (actor : ℕ) (call : Call) (number : Option ℕ) (o : Outcome) → Moves before (step.Begin actor call number) o after → begin_denial before actor call number ≡ None →
+      after ≡ settled before (with_begin before actor call (begun_operation before call number)) → StepAt before after
   IsGo : (actor : ℕ) (operation : Operation) (o : Outcome) → Moves before (step.Go actor) o after → operation_of before actor ≡ Some operation →
       GoesOn (action_of before operation) → after ≡ settled before (gone before actor operation) → StepAt before after
   IsEnd : (actor : ℕ) (operation : Operation) (answer : Reply) (o : Outcome) → Moves before (step.Go actor) o after → operation_of before actor ≡ Some operation →
@@ -33,7 +33,7 @@ pub data StepAt (before after : State) : Type 0 where
       given_up operation.call operation.line ≡ Some answer → after ≡ settled before (with_operation before actor (Some (gave_up operation answer))) → StepAt before after
 
 pub of_move : (before : State) (s : Step) (o : Outcome) (after : State) → Moves before s o after → StepAt before after
-of_move before s o after (Begins {actor} {call} d) = IsBegin actor call _ (Begins d) d refl
+of_move before s o after (Begins {actor} {call} {number} d) = IsBegin actor call number _ (Begins d) d refl
 of_move before s o after (Goes {actor} {operation} {action} d is a g) = IsGo actor operation _ (Goes d is a g) is (subst GoesOn (sym a) g) refl
 of_move before s o after (Ends {actor} {operation} {answer} d is a) = IsEnd actor operation answer _ (Ends d is a) is a refl
 of_move before s o after (Sweeps spent) = IsSweep _ (Sweeps spent) refl
@@ -44,9 +44,9 @@ step_at before after (turns s o m) = of_move before s o after m
 
 -- the same, with what is recorded
 pub data NotedAt (before : State) (past : Record) (after : State) (now : Record) : Type 0 where
-  NotesBegin : (actor : ℕ) (call : Call) (o : Outcome) → Moves before (step.Begin actor call) o after → begin_denial before actor call ≡ None →
-      after ≡ settled before (with_begin before actor call (begun_operation before call)) →
-      now ≡ noted past before.steps (begin_told actor call (begun_operation before call)) → NotedAt before past after now
+  NotesBegin : (actor : ℕ) (call : Call) (number : Option ℕ) (o : Outcome) → Moves before (step.Begin actor call number) o after → begin_denial before actor call number ≡ None →
+      after ≡ settled before (with_begin before actor call (begun_operation before call number)) →
+      now ≡ noted past before.steps (begin_told actor call (begun_operation before call number)) → NotedAt before past after now
   NotesGo : (actor : ℕ) (operation : Operation) (o : Outcome) → Moves before (step.Go actor) o after → go_denial before actor ≡ None → operation_of before actor ≡ Some operation →
       GoesOn (action_of before operation) → after ≡ settled before (gone before actor operation) →
       now ≡ noted_progress past before.steps actor (progress_of before operation) → NotedAt before past after now
@@ -60,7 +60,7 @@ pub data NotedAt (before : State) (past : Record) (after : State) (now : Record)
 
 notes_by : (before : State) (past : Record) (s : Step) (o : Outcome) (after : State) (now : Record) → Moves before s o after → now ≡ noted past before.steps (told_in before s) →
     NotedAt before past after now
-notes_by before past s o after now (Begins {actor} {call} d) e = NotesBegin actor call _ (Begins d) d refl e
+notes_by before past s o after now (Begins {actor} {call} {number} d) e = NotesBegin actor call number _ (Begins d) d refl e
 notes_by before past s o after now (Goes {actor} {operation} {action} d is a g) e =
     NotesGo actor operation _ (Goes d is a g) d is (subst GoesOn (sym a) g) refl (e ∙ noted_going before past actor operation action is a g)
 notes_by before past s o after now (Ends {actor} {operation} {answer} d is a) e =

@@ -38,9 +38,9 @@ of_later G H more None r = r
 of_later G H more (Some operation) r =
     remembers_still (λ i m. G operation.id i m) (λ i m. H operation.id i m) (operation.access ≡ Writable) (λ i m g. more operation.id i m g) operation.line r
 
-of_begun : (G : ℕ → Ref → Ref → Type 0) (state : State) (call : Call) (x : Option Operation) → (x ≡ None) ⊎ (x ≡ Some (begun_operation state call)) → OfActor G x
-of_begun G state call x (inl e) = subst (λ y. OfActor G y) (sym e) tt
-of_begun G state call x (inr e) = subst (λ y. OfActor G y) (sym e) (at_first _ _ call)
+of_begun : (G : ℕ → Ref → Ref → Type 0) (state : State) (call : Call) (number : Option ℕ) (x : Option Operation) → (x ≡ None) ⊎ (x ≡ Some (begun_operation state call number)) → OfActor G x
+of_begun G state call number x (inl e) = subst (λ y. OfActor G y) (sym e) tt
+of_begun G state call number x (inr e) = subst (λ y. OfActor G y) (sym e) (at_first _ _ call)
   where
     at_first : (P : Ref → Ref → Type 0) (W : Type 0) (call : Call) → Remembers P W (first_line call)
     at_first P W call = grind arith
@@ -66,11 +66,11 @@ module _ (limits : Bounds) (states : ℕ → State) (last : ℕ) (run : IsRun li
   each_by t m actor so_far others own k (inr apart) = same_actor t k m (others k apart) (so_far k)
 
   each_next : (t : ℕ) → t < last → ((k : ℕ) → At t k) → NotedAt (states t) (run.records t) (states (suc t)) (run.records (suc t)) → (k : ℕ) → At (suc t) k
-  each_next t h so_far (NotesBegin actor call o m d e noted) k =
+  each_next t h so_far (NotesBegin actor call number o m d e noted) k =
       each_by t None actor so_far
-      (λ j apart. ap (λ (s : State). operation_of s j) e ∙ begin_others (states t) actor call (begun_operation (states t) call) (begin_counts (states t) actor call d) j apart)
-      (of_begun (G (suc t) actor) (states t) call _ (subst (λ (s : State). (operation_of s actor ≡ None) ⊎ (operation_of s actor ≡ Some (begun_operation (states t) call))) (sym e)
-      (begin_own (states t) actor call (begun_operation (states t) call)))) k (cases_eq k actor)
+      (λ j apart. ap (λ (s : State). operation_of s j) e ∙ begin_others (states t) actor call (begun_operation (states t) call number) (begin_counts (states t) actor call number d) j apart)
+      (of_begun (G (suc t) actor) (states t) call number _ (subst (λ (s : State). (operation_of s actor ≡ None) ⊎ (operation_of s actor ≡ Some (begun_operation (states t) call number))) (sym e)
+      (begin_own (states t) actor call (begun_operation (states t) call number)))) k (cases_eq k actor)
   each_next t h so_far (NotesGo actor operation o m d is g e noted) k =
       let own : operation_of (states (suc t)) actor ≡ after_mark (marks_by (states t) (Some operation)) (Some (operation_after (states t) operation)) =
       ap (λ (s : State). operation_of s actor) e ∙ go_own (states t) actor operation is in

@@ -64,7 +64,7 @@ step_of_action states t (act.Look r) e = Stays e
 step_of_action states t (act.End answer) e = Stays e
 
 grown_step_of : (limits : Bounds) (states : ℕ → State) (last : ℕ) → Known limits states last → (t : ℕ) → t < last → StepAt (states t) (states (suc t)) → GrownStep states t
-grown_step_of limits states last k t h (IsBegin actor call o m d e) = Stays (k.stays t h (step.Begin actor call) o m tt)
+grown_step_of limits states last k t h (IsBegin actor call number o m d e) = Stays (k.stays t h (step.Begin actor call number) o m tt)
 grown_step_of limits states last k t h (IsGo actor operation o m is g e) = step_of_action states t (action_of (states t) operation) (k.acts t h actor o m operation is)
 grown_step_of limits states last k t h (IsEnd actor operation answer o m is a e) = step_of_action states t (action_of (states t) operation) (k.acts t h actor o m operation is)
 grown_step_of limits states last k t h (IsSweep o m e) = Stays (k.stays t h step.Sweep o m tt)

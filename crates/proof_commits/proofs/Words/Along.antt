@@ -137,19 +137,19 @@ module _ (limits : Bounds) (states : ℕ → State) (last : ℕ) (known : Known 
   letting_go actor leaves free after others noted =
       Acts actor (Idles leaves free (subst IsAtRest (sym after) tt)) (inl (subst IsAtRest (sym after) tt)) (λ j apart. same_actor None j (others j apart) (noted j))
 
-  begun_stage : (call : Call) (x : Option Operation) → (x ≡ None) ⊎ (x ≡ Some (begun_operation (states t) call)) → stage_of_actor x ≡ Rests
-  begun_stage call x (inl e) = ap stage_of_actor e
-  begun_stage call x (inr e) = ap stage_of_actor e ∙ first_rests call
+  begun_stage : (call : Call) (number : Option ℕ) (x : Option Operation) → (x ≡ None) ⊎ (x ≡ Some (begun_operation (states t) call number)) → stage_of_actor x ≡ Rests
+  begun_stage call number x (inl e) = ap stage_of_actor e
+  begun_stage call number x (inr e) = ap stage_of_actor e ∙ first_rests call
 
   turn_by : NotedAt (states t) (known.run.records t) (states (suc t)) (known.run.records (suc t)) → Turn w t
-  turn_by (NotesBegin actor call o m d e notes) =
+  turn_by (NotesBegin actor call number o m d e notes) =
       let kept = no_commit limits states last known t h (ap (λ (r : Record). r.commits) notes) in
-      let found = subst (λ (s : State). (operation_of s actor ≡ None) ⊎ (operation_of s actor ≡ Some (begun_operation (states t) call))) (sym e)
-      (begin_own (states t) actor call (begun_operation (states t) call)) in
-      idle_turn actor (leaves_words states known.run.records last known.closing t (known.stays t h (step.Begin actor call) o m tt) kept)
-      (ap stage_of_actor (idle_before (states t) actor call d)) (begun_stage call _ found)
-      (λ j apart. ap (λ (s : State). operation_of s j) e ∙ begin_others (states t) actor call (begun_operation (states t) call) (begin_counts (states t) actor call d) j apart)
-      (λ j apart. ap (λ r. moment_at r j) notes ∙ moment_others (known.run.records t) actor j no_moment (begin_counts (states t) actor call d) apart)
+      let found = subst (λ (s : State). (operation_of s actor ≡ None) ⊎ (operation_of s actor ≡ Some (begun_operation (states t) call number))) (sym e)
+      (begin_own (states t) actor call (begun_operation (states t) call number)) in
+      idle_turn actor (leaves_words states known.run.records last known.closing t (known.stays t h (step.Begin actor call number) o m tt) kept)
+      (ap stage_of_actor (idle_before (states t) actor call number d)) (begun_stage call number _ found)
+      (λ j apart. ap (λ (s : State). operation_of s j) e ∙ begin_others (states t) actor call (begun_operation (states t) call number) (begin_counts (states t) actor call number d) j apart)
+      (λ j apart. ap (λ r. moment_at r j) notes ∙ moment_others (known.run.records t) actor j no_moment (begin_counts (states t) actor call number d) apart)
   turn_by (NotesGo actor operation o m d is g e notes) =
       go_turn actor operation is e d notes (line_turn limits states last known t h actor operation operation.line g (record {
         facts = line_facts limits states last known t h actor operation o m is notes;

@@ -124,9 +124,9 @@ sweep_below n pins r (Some at) h = freed_below n r.heap at h
 pub nodes_below_after : (state : State) → IsSafe state → 0 < state.generations → NodesBelow state.generations state.heap →
     ((actor : ℕ) (operation : Operation) → operation_of state actor ≡ Some operation → start_of operation < state.generations) →
     (s : Step) (o : Outcome) (after : State) → Moves state s o after → NodesBelow after.generations after.heap
-nodes_below_after state I pos h start s o after (Begins {actor} {call} d) =
-    let same = begin_heap_same state actor call (begun_operation state call) in
-    same_counter state (with_begin state actor call (begun_operation state call)) same.1 same.0 h
+nodes_below_after state I pos h start s o after (Begins {actor} {call} {number} d) =
+    let same = begin_heap_same state actor call (begun_operation state call number) in
+    same_counter state (with_begin state actor call (begun_operation state call number)) same.1 same.0 h
 nodes_below_after state I pos h start s o after (Goes {actor} {operation} d is a g) =
     acted_below _ (handle_of operation.call) (action_of state operation) h
     (λ node e. made_below state operation node pos (start actor operation is)
@@ -162,7 +162,7 @@ start_after state operation l pos h e = e
 starts_by : (state : State) (s : Step) (n : ℕ) → 0 < state.generations → state.generations ≤ n → NodesBelow state.generations state.heap → StartsBelow state →
     (k : ℕ) (found : Operation) → Comes state s k found →
     start_of found < n
-starts_by state s n pos more h all k found (began call is d it) = omega (arith, ap start_of it)
+starts_by state s n pos more h all k found (began call number is d it) = omega (arith, ap start_of it)
 starts_by state s n pos more h all k found (rested was at_k it other_step) = omega (arith, ap start_of (it ∙ mark_only (marks_in state s) was), all k was at_k)
 starts_by state s n pos more h all k found (went was is at_k g it) =
     omega (arith, ap start_of (it ∙ mark_only (marks_in state s) (operation_after state was)), start_after state was was.line pos h (all k was at_k))

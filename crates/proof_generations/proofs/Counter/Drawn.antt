@@ -41,7 +41,7 @@ begin_counts state actor call operation = grind arith
 
 -- it never falls
 pub counter_rises : (state : State) (s : Step) (o : Outcome) (after : State) → Moves state s o after → state.generations ≤ after.generations
-counter_rises state s o after (Begins {actor} {call} d) = omega (arith, begin_counts state actor call (begun_operation state call))
+counter_rises state s o after (Begins {actor} {call} {number} d) = omega (arith, begin_counts state actor call (begun_operation state call number))
 counter_rises state s o after (Goes {actor} {operation} d is a g) = acted_counts _ (handle_of operation.call) (action_of state operation)
 counter_rises state s o after (Ends d is a) = omega arith
 counter_rises state s o after (GivesUp d is a) = omega arith

@@ -103,7 +103,7 @@ module _ (limits : Bounds) (states : ℕ → State) (last : ℕ) (run : IsRun li
         let O = ordered_at limits states last run t (omega arith) in
         elim (ran_or_began (states t) O.offers O.handles s k found c) [
           | inl ran ↦ ap (λ (x : Operation). x.is_marked) (one_at (states t) k was ran.was at_was ran.at_k) ∙ ran.unmarked e
-          | inr fresh ↦ (let wrong : step.Go (suc k) ≡ step.Begin (suc k) fresh.0 = sym go ∙ fresh.1 in let no : ⊥ = cc wrong in absurd no)
+          | inr fresh ↦ (let wrong : step.Go (suc k) ≡ step.Begin (suc k) fresh.0 fresh.1 = sym go ∙ fresh.2 in let no : ⊥ = cc wrong in absurd no)
         ]
 
     -- below the root that a line makes falls what stands below the operation's
@@ -133,7 +133,7 @@ module _ (limits : Bounds) (states : ℕ → State) (last : ℕ) (run : IsRun li
 
     fresh_by : (k : ℕ) (found : Operation) (x : Bool) (r : Ref) → Comes (states t) s k found → found.is_marked ≡ false → fresh_in x found.line ≡ Some r →
         FreshFalls states run.records last (suc t) found r
-    fresh_by k found x r (began call is d it) unmarked e = absurd (first_none call x r (ap (λ (y : Operation). fresh_in x y.line) (sym it) ∙ e))
+    fresh_by k found x r (began call number is d it) unmarked e = absurd (first_none call x r (ap (λ (y : Operation). fresh_in x y.line) (sym it) ∙ e))
     fresh_by k found x r (rested was runs it other_step) unmarked e =
         let same = it ∙ mark_only (marks_in (states t) s) was in
         let open_then = unmarked_before (marks_in (states t) s) was (ap (λ (y : Operation). y.is_marked) (sym it) ∙ unmarked) in

@@ -1,5 +1,5 @@
 -- After a step each running operation knows of its line what it has to.
-use Rattle.std.proofs.Common.{◌≡◌, ℕ, suc, ◌<◌, List, ◌∷◌, ◌++◌, Some, refl, sym, ap, ◌∙◌, subst, arith, []}
+use Rattle.std.proofs.Common.{Option, ◌≡◌, ℕ, suc, ◌<◌, List, ◌∷◌, ◌++◌, Some, refl, sym, ap, ◌∙◌, subst, arith, []}
 use Rattle.proof_generations.specs.Vocabulary.{Writable, Call, Entries, Count, Close, Ref, Node, Indirection, Branch, Single, Tomb, List as Listed, node_at, generation_at, entries_of, Line}
 use Rattle.proof_generations.specs.Vocabulary.{Operation, After, Gives, Read, RootLine, Plain, Bounds, Outcome, Step, WalkLine, handle_of, State, root_of, word_of, word_at, read_step, root_after}
 use Rattle.proof_generations.specs.Vocabulary.{walk_after, walk_after_read, walk_next, walk_after_entry, first_of, rest_of, action_of, line_after, first_line, after_root, given_root}
@@ -133,14 +133,14 @@ module _ (limits : Bounds) (states : ℕ → State) (last : ℕ) (run : IsRun li
       λ r. reader_knows limits states last run t lt mains k operation runs o moves goes noted r ((know k operation runs).1 r),
     )
 
-  begins_knows : (x : Moment) (call : Call) → KnowsGenerations states run.records last (suc t) x (begun_operation (states t) call)
-  begins_knows x call =
+  begins_knows : (x : Moment) (call : Call) (number : Option ℕ) → KnowsGenerations states run.records last (suc t) x (begun_operation (states t) call number)
+  begins_knows x call number =
       (λ w i. absurd (first_not_inner call i), λ r. first_reader (Ends states run.records last (suc t)) (Shut states run.records last (suc t)) (LateEnd states run.records last (suc t) x) call)
 
   module _ (s : Step) (o : Outcome) (m : Moves (states t) s o (states (suc t))) (notes : run.records (suc t) ≡ noted (run.records t) (states t).steps (told_in (states t) s)) where
     comes_knows : (k : ℕ) (found : Operation) → Comes (states t) s k found → KnowsGenerations states run.records last (suc t) (moment_at (run.records (suc t)) (suc k)) found
-    comes_knows k found (began call is d it) = subst (KnowsGenerations states run.records last (suc t) (moment_at (run.records (suc t)) (suc k))) (sym it)
-        (begins_knows (moment_at (run.records (suc t)) (suc k)) call)
+    comes_knows k found (began call number is d it) = subst (KnowsGenerations states run.records last (suc t) (moment_at (run.records (suc t)) (suc k))) (sym it)
+        (begins_knows (moment_at (run.records (suc t)) (suc k)) call number)
     comes_knows k found (rested was at_was it other_step) =
         let same : moment_at (run.records (suc t)) (suc k) ≡ moment_at (run.records t) (suc k) =
         ap (λ past. moment_at past (suc k)) notes ∙ moment_rests (states t) (run.records t) s o (states (suc t)) m k other_step in

@@ -1,16 +1,16 @@
 -- Handles: that of a running operation is open and of its kind, and the number that an operation is to open is its own and names no open handle until it is marked.
-use Rattle.std.proofs.Common.{◌≡◌, ℕ, zero, suc, ◌+◌, ◌≤◌, Bool, true, false, cond, nat_le, is_some, inl, inr, ◌⊎◌, List, ◌∷◌, set, get_or, Option, Some, None, unwrap_or, refl}
-use Rattle.std.proofs.Common.{sym, ap, ◌∙◌, subst, eq-eqb, add-one, arith, []}
+use Rattle.std.proofs.Common.{◌≡◌, ℕ, zero, suc, ◌≤◌, Bool, true, false, cond, is_some, inl, inr, ◌⊎◌, List, ◌∷◌, set, get_or, Option, Some, None, unwrap_or, refl}
+use Rattle.std.proofs.Common.{sym, ap, ◌∙◌, subst, eq-eqb, arith, []}
 use Rattle.std.specs.List.{list_any}
 use Rattle.std.proofs.lemmas.Bool.{true≢false, false≢true, cond_both, or_parts}
-use Rattle.std.proofs.lemmas.Option.{none-some, same_Some}
-use Rattle.proof_generations.specs.Vocabulary.{Access, Writable, Call, Operation, Descriptor, Root, Bounds, Outcome, Step, handle_of, is_close, opens_handle, State, first_state, root_at, word_of}
-use Rattle.proof_generations.specs.Vocabulary.{word_at, operation_of, handle_limit, action_of, line_action, line_after, operation_after, gone, mark_after, begin_denial, handle_closed, access_of}
-use Rattle.proof_generations.specs.Vocabulary.{runs_on, is_taken, is_number, reserved_by, taken_below, handles_taken, least_from, least_free, Begins, Ends, Sweeps, GivesUp, Moves, GoesOn}
-use Rattle.proof_generations.specs.Vocabulary.{begun_operation, IsRun, is_carried_out, gave_up, Reply}
+use Rattle.std.proofs.lemmas.Option.{none-some}
+use Rattle.proof_generations.specs.Vocabulary.{Access, Writable, Call, Operation, Descriptor, Root, Bounds, Outcome, Step, handle_of, is_close, State, first_state, root_at, word_of, word_at}
+use Rattle.proof_generations.specs.Vocabulary.{operation_of, action_of, line_action, line_after, operation_after, gone, mark_after, begin_denial, handle_closed, access_of, runs_on, is_taken}
+use Rattle.proof_generations.specs.Vocabulary.{is_number, reserved_by, Begins, Ends, Sweeps, GivesUp, Moves, GoesOn, begun_operation, IsRun, is_carried_out, gave_up, Reply}
 use Rattle.proof_generations.specs.Beneath.machine_model.specs.declared.steps.Step.TheVariants as step
 use Rattle.proof_generations.specs.Beneath.machine_model.specs.Moves.{Goes}
 use Rattle.proof_generations.specs.Beneath.machine_model.proofs.Actors.{mark_one, mark_only, marks_in, marks_by, marks_of}
+use Rattle.proof_generations.specs.Beneath.machine_model.proofs.Numbers.{begun_opens}
 use Rattle.proof_generations.specs.Beneath.machine_model.proofs.Found.{found_elsewhere, found_here, none_found}
 use Rattle.proof_generations.specs.Beneath.machine_model.proofs.Times.{at_each_time}
 use Rattle.proof_generations.specs.Beneath.machine_model.specs.declared.lines.Line.TheVariants as line
@@ -22,49 +22,7 @@ use Rattle.proof_generations.proofs.Offers.Same.{HasOffers, same_offer, has_offe
 use Rattle.proof_generations.proofs.Handles.Footings.{ActionCarriesOut, RootFrom, stood, swapped, newly, root_from, StaysOpen, stays_open}
 use Rattle.proof_generations.proofs.Offers.Marks.{AllDone, done_after, carried_stands, unmarked_before, marks_mark, is_completing, complete_mark}
 
--- ---- a free number
-
-free_by : (state : State) (left n : ℕ) (taken : Bool) → is_taken state n ≡ taken →
-    (is_taken state (least_from state left (n + 1)) ≡ false) ⊎ (taken_below state (n + 1 + left) ≡ taken_below state (n + 1) + left) →
-    (is_taken state (cond taken (least_from state left (n + 1)) n) ≡ false) ⊎ (taken_below state (n + suc left) ≡ taken_below state n + suc left)
-unfolding taken_below
-free_by state left n false e rest = inl e
-free_by state left n true e (inl free) = inl free
-free_by state left n true e (inr all) =
-    let one : taken_below state (n + 1) ≡ taken_below state n + 1 = ap (taken_below state) (add-one n) ∙ ap (λ b. taken_below state n + cond b 1 0) e in
-    let whole : taken_below state (n + suc left) ≡ taken_below state (n + 1 + left) = ap (taken_below state) (omega arith) in
-    inr (omega (arith, whole, all, one))
-
--- the least number from n on that isn't taken, or all of these are
-free_found : (state : State) (left n : ℕ) → (is_taken state (least_from state left n) ≡ false) ⊎ (taken_below state (n + left) ≡ taken_below state n + left)
-unfolding least_from
-free_found state zero n =
-    let same : n + 0 ≡ n = omega arith in
-    let whole : taken_below state (n + 0) ≡ taken_below state n = ap (taken_below state) same in
-    inr (omega arith)
-free_found state (suc left) n = free_by state left n (is_taken state n) refl (free_found state left (n + 1))
-
-least_is_free : (state : State) → nat_le handle_limit (handles_taken state) ≡ false → is_taken state (least_free state) ≡ false
-unfolding taken_below
-least_is_free state e = elim (free_found state 256 0) [
-  | inl free ↦ free
-  | inr all ↦ absurd (full (taken_below state 256) all e)
-]
-  where
-    full : (n : ℕ) → n ≡ 0 + 256 → nat_le 256 n ≡ false → ⊥
-    full n is e = grind arith
-
-pub opens_allowed : (state : State) (actor : ℕ) (call : Call) → begin_denial state actor call ≡ None → opens_handle call ≡ true → nat_le handle_limit (handles_taken state) ≡ false
-opens_allowed state actor call d o = grind arith
-
--- what a begin is to open
-begun_opens : (state : State) (actor : ℕ) (call : Call) → begin_denial state actor call ≡ None → (n : ℕ) → (begun_operation state call).opens ≡ Some n →
-    (opens_handle call ≡ true) × (is_taken state n ≡ false)
-begun_opens state actor call d n e = by (opens_handle call) refl e
-  where
-    by : (b : Bool) → opens_handle call ≡ b → cond b (Some (least_free state)) None ≡ Some n → (b ≡ true) × (is_taken state n ≡ false)
-    by true is e = (refl, subst (λ m. is_taken state m ≡ false) (same_Some _ _ e) (least_is_free state (opens_allowed state actor call d is)))
-    by false is e = absurd (none-some n e)
+-- ---- a number that is free
 
 -- a number that isn't taken names no handle, and none reserves it
 no_handle : (state : State) (n : ℕ) → is_taken state n ≡ false → root_at state n ≡ None
@@ -130,7 +88,7 @@ pub record Ran (state : State) (s : Step) (k : ℕ) (found : Operation) : Type 0
 module _ (state : State) (I : HasOffers state) (H : HasHandles state) where
   ran_so : (s : Step) (k : ℕ) (was next found : Operation) → Runs state k was → next.id ≡ was.id → next.call ≡ was.call → next.access ≡ was.access → next.opens ≡ was.opens →
       ((next.line ≡ was.line) ⊎ (((s ≡ step.Go (suc k)) × (next.line ≡ line_after state was was.line)) ⊎ ((answer : Reply) × (next.line ≡ line.End answer)))) → (next.is_marked ≡ false →
-          was.is_marked ≡ false) →
+      was.is_marked ≡ false) →
       found ≡ mark_one (marks_in state s) next → Ran state s k found
   ran_so s k was next found at_k id call access opening from unmarked it =
       let same = it ∙ mark_only (marks_in state s) next in
@@ -161,8 +119,8 @@ module _ (state : State) (I : HasOffers state) (H : HasHandles state) where
           absurd (true≢false (sym is ∙ sym (complete_mark was.is_marked c) ∙ ap (λ l. mark_after was.is_marked (line_action state was l)) (sym at_line) ∙ e))
 
   pub ran_or_began : (s : Step) (k : ℕ) (found : Operation) → Comes state s k found →
-      Ran state s k found ⊎ ((call : Call) × (s ≡ step.Begin (suc k) call) × (begin_denial state (suc k) call ≡ None) × (found ≡ begun_operation state call))
-  ran_or_began s k found (began call is d it) = inr (call, is, d, it)
+      Ran state s k found ⊎ ((call : Call) × (number : Option ℕ) × (s ≡ step.Begin (suc k) call number) × (begin_denial state (suc k) call number ≡ None) × (found ≡ begun_operation state call number))
+  ran_or_began s k found (began call number is d it) = inr (call, number, is, d, it)
   ran_or_began s k found (rested was at_k it other_step) = inl (ran_so s k was was found at_k refl refl refl refl (inl refl) (λ e. e) it)
   ran_or_began s k found (went was is at_k g it) = inl (ran_so s k was (operation_after state was) found at_k refl refl refl refl (inr (inl (is, refl))) (kept_mark k was at_k g) it)
   ran_or_began s k found (gave was answer is at_k may it) =
@@ -182,9 +140,9 @@ module _ (state : State) (I : HasOffers state) (H : HasHandles state) where
   here actor operation st offer same c = record { main = c.main; is_it = c.is_it; carried = ap (λ w. is_carried_out w offer c.main) (sym same) ∙ c.carried }
 
   pub stays : (s : Step) (o : Outcome) (after : State) → Moves state s o after → (handle : ℕ) (root : Root) → root_at state handle ≡ Some root →
-      ((actor : ℕ) (call : Call) → s ≡ step.Begin actor call → begin_denial state actor call ≡ None → is_close call ≡ true → handle ≡ handle_of call → ⊥) → StaysOpen after handle root
-  stays s o after (Begins {actor} {call} d) handle root e not_closed =
-      (root, closed_root state call handle (not_closed actor call refl d) ∙ e, refl)
+      ((actor : ℕ) (call : Call) (number : Option ℕ) → s ≡ step.Begin actor call number → begin_denial state actor call number ≡ None → is_close call ≡ true → handle ≡ handle_of call → ⊥) → StaysOpen after handle root
+  stays s o after (Begins {actor} {call} {number} d) handle root e not_closed =
+      (root, closed_root state call handle (not_closed actor call number refl d) ∙ e, refl)
   stays s o after (Goes {actor} {operation} d is a g) handle root e not_closed =
       stays_open _ (handle_of operation.call) handle root e (action_of state operation) (λ offer c. opens_new actor operation handle root is e offer (here actor operation _ offer refl c))
   stays s o after (Ends d is a) handle root e not_closed = (root, e, refl)
@@ -194,7 +152,7 @@ module _ (state : State) (I : HasOffers state) (H : HasHandles state) where
   pub stays_none : (s : Step) (o : Outcome) (after : State) → Moves state s o after → (n : ℕ) → root_at state n ≡ None →
       ((actor : ℕ) (operation : Operation) (offer : Descriptor) → s ≡ step.Go actor → operation_of state actor ≡ Some operation →
       ActionCarriesOut state (handle_of operation.call) (action_of state operation) offer → offer.opens ≡ Some n → ⊥) → root_at after n ≡ None
-  stays_none s o after (Begins {actor} {call} d) n none not_opened = begun_none state call n none
+  stays_none s o after (Begins {actor} {call} {number} d) n none not_opened = begun_none state call n none
   stays_none s o after (Goes {actor} {operation} d is a g) n none not_opened = by (root_at (gone state actor operation) n) refl
     where
       from : (st : State) → st.roots ≡ state.roots → (now : Root) → RootFrom st (handle_of operation.call) (action_of state operation) n now → ⊥
@@ -212,32 +170,32 @@ module _ (state : State) (I : HasOffers state) (H : HasHandles state) where
   stays_none s o after (GivesUp d is a) n none not_opened = none
   stays_none s o after (Sweeps spent) n none not_opened = none
 
-  same_call : (s : Step) (a b : ℕ) (x y : Call) → s ≡ step.Begin a x → s ≡ step.Begin b y → x ≡ y
-  same_call s a b x y e f = let both : step.Begin a x ≡ step.Begin b y = sym e ∙ f in cc both
+  same_call : (s : Step) (a b : ℕ) (x y : Call) (m n : Option ℕ) → s ≡ step.Begin a x m → s ≡ step.Begin b y n → x ≡ y
+  same_call s a b x y m n e f = let both : step.Begin a x m ≡ step.Begin b y n = sym e ∙ f in cc both
 
   module _ (s : Step) (o : Outcome) (after : State) (m : Moves state s o after) where
     abbrev IsOn : ℕ → Access → Type 0
     IsOn handle access = (root : Root) × (root_at after handle ≡ Some root) × (root.access ≡ access)
 
-    on_open_by : (k : ℕ) (found : Operation) → Ran state s k found ⊎ ((call : Call) × (s ≡ step.Begin (suc k) call) × (begin_denial state (suc k) call ≡ None) × (found ≡ begun_operation state call)) →
+    on_open_by : (k : ℕ) (found : Operation) → Ran state s k found ⊎ ((call : Call) × (number : Option ℕ) × (s ≡ step.Begin (suc k) call number) × (begin_denial state (suc k) call number ≡ None) × (found ≡ begun_operation state call number)) →
         is_close found.call ≡ false → IsOn (handle_of found.call) found.access
     on_open_by k found (inl r) no_close =
         let (root, e, access) = H.on_open k r.was r.at_k (ap is_close (sym r.call) ∙ no_close) in
         let (now, found_now, same) = stays s o after m (handle_of r.was.call) root e
-        (λ actor call is d closes at. close_denied state actor call d closes (subst (λ h. runs_on state h ≡ true) at (running_on state.actors k r.was r.at_k))) in
+        (λ actor call number is d closes at. close_denied state actor call number d closes (subst (λ h. runs_on state h ≡ true) at (running_on state.actors k r.was r.at_k))) in
         (now, ap (λ c. root_at after (handle_of c)) r.call ∙ found_now, same ∙ access ∙ sym r.access)
-    on_open_by k found (inr (call, is, d, it)) no_close = by (root_at state (handle_of call)) refl (handle_given state (suc k) call d)
+    on_open_by k found (inr (call, number, is, d, it)) no_close = by (root_at state (handle_of call)) refl (handle_given state (suc k) call number d)
       where
         by : (r : Option Root) → root_at state (handle_of call) ≡ r → is_some r ≡ true → IsOn (handle_of found.call) found.access
         by None e given = absurd (false≢true given)
         by (Some root) e given =
             let (now, found_now, same) = stays s o after m (handle_of call) root e
-            (λ actor other is_other d' closes at. true≢false
-            (sym closes ∙ ap is_close (same_call s actor (suc k) other call is_other is) ∙ ap (λ (x : Operation). is_close x.call) (sym it) ∙ no_close)) in
+            (λ actor other wish is_other d' closes at. true≢false
+            (sym closes ∙ ap is_close (same_call s actor (suc k) other call wish number is_other is) ∙ ap (λ (x : Operation). is_close x.call) (sym it) ∙ no_close)) in
             (now, ap (λ (x : Operation). root_at after (handle_of x.call)) it ∙ found_now, same ∙ sym (ap (λ (x : Operation). x.access) it ∙ ap (λ r. unwrap_or (access_of r) Writable) e))
 
     unopened_by : (k n : ℕ) (found : Operation) →
-        Ran state s k found ⊎ ((call : Call) × (s ≡ step.Begin (suc k) call) × (begin_denial state (suc k) call ≡ None) × (found ≡ begun_operation state call)) →
+        Ran state s k found ⊎ ((call : Call) × (number : Option ℕ) × (s ≡ step.Begin (suc k) call number) × (begin_denial state (suc k) call number ≡ None) × (found ≡ begun_operation state call number)) →
         found.is_marked ≡ false → found.opens ≡ Some n → root_at after n ≡ None
     unopened_by k n found (inl r) unmarked its =
         stays_none s o after m n (H.unopened k n r.was r.at_k (r.unmarked unmarked) (sym r.opens ∙ its))
@@ -249,27 +207,29 @@ module _ (state : State) (I : HasOffers state) (H : HasHandles state) where
         r.not_marked unmarked
         (ap (marks_in state) is ∙ ap (marks_by state) running ∙ ap (marks_of state (handle_of operation.call)) c.is_it ∙ ap (λ x. cond x (Some offer.operation) None) c.carried
         ∙ ap Some (mine.its ∙ ap (λ (x : Operation). x.id) one)))
-    unopened_by k n found (inr (call, is, d, it)) unmarked its =
-        let (opening, free) = begun_opens state (suc k) call d n (ap (λ (x : Operation). x.opens) (sym it) ∙ its) in
-        stays_none s o after m n (no_handle state n free) (λ actor operation offer go running c opens. let wrong : ⊥ = clash actor k call go is in wrong)
+    unopened_by k n found (inr (call, number, is, d, it)) unmarked its =
+        let (opening, (low, free)) = begun_opens state (suc k) call number d n (ap (λ (x : Operation). x.opens) (sym it) ∙ its) in
+        stays_none s o after m n (no_handle state n free) (λ actor operation offer go running c opens. let wrong : ⊥ = clash actor k call number go is in wrong)
       where
-        clash : (actor k : ℕ) (call : Call) → s ≡ step.Go actor → s ≡ step.Begin (suc k) call → ⊥
-        clash actor k call e f = let both : step.Go actor ≡ step.Begin (suc k) call = sym e ∙ f in cc both
+        clash : (actor k : ℕ) (call : Call) (number : Option ℕ) → s ≡ step.Go actor → s ≡ step.Begin (suc k) call number → ⊥
+        clash actor k call number e f = let both : step.Go actor ≡ step.Begin (suc k) call number = sym e ∙ f in cc both
 
     abbrev From : ℕ → Operation → Type 0
-    From k found = Ran state s k found ⊎ ((call : Call) × (s ≡ step.Begin (suc k) call) × (begin_denial state (suc k) call ≡ None) × (found ≡ begun_operation state call))
+    From k found = Ran state s k found ⊎ ((call : Call) × (number : Option ℕ) × (s ≡ step.Begin (suc k) call number) × (begin_denial state (suc k) call number ≡ None) × (found ≡ begun_operation state call number))
 
-    same_begin : (k j : ℕ) (a b : Call) → s ≡ step.Begin (suc k) a → s ≡ step.Begin (suc j) b → k ≡ j
-    same_begin k j a b e f = let same : step.Begin (suc k) a ≡ step.Begin (suc j) b = sym e ∙ f in let both : suc k ≡ suc j = cc same in omega arith
+    same_begin : (k j : ℕ) (a b : Call) (m n : Option ℕ) → s ≡ step.Begin (suc k) a m → s ≡ step.Begin (suc j) b n → k ≡ j
+    same_begin k j a b m n e f = let same : step.Begin (suc k) a m ≡ step.Begin (suc j) b n = sym e ∙ f in let both : suc k ≡ suc j = cc same in omega arith
 
     reserved_by_two : (k j n : ℕ) (a b : Operation) → From k a → From j b → a.is_marked ≡ false → b.is_marked ≡ false → a.opens ≡ Some n → b.opens ≡ Some n → k ≡ j
     reserved_by_two k j n a b (inl r) (inl q) ua ub oa ob =
         H.reserved k j n r.was q.was r.at_k q.at_k (r.unmarked ua) (q.unmarked ub) (sym r.opens ∙ oa) (sym q.opens ∙ ob)
-    reserved_by_two k j n a b (inl r) (inr (call, is, d, it)) ua ub oa ob =
-        absurd (none_reserves state n k r.was (begun_opens state (suc j) call d n (ap (λ (x : Operation). x.opens) (sym it) ∙ ob)).1 r.at_k (r.unmarked ua) (sym r.opens ∙ oa))
-    reserved_by_two k j n a b (inr (call, is, d, it)) (inl q) ua ub oa ob =
-        absurd (none_reserves state n j q.was (begun_opens state (suc k) call d n (ap (λ (x : Operation). x.opens) (sym it) ∙ oa)).1 q.at_k (q.unmarked ub) (sym q.opens ∙ ob))
-    reserved_by_two k j n a b (inr (x, is, d, it)) (inr (y, is', d', it')) ua ub oa ob = same_begin k j x y is is'
+    reserved_by_two k j n a b (inl r) (inr (call, number, is, d, it)) ua ub oa ob =
+        let (opening, (low, free)) = begun_opens state (suc j) call number d n (ap (λ (x : Operation). x.opens) (sym it) ∙ ob) in
+        absurd (none_reserves state n k r.was free r.at_k (r.unmarked ua) (sym r.opens ∙ oa))
+    reserved_by_two k j n a b (inr (call, number, is, d, it)) (inl q) ua ub oa ob =
+        let (opening, (low, free)) = begun_opens state (suc k) call number d n (ap (λ (x : Operation). x.opens) (sym it) ∙ oa) in
+        absurd (none_reserves state n j q.was free q.at_k (q.unmarked ub) (sym q.opens ∙ ob))
+    reserved_by_two k j n a b (inr (x, m, is, d, it)) (inr (y, n', is', d', it')) ua ub oa ob = same_begin k j x y m n' is is'
 
     pub handles_after : HasHandles after
     handles_after = record {

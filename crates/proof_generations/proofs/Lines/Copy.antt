@@ -234,7 +234,7 @@ abbrev pub AllOwn : State → Type 0
 AllOwn state = (k : ℕ) (operation : Operation) → Runs state k operation → HasOwn operation
 
 own_by : (state : State) (s : Step) → AllOwn state → (k : ℕ) (found : Operation) → Comes state s k found → HasOwn found
-own_by state s all k found (began call is d it) = subst HasOwn (sym it) (first_fits call _ _ 0)
+own_by state s all k found (began call number is d it) = subst HasOwn (sym it) (first_fits call _ _ 0)
 own_by state s all k found (rested was at_k it other_step) = subst HasOwn (sym it) (marked_has _ was (all k was at_k))
 own_by state s all k found (went was is at_k g it) = subst HasOwn (sym it) (marked_has _ (operation_after state was) (line_fits state was was.line (all k was at_k)))
 own_by state s all k found (gave was answer is at_k may it) = subst HasOwn (sym it) tt

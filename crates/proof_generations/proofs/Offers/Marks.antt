@@ -72,7 +72,7 @@ module _ (state : State) (I : HasOffers state) where
       }
 
   pub marked_in : (s : Step) (k : ℕ) (owner : Operation) → Runs state k owner → marks_in state s ≡ Some owner.id → Marks state s k owner
-  marked_in (step.Begin actor call) k owner at_k e = absurd (none-some owner.id e)
+  marked_in (step.Begin actor call number) k owner at_k e = absurd (none-some owner.id e)
   marked_in (step.Go actor) k owner at_k e = marked_by k owner at_k actor (operation_of state actor) refl e
   marked_in step.Sweep k owner at_k e = absurd (none-some owner.id e)
   marked_in (step.GiveUp actor) k owner at_k e = absurd (none-some owner.id e)
@@ -145,7 +145,7 @@ complete_mark mark c = grind arith
 
 module _ (state : State) (I : HasOffers state) (all : AllDone state) (s : Step) where
   done_by : (k : ℕ) (found : Operation) → Comes state s k found → found.is_marked ≡ true → is_done found.line ≡ true
-  done_by k found (began call is d it) e = absurd (false≢true (ap (λ (x : Operation). x.is_marked) (sym it) ∙ e))
+  done_by k found (began call number is d it) e = absurd (false≢true (ap (λ (x : Operation). x.is_marked) (sym it) ∙ e))
   done_by k found (rested was at_k it other_step) e =
       ap (λ (x : Operation). is_done x.line) (it ∙ mark_only (marks_in state s) was) ∙
       elim (cases_Bool was.is_marked) [

@@ -126,7 +126,7 @@ module _ (state : State) (ids : HasIds state) (own : AllOwn state) where
 -- what is known stays known
 module _ (state : State) (s : Step) (o : Outcome) (after : State) (m : Moves state s o after) (offer : Descriptor) (h : IsKnown state offer) where
   tried_by : (k : ℕ) (found : Operation) → Comes state s k found → found.id ≡ offer.operation → offer.attempt ≤ found.attempt
-  tried_by k found (began call is d it) id = absurd (omega (arith, h.has_begun, id, ap (λ (x : Operation). x.id) it))
+  tried_by k found (began call number is d it) id = absurd (omega (arith, h.has_begun, id, ap (λ (x : Operation). x.id) it))
   tried_by k found (rested was at_k it other_step) id =
       let same = it ∙ mark_only (marks_in state s) was in
       omega (arith, h.tried k was at_k (ap (λ (x : Operation). x.id) (sym same) ∙ id), ap (λ (x : Operation). x.attempt) same)
@@ -145,7 +145,7 @@ module _ (state : State) (s : Step) (o : Outcome) (after : State) (m : Moves sta
       absurd (omega (arith, h.tried k was at_k id, try, more))
 
   same_by : (k : ℕ) (found : Operation) → Comes state s k found → found.id ≡ offer.operation → offer.attempt ≡ found.attempt → (d : Descriptor) → own_offer found.line ≡ Some d → d ≡ offer
-  same_by k found (began call is d it) id try e own = absurd (omega (arith, h.has_begun, id, ap (λ (x : Operation). x.id) it))
+  same_by k found (began call number is d it) id try e own = absurd (omega (arith, h.has_begun, id, ap (λ (x : Operation). x.id) it))
   same_by k found (rested was at_k it other_step) id try d own =
       let same = it ∙ mark_only (marks_in state s) was in
       h.same k was at_k (ap (λ (x : Operation). x.id) (sym same) ∙ id) (try ∙ ap (λ (x : Operation). x.attempt) same) d (ap (λ (x : Operation). own_offer x.line) (sym same) ∙ own)
@@ -211,7 +211,7 @@ module _ (state : State) (I : HasOffers state) (s : Step) (o : Outcome) (after :
   went_known k was found at_k now line_is offer (inr (c, e, same)) = subst (λ d. IsKnown after d) same (completing_known k was found at_k now line_is c e (completes_after state was was.line c e))
 
   known_by : (k : ℕ) (found : Operation) → Runs after k found → Comes state s k found → (offer : Descriptor) → HoldsOffer found.line offer → IsKnown after offer
-  known_by k found now (began call is d it) offer held = absurd (first_holds call offer (subst (λ (x : Operation). HoldsOffer x.line offer) it held))
+  known_by k found now (began call number is d it) offer held = absurd (first_holds call offer (subst (λ (x : Operation). HoldsOffer x.line offer) it held))
   known_by k found now (rested was at_k it other_step) offer held =
       let same = it ∙ mark_only (marks_in state s) was in
       known_kept state s o after m offer (I.known k was at_k offer (subst (λ (x : Operation). HoldsOffer x.line offer) same held))

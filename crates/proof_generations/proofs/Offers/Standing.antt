@@ -218,7 +218,7 @@ module _ (state : State) (ids : HasIds state) (own : AllOwn state) (all : Offers
       free actor operation other refl is settled here (ap (λ h. stands_in (word_at state h) other) here ∙ stands)
 
   not_marked : (s : Step) (handle k : ℕ) (owner : Operation) → Runs state k owner → handle_of owner.call ≡ handle → NotSettled s handle → marks_in state s ≡ Some owner.id → ⊥
-  not_marked (step.Begin actor call) handle k owner at_k on free e = none-some owner.id e
+  not_marked (step.Begin actor call number) handle k owner at_k on free e = none-some owner.id e
   not_marked (step.Go actor) handle k owner at_k on free e = not_marked_by handle k owner at_k on actor free (operation_of state actor) refl e
   not_marked step.Sweep handle k owner at_k on free e = none-some owner.id e
   not_marked (step.GiveUp actor) handle k owner at_k on free e = none-some owner.id e
@@ -317,7 +317,7 @@ module _ (state : State) (ids : HasIds state) (own : AllOwn state) (all : Offers
       ]
 
   pub offers_after : (s : Step) (o : Outcome) (after : State) → Moves state s o after → OffersStand after
-  offers_after s o after (Begins {actor} {call} d) handle offer word =
+  offers_after s o after (Begins {actor} {call} {number} d) handle offer word =
       stays s o after (Begins d) handle offer (closed_word call handle offer word) (λ other operation d' e is settled here stands. let wrong : ⊥ = cc e in wrong)
   offers_after s o after (Goes {actor} {operation} d is a g) handle offer word =
       gone_by actor operation o after (Goes d is a g) is handle offer (offer_from _ (handle_of operation.call) handle offer (action_of state operation) word)

@@ -180,7 +180,7 @@ module _ (state : State) (I : HasOffers state) (past : Record) (actor : ℕ) (op
 
 pub step_kind : (state : State) → HasOffers state → (past now : Record) (s : Step) (o : Outcome) (after : State) → Moves state s o after →
     now ≡ noted past state.steps (told_in state s) → StepKind state past s after now
-step_kind state I past now s o after (Begins {actor} {call} d) e =
+step_kind state I past now s o after (Begins {actor} {call} {number} d) e =
     quiet (ap (λ (r : Record). r.closings) e) (λ handle root at_it. begun_kept state call handle root at_it)
 step_kind state I past now s o after (Goes {actor} {operation} {action} d is a g) e =
     subst (λ r. StepKind state past s after r) (sym (e ∙ noted_going state past actor operation action is a g))

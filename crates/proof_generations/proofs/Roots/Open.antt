@@ -21,7 +21,7 @@ abbrev ClosesEnd : State → Type 0
 ClosesEnd state = (k : ℕ) (operation : Operation) → Runs state k operation → is_close operation.call ≡ true → is_end operation.line ≡ true
 
 closes_by : (state : State) (s : Step) → ClosesEnd state → (k : ℕ) (found : Operation) → Comes state s k found → is_close found.call ≡ true → is_end found.line ≡ true
-closes_by state s all k found (began call is d it) e = ap (λ (x : Operation). is_end x.line) it ∙ close_ends call (ap (λ (x : Operation). is_close x.call) (sym it) ∙ e)
+closes_by state s all k found (began call number is d it) e = ap (λ (x : Operation). is_end x.line) it ∙ close_ends call (ap (λ (x : Operation). is_close x.call) (sym it) ∙ e)
 closes_by state s all k found (rested was at_k it other_step) e =
     let same = it ∙ mark_only (marks_in state s) was in
     ap (λ (x : Operation). is_end x.line) same ∙ all k was at_k (ap (λ (x : Operation). is_close x.call) (sym same) ∙ e)

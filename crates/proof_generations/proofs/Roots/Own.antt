@@ -109,7 +109,7 @@ module _ (state : State) (S : IsSafe state) (I : HasOffers state) (H : HasHandle
       | inr (inl goes) ↦ from_line k found x r ran goes.0 (fresh_from state ran.was ran.was.line x r (ap (fresh_in x) (sym goes.1) ∙ e))
       | inr (inr ended) ↦ absurd (none-some r (sym (ap (fresh_in x) ended.1) ∙ e))
     ]
-    | inr (call, is, d, it) ↦ absurd (first_none call x r (ap (λ (y : Operation). fresh_in x y.line) (sym it) ∙ e))
+    | inr (call, number, is, d, it) ↦ absurd (first_none call x r (ap (λ (y : Operation). fresh_in x y.line) (sym it) ∙ e))
   ]
 
   gen_kept : (handle : ℕ) (root now : Root) → root_at state handle ≡ Some root → root_of now.word ≡ root_of root.word → gen after now ≡ gen state root

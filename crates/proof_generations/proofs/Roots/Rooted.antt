@@ -103,7 +103,7 @@ module _ (states : ℕ → State) (records : ℕ → Record) (t : ℕ) (S : IsSa
   from_before : (k : ℕ) (found : Operation) (g : ℕ) → Comes (states t) s k found → is_close found.call ≡ false → found.access ≡ Writable →
       found.generation ≡ Some g → IsRooted states records t (handle_of found.call) g
   unfolding GivenFrom
-  from_before k found g (began call is d it) no_close w e = absurd (none-some g (sym (ap (λ (x : Operation). x.generation) it) ∙ e))
+  from_before k found g (began call number is d it) no_close w e = absurd (none-some g (sym (ap (λ (x : Operation). x.generation) it) ∙ e))
   from_before k found g (rested was at_k it other_step) no_close w e =
       let same = it ∙ mark_only (marks_in (states t) s) was in
       subst (λ c. IsRooted states records t (handle_of c) g) (sym (ap (λ (x : Operation). x.call) same))

@@ -169,7 +169,7 @@ abbrev StandingMove : State → State → Type 0
 StandingMove state after = WordMove state (standing state.heap) (standing after.heap) ⊎ OnlyGoes (standing state.heap) (standing after.heap)
 
 pub standing_move : (state : State) → IsSafe state → (s : Step) (o : Outcome) (after : State) → Moves state s o after → StandingMove state after
-standing_move state I s o after (Begins {actor} {call} d) = inl (keeps (λ r. ap (λ h. standing h r) (begin_heap state actor call (begun_operation state call))))
+standing_move state I s o after (Begins {actor} {call} {number} d) = inl (keeps (λ r. ap (λ h. standing h r) (begin_heap state actor call (begun_operation state call number))))
 standing_move state I s o after (Goes {actor} {operation} d is a g) =
     let (k, found) = of_actor state (λ k operation. get_or state.actors k None ≡ Some operation) (λ k operation e. e) actor operation is in
     inl (gone_move state I actor k operation is found)

@@ -51,7 +51,7 @@ module _ (limits : Bounds) (ok : AreBounds limits) where
 
   each_once : (steps : List Step) → OfEach (λ state operation. Once operation.private) (run limits steps)
   each_once =
-      of_each_along limits (λ state operation. Once operation.private) (λ steps actor call d r. omega arith)
+      of_each_along limits (λ state operation. Once operation.private) (λ steps actor call number d r. omega arith)
       (λ steps actor operation is g h. rw (mark_only (marks_by (run limits steps) (Some operation)) (operation_after (run limits steps) operation))
       (gone_once steps actor operation (action_of (run limits steps) operation) is h))
       (λ steps actor operation answer is a h r. omega arith)

@@ -66,8 +66,8 @@ begun_sizes state actor call operation =
 
 -- each step that is taken
 moved_sizes : (state : State) (s : Step) (o : Outcome) (after : State) → Moves state s o after → SameSizes state after
-moved_sizes state s o after (Begins {actor} {call} d) =
-    let begun = begun_sizes state actor call (begun_operation state call) in record { roots = begun.roots; actors = begun.actors }
+moved_sizes state s o after (Begins {actor} {call} {number} d) =
+    let begun = begun_sizes state actor call (begun_operation state call number) in record { roots = begun.roots; actors = begun.actors }
 moved_sizes state s o after (Goes {actor} {operation} d is a g) =
     let went = acted_sizes _ (handle_of operation.call) (action_of state operation) in record { roots = went.roots; actors = went.actors ∙ length-set state.actors (actor - 1) _ }
 moved_sizes state s o after (Ends {actor} d is a) = record { roots = refl; actors = length-set state.actors (actor - 1) None }

@@ -24,7 +24,7 @@ pub never_after : (state : State) → IsSafe state → NoneRuns (λ state operat
     (s : Step) (o : Outcome) (after : State) → Moves state s o after → NoneRuns (λ state operation. IsImpossible operation.line) after
 never_after state I strange before s o after m =
     each_after state (λ k operation. get_or state.actors k None ≡ Some operation) (λ after k operation. IsImpossible operation.line → ⊥) (λ k operation e. e)
-    (λ actor call k own d. first_possible call)
+    (λ actor call number k own d. first_possible call)
     (λ actor operation k own is g found. marked_possible _ (operation_after state operation)
     (λ i. strange k operation found
     (impossible_strange state operation (Safe state operation.epoch) (heaped state I operation.epoch) (I.fits k operation found) operation.line

@@ -43,7 +43,7 @@ made_next_of state (Some operation) r e = made_next_by (made_node state (action_
 
 pub made_next : (state : State) (s : Step) (r : Ref) → made_now state s ≡ Some r → next_ref state.heap ≡ Some r
 made_next state (step.Go actor) r e = made_next_of state (operation_of state actor) r e
-made_next state (step.Begin actor call) r e = absurd (none-some r e)
+made_next state (step.Begin actor call number) r e = absurd (none-some r e)
 made_next state step.Sweep r e = absurd (none-some r e)
 made_next state (step.GiveUp actor) r e = absurd (none-some r e)
 

@@ -133,7 +133,7 @@ module _ (lv : Ref → ℕ) (state : State) (I : IsSafe state) (h : HasLevels lv
   makes_shape operation c l s action a node is = absurd (none-some node is)
 
   fresh_shape : (s : Step) (o : Outcome) (after : State) → Moves state s o after → GivesLevel lv state s → Fresh after
-  fresh_shape s o after (Begins {actor} {call} d) gives = nothing_new after (λ r. inl (ap (λ heap. standing heap r) (begin_heap state actor call (begun_operation state call))))
+  fresh_shape s o after (Begins {actor} {call} {number} d) gives = nothing_new after (λ r. inl (ap (λ heap. standing heap r) (begin_heap state actor call (begun_operation state call number))))
   fresh_shape s o after (Goes {actor} {operation} d is a goes) gives = λ node made e none new.
       let (k, found) = of_actor state (λ k operation. get_or state.actors k None ≡ Some operation) (λ k operation e. e) actor operation is in
       let its = gone_makes actor operation k found (made_node state (action_of state operation)) refl node made e none new in
@@ -164,7 +164,7 @@ module _ (lv : Ref → ℕ) (state : State) (I : IsSafe state) (h : HasLevels lv
   lines_shape : (s : Step) (o : Outcome) (after : State) → Moves state s o after → (k : ℕ) (found : Operation) → get_or after.actors k None ≡ Some found → LineShape deep found.line
   lines_shape =
       each_after state (λ k operation. get_or state.actors k None ≡ Some operation) (λ after k operation. LineShape deep operation.line) (λ k operation e. e)
-      (λ actor call k own d. first_shape deep call)
+      (λ actor call number k own d. first_shape deep call)
       (λ actor operation k own is goes found. marked_shape _ (operation_after state operation)
       (line_shape_next lv state operation (IsInUse state.heap) (heaped_in_use state I) shape_under operation.line (line_finds state I actor operation is)
       (h.lines k operation found) (g.lines k operation found)))

@@ -180,7 +180,7 @@ module _ (lv : Ref → ℕ) (state : State) (I : IsSafe state) (h : HasLevels lv
       by_births a b = omega arith
 
   words_after : (s : Step) (o : Outcome) (after : State) → Moves state s o after → AllWords (WordLevel lv) after
-  words_after s o after (Begins {actor} {call} d) = begin_words (WordLevel lv) state call (h.words)
+  words_after s o after (Begins {actor} {call} {number} d) = begin_words (WordLevel lv) state call (h.words)
   words_after s o after (Goes {actor} {operation} d is a g) =
       put_words (WordLevel lv) _ (handle_of operation.call) (action_of state operation) (h.words)
       (puts_level lv (made_level operation.line) (action_of state operation) (acts_level actor operation is))
@@ -220,8 +220,8 @@ module _ (lv : Ref → ℕ) (state : State) (I : IsSafe state) (h : HasLevels lv
       no_birth x y = omega arith
 
   fresh_after : (s : Step) (o : Outcome) (after : State) → Moves state s o after → GivesLevel lv state s → FreshLevel after
-  fresh_after s o after (Begins {actor} {call} d) gives =
-      nothing_made after (λ r. inl (ap (λ heap. standing heap r) (begin_heap state actor call (begun_operation state call))))
+  fresh_after s o after (Begins {actor} {call} {number} d) gives =
+      nothing_made after (λ r. inl (ap (λ heap. standing heap r) (begin_heap state actor call (begun_operation state call number))))
   fresh_after s o after (Goes {actor} {operation} d is a g) gives =
       let (k, found) = of_actor state (λ k operation. get_or state.actors k None ≡ Some operation) (λ k operation e. e) actor operation is in
       gone_made actor operation k is found gives (made_node state (action_of state operation)) refl
@@ -249,8 +249,8 @@ module _ (lv : Ref → ℕ) (state : State) (I : IsSafe state) (h : HasLevels lv
   lines_after s o after m gives k (no other) found at_k =
       let (was, at_was, same) = of_others state s o after m k other found at_k in
       subst (λ (x : Operation). LineLevel lv x.line) (sym same) (marked_level (marks_in state s) was (h.lines k was at_was))
-  lines_after s o after (Begins {actor} {call} d) gives k (yes own) found at_k =
-      subst (λ (x : Operation). LineLevel lv x.line) (sym (of_begin state actor call (begun_operation state call) k own found at_k)) (first_level lv call)
+  lines_after s o after (Begins {actor} {call} {number} d) gives k (yes own) found at_k =
+      subst (λ (x : Operation). LineLevel lv x.line) (sym (of_begin state actor call (begun_operation state call number) k own found at_k)) (first_level lv call)
   lines_after s o after (Goes {actor} {operation} d is a g) gives k (yes own) found at_k =
       let at_was = at_place state actor k operation own is in
       let goes_on : GoesOn (action_of state operation) = rw a g in

@@ -59,7 +59,7 @@ swept_step state pins None e =
     cond_both (nat_le state.cursor (length pins)) _ _ (λ (done : Swept × Reclaimer). EpochStep state done.1.epoch) (λ b. inl refl) (λ b. inr (refl, e))
 
 epoch_step : (state : State) (s : Step) (o : Outcome) (after : State) → Moves state s o after → EpochStep state after.epoch
-epoch_step state s o after (Begins {actor} {call} d) = inl (ap (λ (p : ℕ × ℕ). p.0) (begin_times state actor call (begun_operation state call)))
+epoch_step state s o after (Begins {actor} {call} {number} d) = inl (ap (λ (p : ℕ × ℕ). p.0) (begin_times state actor call (begun_operation state call number)))
 epoch_step state s o after (Goes {actor} {operation} d is a g) = inl (gone_epoch state actor operation)
 epoch_step state s o after (Ends d is a) = inl refl
 epoch_step state s o after (GivesUp d is a) = inl refl

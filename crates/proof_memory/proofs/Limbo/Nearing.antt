@@ -160,7 +160,7 @@ swept_counts pins r None h = by (nat_le r.cursor (length pins))
     by false = omega arith
 
 cursor_counts : (state : State) (s : Step) (o : Outcome) (after : State) → Moves state s o after → 1 ≤ state.cursor → 1 ≤ after.cursor
-cursor_counts state s o after (Begins {actor} {call} d) h = omega (arith, h, ap (λ (p : ℕ × ℕ). p.1) (begin_times state actor call (begun_operation state call)))
+cursor_counts state s o after (Begins {actor} {call} {number} d) h = omega (arith, h, ap (λ (p : ℕ × ℕ). p.1) (begin_times state actor call (begun_operation state call number)))
 cursor_counts state s o after (Goes {actor} {operation} d is a g) h =
     let same : (gone state actor operation).cursor ≡ state.cursor = (acted_framed _ (handle_of operation.call) (action_of state operation)).cursor in omega (arith, h, same)
 cursor_counts state s o after (Ends d is a) h = h

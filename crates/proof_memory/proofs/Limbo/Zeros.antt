@@ -154,7 +154,7 @@ goes_by state I s (Ok done) m r used gone = goes_due state I s done.0 done.1 m r
 goes_by state I s (Err why) m r used gone = absurd (gone used)
 
 only_sweep : (state : State) (s : Step) (r : Ref) → due_in state s ≡ Some r → s ≡ step.Sweep
-only_sweep state (step.Begin actor call) r e = absurd (none-some r e)
+only_sweep state (step.Begin actor call number) r e = absurd (none-some r e)
 only_sweep state (step.Go actor) r e = absurd (none-some r e)
 only_sweep state step.Sweep r e = refl
 only_sweep state (step.GiveUp actor) r e = absurd (none-some r e)

@@ -25,8 +25,8 @@ use Rattle.proof_memory.proofs.Safety.EachStep.{each_after}
 abbrev pub Fits : Operation → Type 0
 Fits operation = operation.access ≡ ReadOnly → needs_writable operation.call ≡ false
 
-begun_fits : (state : State) (actor : ℕ) (call : Call) → begin_denial state actor call ≡ None → Fits (begun_operation state call)
-begun_fits state actor call d a = grind arith
+begun_fits : (state : State) (actor : ℕ) (call : Call) (number : Option ℕ) → begin_denial state actor call number ≡ None → Fits (begun_operation state call number)
+begun_fits state actor call number d a = grind arith
 
 marked_fits : (m : Option ℕ) (operation : Operation) → Fits operation → Fits (mark_one m operation)
 marked_fits m operation h = rw (mark_only m operation) h
@@ -101,11 +101,11 @@ running_on (o ∷ actors) zero operation e =
     or_left _ _ (subst (λ x. names (handle_of operation.call) x ≡ true) (sym e) (eq-eqb (handle_of operation.call) (handle_of operation.call) refl))
 running_on (o ∷ actors) (suc k) operation e = or_right _ _ (running_on actors k operation e)
 
-pub close_denied : (state : State) (actor : ℕ) (call : Call) → begin_denial state actor call ≡ None → is_close call ≡ true → runs_on state (handle_of call) ≡ true → ⊥
-close_denied state actor call d c r = grind arith
+pub close_denied : (state : State) (actor : ℕ) (call : Call) (number : Option ℕ) → begin_denial state actor call number ≡ None → is_close call ≡ true → runs_on state (handle_of call) ≡ true → ⊥
+close_denied state actor call number d c r = grind arith
 
-pub handle_given : (state : State) (actor : ℕ) (call : Call) → begin_denial state actor call ≡ None → is_some (root_at state (handle_of call)) ≡ true
-handle_given state actor call d = grind arith
+pub handle_given : (state : State) (actor : ℕ) (call : Call) (number : Option ℕ) → begin_denial state actor call number ≡ None → is_some (root_at state (handle_of call)) ≡ true
+handle_given state actor call number d = grind arith
 
 pub close_ends : (call : Call) → is_close call ≡ true → is_end (first_line call) ≡ true
 close_ends (Close h) e = refl
@@ -117,11 +117,11 @@ goes_no_end state operation l g e = false≢true e
 
 -- each step keeps that
 module _ (state : State) (all : (k : ℕ) (operation : Operation) → get_or state.actors k None ≡ Some operation → HasHandle state operation) where
-  begun_handle : (actor : ℕ) (call : Call) (k : ℕ) → actor ≡ suc k → begin_denial state actor call ≡ None →
-      HasHandle (settled state (with_begin state actor call (begun_operation state call))) (begun_operation state call)
-  begun_handle actor call k own d = elim (cases_Bool (is_close call)) [
+  begun_handle : (actor : ℕ) (call : Call) (number : Option ℕ) (k : ℕ) → actor ≡ suc k → begin_denial state actor call number ≡ None →
+      HasHandle (settled state (with_begin state actor call (begun_operation state call number))) (begun_operation state call number)
+  begun_handle actor call number k own d = elim (cases_Bool (is_close call)) [
     | inl c ↦ or_left _ _ (close_ends call c)
-    | inr c ↦ or_right _ _ (ap is_some (closed_root state call (handle_of call) (λ e same. false≢true (sym c ∙ e))) ∙ handle_given state actor call d)
+    | inr c ↦ or_right _ _ (ap is_some (closed_root state call (handle_of call) (λ e same. false≢true (sym c ∙ e))) ∙ handle_given state actor call number d)
   ]
 
   -- a handle that is open before a step of an operation
@@ -140,10 +140,10 @@ module _ (state : State) (all : (k : ℕ) (operation : Operation) → get_or sta
 
   other_handle : (s : Step) (o : Outcome) (after : State) → Moves state s o after → (k : ℕ) → (IsOf (suc k) s → ⊥) → (operation : Operation) → get_or state.actors k None ≡ Some operation →
       HasHandle state operation → HasHandle after (mark_one (marks_in state s) operation)
-  other_handle s o after (Begins {actor} {call} d) k other operation found h =
+  other_handle s o after (Begins {actor} {call} {number} d) k other operation found h =
       kept_handle after operation
       (λ handle same open_now. ap is_some (closed_root state call handle
-      (λ c e. close_denied state actor call d c (subst (λ x. runs_on state x ≡ true) (sym same ∙ e) (running_on state.actors k operation found)))) ∙ open_now) h
+      (λ c e. close_denied state actor call number d c (subst (λ x. runs_on state x ≡ true) (sym same ∙ e) (running_on state.actors k operation found)))) ∙ open_now) h
   other_handle s o after (Goes {actor} {operation = mover} d is a g) k other operation found h =
       rw (mark_only (marks_in state s) operation)
       (kept_handle after operation (λ handle same open_now. acted_open _ (handle_of mover.call) (action_of state mover) handle open_now) h)
@@ -161,7 +161,7 @@ module _ (state : State) (all : (k : ℕ) (operation : Operation) → get_or sta
 pub fits_after : (state : State) → ((k : ℕ) (operation : Operation) → get_or state.actors k None ≡ Some operation → Fits operation) →
     (s : Step) (o : Outcome) (after : State) → Moves state s o after → (k : ℕ) (found : Operation) → get_or after.actors k None ≡ Some found → Fits found
 fits_after state all =
-    each_after state (λ k operation. Fits operation) (λ after k operation. Fits operation) all (λ actor call k own d. begun_fits state actor call d)
+    each_after state (λ k operation. Fits operation) (λ after k operation. Fits operation) all (λ actor call number k own d. begun_fits state actor call number d)
     (λ actor operation k own is g h. marked_fits _ (operation_after state operation) h) (λ actor operation answer k own is a h. h) (λ s o after m k other operation found h. marked_fits _ operation h)
 
 -- ---- epochs
@@ -203,10 +203,10 @@ framed_recent : (before after : State) → IsFramed before after → (k recorded
 framed_recent before after f k recorded h = rw (f.epoch) (rw (f.cursor) h)
 
 module _ (state : State) (all : (k : ℕ) (operation : Operation) → get_or state.actors k None ≡ Some operation → IsRecent state k operation) where
-  begun_recent : (actor : ℕ) (call : Call) (k : ℕ) → actor ≡ suc k → begin_denial state actor call ≡ None →
-      IsRecent (settled state (with_begin state actor call (begun_operation state call))) k (begun_operation state call)
-  begun_recent actor call k own d =
-      subst (λ (p : ℕ × ℕ). Recent p.0 p.1 k state.epoch) (sym (begin_times state actor call (begun_operation state call))) (omega arith, omega arith, λ below. refl)
+  begun_recent : (actor : ℕ) (call : Call) (number : Option ℕ) (k : ℕ) → actor ≡ suc k → begin_denial state actor call number ≡ None →
+      IsRecent (settled state (with_begin state actor call (begun_operation state call number))) k (begun_operation state call number)
+  begun_recent actor call number k own d =
+      subst (λ (p : ℕ × ℕ). Recent p.0 p.1 k state.epoch) (sym (begin_times state actor call (begun_operation state call number))) (omega arith, omega arith, λ below. refl)
 
   gone_recent : (actor : ℕ) (operation : Operation) (k : ℕ) → actor ≡ suc k → operation_of state actor ≡ Some operation → GoesOn (action_of state operation) → IsRecent state k operation →
       IsRecent (settled state (gone state actor operation)) k (mark_one (marks_by state (Some operation)) (operation_after state operation))
@@ -216,8 +216,8 @@ module _ (state : State) (all : (k : ℕ) (operation : Operation) → get_or sta
 
   other_recent : (s : Step) (o : Outcome) (after : State) → Moves state s o after → (k : ℕ) → (IsOf (suc k) s → ⊥) → (operation : Operation) → get_or state.actors k None ≡ Some operation →
       IsRecent state k operation → IsRecent after k (mark_one (marks_in state s) operation)
-  other_recent s o after (Begins {actor} {call} d) k other operation found h =
-      subst (λ (p : ℕ × ℕ). Recent p.0 p.1 k operation.epoch) (sym (begin_times state actor call (begun_operation state call))) h
+  other_recent s o after (Begins {actor} {call} {number} d) k other operation found h =
+      subst (λ (p : ℕ × ℕ). Recent p.0 p.1 k operation.epoch) (sym (begin_times state actor call (begun_operation state call number))) h
   other_recent s o after (Goes {actor} {operation = mover} d is a g) k other operation found h =
       rw (mark_only (marks_in state s) operation) (framed_recent _ _ (acted_framed _ (handle_of mover.call) (action_of state mover)) k operation.epoch h)
   other_recent s o after (Ends {actor} {operation = mover} d is a) k other operation found h = rw (mark_only (marks_in state s) operation) h

@@ -83,11 +83,11 @@ module _ (state : State) (I : IsSafe state) (actor k : ℕ) (operation : Operati
   got_safe action e h = All-nil T
 
 -- an actor that begins ran nothing
-pub idle_before : (state : State) (actor : ℕ) (call : Call) → begin_denial state actor call ≡ None → operation_of state actor ≡ None
-idle_before state actor call d = grind arith
+pub idle_before : (state : State) (actor : ℕ) (call : Call) (number : Option ℕ) → begin_denial state actor call number ≡ None → operation_of state actor ≡ None
+idle_before state actor call number d = grind arith
 
-not_running : (state : State) (actor : ℕ) (call : Call) (k : ℕ) → actor ≡ suc k → begin_denial state actor call ≡ None → get_or state.actors k None ≡ None
-not_running state actor call k own d = sym (ap (λ a. operation_of state a) own) ∙ idle_before state actor call d
+not_running : (state : State) (actor : ℕ) (call : Call) (number : Option ℕ) (k : ℕ) → actor ≡ suc k → begin_denial state actor call number ≡ None → get_or state.actors k None ≡ None
+not_running state actor call number k own d = sym (ap (λ a. operation_of state a) own) ∙ idle_before state actor call number d
 
 -- ---- step by step
 
@@ -99,7 +99,7 @@ pub record HoldsSafe (state : State) (k : ℕ) (refs : List Ref) : Type 0 where
 module _ (state : State) (I : IsSafe state) (k : ℕ) (refs : List Ref) (h : HoldsSafe state k refs) where
   -- another's step gives nothing
   nothing_got : (s : Step) → (IsOf (suc k) s → ⊥) → got_of state (suc k) s ≡ []
-  nothing_got (step.Begin other call) not_own = refl
+  nothing_got (step.Begin other call number) not_own = refl
   nothing_got (step.Go other) not_own =
       cond_both (other == suc k && is_taken_step (next state (step.Go other))) _ _ (λ (rs : List Ref). rs ≡ [])
       (λ e. absurd (not_own (eqb-true other (suc k) (and_parts (other == suc k) _ e).0))) (λ e. refl)
@@ -114,8 +114,8 @@ module _ (state : State) (I : IsSafe state) (k : ℕ) (refs : List Ref) (h : Hol
       (λ r x. (step_carries state I s o after m was.epoch (I.recent k was at_was).0 (I.recent k was at_was).1 r x).0) refs (h.safe was at_was) in
       subst (λ (x : Operation). All (Safe after x.epoch) (refs ++ got_of state (suc k) s)) (sym (same ∙ mark_only (marks_in state s) was))
       (subst (λ got. All (Safe after was.epoch) (refs ++ got)) (sym (nothing_got s other)) (subst (All (Safe after was.epoch)) (sym (append-nil refs)) kept))
-  by_owner s o after (Begins {actor} {call} d) (yes own) found at_k =
-      subst (λ rs. All (Safe after found.epoch) (rs ++ [])) (sym (h.none (not_running state actor call k own d))) (All-nil (Safe after found.epoch))
+  by_owner s o after (Begins {actor} {call} {number} d) (yes own) found at_k =
+      subst (λ rs. All (Safe after found.epoch) (rs ++ [])) (sym (h.none (not_running state actor call number k own d))) (All-nil (Safe after found.epoch))
   by_owner s o after (Goes {actor} {operation} d is a g) (yes own) found at_k =
       let at_was = at_place state actor k operation own is in
       let goes_on : GoesOn (action_of state operation) = rw a g in
@@ -145,7 +145,7 @@ kept_while state k refs (Some operation) e f = record { safe = f; none = λ is. 
 
 -- a denied step gives nothing
 denied_gives : (state : State) (k : ℕ) (s : Step) (why : Refusal) → next state s ≡ Err why → got_of state (suc k) s ≡ []
-denied_gives state k (step.Begin other call) why e = refl
+denied_gives state k (step.Begin other call number) why e = refl
 denied_gives state k (step.Go other) why e =
     cond_both (other == suc k && is_taken_step (next state (step.Go other))) _ _ (λ (rs : List Ref). rs ≡ [])
     (λ t. absurd (false≢true (sym (ap is_taken_step e) ∙ (and_parts (other == suc k) _ t).1))) (λ t. refl)

@@ -38,7 +38,7 @@ marked_known m operation h = rw (mark_only m operation) h
 pub known_after : (state : State) → ((k : ℕ) (operation : Operation) → get_or state.actors k None ≡ Some operation → KnowsRoot operation) →
     (s : Step) (o : Outcome) (after : State) → Moves state s o after → (k : ℕ) (found : Operation) → get_or after.actors k None ≡ Some found → KnowsRoot found
 known_after state all =
-    each_after state (λ k operation. KnowsRoot operation) (λ after k operation. KnowsRoot operation) all (λ actor call k own d e. absurd (first_not_past call e))
+    each_after state (λ k operation. KnowsRoot operation) (λ after k operation. KnowsRoot operation) all (λ actor call number k own d e. absurd (first_not_past call e))
     (λ actor operation k own is g h. marked_known _ (operation_after state operation) (line_known state operation operation.line h))
     (λ actor operation answer k own is a h e. absurd (false≢true e))
     (λ s o after m k other operation found h. marked_known _ operation h)

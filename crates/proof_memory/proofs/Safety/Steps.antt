@@ -45,7 +45,7 @@ pub gone_epoch : (state : State) (actor : ℕ) (operation : Operation) → (gone
 gone_epoch state actor operation = (acted_framed _ (handle_of operation.call) (action_of state operation)).epoch
 
 pub epoch_grows : (state : State) (s : Step) (o : Outcome) (after : State) → Moves state s o after → state.epoch ≤ after.epoch
-epoch_grows state s o after (Begins {actor} {call} d) = omega (arith, ap (λ (p : ℕ × ℕ). p.0) (begin_times state actor call (begun_operation state call)))
+epoch_grows state s o after (Begins {actor} {call} {number} d) = omega (arith, ap (λ (p : ℕ × ℕ). p.0) (begin_times state actor call (begun_operation state call number)))
 epoch_grows state s o after (Goes {actor} {operation} d is a g) = omega (arith, gone_epoch state actor operation)
 epoch_grows state s o after (Ends d is a) = omega arith
 epoch_grows state s o after (GivesUp d is a) = omega arith
@@ -80,7 +80,7 @@ due_in state s = None
 
 pub due_ripe : (state : State) (s : Step) (r : Ref) → due_in state s ≡ Some r → ripe state.epoch state.limbo ≡ Some r
 due_ripe state step.Sweep r e = e
-due_ripe state (step.Begin actor call) r e = absurd (none-some r e)
+due_ripe state (step.Begin actor call number) r e = absurd (none-some r e)
 due_ripe state (step.Go actor) r e = absurd (none-some r e)
 due_ripe state (step.GiveUp actor) r e = absurd (none-some r e)
 
@@ -115,8 +115,8 @@ module _ (state : State) (I : IsSafe state) where
       (stands_in_use state.heap q (ripe_in_use (InUse state.heap) state.epoch state.limbo (I.sound.limbo) q e))
 
   pub step_effect : (s : Step) (o : Outcome) (after : State) → Moves state s o after → IsEffect s after
-  step_effect s o after (Begins {actor} {call} d) =
-      (state.epoch, omega arith, omega arith, same_as (Safe state state.epoch) state.heap None (used_of state state.epoch) _ (begin_heap state actor call (begun_operation state call)))
+  step_effect s o after (Begins {actor} {call} {number} d) =
+      (state.epoch, omega arith, omega arith, same_as (Safe state state.epoch) state.heap None (used_of state state.epoch) _ (begin_heap state actor call (begun_operation state call number)))
   step_effect s o after (Goes {actor} {operation} d is a g) =
       let (k, recent) = of_actor state (λ k operation. IsRecent state k operation × (get_or state.actors k None ≡ Some operation)) (λ k operation e. (I.recent k operation e, e)) actor operation is in
       (operation.epoch, recent.0.0, recent.0.1, gone_effect actor k operation recent.1)
@@ -146,7 +146,7 @@ module _ (state : State) (I : IsSafe state) where
 
   -- root words, where what they want is still said of the state before
   words_between : (s : Step) (o : Outcome) (after : State) → Moves state s o after → (epoch : ℕ) × (epoch ≤ state.epoch) × (state.epoch ≤ epoch + 1) × WordsHold (Safe state epoch) state.heap after
-  words_between s o after (Begins {actor} {call} d) =
+  words_between s o after (Begins {actor} {call} {number} d) =
       (state.epoch, omega arith, omega arith, begun_words (Safe state state.epoch) state.heap state call (word_in state I state.epoch))
   words_between s o after (Goes {actor} {operation} d is a g) =
       let (k, recent) = of_actor state (λ k operation. IsRecent state k operation × (get_or state.actors k None ≡ Some operation))
@@ -224,9 +224,9 @@ module _ (state : State) (I : IsSafe state) where
   abbrev Lines : State → ℕ → Operation → Type 0
   Lines after k operation = AllHold (Safe after operation.epoch) after.heap (line_wants after.limits.hash operation.call operation.access operation.line)
 
-  begun_line : (actor : ℕ) (call : Call) (k : ℕ) → actor ≡ suc k → begin_denial state actor call ≡ None →
-      Lines (settled state (with_begin state actor call (begun_operation state call))) k (begun_operation state call)
-  begun_line actor call k own d = first_wants _ _ _ _ call
+  begun_line : (actor : ℕ) (call : Call) (number : Option ℕ) (k : ℕ) → actor ≡ suc k → begin_denial state actor call number ≡ None →
+      Lines (settled state (with_begin state actor call (begun_operation state call number))) k (begun_operation state call number)
+  begun_line actor call number k own d = first_wants _ _ _ _ call
 
   own_line : (actor : ℕ) (operation : Operation) (k : ℕ) → actor ≡ suc k → operation_of state actor ≡ Some operation → GoesOn (action_of state operation) →
       get_or state.actors k None ≡ Some operation → Lines (settled state (gone state actor operation)) k (mark_one (marks_by state (Some operation)) (operation_after state operation))
@@ -266,7 +266,7 @@ module _ (state : State) (I : IsSafe state) where
 
   privates_after : (s : Step) (o : Outcome) (after : State) → Moves state s o after → (k : ℕ) (operation : Operation) → get_or after.actors k None ≡ Some operation → Privates after k operation
   privates_after =
-      each_after state (λ k operation. get_or state.actors k None ≡ Some operation) Privates (λ k operation e. e) (λ actor call k own d. All-nil _) own_private
+      each_after state (λ k operation. get_or state.actors k None ≡ Some operation) Privates (λ k operation e. e) (λ actor call number k own d. All-nil _) own_private
       (λ actor operation answer k own is a e. All-nil _) other_private
 
   -- ---- all of it

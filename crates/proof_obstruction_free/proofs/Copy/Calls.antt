@@ -99,7 +99,7 @@ abbrev AllSo : State → Type 0
 AllSo state = (k : ℕ) (operation : Operation) → Runs state k operation → IsCopying operation.call → OfCopy operation.line
 
 so_by : (state : State) (s : Step) → AllSo state → (k : ℕ) (found : Operation) → Comes state s k found → IsCopying found.call → OfCopy found.line
-so_by state s all k found (began call is d it) copies = subst (λ (x : Operation). OfCopy x.line) (sym it) (first_so call (subst (λ (x : Operation). IsCopying x.call) it copies))
+so_by state s all k found (began call number is d it) copies = subst (λ (x : Operation). OfCopy x.line) (sym it) (first_so call (subst (λ (x : Operation). IsCopying x.call) it copies))
 so_by state s all k found (rested was at_k it other_step) copies =
     let same = it ∙ mark_only (marks_in state s) was in
     subst (λ (x : Operation). OfCopy x.line) (sym same) (all k was at_k (subst (λ (x : Operation). IsCopying x.call) same copies))

@@ -16,7 +16,7 @@ same_actors : (before after : State) → after.limits ≡ before.limits → (act
 same_actors before after same actor own = ap (λ (l : Bounds). nat_lt 0 actor && nat_le actor l.actors) same ∙ own
 
 by_coming : (before : State) (s : Step) (k : ℕ) (found : Operation) → Comes before s k found → AllActors before → is_actor before (suc k) ≡ true
-by_coming before s k found (began call e d same) all = begin_actor before (suc k) call d
+by_coming before s k found (began call number e d same) all = begin_actor before (suc k) call number d
 by_coming before s k found (rested was runs same other_step) all = all k was runs
 by_coming before s k found (went was e runs g same) all = all k was runs
 by_coming before s k found (gave was answer e runs may same) all = all k was runs

@@ -14,14 +14,14 @@ use Rattle.proof_obstruction_free.specs.Beneath.proof_shape.specs.Sites.Nodes.{s
 use Rattle.proof_obstruction_free.specs.Beneath.proof_shape.proofs.Sites.Fixed.{keys_fit}
 use Rattle.proof_obstruction_free.specs.Beneath.proof_shape.proofs.Sites.Stepped.{takes_steps}
 use Rattle.proof_obstruction_free.specs.Alone.{Lone}
-use Rattle.proof_obstruction_free.specs.Laws.{AloneItEnds, EachStepLeadsToItsEnd, EndsAt, GoesOnAt, HasEnded, IsOnKeyOrRoot, RunsAlone, alone_after, most_steps_alone}
+use Rattle.proof_obstruction_free.specs.Laws.{AloneItEnds, EachStepLeadsToItsEnd, EndsAt, GoesOnAt, HasEnded, IsOnKeyOrRoot, RunsAlone, alone_after, most_steps_of}
 use Rattle.proof_obstruction_free.proofs.Ends.Actors.{is_one}
 use Rattle.proof_obstruction_free.proofs.Ends.Lists.{last_all, none_more, one_more, one_more_recorded, record_after, state_at, step_at}
 use Rattle.proof_obstruction_free.proofs.Ends.Steps.{Last, Leads, Steps, allowed, steps_alone}
 
 -- no run is so long in which such an operation never ends
 abbrev pub NoneIsLong : Type 0
-NoneIsLong = (a : Lone) → IsOnKeyOrRoot a.own.call → a.start + most_steps_alone ≤ a.last → ⊥
+NoneIsLong = (a : Lone) → IsOnKeyOrRoot a.own.call → a.start + most_steps_of a.limits.actors ≤ a.last → ⊥
 
 -- ---- keys of steps that begin nothing
 
@@ -63,7 +63,7 @@ module _ (limits : Bounds) (steps : List Step) (actor : ℕ) (operation : Operat
   up_to : (P : ℕ → Type 0) (n : ℕ) → ((k : ℕ) → k < n → P k) → P n → (k : ℕ) → k < suc n → P k
   up_to P n each this k lt = elim (cases_lt k n) [ inl low ↦ each k low | inr high ↦ subst P (omega (arith, lt, high)) this ]
 
-  by_step : (n : ℕ) → n < most_steps_alone → StillRuns n → (o : Operation) → o.id ≡ operation.id → Steps (after n) actor o → StillRuns (suc n) ⊎ EndedBefore (suc n)
+  by_step : (n : ℕ) → n < most_steps_of limits.actors → StillRuns n → (o : Operation) → o.id ≡ operation.id → Steps (after n) actor o → StillRuns (suc n) ⊎ EndedBefore (suc n)
   by_step n lt still o same (Leads kind e found runs id) = inl (record {
     found = λ k le. up_to (λ j. (x : Operation) × (operation_of (after j) actor ≡ Some x) × (x.id ≡ operation.id)) (suc n) (λ j low. still.found j (omega (arith, low)))
         (found, ap (λ (x : State). operation_of x actor) (one_more limits steps actor n) ∙ runs, id ∙ same) k (omega (arith, le));
@@ -82,17 +82,17 @@ module _ (limits : Bounds) (steps : List Step) (actor : ℕ) (operation : Operat
         (subst (λ (x : Record). Contains x.events (End o.id answer)) (sym (one_more_recorded limits steps actor n)) (told (past n)));
   })
 
-  not_denied : (n : ℕ) → n < most_steps_alone → StillRuns n → (o : Operation) → operation_of (after n) actor ≡ Some o → go_denial (after n) actor ≡ None
+  not_denied : (n : ℕ) → n < most_steps_of limits.actors → StillRuns n → (o : Operation) → operation_of (after n) actor ≡ Some o → go_denial (after n) actor ≡ None
   not_denied n lt still o runs =
       let left = r.left in
       let counted = still.counted in
       allowed (after n) actor o (is_one limits (steps ++ replicate n (step.Go actor)) actor o runs) runs
       (less n (run limits steps).steps (after n).steps (after n).limits.steps lt left counted (ap (λ (b : Bounds). b.steps) (limits_along limits (steps ++ replicate n (step.Go actor)))))
     where
-      less : (n s t most : ℕ) → n < most_steps_alone → s + most_steps_alone ≤ limits.steps → t ≡ s + n → most ≡ limits.steps → t < most
+      less : (n s t most : ℕ) → n < most_steps_of limits.actors → s + most_steps_of limits.actors ≤ limits.steps → t ≡ s + n → most ≡ limits.steps → t < most
       less n s t most lt left counted same = omega (arith, lt, left, counted, same)
 
-  pub goes_or_ended : (n : ℕ) → n ≤ most_steps_alone → StillRuns n ⊎ EndedBefore n
+  pub goes_or_ended : (n : ℕ) → n ≤ most_steps_of limits.actors → StillRuns n ⊎ EndedBefore n
   goes_or_ended zero le = inl at_first
   goes_or_ended (suc n) le = by (goes_or_ended n (omega (arith, le)))
     where
@@ -150,7 +150,7 @@ module _ (limits : Bounds) (steps : List Step) (actor : ℕ) (operation : Operat
     pub lasts : last_of limits steps + n ≤ last_of limits full
     lasts = omega (arith, last_all limits steps actor n each)
 
-  ended_before : (n : ℕ) → n ≤ most_steps_alone → (StillRuns n → ⊥) → EndedBefore n
+  ended_before : (n : ℕ) → n ≤ most_steps_of limits.actors → (StillRuns n → ⊥) → EndedBefore n
   ended_before n le short = by (goes_or_ended n le)
     where
       by : StillRuns n ⊎ EndedBefore n → EndedBefore n
@@ -205,15 +205,15 @@ module _ (limits : Bounds) (steps : List Step) (actor : ℕ) (operation : Operat
       }
 
   -- where no run is so long in which it never ends, it has ended
-  pub ends_within : (n : ℕ) → n ≤ most_steps_alone → (StillRuns n → ⊥) → HasEnded (after n) (past n).events actor operation.id
+  pub ends_within : (n : ℕ) → n ≤ most_steps_of limits.actors → (StillRuns n → ⊥) → HasEnded (after n) (past n).events actor operation.id
   ends_within n le short = has_ended n (ended_before n le short)
 
-  too_long : NoneIsLong → StillRuns most_steps_alone → ⊥
-  too_long short still = short (lone most_steps_alone still) r.call (lasts most_steps_alone still)
+  too_long : NoneIsLong → StillRuns (most_steps_of limits.actors) → ⊥
+  too_long short still = short (lone (most_steps_of limits.actors) still) r.call (lasts (most_steps_of limits.actors) still)
 
 pub ends_alone : NoneIsLong → AloneItEnds
-ends_alone short limits steps actor operation r = ends_within limits steps actor operation r most_steps_alone (omega arith) (too_long limits steps actor operation r short)
+ends_alone short limits steps actor operation r = ends_within limits steps actor operation r (most_steps_of limits.actors) (omega arith) (too_long limits steps actor operation r short)
 
 pub steps_lead_to_the_end : NoneIsLong → EachStepLeadsToItsEnd
 steps_lead_to_the_end short limits steps actor operation r =
-    let ended = ended_before limits steps actor operation r most_steps_alone (omega arith) (too_long limits steps actor operation r short) in (ended.at, ended.before, ended.goes, ended.ends)
+    let ended = ended_before limits steps actor operation r (most_steps_of limits.actors) (omega arith) (too_long limits steps actor operation r short) in (ended.at, ended.before, ended.goes, ended.ends)

@@ -36,7 +36,7 @@ stays_closing call l answer may e = none-some answer (subst (λ x. given_up call
 
 each_closes : (limits : Bounds) (steps : List Step) → OfEach Closes (run limits steps)
 each_closes limits =
-    of_each_along limits Closes (λ steps actor call d e. begun_closes call e)
+    of_each_along limits Closes (λ steps actor call number d e. begun_closes call e)
     (λ steps actor operation found g h. rw (mark_only _ _) (λ e. absurd (no_step (run limits steps) operation (h e) g)))
     (λ steps actor operation answer found may h e. absurd (stays_closing operation.call operation.line answer may (h e)))
     (λ steps s o after m k other operation found h. rw (mark_only _ operation) h)

@@ -60,7 +60,7 @@ marked_down : (m : Option ℕ) (operation : Operation) → IsDown operation → 
 marked_down m operation h = subst IsDown (sym (mark_only m operation)) h
 
 by_coming : (state : State) (s : Step) (k : ℕ) (found : Operation) → AllDown state → Comes state s k found → IsDown found
-by_coming state s k found all (began call is d it) = subst IsDown (sym it) (first_down call)
+by_coming state s k found all (began call number is d it) = subst IsDown (sym it) (first_down call)
 by_coming state s k found all (rested was at_k it other_step) = subst IsDown (sym it) (marked_down (marks_in state s) was (all k was at_k))
 by_coming state s k found all (went was is at_k g it) =
     subst IsDown (sym it) (marked_down (marks_in state s) (operation_after state was) (λ on. down_after state was on was.line (all k was at_k on)))

@@ -74,7 +74,7 @@ abbrev AllSo : State → Type 0
 AllSo state = (k : ℕ) (operation : Operation) → Runs state k operation → operation.access ≡ ReadOnly → IsOnKey operation.call → OfReader operation.line
 
 so_by : (state : State) → IsSafe state → (s : Step) → AllSo state → (k : ℕ) (found : Operation) → Comes state s k found → found.access ≡ ReadOnly → IsOnKey found.call → OfReader found.line
-so_by state I s all k found (began call is d it) reads on = subst (λ (x : Operation). OfReader x.line) (sym it) (first_so call (subst (λ (x : Operation). IsOnKey x.call) it on))
+so_by state I s all k found (began call number is d it) reads on = subst (λ (x : Operation). OfReader x.line) (sym it) (first_so call (subst (λ (x : Operation). IsOnKey x.call) it on))
 so_by state I s all k found (rested was at_k it other_step) reads on =
     let same = it ∙ mark_only (marks_in state s) was in
     subst (λ (x : Operation). OfReader x.line) (sym same) (all k was at_k (ap (λ (x : Operation). x.access) (sym same) ∙ reads) (subst (λ (x : Operation). IsOnKey x.call) same on))

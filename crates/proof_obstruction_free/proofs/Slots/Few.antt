@@ -3,7 +3,7 @@ use Rattle.std.proofs.Common.{◌≡◌, ℕ, zero, suc, ◌+◌, ◌-◌, ◌�
 use Rattle.std.proofs.lemmas.Bool.{cases_lt}
 use Rattle.std.proofs.lemmas.Option.{same_Some}
 use Rattle.proof_obstruction_free.specs.Vocabulary.{Operation, Bounds, Step, action_of, kind_of, State, operation_of, new_try, Line}
-use Rattle.proof_obstruction_free.specs.Laws.{RunsAlone, alone_after, most_steps_alone}
+use Rattle.proof_obstruction_free.specs.Laws.{RunsAlone, alone_after, most_steps_of}
 use Rattle.proof_obstruction_free.specs.Slots.{CopiesMakeFew, EnoughForCopies, EnoughSlots, MakesAtMost, is_make, makes_next, most_steps_of_copies}
 use Rattle.proof_obstruction_free.specs.Beneath.machine_model.proofs.Refusals.{IsRefusal}
 use Rattle.proof_obstruction_free.proofs.Ends.Alone.{stays}
@@ -49,12 +49,12 @@ module _ (limits : Bounds) (steps : List Step) (actor : ℕ) (operation : Operat
 
 pub makes_at_most : MakesAtMost
 makes_at_most limits steps actor operation r =
-    few_at_end limits steps actor operation r most_steps_alone most_steps_alone ((alone_it_ends limits steps actor operation r).idle)
+    few_at_end limits steps actor operation r (most_steps_of limits.actors) (most_steps_of limits.actors) ((alone_it_ends limits steps actor operation r).idle)
     (λ n within. let low = made_steps limits steps actor n in omega (arith, low, within))
 
 pub enough_slots : EnoughSlots
 enough_slots limits steps actor operation r other room =
-    not_for_want limits steps actor most_steps_alone (makes_at_most limits steps actor operation r) room
+    not_for_want limits steps actor (most_steps_of limits.actors) (makes_at_most limits steps actor operation r) room
     (λ found at refused. other (ap (λ (o : Operation). o.line) (same_Some operation found (sym r.runs ∙ at)) ∙ refused_there found.line refused))
 
 -- ---- a snapshot, a freeze or a clear

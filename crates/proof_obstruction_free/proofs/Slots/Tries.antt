@@ -5,7 +5,7 @@ use Rattle.proof_obstruction_free.specs.Vocabulary.{Access, ReadOnly, Writable, 
 use Rattle.proof_obstruction_free.specs.Alone.{Lone, Stands}
 use Rattle.proof_obstruction_free.specs.Copies.{IsCopying}
 use Rattle.proof_obstruction_free.specs.Keys.{IsOnKey}
-use Rattle.proof_obstruction_free.specs.Laws.{IsOnKeyOrRoot, RunsAlone, alone_after, most_steps_alone}
+use Rattle.proof_obstruction_free.specs.Laws.{IsOnKeyOrRoot, RunsAlone, alone_after, most_steps_of}
 use Rattle.proof_obstruction_free.specs.Slots.{EnoughForTries, TriesMakeFew, makes_next, most_makes_alone}
 use Rattle.proof_obstruction_free.proofs.Ends.Alone.{EndedBefore, StillRuns, each, goes_or_ended, has_ended, lone}
 use Rattle.proof_obstruction_free.proofs.Ends.Bounds.{readers_end}
@@ -66,7 +66,7 @@ module _ (limits : Bounds) (steps : List Step) (actor : ℕ) (operation : Operat
         let same = ap (made limits steps actor) (sym next) ∙ made_no_more limits steps actor operation r n 1 idle in
         inr (omega (arith, low, same), (has_ended limits steps actor operation r (suc n) ended).idle)
 
-    made_by : (n : ℕ) → n ≤ most_steps_alone → Made n
+    made_by : (n : ℕ) → n ≤ most_steps_of limits.actors → Made n
     made_by zero le = inl (omega (arith, none_made limits steps actor))
     made_by (suc n) le = by (made_by n (omega (arith, le))) (goes_or_ended limits steps actor operation r (suc n) le)
       where
@@ -80,7 +80,7 @@ module _ (limits : Bounds) (steps : List Step) (actor : ℕ) (operation : Operat
 
     writer_makes : (n : ℕ) → made limits steps actor n ≤ most_makes_alone
     writer_makes =
-        few_at_end limits steps actor operation r most_steps_alone most_makes_alone ((alone_it_ends limits steps actor operation r).idle) (λ n le. few_by n (made_by n le))
+        few_at_end limits steps actor operation r (most_steps_of limits.actors) most_makes_alone ((alone_it_ends limits steps actor operation r).idle) (λ n le. few_by n (made_by n le))
 
   -- ---- each call
 

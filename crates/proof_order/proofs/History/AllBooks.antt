@@ -92,8 +92,8 @@ no_end : (state : State) (past : Record) (s : Step) (now : Record) → now.event
 no_end state past s now e k operation ends = no_last past.events (End operation.id ends.0) (sym e ∙ ends.3)
 
 pub books_kept : (state : State) (past : Record) (s : Step) (o : Outcome) (after : State) → Moves state s o after → Books state past → Books after (noted past state.steps (told_in state s))
-books_kept state past s o after (Begins {actor} {call} d) books =
-    begins_books state past actor call _ _ (Begins d) d (begin_actors state actor call (begun_operation state call)) (limits_kept state _ _ _ (Begins d)) books
+books_kept state past s o after (Begins {actor} {call} {number} d) books =
+    begins_books state past actor call number _ _ (Begins {number = number} d) d (begin_actors state actor call (begun_operation state call number)) (limits_kept state _ _ _ (Begins {number = number} d)) books
 books_kept state past s o after (Goes {actor} {operation} {action} d is a g) books =
     let events = ap (λ (r : Record). r.events) (noted_going state past actor operation action is a g) in
     quiet_books state past (step.Go actor) _ _ (Goes d is a g)

@@ -26,7 +26,7 @@ use Rattle.proof_order.specs.Beneath.machine_model.proofs.Notes.{noted_going, no
 pub ended_now : (state : State) (past : Record) (s : Step) (o : Outcome) (after : State) → Moves state s o after → (id : ℕ) (answer : Reply) →
     HasEnded (noted past state.steps (told_in state s)).events id answer → HasEnded past.events id answer
     ⊎ ((k : ℕ) × (operation : Operation) × (s ≡ step.Go (suc k)) × Runs state k operation × (operation.id ≡ id) × (action_of state operation ≡ act.End answer))
-ended_now state past s o after (Begins {actor} {call} d) id answer ended = elim (ended_before past.events _ id answer ended) [
+ended_now state past s o after (Begins {actor} {call} {number} d) id answer ended = elim (ended_before past.events _ id answer ended) [
   | inl old ↦ inl old
   | inr new ↦ let wrong : ⊥ = cc new in absurd wrong
 ]

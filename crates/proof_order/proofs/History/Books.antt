@@ -4,7 +4,7 @@ use Rattle.std.proofs.Common.{take_all, length-set, arith, []}
 use Rattle.std.proofs.lemmas.List.{get_or-set_same}
 use Rattle.std.proofs.lemmas.Option.{slice_get_within}
 use Rattle.proof_order.specs.Vocabulary.{Call, Reply, Event, End, BeginsAt, EndsAt, HasEnded, IsRunning, begun, OpensRightly, MayFollow, IsWellFormed, Operation, Bounds, Outcome, Step, opens_handle}
-use Rattle.proof_order.specs.Vocabulary.{State, begin_denial, least_free, Moves, begun_operation, Record, noted, told_in}
+use Rattle.proof_order.specs.Vocabulary.{State, begin_denial, number_for, Moves, begun_operation, Record, noted, told_in}
 use Rattle.proof_order.specs.Beneath.history.specs.declared.events.Event.TheVariants.{Begin}
 use Rattle.proof_order.specs.Beneath.history.specs.Histories.{Operation as Told}
 use Rattle.proof_order.specs.Beneath.history.proofs.Places.{at_old, at_push, at_cases, at_take}
@@ -111,34 +111,34 @@ quiet_books state past s o after m size limits e no_begin no_end books = record 
 opens_rightly : (call : Call) (n : ℕ) → OpensRightly call (cond (opens_handle call) (Some n) None)
 opens_rightly call n = grind arith
 
-pub within_actors : (state : State) (actor : ℕ) (call : Call) → begin_denial state actor call ≡ None → (0 < actor) × (actor ≤ state.limits.actors)
-within_actors state actor call d = (grind arith, grind arith)
+pub within_actors : (state : State) (actor : ℕ) (call : Call) (number : Option ℕ) → begin_denial state actor call number ≡ None → (0 < actor) × (actor ≤ state.limits.actors)
+within_actors state actor call number d = (grind arith, grind arith)
 
-begin_follows : (state : State) (past : Record) (actor : ℕ) (call : Call) → begin_denial state actor call ≡ None → Books state past →
-    MayFollow past.events (Begin (begun_operation state call).id actor call (begun_operation state call).opens)
-begin_follows state past actor call d books = (
+begin_follows : (state : State) (past : Record) (actor : ℕ) (call : Call) (number : Option ℕ) → begin_denial state actor call number ≡ None → Books state past →
+    MayFollow past.events (Begin (begun_operation state call number).id actor call (begun_operation state call number).opens)
+begin_follows state past actor call number d books = (
   sym books.alike.begun_are,
-  opens_rightly call (least_free state),
+  opens_rightly call (number_for state number),
   λ other r.
-      let (k, was, own, at_k, is) = books.running other actor r in begin_not_running state k actor call was d own at_k,
+      let (k, was, own, at_k, is) = books.running other actor r in begin_not_running state k actor call number was d own at_k,
 )
 
-pub begins_books : (state : State) (past : Record) (actor : ℕ) (call : Call) (o : Outcome) (after : State) → Moves state (step.Begin actor call) o after → begin_denial state actor call ≡ None →
-    after.actors ≡ set state.actors (actor - 1) (Some (begun_operation state call)) → after.limits ≡ state.limits → Books state past →
-    Books after (noted past state.steps (told_in state (step.Begin actor call)))
-begins_books state past actor call o after m d actors limits books = record {
-  alike = noted_alike state past (step.Begin actor call) o after m books.alike;
+pub begins_books : (state : State) (past : Record) (actor : ℕ) (call : Call) (number : Option ℕ) (o : Outcome) (after : State) → Moves state (step.Begin actor call number) o after → begin_denial state actor call number ≡ None →
+    after.actors ≡ set state.actors (actor - 1) (Some (begun_operation state call number)) → after.limits ≡ state.limits → Books state past →
+    Books after (noted past state.steps (told_in state (step.Begin actor call number)))
+begins_books state past actor call number o after m d actors limits books = record {
+  alike = noted_alike state past (step.Begin actor call number) o after m books.alike;
   size = ap length actors ∙ length-set state.actors (actor - 1) _ ∙ books.size ∙ ap (λ (l : Bounds). l.actors) (sym limits);
-  well_formed = well_formed_push past.events event books.well_formed (begin_follows state past actor call d books);
-  told = λ k found at_k. elim (ran_before state (step.Begin actor call) o after m k found at_k) [
-    | inl new ↦ subst (λ f. IsTold history k f) (sym new.is_it) (begun_told k new.call new.is_step)
+  well_formed = well_formed_push past.events event books.well_formed (begin_follows state past actor call number d books);
+  told = λ k found at_k. elim (ran_before state (step.Begin actor call number) o after m k found at_k) [
+    | inl new ↦ subst (λ f. IsTold history k f) (sym new.is_it) (begun_told k new.call new.number new.is_step)
     | inr old ↦ longer k found (told_same past.events k old.0 found old.2 (books.told k old.0 old.1))
   ];
   running = by;
 }
   where
     begins : Operation
-    begins = begun_operation state call
+    begins = begun_operation state call number
 
     event : Event
     event = Begin begins.id actor call begins.opens
@@ -156,25 +156,26 @@ begins_books state past actor call o after m d actors limits books = record {
       ];
     }
 
-    begun_told : (k : ℕ) (other : Call) → step.Begin actor call ≡ step.Begin (suc k) other → IsTold history k (begun_operation state other)
-    begun_told k other is =
+    begun_told : (k : ℕ) (other : Call) (wish : Option ℕ) → step.Begin actor call number ≡ step.Begin (suc k) other wish → IsTold history k (begun_operation state other wish)
+    begun_told k other wish is =
         let same_actor : actor ≡ suc k = cc is in
         let same_call : call ≡ other = cc is in
-        subst (λ c. IsTold history k (begun_operation state c)) same_call (record {
+        let same_number : number ≡ wish = cc is in
+        subst (λ n. IsTold history k (begun_operation state other n)) same_number (subst (λ c. IsTold history k (begun_operation state c number)) same_call (record {
           place = length past.events;
           begins = at_push past.events event (length past.events) refl ∙ ap (λ a. Some (Begin begins.id a call begins.opens)) same_actor;
           unended = λ answer ends. elim (at_cases past.events event ends.0 _ ends.1) [
             | inl old ↦ let below = ended_below past.events ends.0 begins.id answer books.well_formed old in let count = books.alike.begun_are in omega (arith, below, count)
             | inr new ↦ begin_not_end _ _ _ _ _ _ new.1
           ];
-        })
+        }))
 
     fresh : (id other : ℕ) (told : Told) → event ≡ Begin id told.actor told.call told.opens → told.actor ≡ other →
         (k : ℕ) × (operation : Operation) × (other ≡ suc k) × Runs after k operation × (operation.id ≡ id)
     fresh id other told is owner =
         let same_id : begins.id ≡ id = cc is in
         let same_actor : actor ≡ told.actor = cc is in
-        let (pos, le) = within_actors state actor call d in
+        let (pos, le) = within_actors state actor call number d in
         let size = books.size in (
           actor - 1,
           begins,
@@ -189,7 +190,7 @@ begins_books state past actor call o after m d actors limits books = record {
         elim (at_cases past.events event r.0.0 _ r.0.2) [
           | inl old ↦
               let (k, was, own, at_k, is) = books.running id other ((r.0.0, told, old, r.0.3), λ answer ends. r.1 answer (ends.0, at_old past.events event ends.0 _ ends.1)) in
-              elim (runs_on state past (step.Begin actor call) o after m k was at_k) [
+              elim (runs_on state past (step.Begin actor call number) o after m k was at_k) [
                 | inl ends ↦ let wrong : ⊥ = cc (ends.1) in absurd wrong
                 | inr goes ↦ let (found, at_found, same) = goes in (k, found, own, at_found, same.id ∙ is)
               ]

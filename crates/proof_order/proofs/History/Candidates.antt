@@ -60,7 +60,7 @@ refused_now : (state : State) (past : Record) (s : Step) (o : Outcome) (after : 
     HasEnded (noted past state.steps (told_in state s)).events id reply.NoSlots → HasEnded past.events id reply.NoSlots
     ⊎ ((actor : ℕ) × (operation : Operation) × (operation_of state actor ≡ Some operation) × (action_of state operation ≡ act.End reply.NoSlots) × (operation.id ≡ id)
     × ((noted past state.steps (told_in state s)).places ≡ past.places))
-refused_now state past s o after (Begins {actor} {call} d) id ended = elim (ended_before past.events _ id reply.NoSlots ended) [
+refused_now state past s o after (Begins {actor} {call} {number} d) id ended = elim (ended_before past.events _ id reply.NoSlots ended) [
   | inl old ↦ inl old
   | inr new ↦ let wrong : ⊥ = cc new in absurd wrong
 ]

@@ -30,8 +30,8 @@ marked_closed : (m : Option ℕ) (operation : Operation) → EndsClosed operatio
 marked_closed m operation h handle e =
     ap (λ (o : Operation). o.line) (mark_only m operation) ∙ h handle (ap (λ (o : Operation). o.call) (sym (mark_only m operation)) ∙ e)
 
-begun_closed : (state : State) (call : Call) → EndsClosed (begun_operation state call)
-begun_closed state call handle e = ap first_line e
+begun_closed : (state : State) (call : Call) (number : Option ℕ) → EndsClosed (begun_operation state call number)
+begun_closed state call number handle e = ap first_line e
 
 goes_not_closed : (state : State) (operation : Operation) (action : Action) → action_of state operation ≡ action → GoesOn action → operation.line ≡ line.End reply.Closed → ⊥
 goes_not_closed state operation action a g e =
@@ -44,8 +44,8 @@ closed_by : (state : State) (s : Step) (o : Outcome) (after : State) → Moves s
 closed_by state s o after m k found at_k h (no other) =
     let (was, at_was, same) = of_others state s o after m k other found at_k in
     subst EndsClosed (sym same) (marked_closed _ was (h k was at_was))
-closed_by state s o after (Begins {actor} {call} d) k found at_k h (yes own) =
-    subst EndsClosed (sym (of_begin state actor call (begun_operation state call) k own found at_k)) (begun_closed state call)
+closed_by state s o after (Begins {actor} {call} {number} d) k found at_k h (yes own) =
+    subst EndsClosed (sym (of_begin state actor call (begun_operation state call number) k own found at_k)) (begun_closed state call number)
 closed_by state s o after (Goes {actor} {operation} {action} d is a g) k found at_k h (yes own) =
     subst EndsClosed (sym (of_itself state actor operation k own found at_k)) (marked_closed _ (operation_after state operation) (λ handle e.
     absurd (goes_not_closed state operation action a g (h k operation (at_place state actor k operation own is) handle e))))
@@ -79,7 +79,7 @@ answers_kept : (state : State) (past : Record) (s : Step) (o : Outcome) (after :
     (place id actor handle : ℕ) (opens : Option ℕ) (answer : Reply) →
     slice_get (noted past state.steps (told_in state s)).events place ≡ Some (Begin id actor (Close handle) opens) →
     HasEnded (noted past state.steps (told_in state s)).events id answer → answer ≡ reply.Closed
-answers_kept state past s o after (Begins {actor = a} {call} d) c place id actor handle opens answer at ended =
+answers_kept state past s o after (Begins {actor = a} {call} {number} d) c place id actor handle opens answer at ended =
     let (end, at_end) = ended in
     elim (at_cases past.events _ end _ at_end) [
       | inl old_end ↦ elim (at_cases past.events _ place _ at) [

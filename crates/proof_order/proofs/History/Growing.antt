@@ -57,7 +57,7 @@ progress_grows past step actor p =
 
 -- the places grow
 pub places_grow : (state : State) (past : Record) (s : Step) (o : Outcome) (after : State) → Moves state s o after → Grows past.places (noted past state.steps (told_in state s)).places
-places_grow state past s o after (Begins {actor} {call} d) = (entered_at_begin state.steps (begun_operation state call).id call, refl)
+places_grow state past s o after (Begins {actor} {call} {number} d) = (entered_at_begin state.steps (begun_operation state call number).id call, refl)
 places_grow state past s o after (Goes {actor} {operation} {action} d is a g) =
     subst (λ (r : Record). Grows past.places r.places) (sym (noted_going state past actor operation action is a g)) (progress_grows past state.steps actor (progress_of state operation))
 places_grow state past s o after (Ends {actor} {operation} {answer} d is a) =
@@ -67,7 +67,7 @@ places_grow state past s o after (Sweeps spent) = grows_same _ _ refl
 
 -- and the history
 pub events_grow : (state : State) (past : Record) (s : Step) (o : Outcome) (after : State) → Moves state s o after → Grows past.events (noted past state.steps (told_in state s)).events
-events_grow state past s o after (Begins {actor} {call} d) = (_, refl)
+events_grow state past s o after (Begins {actor} {call} {number} d) = (_, refl)
 events_grow state past s o after (Goes {actor} {operation} {action} d is a g) = grows_same _ _ (ap (λ (r : Record). r.events) (noted_going state past actor operation action is a g))
 events_grow state past s o after (Ends {actor} {operation} {answer} d is a) = (_, ap (λ (r : Record). r.events) (noted_ending state past actor operation answer is a))
 events_grow state past s o after (GivesUp d is a) = grows_same _ _ refl
@@ -121,7 +121,7 @@ ended_before history event id answer (place, at) = elim (at_cases history event 
 -- an end that a move tells is of an operation that has a place then
 newly_ended : (state : State) (past : Record) (s : Step) (o : Outcome) (after : State) → Moves state s o after → (id : ℕ) (answer : Reply) →
     HasEnded (noted past state.steps (told_in state s)).events id answer → answer ≢ reply.NoSlots → HasEnded past.events id answer ⊎ HasPlace (noted past state.steps (told_in state s)) id
-newly_ended state past s o after (Begins {actor} {call} d) id answer ended other = elim (ended_before past.events _ id answer ended) [
+newly_ended state past s o after (Begins {actor} {call} {number} d) id answer ended other = elim (ended_before past.events _ id answer ended) [
   | inl old ↦ inl old
   | inr new ↦ let wrong : ⊥ = cc new in absurd wrong
 ]

@@ -157,8 +157,8 @@ still_begun before after id g (place, operation, at) = (place, operation, get_gr
 -- what is noted of a step's place or publication: it is an old one, or its operation has begun by now
 place_begun : (state : State) (past : Record) (s : Step) (o : Outcome) (after : State) → Moves state s o after → Begun state past → (p : Place) →
     Among p (noted past state.steps (told_in state s)).places → Among p past.places ⊎ HasBegun (noted past state.steps (told_in state s)).events p.id
-place_begun state past s o after (Begins {actor} {call} d) h p a =
-    let operation : Operation = begun_operation state call in
+place_begun state past s o after (Begins {actor} {call} {number} d) h p a =
+    let operation : Operation = begun_operation state call number in
     let says : Told = record { actor = actor; call = call; opens = operation.opens } in
     let event : Event = Begin operation.id actor call operation.opens in
     elim (among_either past.places _ p a) [
@@ -190,8 +190,8 @@ place_begun state past s o after (GivesUp d is b) h p a = inl a
 place_begun state past s o after (Sweeps spent) h p a = inl a
 
 changers_begun : (state : State) (past : Record) (s : Step) (o : Outcome) (after : State) → Moves state s o after → Begun state past → ChangersBegun (noted past state.steps (told_in state s))
-changers_begun state past s o after (Begins {actor} {call} d) h p e a its =
-    still_begun past.events _ e.id (events_grow state past s o after (Begins {actor = actor} {call = call} d)) (h.changers p e a its)
+changers_begun state past s o after (Begins {actor} {call} {number} d) h p e a its =
+    still_begun past.events _ e.id (events_grow state past s o after (Begins {actor = actor} {call = call} {number = number} d)) (h.changers p e a its)
 changers_begun state past s o after (Goes {actor} {operation} {action} d is b g) h p e a its =
     let grown = events_grow state past s o after (Goes {actor = actor} {operation = operation} {action = action} d is b g) in
     let (k, actors, runs) = place_of_actor state actor operation is in

@@ -21,8 +21,8 @@ from_by : (state : State) (s : Step) (o : Outcome) (after : State) → Moves sta
 from_by state s o after m k found at_k (no other) =
     let (was, at_was, same) = of_others state s o after m k other found at_k in
     kept was at_was same (λ e. other (subst (λ x. IsOf (suc k) x) (sym e) refl))
-from_by state s o after (Begins {actor} {call} d) k found at_k (yes own) =
-    began (record { call = call; is_step = own_step actor k call own; is_it = of_begin state actor call (begun_operation state call) k own found at_k })
+from_by state s o after (Begins {actor} {call} {number} d) k found at_k (yes own) =
+    began (record { call = call; number = number; is_step = own_step actor k call number own; is_it = of_begin state actor call (begun_operation state call number) k own found at_k })
 from_by state s o after (Goes {actor} {operation} d is a g) k found at_k (yes own) =
     stepped operation (at_place state actor k operation own is) (ap step.Go own) (subst (λ x. GoesOn x) (sym a) g) (of_itself state actor operation k own found at_k)
 from_by state s o after (Ends {actor} d is a) k found at_k (yes own) = absurd (of_end state actor k own found at_k)

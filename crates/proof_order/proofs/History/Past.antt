@@ -71,9 +71,9 @@ operations_past state past s o after m h k found at_k (no other) =
     let (was, at_was, same) = of_others state s o after m k other found at_k in
     let (a, b) = h.operations k was at_was in
     low_as (state.steps + 1) (moment_at past (suc k)) _ (moment_rests state past s o after m k other) (omega (arith, a), omega (arith, b))
-operations_past state past s o after (Begins {actor} {call} d) h k found at_k (yes own) =
+operations_past state past s o after (Begins {actor} {call} {number} d) h k found at_k (yes own) =
     low_as (state.steps + 1) no_moment _
-    (ap (moment_at (record past { moments = with_moment past actor no_moment })) (sym own) ∙ moment_own state past actor no_moment h.alike (begin_actor state actor call d))
+    (ap (moment_at (record past { moments = with_moment past actor no_moment })) (sym own) ∙ moment_own state past actor no_moment h.alike (begin_actor state actor call number d))
     (omega arith, omega arith)
 operations_past state past s o after (Goes {actor} {operation} {action} d is a g) h k found at_k (yes own) =
     let (c, e) = h.operations k operation (at_place state actor k operation own is) in
@@ -102,7 +102,7 @@ among_closings past n (Some carried) c a = elim (among_either past.closings _ c 
 
 newly_committed : (state : State) (past : Record) (s : Step) (o : Outcome) (after : State) → Moves state s o after → (c : Commit) →
     Among c (noted past state.steps (told_in state s)).commits → Among c past.commits ⊎ (c.step ≡ state.steps)
-newly_committed state past s o after (Begins {actor} {call} d) c a = inl a
+newly_committed state past s o after (Begins {actor} {call} {number} d) c a = inl a
 newly_committed state past s o after (Goes {actor} {operation} {action} d is b g) c a =
     among_commits past state.steps (committed_now state operation) c (subst (λ (r : Record). Among c r.commits) (noted_going state past actor operation action is b g) a)
 newly_committed state past s o after (Ends {actor} {operation} {answer} d is b) c a =
@@ -112,7 +112,7 @@ newly_committed state past s o after (Sweeps spent) c a = inl a
 
 newly_closed : (state : State) (past : Record) (s : Step) (o : Outcome) (after : State) → Moves state s o after → (c : Closing) →
     Among c (noted past state.steps (told_in state s)).closings → Among c past.closings ⊎ (c.step ≡ state.steps)
-newly_closed state past s o after (Begins {actor} {call} d) c a = inl a
+newly_closed state past s o after (Begins {actor} {call} {number} d) c a = inl a
 newly_closed state past s o after (Goes {actor} {operation} {action} d is b g) c a =
     among_closings past state.steps (progress_of state operation).carried c (subst (λ (r : Record). Among c r.closings) (noted_going state past actor operation action is b g) a)
 newly_closed state past s o after (Ends {actor} {operation} {answer} d is b) c a =

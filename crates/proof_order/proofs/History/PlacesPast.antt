@@ -71,8 +71,8 @@ more_below n places new h k = All-append (λ (p : Place). p.step < n + 1) places
 
 moved_below : (state : State) (past : Record) → Past state past → Below state.steps past.places → (s : Step) (o : Outcome) (after : State) → Moves state s o after →
     Below (state.steps + 1) (noted past state.steps (told_in state s)).places
-moved_below state past h below s o after (Begins {actor} {call} d) =
-    more_below state.steps past.places _ below (begun_below state.steps (begun_operation state call).id call (state.steps + 1) (omega arith))
+moved_below state past h below s o after (Begins {actor} {call} {number} d) =
+    more_below state.steps past.places _ below (begun_below state.steps (begun_operation state call number).id call (state.steps + 1) (omega arith))
 moved_below state past h below s o after (Goes {actor} {operation} {action} d is a g) =
     let p : Progress = progress_of state operation in
     subst (λ (r : Record). Below (state.steps + 1) r.places) (sym (noted_going state past actor operation action is a g))

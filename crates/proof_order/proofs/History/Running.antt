@@ -36,19 +36,20 @@ gave_up_same operation answer = record { id = refl; call = refl; opens = refl; a
 -- the step begins this operation
 pub record IsBegun (state : State) (s : Step) (k : ℕ) (found : Operation) : Type 0 where
   pub call : Call
-  pub is_step : s ≡ step.Begin (suc k) call
-  pub is_it : found ≡ begun_operation state call
+  pub number : Option ℕ
+  pub is_step : s ≡ step.Begin (suc k) call number
+  pub is_it : found ≡ begun_operation state call number
 
-pub own_step : (actor k : ℕ) (call : Call) → actor ≡ suc k → step.Begin actor call ≡ step.Begin (suc k) call
-own_step actor k call own = ap (λ a. step.Begin a call) own
+pub own_step : (actor k : ℕ) (call : Call) (number : Option ℕ) → actor ≡ suc k → step.Begin actor call number ≡ step.Begin (suc k) call number
+own_step actor k call number own = ap (λ a. step.Begin a call number) own
 
 ran_by : (state : State) (s : Step) (o : Outcome) (after : State) → Moves state s o after → (k : ℕ) (found : Operation) → Runs after k found →
     Dec (IsOf (suc k) s) → IsBegun state s k found ⊎ ((operation : Operation) × Runs state k operation × IsSame operation found)
 ran_by state s o after m k found at_k (no other) =
     let (was, at_was, same) = of_others state s o after m k other found at_k in
     inr (was, at_was, subst (λ f. IsSame was f) (sym same) (marked_same _ was))
-ran_by state s o after (Begins {actor} {call} d) k found at_k (yes own) =
-    inl (record { call = call; is_step = own_step actor k call own; is_it = of_begin state actor call (begun_operation state call) k own found at_k })
+ran_by state s o after (Begins {actor} {call} {number} d) k found at_k (yes own) =
+    inl (record { call = call; number = number; is_step = own_step actor k call number own; is_it = of_begin state actor call (begun_operation state call number) k own found at_k })
 ran_by state s o after (Goes {actor} {operation} d is a g) k found at_k (yes own) =
     inr (operation, at_place state actor k operation own is, subst (λ f. IsSame operation f) (sym (of_itself state actor operation k own found at_k)) (after_same state _ operation))
 ran_by state s o after (Ends {actor} d is a) k found at_k (yes own) = absurd (of_end state actor k own found at_k)
@@ -81,8 +82,8 @@ IsEnded state past s now k operation =
 -- what runs before a step runs after it, or ends with it
 pub runs_on : (state : State) (past : Record) (s : Step) (o : Outcome) (after : State) → Moves state s o after → (k : ℕ) (operation : Operation) → Runs state k operation →
     IsEnded state past s (noted past state.steps (told_in state s)) k operation ⊎ ((found : Operation) × Runs after k found × IsSame operation found)
-runs_on state past s o after (Begins {actor} {call} d) k operation at_k = elim (write_cases state.actors (actor - 1) k (Some (begun_operation state call)) operation at_k) [
-  | inl here ↦ absurd (begin_not_running state k actor call operation d (actor_at actor k (begin_counts state actor call d) here.0) at_k)
+runs_on state past s o after (Begins {actor} {call} {number} d) k operation at_k = elim (write_cases state.actors (actor - 1) k (Some (begun_operation state call number)) operation at_k) [
+  | inl here ↦ absurd (begin_not_running state k actor call number operation d (actor_at actor k (begin_counts state actor call number d) here.0) at_k)
   | inr there ↦ inr (operation, rw begin_actors there.1, record { id = refl; call = refl; opens = refl; access = refl })
 ]
 runs_on state past s o after (Goes {actor} {operation = own} d is a g) k operation at_k = elim (write_cases state.actors (actor - 1) k (Some (operation_after state own)) operation at_k) [

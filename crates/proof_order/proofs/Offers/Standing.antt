@@ -45,7 +45,7 @@ marks_go state actor id (Some operation) is e =
     record { k = k; operation = operation; offer = offer; main = main; is_step = ap step.Go actors; runs = runs; does = does; carried = carried; marks = marks }
 
 pub marks_says : (state : State) (s : Step) (id : ℕ) → marks_in state s ≡ Some id → Marks state s id
-marks_says state (step.Begin actor call) id e = absurd (none-some id e)
+marks_says state (step.Begin actor call number) id e = absurd (none-some id e)
 marks_says state (step.Go actor) id e = marks_go state actor id (operation_of state actor) refl e
 marks_says state step.Sweep id e = absurd (none-some id e)
 marks_says state (step.GiveUp actor) id e = absurd (none-some id e)

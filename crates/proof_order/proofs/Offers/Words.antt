@@ -56,8 +56,8 @@ module _ (state : State) (actor : ℕ) (own : Operation) (is : operation_of stat
 
 pub words_after : (state : State) (s : Step) (o : Outcome) (after : State) → Moves state s o after → (handle : ℕ) (offer : Descriptor) →
     word_at after handle ≡ Offer offer → StandsFrom state s handle offer
-words_after state s o after (Begins {actor} {call} d) handle offer e =
-    stood (begun_word state actor call (begun_operation state call) handle offer e) (λ k operation mine is. let wrong : ⊥ = cc is in absurd wrong)
+words_after state s o after (Begins {actor} {call} {number} d) handle offer e =
+    stood (begun_word state actor call (begun_operation state call number) handle offer e) (λ k operation mine is. let wrong : ⊥ = cc is in absurd wrong)
 words_after state s o after (Goes {actor} {operation} d is a g) handle offer e =
     go_by state actor operation is handle offer (offer_from _ (handle_of operation.call) handle offer (action_of state operation) e)
 words_after state s o after (Ends {actor} {operation} {answer} d is a) handle offer e = end_by state actor operation is handle offer (ap settles a) e

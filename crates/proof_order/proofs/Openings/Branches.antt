@@ -92,7 +92,7 @@ module _ (limits : Bounds) (states : ℕ → State) (last : ℕ) (run : IsRun li
             | inr (inl goes) ↦ empty_by k ran.was b ran.at_k goes.0 (cleared_makes (states t) ran.was b ran.was.line (subst (λ l. IsCleared l b) goes.1 is))
             | inr (inr ended) ↦ absurd (subst (λ l. IsCleared l b) ended.1 is)
           ]
-          | inr (call, begins, d, it) ↦ absurd (first_not (states t) found b call (subst (λ (x : Operation). IsCleared x.line b) it is))
+          | inr (call, number, begins, d, it) ↦ absurd (first_not (states t) found b call (subst (λ (x : Operation). IsCleared x.line b) it is))
         ]
 
   pub empty_at : (t : ℕ) → t ≤ last → AllEmpty t

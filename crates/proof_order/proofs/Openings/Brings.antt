@@ -2,7 +2,7 @@
 use Rattle.std.proofs.Common.{◌≡◌, ℕ, suc, ◌≤◌, Bool, true, false, cond, Option, Some, None, is_some, refl, sym, ap, ◌∙◌, subst, arith}
 use Rattle.std.proofs.lemmas.Bool.{false≢true}
 use Rattle.proof_order.specs.Vocabulary.{Call, Clear, Snapshot, Freeze, Ref, generation_at, Operation, Descriptor, Bounds, Step, handle_of, opens_handle, State, first_state, operation_of}
-use Rattle.proof_order.specs.Vocabulary.{operation_after, least_free, run, IsRun, is_clear}
+use Rattle.proof_order.specs.Vocabulary.{operation_after, number_for, run, IsRun, is_clear}
 use Rattle.proof_order.specs.Beneath.machine_model.proofs.Actors.{mark_only, marks_in}
 use Rattle.proof_order.specs.Beneath.machine_model.proofs.Found.{none_found}
 use Rattle.proof_order.specs.Beneath.machine_model.proofs.Times.{at_each_time}
@@ -29,15 +29,15 @@ use Rattle.proof_order.specs.Beneath.history.proofs.Places.{option_tested, optio
 abbrev HaveNumbers : State → Type 0
 HaveNumbers state = (k : ℕ) (operation : Operation) → Runs state k operation → is_some operation.opens ≡ opens_handle operation.call
 
-numbered : (state : State) (call : Call) → is_some (cond (opens_handle call) (Some (least_free state)) None) ≡ opens_handle call
-numbered state call = by (opens_handle call)
+numbered : (state : State) (call : Call) (number : Option ℕ) → is_some (cond (opens_handle call) (Some (number_for state number)) None) ≡ opens_handle call
+numbered state call number = by (opens_handle call)
   where
-    by : (b : Bool) → is_some (cond b (Some (least_free state)) None) ≡ b
+    by : (b : Bool) → is_some (cond b (Some (number_for state number)) None) ≡ b
     by true = refl
     by false = refl
 
 numbers_by : (state : State) (s : Step) → HaveNumbers state → (k : ℕ) (found : Operation) → Comes state s k found → is_some found.opens ≡ opens_handle found.call
-numbers_by state s all k found (began call is d it) = ap (λ (x : Operation). is_some x.opens) it ∙ numbered state call ∙ ap (λ (x : Operation). opens_handle x.call) (sym it)
+numbers_by state s all k found (began call number is d it) = ap (λ (x : Operation). is_some x.opens) it ∙ numbered state call number ∙ ap (λ (x : Operation). opens_handle x.call) (sym it)
 numbers_by state s all k found (rested was at_k it other_step) =
     let same = it ∙ mark_only (marks_in state s) was in
     ap (λ (x : Operation). is_some x.opens) same ∙ all k was at_k ∙ ap (λ (x : Operation). opens_handle x.call) (sym same)

@@ -176,7 +176,7 @@ module _ (limits : Bounds) (states : ℕ → State) (last : ℕ) (run : IsRun li
     went_by k found was c now e go at_k g (has_offered offers first) = begins k found c now e first
 
     since_by : (k : ℕ) (found : Operation) (c : Complete) → Runs (states (suc t)) k found → completing_of found.line ≡ Some c → Comes (states t) s k found → Since (suc t) k c
-    since_by k found c now e (began call is d it) = absurd (none-some c (sym (first_none call) ∙ ap (λ (x : Operation). completing_of x.line) (sym it) ∙ e))
+    since_by k found c now e (began call number is d it) = absurd (none-some c (sym (first_none call) ∙ ap (λ (x : Operation). completing_of x.line) (sym it) ∙ e))
     since_by k found c now e (rested was at_k it other_step) =
         let same = it ∙ mark_only (marks_in (states t) s) was in
         same_complete k c (ap (λ r. moment_at r (suc k)) notes ∙ moment_rests (states t) (run.records t) s o (states (suc t)) m k other_step)

@@ -57,5 +57,5 @@ module _ (state : State) (past : Record) (S : IsSafe state) (I : IsOrdered state
       | inr (inl goes) ↦ from_line k found x r ran goes.0 goes.1 (fresh_from state ran.was ran.was.line x r (ap (fresh_in x) (sym goes.1) ∙ e))
       | inr (inr ended) ↦ absurd (none-some r (sym (ap (fresh_in x) ended.1) ∙ e))
     ]
-    | inr (call, is, d, it) ↦ absurd (first_none call x r (ap (λ (y : Operation). fresh_in x y.line) (sym it) ∙ e))
+    | inr (call, number, is, d, it) ↦ absurd (first_none call x r (ap (λ (y : Operation). fresh_in x y.line) (sym it) ∙ e))
   ]

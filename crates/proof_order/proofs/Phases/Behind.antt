@@ -134,10 +134,10 @@ module _ (limits : Bounds) (states : ℕ → State) (last : ℕ) (r : IsRun limi
         let behind = placed_behind t k operation (moment_at (r.records t) actor).moment true within runs before now in
         subst (λ (x : Place). RunsBehind x.step q.id) (sym its)
         (subst (λ i. RunsBehind (place_of (r.records t) (entrant_of operation) (moment_at (r.records t) actor).moment true).step i) (sym id) behind)
-    behind_by q (at_close actor handle go its) =
-        let (k, runs) = begun_runs (states t) s o (states (suc t)) m (offers_at limits states last r t within).books actor (Close handle) go in
+    behind_by q (at_close actor handle number go its) =
+        let (k, runs) = begun_runs (states t) s o (states (suc t)) m (offers_at limits states last r t within).books actor (Close handle) number go in
         let step_is : q.step ≡ t = ap (λ (x : Place). x.step) its ∙ steps_at limits states last r t within in
-        subst (λ n. RunsBehind n q.id) (sym step_is) (k, begun_operation (states t) (Close handle), runs, sym (ap (λ (x : Place). x.id) its))
+        subst (λ n. RunsBehind n q.id) (sym step_is) (k, begun_operation (states t) (Close handle) number, runs, sym (ap (λ (x : Place). x.id) its))
     behind_by q (carried handle offer c its) =
         let st = offerer_of (states t) (offers_at limits states last r t within) s handle offer c in
         let step_is : q.step ≡ t = ap (λ (x : Place). x.step) its ∙ steps_at limits states last r t within in

@@ -1,5 +1,5 @@
 -- A close has its place from its begin on; and a begin's operation runs behind it.
-use Rattle.std.proofs.Common.{◌≡◌, ℕ, suc, ◌-◌, ◌<◌, ◌≤◌, true, false, inl, get_or, length, Some, None, refl, sym, ap, ◌∙◌, subst, arith, ◌++◌}
+use Rattle.std.proofs.Common.{Option, ◌≡◌, ℕ, suc, ◌-◌, ◌<◌, ◌≤◌, true, false, inl, get_or, length, Some, None, refl, sym, ap, ◌∙◌, subst, arith, ◌++◌}
 use Rattle.std.proofs.lemmas.Bool.{false≢true}
 use Rattle.std.proofs.lemmas.List.{get_or-set_same}
 use Rattle.proof_order.specs.Vocabulary.{Call, Close, on_time, Operation, Bounds, Outcome, Step, is_close, State, operation_after, Begins, Ends, Sweeps, GivesUp, Moves, begun_operation, IsRun}
@@ -19,29 +19,30 @@ use Rattle.proof_order.specs.Beneath.machine_model.proofs.Recorded.{at_each_reco
 -- ---- a begin
 
 -- the operation runs behind it
-pub begun_runs : (state : State) {past : Record} (s : Step) (o : Outcome) (after : State) → Moves state s o after → Books state past → (actor : ℕ) (call : Call) → s ≡ step.Begin actor call →
-    (k : ℕ) × Runs after k (begun_operation state call)
-begun_runs state s o after (Begins {actor = own} {call = calls} d) books actor call go =
+pub begun_runs : (state : State) {past : Record} (s : Step) (o : Outcome) (after : State) → Moves state s o after → Books state past → (actor : ℕ) (call : Call) (number : Option ℕ) → s ≡ step.Begin actor call number →
+    (k : ℕ) × Runs after k (begun_operation state call number)
+begun_runs state s o after (Begins {actor = own} {call = calls} {number = wish} d) books actor call number go =
     let same : calls ≡ call = cc go in
-    let (low, high) = within_actors state own calls d in
+    let same_number : wish ≡ number = cc go in
+    let (low, high) = within_actors state own calls wish d in
     let inside : own - 1 < length state.actors = omega (arith, books.size) in (
       own - 1,
-      ap (λ l. get_or l (own - 1) None) (begin_actors state own calls (begun_operation state calls)) ∙ get_or-set_same state.actors (own - 1) (Some (begun_operation state calls)) None inside
-          ∙ ap (λ c. Some (begun_operation state c)) same,
+      ap (λ l. get_or l (own - 1) None) (begin_actors state own calls (begun_operation state calls wish)) ∙ get_or-set_same state.actors (own - 1) (Some (begun_operation state calls wish)) None inside
+          ∙ ap (λ c. Some (begun_operation state c wish)) same ∙ ap (λ n. Some (begun_operation state call n)) same_number,
     )
-begun_runs state s o after (Goes d is a g) books actor call go = let wrong : ⊥ = cc go in absurd wrong
-begun_runs state s o after (Ends d is a) books actor call go = let wrong : ⊥ = cc go in absurd wrong
-begun_runs state s o after (GivesUp d is a) books actor call go = let wrong : ⊥ = cc go in absurd wrong
-begun_runs state s o after (Sweeps spent) books actor call go = let wrong : ⊥ = cc go in absurd wrong
+begun_runs state s o after (Goes d is a g) books actor call number go = let wrong : ⊥ = cc go in absurd wrong
+begun_runs state s o after (Ends d is a) books actor call number go = let wrong : ⊥ = cc go in absurd wrong
+begun_runs state s o after (GivesUp d is a) books actor call number go = let wrong : ⊥ = cc go in absurd wrong
+begun_runs state s o after (Sweeps spent) books actor call number go = let wrong : ⊥ = cc go in absurd wrong
 
 -- a close has its place
 closes_at : (past : Record) (step id : ℕ) (call : Call) → is_close call ≡ true → Among (on_time step false id) (past.places ++ entered_at_begin step id call)
 closes_at past step id (Close handle) e = among_right past.places _ _ (inl refl)
 closes_at past step id call e = absurd (false≢true e)
 
-begun_close : (state : State) (past : Record) (s : Step) → (actor : ℕ) (call : Call) → s ≡ step.Begin actor call → is_close call ≡ true →
+begun_close : (state : State) (past : Record) (s : Step) → (actor : ℕ) (call : Call) (number : Option ℕ) → s ≡ step.Begin actor call number → is_close call ≡ true →
     Among (on_time state.steps false state.begun) (noted past state.steps (told_in state s)).places
-begun_close state past s actor call go e =
+begun_close state past s actor call number go e =
     subst (λ x. Among (on_time state.steps false state.begun) (noted past state.steps (told_in state x)).places) (sym go) (closes_at past state.steps state.begun call e)
 
 -- ---- later on
@@ -57,9 +58,9 @@ still_placed state past s o after m id is =
 
 closes_by : (state : State) (past : Record) (s : Step) (o : Outcome) (after : State) → Moves state s o after → ClosesPlaced state past → (k : ℕ) (found : Operation) → Comes state s k found →
     is_close found.call ≡ true → is_placed (noted past state.steps (told_in state s)) found.id ≡ true
-closes_by state past s o after m all k found (began call go d it) e =
+closes_by state past s o after m all k found (began call number go d it) e =
     is_placed_so (noted past state.steps (told_in state s)) (on_time state.steps false state.begun)
-    (begun_close state past s (suc k) call go (ap (λ (x : Operation). is_close x.call) (sym it) ∙ e)) found.id (ap (λ (x : Operation). x.id) (sym it))
+    (begun_close state past s (suc k) call number go (ap (λ (x : Operation). is_close x.call) (sym it) ∙ e)) found.id (ap (λ (x : Operation). x.id) (sym it))
 closes_by state past s o after m all k found (rested was at_k it other_step) e =
     let same = it ∙ mark_only (marks_in state s) was in
     still_placed state past s o after m found.id

@@ -39,7 +39,7 @@ pub data Enters (state : State) (past : Record) (s : Step) (p : Place) : Type 0 
   commits : Owns state past s p → Enters state past s p
   at_end : (actor : ℕ) (operation : Operation) (answer : Reply) → s ≡ step.Go actor → operation_of state actor ≡ Some operation → action_of state operation ≡ act.End answer →
       is_placed past operation.id ≡ false → (answer ≡ reply.NoSlots → ⊥) → p ≡ place_of past (entrant_of operation) (moment_at past actor).moment true → Enters state past s p
-  at_close : (actor handle : ℕ) → s ≡ step.Begin actor (Close handle) → p ≡ on_time state.steps false state.begun → Enters state past s p
+  at_close : (actor handle : ℕ) (number : Option ℕ) → s ≡ step.Begin actor (Close handle) number → p ≡ on_time state.steps false state.begun → Enters state past s p
   carried : (handle : ℕ) (offer : Descriptor) → CarriesOut state s handle offer → p ≡ on_time state.steps false offer.operation → Enters state past s p
 
 only : (p q : Place) → Among p (q ∷ []) → p ≡ q
@@ -73,9 +73,9 @@ entering state past s after now (ends actor operation answer go is does none pla
           let (unplaced, other, its) = ended_place past (entrant_of operation) (moment_at past actor).moment answer p new in
           inr (at_end actor operation answer go is does unplaced other its)
     ]
-entering state past s after now (closes actor handle root go is none places closings gone others) owns p a = elim (either past.places _ now.places p places a) [
+entering state past s after now (closes actor handle number root go is none places closings gone others) owns p a = elim (either past.places _ now.places p places a) [
   | inl old ↦ inl old
-  | inr new ↦ inr (at_close actor handle go (only p _ new))
+  | inr new ↦ inr (at_close actor handle number go (only p _ new))
 ]
 entering state past s after now (swaps handle offer carries none places closings roots heap) owns p a = elim (either past.places _ now.places p places a) [
   | inl old ↦ inl old

@@ -195,7 +195,7 @@ abbrev AllFit : State → Type 0
 AllFit state = (k : ℕ) (operation : Operation) → Runs state k operation → FitsLine operation.call operation.line
 
 fits_by : (state : State) (s : Step) → AllFit state → (k : ℕ) (found : Operation) → Comes state s k found → FitsLine found.call found.line
-fits_by state s all k found (began call go d it) = subst (λ (x : Operation). FitsLine x.call x.line) (sym it) (first_fits call)
+fits_by state s all k found (began call number go d it) = subst (λ (x : Operation). FitsLine x.call x.line) (sym it) (first_fits call)
 fits_by state s all k found (rested was at_k it other_step) = subst (λ (x : Operation). FitsLine x.call x.line) (sym (it ∙ mark_only (marks_in state s) was)) (all k was at_k)
 fits_by state s all k found (went was go at_k g it) =
     subst (λ (x : Operation). FitsLine x.call x.line) (sym (it ∙ mark_only (marks_in state s) (operation_after state was))) (line_fits state was was.line (all k was at_k))

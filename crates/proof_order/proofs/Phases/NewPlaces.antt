@@ -64,7 +64,7 @@ module _ (limits : Bounds) (states : ℕ → State) (last : ℕ) (r : IsRun limi
       found actor go (Some operation) is e = record { actor = actor; operation = operation; go = go; runs = is; now = e }
 
       by : (x : Step) → s ≡ x → committed_by_step (states t) x ≡ Some main → Mover main
-      by (step.Begin actor call) is e = absurd (none-some main e)
+      by (step.Begin actor call number) is e = absurd (none-some main e)
       by (step.Go actor) is e = found actor is (operation_of (states t) actor) refl e
       by step.Sweep is e = absurd (none-some main e)
       by (step.GiveUp actor) is e = absurd (none-some main e)
@@ -196,22 +196,22 @@ module _ (limits : Bounds) (states : ℕ → State) (last : ℕ) (r : IsRun limi
 
   -- ---- by a close
 
-  closed : (actor handle : ℕ) → s ≡ step.Begin actor (Close handle) → (k : ℕ) (found : Operation) → found.id ≡ (states t).begun → From (states t) s k found → Phase states (suc t) found
-  closed actor handle go k found same (began new) =
-      let calls : step.Begin (suc k) new.call ≡ step.Begin actor (Close handle) = sym new.is_step ∙ go in
+  closed : (actor handle : ℕ) (number : Option ℕ) → s ≡ step.Begin actor (Close handle) number → (k : ℕ) (found : Operation) → found.id ≡ (states t).begun → From (states t) s k found → Phase states (suc t) found
+  closed actor handle number go k found same (began new) =
+      let calls : step.Begin (suc k) new.call new.number ≡ step.Begin actor (Close handle) number = sym new.is_step ∙ go in
       let call : new.call ≡ Close handle = cc calls in
       answers reply.Closed (ap (λ (x : Operation). x.line) new.is_it ∙ ap first_line call) refl
-  closed actor handle go k found same (kept was at_k is other) =
+  closed actor handle number go k found same (kept was at_k is other) =
       let low = running_below (states t) books k was at_k in
       let count = books.alike.begun_are in
       let its : found.id ≡ was.id = ap (λ (x : Operation). x.id) (is ∙ mark_only (marks_in (states t) s) was) in
       absurd (omega arith)
-  closed actor handle go k found same (stepped was at_k own goes is) =
+  closed actor handle number go k found same (stepped was at_k own goes is) =
       let low = running_below (states t) books k was at_k in
       let count = books.alike.begun_are in
       let its : found.id ≡ was.id = ap (λ (x : Operation). x.id) (is ∙ mark_only (marks_by (states t) (Some was)) (operation_after (states t) was)) in
       absurd (omega arith)
-  closed actor handle go k found same (gave was answer at_k own may is) = let wrong : step.Begin actor (Close handle) ≡ step.GiveUp (suc k) = sym go ∙ own in absurd (cc wrong)
+  closed actor handle number go k found same (gave was answer at_k own may is) = let wrong : step.Begin actor (Close handle) number ≡ step.GiveUp (suc k) = sym go ∙ own in absurd (cc wrong)
 
   -- ---- by its offer
 
@@ -247,6 +247,6 @@ module _ (limits : Bounds) (states : ℕ → State) (last : ℕ) (r : IsRun limi
       let id : p.id ≡ operation.id = ap (λ (q : Place). q.id) its ∙ (place_says (closing_for (r.records t) operation.generation operation.access)
       (moment_at (r.records t) actor).moment operation.id true).2 in
       absurd (ended_else actor operation answer go is does k found (sym same ∙ id) from)
-  new_phase p (at_close actor handle go its) k found runs same from = closed actor handle go k found (sym same ∙ ap (λ (q : Place). q.id) its) from
+  new_phase p (at_close actor handle number go its) k found runs same from = closed actor handle number go k found (sym same ∙ ap (λ (q : Place). q.id) its) from
   new_phase p (carried handle offer c its) k found runs same from =
       marked_phase limits states last r (suc t) lt k found runs (marked_now handle offer c k found (sym same ∙ ap (λ (q : Place). q.id) its) from)

@@ -77,7 +77,7 @@ none_more records t e h c a = let p = h c (subst (Among c) e a) in (omega (arith
 
 quiet_by : (states : ℕ → State) (records : ℕ → Record) (t : ℕ) → HasOffers (states t) → (states t).steps ≡ t → NotedAt (states t) (records t) (states (suc t)) (records (suc t)) →
     QuietCommits records t → QuietCommits records (suc t)
-quiet_by states records t I count (NotesBegin actor call o m d e n) = none_more records t (ap (λ (r : Record). r.commits) n)
+quiet_by states records t I count (NotesBegin actor call number o m d e n) = none_more records t (ap (λ (r : Record). r.commits) n)
 quiet_by states records t I count (NotesGo actor operation o m d is g e n) =
     one_more records t (states t).steps (committed_now (states t) operation) (ap (λ (r : Record). r.commits) n) count
     (λ main now. closes_none (states t) I (records t) (records (suc t)) (step.Go actor) o (states (suc t)) m

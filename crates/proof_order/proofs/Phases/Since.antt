@@ -121,7 +121,7 @@ module _ (limits : Bounds) (states : ℕ → State) (last : ℕ) (r : IsRun limi
 
   since_by : (k : ℕ) (found : Operation) → Runs (states (suc t)) k found → ((was : Operation) → Runs (states t) k was → Since states r.records t k was) →
       Comes (states t) s k found → Since states r.records (suc t) k found
-  since_by k found runs before (began call go d it) = record {
+  since_by k found runs before (began call number go d it) = record {
     at = t;
     past = omega arith;
     runs = runs_now states r.records t k found runs;

@@ -18,7 +18,7 @@ abbrev AllReaders : State → Type 0
 AllReaders state = (k : ℕ) (operation : Operation) → Runs state k operation → operation.access ≡ ReadOnly → IsReaders operation.line
 
 readers_by : (state : State) (s : Step) → IsSafe state → AllReaders state → (k : ℕ) (found : Operation) → Comes state s k found → found.access ≡ ReadOnly → IsReaders found.line
-readers_by state s S all k found (began call go d it) e = subst IsReaders (sym (ap (λ (x : Operation). x.line) it)) (first_readers call)
+readers_by state s S all k found (began call number go d it) e = subst IsReaders (sym (ap (λ (x : Operation). x.line) it)) (first_readers call)
 readers_by state s S all k found (rested was at_k it other_step) e =
     let same = it ∙ mark_only (marks_in state s) was in
     subst IsReaders (sym (ap (λ (x : Operation). x.line) same)) (all k was at_k (ap (λ (x : Operation). x.access) (sym same) ∙ e))

@@ -29,7 +29,7 @@ pub data Changes (state : State) (past : Record) (s : Step) (after : State) (now
       entered_by_step past state s ≡ [] → now.places ≡ past.places ++ entered_at_end past (entrant_of operation) (moment_at past actor).moment answer → now.closings ≡ past.closings →
       ((h : ℕ) → footing after h ≡ footing state h) → Changes state past s after now
   -- a close begins
-  closes : (actor handle : ℕ) (root : Root) → s ≡ step.Begin actor (Close handle) → root_at state handle ≡ Some root →
+  closes : (actor handle : ℕ) (number : Option ℕ) (root : Root) → s ≡ step.Begin actor (Close handle) number → root_at state handle ≡ Some root →
       entered_by_step past state s ≡ [] → now.places ≡ past.places ++ on_time state.steps false state.begun ∷ [] → now.closings ≡ past.closings →
       footing after handle ≡ None → ((h : ℕ) → (h ≡ handle → ⊥) → footing after h ≡ footing state h) → Changes state past s after now
   -- an offer is carried out
@@ -40,21 +40,21 @@ pub data Changes (state : State) (past : Record) (s : Step) (after : State) (now
 
 -- ---- a begin
 
-open_by : (state : State) (actor handle : ℕ) → begin_denial state actor (Close handle) ≡ None → (o : Option Root) → root_at state handle ≡ o → (root : Root) × (root_at state handle ≡ Some root)
-open_by state actor handle d (Some root) e = (root, e)
-open_by state actor handle d None e = absurd (denied e)
+open_by : (state : State) (actor handle : ℕ) (number : Option ℕ) → begin_denial state actor (Close handle) number ≡ None → (o : Option Root) → root_at state handle ≡ o → (root : Root) × (root_at state handle ≡ Some root)
+open_by state actor handle number d (Some root) e = (root, e)
+open_by state actor handle number d None e = absurd (denied e)
   where
     denied : root_at state handle ≡ None → ⊥
     denied e = grind arith
 
-begin_changes : (state : State) (past : Record) (actor : ℕ) (call : Call) → begin_denial state actor call ≡ None →
-    Changes state past (step.Begin actor call) (settled state (with_begin state actor call (begun_operation state call))) (noted past state.steps (told_in state (step.Begin actor call)))
-begin_changes state past actor (Close handle) d =
-    let (root, is) = open_by state actor handle d (root_at state handle) refl in
-    closes actor handle root refl is refl refl refl
+begin_changes : (state : State) (past : Record) (actor : ℕ) (call : Call) (number : Option ℕ) → begin_denial state actor call number ≡ None →
+    Changes state past (step.Begin actor call number) (settled state (with_begin state actor call (begun_operation state call number))) (noted past state.steps (told_in state (step.Begin actor call number)))
+begin_changes state past actor (Close handle) number d =
+    let (root, is) = open_by state actor handle number d (root_at state handle) refl in
+    closes actor handle number root refl is refl refl refl
     (ap footing_of (get_or-set_same state.roots handle None None (found_within state.roots handle root is)))
     (λ h apart. ap footing_of (found_elsewhere state.roots handle h None apart))
-begin_changes state past actor call d = quiet refl refl (λ h. refl)
+begin_changes state past actor call number d = quiet refl refl (λ h. refl)
 
 -- ---- a step of an operation
 
@@ -114,7 +114,7 @@ go_by state past now actor operation action false is honest notes does e =
 
 pub changes : (state : State) (past : Record) (s : Step) (o : Outcome) (after : State) → Moves state s o after → HonestIn state →
     Changes state past s after (noted past state.steps (told_in state s))
-changes state past s o after (Begins {actor} {call} d) honest = begin_changes state past actor call d
+changes state past s o after (Begins {actor} {call} {number} d) honest = begin_changes state past actor call number d
 changes state past s o after (Goes {actor} {operation} {action} d is a g) honest =
     go_by state past (noted past state.steps (told_in state s)) actor operation action (carries state (handle_of operation.call) action) is honest
     (noted_going state past actor operation action is a g) a refl

@@ -1,5 +1,5 @@
 -- Each step of a run by what the facts say of it: one constructor for each kind.
-use Rattle.std.proofs.Common.{◌≡◌, ◌≢◌, ℕ, suc, ◌+◌, ◌<◌, Bool, true, false, cond, ◌⊎◌, inl, inr, List, ◌∷◌, ◌++◌, length, Some, None, slice_get, refl, sym, ap, ◌∙◌, subst, append-nil, arith, []}
+use Rattle.std.proofs.Common.{Option, ◌≡◌, ◌≢◌, ℕ, suc, ◌+◌, ◌<◌, Bool, true, false, cond, ◌⊎◌, inl, inr, List, ◌∷◌, ◌++◌, length, Some, None, slice_get, refl, sym, ap, ◌∙◌, subst, append-nil, arith, []}
 use Rattle.proof_order.specs.Vocabulary.{KeyMap, Access, Close, Reply, End, BeginsAt, HasEnded, begun, Recalls, generation_at, Place, on_time, Operation, Descriptor, Bounds, Outcome, Step, State}
 use Rattle.proof_order.specs.Vocabulary.{operation_of, action_of, Moves, IsRun, place_of, is_placed, entered_at_end, Record, moment_at, noted, entrant_of, told_in}
 use Rattle.proof_order.specs.Beneath.history.specs.declared.replies.Reply.TheVariants as reply
@@ -112,12 +112,12 @@ module _ (limits : Bounds) (states : ℕ → State) (last : ℕ) (r : IsRun limi
       closings kept still
 
   -- where a close begins
-  close_kind : (t : ℕ) (lt : t < last) (s : Step) (o : Outcome) (actor handle : ℕ) (stood : Access × ℕ) → Moves (states t) s o (states (suc t)) → Notes states r.records t s →
-      s ≡ step.Begin actor (Close handle) →
+  close_kind : (t : ℕ) (lt : t < last) (s : Step) (o : Outcome) (actor handle : ℕ) (number : Option ℕ) (stood : Access × ℕ) → Moves (states t) s o (states (suc t)) → Notes states r.records t s →
+      s ≡ step.Begin actor (Close handle) number →
       entered_by_step (r.records t) (states t) s ≡ [] → Enters limits states r.records last V t (on_time (states t).steps false (states t).begun) → ClosesNone limits states r.records last V t →
       standing (states t) handle ≡ Some stood → footing (states (suc t)) handle ≡ None →
       ((h : ℕ) → (h ≡ handle → ⊥) → footing (states (suc t)) h ≡ footing (states t) h) → Kind limits states r.records last V t
-  close_kind t lt s o actor handle stood m notes e none places closings at gone others =
+  close_kind t lt s o actor handle number stood m notes e none places closings at gone others =
       let history = (r.records t).events in
       let id : ℕ = begun history in
       let count : (states t).begun ≡ id = sym (alike limits states last r t (omega arith)).begun_are in
@@ -157,8 +157,8 @@ module _ (limits : Bounds) (states : ℕ → State) (last : ℕ) (r : IsRun limi
   by_change t lt s o m notes (each.ends actor operation answer e is does none places closings same) =
       end_kind t actor lt o operation answer _ (subst (λ x. Moves (states t) x o (states (suc t))) e m)
       (subst (λ x. Notes states r.records t x) e notes) is does refl places closings (kept_all t lt same) (facts.still t s o lt m notes none)
-  by_change t lt s o m notes (each.closes actor handle root e is none places closings gone others) =
-      close_kind t lt s o actor handle _ m notes e none places closings (ap (standing_of (states t).heap) is) gone others
+  by_change t lt s o m notes (each.closes actor handle number root e is none places closings gone others) =
+      close_kind t lt s o actor handle number _ m notes e none places closings (ap (standing_of (states t).heap) is) gone others
   by_change t lt s o m notes (each.swaps handle offer carries none places closings roots heap) = swap_kind t lt s o handle offer m notes carries none places closings roots heap
 
   -- the kind of each step

@@ -59,8 +59,8 @@ progress_by past step (Some main) carried alone =
     (grow_by past.places (entered past step (Some main)) (changed_few past step (changer_of past main))))
 
 moved_grows : (state : State) (past : Record) (s : Step) (o : Outcome) (after : State) → Moves state s o after → Grow past.places (noted past state.steps (told_in state s)).places
-moved_grows state past s o after (Begins {actor} {call} d) =
-    grow_by past.places (entered_at_begin state.steps (begun_operation state call).id call) (begun_few state.steps (begun_operation state call).id call)
+moved_grows state past s o after (Begins {actor} {call} {number} d) =
+    grow_by past.places (entered_at_begin state.steps (begun_operation state call number).id call) (begun_few state.steps (begun_operation state call number).id call)
 moved_grows state past s o after (Goes {actor} {operation} {action} d is a g) =
     subst (λ (r : Record). Grow past.places r.places) (sym (noted_going state past actor operation action is a g))
     (progress_by past state.steps (committed_now state operation) (carried_by state (handle_of operation.call) (action_of state operation))

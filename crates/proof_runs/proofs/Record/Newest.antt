@@ -139,9 +139,9 @@ newest_after state I past s o after (Goes {actor} {operation} {action} d is a g)
       published = published_now state I _ _ _ (Goes d is a g) past (published_by operation operation.line)
           (λ p e. publishes_used state operation operation.line p e (action_finds state I actor operation is)) h.published;
     })
-newest_after state I past s o after (Begins d) h = record {
-  commits = still state I _ _ _ (Begins d) committed_main past.commits h.commits;
-  published = still state I _ _ _ (Begins d) published_main past.published h.published;
+newest_after state I past s o after (Begins {number = number} d) h = record {
+  commits = still state I _ _ _ (Begins {number = number} d) committed_main past.commits h.commits;
+  published = still state I _ _ _ (Begins {number = number} d) published_main past.published h.published;
 }
 newest_after state I past s o after (Ends {actor} {operation} {answer} d is a) h =
     subst (AreNewest _) (sym (noted_ending state past actor operation answer is a)) (record {

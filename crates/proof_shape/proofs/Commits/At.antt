@@ -126,7 +126,7 @@ module _ (limits : Bounds) (states : ℕ → State) (last : ℕ) (run : IsRun li
 
     by_move : (s : Step) (o : Outcome) (after : State) → Moves (states t) s o after → after ≡ states (suc t) → run.records (suc t) ≡ noted (run.records t) (states t).steps (told_in (states t) s) →
         MainStep limits states run.records last firsts t s
-    by_move s o after (Begins {actor} {call} d) e notes = stays (begins actor call) (quiet_stays limits states last run t h (ap (λ (x : Record). x.commits) notes))
+    by_move s o after (Begins {actor} {call} {number} d) e notes = stays (begins actor call number) (quiet_stays limits states last run t h (ap (λ (x : Record). x.commits) notes))
     by_move s o after (Goes {actor} {operation} {action} d is a g) e notes =
         goes_by actor operation (record {
           o = o;

@@ -96,7 +96,7 @@ module _ (limits : Bounds) (states : ℕ → State) (steps : ℕ → Step) (last
 
   full_lines : OfEachAt states last (λ t actor operation. FullLine s operation.line)
   full_lines =
-      each_at (λ t actor operation. FullLine s operation.line) (λ t actor operation f. f) limits states last run (λ t h actor call d. first_full s call)
+      each_at (λ t actor operation. FullLine s operation.line) (λ t actor operation f. f) limits states last run (λ t h actor call number d. first_full s call)
       (λ t h actor operation go f. line_next t h actor operation go operation.line refl (line_at limits states last run t (omega arith) actor operation go.runs) f)
       (λ t h actor operation answer is may f. tt) (λ t h actor operation is f. f)
 

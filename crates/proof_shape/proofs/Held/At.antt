@@ -171,7 +171,7 @@ module _ (limits : Bounds) (states : ℕ → State) (last : ℕ) (run : IsRun li
   pub holds_at : OfEachAt states last (λ t k operation. (start : ℕ) → operation.generation ≡ Some start → HeldIn limits states last run t k operation.id start operation.call operation.line)
   holds_at =
       each_with limits states last run HoldsAt (λ t k operation x. x)
-      (λ t h actor call d takes e start begun. free_holds limits states last run (suc t) actor _ start call _ (first_leads call).2)
+      (λ t h actor call number d takes e start begun. free_holds limits states last run (suc t) actor _ start call _ (first_leads call).2)
       (λ t h actor operation go takes_it all start begun. line_holds t h all actor operation go takes_it start operation.line refl begun (λ b. all actor operation go.runs start b))
       (λ t h actor operation answer is may all start begun. tt)
       (λ t h k operation is apart all. stays_holding t h all k operation is apart)

@@ -181,6 +181,6 @@ module _ (limits : Bounds) (states : ℕ → State) (last : ℕ) (run : IsRun li
   pub climbs_at : ClimbsAt limits states last
   climbs_at =
       each_at Climbs (λ t actor operation k. k) limits states last run
-      (λ t h actor call d. grounded_knows (known_with limits states last (first_main states last)) (Was states last (suc t)) call _ (first_leads call).0) goes_climbs
+      (λ t h actor call number d. grounded_knows (known_with limits states last (first_main states last)) (Was states last (suc t)) call _ (first_leads call).0) goes_climbs
       (λ t h actor operation answer is may k. tt)
       (λ t h actor operation is k. climbing_later (known_with limits states last (first_main states last)) states last t operation.call operation.line k)

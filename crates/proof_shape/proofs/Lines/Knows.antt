@@ -100,5 +100,5 @@ module _ (limits : Bounds) (states : ℕ → State) (last : ℕ) (run : IsRun li
   pub knows_at : KnowsAt limits states last
   knows_at =
       each_at (λ t actor operation. KnowsLine K operation.call operation.line) (λ t actor operation k. k) limits states last run
-      (λ t h actor call d. blank_knows K call _ (first_blank call)) (λ t h actor operation go k. step_knows t h actor operation go operation.line refl k) (λ t h actor operation answer is may k. tt)
+      (λ t h actor call number d. blank_knows K call _ (first_blank call)) (λ t h actor operation go k. step_knows t h actor operation go operation.line refl k) (λ t h actor operation answer is may k. tt)
       (λ t h actor operation is k. k)

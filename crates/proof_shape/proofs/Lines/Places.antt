@@ -144,7 +144,7 @@ module _ (limits : Bounds) (states : ℕ → State) (last : ℕ) (run : IsRun li
   pub settled_at : OfEachAt states last (λ t actor operation. Settled operation)
   settled_at =
       each_at (λ t actor operation. Settled operation) (λ t actor operation s. record { fits = s.fits; starts = s.starts; swaps = s.swaps }) limits states last run
-      (λ t h actor call d. record { fits = first_fits call; starts = λ b. absurd (first_above call b); swaps = no_place _ (first_no_swap call) })
+      (λ t h actor call number d. record { fits = first_fits call; starts = λ b. absurd (first_above call b); swaps = no_place _ (first_no_swap call) })
       (λ t h actor operation go s. record {
         fits = line_fits (states t) operation operation.line s.fits;
         starts = line_starts (states t) operation operation.line s.starts;

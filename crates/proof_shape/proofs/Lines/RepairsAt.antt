@@ -118,7 +118,7 @@ module _ (limits : Bounds) (states : ℕ → State) (last : ℕ) (run : IsRun li
   pub repairs_at : RepairsAt states run.records last
   repairs_at =
       each_at (λ t actor operation. (start : ℕ) → operation.generation ≡ Some start → Repairs t actor operation.id start operation.line) (λ t actor operation k. k) limits states last run
-      (λ t h actor call d start begun. not_repairing (suc t) actor _ start _ (first_not call))
+      (λ t h actor call number d start begun. not_repairing (suc t) actor _ start _ (first_not call))
       (λ t h actor operation go k start begun.
       step_repairs t h actor operation go start operation.line refl begun (λ b. repairs_later t actor operation.id start operation.line (k start b)))
       (λ t h actor operation answer is may k start begun. tt)

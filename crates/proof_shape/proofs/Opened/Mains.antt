@@ -152,7 +152,7 @@ module _ (limits : Bounds) (states : ℕ → State) (last : ℕ) (run : IsRun li
 
   pub opens_at : OfEachAt states last (λ t actor operation. Opens (IsOpen t) operation.line)
   opens_at =
-      each_at (λ t actor operation. Opens (IsOpen t) operation.line) (λ t actor operation o. o) limits states last run (λ t h actor call d. first_opens (IsOpen (suc t)) call) goes_opens
+      each_at (λ t actor operation. Opens (IsOpen t) operation.line) (λ t actor operation o. o) limits states last run (λ t h actor call number d. first_opens (IsOpen (suc t)) call) goes_opens
       (λ t h actor operation answer is may o. tt)
       (λ t h actor operation is o. opens_more (IsOpen t) (IsOpen (suc t)) (open_still t (suc t) (omega arith)) operation.line o)
 

@@ -135,7 +135,7 @@ module _ (limits : Bounds) (states : ℕ → State) (last : ℕ) (run : IsRun li
       Reading states t actor operation.id (moment_at (run.records t) actor).read_at i x)
   reading_at =
       each_with limits states last run (IsReadingSince states run.records) (λ t actor operation r. r)
-      (λ t h actor call d takes e i x is. let wrong : Rests ≡ Reads i x = sym (first_rests call) ∙ is in absurd (let bad : ⊥ = cc in bad))
+      (λ t h actor call number d takes e i x is. let wrong : Rests ≡ Reads i x = sym (first_rests call) ∙ is in absurd (let bad : ⊥ = cc in bad))
       (λ t h actor operation go takes all. goes_reading t h actor operation go (all actor operation go.runs))
       (λ t h actor operation answer runs may all i x is. let wrong : Rests ≡ Reads i x = is in absurd (let bad : ⊥ = cc in bad))
       (λ t h actor operation runs apart all i x is.

@@ -137,8 +137,8 @@ module _ (limits : Bounds) (states : ℕ → State) (last : ℕ) (run : IsRun li
       by_step : (x : NotedAt (states t) (run.records t) (states (suc t)) (run.records (suc t))) → taker limits states last run t ≡ taker_of x → MakesNew t
       by_step (NotesGo actor operation o moves d is g e n) takes =
           record { operation = operation; go = subst (λ k. GoesAt states run.records t k operation) (sym takes) (record { o = o; moves = moves; runs = is; goes = g; after = e; noted = n }) }
-      by_step (NotesBegin actor call o moves d e n) takes =
-          absurd (true≢false (sym after ∙ stays_made states t ((known_run limits states last run).stays t h (step.Begin actor call) o moves tt) m ∙ before))
+      by_step (NotesBegin actor call number o moves d e n) takes =
+          absurd (true≢false (sym after ∙ stays_made states t ((known_run limits states last run).stays t h (step.Begin actor call number) o moves tt) m ∙ before))
       by_step (NotesEnd actor operation answer o moves is a e n) takes =
           absurd (true≢false (sym after ∙ stays_made states t (subst (λ x. ActsOn states t x) a ((known_run limits states last run).acts t h actor o moves operation is)) m ∙ before))
       by_step (NotesGivingUp actor operation answer o moves is a e n) takes =

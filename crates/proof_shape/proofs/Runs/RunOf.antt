@@ -29,7 +29,7 @@ goes_by state actor operation action g = refl
 
 pub comes_to : (state : State) (s : Step) (o : Outcome) (after : State) → Moves state s o after → next state s ≡ Ok (o, after)
 unfolding next
-comes_to state s o after (Begins {actor} {call} d) = ap (begin_unless state actor call) d
+comes_to state s o after (Begins {actor} {call} {number} d) = ap (begin_unless state actor call number) d
 comes_to state s o after (Goes {actor} {operation} {action} d is a g) =
     ap (go_unless state actor) d ∙ ap (go_on state actor) is ∙ ap (step_by state actor operation) a ∙ goes_by state actor operation action g
 comes_to state s o after (Ends {actor} {operation} {answer} d is a) = ap (go_unless state actor) d ∙ ap (go_on state actor) is ∙ ap (step_by state actor operation) a

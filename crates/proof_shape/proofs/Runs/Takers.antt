@@ -33,7 +33,7 @@ moment_in past now (suc n) e = ap (λ ms. slice_index_or ms n no_moment) e
 
 -- the actor that takes a step; 0 for the sweep
 abbrev pub taker_of : {before after : State} {past now : Record} → NotedAt before past after now → ℕ
-taker_of (NotesBegin actor call o m d e n) = actor
+taker_of (NotesBegin actor call number o m d e n) = actor
 taker_of (NotesGo actor operation o m d is g e n) = actor
 taker_of (NotesEnd actor operation answer o m is a e n) = actor
 taker_of (NotesSweep o m e n) = 0
@@ -68,7 +68,7 @@ module _ (limits : Bounds) (states : ℕ → State) (last : ℕ) (run : IsRun li
 
       by_step : (x : NotedAt (states t) (run.records t) (states (suc t)) (run.records (suc t))) → taker t ≡ taker_of x →
           moment_at (run.records (suc t)) k ≡ moment_at (run.records t) k
-      by_step (NotesBegin actor call o m d e n) takes = written actor no_moment (begin_counts (states t) actor call d) takes (ap (λ (r : Record). r.moments) n)
+      by_step (NotesBegin actor call number o m d e n) takes = written actor no_moment (begin_counts (states t) actor call number d) takes (ap (λ (r : Record). r.moments) n)
       by_step (NotesGo actor operation o m d is g e n) takes =
           written actor (moment_after (run.records t) (states t).steps (progress_of (states t) operation) (moment_at (run.records t) actor))
           (actor_counts (states t) actor operation is) takes (ap (λ (r : Record). r.moments) n)
@@ -82,8 +82,8 @@ module _ (limits : Bounds) (states : ℕ → State) (last : ℕ) (run : IsRun li
     abbrev pub AllAt : ℕ → Type 0
     AllAt t = (k : ℕ) (operation : Operation) → operation_of (states t) k ≡ Some operation → P t k operation
 
-    module _ (begins : (t : ℕ) → t < last → (actor : ℕ) (call : Call) → begin_denial (states t) actor call ≡ None → taker t ≡ actor →
-        states (suc t) ≡ settled (states t) (with_begin (states t) actor call (begun_operation (states t) call)) → P (suc t) actor (begun_operation (states t) call))
+    module _ (begins : (t : ℕ) → t < last → (actor : ℕ) (call : Call) (number : Option ℕ) → begin_denial (states t) actor call number ≡ None → taker t ≡ actor →
+        states (suc t) ≡ settled (states t) (with_begin (states t) actor call (begun_operation (states t) call number)) → P (suc t) actor (begun_operation (states t) call number))
         (goes : (t : ℕ) → t < last → (actor : ℕ) (operation : Operation) → GoesAt states run.records t actor operation → taker t ≡ actor → AllAt t →
         P (suc t) actor (operation_after (states t) operation))
         (gives_up : (t : ℕ) → t < last → (actor : ℕ) (operation : Operation) (answer : Reply) → operation_of (states t) actor ≡ Some operation →
@@ -103,24 +103,24 @@ module _ (limits : Bounds) (states : ℕ → State) (last : ℕ) (run : IsRun li
       others t h so_far m k apart e found is = mark_by (suc t) k (operation_of (states t) k) (λ operation at. stays t h k operation at apart so_far) m found (sym e ∙ is)
 
       each_next : (t : ℕ) → t < last → AllAt t → (x : NotedAt (states t) (run.records t) (states (suc t)) (run.records (suc t))) → taker t ≡ taker_of x → AllAt (suc t)
-      each_next t h so_far (NotesBegin actor call o m d e n) takes k found is = by_actor (cases_eq k actor)
+      each_next t h so_far (NotesBegin actor call number o m d e n) takes k found is = by_actor (cases_eq k actor)
         where
-          own : (operation_of (states (suc t)) actor ≡ None) ⊎ (operation_of (states (suc t)) actor ≡ Some (begun_operation (states t) call))
-          own = subst (λ (s : State). (operation_of s actor ≡ None) ⊎ (operation_of s actor ≡ Some (begun_operation (states t) call))) (sym e)
-              (begin_own (states t) actor call (begun_operation (states t) call))
+          own : (operation_of (states (suc t)) actor ≡ None) ⊎ (operation_of (states (suc t)) actor ≡ Some (begun_operation (states t) call number))
+          own = subst (λ (s : State). (operation_of s actor ≡ None) ⊎ (operation_of s actor ≡ Some (begun_operation (states t) call number))) (sym e)
+              (begin_own (states t) actor call (begun_operation (states t) call number))
 
-          begun : (operation_of (states (suc t)) actor ≡ None) ⊎ (operation_of (states (suc t)) actor ≡ Some (begun_operation (states t) call)) →
+          begun : (operation_of (states (suc t)) actor ≡ None) ⊎ (operation_of (states (suc t)) actor ≡ Some (begun_operation (states t) call number)) →
               operation_of (states (suc t)) actor ≡ Some found → P (suc t) actor found
           begun (inl none) at = absurd (none-some found (sym none ∙ at))
           begun (inr some) at =
-              let same : Some (begun_operation (states t) call) ≡ Some found = sym some ∙ at in let is_it : begun_operation (states t) call ≡ found = cc in
-              subst (P (suc t) actor) is_it (begins t h actor call d takes e)
+              let same : Some (begun_operation (states t) call number) ≡ Some found = sym some ∙ at in let is_it : begun_operation (states t) call number ≡ found = cc in
+              subst (P (suc t) actor) is_it (begins t h actor call number d takes e)
 
           by_actor : (k ≡ actor) ⊎ (k ≡ actor → ⊥) → P (suc t) k found
           by_actor (inl same) = subst (λ q. P (suc t) q found) (sym same) (begun own (ap (operation_of (states (suc t))) (sym same) ∙ is))
           by_actor (inr apart) =
               others t h so_far None k (λ it. apart (sym (sym takes ∙ it)))
-              (ap (λ (s : State). operation_of s k) e ∙ begin_others (states t) actor call (begun_operation (states t) call) (begin_counts (states t) actor call d) k apart) found is
+              (ap (λ (s : State). operation_of s k) e ∙ begin_others (states t) actor call (begun_operation (states t) call number) (begin_counts (states t) actor call number d) k apart) found is
       each_next t h so_far (NotesGo actor operation o m d runs g e n) takes k found is = by_actor (cases_eq k actor)
         where
           marks : Option ℕ

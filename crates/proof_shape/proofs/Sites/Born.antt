@@ -55,8 +55,8 @@ brought_by state f g (inr goes) r slot none e = elim (goes r) [ inl same ↦ abs
 
 pub born : (state : State) → IsSafe state → (x : Step) (o : Outcome) (after : State) → Moves state x o after → (r : Ref) (slot : Slot) →
     standing state.heap r ≡ None → standing after.heap r ≡ Some slot → IsBorn state x r slot
-born state I x o after (Begins {actor} {call} d) r slot none new =
-    absurd (none-some slot (sym none ∙ sym (ap (λ heap. standing heap r) (begin_heap state actor call (begun_operation state call))) ∙ new))
+born state I x o after (Begins {actor} {call} {number} d) r slot none new =
+    absurd (none-some slot (sym none ∙ sym (ap (λ heap. standing heap r) (begin_heap state actor call (begun_operation state call number))) ∙ new))
 born state I x o after (Ends d is a) r slot none new = absurd (none-some slot (sym none ∙ new))
 born state I x o after (GivesUp d is a) r slot none new = absurd (none-some slot (sym none ∙ new))
 born state I x o after (Sweeps spent) r slot none new =

@@ -55,7 +55,7 @@ leads_of_same state f g same (Some operation) = leads_by_same state operation f 
 
 leads_same : (state : State) (f g : Ref → ℕ) → ((q : Ref) → f q ≡ g q) → (x : Step) → leads_now state f x ≡ leads_now state g x
 leads_same state f g same (step.Go actor) = leads_of_same state f g same (operation_of state actor)
-leads_same state f g same (step.Begin actor call) = refl
+leads_same state f g same (step.Begin actor call number) = refl
 leads_same state f g same step.Sweep = refl
 leads_same state f g same (step.GiveUp actor) = refl
 

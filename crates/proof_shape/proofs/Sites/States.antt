@@ -188,8 +188,8 @@ module _ (s : Sites) (fits : (i : Ref) → s.path i < 2 ^ (5 * depth_at (s.level
   lines_after x o after m key gives paths bare_after k (no other) found at_k =
       let (was, at_was, same) = of_others state x o after m k other found at_k in
       subst OperationSite (sym same) (marked_site (marks_in state x) was (h.lines k was at_was))
-  lines_after x o after (Begins {actor} {call} d) key gives paths bare_after k (yes own) found at_k =
-      subst OperationSite (sym (of_begin state actor call (begun_operation state call) k own found at_k)) (first_site call (hash_of kind (key_of call)), key)
+  lines_after x o after (Begins {actor} {call} {number} d) key gives paths bare_after k (yes own) found at_k =
+      subst OperationSite (sym (of_begin state actor call (begun_operation state call number) k own found at_k)) (first_site call (hash_of kind (key_of call)), key)
   lines_after x o after (Goes {actor} {operation} d is a g) key gives paths bare_after k (yes own) found at_k =
       let at_was = at_place state actor k operation own is in
       let goes_on : GoesOn (action_of state operation) = rw a g in

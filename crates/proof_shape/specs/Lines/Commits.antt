@@ -1,5 +1,5 @@
 -- Which steps change a main node, whose fresh node it is, and what its owner knows.
-use Rattle.std.specs.Prelude.{◌≡◌, ◌≢◌, ℕ, suc, ◌==◌, ◌<◌, false, List, ◌∷◌, Some, None, if◌then◌else◌, []}
+use Rattle.std.specs.Prelude.{Option, ◌≡◌, ◌≢◌, ℕ, suc, ◌==◌, ◌<◌, false, List, ◌∷◌, Some, None, if◌then◌else◌, []}
 use Rattle.proof_shape.specs.Vocabulary.{Writable, Call, Place, Ref, generation_of, Purpose, Operation, ReadLine, SwapLine, Deciding, Bounds, Outcome, Step, depth_of, State, operation_of, Moves}
 use Rattle.proof_shape.specs.Vocabulary.{node_under, committed_now, entrant_of, told_in, Record, place_of, entered, noted}
 use Rattle.proof_shape.specs.Beneath.machine_model.specs.declared.lines.Purpose.TheVariants as purpose
@@ -76,7 +76,7 @@ pub record OwnCommit (limits : Bounds) (states : ℕ → State) (records : ℕ �
 
 -- the main node that a step commits, if it does
 pub data CommitsNone (state : State) : Step → Type 0 where
-  begins : (actor : ℕ) (call : Call) → CommitsNone state (step.Begin actor call)
+  begins : (actor : ℕ) (call : Call) (number : Option ℕ) → CommitsNone state (step.Begin actor call number)
   goes : (actor : ℕ) (operation : Operation) → operation_of state actor ≡ Some operation → committed_now state operation ≡ None → CommitsNone state (step.Go actor)
   sweeps : CommitsNone state step.Sweep
   gives_up : (actor : ℕ) → CommitsNone state (step.GiveUp actor)

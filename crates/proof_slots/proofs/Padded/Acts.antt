@@ -9,7 +9,7 @@ use Rattle.machine_model.specs.declared.actions.Action.TheVariants as act
 use Rattle.proof_slots.specs.Padding.{padded, padded_heap}
 use Rattle.proof_slots.proofs.Padded.Heaps.{HasFree, wide, node_wide, with_main_wide, with_prev_wide, next_wide, taken_wide}
 use Rattle.proof_slots.proofs.Padded.Reads.{verdict_wide}
-use Rattle.proof_slots.proofs.Padded.Lines.{acts_wide, generation_wide, line_wide}
+use Rattle.proof_slots.proofs.Padded.Lines.{acts_wide, operation_wide}
 
 -- ---- heaps
 
@@ -96,36 +96,11 @@ module _ (more : ℕ) where
       ap (new_root_taken (padded more state) main) (next_wide more state.limits.slots state.heap free) ∙ root_made_by state main (next_ref state.heap) free
   acted_wide state handle action free = refl
 
-  -- ---- the operation
-
-  private_wide : (state : State) (private : List Ref) (action : Action) → HasFree state.heap → private_after (padded more state) private action ≡ private_after state private action
-  private_wide state private (act.Make node) free = ap (with_made private) (next_wide more state.limits.slots state.heap free)
-  private_wide state private (act.MakeRoot main) free = ap (with_made private) (next_wide more state.limits.slots state.heap free)
-  private_wide state private action free = refl
-
-  abbrev changed_so : Operation → List Ref → Action → Option ℕ → Line → Operation
-  changed_so operation private action generation line = record operation {
-    private = private;
-    attempt = attempt_after operation.attempt action;
-    is_marked = mark_after operation.is_marked action;
-    generation = generation;
-    line = line;
-  }
-
-  operation_wide : (state : State) (operation : Operation) → HasFree state.heap → operation_after (padded more state) operation ≡ operation_after state operation
-  operation_wide state operation free =
-      let wider : State = padded more state in
-      ap (λ a. changed_so operation (private_after wider operation.private a) a (generation_after wider operation) (line_after wider operation operation.line)) (acts_wide more state operation)
-      ∙ ap (λ p. changed_so operation p (action_of state operation) (generation_after wider operation) (line_after wider operation operation.line))
-      (private_wide state operation.private (action_of state operation) free)
-      ∙ ap (λ g. changed_so operation (private_after state operation.private (action_of state operation)) (action_of state operation) g (line_after wider operation operation.line))
-      (generation_wide more state operation)
-      ∙ ap (λ l. changed_so operation (private_after state operation.private (action_of state operation)) (action_of state operation) (generation_after state operation) l)
-      (line_wide more state operation free)
+  -- ---- the step
 
   pub gone_wide : (state : State) (actor : ℕ) (operation : Operation) → HasFree state.heap → gone (padded more state) actor operation ≡ padded more (gone state actor operation)
   gone_wide state actor operation free =
       let wider : State = padded more state in
-      ap (λ (o : Operation). acted (with_operation wider actor (Some o)) (handle_of operation.call) (action_of wider operation)) (operation_wide state operation free)
+      ap (λ (o : Operation). acted (with_operation wider actor (Some o)) (handle_of operation.call) (action_of wider operation)) (operation_wide more state operation free)
       ∙ ap (λ a. acted (with_operation wider actor (Some (operation_after state operation))) (handle_of operation.call) a) (acts_wide more state operation)
       ∙ acted_wide (with_operation state actor (Some (operation_after state operation))) (handle_of operation.call) (action_of state operation) free

@@ -4,10 +4,10 @@ use Rattle.std.proofs.Common.{refl, ap, ◌∙◌}
 use Rattle.proof_slots.specs.Vocabulary.{Refusal, Writable, ReadOnly, Call, Ref, Heap, generation_at, generation_of, node_at, Zeroed, ripe, is_passed, scanned, advanced, sweep_by, Operation, Action}
 use Rattle.proof_slots.specs.Vocabulary.{Read, Carried, Progress, Publication, Outcome, Step, handle_of, opens_handle, is_close, needs_writable, needs_read_only, State, handle_limit, root_at}
 use Rattle.proof_slots.specs.Vocabulary.{operation_of, word_at, with_root, with_operation, is_carried_out, outside, settled, action_of, kind_of, read_of, gone, Answer, next, next_state, state_after}
-use Rattle.proof_slots.specs.Vocabulary.{is_taken_step, is_spent, is_taken, taken_below, least_from, settled_after, begin_denial, begin_unless, begun_operation, with_begin, give_up_by, give_up_on}
-use Rattle.proof_slots.specs.Vocabulary.{give_up_unless, given_up, gave_up, Reply, access_of, first_reason, is_actor, is_running, is_access, runs_on, go_denial, go_unless, go_on, step_by, pin_of}
-use Rattle.proof_slots.specs.Vocabulary.{reclaimer_of, swept, swept_with, Record, noted, next_record, told_in, told_of, told_by, begin_told, committed_in, committed_now, given_by, given_in}
-use Rattle.proof_slots.specs.Vocabulary.{given_now, counts_from, published_by, carried_by, progress_of}
+use Rattle.proof_slots.specs.Vocabulary.{is_taken_step, is_spent, is_taken, taken_below, least_from, lacks_number, settled_after, begin_denial, begin_unless, begun_operation, with_begin, give_up_by}
+use Rattle.proof_slots.specs.Vocabulary.{give_up_on, give_up_unless, given_up, gave_up, Reply, access_of, first_reason, is_actor, is_running, is_access, runs_on, go_denial, go_unless, go_on}
+use Rattle.proof_slots.specs.Vocabulary.{step_by, pin_of, reclaimer_of, swept, swept_with, Record, noted, next_record, told_in, told_of, told_by, begin_told, committed_in, committed_now, given_by}
+use Rattle.proof_slots.specs.Vocabulary.{given_in, given_now, counts_from, published_by, carried_by, progress_of}
 use Rattle.proof_slots.specs.Beneath.ctrie_base.specs.declared.refusals.Refusal.TheVariants as refuse
 use Rattle.proof_slots.specs.Beneath.epochs.specs.declared.limbo.Swept.TheVariants as sweeping
 use Rattle.machine_model.specs.declared.actions.Action.TheVariants as act
@@ -79,8 +79,9 @@ module _ (more : ℕ) where
   least_wide state zero n = refl
   least_wide state (suc left) n = ap (λ k. if is_taken state n then k else n) (least_wide state left (n + 1))
 
-  pub begun_wide : (state : State) (call : Call) → begun_operation (padded more state) call ≡ begun_operation state call
-  begun_wide state call = ap (λ n. record (begun_operation state call) { opens = if opens_handle call then Some n else None }) (least_wide state handle_limit 0)
+  pub begun_wide : (state : State) (call : Call) (number : Option ℕ) → begun_operation (padded more state) call number ≡ begun_operation state call number
+  begun_wide state call None = ap (λ n. record (begun_operation state call None) { opens = if opens_handle call then Some n else None }) (least_wide state handle_limit 0)
+  begun_wide state call (Some number) = refl
 
   closed_wide : (state : State) (actor : ℕ) (call : Call) (operation : Operation) (b : Bool) →
       record (with_operation (if b then with_root (padded more state) (handle_of call) None else padded more state) actor (Some operation)) { begun = state.begun + 1 }
@@ -88,27 +89,31 @@ module _ (more : ℕ) where
   closed_wide state actor call operation true = refl
   closed_wide state actor call operation false = refl
 
-  begin_unless_wide : (state : State) (actor : ℕ) (call : Call) (denial : Option Refusal) →
-      begin_unless (padded more state) actor call denial ≡ padded_answer more (begin_unless state actor call denial)
-  begin_unless_wide state actor call (Some why) = refl
-  begin_unless_wide state actor call None =
-      ap (λ (o : Operation). settled_after (padded more state) (outcome.Began o.id, with_begin (padded more state) actor call o)) (begun_wide state call)
-      ∙ settles state (outcome.Began (begun_operation state call).id) _ (with_begin state actor call (begun_operation state call))
-      (closed_wide state actor call (begun_operation state call) (is_close call))
+  begin_unless_wide : (state : State) (actor : ℕ) (call : Call) (number : Option ℕ) (denial : Option Refusal) →
+      begin_unless (padded more state) actor call number denial ≡ padded_answer more (begin_unless state actor call number denial)
+  begin_unless_wide state actor call number (Some why) = refl
+  begin_unless_wide state actor call number None =
+      ap (λ (o : Operation). settled_after (padded more state) (outcome.Began o.id, with_begin (padded more state) actor call o)) (begun_wide state call number)
+      ∙ settles state (outcome.Began (begun_operation state call number).id) _ (with_begin state actor call (begun_operation state call number))
+      (closed_wide state actor call (begun_operation state call number) (is_close call))
 
-  begin_reasons : State → ℕ → Call → ℕ → Option Refusal
-  begin_reasons state actor call taken =
+  begin_reasons : State → ℕ → Call → Bool → Option Refusal
+  begin_reasons state actor call lacks =
       let handle = handle_of call in
       let access = access_of (root_at state handle) in
       first_reason (
       (not (is_actor state actor), refuse.NoActor) ∷ (is_running state actor, refuse.ActorBusy) ∷ (not (is_some access), refuse.NoHandle)
       ∷ (needs_writable call && is_access ReadOnly access, refuse.ReadOnly) ∷ (needs_read_only call && is_access Writable access, refuse.NotReadOnly)
-      ∷ (is_close call && runs_on state handle, refuse.Busy) ∷ (opens_handle call && nat_le handle_limit taken, refuse.HandlesFull)
+      ∷ (is_close call && runs_on state handle, refuse.Busy) ∷ (opens_handle call && lacks, refuse.HandlesFull)
       ∷ (is_spent state, refuse.Spent) ∷ [])
 
-  begin_denial_wide : (state : State) (actor : ℕ) (call : Call) → begin_denial (padded more state) actor call ≡ begin_denial state actor call
+  lacks_wide : (state : State) (number : Option ℕ) → lacks_number (padded more state) number ≡ lacks_number state number
+  lacks_wide state None = ap (λ k. nat_le handle_limit k) (taken_below_wide state handle_limit)
+  lacks_wide state (Some number) = refl
+
+  begin_denial_wide : (state : State) (actor : ℕ) (call : Call) (number : Option ℕ) → begin_denial (padded more state) actor call number ≡ begin_denial state actor call number
   unfolding begin_reasons
-  begin_denial_wide state actor call = ap (λ k. begin_reasons state actor call k) (taken_below_wide state handle_limit)
+  begin_denial_wide state actor call number = ap (λ b. begin_reasons state actor call b) (lacks_wide state number)
 
   -- ---- a step of the sweep
 
@@ -136,8 +141,8 @@ module _ (more : ℕ) where
 
   pub next_padded : (state : State) (s : Step) → HasFree state.heap → next (padded more state) s ≡ padded_answer more (next state s)
   unfolding next
-  next_padded state (step.Begin actor call) free =
-      ap (begin_unless (padded more state) actor call) (begin_denial_wide state actor call) ∙ begin_unless_wide state actor call (begin_denial state actor call)
+  next_padded state (step.Begin actor call number) free =
+      ap (begin_unless (padded more state) actor call number) (begin_denial_wide state actor call number) ∙ begin_unless_wide state actor call number (begin_denial state actor call number)
   next_padded state (step.Go actor) free = go_unless_wide state actor (go_denial state actor) free
   next_padded state step.Sweep free = sweep_unless state (is_spent state)
   next_padded state (step.GiveUp actor) free = give_up_unless_wide state actor (go_denial state actor)
@@ -193,7 +198,7 @@ module _ (more : ℕ) where
       ap (told_by (padded more state) actor operation) (acts_wide more state operation) ∙ told_by_wide state actor operation (action_of state operation)
 
   told_wide : (state : State) (s : Step) → told_in (padded more state) s ≡ told_in state s
-  told_wide state (step.Begin actor call) = ap (begin_told actor call) (begun_wide state call)
+  told_wide state (step.Begin actor call number) = ap (begin_told actor call) (begun_wide state call number)
   told_wide state (step.Go actor) = told_of_wide state actor (operation_of state actor)
   told_wide state step.Sweep = refl
   told_wide state (step.GiveUp actor) = refl

@@ -9,7 +9,7 @@ use Rattle.machine_model.proofs.HeapMoves.{HeapMoves, Stays, Takes, Publishes, R
 use Rattle.proof_slots.specs.Unswept.{IsNoSweep, HasNoSweeps, FreeAtTheEnd}
 
 pub unswept_moves : (state : State) (s : Step) (o : Outcome) (after : State) → IsNoSweep s → Moves state s o after → HeapMoves state.heap None after.heap
-unswept_moves state s o after quiet (Begins {actor} {call} d) = subst (HeapMoves state.heap None) (sym (begin_heap state actor call (begun_operation state call))) Stays
+unswept_moves state s o after quiet (Begins {actor} {call} {number} d) = subst (HeapMoves state.heap None) (sym (begin_heap state actor call (begun_operation state call number))) Stays
 unswept_moves state s o after quiet (Goes {actor} {operation} d is a g) = acted_heap _ None (handle_of operation.call) (action_of state operation)
 unswept_moves state s o after quiet (Ends d is a) = Stays
 unswept_moves state s o after quiet (Sweeps spent) = absurd quiet

@@ -80,10 +80,10 @@ writable_by None h = refl
 writable_by (Some Writable) h = refl
 writable_by (Some ReadOnly) h = cc h
 
-denied_readers : (state : State) (actor : ℕ) (c : Call) → begin_denial state actor c ≡ None → needs_writable c ≡ true → is_access ReadOnly (access_of (root_at state (handle_of c))) ≡ false
+denied_readers : (state : State) (actor : ℕ) (c : Call) → begin_denial state actor c None ≡ None → needs_writable c ≡ true → is_access ReadOnly (access_of (root_at state (handle_of c))) ≡ false
 denied_readers state actor c d needs = grind (arith, needs)
 
-pub writable_at : (state : State) (actor : ℕ) (c : Call) → begin_denial state actor c ≡ None → needs_writable c ≡ true → (begun_operation state c).access ≡ Writable
+pub writable_at : (state : State) (actor : ℕ) (c : Call) → begin_denial state actor c None ≡ None → needs_writable c ≡ true → (begun_operation state c None).access ≡ Writable
 writable_at state actor c d needs = writable_by (access_of (root_at state (handle_of c))) (denied_readers state actor c d needs)
 
 pub sets_write : (c : Call) (v : ℕ) → when_found c v ≡ Sets → needs_writable c ≡ true

@@ -71,7 +71,7 @@ pub so_many : (state : State) (past : Record) (actor : ℕ) (call : Call) (root 
 so_many state past actor call root depth former draft n m same h = subst (λ c. ChangesTo state past actor call root depth c former draft) same h
 
 module _ (state : State) (past : Record) (k : ℕ) (call : Call) (root : Ref) (alone : Alone state k) (word : word_at state (handle_of call) ≡ Plain root)
-    (writable : (begun_operation state call).access ≡ Writable) (fits : k < length past.moments) (stays_open : is_close call ≡ false) where
+    (writable : (begun_operation state call None).access ≡ Writable) (fits : k < length past.moments) (stays_open : is_close call ≡ false) where
   -- what is recorded by the time at which the key's place is found, at this depth
   abbrev pub looked_record : ℕ → Ref → Record
   looked_record depth indirection = with_read (begun_record state past k call) k (state.steps + suc (4 * depth + 1)) (main_at state.heap indirection)

@@ -42,7 +42,7 @@ use Rattle.proof_straight.proofs.Way.Unchanged.{fits_at, no_actor}
 
 -- the swap of a tomb, and what it leaves
 module _ (state : State) (past : Record) (k : ℕ) (call : Call) (root : Ref) (alone : Alone state k) (word : word_at state (handle_of call) ≡ Plain root)
-    (writable : (begun_operation state call).access ≡ Writable) (first_empty : HasEmptySlots state.heap) (free : 2 ≤ length state.heap.free) (deep : ℕ) (indirection : Ref)
+    (writable : (begun_operation state call None).access ≡ Writable) (first_empty : HasEmptySlots state.heap) (free : 2 ≤ length state.heap.free) (deep : ℕ) (indirection : Ref)
     (position : ℕ) (kind : IsMain (node_at state.heap (main_at state.heap indirection))) (own : IsOwn state.heap root indirection) (main_slot : Slot)
     (main_stands : stored state.heap (main_at state.heap indirection) ≡ Some main_slot) where
   abbrev main : Ref
@@ -141,7 +141,7 @@ module _ (state : State) (past : Record) (k : ℕ) (call : Call) (root : Ref) (a
 
 -- from the climb to the end, over a draft in which all of this stands
 module _ (state : State) (past : Record) (k : ℕ) (call : Call) (root : Ref) (alone : Alone state k) (word : word_at state (handle_of call) ≡ Plain root)
-    (writable : (begun_operation state call).access ≡ Writable) (draft : Draft) (calm : IsCalm state draft) (empty : HasEmptySlots draft.heap) (enough : 1 ≤ length draft.heap.free)
+    (writable : (begun_operation state call None).access ≡ Writable) (draft : Draft) (calm : IsCalm state draft) (empty : HasEmptySlots draft.heap) (enough : 1 ≤ length draft.heap.free)
     (path upper : List Ref) (depth : ℕ) (over indirection main : Ref) (bitmap : ℕ) (entries : ArrayVec Ref) (single : Ref) (former : Option ℕ) (up : above path ≡ upper)
     (upper_is : IsPath upper depth over) (here : current path ≡ indirection) (under : IsUnder draft.heap (key_hash state (key_of call)) depth over indirection main bitmap entries)
     (lasting : (depth ≡ 0) ⊎ ¬ (length entries.items ≡ 1)) (over_slot root_slot : Slot) (at_over : stored draft.heap over ≡ Some over_slot) (at_root : stored draft.heap root ≡ Some root_slot)

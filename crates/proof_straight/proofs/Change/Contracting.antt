@@ -128,8 +128,8 @@ module _ (state : State) (past : Record) (k : ℕ) (call : Call) (root : Ref) (a
       (ap (λ m. line.Climb (climb.Read climb_of (record { indirection = over; line = read.Prev m }))) under.main_is) in
       subst (λ r. On_climb r (climb.Main climb_of main) (suc (suc c))) (noted_read so_far (state.steps + suc c) (state.steps + suc (suc c)) k main within)
       (reads state past k call state alone draft (rooted state call root) (line.Climb second) (line.Climb (climb.Main climb_of main)) (suc c) (reading_of (Some main) false) calm to_second tt
-      (ap (λ v. reading_of (given_by (at_indirection over (after_prev (begun_operation state call).access main v))) false) under.decided) refl
-      (ap (λ v. climb_after_read climb_of (at_indirection over (after_prev (begun_operation state call).access main v))) under.decided))
+      (ap (λ v. reading_of (given_by (at_indirection over (after_prev (begun_operation state call None).access main v))) false) under.decided) refl
+      (ap (λ v. climb_after_read climb_of (at_indirection over (after_prev (begun_operation state call None).access main v))) under.decided))
 
   -- where the key's entry stands in it
   abbrev place_by : List Ref → Node → ℕ

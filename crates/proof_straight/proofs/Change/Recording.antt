@@ -28,7 +28,7 @@ read_record state past k call m stays_open =
   where
     by_places : List Place → List Moment → Record
     by_places places moments = record past {
-      events = past.events ++ event.Begin state.begun (suc k) call (begun_operation state call).opens ∷ [];
+      events = past.events ++ event.Begin state.begun (suc k) call (begun_operation state call None).opens ∷ [];
       places = places;
       moments = moments;
     }

@@ -1,5 +1,5 @@
 -- How a change is swapped in: from the SWAP of its main node to the answer.
-use Rattle.std.proofs.Common.{◌≡◌, ℕ, suc, ◌+◌, ◌≤◌, Bool, true, false, nat_eq, [], Option, Some, refl, sym, ap, ◌∙◌, subst, eq-eqb, arith}
+use Rattle.std.proofs.Common.{None, ◌≡◌, ℕ, suc, ◌+◌, ◌≤◌, Bool, true, false, nat_eq, [], Option, Some, refl, sym, ap, ◌∙◌, subst, eq-eqb, arith}
 use Rattle.std.specs.Option.{option_eq}
 use Rattle.proof_straight.specs.Vocabulary.{Access, Writable, Call, Slot, Ref, stored, node_at, prev_at, prev_of, main_at, generation_at, slot_of, Line, Purpose, Reply, changer_for, Operation}
 use Rattle.proof_straight.specs.Vocabulary.{After, Entrant, Progress, ReadLine, SwapLine, Plain, decided, handle_of, begun_operation, swapped, Commits, after_ask, after_decide}
@@ -22,7 +22,7 @@ use Rattle.proof_straight.proofs.Steps.Settled.{settled_once}
 use Rattle.proof_straight.proofs.Change.Slots.{fresh_committed, fresh_published, generation_published, stored_node}
 
 module _ (state : State) (past : Record) (k : ℕ) (call : Call) (root : Ref) (alone : Alone state k) (word : word_at state (handle_of call) ≡ Plain root)
-    (writable : (begun_operation state call).access ≡ Writable) where
+    (writable : (begun_operation state call None).access ≡ Writable) where
   -- the call stands on this line, with this draft, after so many steps
   abbrev pub Drafted : Record → Draft → Line → ℕ → Type 0
   Drafted so_far draft l c = Stands state past k call so_far state draft (on_line (rooted state call root) draft l) c
@@ -92,8 +92,8 @@ module _ (state : State) (past : Record) (k : ℕ) (call : Call) (root : Ref) (a
         (at_line (swap.Deciding (read.AskRoot fresh main))) (suc c)
     finds_pending c so_far =
         looks state past k call state alone pending (rooted state call root) (at_line (swap.Deciding (read.Prev fresh))) (at_line (swap.Deciding (read.AskRoot fresh main))) c pending_calm so_far tt
-        (ap (λ v. gives (after_prev (begun_operation state call).access fresh v)) pending_prev ∙ ap (λ (a : Access). gives (after_prev a fresh (prev.Pending main))) writable) refl
-        (ap (λ v. behind pending (swap.Deciding (read.Prev fresh)) c (after_deciding (after_prev (begun_operation state call).access fresh v))) pending_prev
+        (ap (λ v. gives (after_prev (begun_operation state call None).access fresh v)) pending_prev ∙ ap (λ (a : Access). gives (after_prev a fresh (prev.Pending main))) writable) refl
+        (ap (λ v. behind pending (swap.Deciding (read.Prev fresh)) c (after_deciding (after_prev (begun_operation state call None).access fresh v))) pending_prev
         ∙ ap (λ (a : Access). behind pending (swap.Deciding (read.Prev fresh)) c (after_deciding (after_prev a fresh (prev.Pending main)))) writable)
 
     abbrev told : Option ℕ

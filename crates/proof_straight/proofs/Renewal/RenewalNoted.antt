@@ -21,15 +21,15 @@ module _ (state : State) (past : Record) (k : ℕ) (call : Call) (heap : Heap) (
   abbrev pub now : State
   now = record state { heap = heap; limbo = limbo; steps = steps }
 
-  pub same_opens : (begun_operation now call).opens ≡ (begun_operation state call).opens
+  pub same_opens : (begun_operation now call None).opens ≡ (begun_operation state call None).opens
   same_opens = ap (λ b. cond b (Some (least_free now)) None) opens_none ∙ sym (ap (λ b. cond b (Some (least_free state)) None) opens_none)
 
   -- a begin in one state is recorded as in the other
   begins_alike : (commit step : ℕ) (fresh main : Ref) →
       with_both (begun_record state past k call) k commit step fresh main ≡ with_read (begun_record now (renewed_record past commit fresh) k call) k step main
   begins_alike commit step fresh main =
-      ap (λ b. by (begun_operation state call).opens (cond b (on_time state.steps false state.begun ∷ []) [])) stays_open
-      ∙ sym (ap (λ b. by (begun_operation state call).opens (cond b (on_time steps false state.begun ∷ []) [])) stays_open)
+      ap (λ b. by (begun_operation state call None).opens (cond b (on_time state.steps false state.begun ∷ []) [])) stays_open
+      ∙ sym (ap (λ b. by (begun_operation state call None).opens (cond b (on_time steps false state.begun ∷ []) [])) stays_open)
       ∙ ap (λ o. by o (cond (is_close call) (on_time steps false state.begun ∷ []) [])) (sym same_opens)
     where
       by : Option ℕ → List Place → Record

@@ -62,7 +62,7 @@ module _ (state : State) (past : Record) (k : ℕ) (call : Call) (root : Ref) (r
   abbrev pub main : Ref
   main = main_at state.heap indirection
 
-  pub writable : (begun_operation state call).access ≡ Writable
+  pub writable : (begun_operation state call None).access ≡ Writable
   writable = writable_at state (suc k) call ready.allowed writes
 
   abbrev pub before : IsBefore state past k call root alone calm depth indirection
@@ -99,7 +99,7 @@ module _ (state : State) (past : Record) (k : ℕ) (call : Call) (root : Ref) (r
             (ap (λ node. key_after_entry st o before.path main position node) leads
             ∙ ap (λ b. cond b (going_down before.path (entry_at state.heap main position))
             (next_in state past k call root alone before.path main bitmap entries entry.branch main_parts.0 main_parts.1 (first_draft state) []))
-            (not_passed (begun_operation state call).access (generation_at state.heap root) generation writable other)
+            (not_passed (begun_operation state call None).access (generation_at state.heap root) generation writable other)
             ∙ begins_here));
       }
 
@@ -259,8 +259,8 @@ module _ (state : State) (past : Record) (k : ℕ) (call : Call) (root : Ref) (r
       subst (λ r. Stands state past k call r state after (on_line (rooted state call root) after (line.Key (key.Main before.path fresh))) (suc (suc so_long)))
       (noted_read swapped_noted (state.steps + suc so_long) (state.steps + suc (suc so_long)) k fresh swapped_fits)
       (reads state past k call state alone after (rooted state call root) second (line.Key (key.Main before.path fresh)) (suc so_long) (reading_of (Some fresh) false) after_calm to_second tt
-      (ap (λ v. reading_of (given_by (at_read indirection (after_prev (begun_operation state call).access fresh v))) false) decided_now) refl
-      (ap (λ v. key_after_read before.path (at_read indirection (after_prev (begun_operation state call).access fresh v))) decided_now))
+      (ap (λ v. reading_of (given_by (at_read indirection (after_prev (begun_operation state call None).access fresh v))) false) decided_now) refl
+      (ap (λ v. key_after_read before.path (at_read indirection (after_prev (begun_operation state call None).access fresh v))) decided_now))
 
   -- ---- the other call
 

@@ -191,8 +191,8 @@ module _ (state : State) (past : Record) (k : ℕ) (call : Call) (root : Ref) (a
       let still_decided = prev_stays state.heap draft.heap child slot at (h.stays child slot at) ∙ parts.0 in
       let at_link =
       reads state past k call state alone draft (rooted state call root) (line.Renew second) (line.Renew link) (suc (suc c)) (reading_of (Some child) false) calm at_second tt
-      (ap (λ v. reading_of (given_by (at_indirection entry (after_prev (begun_operation state call).access child v))) false) still_decided) refl
-      (ap (λ v. renew_after_read path main done (at_indirection entry (after_prev (begun_operation state call).access child v))) still_decided) in
+      (ap (λ v. reading_of (given_by (at_indirection entry (after_prev (begun_operation state call None).access child v))) false) still_decided) refl
+      (ap (λ v. renew_after_read path main done (at_indirection entry (after_prev (begun_operation state call None).access child v))) still_decided) in
       let read_it = subst (λ r. OnRenew r draft (line.Renew link) (suc (suc (suc c)))) (noted_read stood.so_far step (state.steps + suc (suc (suc c))) k child stood.within) at_link in
       let drawn = (takes draft.heap node h.empty enough).drawn in
       record {

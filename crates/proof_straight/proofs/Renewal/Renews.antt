@@ -26,7 +26,7 @@ use Rattle.proof_straight.proofs.Way.Ways.{leads_stays}
 
 -- a begin that isn't denied isn't either in a state that differs in heap, limbo and steps
 still_allowed : (state : State) (heap : Heap) (limbo : List Zeroed) (steps actor : ℕ) (c : Call) → opens_handle c ≡ false → state.steps < state.limits.steps → steps < state.limits.steps →
-    begin_denial state actor c ≡ None → begin_denial (record state { heap = heap; limbo = limbo; steps = steps }) actor c ≡ None
+    begin_denial state actor c None ≡ None → begin_denial (record state { heap = heap; limbo = limbo; steps = steps }) actor c None ≡ None
 still_allowed state heap limbo steps actor c opens before after d =
     ap (λ b. denial (b && nat_le handle_limit (handles_taken now)) (nat_le state.limits.steps steps)) opens ∙ ap (λ b. denial false b) (lt-leb state.limits.steps steps after)
     ∙ sym (ap (λ b. denial false b) (lt-leb state.limits.steps state.steps before))
@@ -81,13 +81,13 @@ module _ (state : State) (past : Record) (k : ℕ) (call : Call) (root : Ref) (r
   pub now_is : IsRecordOf now now_past
   now_is = record { moments = is.moments; unplaced = is.unplaced }
 
-  pub way : (w : Leads now.heap (begun_operation now call).access (key_hash now (key_of call)) root depth indirection) × (path_along w ≡ path_along down)
+  pub way : (w : Leads now.heap (begun_operation now call None).access (key_hash now (key_of call)) root depth indirection) × (path_along w ≡ path_along down)
   way =
       let indirection_here = indirection_is state past k call root ready is keyed writes depth indirection bitmap entries generation word down entry leads other renewable live free in
       leads_stays state.heap now.heap indirection indirection_here.0 indirection_here.1 indirection_here.2
       (stays_now state past k call root ready is keyed writes depth indirection bitmap entries generation word down entry leads other renewable live free)
       (indirections_now state past k call root ready is keyed writes depth indirection bitmap entries generation word down entry leads other renewable live free)
-      (begun_operation state call).access (key_hash state (key_of call)) root
+      (begun_operation state call None).access (key_hash state (key_of call)) root
       (generation_now state past k call root ready is keyed writes depth indirection bitmap entries generation word down entry leads other renewable live free) depth indirection down apart
 
   pub now_alone : Alone now k
@@ -128,7 +128,7 @@ module _ (state : State) (past : Record) (k : ℕ) (call : Call) (root : Ref) (r
 
   same_op : operation_here ≡ operation_there
   same_op =
-      same_operation (begun_operation state call) (begun_operation state call).opens (begun_operation now call).opens (generation_at state.heap root) (generation_at now.heap root)
+      same_operation (begun_operation state call None) (begun_operation state call None).opens (begun_operation now call None).opens (generation_at state.heap root) (generation_at now.heap root)
       was_before.path now_before.path
       fresh (main_at now.heap indirection) (sym (same_opens state past k call now.heap now.limbo now.steps (keyed_opens call keyed) (keyed_open call keyed)))
       (sym (generation_now state past k call root ready is keyed writes depth indirection bitmap entries generation word down entry leads other renewable live free)) same_path (sym main_is)

@@ -1,5 +1,5 @@
 -- Two calls that come to the same state go on alike.
-use Rattle.std.proofs.Common.{◌≡◌, ℕ, zero, suc, ◌+◌, ◌-◌, ◌<◌, ◌≤◌, ◌⊎◌, inl, inr, Ok, Err, refl, sym, ap, ◌∙◌, subst, arith}
+use Rattle.std.proofs.Common.{None, ◌≡◌, ℕ, zero, suc, ◌+◌, ◌-◌, ◌<◌, ◌≤◌, ◌⊎◌, inl, inr, Ok, Err, refl, sym, ap, ◌∙◌, subst, arith}
 use Rattle.std.proofs.lemmas.Bool.{cases_eq, cases_lt}
 use Rattle.proof_straight.specs.Vocabulary.{Kind, Call, Reply, Outcome, Answer, next, Record, noted, State, told_in}
 use Rattle.machine_model.specs.declared.steps.Outcome.TheVariants as outcome
@@ -21,7 +21,7 @@ same_state answer o p s t a b = ap (state_in s) (sym a ∙ b)
 module _ (state : State) (past : Record) (actor : ℕ) (c : Call) where
   -- how it came to where it is
   abbrev Came : ℕ → State → Record → Type 0
-  Came zero now so_far = (next state (step.Begin actor c) ≡ Ok (outcome.Began state.begun, now)) × (noted past state.steps (told_in state (step.Begin actor c)) ≡ so_far)
+  Came zero now so_far = (next state (step.Begin actor c None) ≡ Ok (outcome.Began state.begun, now)) × (noted past state.steps (told_in state (step.Begin actor c None)) ≡ so_far)
   Came (suc n) now so_far =
       (before : State) × (r : Record) × (kind : Kind) × GoesAlone state past actor c n before r × (next before (step.Go actor) ≡ Ok (outcome.Went kind, now))
       × (noted r before.steps (told_in before (step.Go actor)) ≡ so_far)
@@ -34,7 +34,7 @@ module _ (state : State) (past : Record) (actor : ℕ) (c : Call) where
   one_way : (n : ℕ) (s t : State) (q r : Record) → GoesAlone state past actor c n s q → GoesAlone state past actor c n t r → (s ≡ t) × (q ≡ r)
   one_way zero s t q r a b =
       let (is, records) = came zero s q a in
-      let (is_too, records_too) = came zero t r b in (same_state (next state (step.Begin actor c)) _ _ s t is is_too, sym records ∙ records_too)
+      let (is_too, records_too) = came zero t r b in (same_state (next state (step.Begin actor c None)) _ _ s t is is_too, sym records ∙ records_too)
   one_way (suc n) s t q r a b =
       let (before, so_far, kind, earlier, is, records) = came (suc n) s q a in
       let (before_too, so_far_too, kind_too, earlier_too, is_too, records_too) = came (suc n) t r b in

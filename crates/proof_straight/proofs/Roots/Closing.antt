@@ -1,5 +1,5 @@
 -- A close that runs alone.
-use Rattle.std.proofs.Common.{◌≡◌, zero, suc, ◌+◌, ◌-◌, false, List, [], ◌∷◌, ◌++◌, set, Some, Ok, refl, ap, ◌∙◌, subst, arith}
+use Rattle.std.proofs.Common.{None, ◌≡◌, zero, suc, ◌+◌, ◌-◌, false, List, [], ◌∷◌, ◌++◌, set, Some, Ok, refl, ap, ◌∙◌, subst, arith}
 use Rattle.proof_straight.specs.Beneath.history.specs.declared.calls.Call.TheVariants as call
 use Rattle.proof_straight.specs.Beneath.history.specs.declared.replies.Reply.TheVariants as reply
 use Rattle.proof_straight.specs.Vocabulary.{Ref, limbo_after, Operation, settled, begin_unless, begun_operation, next, State, Record, moment_at, noted_end, entrant_of, Entrant, on_time, Call}
@@ -21,7 +21,7 @@ use Rattle.proof_straight.proofs.Steps.Settled.{settled_once}
 
 pub closes_straight : ClosesStraight
 unfolding next
-closes_straight state past zero handle rests allowed is lasts = absurd (omega (arith, begin_counts state 0 (call.Close handle) allowed))
+closes_straight state past zero handle rests allowed is lasts = absurd (omega (arith, begin_counts state 0 (call.Close handle) None allowed))
 closes_straight state past (suc k) handle rests allowed is lasts =
     subst (λ r. ComesTo state past (suc k) c 0 reply.Closed (after_call base draft 2) r) recorded
     (ends_so state past k c base alone draft operation 0 reply.Closed (λ left. begins first) refl (settled_once state.heap _ state.epoch state.limbo) lasts refl)
@@ -36,12 +36,12 @@ closes_straight state past (suc k) handle rests allowed is lasts =
     draft = (closed state handle).draft
 
     operation : Operation
-    operation = begun_operation state c
+    operation = begun_operation state c None
 
     alone : Alone base k
     alone = record {
-      actor = actor_within state (suc k) (begin_actor state (suc k) c allowed);
-      within = omega (arith, rests.actors, actor_within state (suc k) (begin_actor state (suc k) c allowed));
+      actor = actor_within state (suc k) (begin_actor state (suc k) c None allowed);
+      within = omega (arith, rests.actors, actor_within state (suc k) (begin_actor state (suc k) c None allowed));
       rest = rests.rest;
     }
 
@@ -56,9 +56,9 @@ closes_straight state past (suc k) handle rests allowed is lasts =
       steps = state.steps + 1;
     }
 
-    first : next state (step.Begin (suc k) c) ≡ Ok (outcome.Began state.begun, stand base k draft operation (state.steps + 1))
+    first : next state (step.Begin (suc k) c None) ≡ Ok (outcome.Began state.begun, stand base k draft operation (state.steps + 1))
     first =
-        ap (λ d. begin_unless state (suc k) c d) allowed
+        ap (λ d. begin_unless state (suc k) c None d) allowed
         ∙ ap (λ i. Ok (outcome.Began state.begun, settled state (record base { actors = set base.actors i (Some operation); begun = state.begun + 1 }))) index
         ∙ ap (λ held. Ok (outcome.Began state.begun, left_by held)) (held_standing base k alone draft operation 0)
 

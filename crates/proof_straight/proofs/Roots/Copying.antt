@@ -31,10 +31,10 @@ open_by : (o : Option Root) → is_some (access_of o) ≡ true → (root : Root)
 open_by None h = absurd (false≢true h)
 open_by (Some root) h = (root, refl)
 
-has_access : (state : State) (actor : ℕ) (c : Call) → begin_denial state actor c ≡ None → is_some (access_of (root_at state (handle_of c))) ≡ true
+has_access : (state : State) (actor : ℕ) (c : Call) → begin_denial state actor c None ≡ None → is_some (access_of (root_at state (handle_of c))) ≡ true
 has_access state actor c d = grind arith
 
-open_at : (state : State) (actor : ℕ) (c : Call) → begin_denial state actor c ≡ None → (root : Root) × (root_at state (handle_of c) ≡ Some root)
+open_at : (state : State) (actor : ℕ) (c : Call) → begin_denial state actor c None ≡ None → (root : Root) × (root_at state (handle_of c) ≡ Some root)
 open_at state actor c d = open_by (root_at state (handle_of c)) (has_access state actor c d)
 
 -- ---- the root's main node is read
@@ -51,8 +51,8 @@ module _ (state : State) (past : Record) (k : ℕ) (call : Call) (root : Ref) (a
       subst (λ r. OnLine state past k call root alone calm r (after_given call root main) 3)
       (noted_read (begun_record state past k call) (state.steps + 2) (state.steps + 3) k main (omega (arith, fits, length-set past.moments (suc k - 1) no_moment)))
       (reads state past k call state alone (first_draft state) (rooted state call root) second (after_given call root main) 2 (reading_of (Some main) false) calm to_second tt
-      (ap (λ v. reading_of (given_by (at_indirection root (after_prev (begun_operation state call).access main v))) false) decided) refl
-      (ap (λ v. copy_after_read (on_line (rooted state call root) (first_draft state) second) root (at_indirection root (after_prev (begun_operation state call).access main v))) decided))
+      (ap (λ v. reading_of (given_by (at_indirection root (after_prev (begun_operation state call None).access main v))) false) decided) refl
+      (ap (λ v. copy_after_read (on_line (rooted state call root) (first_draft state) second) root (at_indirection root (after_prev (begun_operation state call None).access main v))) decided))
 
 -- what stays while nodes are made
 pub record StaysRoot (state : State) (heap : Heap) (root : Ref) : Type 0 where

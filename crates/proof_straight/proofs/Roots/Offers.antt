@@ -151,8 +151,8 @@ module _ (state : State) (past : Record) (k : ℕ) (call : Call) (root : Ref) (b
       (ap (λ m. line.Copy (copy.Complete (record { offer = offer; line = complete.Reading (read.Prev m) }))) same_main) in
       subst (λ r. Offered r last (suc (suc c))) (noted_read so_far (state.steps + suc c) (state.steps + suc (suc c)) k main within)
       (reads state past k call offered_base offered_alone offered_draft offering (line.Copy second) (line.Copy last) (suc c) (reading_of (Some main) false) offered_calm to_second tt
-      (ap (λ v. reading_of (given_by (at_indirection root (after_prev (begun_operation state call).access main v))) false) decided) refl
-      (ap (λ v. copy_after_complete (on_offer second) (of_offer offer (after_reading (after_prev (begun_operation state call).access main v)))) decided))
+      (ap (λ v. reading_of (given_by (at_indirection root (after_prev (begun_operation state call None).access main v))) false) decided) refl
+      (ap (λ v. copy_after_complete (on_offer second) (of_offer offer (after_reading (after_prev (begun_operation state call None).access main v)))) decided))
 
   -- ---- the offer is carried out
 
@@ -166,7 +166,7 @@ module _ (state : State) (past : Record) (k : ℕ) (call : Call) (root : Ref) (b
   swap_line = copy.Complete (record { offer = offer; line = complete.Swap main })
 
   abbrev answer : Reply
-  answer = copied_reply call (begun_operation state call).opens
+  answer = copied_reply call (begun_operation state call None).opens
 
   abbrev carried_draft : Draft
   carried_draft = redrafted (rebased offered_base carried_base.roots base.generations) offered_draft draft.heap [] draft.newest

@@ -22,7 +22,7 @@ settled_well : (before after : State) → IsUpToDate (settled before after)
 settled_well before after = settled_once after.heap (outside after) after.epoch before.limbo
 
 settled_up_to_date : (state : State) (s : Step) (o : Outcome) (after : State) → Moves state s o after → IsUpToDate after
-settled_up_to_date state s o after (Begins {actor} {call} d) = settled_well state (with_begin state actor call (begun_operation state call))
+settled_up_to_date state s o after (Begins {actor} {call} {number} d) = settled_well state (with_begin state actor call (begun_operation state call number))
 settled_up_to_date state s o after (Goes {actor} {operation} d is a g) = settled_well state (gone state actor operation)
 settled_up_to_date state s o after (Ends {actor} d is a) = settled_well state (ended state actor)
 settled_up_to_date state s o after (GivesUp {actor} {operation} {answer} d is a) = settled_well state (with_operation state actor (Some (gave_up operation answer)))

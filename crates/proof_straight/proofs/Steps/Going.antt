@@ -48,7 +48,7 @@ carries_on state operation action still = absurd still
 
 -- what is recorded behind the begin
 abbrev pub begun_record : State → Record → ℕ → Call → Record
-begun_record state past k call = noted past state.steps (told_in state (step.Begin (suc k) call))
+begun_record state past k call = noted past state.steps (told_in state (step.Begin (suc k) call None))
 
 -- it has a place for what the actor reads
 pub read_fits : (state : State) (past : Record) (k : ℕ) (call : Call) (step : ℕ) (main : Ref) → k < length past.moments →
@@ -160,15 +160,15 @@ module _ (state : State) (past : Record) (k : ℕ) (call : Call) where
         all_steps = omega arith
 
   -- the begin
-  pub begins_so : Alone state k → IsCalm state (first_draft state) → begin_denial state (suc k) call ≡ None → is_close call ≡ false →
-      Stands (begun_record state past k call) state (first_draft state) (begun_operation state call) 0
+  pub begins_so : Alone state k → IsCalm state (first_draft state) → begin_denial state (suc k) call None ≡ None → is_close call ≡ false →
+      Stands (begun_record state past k call) state (first_draft state) (begun_operation state call None) 0
   unfolding next
   begins_so alone calm allowed stays_open left = begins (
-      ap (λ d. begin_unless state (suc k) call d) allowed ∙ ap (λ s. Ok (outcome.Began state.begun, settled state s)) opened ∙ ap (λ held. Ok (outcome.Began state.begun, left_by held)) held
+      ap (λ d. begin_unless state (suc k) call None d) allowed ∙ ap (λ s. Ok (outcome.Began state.begun, settled state s)) opened ∙ ap (λ held. Ok (outcome.Began state.begun, left_by held)) held
       ∙ ap (λ l. Ok (outcome.Began state.begun, stand state k (record (first_draft state) { limbo = l }) operation (state.steps + 1))) calm)
     where
       operation : Operation
-      operation = begun_operation state call
+      operation = begun_operation state call None
 
       left_by : List Ref → State
       left_by held = record state {

@@ -20,7 +20,7 @@ use Rattle.proof_straight.proofs.Steps.Noting.{noted_read, quiet, read_again, re
 
 -- the call's operation once it has read its root
 abbrev pub rooted : State → Call → Ref → Operation
-rooted state call root = record (begun_operation state call) { generation = Some (generation_at state.heap root) }
+rooted state call root = record (begun_operation state call None) { generation = Some (generation_at state.heap root) }
 
 -- a path to an indirection of this depth
 pub record IsPath (path : List Ref) (depth : ℕ) (indirection : Ref) : Type 0 where
@@ -77,8 +77,8 @@ module _ (state : State) (past : Record) (k : ℕ) (call : Call) (root : Ref) (a
       refl in
       subst (λ r. OnLine r (line.Key (key.Main path main)) (suc (suc c))) (noted_read so_far (state.steps + suc c) (state.steps + suc (suc c)) k main within)
       (reads state past k call state alone (first_draft state) (rooted state call root) (line.Key second) (line.Key (key.Main path main)) (suc c) (reading_of (Some main) false) calm first tt
-      (ap (λ v. reading_of (given_by (at_indirection indirection (after_prev (begun_operation state call).access main v))) false) decided) refl
-      (ap (λ v. key_after_read path (at_indirection indirection (after_prev (begun_operation state call).access main v))) decided))
+      (ap (λ v. reading_of (given_by (at_indirection indirection (after_prev (begun_operation state call None).access main v))) false) decided) refl
+      (ap (λ v. key_after_read path (at_indirection indirection (after_prev (begun_operation state call None).access main v))) decided))
 
   -- the main node has an entry for the key
   pub finds_entry : {so_far : Record} (path : List Ref) (depth bitmap : ℕ) (indirection : Ref) (entries : ArrayVec Ref) (c : ℕ) → IsPath path depth indirection →
@@ -98,7 +98,7 @@ module _ (state : State) (past : Record) (k : ℕ) (call : Call) (root : Ref) (a
   goes_below : {so_far : Record} (path : List Ref) (depth bitmap generation : ℕ) (above word : Ref) (entries : ArrayVec Ref) (c : ℕ) → k < length so_far.moments → IsPath path depth above →
       HasEntry state.heap (key_hash state (key_of call)) depth above bitmap entries →
       node_at state.heap (entry_for state.heap (key_hash state (key_of call)) depth above bitmap) ≡ Indirection generation word →
-      passes (begun_operation state call).access (option_eq nat_eq (Some (generation_at state.heap root)) (Some generation)) ≡ true →
+      passes (begun_operation state call None).access (option_eq nat_eq (Some (generation_at state.heap root)) (Some generation)) ≡ true →
       OnLine so_far (line.Key (key.Read path (reading above))) c →
       OnLine (with_read so_far k (state.steps + suc c) (main_at state.heap above)) (going_down path (entry_for state.heap (key_hash state (key_of call)) depth above bitmap)) (suc (suc (suc (suc c))))
   goes_below path depth bitmap generation above word entries c within is entry leads passed before =
@@ -125,7 +125,7 @@ module _ (state : State) (past : Record) (k : ℕ) (call : Call) (root : Ref) (a
   pub one_below : (depth bitmap generation : ℕ) (above word : Ref) (entries : ArrayVec Ref) → IsBefore depth above →
       HasEntry state.heap (key_hash state (key_of call)) depth above bitmap entries →
       node_at state.heap (entry_for state.heap (key_hash state (key_of call)) depth above bitmap) ≡ Indirection generation word →
-      passes (begun_operation state call).access (option_eq nat_eq (Some (generation_at state.heap root)) (Some generation)) ≡ true →
+      passes (begun_operation state call None).access (option_eq nat_eq (Some (generation_at state.heap root)) (Some generation)) ≡ true →
       IsBefore (suc depth) (entry_for state.heap (key_hash state (key_of call)) depth above bitmap)
   one_below d bitmap generation above word entries before entry leads passed =
       let main = main_at state.heap above in
@@ -146,13 +146,13 @@ module _ (state : State) (past : Record) (k : ℕ) (call : Call) (root : Ref) (a
   pub path_below : (depth bitmap generation : ℕ) (above word : Ref) (entries : ArrayVec Ref) (before : IsBefore depth above)
       (entry : HasEntry state.heap (key_hash state (key_of call)) depth above bitmap entries)
       (leads : node_at state.heap (entry_for state.heap (key_hash state (key_of call)) depth above bitmap) ≡ Indirection generation word)
-      (passed : passes (begun_operation state call).access (option_eq nat_eq (Some (generation_at state.heap root)) (Some generation)) ≡ true) →
+      (passed : passes (begun_operation state call None).access (option_eq nat_eq (Some (generation_at state.heap root)) (Some generation)) ≡ true) →
       (one_below depth bitmap generation above word entries before entry leads passed).path ≡ before.path ++ entry_for state.heap (key_hash state (key_of call)) depth above bitmap ∷ []
   unfolding one_below
   path_below depth bitmap generation above word entries before entry leads passed = refl
 
   pub comes_down : k < length past.moments → OnLine (begun_record state past k call) (going_down [] root) 1 → (depth : ℕ) (indirection : Ref) →
-      Leads state.heap (begun_operation state call).access (key_hash state (key_of call)) root depth indirection → IsBefore depth indirection
+      Leads state.heap (begun_operation state call None).access (key_hash state (key_of call)) root depth indirection → IsBefore depth indirection
   comes_down fits at_root depth indirection (to_root is) = record {
     path = root ∷ [];
     is = record { current = refl; size = refl };
@@ -166,7 +166,7 @@ module _ (state : State) (past : Record) (k : ℕ) (call : Call) (root : Ref) (a
 
   -- the call's path has just these
   pub path_is_along : (fits : k < length past.moments) (at_root : OnLine (begun_record state past k call) (going_down [] root) 1) (depth : ℕ) (indirection : Ref)
-      (leads : Leads state.heap (begun_operation state call).access (key_hash state (key_of call)) root depth indirection) → (comes_down fits at_root depth indirection leads).path ≡ path_along leads
+      (leads : Leads state.heap (begun_operation state call None).access (key_hash state (key_of call)) root depth indirection) → (comes_down fits at_root depth indirection leads).path ≡ path_along leads
   unfolding path_along comes_down
   path_is_along fits at_root depth indirection (to_root is) = refl
   path_is_along fits at_root depth indirection (below {depth = d} {bitmap} {generation} {above} {word} {entries} so_far entry leads passed) =

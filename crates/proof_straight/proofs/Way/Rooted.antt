@@ -47,8 +47,8 @@ keyed_opens other keyed = refl
 -- what stands at rest stands for a call that runs alone
 pub alone_at : (state : State) (k : ℕ) (c : Call) (root : Ref) → IsReady state (suc k) c root → Alone state k
 alone_at state k c root ready = record {
-  actor = actor_within state (suc k) (begin_actor state (suc k) c ready.allowed);
-  within = omega (arith, ready.rests.actors, actor_within state (suc k) (begin_actor state (suc k) c ready.allowed));
+  actor = actor_within state (suc k) (begin_actor state (suc k) c None ready.allowed);
+  within = omega (arith, ready.rests.actors, actor_within state (suc k) (begin_actor state (suc k) c None ready.allowed));
   rest = ready.rests.rest;
 }
 
@@ -69,7 +69,7 @@ comes_to_root state past k c root ready first stays_open =
     draft = first_draft state
 
     begun : Operation
-    begun = begun_operation state c
+    begun = begun_operation state c None
 
     alone : Alone state k
     alone = alone_at state k c root ready

@@ -1,5 +1,5 @@
 -- Calls on one key that change nothing.
-use Rattle.std.proofs.Common.{◌≡◌, ℕ, zero, suc, ◌+◌, ◌*◌, ◌<◌, ◌==◌, Bool, true, false, length, refl, ap, ◌∙◌, subst, arith}
+use Rattle.std.proofs.Common.{None, ◌≡◌, ℕ, zero, suc, ◌+◌, ◌*◌, ◌<◌, ◌==◌, Bool, true, false, length, refl, ap, ◌∙◌, subst, arith}
 use Rattle.proof_straight.specs.Vocabulary.{Call, Reply, Ref, main_at, WhenFound, Answers, Sets, Removes, absent_reply, answers_unless, when_found, found_so, State, Record, noted_end}
 use Rattle.proof_straight.specs.Beneath.history.specs.declared.calls.Call.TheVariants as call
 use Rattle.proof_straight.specs.Beneath.history.specs.declared.replies.Reply.TheVariants as reply
@@ -19,7 +19,7 @@ use Rattle.proof_straight.proofs.Way.Seeking.{again, looked, comes_crowded, come
 
 -- there is no actor 0
 pub no_actor : {state : State} {call : Call} {root : Ref} → IsReady state 0 call root → ⊥
-no_actor {state} {call} ready = omega (arith, begin_counts state 0 call ready.allowed)
+no_actor {state} {call} ready = omega (arith, begin_counts state 0 call None ready.allowed)
 
 -- a call that is answered where it finds its key isn't refused
 abbrev GivesAnswer : WhenFound → Type 0

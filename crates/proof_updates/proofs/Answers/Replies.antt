@@ -1,5 +1,5 @@
 -- What an operation answers that has no place is right.
-use Rattle.std.proofs.Common.{◌≡◌, ◌≢◌, ℕ, suc, ◌<◌, ◌≤◌, ◌^◌, Bool, true, false, true≢false, ◌∷◌, inl, None, refl, sym, ap, subst, ◌∙◌, arith, [], Some}
+use Rattle.std.proofs.Common.{Option, ◌≡◌, ◌≢◌, ℕ, suc, ◌<◌, ◌≤◌, ◌^◌, Bool, true, false, true≢false, ◌∷◌, inl, None, refl, sym, ap, subst, ◌∙◌, arith, [], Some}
 use Rattle.std.proofs.lemmas.Option.{none-some}
 use Rattle.proof_updates.specs.Vocabulary.{Access, Writable, ReadOnly, Call, Close, Entries, Count, Reply, Ref, on_time, Line, Operation, Bounds, Outcome, Step, key_of, is_close, needs_read_only}
 use Rattle.proof_updates.specs.Vocabulary.{State, first_line, begin_denial, Moves, begun_operation, turns, noted_turn, IsRun, Turn, is_placed, Record, noted, moment_at, told_in, Moment, given_up}
@@ -33,33 +33,33 @@ use Rattle.proof_order.proofs.Phases.LineTimes.{answered_unless}
 -- ---- a begin
 
 -- a call that walks reads a read-only handle
-begun_reads : (state : State) (actor : ℕ) (call : Call) → begin_denial state actor call ≡ None → needs_read_only call ≡ true → (begun_operation state call).access ≡ ReadOnly
-begun_reads state actor call d e = grind arith
+begun_reads : (state : State) (actor : ℕ) (call : Call) (number : Option ℕ) → begin_denial state actor call number ≡ None → needs_read_only call ≡ true → (begun_operation state call number).access ≡ ReadOnly
+begun_reads state actor call number d e = grind arith
 
 -- a close has its place at once
-close_places : (state : State) (past : Record) (actor : ℕ) (call : Call) → is_close call ≡ true → is_placed (noted past state.steps (told_in state (step.Begin actor call))) state.begun ≡ true
-close_places state past actor (Close handle) e =
-    is_placed_so (noted past state.steps (told_in state (step.Begin actor (Close handle)))) (on_time state.steps false state.begun)
+close_places : (state : State) (past : Record) (actor : ℕ) (call : Call) (number : Option ℕ) → is_close call ≡ true → is_placed (noted past state.steps (told_in state (step.Begin actor call number))) state.begun ≡ true
+close_places state past actor (Close handle) number e =
+    is_placed_so (noted past state.steps (told_in state (step.Begin actor (Close handle) number))) (on_time state.steps false state.begun)
     (among_right past.places (on_time state.steps false state.begun ∷ []) _ (inl refl)) state.begun refl
-close_places state past actor call e = absurd (true≢false (sym e))
+close_places state past actor call number e = absurd (true≢false (sym e))
 
 module _ (limits : Bounds) (states : ℕ → State) (last : ℕ) (depth path : Ref → ℕ) (run : IsRun limits states last) (ok : IsTrie (trie_of limits states last depth path))
     (fits : (t : ℕ) → t ≤ last → (k : ℕ) (operation : Operation) → Runs (states t) k operation → key_of operation.call < 2 ^ 64) where
   abbrev trie : Trie
   trie = trie_of limits states last depth path
 
-  answering_begins : (t k : ℕ) → t < last → (call : Call) (o : Outcome) → Moves (states t) (step.Begin (suc k) call) o (states (suc t)) →
-      begin_denial (states t) (suc k) call ≡ None → Notes states run.records t (step.Begin (suc k) call) →
-      IsAnswering states run.records trie (suc t) k (begun_operation (states t) call)
-  answering_begins t k lt call o m d notes = record {
-    closes = λ e. subst (λ (q : Record). is_placed q (states t).begun ≡ true) (sym notes) (close_places (states t) (run.records t) (suc k) call e);
-    behind = λ e. first_behind call e (begun_reads (states t) (suc k) call d);
+  answering_begins : (t k : ℕ) → t < last → (call : Call) (number : Option ℕ) (o : Outcome) → Moves (states t) (step.Begin (suc k) call number) o (states (suc t)) →
+      begin_denial (states t) (suc k) call number ≡ None → Notes states run.records t (step.Begin (suc k) call number) →
+      IsAnswering states run.records trie (suc t) k (begun_operation (states t) call number)
+  answering_begins t k lt call number o m d notes = record {
+    closes = λ e. subst (λ (q : Record). is_placed q (states t).begun ≡ true) (sym notes) (close_places (states t) (run.records t) (suc k) call number e);
+    behind = λ e. first_behind call e (begun_reads (states t) (suc k) call number d);
     its = λ e read_only g none h stands. absurd (none-some g none);
   }
     where
-      first_behind : (x : Call) → is_close x ≡ false → (needs_read_only x ≡ true → (begun_operation (states t) call).access ≡ ReadOnly) →
-          Behind states run.records (suc t) (states t).begun (RightAt states trie (suc t) (begun_operation (states t) call).access None (moment_at (run.records (suc t)) (suc k)).moment call)
-          (WalksAt states trie (suc t) (begun_operation (states t) call).access x) (first_line x)
+      first_behind : (x : Call) → is_close x ≡ false → (needs_read_only x ≡ true → (begun_operation (states t) call number).access ≡ ReadOnly) →
+          Behind states run.records (suc t) (states t).begun (RightAt states trie (suc t) (begun_operation (states t) call number).access None (moment_at (run.records (suc t)) (suc k)).moment call)
+          (WalksAt states trie (suc t) (begun_operation (states t) call number).access x) (first_line x)
       first_behind (Entries h) e reads = (reads refl, refl, λ g stands. tt)
       first_behind (Count h) e reads = (reads refl, refl, λ g stands. tt)
       first_behind (Close h) e reads = absurd (true≢false e)

@@ -18,7 +18,7 @@ module _ (limits : Bounds) (states : ℕ → State) (records : ℕ → Record) (
   none_committed none = by_step s none
     where
       by_step : (x : Step) → CommitsNone (states t) x → committed_by_step (states t) x ≡ None
-      by_step x (begins actor call) = refl
+      by_step x (begins actor call number) = refl
       by_step x (goes actor operation runs nothing) = ap (committed_of (states t)) runs ∙ nothing
       by_step x sweeps = refl
       by_step x (gives_up actor) = refl
@@ -112,8 +112,8 @@ module _ (limits : Bounds) (states : ℕ → State) (records : ℕ → Record) (
   pub no_repair : CommitsNone (states t) s → CommitsRepair (states t) s → ⊥
   no_repair none r = none-some r.swap.fresh (sym (none_committed none) ∙ r.commits)
 
-  pub begins_none : (actor : ℕ) (call : Call) → s ≡ step.Begin actor call → CommitsRepair (states t) s → ⊥
-  begins_none actor call e r = none-some r.swap.fresh (sym (ap (committed_by_step (states t)) e) ∙ r.commits)
+  pub begins_none : (actor : ℕ) (call : Call) (number : Option ℕ) → s ≡ step.Begin actor call number → CommitsRepair (states t) s → ⊥
+  begins_none actor call number e r = none-some r.swap.fresh (sym (ap (committed_by_step (states t)) e) ∙ r.commits)
 
   -- who carries an offer out commits nothing
   pub carries_nothing : (handle : ℕ) (offer : Descriptor) → CarriesOut (states t) s handle offer → Own → ⊥

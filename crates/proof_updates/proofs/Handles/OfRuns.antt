@@ -64,7 +64,7 @@ module _ (limits : Bounds) (states : ℕ → State) (steps : ℕ → Step) (t : 
             (clears offer.opens (subst (λ c. CarriesOutCall (states t) s c offer.opens) e (carries_call limits states steps t run takes keys s o m notes handle offer carries offer.opens refl)))))
             handle stands.root stands.is_open stands.over ∙ holds.content;
       }
-      by_root (is_closed actor e gone) = absurd (untouched (closes actor e))
+      by_root (is_closed actor number e gone) = absurd (untouched (closes actor number e))
 
   -- ---- repairs
 
@@ -81,7 +81,7 @@ module _ (limits : Bounds) (states : ℕ → State) (steps : ℕ → Step) (t : 
           (λ own. let w = owned limits states run.records (suc t) t s own i call former u in no_owner limits states run.records (suc t) t s own r w.path former w.purpose_is)
       untouched (clears opens c) =
           by_own (main_step limits states steps t run takes keys s o m notes) (carries_nothing limits states run.records (suc t) t s c.handle c.offer c.carries)
-      untouched (closes actor e) = begins_none limits states run.records (suc t) t s actor (Close handle) e r
+      untouched (closes actor number e) = begins_none limits states run.records (suc t) t s actor (Close handle) number e r
 
   -- ---- own updates
 
@@ -152,7 +152,7 @@ pub clears_empty : OfLastSteps ClearsEmpty
 clears_empty limits states steps t run takes keys s o m notes = empties limits states steps t run takes keys s o m notes
 
 pub closes_take : OfLastSteps ClosesTake
-closes_take limits states steps t run takes keys s o m notes actor handle e = closed_handle (states t) s o (states (suc t)) m actor handle e
+closes_take limits states steps t run takes keys s o m notes actor handle number e = closed_handle (states t) s o (states (suc t)) m actor handle number e
 
 pub opened_copy : OfLastSteps OpenedCopy
 opened_copy limits states steps t run takes keys s o m notes = copy limits states steps t run takes keys s o m notes

@@ -89,7 +89,7 @@ module _ (limits : Bounds) (states : ℕ → State) (last : ℕ) (run : IsRun li
     changes_root : (offer : Descriptor) → CarriesOut (states t) s handle offer → root_of root.word ≡ offer.root →
         StandsOver (states (suc t)) handle root.access offer.successor → HandleStep handle root
     -- it is closed
-    is_closed : (actor : ℕ) → s ≡ step.Begin actor (Close handle) → root_at (states (suc t)) handle ≡ None → HandleStep handle root
+    is_closed : (actor : ℕ) (number : Option ℕ) → s ≡ step.Begin actor (Close handle) number → root_at (states (suc t)) handle ≡ None → HandleStep handle root
 
   handle_keeps : (handle : ℕ) (root : Root) → root_at (states t) handle ≡ Some root → footing (states (suc t)) handle ≡ footing (states t) handle → HandleStep handle root
   handle_keeps handle root is e = keeps (stands_by (states (suc t)) handle root.access (root_of root.word) (e ∙ ap footing_of is))
@@ -100,10 +100,10 @@ module _ (limits : Bounds) (states : ℕ → State) (last : ℕ) (run : IsRun li
       by : Changes (states t) (run.records t) s (states (suc t)) (noted (run.records t) (states t).steps (told_in (states t) s)) → HandleStep handle root
       by (quiet places closings same) = handle_keeps handle root is (same handle)
       by (ends actor operation answer go runs ends_it none places closings same) = handle_keeps handle root is (same handle)
-      by (closes actor closed was go open_then none places closings gone others) = by_handle (ℕ_discrete handle closed)
+      by (closes actor closed number was go open_then none places closings gone others) = by_handle (ℕ_discrete handle closed)
         where
           by_handle : Dec (handle ≡ closed) → HandleStep handle root
-          by_handle (yes same) = is_closed actor (go ∙ ap (λ h. step.Begin actor (Close h)) (sym same)) (shut_by (states (suc t)) handle (ap (footing (states (suc t))) same ∙ gone))
+          by_handle (yes same) = is_closed actor number (go ∙ ap (λ h. step.Begin actor (Close h) number) (sym same)) (shut_by (states (suc t)) handle (ap (footing (states (suc t))) same ∙ gone))
           by_handle (no apart) = handle_keeps handle root is (others handle apart)
       by (swaps on offer carries none places closings roots heap) = by_handle (ℕ_discrete handle on)
         where
@@ -162,7 +162,7 @@ module _ (limits : Bounds) (states : ℕ → State) (last : ℕ) (run : IsRun li
       by : Changes (states t) (run.records t) s (states (suc t)) (noted (run.records t) (states t).steps (told_in (states t) s)) → IsOpened handle
       by (quiet places closings same) = absurd (not_kept (same handle))
       by (ends actor operation answer go runs ends_it none places closings same) = absurd (not_kept (same handle))
-      by (closes actor closed was go open_then none places closings gone others) = by_handle (ℕ_discrete handle closed)
+      by (closes actor closed number was go open_then none places closings gone others) = by_handle (ℕ_discrete handle closed)
         where
           by_handle : Dec (handle ≡ closed) → IsOpened handle
           by_handle (yes same) = absurd (none-some was (sym shut ∙ ap (root_at (states t)) same ∙ open_then))
@@ -194,17 +194,17 @@ module _ (limits : Bounds) (states : ℕ → State) (last : ℕ) (run : IsRun li
 -- ---- a close
 
 -- who begins a close takes the handle away
-pub closed_handle : (state : State) (s : Step) (o : Outcome) (after : State) → Moves state s o after → (closer handle : ℕ) → s ≡ step.Begin closer (Close handle) → root_at after handle ≡ None
-closed_handle state s o after (Begins {actor} {call} d) closer handle e =
+pub closed_handle : (state : State) (s : Step) (o : Outcome) (after : State) → Moves state s o after → (closer handle : ℕ) (number : Option ℕ) → s ≡ step.Begin closer (Close handle) number → root_at after handle ≡ None
+closed_handle state s o after (Begins {actor} {call} {number = wish} d) closer handle number e =
     let same : call ≡ Close handle = cc e in
-    subst (λ c. root_at (settled state (with_begin state actor c (begun_operation state c))) handle ≡ None) (sym same) gone
+    subst (λ c. root_at (settled state (with_begin state actor c (begun_operation state c wish))) handle ≡ None) (sym same) gone
   where
     gone : get_or (set state.roots handle None) handle None ≡ None
     gone = elim (cases_lt handle (length state.roots)) [
       | inl within ↦ get_or-set_same state.roots handle None None within
       | inr past ↦ get_or_past (set state.roots handle None) handle None (rw length-set past)
     ]
-closed_handle state s o after (Goes d is a g) closer handle e = let wrong : ⊥ = cc e in absurd wrong
-closed_handle state s o after (Ends d is a) closer handle e = let wrong : ⊥ = cc e in absurd wrong
-closed_handle state s o after (GivesUp d is a) closer handle e = let wrong : ⊥ = cc e in absurd wrong
-closed_handle state s o after (Sweeps spent) closer handle e = let wrong : ⊥ = cc e in absurd wrong
+closed_handle state s o after (Goes d is a g) closer handle number e = let wrong : ⊥ = cc e in absurd wrong
+closed_handle state s o after (Ends d is a) closer handle number e = let wrong : ⊥ = cc e in absurd wrong
+closed_handle state s o after (GivesUp d is a) closer handle number e = let wrong : ⊥ = cc e in absurd wrong
+closed_handle state s o after (Sweeps spent) closer handle number e = let wrong : ⊥ = cc e in absurd wrong

@@ -99,7 +99,7 @@ module _ (limits : Bounds) (states : ℕ → State) (steps : ℕ → Step) (t : 
         by_root : (own : Mine) → HandleStep limits states (suc t) run t (omega arith) s o m notes handle root → StandsOver (states (suc t)) handle root.access r
         by_root own (keeps stands) = stands
         by_root own (changes_root offer carries old stands) = absurd (carries_nothing limits states run.records (suc t) t s handle offer carries own)
-        by_root own (is_closed actor e gone) = absurd (let both = sym e ∙ own.takes in let wrong : ⊥ = cc both in wrong)
+        by_root own (is_closed actor number e gone) = absurd (let both = sym e ∙ own.takes in let wrong : ⊥ = cc both in wrong)
 
         by_step : MainStep limits states run.records (suc t) (assigned_at states (suc t)) t s →
             (later : List (ℕ × ℕ)) × HandleHolds (states (suc t)) handle root.access later × Turns (hash_of limits.hash) call former (entries (map_of T.keys (value_below T t r))) later

@@ -48,7 +48,7 @@ entered_placed limits states last run t lt s o m notes operation enters =
         (among_right (run.records t).places (place_of (run.records t) (entrant_of operation) t false ∷ []) _ (inl refl)))
         operation.id (place_says (closing_for (run.records t) operation.generation operation.access) t operation.id false).2
     by_changes (ends actor ending answer is runs does none places closings footing) = absurd (not_none none)
-    by_changes (closes actor handle root is found none places closings gone footing) = absurd (not_none none)
+    by_changes (closes actor handle number root is found none places closings gone footing) = absurd (not_none none)
     by_changes (swaps handle offer carries none places closings roots heap) = absurd (not_none none)
 
 module _ (limits : Bounds) (states : ℕ → State) (last : ℕ) (run : IsRun limits states last) where

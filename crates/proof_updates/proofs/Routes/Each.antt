@@ -292,7 +292,7 @@ module _ (limits : Bounds) (states : ℕ → State) (last : ℕ) (depth path : R
 
   pub has_route : (t : ℕ) → t ≤ last → (k : ℕ) (operation : Operation) → Runs (states t) k operation → HasRoute t k operation
   has_route =
-      each_operation limits states last run HasRoute (λ t k operation b h. h) (λ t k lt call o m d notes g e. absurd (none-some g e))
+      each_operation limits states last run HasRoute (λ t k operation b h. h) (λ t k lt call number o m d notes g e. absurd (none-some g e))
       (λ t k lt operation answer runs may o m same h g e. tt)
       (λ t k lt operation runs same h g e.
       subst (λ (n : Moment). LineRoute trie operation.access g (key_of operation.call) (suc t) n.read_at n.moment operation.line) (sym same)

@@ -27,8 +27,8 @@ own_notes states records t k operation own = own.noted ∙ sym (noted_going (sta
 -- P of a time, a place and an operation, whatever its mark, holds of an operation that begins or gives up, and is kept by its own steps and by all others
 module _ (limits : Bounds) (states : ℕ → State) (last : ℕ) (run : IsRun limits states last) (P : ℕ → ℕ → Operation → Type 0)
     (marks : (t k : ℕ) (operation : Operation) (b : Bool) → P t k operation → P t k (record operation { is_marked = b }))
-    (begins : (t k : ℕ) → t < last → (call : Call) (o : Outcome) → Moves (states t) (step.Begin (suc k) call) o (states (suc t)) → begin_denial (states t) (suc k) call ≡ None →
-    Notes states run.records t (step.Begin (suc k) call) → P (suc t) k (begun_operation (states t) call))
+    (begins : (t k : ℕ) → t < last → (call : Call) (number : Option ℕ) (o : Outcome) → Moves (states t) (step.Begin (suc k) call number) o (states (suc t)) → begin_denial (states t) (suc k) call number ≡ None →
+    Notes states run.records t (step.Begin (suc k) call number) → P (suc t) k (begun_operation (states t) call number))
     (gives_up : (t k : ℕ) → t < last → (operation : Operation) (answer : Reply) → Runs (states t) k operation → given_up operation.call operation.line ≡ Some answer →
     (o : Outcome) → Moves (states t) (step.GiveUp (suc k)) o (states (suc t)) → run.records (suc t) ≡ run.records t → P t k operation → P (suc t) k (gave_up operation answer))
     (rests : (t k : ℕ) → t < last → (operation : Operation) → Runs (states t) k operation →
@@ -43,8 +43,8 @@ module _ (limits : Bounds) (states : ℕ → State) (last : ℕ) (run : IsRun li
   next_by : (t : ℕ) → t < last → AllAt t → (s : Step) (o : Outcome) → Moves (states t) s o (states (suc t)) → Notes states run.records t s → (k : ℕ) (found : Operation) →
       Comes (states t) s k found → P (suc t) k found
   unfolding AllAt
-  next_by t lt all s o m notes k found (began call is_step d is) = subst (λ x. P (suc t) k x) (sym is)
-      (begins t k lt call o (subst (λ x. Moves (states t) x o (states (suc t))) is_step m) d (subst (λ x. Notes states run.records t x) is_step notes))
+  next_by t lt all s o m notes k found (began call number is_step d is) = subst (λ x. P (suc t) k x) (sym is)
+      (begins t k lt call number o (subst (λ x. Moves (states t) x o (states (suc t))) is_step m) d (subst (λ x. Notes states run.records t x) is_step notes))
   next_by t lt all s o m notes k found (rested was at_k is other_step) =
       subst (λ x. P (suc t) k x) (sym is) (but_for_mark (suc t) k (marks_in (states t) s) was
       (rests t k lt was at_k (ap (λ r. moment_at r (suc k)) notes ∙ moment_rests (states t) (run.records t) s o (states (suc t)) m k other_step) (all k was at_k)))

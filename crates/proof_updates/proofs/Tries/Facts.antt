@@ -31,7 +31,7 @@ module _ (limits : Bounds) (states : ℕ → State) (last : ℕ) (run : IsRun li
   none_enters none = by_step s none
     where
       by_step : (x : Step) → CommitsNone (states t) x → entered_by_step (run.records t) (states t) x ≡ []
-      by_step x (begins actor call) = refl
+      by_step x (begins actor call number) = refl
       by_step x (goes actor operation runs nothing) = ap (entered (run.records t) (states t).steps) (ap (committed_of (states t)) runs ∙ nothing)
       by_step x sweeps = refl
       by_step x (gives_up actor) = refl

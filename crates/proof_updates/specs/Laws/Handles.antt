@@ -49,7 +49,7 @@ ClearsEmpty limits before s after = (handle : ℕ) (opens : Option ℕ) → Carr
 
 -- a close takes its handle away
 abbrev pub ClosesTake : Bounds → State → Step → State → Type 0
-ClosesTake limits before s after = (actor handle : ℕ) → s ≡ step.Begin actor (Close handle) → root_at after handle ≡ None
+ClosesTake limits before s after = (actor handle : ℕ) (number : Option ℕ) → s ≡ step.Begin actor (Close handle) number → root_at after handle ≡ None
 
 -- a handle that a step opens was copied by a snapshot, and is writable, or by a freeze, and is read-only; its content is that of the handle copied
 abbrev pub OpenedCopy : Bounds → State → Step → State → Type 0

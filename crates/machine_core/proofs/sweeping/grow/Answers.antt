@@ -10,7 +10,7 @@ use Rattle.machine_core.proofs.Growths.{core_over, grown_parts, reclaimed_run}
 use Rattle.machine_core.proofs.sweeping.grow.Goals as goal
 
 pub overflow_add-parts : goal.overflow_add-parts
-overflow_add-parts c = let few = bounded (seen c.args.parts.now) c.requires.core.run in omega (arith, few.steps, c.requires.core.run.limits.2, c.from-steps.ensures)
+overflow_add-parts c = let few = bounded (seen c.args.parts.now) c.requires.core.run in omega (arith, few.steps, c.requires.core.run.actors, c.from-steps.ensures)
 
 pub grow-requires-clause-room : goal.grow-requires-clause-room
 grow-requires-clause-room c = let few = bounded (seen c.args.parts.now) c.requires.core.run in omega (arith, few.epoch, few.steps)
