@@ -1,2 +1,6 @@
-pub mod Extending
-pub mod Ending
+pub mod Differing
+pub mod Turns
+pub mod Replayed
+pub mod Refuting
+pub mod Ways
+pub mod Placing

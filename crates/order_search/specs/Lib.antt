@@ -1,1 +1,4 @@
 pub mod Searching
+pub mod Cells
+pub mod Marks
+pub mod Walks

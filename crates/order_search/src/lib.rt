@@ -1,7 +1,10 @@
 //! Looks for a legal order of a history, among all orders.
 #![tactic(auto)]
 
-mod beginnings;
+mod cells;
+mod choosing;
 mod searching;
+mod walking;
+mod worlds;
 
 pub use searching::{Search, find_order};

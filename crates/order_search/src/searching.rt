@@ -3,11 +3,12 @@
 ghost use Rattle.std.specs.Prelude.{◌≡◌, Ok, IfOk, IsOkUnless};
 ghost use Rattle.ctrie_base.specs.Hashes.{hash_of};
 ghost use Rattle.history.specs.Orders.{IsLegal};
-ghost use Rattle.order_search.specs.Searching.{HasNoOrder, NoneGoesOn};
+ghost use Rattle.history.specs.Tables.{Records};
+ghost use Rattle.order_search.specs.Searching.{HasNoOrder};
 
-use crate::beginnings::{Beginning, beginning_of};
+use crate::walking::Way;
 use ctrie_base::{HashKind, Refusal};
-use history::Event;
+use history::{Event, Table};
 use std::alloc::Global;
 
 /// What came of a search.
@@ -22,7 +23,7 @@ pub enum Search {
 }
 
 /// Looks for an order that is legal for the history, which the vector has then, by so many steps at most. A step looks at one
-/// beginning of an order. Any events may be given. `Memory` is the only refusal.
+/// operation that may come next. Any events may be given. `Memory` is the only refusal.
 pub fn find_order(
     alloc: Global,
     events: &[Event],
@@ -34,44 +35,44 @@ pub fn find_order(
     ensures not_there { result ≡ Ok Search.NotThere → HasNoOrder (hash_of hash) events.now }
     ensures only_memory { IsOkUnless result Refusal.Memory }
 {
-    order.clear();
-    let mut left = steps;
-    let depth = events.len();
-    go_on(alloc, events, hash, depth, &mut left, order)
+    match Table::of(alloc, events)? {
+        Ok(table) => order_by_table(alloc, events, &table, hash, steps, order),
+        // Where an event may not come there, no order is legal.
+        Err(_) => Ok(Search::NotThere),
+    }
 }
 
-/// Looks for a legal order that begins with these ids, and with up to so many more.
-fn go_on(
+/// The same of a history that has this table.
+fn order_by_table(
     alloc: Global,
     events: &[Event],
+    table: &Table,
     hash: HashKind,
-    depth: usize,
-    left: &mut u64,
-    ids: &mut Vec<u64>,
+    steps: u64,
+    order: &mut Vec<u64>,
 ) -> Result<Search, Refusal>
-    ensures found { result ≡ Ok Search.Found → IsLegal (hash_of hash) events.now ids.new.items }
-    ensures not_there { result ≡ Ok Search.NotThere → NoneGoesOn (hash_of hash) events.now ids.old.items }
-    ensures same { result ≡ Ok Search.NotThere → ids.new.items ≡ ids.old.items }
+    requires { Records events.now table.now }
+    ensures found { result ≡ Ok Search.Found → IsLegal (hash_of hash) events.now order.new.items }
+    ensures not_there { result ≡ Ok Search.NotThere → HasNoOrder (hash_of hash) events.now }
     ensures only_memory { IsOkUnless result Refusal.Memory }
 {
-    match beginning_of(alloc, events, ids.as_slice(), hash)? {
-        Beginning::Legal => return Ok(Search::Found),
-        Beginning::Wrong => return Ok(Search::NotThere),
-        Beginning::Unfinished => {}
-    }
-    if depth == 0 || *left == 0 {
-        return Ok(Search::Spent);
-    }
-    *left -= 1;
-    for id in 0..events.len() {
-        ids.push(id as u64)?;
-        match go_on(alloc, events, hash, depth - 1, left, ids)? {
-            Search::Found => return Ok(Search::Found),
-            Search::Spent => return Ok(Search::Spent),
-            Search::NotThere => {
-                let _ = ids.pop();
-            }
+    let mut way = Way::new(alloc, events, table)?;
+    let mut legal = way.is_legal(alloc, events, table, hash)?;
+    for _ in 0..steps {
+        if legal {
+            break;
+        }
+        let Some(id) = way.next_operation(alloc, events, table, hash)? else {
+            return Ok(Search::NotThere);
+        };
+        if way.place(alloc, events, table, id, hash)? {
+            legal = way.is_legal(alloc, events, table, hash)?;
         }
     }
-    Ok(Search::NotThere)
+    if !legal {
+        return Ok(Search::Spent);
+    }
+    order.clear();
+    order.append(&mut way.ids)?;
+    Ok(Search::Found)
 }

@@ -1,0 +1,9 @@
+-- The way is one, and it is known whether what it has placed is a legal order.
+use Rattle.std.proofs.Common.{◌↔◌, IsTrue}
+use Rattle.ctrie_base.specs.Hashes.{hash_of}
+use Rattle.history.specs.Orders.{IsLegal}
+use Rattle.order_search.specs.Walks.{IsWayOf}
+use Rattle.order_search.proofs.searching.order_by_table.Given as goal
+
+abbrev pub invariant-loop : goal.invariant-loop
+invariant-loop l = IsWayOf (hash_of l.hash) l.events l.way × (IsTrue l.legal ↔ IsLegal (hash_of l.hash) l.events l.way.ids.items)
