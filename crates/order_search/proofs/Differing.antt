@@ -17,7 +17,7 @@ use Rattle.history.specs.Effects.{effect, answer_in, map_of, with_access, changi
 use Rattle.order_search.specs.declared.cells.Cell.{Cell}
 use Rattle.order_search.specs.Cells.{cell_of, access_at, value_at, value_in, DifferIn}
 
-apart_of : (a b : ℕ) → (a < b) ⊎ (b < a) → a ≢ b
+pub apart_of : (a b : ℕ) → (a < b) ⊎ (b < a) → a ≢ b
 apart_of a b (inl less) same = omega (arith, less, same)
 apart_of a b (inr more) same = omega (arith, more, same)
 

@@ -4,3 +4,5 @@ pub mod Replayed
 pub mod Refuting
 pub mod Ways
 pub mod Placing
+pub mod Swapping
+pub mod Alike

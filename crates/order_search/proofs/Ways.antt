@@ -2,7 +2,7 @@
 use Rattle.std.proofs.Common.{◌≡◌, ℕ, ◌<◌, ◌≤◌, ◌+◌, inl, inr, Bool, true, false, List, [], ◌∷◌, ◌++◌, length, take, set, Option, Some, None, refl, sym, ap, ◌∙◌, subst, arith, length-set, length-append}
 use Rattle.std.proofs.lemmas.Bool.{cases_lt, true≢false}
 use Rattle.std.proofs.lemmas.Option.{slice_get_within}
-use Rattle.std.proofs.lemmas.List.{take-append-le}
+use Rattle.std.proofs.lemmas.List.{take-append-le, append_assoc}
 use Rattle.std.proofs.Math.Seq.{take-append_seam}
 use Rattle.history.specs.declared.replies.Reply.TheVariants.{NoSlots}
 use Rattle.history.specs.declared.events.Event.{Event}
@@ -114,6 +114,20 @@ module _ (hash : ℕ → ℕ) (history : List Event) (ids : List ℕ) (befores :
       | inl before ↦ passed_below id way chosen other before
       | inr here ↦ let same : id ≡ other = omega (arith, lt, here, le) in subst (λ x. NoneGoesOn hash history (ids ++ x ∷ [])) same none
     ];
+    unfinished = way.unfinished;
+  }
+
+  -- all are passed where no order goes on
+  pub way_known : (after : ℕ) → IsWay hash history ids befores taken low next world → NoneGoesOn hash history ids → IsWay hash history ids befores taken low after world
+  way_known after way none = record {
+    leads = way.leads;
+    marks = way.marks;
+    in_turn = way.in_turn;
+    low_marked = way.low_marked;
+    known = way.known;
+    had = way.had;
+    passed = way.passed;
+    passed_last = λ other lt more legal. none (other ∷ more) (subst (λ xs. IsLegal hash history xs) (append_assoc ids (other ∷ []) more) legal);
     unfinished = way.unfinished;
   }
 

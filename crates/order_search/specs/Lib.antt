@@ -2,3 +2,4 @@ pub mod Searching
 pub mod Cells
 pub mod Marks
 pub mod Walks
+pub mod States

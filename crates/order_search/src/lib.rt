@@ -3,6 +3,7 @@
 
 mod cells;
 mod choosing;
+mod failures;
 mod searching;
 mod walking;
 mod worlds;

@@ -6,6 +6,7 @@ ghost use Rattle.history.specs.Orders.{IsLegal};
 ghost use Rattle.history.specs.Tables.{Records};
 ghost use Rattle.order_search.specs.Searching.{HasNoOrder};
 
+use crate::failures::Failures;
 use crate::walking::Way;
 use ctrie_base::{HashKind, Refusal};
 use history::{Event, Table};
@@ -57,12 +58,13 @@ fn order_by_table(
     ensures only_memory { IsOkUnless result Refusal.Memory }
 {
     let mut way = Way::new(alloc, events, table)?;
+    let mut failures = Failures::new(alloc, table)?;
     let mut legal = way.is_legal(alloc, events, table, hash)?;
     for _ in 0..steps {
         if legal {
             break;
         }
-        let Some(id) = way.next_operation(alloc, events, table, hash)? else {
+        let Some(id) = way.next_operation(alloc, events, table, hash, &mut failures)? else {
             return Ok(Search::NotThere);
         };
         if way.place(alloc, events, table, id, hash)? {

@@ -8,9 +8,11 @@ ghost use Rattle.history.specs.Orders.{IsLegal};
 ghost use Rattle.history.specs.Tables.{Records};
 ghost use Rattle.order_search.specs.Searching.{NoneGoesOn};
 ghost use Rattle.order_search.specs.Marks.{AreMarked, HasMark, Chooses};
+ghost use Rattle.order_search.specs.States.{AreFailures};
 ghost use Rattle.order_search.specs.Walks.{IsWayOf, IsOpenWay, Pushes, Tries, Places, GoesBack};
 
 use crate::choosing::{choose, lacks_answered};
+use crate::failures::Failures;
 use crate::worlds::{carry_out, take_back, value_before};
 use ctrie_base::{HashKind, Refusal};
 use history::{Event, Reply, Row, Table, World, is_order, reply_at};
@@ -90,20 +92,86 @@ impl Way {
         events: &[Event],
         table: &Table,
         hash: HashKind,
+        failures: &mut Failures,
     ) -> Result<Option<u64>, Refusal>
         requires known { Records events.now table.now }
         requires way { IsOpenWay (hash_of hash) events.now self.old }
+        requires failures { AreFailures (hash_of hash) events.now failures.old }
         ensures tries { IfOk result (λ found. Tries found (hash_of hash) events.now self.new) }
+        ensures failures { OnOk result (AreFailures (hash_of hash) events.now failures.new) }
         ensures only_memory { IsOkUnless result Refusal.Memory }
     {
+        self.pass_known(events, hash, failures)?;
         let mut found = self.choice(table);
         while found.is_none() {
+            self.note_failure(events, table, hash, failures)?;
             if !self.go_back(alloc, events, table, hash)? {
                 return Ok(None);
             }
             found = self.choice(table);
         }
         Ok(found)
+    }
+
+    /// Passes all operations where it is known that none may come next.
+    fn pass_known(
+        &mut self,
+        events: &[Event],
+        hash: HashKind,
+        failures: &Failures,
+    ) -> Result<(), Refusal>
+        requires way { IsOpenWay (hash_of hash) events.now self.old }
+        requires failures { AreFailures (hash_of hash) events.now failures.now }
+        ensures way { OnOk result (IsOpenWay (hash_of hash) events.now self.new) }
+        ensures only_memory { IsOkUnless result Refusal.Memory }
+    {
+        if 0 < self.next {
+            return Ok(());
+        }
+        if failures.has(self.low, self.taken.as_slice(), &mut self.world, hash)? {
+            self.next = events.len();
+        }
+        Ok(())
+    }
+
+    /// Notes that none may come next, if that isn't known, and more than one could have come.
+    fn note_failure(
+        &mut self,
+        events: &[Event],
+        table: &Table,
+        hash: HashKind,
+        failures: &mut Failures,
+    ) -> Result<(), Refusal>
+        requires known { Records events.now table.now }
+        requires way { IsOpenWay (hash_of hash) events.now self.old }
+        requires failures { AreFailures (hash_of hash) events.now failures.old }
+        requires none { NoneGoesOn (hash_of hash) events.now self.old.ids.items }
+        ensures failures { OnOk result (AreFailures (hash_of hash) events.now failures.new) }
+        ensures same { OnOk result (self.new ≡ self.old) }
+        ensures only_memory { IsOkUnless result Refusal.Memory }
+    {
+        if events.len() <= self.next {
+            return Ok(());
+        }
+        if !self.had_choice(table) {
+            return Ok(());
+        }
+        failures.note(self.low, self.taken.as_slice(), &mut self.world, hash)?;
+        Ok(())
+    }
+
+    /// Whether more than one operation may come next.
+    fn had_choice(&self, table: &Table) -> bool
+        requires size { length self.now.taken.items ≡ length table.now.rows.items }
+        requires low { (id : ℕ) → id < self.now.low → HasMark self.now.taken.items id }
+    {
+        let taken = self.taken.as_slice();
+        match choose(table, taken, self.low, 0) {
+            Some(first) => {
+                choose(table, taken, self.low, (first as usize).saturating_add(1)).is_some()
+            }
+            None => false,
+        }
     }
 
     /// The operation that is to be tried next behind those that are placed, if there is one.

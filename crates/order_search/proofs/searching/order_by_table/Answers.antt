@@ -3,6 +3,7 @@ use Rattle.std.proofs.Common.{◌≡◌, ◌↔◌, Bool, IsTrue, List, ℕ, ◌
 use Rattle.std.proofs.lemmas.Bool.{false≢true}
 use Rattle.ctrie_base.specs.Hashes.{hash_of}
 use Rattle.history.specs.Orders.{IsLegal}
+use Rattle.order_search.specs.States.{AreFailures}
 use Rattle.order_search.specs.Walks.{IsWayOf, Places}
 use Rattle.order_search.proofs.searching.order_by_table.Goals as goal
 use Rattle.order_search.proofs.searching.order_by_table.Goals.{then-branch+in_ok-legal-2, else-branch}
@@ -11,7 +12,7 @@ pub is_legal-requires-clause-way : goal.is_legal-requires-clause-way
 is_legal-requires-clause-way c = c.in_ok-way.ensures.way (hash_of c.args.hash)
 
 pub loop-init : goal.loop-init
-loop-init c = (c.in_ok-way.ensures.way (hash_of c.args.hash), c.in_ok-legal.ensures.exact)
+loop-init c = (c.in_ok-way.ensures.way (hash_of c.args.hash), c.in_ok-legal.ensures.exact, c.in_ok-failures.ensures.none (hash_of c.args.hash) c.args.events.now c.requires)
 
 pub loop-preserved : goal.loop-preserved
 loop-preserved c =
@@ -19,14 +20,15 @@ loop-preserved c =
     let history = c.args.events.now in
     let way = c.place.new.self in
     let P : Bool → Type 0 = λ fits. Places fits hash history way in
-    let Q : Bool → Type 0 = λ legal. IsWayOf hash history way × (IsTrue legal ↔ IsLegal hash history way.ids.items) in
+    let Q : Bool → Type 0 = λ legal. IsWayOf hash history way × (IsTrue legal ↔ IsLegal hash history way.ids.items) × AreFailures hash history c.next_operation.new.failures in
+    let kept = c.in_ok-id.ensures.failures in
     elim c.if-branch.branch [
       | then-branch+in_ok-legal-2 w ↦
           let placed = subst P w.if-branch.true c.in_ok-place.ensures.places in
-          subst Q (sym w.legal-is) (placed, w.in_ok-legal-2.ensures.exact)
+          subst Q (sym w.legal-is) (placed, w.in_ok-legal-2.ensures.exact, kept)
       | else-branch w ↦
           let passed = subst P w.if-branch.false c.in_ok-place.ensures.places in
-          subst Q (sym (w.legal-is ∙ c.if-legal.false)) (passed.0, (λ is. absurd (false≢true is), λ legal. absurd (passed.1 legal)))
+          subst Q (sym (w.legal-is ∙ c.if-legal.false)) (passed.0, (λ is. absurd (false≢true is), λ legal. absurd (passed.1 legal)), kept)
     ]
 
 pub returns-clause-found : goal.returns-clause-found

@@ -2,8 +2,11 @@
 use Rattle.std.proofs.Common.{◌↔◌, IsTrue}
 use Rattle.ctrie_base.specs.Hashes.{hash_of}
 use Rattle.history.specs.Orders.{IsLegal}
+use Rattle.order_search.specs.States.{AreFailures}
 use Rattle.order_search.specs.Walks.{IsWayOf}
 use Rattle.order_search.proofs.searching.order_by_table.Given as goal
 
 abbrev pub invariant-loop : goal.invariant-loop
-invariant-loop l = IsWayOf (hash_of l.hash) l.events l.way × (IsTrue l.legal ↔ IsLegal (hash_of l.hash) l.events l.way.ids.items)
+invariant-loop l =
+    IsWayOf (hash_of l.hash) l.events l.way × (IsTrue l.legal ↔ IsLegal (hash_of l.hash) l.events l.way.ids.items)
+    × AreFailures (hash_of l.hash) l.events l.failures
