@@ -1,20 +1,20 @@
 -- A text with an order's line after it: its events are those of the text, whatever the order.
-use Rattle.std.proofs.Common.{◌≡◌, ℕ, List, [], ◌∷◌, ◌++◌, Result, Ok, Err, Bool, true, false, cond, refl, sym, ap, ◌∙◌, subst, eqb, append-nil}
+use Rattle.std.proofs.Common.{◌≡◌, ℕ, List, [], ◌∷◌, ◌++◌, Result, Ok, Bool, true, false, cond, refl, sym, ap, ◌∙◌, subst, eqb}
 use Rattle.std.specs.Prelude.{codes, filter, map, not}
 use Rattle.std.specs.Fmt.{decimal}
 use Rattle.std.specs.List.{onto_first}
-use Rattle.std.proofs.lemmas.Bool.{eq-eqb, true≢false}
+use Rattle.std.proofs.lemmas.Bool.{eq-eqb}
 use Rattle.std.proofs.lemmas.List.Splits.{slice_split-cons_yes, slice_split-cons_no}
 use Rattle.ctrie_base.specs.Hashes.{hash_of}
 use Rattle.ctrie_base.specs.declared.hashes.HashKind.{HashKind}
 use Rattle.ctrie_base.specs.declared.refusals.Refusal.{Refusal}
 use Rattle.history.specs.declared.events.Event.{Event}
 use Rattle.history.specs.Orders.{IsLegal}
-use Rattle.text_lines.specs.Words.{cut_at, words_of, made, spaced}
+use Rattle.text_lines.specs.Words.{cut_at, words_of, spaced}
 use Rattle.text_lines.specs.Texts.{lines_of, said_lines, is_ignored, without_empty_last}
 use Rattle.text_lines.proofs.Whole.{Leads, text_leads}
 use Rattle.text_lines.proofs.Parts.{made_ok}
-use Rattle.text_lines.proofs.Lacking.{Lacks, lacks, first_cut}
+use Rattle.text_lines.proofs.Lacking.{lacks, first_cut}
 use Rattle.history_text.specs.Names.{line_named}
 use Rattle.history_text.specs.Texts.{order_text}
 use Rattle.history_text.specs.Lines.{header_of, order_of}
@@ -23,7 +23,7 @@ use Rattle.history_text.proofs.Feeds.{order_first, none_said}
 use Rattle.order_search.specs.Searching.{HasNoOrder}
 use Rattle.history_commands.specs.declared.faults.Fault.{Fault}
 use Rattle.history_commands.specs.declared.faults.Fault.TheVariants as fault
-use Rattle.history_commands.specs.Verdicts.{IsVerdict, IsOfHistory, SaysHistory}
+use Rattle.history_commands.specs.Verdicts.{IsOfHistory, SaysHistory}
 use Rattle.history_commands.specs.Orders.{HasNoLegalOrder, IsOfOrdered, with_order}
 
 -- ---- lines
@@ -45,10 +45,10 @@ kept_last [] = refl
 kept_last ([] ∷ []) = refl
 kept_last ((b ∷ bs) ∷ []) = refl
 kept_last (x ∷ y ∷ more) = elim (is_ignored x) as (λ (b : Bool). cond (not b) (x ∷ kept (without_empty_last (y ∷ more))) (kept (without_empty_last (y ∷ more)))
-  ≡ cond (not b) (x ∷ kept (y ∷ more)) (kept (y ∷ more))) [
-  | true ↦ kept_last (y ∷ more)
-  | false ↦ ap (λ ls. x ∷ ls) (kept_last (y ∷ more))
-]
+    ≡ cond (not b) (x ∷ kept (y ∷ more)) (kept (y ∷ more))) [
+      | true ↦ kept_last (y ∷ more)
+      | false ↦ ap (λ ls. x ∷ ls) (kept_last (y ∷ more))
+    ]
 
 onto_append : (b : ℕ) (xs ys : List (List ℕ)) (x : List ℕ) → onto_first b ((x ∷ xs) ++ ys) ≡ onto_first b (x ∷ xs) ++ ys
 onto_append b xs ys x = refl

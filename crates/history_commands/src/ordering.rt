@@ -36,12 +36,7 @@ fn given_in(alloc: Global, text: &[u8]) -> Result<Given, Fault>
 }
 
 /// Looks for an order that is legal for the history that the text says with an order's line after it. The vector has it then.
-fn looked_for(
-    alloc: Global,
-    text: &[u8],
-    steps: u64,
-    order: &mut Vec<u64>,
-) -> Result<Search, Fault>
+fn looked_for(alloc: Global, text: &[u8], steps: u64, order: &mut Vec<u64>) -> Result<Search, Fault>
     ensures not_there { result ≡ Ok Search.NotThere → HasNoLegalOrder text.now }
     ensures faults { IfErr result (IsOfOrdered text.now) }
 {
@@ -54,11 +49,7 @@ fn looked_for(
 }
 
 /// The text with this order, if a check of it answers true.
-fn with_legal_order(
-    alloc: Global,
-    text: &[u8],
-    order: &[u64],
-) -> Result<Option<Vec<u8>>, Fault>
+fn with_legal_order(alloc: Global, text: &[u8], order: &[u64]) -> Result<Option<Vec<u8>>, Fault>
     ensures legal { IfOk result (λ found. IfSome found (λ bytes. TellsSearch text.now Search.Found bytes.items)) }
     ensures faults { IfErr result (IsOfOrdered text.now) }
 {

@@ -1,5 +1,5 @@
 -- No order is legal for the events that the text says with the line of an order of nothing.
-use Rattle.std.proofs.Common.{◌≡◌, List, [], Ok, ap, ◌∙◌, subst}
+use Rattle.std.proofs.Common.{◌≡◌, [], Ok, ap, ◌∙◌, subst}
 use Rattle.ctrie_base.specs.Hashes.{hash_of}
 use Rattle.history_text.specs.Views.{given}
 use Rattle.order_search.specs.declared.searching.Search.{Search}
