@@ -3,3 +3,4 @@ pub mod Written
 pub mod Verdicts
 pub mod Explanations
 pub mod Pictures
+pub mod Orders
