@@ -26,6 +26,12 @@ TellsSearch text Found bytes = (order : List ℕ) × (bytes ≡ with_order text 
 TellsSearch text NotThere bytes = HasNoLegalOrder text × (bytes ≡ verdict_line false)
 TellsSearch text Spent bytes = bytes ≡ spent_line
 
+-- whatever the text, these bytes tell this: a history whose order is legal, or one of the lines
+abbrev pub ShowsSearch : Search → List ℕ → Type 0
+ShowsSearch Found bytes = IsVerdict bytes true
+ShowsSearch NotThere bytes = bytes ≡ verdict_line false
+ShowsSearch Spent bytes = bytes ≡ spent_line
+
 -- with the line of an order after it, the text's first line with a fault is this one, with this fault
 abbrev pub HasOrderFault : List ℕ → ℕ → Refusal → Type 0
 HasOrderFault text number refusal = (order : List ℕ) × HasLineFault (with_order text order) number refusal

@@ -1,12 +1,12 @@
 //! Looking for a legal order of a history.
 
-ghost use Rattle.std.specs.Prelude.{◌≡◌, ◌≢◌, ◌<◌, ◌^◌, ℕ, true, Ok, IfOk, OnOk, IfErr, IfSome};
+ghost use Rattle.std.specs.Prelude.{◌≡◌, ◌≢◌, ◌<◌, ◌^◌, ℕ, Ok, IfOk, OnOk, IfErr, IfSome};
 ghost use Rattle.std.specs.Io.KnownBytes.{Keeps, IsAtEnd};
 ghost use Rattle.counted_io.specs.Counts.{inner_of, failures};
 ghost use Rattle.history_text.specs.Views.{given};
-ghost use Rattle.history_commands.specs.Verdicts.{IsVerdict, IsOfHistory, SaysHistory};
+ghost use Rattle.history_commands.specs.Verdicts.{IsOfHistory, SaysHistory};
 ghost use Rattle.history_commands.specs.Written.{AppendsSuch, AppendsPartOf};
-ghost use Rattle.history_commands.specs.Orders.{HasNoLegalOrder, HasOrderFault, IsOfOrdered, TellsSearch, with_order};
+ghost use Rattle.history_commands.specs.Orders.{HasNoLegalOrder, HasOrderFault, IsOfOrdered, ShowsSearch, TellsSearch, with_order};
 
 use crate::checking::judge;
 use crate::faults::Fault;
@@ -73,6 +73,7 @@ fn with_legal_order(
 /// What came of the search, and what tells of it.
 fn told_of(alloc: Global, text: &[u8], steps: u64) -> Result<(Search, Vec<u8>), Fault>
     ensures tells { IfOk result (λ told. TellsSearch text.now told.0 told.1.items) }
+    ensures shows { IfOk result (λ told. ShowsSearch told.0 told.1.items) }
     ensures faults { IfErr result (IsOfOrdered text.now) }
 {
     let mut order = Vec::new(alloc);
@@ -108,12 +109,12 @@ pub fn order_history<R: Read, W: Write>(
     requires input_count { failures input.old < 2 ^ 63 }
     requires output_count { failures output.old < 2 ^ 63 }
 
-    // What was written tells what came of the search in what the reader had; and whatever the reader had, what was written
-    // with an order is a history whose order is legal.
+    // What was written tells what came of the search in what the reader had; and whatever the reader had, it is a history
+    // whose order is legal where one was found, and else the line that tells the answer.
     ensures written { IfOk result (λ search. IfSome (R.remaining (inner_of input.old)) (λ text.
         AppendsSuch (TellsSearch text search) (W.contents (inner_of output.old)) (W.contents (inner_of output.new)))) }
-    ensures legal { result ≡ Ok Search.Found →
-        AppendsSuch (λ bytes. IsVerdict bytes true) (W.contents (inner_of output.old)) (W.contents (inner_of output.new)) }
+    ensures told { IfOk result (λ search.
+        AppendsSuch (ShowsSearch search) (W.contents (inner_of output.old)) (W.contents (inner_of output.new))) }
     ensures all_read { OnOk result (IsAtEnd (R.remaining (inner_of input.new))) }
 
     // What each fault tells.
