@@ -44,7 +44,8 @@ kept_last : (xs : List (List ℕ)) → kept (without_empty_last xs) ≡ kept xs
 kept_last [] = refl
 kept_last ([] ∷ []) = refl
 kept_last ((b ∷ bs) ∷ []) = refl
-kept_last (x ∷ y ∷ more) = elim (is_ignored x) as (λ (b : Bool). cond (not b) (x ∷ kept (without_empty_last (y ∷ more))) (kept (without_empty_last (y ∷ more))) ≡ cond (not b) (x ∷ kept (y ∷ more)) (kept (y ∷ more))) [
+kept_last (x ∷ y ∷ more) = elim (is_ignored x) as (λ (b : Bool). cond (not b) (x ∷ kept (without_empty_last (y ∷ more))) (kept (without_empty_last (y ∷ more)))
+  ≡ cond (not b) (x ∷ kept (y ∷ more)) (kept (y ∷ more))) [
   | true ↦ kept_last (y ∷ more)
   | false ↦ ap (λ ls. x ∷ ls) (kept_last (y ∷ more))
 ]

@@ -1,12 +1,12 @@
 -- States that are alike: what is known of one holds of the other.
-use Rattle.std.proofs.Common.{◌≡◌, ℕ, zero, suc, ◌+◌, ◌<◌, ◌≤◌, ◌⊎◌, inl, inr, Bool, true, false, List, [], ◌∷◌, ◌++◌, length, Option, Some, None, slice_get, IfSome, refl, sym, ap, ◌∙◌, subst, arith, length-append, Decides, ◌==◌, nat_eq, eqb-true, eq-eqb}
+use Rattle.std.proofs.Common.{◌≡◌, ℕ, zero, suc, ◌+◌, ◌<◌, ◌≤◌, ◌⊎◌, inl, inr, Bool, true, false, List, [], ◌∷◌, ◌++◌, length, Option, Some, None, slice_get, IfSome, refl, sym, ap}
+use Rattle.std.proofs.Common.{◌∙◌, subst, arith, length-append, Decides, ◌==◌, nat_eq, eqb-true, eq-eqb}
 use Rattle.std.specs.Global.{Vec}
 use Rattle.std.specs.Option.{option_eq}
 use Rattle.std.specs.Cmp.Lexicographic.{pointwise}
 use Rattle.std.proofs.lemmas.Slice.Eq.{slice_eq-Decides}
 use Rattle.std.proofs.lemmas.Bool.{cases_lt, cases_order}
 use Rattle.std.proofs.lemmas.Option.{same_Some, slice_get_within}
-use Rattle.history.specs.declared.replies.Reply.TheVariants.{NoSlots}
 use Rattle.history.specs.declared.events.Event.{Event}
 use Rattle.history.specs.declared.events.Event.TheVariants.{Begin}
 use Rattle.history.specs.declared.tables.Row.{Row}
@@ -20,10 +20,9 @@ use Rattle.history.specs.Faults.{IsAmong}
 use Rattle.history.proofs.Places.{at_within, at_cases, at_old, at_push}
 use Rattle.order_search.specs.declared.cells.Cell.{Cell}
 use Rattle.order_search.specs.declared.failures.State.{State}
-use Rattle.order_search.specs.declared.failures.Failures.{Failures}
 use Rattle.order_search.specs.Searching.{NoneGoesOn}
-use Rattle.order_search.specs.Cells.{cell_of, access_at, value_at, value_in, DifferIn}
-use Rattle.order_search.specs.Marks.{AreMarked, HasMark, HasNoMark}
+use Rattle.order_search.specs.Cells.{cell_of, access_at, value_at, value_in}
+use Rattle.order_search.specs.Marks.{AreMarked, HasMark}
 use Rattle.order_search.specs.States.{IsListed, AreCells, IsPlain, IsAhead, AreValues, IsState, Fails, IsSameState}
 use Rattle.order_search.proofs.Differing.{call_differs, same_world, same_option, apart_of}
 use Rattle.order_search.proofs.Swapping.{swapped}
@@ -51,7 +50,8 @@ agree_replays hash history cells (id ∷ ids) (x ∷ xs) v w plain each leads =
       values = λ h k off. rest.values h k off ∙ differ.values h k (λ both. off (on.2.0, on.2.1 ∙ ap (λ (c : Cell). Some c) (λ i. record { handle = sym both.0 i; key = sym both.1 i })));
     }
 
-listed_on : (cell : Cell) (cells : List Cell) (h k : ℕ) → (cell.handle ≡ h → cell.key ≡ k → ⊥) → ¬ IsListed cells (record { handle = h; key = k }) → ¬ IsListed (cell ∷ cells) (record { handle = h; key = k })
+listed_on : (cell : Cell) (cells : List Cell) (h k : ℕ) → (cell.handle ≡ h → cell.key ≡ k → ⊥)
+    → ¬ IsListed cells (record { handle = h; key = k }) → ¬ IsListed (cell ∷ cells) (record { handle = h; key = k })
 listed_on cell cells h k apart never (zero, at) =
     let same : cell ≡ record { handle = h; key = k } = same_Some cell (record { handle = h; key = k }) at in
     apart (ap (λ (c : Cell). c.handle) same) (ap (λ (c : Cell). c.key) same)
@@ -117,9 +117,9 @@ pub fails : (hash : ℕ → ℕ) (history : List Event) (table : Table) (cells :
 fails hash history table cells ids taken world state known plain leads marks is none = λ there marks_there w leads_there are_marked is_there more legal.
     let same : w ≡ world = same_plain hash history cells ids there world w state.values.items plain leads leads_there is.values is_there.values in
     none more (swapped hash history ids there more world leads (subst (λ x. LeadsTo hash history there x) same leads_there)
-      (λ id among. same_placed history table hash cells ids there taken marks_there world w state id known leads marks are_marked is is_there among)
-      (λ id among. same_placed history table hash cells there ids marks_there taken w world state id known leads_there are_marked marks is_there is among)
-      legal)
+    (λ id among. same_placed history table hash cells ids there taken marks_there world w state id known leads marks are_marked is is_there among)
+    (λ id among. same_placed history table hash cells there ids marks_there taken w world state id known leads_there are_marked marks is_there is among)
+    legal)
 
 -- a state that is the same as one that is kept
 pub same_is : (cells : List Cell) (taken : List Bool) (world : HandleMap) (a b : State) → IsSameState a b → IsState cells taken world b → IsState cells taken world a

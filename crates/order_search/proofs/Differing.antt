@@ -1,5 +1,6 @@
 -- Worlds by their cells: when two are one, and which cell a call changes.
-use Rattle.std.proofs.Common.{◌≡◌, ◌≢◌, ℕ, ◌<◌, ◌⊎◌, Bool, true, false, cond, eq-eqb, ne_eqb, inl, inr, Option, Some, None, option_and_then, IfSome, if◌then◌else◌, nat_cmp, nat_eq, eqb-true, refl, sym, ap, ◌∙◌, subst, arith}
+use Rattle.std.proofs.Common.{◌≡◌, ◌≢◌, ℕ, ◌<◌, ◌⊎◌, Bool, true, false, cond, eq-eqb, ne_eqb, inl, inr, Option, Some, None, option_and_then, IfSome, if◌then◌else◌, nat_cmp, nat_eq}
+use Rattle.std.proofs.Common.{eqb-true, refl, sym, ap, ◌∙◌, subst, arith}
 use Rattle.std.specs.Cmp.{nat_cmp_total, unsigned_tied}
 use Rattle.std.specs.FinMap as map
 use Rattle.std.specs.Option.{option_eq}

@@ -1,18 +1,15 @@
 -- What comes after some operations may come after others too: the same ones in another order, which lead to the same world.
-use Rattle.std.proofs.Common.{◌≡◌, ◌≢◌, ℕ, zero, suc, ◌+◌, ◌-◌, ◌<◌, ◌≤◌, ◌⊎◌, inl, inr, Bool, true, false, List, [], ◌∷◌, ◌++◌, length, Option, Some, slice_get, refl, sym, ap, ◌∙◌, subst, arith}
+use Rattle.std.proofs.Common.{◌≡◌, ℕ, zero, suc, ◌+◌, ◌-◌, ◌<◌, ◌≤◌, ◌⊎◌, inl, inr, List, [], ◌∷◌, ◌++◌, length, Some, slice_get, refl, sym, ap, ◌∙◌, subst, arith}
 use Rattle.std.proofs.lemmas.Bool.{cases_lt}
 use Rattle.std.proofs.lemmas.Option.{slice_get_within, same_Some}
-use Rattle.history.specs.declared.replies.Reply.{Reply}
-use Rattle.history.specs.declared.replies.Reply.TheVariants.{NoSlots}
 use Rattle.history.specs.declared.events.Event.{Event}
 use Rattle.history.specs.Worlds.{HandleMap, first_world}
-use Rattle.history.specs.Histories.{HasBegun, HasEnded, IsWellFormed}
-use Rattle.history.specs.Orders.{OrderedAt, IsBefore, IsLegal, Answered, RecallsEach, Replays}
+use Rattle.history.specs.Histories.{IsWellFormed}
+use Rattle.history.specs.Orders.{OrderedAt, IsLegal, Answered, RecallsEach, Replays}
 use Rattle.history.specs.Beginnings.{LeadsTo}
 use Rattle.history.specs.Faults.{IsAmong}
 use Rattle.history.proofs.Places.{at_front, at_within}
 use Rattle.history.proofs.OneWorld.{one_world}
-use Rattle.order_search.specs.Searching.{NoneGoesOn}
 
 -- a place in two lists, one behind the other
 at_back : (xs ys : List ℕ) (i y : ℕ) → slice_get ys i ≡ Some y → slice_get (xs ++ ys) (length xs + i) ≡ Some y
@@ -80,7 +77,8 @@ swapped hash history here there more world leads leads_there over back legal =
             | inr back_i ↦ elim (at_parts here more j id at_j) [
               | inl front_j ↦ absurd (apart (i - length here) id back_i.1 (j, front_j.1))
               | inr back_j ↦
-                  let same = legal.1.candidate.distinct (length there + (i - length here)) (length there + (j - length here)) id (shift (i - length here) id back_i.1) (shift (j - length here) id back_j.1) in
+                  let same = legal.1.candidate.distinct (length there + (i - length here)) (length there + (j - length here)) id (shift (i - length here) id back_i.1)
+                  (shift (j - length here) id back_j.1) in
                   omega (arith, same, back_i.0, back_j.0)
             ]
           ];

@@ -1,5 +1,5 @@
 -- The state at this place is the same.
-use Rattle.std.proofs.Common.{◌≡◌, Some, get_or, length, slice_get, sym, ap, ◌∙◌, arith}
+use Rattle.std.proofs.Common.{◌≡◌, Some, get_or, slice_get, sym, ap, ◌∙◌, arith}
 use Rattle.std.proofs.lemmas.Option.{slice_get-get_or}
 use Rattle.order_search.specs.declared.failures.State.{State}
 use Rattle.order_search.proofs.failures.is_among.Goals as goal

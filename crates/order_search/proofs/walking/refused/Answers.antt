@@ -8,7 +8,10 @@ use Rattle.order_search.proofs.Placing.{Noted, noted_first, noted_on, marks_of_n
 use Rattle.order_search.proofs.walking.refused.Goals as goal
 
 pub loop-id-init : goal.loop-id-init
-loop-id-init c = (ap length c.new-taken.ensures.items, subst (λ xs. Noted c.args.events.now c.args.table.now.rows.items xs) (sym c.new-taken.ensures.items) (noted_first c.args.events.now c.args.table.now.rows.items))
+loop-id-init c = (
+  ap length c.new-taken.ensures.items,
+  subst (λ xs. Noted c.args.events.now c.args.table.now.rows.items xs) (sym c.new-taken.ensures.items) (noted_first c.args.events.now c.args.table.now.rows.items),
+)
 
 pub loop-id-preserved : goal.loop-id-preserved
 loop-id-preserved c =

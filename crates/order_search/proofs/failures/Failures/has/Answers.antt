@@ -1,5 +1,5 @@
 -- What is known of the same state holds here.
-use Rattle.std.proofs.Common.{◌≡◌, List, Option, Some, IfSome, slice_get, subst}
+use Rattle.std.proofs.Common.{Option, IfSome, subst}
 use Rattle.std.specs.Global.{Vec}
 use Rattle.ctrie_base.specs.Hashes.{hash_of}
 use Rattle.order_search.specs.declared.cells.Cell.{Cell}

@@ -1,5 +1,5 @@
 -- One state more is kept.
-use Rattle.std.proofs.Common.{◌≡◌, inl, inr, List, Option, Some, IfSome, slice_get, sym, subst}
+use Rattle.std.proofs.Common.{◌≡◌, inl, inr, Option, Some, IfSome, slice_get, sym, subst}
 use Rattle.std.specs.Global.{Vec}
 use Rattle.ctrie_base.specs.Hashes.{hash_of}
 use Rattle.history.proofs.Places.{at_cases}

@@ -20,8 +20,10 @@ returns-clause-back c =
     let befores_were : old.befores.items ≡ befores ++ c.unwrap_or-before.result ∷ [] =
     last_before old.befores.items befores c.pop-2.result (length ids) c.pop-2.ensures.items (λ none. omega (arith, (rw none at c.pop-2.ensures.cases).0)) long
     ∙ ap (λ (b : Option ℕ). befores ++ b ∷ []) (sym c.unwrap_or-before.ensures) in
-    let way : IsWay hash history (ids ++ id ∷ []) old.befores.items old.taken.items old.low old.next old.world = subst (λ xs. IsWay hash history xs old.befores.items old.taken.items old.low old.next old.world) ids_were c.requires.way in
-    let whole : IsWay hash history (ids ++ id ∷ []) (befores ++ c.unwrap_or-before.result ∷ []) old.taken.items old.low old.next old.world = subst (λ xs. IsWay hash history (ids ++ id ∷ []) xs old.taken.items old.low old.next old.world) befores_were way in
+    let way : IsWay hash history (ids ++ id ∷ []) old.befores.items old.taken.items old.low old.next old.world =
+    subst (λ xs. IsWay hash history xs old.befores.items old.taken.items old.low old.next old.world) ids_were c.requires.way in
+    let whole : IsWay hash history (ids ++ id ∷ []) (befores ++ c.unwrap_or-before.result ∷ []) old.taken.items old.low old.next old.world =
+    subst (λ xs. IsWay hash history (ids ++ id ∷ []) xs old.taken.items old.low old.next old.world) befores_were way in
     let none = subst (λ xs. NoneGoesOn hash history xs) ids_were c.requires.none in
     went_back hash history c.args.table.now ids befores id c.unwrap_or-before.result old.taken.items c.set_mark.new.taken.items old.low old.next c.min-self.result c.saturating_add-self.result
     old.world c.take_back.new.world c.requires.known whole none

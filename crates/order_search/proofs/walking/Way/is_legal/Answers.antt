@@ -21,4 +21,5 @@ returns-then-lacks_answered-clause-exact c = (
 )
 
 pub returns-clause-exact : goal.returns-clause-exact
-returns-clause-exact c = subst (λ (xs : List ℕ). IfOk c.is_order.result (λ (legal : Bool). IsTrue legal ↔ IsLegal (hash_of c.args.hash) c.args.events.now xs)) c.as_slice-2.ensures.value c.is_order.ensures.exact
+returns-clause-exact c =
+    subst (λ (xs : List ℕ). IfOk c.is_order.result (λ (legal : Bool). IsTrue legal ↔ IsLegal (hash_of c.args.hash) c.args.events.now xs)) c.as_slice-2.ensures.value c.is_order.ensures.exact

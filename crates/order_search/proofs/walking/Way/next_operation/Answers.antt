@@ -1,5 +1,5 @@
 -- Where none may come next, the way ends there; and where it has no operation left, no order is legal.
-use Rattle.std.proofs.Common.{◌≡◌, ◌<◌, Bool, true, false, List, ℕ, [], length, Option, None, not, ap, sym, subst, ◌∙◌}
+use Rattle.std.proofs.Common.{◌≡◌, ◌<◌, Bool, [], length, not, ap, sym, subst, ◌∙◌}
 use Rattle.ctrie_base.specs.Hashes.{hash_of}
 use Rattle.history.proofs.Places.{option_untested}
 use Rattle.order_search.specs.declared.walking.Way.{Way}
@@ -24,7 +24,8 @@ go_back-requires-clause-none c =
     let way = c.loop-found.self in
     let so_far = c.loop-found.invariant in
     let none = subst (λ o. Chooses o c.args.events.now way.taken.items way.next) (option_untested c.loop-found.found (c.is_none.ensures ∙ ap not c.loop-found-test.true)) so_far.1 in
-    let never = way_exhausted (hash_of c.args.hash) c.args.events.now way.ids.items way.befores.items way.taken.items way.low way.next way.world c.args.table.now c.requires.known so_far.0.0 so_far.0.1 none in
+    let never = way_exhausted (hash_of c.args.hash) c.args.events.now way.ids.items way.befores.items way.taken.items way.low way.next way.world c.args.table.now
+    c.requires.known so_far.0.0 so_far.0.1 none in
     subst (λ (w : Way). NoneGoesOn (hash_of c.args.hash) c.args.events.now w.ids.items) (sym c.in_ok-note_failure.ensures.same) never
 
 pub returns-then-not-branch-clause-tries : goal.returns-then-not-branch-clause-tries

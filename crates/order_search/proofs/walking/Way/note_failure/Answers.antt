@@ -1,5 +1,5 @@
 -- No order goes on from where the way has come.
-use Rattle.std.proofs.Common.{List, Bool, sym, subst}
+use Rattle.std.proofs.Common.{sym, subst}
 use Rattle.order_search.specs.Marks.{AreMarked}
 use Rattle.order_search.proofs.walking.Way.note_failure.Goals as goal
 

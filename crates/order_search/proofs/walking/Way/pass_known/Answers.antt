@@ -1,5 +1,5 @@
 -- No order goes on from where the way has come.
-use Rattle.std.proofs.Common.{List, Bool, length, sym, subst}
+use Rattle.std.proofs.Common.{length, sym, subst}
 use Rattle.ctrie_base.specs.Hashes.{hash_of}
 use Rattle.order_search.specs.Marks.{AreMarked}
 use Rattle.order_search.specs.Walks.{IsWay}

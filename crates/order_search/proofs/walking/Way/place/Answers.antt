@@ -28,7 +28,8 @@ returns-then-branch-clause-places c =
     let P : Bool → Type 0 = λ fits. Carries fits hash row (option_copied c.reply_at-told.result) world c.carry_out.new.world in
     let carries = subst (λ (o : Option Reply). Carries true hash row o world c.carry_out.new.world) told (subst P c.if-branch.true c.in_ok-carry_out.ensures.carries) in
     let pushes = c.in_ok-push.ensures.pushes in
-    let marked = pushes.low (subst (λ xs. (x : ℕ) → x < old.low → HasMark xs x) (sym pushes.taken) (low_kept hash history old.ids.items old.befores.items old.taken.items old.low old.next id world way may.1.0)) in
+    let marked = pushes.low (subst (λ xs. (x : ℕ) → x < old.low → HasMark xs x) (sym pushes.taken)
+    (low_kept hash history old.ids.items old.befores.items old.taken.items old.low old.next id world way may.1.0)) in
     let low = subst (λ xs. (x : ℕ) → x < c.push.new.self.low → HasMark xs x) pushes.taken marked in
     rw (pushes.ids, pushes.befores, pushes.taken, pushes.next, pushes.world)
     (placed hash history c.args.table.now old.ids.items old.befores.items old.taken.items old.low old.next c.push.new.self.low id c.in_ok-before.before world c.carry_out.new.world row
