@@ -4,3 +4,4 @@ pub mod Verdicts
 pub mod Explanations
 pub mod Pictures
 pub mod Orders
+pub mod Beneath
