@@ -71,22 +71,10 @@ pub order_matched : (subcommand : Option (Text × List Row)) (path : Bor Text) (
 order_matched subcommand path (Some n) is others = is
 order_matched subcommand path None is others = ((others (codes "check") refl, others (codes "run") refl, others (codes "threads") refl, others (codes "explain") refl, others (codes "draw") refl), is)
 
--- no subcommand that is known was met
-pub none_matched : (subcommand : Option (Text × List Row)) (name : Text) (rows : List Row) (file steps : Option Text) → option_map (λ s. s.0) subcommand ≡ Some name
-    → option_map (λ s. s.1) subcommand ≡ Some rows → first_of (codes "FILE") rows ≡ file → first_of (codes "STEPS") rows ≡ steps → bytes_eq name (codes "check") ≡ false
-    → bytes_eq name (codes "run") ≡ false → bytes_eq name (codes "threads") ≡ false → bytes_eq name (codes "explain") ≡ false → bytes_eq name (codes "draw") ≡ false
-    → bytes_eq name (codes "order") ≡ false → IsMatched subcommand None
-none_matched subcommand name rows file steps is_name is_rows is_file is_steps check run threads explain draw order =
-    let other = λ (wanted : Text) (differs : bytes_eq name wanted ≡ false).
-    file_met wanted subcommand name rows file is_name is_rows is_file ∙ ap (λ (b : Bool). if b then file else None) differs in (
-      (other (codes "check") check, other (codes "run") run, other (codes "threads") threads, other (codes "explain") explain, other (codes "draw") draw),
-      order_met subcommand name rows file steps is_name is_rows is_file is_steps ∙ ap (λ (b : Bool). if b then both_of file (steps_in steps) else None) order,
-    )
-
--- a choice between the same
-pub chosen_same : (b : Bool) (file : Option Text) → (if b then file else file) ≡ file
-chosen_same true file = refl
-chosen_same false file = refl
+-- a choice between a thing and itself
+pub chosen_same : {A : Type 0} (b : Bool) (a : A) → (if b then a else a) ≡ a
+chosen_same true a = refl
+chosen_same false a = refl
 
 -- a command that fails by nothing takes the words
 pub takes_by_none : (app : App) (words : List Text) → app ≡ program → fault_of app words ≡ [] → takes words ≡ true

@@ -78,7 +78,7 @@ fn matched<'a>(matches: &ArgMatches<'a>) -> Option<Request<'a>>
 
 /// The request for an order of the history in this file, by as many steps as the matches say.
 fn ordering<'a>(found: &ArgMatches<'a>, path: &'a str) -> Option<Request<'a>>
-    ensures { result ≡ option_and_then (λ n. Some (Request.Order path n)) (steps_in (first_value (found_of found.now) (codes "STEPS"))) }
+    ensures { result ≡ option_and_then (λ n. Some (Request.Order path.entry n)) (steps_in (first_value (found_of found.now) (codes "STEPS"))) }
 {
     let word = found.get_str("STEPS")?;
     let steps = number_of(word.as_bytes(), u64::MAX)?;

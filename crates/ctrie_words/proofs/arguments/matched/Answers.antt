@@ -1,5 +1,5 @@
 -- What was found behind the subcommand is what its rows say.
-use Rattle.std.proofs.Common.{◌≡◌, ◌∙◌, None, true, codes, sym, rules}
+use Rattle.std.proofs.Common.{◌≡◌, ◌∙◌, None, true, codes, refl, sym, rules}
 use Rattle.std.specs.Str.{bytes_eq}
 use Rattle.clap.specs.Words.{found_of}
 use Rattle.clap.proofs.WalkLemmas.{first_value-rows}
@@ -17,7 +17,7 @@ returns-in_err-path c =
     let explain = file_met (codes "explain") _ _ _ _ is_name (sym c.in_ok-name.ensures.rows) is_file in
     let draw = file_met (codes "draw") _ _ _ _ is_name (sym c.in_ok-name.ensures.rows) is_file in
     let order = order_met _ _ _ None _ is_name (sym c.in_ok-name.ensures.rows) is_file refl in
-    rw none ((check ∙ chosen_same _ _, run ∙ chosen_same _ _, threads ∙ chosen_same _ _, explain ∙ chosen_same _ _, draw ∙ chosen_same _ _), order ∙ chosen_same _ None)
+    rw none ((check ∙ chosen_same _ _, run ∙ chosen_same _ _, threads ∙ chosen_same _ _, explain ∙ chosen_same _ _, draw ∙ chosen_same _ _), order ∙ chosen_same _ _)
 
 pub returns-then-eq : goal.returns-then-eq
 returns-then-eq c =
