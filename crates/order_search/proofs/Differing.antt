@@ -20,10 +20,10 @@ apart_of a b (inl less) same = omega (arith, less, same)
 apart_of a b (inr more) same = omega (arith, more, same)
 
 module _ {X : Type 0} where
-  at_same : (m : map.FinMap nat_cmp X) (k : ℕ) (x : X) → map.get (map.insert m k x) k ≡ Some x
+  pub at_same : (m : map.FinMap nat_cmp X) (k : ℕ) (x : X) → map.get (map.insert m k x) k ≡ Some x
   at_same m k x = get-insert nat_cmp_total m k x k ∙ ap (λ b. cond b (Some x) (map.get m k)) (unsigned_tied k k ∙ eq-eqb k k refl)
 
-  at_other : (m : map.FinMap nat_cmp X) (k : ℕ) (x : X) (q : ℕ) → q ≢ k → map.get (map.insert m k x) q ≡ map.get m q
+  pub at_other : (m : map.FinMap nat_cmp X) (k : ℕ) (x : X) (q : ℕ) → q ≢ k → map.get (map.insert m k x) q ≡ map.get m q
   at_other m k x q apart = get-insert nat_cmp_total m k x q ∙ ap (λ b. cond b (Some x) (map.get m q)) (unsigned_tied q k ∙ ne_eqb q k apart)
 
   gone_other : (m : map.FinMap nat_cmp X) (k q : ℕ) → q ≢ k → map.get (map.remove m k) q ≡ map.get m q
@@ -127,11 +127,11 @@ kept_if true m n k same = same
 kept_if false m n k same = refl
 
 -- a call that only reads leaves the world
-reads : (v w : HandleMap) (answer : Reply) (told : KeyMap → Reply) (o : Option KeyMap) → option_and_then {U = Reply × HandleMap} (λ m. Some (told m, v)) o ≡ Some (answer, w) → w ≡ v
+pub reads : (v w : HandleMap) (answer : Reply) (told : KeyMap → Reply) (o : Option KeyMap) → option_and_then {U = Reply × HandleMap} (λ m. Some (told m, v)) o ≡ Some (answer, w) → w ≡ v
 reads v w answer told None leads = let wrong : ⊥ = cc leads in absurd wrong
 reads v w answer told (Some m) leads = let same = some_pair_parts (told m) answer v w leads in sym same.1
 
-abbrev cell_at : ℕ → ℕ → Cell
+abbrev pub cell_at : ℕ → ℕ → Cell
 cell_at h k = record { handle = h; key = k }
 
 differs_at : (hash : ℕ → ℕ) (call : Call) (opens : Option ℕ) (v w : HandleMap) (answer : Reply) → effect hash v call opens ≡ Some (answer, w)
