@@ -1,17 +1,17 @@
 -- What a world may have, by the handles and the keys of the operations that lead to it.
-use Rattle.std.proofs.Common.{◌≡◌, ℕ, ◌<◌, ◌⊎◌, inl, inr, Bool, true, false, cond, List, [], ◌∷◌, Option, Some, None, option_and_then, IfSome, if◌then◌else◌, nat_cmp, refl, sym, ap, ◌∙◌, subst}
+use Rattle.std.proofs.Common.{◌≡◌, ℕ, inl, inr, Bool, true, false, cond, List, [], ◌∷◌, Option, Some, None, option_and_then, IfSome, if◌then◌else◌, nat_cmp, refl, sym, ap, ◌∙◌, subst}
 use Rattle.std.specs.Cmp.{nat_cmp_total}
 use Rattle.std.specs.FinMap as map
 use Rattle.std.specs.FinMap.{get-empty, get-remove}
 use Rattle.std.proofs.lemmas.Bool.{cases_order}
 use Rattle.std.proofs.lemmas.Option.{none-some, same_Some, some_pair_parts}
 use Rattle.order_search.specs.Vocabulary.{Access, Writable, ReadOnly, Call, Get, Put, PutIfAbsent, Replace, ReplaceIf, Remove, RemoveIf, Clear, Snapshot, Freeze, Close, Entries, Count, Reply}
-use Rattle.order_search.specs.Vocabulary.{Event, KeyMap, HandleState, HandleMap, first_world, effect, map_of, with_access, changing, naming, Answered, RecallsEach, Replays}
+use Rattle.order_search.specs.Vocabulary.{Event, KeyMap, HandleState, HandleMap, first_world, effect, map_of, with_access, naming, Answered, RecallsEach, Replays}
 use Rattle.history.specs.declared.replies.Reply.TheVariants as reply
-use Rattle.history.specs.Effects.{copying, read_only_map_of}
+use Rattle.history.specs.Effects.{read_only_map_of}
 use Rattle.history.specs.Histories.{Operation}
 use Rattle.order_search.specs.declared.cells.Cell.{Cell}
-use Rattle.order_search.specs.Cells.{cell_of, access_at, value_at, DifferIn}
+use Rattle.order_search.specs.Cells.{cell_of, value_at, DifferIn}
 use Rattle.order_search.specs.States.{IsListed, IsOver}
 use Rattle.order_search.proofs.Differing.{apart_of, at_same, at_other, call_differs, cell_at, reads}
 

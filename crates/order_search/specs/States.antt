@@ -2,7 +2,6 @@
 use Rattle.std.specs.Prelude.{◌≡◌, ℕ, ◌<◌, ◌≤◌, Bool, List, length, Option, Some, slice_get, IfSome}
 use Rattle.order_search.specs.Vocabulary.{Access, Event, Row, HandleMap, BeginsAt, LeadsTo}
 use Rattle.history.specs.Histories.{Operation}
-use Rattle.order_search.specs.declared.cells.Cell.{Cell}
 use Rattle.order_search.specs.declared.failures.Named.{Named}
 use Rattle.order_search.specs.declared.failures.State.{State}
 use Rattle.order_search.specs.declared.failures.Failures.{Failures}

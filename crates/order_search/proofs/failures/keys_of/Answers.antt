@@ -25,7 +25,7 @@ loop-id-preserved c =
       | in_default w ↦ λ x listed. subst (λ xs. IsListed xs x) (sym (ap (λ (v : Vec ℕ). v.items) w.keys-is)) listed
     ] in
     let on : (o : Option Cell) → c.cell_of.result ≡ o → IfSome o (λ cell. IsListed now cell.key) → IsOn now row =
-      λ o is listed. subst (λ (p : Option Cell). IfSome p (λ cell. IsListed now cell.key)) (sym is ∙ c.cell_of.ensures) listed in
+    λ o is listed. subst (λ (p : Option Cell). IfSome p (λ cell. IsListed now cell.key)) (sym is ∙ c.cell_of.ensures) listed in
     let has : IsOn now row = elim c.match-cell_of.branch [
       | in-Some+then-not-is_key+in_ok-push w ↦
           let items : now ≡ before ++ w.in-Some.cell.key ∷ [] = ap (λ (v : Vec ℕ). v.items) w.keys-is ∙ w.in_ok-push.ensures.items in

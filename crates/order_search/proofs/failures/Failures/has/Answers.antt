@@ -1,6 +1,5 @@
 -- What is known of the same state holds here.
 use Rattle.std.proofs.Common.{subst}
-use Rattle.order_search.specs.Vocabulary.{hash_of}
 use Rattle.order_search.specs.declared.failures.State.{State}
 use Rattle.order_search.specs.States.{IsSameAsOne, IsState}
 use Rattle.order_search.proofs.Alike.{same_is}
