@@ -11,9 +11,9 @@ use Rattle.order_search.specs.Vocabulary.{Access, Writable, ReadOnly, Call, Get,
 use Rattle.order_search.specs.Vocabulary.{KeyMap, HandleState, HandleMap, effect, answer_in, map_of, with_access, changing, naming, put_if_absent_in, replace_in, replace_if_in, remove_in}
 use Rattle.order_search.specs.Vocabulary.{remove_if_in, is_crowded, has_value}
 use Rattle.history.specs.declared.replies.Reply.TheVariants as reply
-use Rattle.history.specs.Effects.{put_in}
+use Rattle.history.specs.Effects.{put_in, read_only_map_of}
 use Rattle.order_search.specs.declared.cells.Cell.{Cell}
-use Rattle.order_search.specs.Cells.{cell_of, access_at, value_at, value_in, DifferIn}
+use Rattle.order_search.specs.Cells.{cell_of, access_at, value_at, value_in, DifferIn, reads_only}
 
 pub apart_of : (a b : ℕ) → (a < b) ⊎ (b < a) → a ≢ b
 apart_of a b (inl less) same = omega (arith, less, same)
@@ -171,3 +171,27 @@ pub answer_differs : (hash : ℕ → ℕ) (call : Call) (opens : Option ℕ) (ce
     → (told, w) ≡ answer_in v (effect hash v call opens) → DifferIn cell v w
 answer_differs hash call opens cell v w told is answers =
     answered_differs cell v w told (effect hash v call opens) (λ answer next leads. call_differs hash call opens cell v next answer is leads) answers
+
+-- a call that only reads leaves the world
+pub reads_same : (hash : ℕ → ℕ) (call : Call) (opens : Option ℕ) (v w : HandleMap) (answer : Reply) → reads_only call ≡ true → effect hash v call opens ≡ Some (answer, w) → w ≡ v
+reads_same hash (Get h k) opens v w answer only leads = reads v w answer (λ m. reply.Found (map.get m k)) (map_of v h) leads
+reads_same hash (Entries h) opens v w answer only leads = reads v w answer (λ m. reply.Pairs (map.entries m)) (read_only_map_of v h) leads
+reads_same hash (Count h) opens v w answer only leads = reads v w answer (λ m. reply.Count (map.len m)) (read_only_map_of v h) leads
+reads_same hash (Put h k x) opens v w answer only leads = absurd (false≢true only)
+reads_same hash (PutIfAbsent h k x) opens v w answer only leads = absurd (false≢true only)
+reads_same hash (Replace h k x) opens v w answer only leads = absurd (false≢true only)
+reads_same hash (ReplaceIf h k a b) opens v w answer only leads = absurd (false≢true only)
+reads_same hash (Remove h k) opens v w answer only leads = absurd (false≢true only)
+reads_same hash (RemoveIf h k x) opens v w answer only leads = absurd (false≢true only)
+reads_same hash (Clear h) opens v w answer only leads = absurd (false≢true only)
+reads_same hash (Snapshot h) opens v w answer only leads = absurd (false≢true only)
+reads_same hash (Freeze h) opens v w answer only leads = absurd (false≢true only)
+reads_same hash (Close h) opens v w answer only leads = absurd (false≢true only)
+
+answered_same : (v w : HandleMap) (told : Option Reply) (e : Option (Reply × HandleMap)) → ((answer : Reply) (next : HandleMap) → e ≡ Some (answer, next) → next ≡ v) → (told, w) ≡ answer_in v e → w ≡ v
+answered_same v w told None same is = ap (λ (p : Option Reply × HandleMap). p.1) is
+answered_same v w told (Some e) same is = ap (λ (p : Option Reply × HandleMap). p.1) is ∙ same e.0 e.1 refl
+
+-- the same, whether it has an effect or not
+pub answer_same : (hash : ℕ → ℕ) (call : Call) (opens : Option ℕ) (v w : HandleMap) (told : Option Reply) → reads_only call ≡ true → (told, w) ≡ answer_in v (effect hash v call opens) → w ≡ v
+answer_same hash call opens v w told only answers = answered_same v w told (effect hash v call opens) (λ answer next leads. reads_same hash call opens v next answer only leads) answers
