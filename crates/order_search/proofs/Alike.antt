@@ -1,81 +1,71 @@
 -- States that are alike: what is known of one holds of the other.
-use Rattle.std.proofs.Common.{◌≡◌, ℕ, zero, suc, ◌+◌, ◌<◌, ◌≤◌, ◌⊎◌, inl, inr, Bool, true, false, List, [], ◌∷◌, ◌++◌, length, Option, Some, None, slice_get, IfSome, refl, sym, ap}
+use Rattle.std.proofs.Common.{◌≡◌, ℕ, ◌+◌, ◌<◌, ◌≤◌, inl, inr, Bool, true, false, List, [], ◌∷◌, ◌++◌, length, Option, Some, None, option_and_then, slice_get, IfSome, refl, sym, ap}
 use Rattle.std.proofs.Common.{◌∙◌, subst, arith, length-append, Decides, ◌==◌, nat_eq, eqb-true, eq-eqb}
-use Rattle.std.specs.Global.{Vec}
+use Rattle.std.specs.FinMap as map
 use Rattle.std.specs.Option.{option_eq}
 use Rattle.std.specs.Cmp.Lexicographic.{pointwise}
 use Rattle.std.proofs.lemmas.Slice.Eq.{slice_eq-Decides}
-use Rattle.std.proofs.lemmas.Bool.{cases_lt, cases_order}
-use Rattle.std.proofs.lemmas.Option.{same_Some, slice_get_within}
-use Rattle.order_search.specs.Vocabulary.{Event, Row, Table, HandleMap, first_world, BeginsAt, Records, Answered, RecallsEach, Replays, LeadsTo, IsAmong}
+use Rattle.std.proofs.lemmas.Bool.{cases_lt}
+use Rattle.std.proofs.lemmas.Option.{none-some, same_Some, slice_get_within}
+use Rattle.order_search.specs.Vocabulary.{Access, Call, Event, Row, Table, HandleMap, HandleState, first_world, BeginsAt, Records, LeadsTo, IsAmong}
 use Rattle.history.specs.declared.events.Event.TheVariants.{Begin}
 use Rattle.history.specs.Histories.{Operation}
 use Rattle.history.specs.Tables.{operation_of}
 use Rattle.history.proofs.Places.{at_within, at_cases, at_old, at_push}
-use Rattle.order_search.specs.declared.cells.Cell.{Cell}
+use Rattle.order_search.specs.declared.failures.Named.{Named}
 use Rattle.order_search.specs.declared.failures.State.{State}
 use Rattle.order_search.specs.Searching.{NoneGoesOn}
-use Rattle.order_search.specs.Cells.{cell_of, access_at, value_at, value_in}
+use Rattle.order_search.specs.Cells.{cell_of, access_at, value_at}
 use Rattle.order_search.specs.Marks.{AreMarked, HasMark}
-use Rattle.order_search.specs.States.{IsListed, AreCells, IsPlain, IsAhead, AreValues, IsState, Fails, IsSameState}
-use Rattle.order_search.proofs.Differing.{call_differs, same_world, same_option, apart_of}
+use Rattle.order_search.specs.States.{IsListed, AreHandles, AreKeys, IsOver, IsAhead, AreValues, IsNamed, AreNamed, IsState, Fails, IsSameMap, AreSameMaps, IsSameState}
+use Rattle.order_search.proofs.Differing.{same_world, same_option}
+use Rattle.order_search.proofs.Reached.{Within, of_access, of_value, within_first, within_replays}
 use Rattle.order_search.proofs.Swapping.{swapped}
 
--- ---- worlds of calls on these cells
+-- ---- worlds
 
--- the worlds have the same outside these cells
-record AgreeOff (cells : List Cell) (v w : HandleMap) : Type 0 where
-  handles : (h : ℕ) → access_at w h ≡ access_at v h
-  values : (h k : ℕ) → ¬ IsListed cells (record { handle = h; key = k }) → value_at w h k ≡ value_at v h k
+-- a handle that is there in one world is in another that is named so
+same_access : (handles keys : List ℕ) (v w : HandleMap) (maps : List Named) → Within handles keys v → AreNamed handles keys v maps → AreNamed handles keys w maps → (h : ℕ) (a : Access)
+    → access_at v h ≡ Some a → access_at w h ≡ Some a
+same_access handles keys v w maps within in_v in_w h a at =
+    let state = of_access (map.get v h) a at in
+    let listed = within.handle h state.0 state.1 in
+    let named = in_v.all listed.0 h a listed.1 at in
+    let of_v = (in_v.each named.0 named.1 named.2).0 in
+    let of_w = (in_w.each named.0 named.1 named.2).0 in
+    subst (λ x. access_at w x ≡ Some a) named.3 (of_w ∙ sym of_v ∙ subst (λ x. access_at v x ≡ Some a) (sym named.3) at)
 
-agree_replays : (hash : ℕ → ℕ) (history : List Event) (cells : List Cell) (ids : List ℕ) (calls : List Answered) (v w : HandleMap) → IsPlain history cells → RecallsEach history ids calls
-    → Replays hash calls v w → AgreeOff cells v w
-agree_replays hash history cells [] [] v w plain each leads = record { handles = λ h. ap (λ x. access_at x h) leads; values = λ h k off. ap (λ x. value_at x h k) leads }
-agree_replays hash history cells [] (x ∷ xs) v w plain each leads = absurd each
-agree_replays hash history cells (id ∷ ids) [] v w plain each leads = absurd each
-agree_replays hash history cells (id ∷ ids) (x ∷ xs) v w plain each leads =
-    let operation : Operation = each.0.0.1 in
-    let on = plain id each.0.0.0 operation each.0.0.2 in
-    let is : cell_of x.call ≡ Some on.0 = ap cell_of (sym each.0.0.3) ∙ on.1 in
-    let differ = call_differs hash x.call x.opens on.0 v leads.0 x.answer is leads.1 in
-    let rest = agree_replays hash history cells ids xs leads.0 w plain each.1 leads.2 in
-    record {
-      handles = λ h. rest.handles h ∙ differ.handles h;
-      values = λ h k off. rest.values h k off ∙ differ.values h k (λ both. off (on.2.0, on.2.1 ∙ ap (λ (c : Cell). Some c) (λ i. record { handle = sym both.0 i; key = sym both.1 i })));
-    }
+same_value : (handles keys : List ℕ) (v w : HandleMap) (maps : List Named) → Within handles keys v → AreNamed handles keys v maps → AreNamed handles keys w maps → (h k x : ℕ)
+    → value_at v h k ≡ Some x → value_at w h k ≡ Some x
+same_value handles keys v w maps within in_v in_w h k x at =
+    let state = of_value (map.get v h) k x at in
+    let there : access_at v h ≡ Some (state.0).access = ap (λ (o : Option HandleState). option_and_then (λ s. Some s.access) o) state.1 in
+    let listed = within.handle h state.0 state.1 in
+    let key = within.key h k x state.0 state.1 state.2 in
+    let named = in_v.all listed.0 h (state.0).access listed.1 there in
+    let of_v = (in_v.each named.0 named.1 named.2).1 key.0 k key.1 in
+    let of_w = (in_w.each named.0 named.1 named.2).1 key.0 k key.1 in
+    let same : value_at w (named.1).handle k ≡ value_at v (named.1).handle k = same_Some (value_at w (named.1).handle k) (value_at v (named.1).handle k) (sym of_w ∙ of_v) in
+    subst (λ q. value_at w q k ≡ Some x) named.3 (same ∙ subst (λ q. value_at v q k ≡ Some x) (sym named.3) at)
 
-listed_on : (cell : Cell) (cells : List Cell) (h k : ℕ) → (cell.handle ≡ h → cell.key ≡ k → ⊥)
-    → ¬ IsListed cells (record { handle = h; key = k }) → ¬ IsListed (cell ∷ cells) (record { handle = h; key = k })
-listed_on cell cells h k apart never (zero, at) =
-    let same : cell ≡ record { handle = h; key = k } = same_Some cell (record { handle = h; key = k }) at in
-    apart (ap (λ (c : Cell). c.handle) same) (ap (λ (c : Cell). c.key) same)
-listed_on cell cells h k apart never (suc i, at) = never (i, at)
+one_of_both : {X : Type 0} (o p : Option X) → ((x : X) → o ≡ Some x → p ≡ Some x) → ((x : X) → p ≡ Some x → o ≡ Some x) → o ≡ p
+one_of_both None None there back = refl
+one_of_both None (Some x) there back = back x refl
+one_of_both (Some x) p there back = sym (there x refl)
 
-listed : (cells : List Cell) (h k : ℕ) → IsListed cells (record { handle = h; key = k }) ⊎ ¬ IsListed cells (record { handle = h; key = k })
-listed [] h k = inr (λ at. let wrong : ⊥ = cc at.1 in wrong)
-listed (cell ∷ cells) h k = elim (listed cells h k) [
-  | inl at ↦ inl (suc at.0, at.1)
-  | inr never ↦ elim (cases_order cell.handle h) [
-    | inl same_handle ↦ elim (cases_order cell.key k) [
-      | inl same_key ↦ inl (zero, ap (λ (c : Cell). Some c) (λ i. record { handle = same_handle i; key = same_key i }))
-      | inr other ↦ inr (listed_on cell cells h k (λ a b. apart_of cell.key k other b) never)
-    ]
-    | inr other ↦ inr (listed_on cell cells h k (λ a b. apart_of cell.handle h other a) never)
-  ]
-]
+within_led : (hash : ℕ → ℕ) (history : List Event) (handles keys ids : List ℕ) (world : HandleMap) → IsOver history handles keys → LeadsTo hash history ids world → Within handles keys world
+within_led hash history handles keys ids world over leads =
+    within_replays hash history handles keys ids leads.replayed.0 first_world world over leads.replayed.1 leads.replayed.2 (within_first history handles keys over)
 
--- worlds to which such calls lead, and that have the same values, are one
-same_plain : (hash : ℕ → ℕ) (history : List Event) (cells : List Cell) (here there : List ℕ) (v w : HandleMap) (values : List (Option ℕ)) → IsPlain history cells → LeadsTo hash history here v
-    → LeadsTo hash history there w → AreValues cells v values → AreValues cells w values → w ≡ v
-same_plain hash history cells here there v w values plain leads_v leads_w in_v in_w =
-    let of_v = agree_replays hash history cells here leads_v.replayed.0 first_world v plain leads_v.replayed.1 leads_v.replayed.2 in
-    let of_w = agree_replays hash history cells there leads_w.replayed.0 first_world w plain leads_w.replayed.1 leads_w.replayed.2 in
-    same_world v w (λ h. of_w.handles h ∙ sym (of_v.handles h)) (λ h k. elim (listed cells h k) [
-      | inl at ↦
-          let cell : Cell = record { handle = h; key = k } in
-          same_Some (value_in w cell) (value_in v cell) (sym (in_w at.0 cell at.1) ∙ in_v at.0 cell at.1)
-      | inr off ↦ of_w.values h k off ∙ sym (of_v.values h k off)
-    ])
+-- worlds to which the history's operations lead, and in which the same is named, are one
+same_named : (hash : ℕ → ℕ) (history : List Event) (handles keys here there : List ℕ) (v w : HandleMap) (maps : List Named) → IsOver history handles keys → LeadsTo hash history here v
+    → LeadsTo hash history there w → AreNamed handles keys v maps → AreNamed handles keys w maps → w ≡ v
+same_named hash history handles keys here there v w maps over leads_v leads_w in_v in_w =
+    let of_v = within_led hash history handles keys here v over leads_v in
+    let of_w = within_led hash history handles keys there w over leads_w in
+    same_world v w
+    (λ h. one_of_both (access_at w h) (access_at v h) (same_access handles keys w v maps of_w in_w in_v h) (same_access handles keys v w maps of_v in_v in_w h))
+    (λ h k. one_of_both (value_at w h k) (value_at v h k) (same_value handles keys w v maps of_w in_w in_v h k) (same_value handles keys v w maps of_v in_v in_w h k))
 
 -- ---- marks
 
@@ -88,17 +78,17 @@ marked_of history table hash ids taken world id known leads marks among =
     let mark = at_within taken id (omega arith) in
     elim mark.0 as (λ b. slice_get taken id ≡ Some b → HasMark taken id) [ true ↦ λ at. at | false ↦ λ at. absurd ((marks.unmarked id at).0 among) ] mark.1
 
-same_marks : (cells : List Cell) (a b : List Bool) (v w : HandleMap) (state : State) (id : ℕ) → IsState cells a v state → IsState cells b w state → HasMark a id → HasMark b id
-same_marks cells a b v w state id is_a is_b mark = elim (cases_lt id state.low) [
+same_marks : (handles keys : List ℕ) (a b : List Bool) (v w : HandleMap) (state : State) (id : ℕ) → IsState handles keys a v state → IsState handles keys b w state → HasMark a id → HasMark b id
+same_marks handles keys a b v w state id is_a is_b mark = elim (cases_lt id state.low) [
   | inl below ↦ is_b.low id below
   | inr above ↦ let at = is_a.ahead.1 id above mark in is_b.ahead.0 at.0 id at.1
 ]
 
 -- one that is placed in one of two such states is placed in the other
-same_placed : (history : List Event) (table : Table) (hash : ℕ → ℕ) (cells : List Cell) (here there : List ℕ) (a b : List Bool) (v w : HandleMap) (state : State) (id : ℕ) → Records history table
-    → LeadsTo hash history here v → AreMarked history here a → AreMarked history there b → IsState cells a v state → IsState cells b w state → IsAmong here id → IsAmong there id
-same_placed history table hash cells here there a b v w state id known leads marks_a marks_b is_a is_b among =
-    elim (marks_b.marked id (same_marks cells a b v w state id is_a is_b (marked_of history table hash here a v id known leads marks_a among))) [
+same_placed : (history : List Event) (table : Table) (hash : ℕ → ℕ) (handles keys here there : List ℕ) (a b : List Bool) (v w : HandleMap) (state : State) (id : ℕ) → Records history table
+    → LeadsTo hash history here v → AreMarked history here a → AreMarked history there b → IsState handles keys a v state → IsState handles keys b w state → IsAmong here id → IsAmong there id
+same_placed history table hash handles keys here there a b v w state id known leads marks_a marks_b is_a is_b among =
+    elim (marks_b.marked id (same_marks handles keys a b v w state id is_a is_b (marked_of history table hash here a v id known leads marks_a among))) [
       | inl there ↦ there
       | inr refused ↦ absurd (leads.not_refused among.0 id among.1 refused)
     ]
@@ -106,33 +96,71 @@ same_placed history table hash cells here there a b v w state id known leads mar
 -- ---- failures
 
 -- a state from which no order goes on
-pub fails : (hash : ℕ → ℕ) (history : List Event) (table : Table) (cells : List Cell) (ids : List ℕ) (taken : List Bool) (world : HandleMap) (state : State) → Records history table
-    → IsPlain history cells → LeadsTo hash history ids world → AreMarked history ids taken → IsState cells taken world state → NoneGoesOn hash history ids → Fails hash history cells state
-fails hash history table cells ids taken world state known plain leads marks is none = λ there marks_there w leads_there are_marked is_there more legal.
-    let same : w ≡ world = same_plain hash history cells ids there world w state.values.items plain leads leads_there is.values is_there.values in
+pub fails : (hash : ℕ → ℕ) (history : List Event) (table : Table) (handles keys ids : List ℕ) (taken : List Bool) (world : HandleMap) (state : State) → Records history table
+    → IsOver history handles keys → LeadsTo hash history ids world → AreMarked history ids taken → IsState handles keys taken world state → NoneGoesOn hash history ids
+    → Fails hash history handles keys state
+fails hash history table handles keys ids taken world state known over leads marks is none = λ there marks_there w leads_there are_marked is_there more legal.
+    let same : w ≡ world = same_named hash history handles keys ids there world w state.maps.items over leads leads_there is.maps is_there.maps in
     none more (swapped hash history ids there more world leads (subst (λ x. LeadsTo hash history there x) same leads_there)
-    (λ id among. same_placed history table hash cells ids there taken marks_there world w state id known leads marks are_marked is is_there among)
-    (λ id among. same_placed history table hash cells there ids marks_there taken w world state id known leads_there are_marked marks is_there is among)
+    (λ id among. same_placed history table hash handles keys ids there taken marks_there world w state id known leads marks are_marked is is_there among)
+    (λ id among. same_placed history table hash handles keys there ids marks_there taken w world state id known leads_there are_marked marks is_there is among)
     legal)
 
--- a state that is the same as one that is kept
-pub same_is : (cells : List Cell) (taken : List Bool) (world : HandleMap) (a b : State) → IsSameState a b → IsState cells taken world b → IsState cells taken world a
-same_is cells taken world a b same is = record {
-  low = λ id lt. is.low id (subst (λ n. id < n) same.low lt);
-  ahead = subst (λ n. IsAhead n taken a.ahead.items) (sym same.low) (subst (λ xs. IsAhead b.low taken xs) (sym same.ahead) is.ahead);
-  values = subst (λ xs. AreValues cells world xs) (sym same.values) is.values;
+same_named_is : (keys : List ℕ) (world : HandleMap) (a b : Named) → IsSameMap a b → IsNamed keys world b → IsNamed keys world a
+same_named_is keys world a b same is =
+    let there : access_at world a.handle ≡ Some b.access = subst (λ h. access_at world h ≡ Some b.access) (sym same.handle) is.0 in
+    let values : AreValues keys world a.handle b.values.items = subst (λ h. AreValues keys world h b.values.items) (sym same.handle) is.1 in
+    (there ∙ ap (λ (x : Access). Some x) (sym same.access), subst (λ xs. AreValues keys world a.handle xs) (sym same.values) values)
+
+same_maps_are : (handles keys : List ℕ) (world : HandleMap) (a b : List Named) → AreSameMaps a b → AreNamed handles keys world b → AreNamed handles keys world a
+same_maps_are handles keys world a b same are = record {
+  each = λ i named at.
+      let size = same.size in
+      let within = slice_get_within a i named at in
+      let other = at_within b i (omega (arith, size, within)) in
+      same_named_is keys world named other.0 (same.each i named other.0 at other.1) (are.each i other.0 other.1);
+  all = λ i h access at there.
+      let named = are.all i h access at there in
+      let size = same.size in
+      let within = slice_get_within b named.0 named.1 named.2 in
+      let own = at_within a named.0 (omega (arith, size, within)) in
+      (named.0, own.0, own.1, (same.each named.0 own.0 named.1 own.1 named.2).handle ∙ named.3);
 }
 
--- the calls of a table are those of its history
-pub plain_of : (history : List Event) (table : Table) (cells : List Cell) → Records history table → AreCells table.rows.items cells → IsPlain history cells
-plain_of history table cells known are id place operation begins =
-    let row = at_within table.rows.items id (known.has_row id (place, operation, begins)) in
-    let is = known.row_of id row.0 row.1 in
-    let on = are id row.0 row.1 in
-    let there : BeginsAt history place id (operation_of row.0) = subst (λ p. BeginsAt history p id (operation_of row.0)) (sym (is.begins_once place operation begins)) is.begins in
-    let events : Begin id operation.actor operation.call operation.opens ≡ Begin id (row.0).actor (row.0).call (row.0).opens = cc (begins, there) in
-    let calls : operation.call ≡ (row.0).call = cc events in
-    (on.0, ap cell_of calls ∙ on.1, on.2)
+-- a state that is the same as one that is kept
+pub same_is : (handles keys : List ℕ) (taken : List Bool) (world : HandleMap) (a b : State) → IsSameState a b → IsState handles keys taken world b → IsState handles keys taken world a
+same_is handles keys taken world a b same is = record {
+  low = λ id lt. is.low id (subst (λ n. id < n) same.low lt);
+  ahead = subst (λ n. IsAhead n taken a.ahead.items) (sym same.low) (subst (λ xs. IsAhead b.low taken xs) (sym same.ahead) is.ahead);
+  maps = same_maps_are handles keys world a.maps.items b.maps.items same.maps is.maps;
+}
+
+-- what a row says of its operation
+begun_so : (history : List Event) (table : Table) (id place : ℕ) (operation : Operation) (row : Row) → Records history table → BeginsAt history place id operation
+    → slice_get table.rows.items id ≡ Some row → operation_of row ≡ operation
+begun_so history table id place operation row known begins at =
+    let is = known.row_of id row at in
+    let there : BeginsAt history place id (operation_of row) = subst (λ p. BeginsAt history p id (operation_of row)) (sym (is.begins_once place operation begins)) is.begins in
+    let events : Begin id row.actor row.call row.opens ≡ Begin id operation.actor operation.call operation.opens = cc (begins, there) in
+    let actors : row.actor ≡ operation.actor = cc events in
+    let calls : row.call ≡ operation.call = cc events in
+    let handles : row.opens ≡ operation.opens = cc events in
+    λ i. record { actor = actors i; call = calls i; opens = handles i }
+
+-- the operations of a table are those of its history
+pub over_of : (history : List Event) (table : Table) (handles keys : List ℕ) → Records history table → IsListed handles 0 → AreHandles table.rows.items handles → AreKeys table.rows.items keys
+    → IsOver history handles keys
+over_of history table handles keys known first opened on = record {
+  first = first;
+  opened = λ id place operation begins.
+      let row = at_within table.rows.items id (known.has_row id (place, operation, begins)) in
+      let same = begun_so history table id place operation row.0 known begins row.1 in
+      subst (λ (o : Option ℕ). IfSome o (λ n. IsListed handles n)) (ap (λ (op : Operation). op.opens) same) (opened id row.0 row.1);
+  on = λ id place operation begins.
+      let row = at_within table.rows.items id (known.has_row id (place, operation, begins)) in
+      let same = begun_so history table id place operation row.0 known begins row.1 in
+      subst (λ (c : Call). IfSome (cell_of c) (λ cell. IsListed keys cell.key)) (ap (λ (op : Operation). op.call) same) (on id row.0 row.1);
+}
 
 -- ---- what loops have gathered
 
@@ -172,61 +200,134 @@ gathered_all low taken id ahead so_far all = (
       so_far.all other le (omega (arith, within, all)) marked,
 )
 
--- what the first cells have
-pub record Read (cells : List Cell) (world : HandleMap) (n : ℕ) (values : List (Option ℕ)) : Type 0 where
+-- what a handle's map has for the first keys
+pub record Read (keys : List ℕ) (world : HandleMap) (h n : ℕ) (values : List (Option ℕ)) : Type 0 where
   pub size : length values ≡ n
-  pub each : (i : ℕ) (cell : Cell) → i < n → slice_get cells i ≡ Some cell → slice_get values i ≡ Some (value_in world cell)
+  pub each : (i k : ℕ) → i < n → slice_get keys i ≡ Some k → slice_get values i ≡ Some (value_at world h k)
 
-pub read_first : (cells : List Cell) (world : HandleMap) → Read cells world 0 []
-read_first cells world = record { size = refl; each = λ i cell lt. absurd (omega (arith, lt)) }
+pub read_first : (keys : List ℕ) (world : HandleMap) (h : ℕ) → Read keys world h 0 []
+read_first keys world h = record { size = refl; each = λ i k lt. absurd (omega (arith, lt)) }
 
-pub read_on : (cells : List Cell) (world : HandleMap) (n : ℕ) (values : List (Option ℕ)) (cell : Cell) → Read cells world n values → slice_get cells n ≡ Some cell
-    → Read cells world (n + 1) (values ++ value_in world cell ∷ [])
-read_on cells world n values cell so_far at = record {
-  size = length-append values (value_in world cell ∷ []) ∙ ap (λ m. m + 1) so_far.size;
+pub read_on : (keys : List ℕ) (world : HandleMap) (h n : ℕ) (values : List (Option ℕ)) (key : ℕ) → Read keys world h n values → slice_get keys n ≡ Some key
+    → Read keys world h (n + 1) (values ++ value_at world h key ∷ [])
+read_on keys world h n values key so_far at = record {
+  size = length-append values (value_at world h key ∷ []) ∙ ap (λ m. m + 1) so_far.size;
   each = λ i other lt at_i. elim (cases_lt i n) [
-    | inl before ↦ at_old values (value_in world cell) i (value_in world other) (so_far.each i other before at_i)
+    | inl before ↦ at_old values (value_at world h key) i (value_at world h other) (so_far.each i other before at_i)
     | inr here ↦
         let same : i ≡ n = omega (arith, lt, here) in
-        let cells_same : cell ≡ other = same_Some cell other (sym at ∙ ap (λ m. slice_get cells m) (sym same) ∙ at_i) in
-        at_push values (value_in world cell) i (same ∙ sym so_far.size) ∙ ap (λ (c : Cell). Some (value_in world c)) cells_same
+        let keys_same : key ≡ other = same_Some key other (sym at ∙ ap (λ m. slice_get keys m) (sym same) ∙ at_i) in
+        at_push values (value_at world h key) i (same ∙ sym so_far.size) ∙ ap (λ (k : ℕ). Some (value_at world h k)) keys_same
   ];
 }
 
-pub read_all_cells : (cells : List Cell) (world : HandleMap) (n : ℕ) (values : List (Option ℕ)) → Read cells world n values → length cells ≤ n → AreValues cells world values
-read_all_cells cells world n values so_far all i cell at =
-    let within = slice_get_within cells i cell at in
-    so_far.each i cell (omega (arith, within, all)) at
+pub read_all_keys : (keys : List ℕ) (world : HandleMap) (h n : ℕ) (values : List (Option ℕ)) → Read keys world h n values → length keys ≤ n → AreValues keys world h values
+read_all_keys keys world h n values so_far all i key at =
+    let within = slice_get_within keys i key at in
+    so_far.each i key (omega (arith, within, all)) at
 
--- the cells of the first rows' calls
-pub record Listed (rows : List Row) (n : ℕ) (cells : List Cell) : Type 0 where
-  pub each : (id : ℕ) (row : Row) → id < n → slice_get rows id ≡ Some row → (cell : Cell) × (cell_of row.call ≡ Some cell) × IsListed cells cell
+-- what the first handles name
+pub record NamedSoFar (handles keys : List ℕ) (world : HandleMap) (n : ℕ) (maps : List Named) : Type 0 where
+  pub each : (i : ℕ) (named : Named) → slice_get maps i ≡ Some named → IsNamed keys world named
+  pub all : (i h : ℕ) (access : Access) → i < n → slice_get handles i ≡ Some h → access_at world h ≡ Some access
+      → (j : ℕ) × (named : Named) × (slice_get maps j ≡ Some named) × (named.handle ≡ h)
 
-pub listed_first : (rows : List Row) (cells : List Cell) → Listed rows 0 cells
-listed_first rows cells = record { each = λ id row lt. absurd (omega (arith, lt)) }
+pub named_first : (handles keys : List ℕ) (world : HandleMap) → NamedSoFar handles keys world 0 []
+named_first handles keys world = record { each = λ i named at. let wrong : ⊥ = cc at in absurd wrong; all = λ i h access lt. absurd (omega (arith, lt)) }
 
-pub listed_more : (rows : List Row) (n : ℕ) (cells cells_now : List Cell) (row : Row) (cell : Cell) → Listed rows n cells → slice_get rows n ≡ Some row → cell_of row.call ≡ Some cell
-    → ((other : Cell) → IsListed cells other → IsListed cells_now other) → IsListed cells_now cell → Listed rows (n + 1) cells_now
-listed_more rows n cells cells_now row cell so_far at is keeps has = record {
+pub named_on : (handles keys : List ℕ) (world : HandleMap) (n : ℕ) (maps : List Named) (named : Named) → NamedSoFar handles keys world n maps → slice_get handles n ≡ Some named.handle
+    → IsNamed keys world named → NamedSoFar handles keys world (n + 1) (maps ++ named ∷ [])
+named_on handles keys world n maps named so_far at is = record {
+  each = λ i other at_i. elim (at_cases maps named i other at_i) [ inl old ↦ so_far.each i other old | inr new ↦ subst (λ x. IsNamed keys world x) new.1 is ];
+  all = λ i h access lt at_i there. elim (cases_lt i n) [
+    | inl before ↦ let found = so_far.all i h access before at_i there in (found.0, found.1, at_old maps named found.0 found.1 found.2, found.3)
+    | inr here ↦
+        let same : i ≡ n = omega (arith, lt, here) in
+        (length maps, named, at_push maps named (length maps) refl, same_Some named.handle h (sym at ∙ ap (λ m. slice_get handles m) (sym same) ∙ at_i))
+  ];
+}
+
+pub named_past : (handles keys : List ℕ) (world : HandleMap) (n h : ℕ) (maps : List Named) → NamedSoFar handles keys world n maps → slice_get handles n ≡ Some h → access_at world h ≡ None
+    → NamedSoFar handles keys world (n + 1) maps
+named_past handles keys world n h maps so_far at none = record {
+  each = so_far.each;
+  all = λ i other access lt at_i there. elim (cases_lt i n) [
+    | inl before ↦ so_far.all i other access before at_i there
+    | inr here ↦
+        let same : i ≡ n = omega (arith, lt, here) in
+        let handles_same : other ≡ h = same_Some other h (sym at_i ∙ ap (λ m. slice_get handles m) same ∙ at) in
+        absurd (none-some access (sym none ∙ subst (λ x. access_at world x ≡ Some access) handles_same there))
+  ];
+}
+
+pub named_all : (handles keys : List ℕ) (world : HandleMap) (n : ℕ) (maps : List Named) → NamedSoFar handles keys world n maps → length handles ≤ n → AreNamed handles keys world maps
+named_all handles keys world n maps so_far all = record {
+  each = so_far.each;
+  all = λ i h access at. let within = slice_get_within handles i h at in so_far.all i h access (omega (arith, within, all)) at;
+}
+
+-- what the first rows name is listed
+pub record Listed (Names : List ℕ → Row → Type 0) (rows : List Row) (n : ℕ) (xs : List ℕ) : Type 0 where
+  pub each : (id : ℕ) (row : Row) → id < n → slice_get rows id ≡ Some row → Names xs row
+
+abbrev pub Opens : List ℕ → Row → Type 0
+Opens handles row = IfSome row.opens (λ h. IsListed handles h)
+
+abbrev pub IsOn : List ℕ → Row → Type 0
+IsOn keys row = IfSome (cell_of row.call) (λ cell. IsListed keys cell.key)
+
+pub listed_first : (Names : List ℕ → Row → Type 0) (rows : List Row) (xs : List ℕ) → Listed Names rows 0 xs
+listed_first Names rows xs = record { each = λ id row lt. absurd (omega (arith, lt)) }
+
+pub listed_on : (Names : List ℕ → Row → Type 0) (rows : List Row) (n : ℕ) (xs ys : List ℕ) (row : Row) → Listed Names rows n xs → slice_get rows n ≡ Some row
+    → ((other : Row) → Names xs other → Names ys other) → Names ys row → Listed Names rows (n + 1) ys
+listed_on Names rows n xs ys row so_far at keeps has = record {
   each = λ id other lt at_id. elim (cases_lt id n) [
-    | inl before ↦ let found = so_far.each id other before at_id in (found.0, found.1, keeps found.0 found.2)
+    | inl before ↦ keeps other (so_far.each id other before at_id)
     | inr here ↦
         let same : id ≡ n = omega (arith, lt, here) in
         let rows_same : row ≡ other = same_Some row other (sym at ∙ ap (λ m. slice_get rows m) (sym same) ∙ at_id) in
-        (cell, ap (λ (r : Row). cell_of r.call) (sym rows_same) ∙ is, has)
+        subst (λ (r : Row). Names ys r) rows_same has
   ];
 }
 
-pub listed_all : (rows : List Row) (n : ℕ) (cells : List Cell) → Listed rows n cells → length rows ≤ n → AreCells rows cells
-listed_all rows n cells so_far all id row at = let within = slice_get_within rows id row at in so_far.each id row (omega (arith, within, all)) at
+pub listed_all : (Names : List ℕ → Row → Type 0) (rows : List Row) (n : ℕ) (xs : List ℕ) → Listed Names rows n xs → length rows ≤ n → (id : ℕ) (row : Row)
+    → slice_get rows id ≡ Some row → Names xs row
+listed_all Names rows n xs so_far all id row at = let within = slice_get_within rows id row at in so_far.each id row (omega (arith, within, all)) at
+
+pub some_keeps : {A : Type 0} (o : Option A) (P Q : A → Type 0) → ((a : A) → P a → Q a) → IfSome o P → IfSome o Q
+some_keeps None P Q keeps is = tt
+some_keeps (Some a) P Q keeps is = keeps a is
+
+pub pushed_keeps : (xs : List ℕ) (x other : ℕ) → IsListed xs other → IsListed (xs ++ x ∷ []) other
+pushed_keeps xs x other at = (at.0, at_old xs x at.0 other at.1)
+
+pub pushed_has : (xs : List ℕ) (x : ℕ) → IsListed (xs ++ x ∷ []) x
+pushed_has xs x = (length xs, at_push xs x (length xs) refl)
+
+-- maps that are the same so far
+pub record SameSoFar (a b : List Named) (n : ℕ) : Type 0 where
+  pub each : (i : ℕ) (x y : Named) → i < n → slice_get a i ≡ Some x → slice_get b i ≡ Some y → IsSameMap x y
+
+pub same_first : (a b : List Named) → SameSoFar a b 0
+same_first a b = record { each = λ i x y lt. absurd (omega (arith, lt)) }
+
+pub same_on : (a b : List Named) (n : ℕ) (x y : Named) → SameSoFar a b n → slice_get a n ≡ Some x → slice_get b n ≡ Some y → IsSameMap x y → SameSoFar a b (n + 1)
+same_on a b n x y so_far at_a at_b same = record {
+  each = λ i p q lt at_p at_q. elim (cases_lt i n) [
+    | inl before ↦ so_far.each i p q before at_p at_q
+    | inr here ↦
+        let is : i ≡ n = omega (arith, lt, here) in
+        let x_is : x ≡ p = same_Some x p (sym at_a ∙ ap (λ m. slice_get a m) (sym is) ∙ at_p) in
+        let y_is : y ≡ q = same_Some y q (sym at_b ∙ ap (λ m. slice_get b m) (sym is) ∙ at_q) in
+        subst (λ z. IsSameMap p z) y_is (subst (λ z. IsSameMap z y) x_is same)
+  ];
+}
+
+pub same_all : (a b : List Named) (n : ℕ) → SameSoFar a b n → length a ≡ length b → length a ≤ n → AreSameMaps a b
+same_all a b n so_far size all = record { size = size; each = λ i x y at. let within = slice_get_within a i x at in so_far.each i x y (omega (arith, within, all)) at }
 
 -- ---- what is kept
-
--- the cells of a table are those of its history
-pub plain_cells : (history : List Event) (table : Table) (cells : Option (Vec Cell)) → Records history table → IfSome cells (λ c. AreCells table.rows.items c.items)
-    → IfSome cells (λ c. IsPlain history c.items)
-plain_cells history table None known are = tt
-plain_cells history table (Some cells) known are = plain_of history table cells.items known are
 
 pub no_state : (states : List State) (i : ℕ) (state : State) → states ≡ [] → slice_get states i ≡ Some state → ⊥
 no_state [] i state none at = cc at

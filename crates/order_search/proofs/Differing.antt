@@ -11,19 +11,19 @@ use Rattle.order_search.specs.Vocabulary.{Access, Writable, ReadOnly, Call, Get,
 use Rattle.order_search.specs.Vocabulary.{KeyMap, HandleState, HandleMap, effect, answer_in, map_of, with_access, changing, naming, put_if_absent_in, replace_in, replace_if_in, remove_in}
 use Rattle.order_search.specs.Vocabulary.{remove_if_in, is_crowded, has_value}
 use Rattle.history.specs.declared.replies.Reply.TheVariants as reply
-use Rattle.history.specs.Effects.{put_in}
+use Rattle.history.specs.Effects.{put_in, read_only_map_of}
 use Rattle.order_search.specs.declared.cells.Cell.{Cell}
-use Rattle.order_search.specs.Cells.{cell_of, access_at, value_at, value_in, DifferIn}
+use Rattle.order_search.specs.Cells.{cell_of, access_at, value_at, value_in, DifferIn, reads_only}
 
 pub apart_of : (a b : ℕ) → (a < b) ⊎ (b < a) → a ≢ b
 apart_of a b (inl less) same = omega (arith, less, same)
 apart_of a b (inr more) same = omega (arith, more, same)
 
 module _ {X : Type 0} where
-  at_same : (m : map.FinMap nat_cmp X) (k : ℕ) (x : X) → map.get (map.insert m k x) k ≡ Some x
+  pub at_same : (m : map.FinMap nat_cmp X) (k : ℕ) (x : X) → map.get (map.insert m k x) k ≡ Some x
   at_same m k x = get-insert nat_cmp_total m k x k ∙ ap (λ b. cond b (Some x) (map.get m k)) (unsigned_tied k k ∙ eq-eqb k k refl)
 
-  at_other : (m : map.FinMap nat_cmp X) (k : ℕ) (x : X) (q : ℕ) → q ≢ k → map.get (map.insert m k x) q ≡ map.get m q
+  pub at_other : (m : map.FinMap nat_cmp X) (k : ℕ) (x : X) (q : ℕ) → q ≢ k → map.get (map.insert m k x) q ≡ map.get m q
   at_other m k x q apart = get-insert nat_cmp_total m k x q ∙ ap (λ b. cond b (Some x) (map.get m q)) (unsigned_tied q k ∙ ne_eqb q k apart)
 
   gone_other : (m : map.FinMap nat_cmp X) (k q : ℕ) → q ≢ k → map.get (map.remove m k) q ≡ map.get m q
@@ -127,11 +127,11 @@ kept_if true m n k same = same
 kept_if false m n k same = refl
 
 -- a call that only reads leaves the world
-reads : (v w : HandleMap) (answer : Reply) (told : KeyMap → Reply) (o : Option KeyMap) → option_and_then {U = Reply × HandleMap} (λ m. Some (told m, v)) o ≡ Some (answer, w) → w ≡ v
+pub reads : (v w : HandleMap) (answer : Reply) (told : KeyMap → Reply) (o : Option KeyMap) → option_and_then {U = Reply × HandleMap} (λ m. Some (told m, v)) o ≡ Some (answer, w) → w ≡ v
 reads v w answer told None leads = let wrong : ⊥ = cc leads in absurd wrong
 reads v w answer told (Some m) leads = let same = some_pair_parts (told m) answer v w leads in sym same.1
 
-abbrev cell_at : ℕ → ℕ → Cell
+abbrev pub cell_at : ℕ → ℕ → Cell
 cell_at h k = record { handle = h; key = k }
 
 differs_at : (hash : ℕ → ℕ) (call : Call) (opens : Option ℕ) (v w : HandleMap) (answer : Reply) → effect hash v call opens ≡ Some (answer, w)
@@ -171,3 +171,27 @@ pub answer_differs : (hash : ℕ → ℕ) (call : Call) (opens : Option ℕ) (ce
     → (told, w) ≡ answer_in v (effect hash v call opens) → DifferIn cell v w
 answer_differs hash call opens cell v w told is answers =
     answered_differs cell v w told (effect hash v call opens) (λ answer next leads. call_differs hash call opens cell v next answer is leads) answers
+
+-- a call that only reads leaves the world
+pub reads_same : (hash : ℕ → ℕ) (call : Call) (opens : Option ℕ) (v w : HandleMap) (answer : Reply) → reads_only call ≡ true → effect hash v call opens ≡ Some (answer, w) → w ≡ v
+reads_same hash (Get h k) opens v w answer only leads = reads v w answer (λ m. reply.Found (map.get m k)) (map_of v h) leads
+reads_same hash (Entries h) opens v w answer only leads = reads v w answer (λ m. reply.Pairs (map.entries m)) (read_only_map_of v h) leads
+reads_same hash (Count h) opens v w answer only leads = reads v w answer (λ m. reply.Count (map.len m)) (read_only_map_of v h) leads
+reads_same hash (Put h k x) opens v w answer only leads = absurd (false≢true only)
+reads_same hash (PutIfAbsent h k x) opens v w answer only leads = absurd (false≢true only)
+reads_same hash (Replace h k x) opens v w answer only leads = absurd (false≢true only)
+reads_same hash (ReplaceIf h k a b) opens v w answer only leads = absurd (false≢true only)
+reads_same hash (Remove h k) opens v w answer only leads = absurd (false≢true only)
+reads_same hash (RemoveIf h k x) opens v w answer only leads = absurd (false≢true only)
+reads_same hash (Clear h) opens v w answer only leads = absurd (false≢true only)
+reads_same hash (Snapshot h) opens v w answer only leads = absurd (false≢true only)
+reads_same hash (Freeze h) opens v w answer only leads = absurd (false≢true only)
+reads_same hash (Close h) opens v w answer only leads = absurd (false≢true only)
+
+answered_same : (v w : HandleMap) (told : Option Reply) (e : Option (Reply × HandleMap)) → ((answer : Reply) (next : HandleMap) → e ≡ Some (answer, next) → next ≡ v) → (told, w) ≡ answer_in v e → w ≡ v
+answered_same v w told None same is = ap (λ (p : Option Reply × HandleMap). p.1) is
+answered_same v w told (Some e) same is = ap (λ (p : Option Reply × HandleMap). p.1) is ∙ same e.0 e.1 refl
+
+-- the same, whether it has an effect or not
+pub answer_same : (hash : ℕ → ℕ) (call : Call) (opens : Option ℕ) (v w : HandleMap) (told : Option Reply) → reads_only call ≡ true → (told, w) ≡ answer_in v (effect hash v call opens) → w ≡ v
+answer_same hash call opens v w told only answers = answered_same v w told (effect hash v call opens) (λ answer next leads. reads_same hash call opens v next answer only leads) answers

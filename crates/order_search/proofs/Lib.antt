@@ -1,4 +1,5 @@
 pub mod Differing
+pub mod Reached
 pub mod Turns
 pub mod Replayed
 pub mod Refuting

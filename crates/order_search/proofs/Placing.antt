@@ -14,11 +14,11 @@ use Rattle.history.proofs.Leading.{leads_on, must_stand}
 use Rattle.history.proofs.Standing.{may_stand, recorded_of_ended, ended_of_recorded}
 use Rattle.order_search.specs.declared.cells.Cell.{Cell}
 use Rattle.order_search.specs.Searching.{NoneGoesOn}
-use Rattle.order_search.specs.Cells.{cell_of, value_in, DifferIn}
+use Rattle.order_search.specs.Cells.{cell_of, value_in, DifferIn, CanGoBack}
 use Rattle.order_search.specs.Marks.{AreMarked, HasMark, HasNoMark, Chooses}
 use Rattle.order_search.specs.Walks.{IsWay, HadBefore, Carries}
 use Rattle.order_search.proofs.Turns.{marks_differ}
-use Rattle.order_search.proofs.Differing.{call_differs, answer_differs}
+use Rattle.order_search.proofs.Differing.{call_differs, answer_differs, reads_same, answer_same}
 use Rattle.order_search.proofs.Replayed.{one_lead, effect_of}
 use Rattle.order_search.proofs.Refuting.{none_answered}
 use Rattle.order_search.proofs.Ways.{way_on, way_passed, way_back}
@@ -104,7 +104,7 @@ pub went_back : (hash : ℕ → ℕ) (history : List Event) (table : Table) (ids
     (low next low_now after : ℕ) (world world_now : HandleMap) → Records history table → IsWay hash history (ids ++ id ∷ []) (befores ++ before ∷ []) taken low next world
     → NoneGoesOn hash history (ids ++ id ∷ [])
     → ((last : HandleMap) (row : Row) → LeadsTo hash history ids last → slice_get table.rows.items id ≡ Some row
-    → IfSome (cell_of row.call) (λ cell. DifferIn cell last world × (value_in last cell ≡ before)) → world_now ≡ last)
+    → CanGoBack row.call before last world → world_now ≡ last)
     → taken_now ≡ set taken id false → low_now ≤ low → low_now ≤ id → after ≤ id + 1
     → IsWay hash history ids befores taken_now low_now after world_now × ¬ IsLegal hash history ids
 went_back hash history table ids befores id before taken taken_now low next low_now after world world_now known way none back marks_are low_le id_le le =
@@ -122,10 +122,13 @@ went_back hash history table ids befores id before taken taken_now low next low_
     let same = one_lead hash history order stands_there.0 world well (leads_on hash history ids id lead.0 stands_there.0 lead.1 stands) way.leads in
     let effect_is = effect_of hash history ids id lead.0 stands_there.0 (row.0) well is stands in
     let had : HadBefore hash history ids id before = subst (λ xs. HadBefore hash history xs id before) all (way.had place id before last (at_push befores before place (sym (known_size way)))) in
-    let world_is = back lead.0 row.0 lead.1 row.1 (if_cell (cell_of (row.0).call) (λ cell. DifferIn cell lead.0 world × (value_in lead.0 cell ≡ before)) (λ cell is_cell. (
-      subst (λ w. DifferIn cell lead.0 w) same (call_differs hash (row.0).call (row.0).opens cell lead.0 stands_there.0 _ is_cell effect_is),
-      cell_holds (cell_of (row.0).call) (λ c. value_in lead.0 c ≡ before) cell (had lead.0 row.0 lead.1 is) is_cell,
-    ))) in
+    let world_is = back lead.0 row.0 lead.1 row.1 (record {
+      same = λ only. subst (λ w. w ≡ lead.0) same (reads_same hash (row.0).call (row.0).opens lead.0 stands_there.0 _ only effect_is);
+      cell = if_cell (cell_of (row.0).call) (λ cell. DifferIn cell lead.0 world × (value_in lead.0 cell ≡ before)) (λ cell is_cell. (
+        subst (λ w. DifferIn cell lead.0 w) same (call_differs hash (row.0).call (row.0).opens cell lead.0 stands_there.0 _ is_cell effect_is),
+        cell_holds (cell_of (row.0).call) (λ c. value_in lead.0 c ≡ before) cell (had lead.0 row.0 lead.1 is) is_cell,
+      ));
+    }) in
     let leads_now : LeadsTo hash history ids world_now = subst (λ w. LeadsTo hash history ids w) (sym world_is) lead.1 in
     let long = length-append ids (id ∷ []) in (
       way_back hash history ids befores taken low next world id low_now after before taken_now world_now way none leads_now marks_are low_le id_le le,
@@ -161,15 +164,18 @@ pub missed : (hash : ℕ → ℕ) (history : List Event) (table : Table) (ids : 
     → Chooses (Some id) history taken next → slice_get table.rows.items id ≡ Some row → IfSome (cell_of row.call) (λ cell. value_in world cell ≡ before)
     → Carries false hash row (recorded history row.end) world carried → (told, carried) ≡ answer_in world (effect hash world row.call row.opens)
     → ((last : HandleMap) (r : Row) → LeadsTo hash history ids last → slice_get table.rows.items id ≡ Some r
-    → IfSome (cell_of r.call) (λ cell. DifferIn cell last carried × (value_in last cell ≡ before)) → world_now ≡ last)
+    → CanGoBack r.call before last carried → world_now ≡ last)
     → after ≤ id + 1 → IsWay hash history ids befores taken low after world_now × ¬ IsLegal hash history ids
 missed hash history table ids befores taken low next after id before world carried world_now row told known way unfinished chosen at value carries answers back le =
     let is = known.row_of id row at in
     let none = none_answered hash history ids id world row is way.leads carries in
-    let world_is = back world row way.leads at (if_cell (cell_of row.call) (λ cell. DifferIn cell world carried × (value_in world cell ≡ before)) (λ cell is_cell. (
-      answer_differs hash row.call row.opens cell world carried told is_cell answers,
-      cell_holds (cell_of row.call) (λ c. value_in world c ≡ before) cell value is_cell,
-    ))) in
+    let world_is = back world row way.leads at (record {
+      same = λ only. answer_same hash row.call row.opens world carried told only answers;
+      cell = if_cell (cell_of row.call) (λ cell. DifferIn cell world carried × (value_in world cell ≡ before)) (λ cell is_cell. (
+        answer_differs hash row.call row.opens cell world carried told is_cell answers,
+        cell_holds (cell_of row.call) (λ c. value_in world c ≡ before) cell value is_cell,
+      ));
+    }) in
     let passed = way_passed hash history ids befores taken low next world id after way chosen none le in
     (subst (λ w. IsWay hash history ids befores taken low after w) (sym world_is) passed, unfinished)
 

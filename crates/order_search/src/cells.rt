@@ -2,13 +2,13 @@
 
 ghost use Rattle.std.specs.Prelude.{◌≡◌, IsTrue, IfOk, IsOkUnless};
 ghost use Rattle.history.specs.Worlds.{HandleMap};
-ghost use Rattle.order_search.specs.Cells.{DifferIn, cell_of, value_in};
+ghost use Rattle.order_search.specs.Cells.{DifferIn, cell_of, reads_only, value_in};
 
 use ctrie_base::{HashKind, Refusal};
 use history::{Call, Reply, World, reply_of};
 
 /// A key of the map that a handle names.
-#[derive(Clone, Copy, Debug, PartialEq, Eq)]
+#[derive(Clone, Copy)]
 pub(crate) struct Cell {
     pub(crate) handle: u16,
     pub(crate) key: u64,
@@ -28,6 +28,16 @@ pub(crate) fn cell_of(call: &Call) -> Option<Cell>
         | Call::RemoveIf { handle, key, .. } => Some(Cell { handle, key }),
         _ => None,
     }
+}
+
+/// Whether the call leaves the world, whatever it answers.
+pub(crate) fn reads_only(call: &Call) -> bool
+    ensures { result ≡ reads_only call.now }
+{
+    matches!(
+        call,
+        Call::Get { .. } | Call::Entries { .. } | Call::Count { .. }
+    )
 }
 
 /// What the cell has.

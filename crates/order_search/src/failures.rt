@@ -1,5 +1,4 @@
-//! States from which a search has found that no order goes on, so that it needn't look again. They are kept where each call of the
-//! history is on one key.
+//! States from which a search has found that no order goes on, so that it needn't look again.
 
 ghost use Rattle.std.specs.Prelude.{◌≡◌, ◌<◌, ℕ, List, IfOk, IfSome, OnOk, IsTrue, IsOkUnless};
 ghost use Rattle.ctrie_base.specs.Hashes.{hash_of};
@@ -10,29 +9,40 @@ ghost use Rattle.history.specs.Tables.{Records};
 ghost use Rattle.history.specs.Beginnings.{LeadsTo};
 ghost use Rattle.order_search.specs.Searching.{NoneGoesOn};
 ghost use Rattle.order_search.specs.Marks.{AreMarked, HasMark};
-ghost use Rattle.order_search.specs.States.{AreCells, AreFailures, AreValues, IsAhead, IsListed, IsSameAsOne, IsSameState};
+ghost use Rattle.order_search.specs.States.{AreFailures, AreHandles, AreKeys, AreNamed, AreSameMaps, AreValues, IsAhead, IsListed, IsSameAsOne, IsSameMap, IsSameState};
 
 use crate::cells::{Cell, cell_of, value_in};
 use ctrie_base::{HashKind, Refusal};
-use history::{Table, World};
+use history::{Access, Table, World};
 use std::alloc::Global;
 use std::collections::BTreeMap;
 
-/// Which operations are placed, and what the world has in each cell.
+/// What a handle names that is there.
+#[derive(Drop)]
+struct Named {
+    handle: u16,
+    access: Access,
+    /// What its map has for each key.
+    values: Vec<Option<u64>>,
+}
+
+/// Which operations are placed, and the world to which they lead.
 #[derive(Drop)]
 struct State {
     /// All operations below are marked.
     low: usize,
     /// The others that are.
     ahead: Vec<u64>,
-    /// What each cell has.
-    values: Vec<Option<u64>>,
+    /// What the handles that are there name.
+    maps: Vec<Named>,
 }
 
 /// The states from which no order goes on, of those that were looked at.
 pub(crate) struct Failures {
-    /// The cells of all calls, if each is on one.
-    cells: Option<Vec<Cell>>,
+    /// The handles that are there at any time.
+    handles: Vec<u16>,
+    /// The keys of all calls.
+    keys: Vec<u64>,
     states: Vec<State>,
     /// By a number that is made of the marks, the places of states among these.
     places: BTreeMap<u64, Vec<usize>>,
@@ -42,7 +52,8 @@ pub(crate) struct Failures {
 impl Drop for Failures {
     fn drop(self) {
         let Failures {
-            cells: _,
+            handles: _,
+            keys: _,
             states: _,
             places: _,
             alloc: _,
@@ -57,7 +68,8 @@ impl Failures {
         ensures only_memory { IsOkUnless result Refusal.Memory }
     {
         Ok(Failures {
-            cells: cells_of(alloc, table)?,
+            handles: handles_of(alloc, table)?,
+            keys: keys_of(alloc, table)?,
             states: Vec::new(alloc),
             places: BTreeMap::new(alloc),
             alloc,
@@ -78,15 +90,12 @@ impl Failures {
         ensures same { OnOk result (world.new ≡ world.old) }
         ensures only_memory { IsOkUnless result Refusal.Memory }
     {
-        let Some(cells) = &self.cells else {
-            return Ok(false);
-        };
         let ahead = ahead_of(self.alloc, taken, low)?;
         let Some(places) = self.places.get(&number_of(low, ahead.as_slice())) else {
             return Ok(false);
         };
-        let values = values_of(self.alloc, cells.as_slice(), world, hash)?;
-        let state = State { low, ahead, values };
+        let maps = self.maps_in(world, hash)?;
+        let state = State { low, ahead, maps };
         Ok(is_among(self.states.as_slice(), places.as_slice(), &state))
     }
 
@@ -105,41 +114,82 @@ impl Failures {
         ensures same { OnOk result (world.new ≡ world.old) }
         ensures only_memory { IsOkUnless result Refusal.Memory }
     {
-        let Some(cells) = &self.cells else {
-            return Ok(());
-        };
         let ahead = ahead_of(self.alloc, taken, low)?;
         let number = number_of(low, ahead.as_slice());
-        let values = values_of(self.alloc, cells.as_slice(), world, hash)?;
+        let maps = self.maps_in(world, hash)?;
         note_place(self.alloc, &mut self.places, number, self.states.len())?;
-        self.states.push(State { low, ahead, values })?;
+        self.states.push(State { low, ahead, maps })?;
         Ok(())
     }
+
+    /// What the handles name that are there.
+    fn maps_in(&self, world: &mut World, hash: HashKind) -> Result<Vec<Named>, Refusal>
+        ensures named { IfOk result (λ maps. AreNamed self.now.handles.items self.now.keys.items world.old maps.items) }
+        ensures same { OnOk result (world.new ≡ world.old) }
+        ensures only_memory { IsOkUnless result Refusal.Memory }
+    {
+        maps_of(
+            self.alloc,
+            self.handles.as_slice(),
+            self.keys.as_slice(),
+            world,
+            hash,
+        )
+    }
 }
 
-/// The cells of the operations' calls, if each call is on one.
-fn cells_of(alloc: Global, table: &Table) -> Result<Option<Vec<Cell>>, Refusal>
-    ensures plain { IfOk result (λ cells. IfSome cells (λ cells. AreCells table.now.rows.items cells.items)) }
+/// The handles that are there at any time: the first one, and those that operations open.
+fn handles_of(alloc: Global, table: &Table) -> Result<Vec<u16>, Refusal>
+    ensures first { IfOk result (λ handles. IsListed handles.items 0) }
+    ensures opened { IfOk result (λ handles. AreHandles table.now.rows.items handles.items) }
     ensures only_memory { IsOkUnless result Refusal.Memory }
 {
-    let mut cells = Vec::new(alloc);
+    let mut handles = Vec::new(alloc);
+    handles.push(0)?;
     for id in 0..table.rows.len() {
-        let Some(cell) = cell_of(&table.rows[id].call) else {
-            return Ok(None);
-        };
-        if !is_listed(cells.as_slice(), cell) {
-            cells.push(cell)?;
+        if let Some(handle) = table.rows[id].opens {
+            if !is_handle(handles.as_slice(), handle) {
+                handles.push(handle)?;
+            }
         }
     }
-    Ok(Some(cells))
+    Ok(handles)
 }
 
-/// Whether the cell is one of these.
-fn is_listed(cells: &[Cell], cell: Cell) -> bool
-    ensures { IsTrue result → IsListed cells.now cell }
+/// Whether the handle is one of these.
+fn is_handle(handles: &[u16], handle: u16) -> bool
+    ensures { IsTrue result → IsListed handles.now handle }
 {
-    for other in cells {
-        if *other == cell {
+    for other in handles {
+        if *other == handle {
+            return true;
+        }
+    }
+    false
+}
+
+/// The keys of the operations' calls.
+fn keys_of(alloc: Global, table: &Table) -> Result<Vec<u64>, Refusal>
+    ensures keys { IfOk result (λ keys. AreKeys table.now.rows.items keys.items) }
+    ensures only_memory { IsOkUnless result Refusal.Memory }
+{
+    let mut keys = Vec::new(alloc);
+    for id in 0..table.rows.len() {
+        if let Some(cell) = cell_of(&table.rows[id].call) {
+            if !is_key(keys.as_slice(), cell.key) {
+                keys.push(cell.key)?;
+            }
+        }
+    }
+    Ok(keys)
+}
+
+/// Whether the key is one of these.
+fn is_key(keys: &[u64], key: u64) -> bool
+    ensures { IsTrue result → IsListed keys.now key }
+{
+    for other in keys {
+        if *other == key {
             return true;
         }
     }
@@ -160,20 +210,47 @@ fn ahead_of(alloc: Global, taken: &[bool], low: usize) -> Result<Vec<u64>, Refus
     Ok(ahead)
 }
 
-/// What each cell has.
-fn values_of(
+/// What the handles name that are there, of these.
+fn maps_of(
     alloc: Global,
-    cells: &[Cell],
+    handles: &[u16],
+    keys: &[u64],
     world: &mut World,
     hash: HashKind,
+) -> Result<Vec<Named>, Refusal>
+    ensures named { IfOk result (λ maps. AreNamed handles.now keys.now world.old maps.items) }
+    ensures same { OnOk result (world.new ≡ world.old) }
+    ensures only_memory { IsOkUnless result Refusal.Memory }
+{
+    let mut maps = Vec::new(alloc);
+    for handle in handles {
+        if let Some(access) = world.access(*handle) {
+            maps.push(Named {
+                handle: *handle,
+                access,
+                values: values_of(alloc, keys, world, *handle, hash)?,
+            })?;
+        }
+    }
+    Ok(maps)
+}
+
+/// What the handle's map has for each key.
+fn values_of(
+    alloc: Global,
+    keys: &[u64],
+    world: &mut World,
+    handle: u16,
+    hash: HashKind,
 ) -> Result<Vec<Option<u64>>, Refusal>
-    ensures values { IfOk result (λ values. AreValues cells.now world.old values.items) }
+    ensures values { IfOk result (λ values. AreValues keys.now world.old handle values.items) }
     ensures same { OnOk result (world.new ≡ world.old) }
     ensures only_memory { IsOkUnless result Refusal.Memory }
 {
     let mut values = Vec::new(alloc);
-    for cell in cells {
-        values.push(value_in(world, *cell, hash)?)?;
+    for key in keys {
+        let cell = Cell { handle, key: *key };
+        values.push(value_in(world, cell, hash)?)?;
     }
     Ok(values)
 }
@@ -227,10 +304,35 @@ fn is_same(a: &State, b: &State) -> bool
     if !are_same_ids(a.ahead.as_slice(), b.ahead.as_slice()) {
         return false;
     }
-    if !are_same_values(a.values.as_slice(), b.values.as_slice()) {
+    if !are_same_maps(a.maps.as_slice(), b.maps.as_slice()) {
         return false;
     }
     a.low == b.low
+}
+
+/// Whether the handles are the same, and name the same.
+fn are_same_maps(a: &[Named], b: &[Named]) -> bool
+    ensures { IsTrue result → AreSameMaps a.now b.now }
+{
+    if a.len() != b.len() {
+        return false;
+    }
+    for place in 0..a.len() {
+        if !is_same_map(&a[place], &b[place]) {
+            return false;
+        }
+    }
+    true
+}
+
+/// Whether the handle is the same, and names the same.
+fn is_same_map(a: &Named, b: &Named) -> bool
+    ensures { IsTrue result → IsSameMap a.now b.now }
+{
+    if a.handle != b.handle || a.access != b.access {
+        return false;
+    }
+    are_same_values(a.values.as_slice(), b.values.as_slice())
 }
 
 /// Whether the ids are the same.

@@ -11,10 +11,10 @@ ghost use Rattle.history.specs.Worlds.{HandleMap};
 ghost use Rattle.history.specs.Effects.{answer_in, effect};
 ghost use Rattle.history.specs.Tables.{Records};
 ghost use Rattle.history.specs.Beginnings.{LeadsTo};
-ghost use Rattle.order_search.specs.Cells.{DifferIn, cell_of, value_in};
+ghost use Rattle.order_search.specs.Cells.{CanGoBack, cell_of, reads_only, value_in};
 ghost use Rattle.order_search.specs.Walks.{Carries};
 
-use crate::cells::{Cell, cell_of, put_back, value_in};
+use crate::cells::{Cell, cell_of, put_back, reads_only, value_in};
 use ctrie_base::{HashKind, Refusal};
 use history::{Reply, Row, Table, World, reply_of};
 use std::alloc::Global;
@@ -73,9 +73,12 @@ pub(crate) fn take_back(
 ) -> Result<(), Refusal>
     ensures back { OnOk result ((history : List Event) (last : HandleMap) (row : Row) → Records history table.now
         → LeadsTo (hash_of hash) history ids.now last → slice_get table.now.rows.items id ≡ Some row
-        → IfSome (cell_of row.call) (λ cell. DifferIn cell last world.old × (value_in last cell ≡ before)) → world.new ≡ last) }
+        → CanGoBack row.call before last world.old → world.new ≡ last) }
     ensures only_memory { IsOkUnless result Refusal.Memory }
 {
+    if only_read(table, id) {
+        return Ok(());
+    }
     if let Some(cell) = cell_at(table, id) {
         if put_back(world, cell, before, hash)? {
             return Ok(());
@@ -83,6 +86,16 @@ pub(crate) fn take_back(
     }
     *world = world_of(alloc, table, ids, hash)?;
     Ok(())
+}
+
+/// Whether the operation's call only reads.
+fn only_read(table: &Table, id: u64) -> bool
+    ensures { IsTrue result → (row : Row) → slice_get table.now.rows.items id ≡ Some row → IsTrue (reads_only row.call) }
+{
+    match table.row(id) {
+        Some(row) => reads_only(&row.call),
+        None => false,
+    }
 }
 
 /// The cell of the operation's call.
