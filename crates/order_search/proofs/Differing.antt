@@ -188,7 +188,8 @@ reads_same hash (Snapshot h) opens v w answer only leads = absurd (false≢true 
 reads_same hash (Freeze h) opens v w answer only leads = absurd (false≢true only)
 reads_same hash (Close h) opens v w answer only leads = absurd (false≢true only)
 
-answered_same : (v w : HandleMap) (told : Option Reply) (e : Option (Reply × HandleMap)) → ((answer : Reply) (next : HandleMap) → e ≡ Some (answer, next) → next ≡ v) → (told, w) ≡ answer_in v e → w ≡ v
+answered_same : (v w : HandleMap) (told : Option Reply) (e : Option (Reply × HandleMap)) → ((answer : Reply) (next : HandleMap) → e ≡ Some (answer, next) → next ≡ v)
+    → (told, w) ≡ answer_in v e → w ≡ v
 answered_same v w told None same is = ap (λ (p : Option Reply × HandleMap). p.1) is
 answered_same v w told (Some e) same is = ap (λ (p : Option Reply × HandleMap). p.1) is ∙ same e.0 e.1 refl
 

@@ -98,8 +98,8 @@ copied_if false v w n access m answer gives = (some_pair_parts (reply.Opened n) 
 abbrev copy_to : HandleMap → Option ℕ → Access → KeyMap → Option (Reply × HandleMap)
 copy_to v opens access m = option_and_then (λ n. if map.contains_key v n then None else Some (reply.Opened n, naming v n access m)) opens
 
-copied_opens : (handles keys : List ℕ) (v w : HandleMap) (h : ℕ) (opens : Option ℕ) (access : Access) (answer : Reply) (s : HandleState) → Within handles keys v → IfSome opens (λ n. IsListed handles n)
-    → map.get v h ≡ Some s → copy_to v opens access s.pairs ≡ Some (answer, w) → Within handles keys w
+copied_opens : (handles keys : List ℕ) (v w : HandleMap) (h : ℕ) (opens : Option ℕ) (access : Access) (answer : Reply) (s : HandleState) → Within handles keys v
+    → IfSome opens (λ n. IsListed handles n) → map.get v h ≡ Some s → copy_to v opens access s.pairs ≡ Some (answer, w) → Within handles keys w
 copied_opens handles keys v w h None access answer s within opened is gives = let wrong : ⊥ = cc gives in absurd wrong
 copied_opens handles keys v w h (Some n) access answer s within opened is gives =
     subst (λ x. Within handles keys x) (copied_if (map.contains_key v n) v w n access s.pairs answer gives)
@@ -108,7 +108,8 @@ copied_opens handles keys v w h (Some n) access answer s within opened is gives 
 copied_state : (handles keys : List ℕ) (v w : HandleMap) (h : ℕ) (opens : Option ℕ) (access : Access) (answer : Reply) → Within handles keys v → IfSome opens (λ n. IsListed handles n)
     → (own : Access) (m : KeyMap) → map.get v h ≡ Some (record { access = own; pairs = m })
     → option_and_then {U = Reply × HandleMap} (λ m. copy_to v opens access m) (with_access Writable own m) ≡ Some (answer, w) → Within handles keys w
-copied_state handles keys v w h opens access answer within opened Writable m is gives = copied_opens handles keys v w h opens access answer (record { access = Writable; pairs = m }) within opened is gives
+copied_state handles keys v w h opens access answer within opened Writable m is gives =
+    copied_opens handles keys v w h opens access answer (record { access = Writable; pairs = m }) within opened is gives
 copied_state handles keys v w h opens access answer within opened ReadOnly m is gives = let wrong : ⊥ = cc gives in absurd wrong
 
 copied : (handles keys : List ℕ) (v w : HandleMap) (h : ℕ) (opens : Option ℕ) (access : Access) (answer : Reply) → Within handles keys v → IfSome opens (λ n. IsListed handles n)
@@ -161,8 +162,8 @@ pub within_first : (history : List Event) (handles keys : List ℕ) → IsOver h
 within_first history handles keys over = within_naming handles keys map.empty 0 Writable map.empty (within_nothing handles keys) over.first (λ k x at. absurd (none_of_empty k x at))
 
 -- the world to which operations lead
-pub within_replays : (hash : ℕ → ℕ) (history : List Event) (handles keys : List ℕ) (ids : List ℕ) (calls : List Answered) (v w : HandleMap) → IsOver history handles keys → RecallsEach history ids calls
-    → Replays hash calls v w → Within handles keys v → Within handles keys w
+pub within_replays : (hash : ℕ → ℕ) (history : List Event) (handles keys : List ℕ) (ids : List ℕ) (calls : List Answered) (v w : HandleMap) → IsOver history handles keys
+    → RecallsEach history ids calls → Replays hash calls v w → Within handles keys v → Within handles keys w
 within_replays hash history handles keys [] [] v w over each leads within = subst (λ x. Within handles keys x) (sym leads) within
 within_replays hash history handles keys [] (x ∷ xs) v w over each leads within = absurd each
 within_replays hash history handles keys (id ∷ ids) [] v w over each leads within = absurd each
