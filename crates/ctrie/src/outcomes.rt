@@ -5,10 +5,11 @@ ghost use Rattle.std.specs.Io.KnownBytes.{Keeps, IsAtEnd};
 ghost use Rattle.counted_io.specs.Counts.{inner_of, failures};
 ghost use Rattle.ctrie.specs.Beneath.script_commands.specs.Legality.{AppendsJudged};
 ghost use Rattle.ctrie.specs.Beneath.history_commands.specs.Written.{AppendsSuch, AppendsPartOf};
-ghost use Rattle.ctrie.specs.Outcomes.{Tells, TellsLegality, HasFault, judged, done};
+ghost use Rattle.ctrie.specs.Outcomes.{Tells, TellsLegality, HasFault, judged, done, sought};
 
 use ctrie_commands::{
-    Counted, Fault, Nothing, check_history, draw_history, explain_history, run_script, run_threads,
+    Counted, Fault, Nothing, Search, check_history, draw_history, explain_history, order_history,
+    run_script, run_threads,
 };
 use ctrie_words::Request;
 use std::alloc::Global;
@@ -23,8 +24,10 @@ pub enum Outcome {
     Done,
     /// The order is legal for its history.
     Legal,
-    /// It isn't.
+    /// It isn't; or no order is.
     NotLegal,
+    /// Whether an order is legal isn't known, since the steps didn't suffice.
+    Unknown,
 }
 
 /// How the judgement of a history comes out.
@@ -44,6 +47,18 @@ fn done(carried_out: Result<(), Fault>) -> Result<Outcome, Fault>
 {
     match carried_out {
         Ok(()) => Ok(Outcome::Done),
+        Err(fault) => Err(fault),
+    }
+}
+
+/// How a search for an order comes out.
+fn sought(search: Result<Search, Fault>) -> Result<Outcome, Fault>
+    ensures { result ≡ sought search }
+{
+    match search {
+        Ok(Search::Found) => Ok(Outcome::Legal),
+        Ok(Search::NotThere) => Ok(Outcome::NotLegal),
+        Ok(Search::Spent) => Ok(Outcome::Unknown),
         Err(fault) => Err(fault),
     }
 }
@@ -90,5 +105,6 @@ pub fn carry_out<R: Threads + Wait + Sync, I: Read, W: Write>(
         Request::Threads(_) => done(run_threads(rt, alloc, input, output, &Nothing)),
         Request::Explain(_) => judged(explain_history(alloc, input, output)),
         Request::Draw(_) => judged(draw_history(alloc, input, output)),
+        Request::Order(_, steps) => sought(order_history(alloc, steps, input, output)),
     }
 }

@@ -26,13 +26,14 @@ pub(crate) fn answer<R: AllocGlobal + Env + Eprint + Files + Print + Threads + W
 }
 
 /// Tells a fault on standard error, and returns the exit status: 0 for a script that was carried out and for a legal order,
-/// 3 for another order, else what the fault tells.
+/// 3 for another order or where none is legal, 4 where that isn't known, else what the fault tells.
 fn told<R: Eprint>(rt: &R, outcome: Result<Outcome, Fault>) -> u8
     ensures { result ≡ exit_status_of outcome }
 {
     match outcome {
         Ok(Outcome::Done | Outcome::Legal) => 0,
         Ok(Outcome::NotLegal) => 3,
+        Ok(Outcome::Unknown) => 4,
         Err(fault) => {
             let _ = eprintln!(rt; "{fault}");
             fault.status()

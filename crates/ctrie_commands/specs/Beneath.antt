@@ -6,3 +6,4 @@ pub use Rattle.script_commands as script_commands
 pub use Rattle.script_commands.specs.Beneath.history_commands as history_commands
 pub use Rattle.script_commands.specs.Beneath.history_text as history_text
 pub use Rattle.script_commands.specs.Beneath.script_text as script_text
+pub use Rattle.script_commands.specs.Beneath.order_search as order_search

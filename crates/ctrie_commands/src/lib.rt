@@ -8,5 +8,7 @@ mod working;
 
 pub use counted_io::Counted;
 pub use lock_runner::{Between, Nothing};
-pub use script_commands::{Fault, check_history, draw_history, explain_history, run_script};
+pub use script_commands::{
+    Fault, Search, check_history, draw_history, explain_history, order_history, run_script,
+};
 pub use threads::run_threads;

@@ -3,3 +3,5 @@ pub mod Written
 pub mod Verdicts
 pub mod Explanations
 pub mod Pictures
+pub mod Orders
+pub mod Beneath

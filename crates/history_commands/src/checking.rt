@@ -13,7 +13,7 @@ use std::alloc::Global;
 use std::io::{Read, Write};
 
 /// Whether the order that the text gives is legal for its events.
-fn judge(alloc: Global, text: &[u8]) -> Result<bool, Fault>
+pub(crate) fn judge(alloc: Global, text: &[u8]) -> Result<bool, Fault>
     ensures verdict { IfOk result (IsVerdict text.now) }
     ensures faults { IfErr result (IsOfHistory text.now) }
 {

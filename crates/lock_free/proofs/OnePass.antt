@@ -15,7 +15,8 @@ use Rattle.lock_free.specs.declared.reading.Way.{Way}
 use Rattle.lock_free.specs.declared.rules.View.{View}
 use Rattle.lock_free.specs.Exchanging.{IsNamedOrGone}
 use Rattle.lock_free.specs.Loading.{IsSound, IsAtSlot, HasReadHeader}
-use Rattle.lock_free.specs.Passing.{HasCome, IsReading, IsOnWay, KnowsLink, IsPlaced, KnowsMain, KnowsPending, IsFrom, IsPassing, HasGiven, GoesFrom, PassedBy, HasPassed, HasPassedSome, HasReached}
+use Rattle.lock_free.specs.Passing.{HasCome, IsReading, IsOnWay, KnowsLink, IsPlaced, KnowsMain, KnowsPending, IsFrom, IsPassing, HasGiven, GoesFrom, PassedBy, HasPassed, HasPassedSome}
+use Rattle.lock_free.specs.Passing.{HasReached}
 use Rattle.lock_free.specs.Passing.{pending_line, IsPending, IsFailed}
 use Rattle.lock_free.proofs.Comings.{at_read, come_on, reading_one, reading_then, way_then, stays_there}
 use Rattle.lock_free.proofs.Laters.{placed_later, link_later}

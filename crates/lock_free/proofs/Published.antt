@@ -20,7 +20,8 @@ use Rattle.trie_words.specs.declared.headers.Shape.{Shape}
 use Rattle.lock_free.specs.declared.accounts.Account.{Account}
 use Rattle.lock_free.specs.declared.sizes.Sizes.{Sizes}
 use Rattle.lock_free.specs.Accounts.{state_of, place_of, OwnIs, later}
-use Rattle.lock_free.specs.Nodes.{Has, StandsAs, AreEntries, IsEntryOf, is_single, half_of, IsOver, SaysPrevious, decided, ahead, pending, failed, SaysShape, of_branch, of_tomb, of_list, SaysHeader}
+use Rattle.lock_free.specs.Nodes.{Has, StandsAs, AreEntries, IsEntryOf, is_single, half_of, IsOver, SaysPrevious, decided, ahead, pending, failed, SaysShape, of_branch, of_tomb, of_list}
+use Rattle.lock_free.specs.Nodes.{SaysHeader}
 use Rattle.lock_free.specs.Publishing.{swapped_in, over, Publishes}
 use Rattle.lock_free.proofs.Made.{is_pending, is_failed}
 

@@ -1,6 +1,6 @@
 -- RENEW goes over the entries of a branch.
-use Rattle.std.proofs.Common.{◌≡◌, ◌<◌, ◌+◌, ◌++◌, ℕ, Bool, true, false, List, [], ◌∷◌, All, Contains, length, length-append, get_or, nat_lt, None, Some, append_assoc, append-nil, refl, sym, ap, ap₂, subst, ◌∙◌, arith, if◌then◌else◌}
-use Rattle.std.proofs.Common.{sym, ap, ap₂, subst, ◌∙◌, arith, if◌then◌else◌, ◌≡◌, ◌<◌, ◌+◌, ◌++◌, ℕ, Bool, true, false, List, [], ◌∷◌, All, Contains, length, length-append, get_or, nat_lt, None, Some, append_assoc, append-nil, refl}
+use Rattle.std.proofs.Common.{◌≡◌, ◌<◌, ◌+◌, ◌++◌, ℕ, Bool, true, false, List, [], ◌∷◌, All, Contains, length, length-append, get_or, nat_lt, None, Some, append_assoc, append-nil, refl, sym, ap}
+use Rattle.std.proofs.Common.{ap₂, subst, ◌∙◌, arith, if◌then◌else◌}
 use Rattle.std.proofs.lemmas.Bool.{lt-ltb, le-ltb}
 use Rattle.std.proofs.lemmas.List.Elements.{All-weaker, Contains-get_or}
 use Rattle.arrayvec.specs.ArrayVec.{ArrayVec}

@@ -14,7 +14,6 @@ use Rattle.lock_free.specs.Making.{with_slot}
 use Rattle.lock_free.specs.Nodes.{class_of}
 use Rattle.lock_free.specs.Places.{words_in, slots_in, part_of, first_slot_word, taken_word, generation_word, pin_word, root_word, IsTaken, HaveTaken}
 use Rattle.lock_free.specs.Rules.{IsClosing, SaysClosing, IsFree, IsSpare, AreDrafts, IsSeat, IsKept}
-use Rattle.lock_free.specs.Accounts.{state_of}
 use Rattle.lock_free.proofs.Meanings.{no_tries}
 use Rattle.lock_free.proofs.Assembling.{AllStand, closing_stays, numbers_stay, assembled}
 use Rattle.lock_free.proofs.Framing.{else_word, class_small, has_words, no_slot, nodes_below, roots_below}

@@ -9,3 +9,4 @@ pub use Rattle.step_machine.specs.Beneath.proof_runs as proof_runs
 pub use Rattle.history_text as history_text
 pub use Rattle.script_text as script_text
 pub use Rattle.history_commands as history_commands
+pub use Rattle.history_commands.specs.Beneath.order_search as order_search

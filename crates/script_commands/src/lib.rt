@@ -7,7 +7,9 @@ mod reports;
 mod scripts;
 mod stepping;
 
-pub use history_commands::{Fault, check_history, draw_history, explain_history};
+pub use history_commands::{
+    Fault, Search, check_history, draw_history, explain_history, order_history,
+};
 pub use reports::{report_of_record, tell_denied};
 pub use script_text::{Script, ThreadLine, read_thread_script};
 pub use scripts::run_script;

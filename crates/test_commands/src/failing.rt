@@ -1,7 +1,8 @@
 //! A reader and a writer that move one byte a call, and fail at each call in turn.
 
 use ctrie_commands::{
-    Counted, Fault, Nothing, check_history, draw_history, explain_history, run_script, run_threads,
+    Counted, Fault, Nothing, check_history, draw_history, explain_history, order_history,
+    run_script, run_threads,
 };
 use std::io;
 use std::io::{ErrorKind, Read, Write};
@@ -85,6 +86,7 @@ enum Command {
     Check,
     Draw,
     Explain,
+    Order,
     Run,
     Threads,
 }
@@ -111,7 +113,13 @@ const REPORT: &str =
 const HISTORY: &str =
     "hash low\nbegin 0 1 put 0 1 10\nend 0 none\nbegin 1 1 get 0 1\nend 1 none\norder 0 1\n";
 
-const CASES: [Case; 5] = [
+const EVENTS: &str =
+    "hash low\nbegin 0 1 put 0 1 10\nend 0 none\nbegin 1 1 get 0 1\nend 1 some 10\n";
+
+const ORDERED: &str =
+    "hash low\nbegin 0 1 put 0 1 10\nend 0 none\nbegin 1 1 get 0 1\nend 1 some 10\n\norder 0 1\n";
+
+const CASES: [Case; 6] = [
     Case {
         command: Command::Check,
         text: HISTORY,
@@ -126,6 +134,11 @@ const CASES: [Case; 5] = [
         command: Command::Explain,
         text: HISTORY,
         end: "not legal\noperation 1, get 0 1, was answered none; the maps before it give some 10\n",
+    },
+    Case {
+        command: Command::Order,
+        text: EVENTS,
+        end: ORDERED,
     },
     Case {
         command: Command::Run,
@@ -153,6 +166,7 @@ fn carried_out<R: AllocGlobal + Threads + Wait + Sync>(
         Command::Check => check_history(rt.alloc(), input, output).map(|_| ()),
         Command::Draw => draw_history(rt.alloc(), input, output).map(|_| ()),
         Command::Explain => explain_history(rt.alloc(), input, output).map(|_| ()),
+        Command::Order => order_history(rt.alloc(), 2, input, output).map(|_| ()),
         Command::Run => run_script(rt.alloc(), input, output),
         Command::Threads => run_threads(rt, rt.alloc(), input, output, &Nothing),
     };

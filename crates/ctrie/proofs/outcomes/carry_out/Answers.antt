@@ -3,6 +3,7 @@ use Rattle.std.proofs.Common.{sym, ◌∙◌}
 use Rattle.ctrie.proofs.Telling.{judged_fault, judged_ok, judged_err, judged_not_done, done_fault, done_ok, done_err, done_holds, done_not_judged}
 use Rattle.ctrie.proofs.Telling.{legality_told, line_told, verdict_told, report_told, thread_report_told, explanation_told, picture_told}
 use Rattle.ctrie.proofs.Telling.{verdict_part, report_part, thread_report_part, explanation_part, picture_part}
+use Rattle.ctrie.proofs.Seeking.{sought_fault, sought_ok, sought_err, sought_not_done, search_told, search_legality, search_part}
 use Rattle.ctrie_words.specs.declared.arguments.Request.TheVariants.{Check, Explain, Draw}
 use Rattle.ctrie.proofs.outcomes.carry_out.Goals as goal
 
@@ -157,3 +158,33 @@ returns-in-Draw-clause-silent g c = rw c.judged-in-Draw.ensures (judged_err c.dr
 
 pub returns-in-Draw-clause-part : goal.returns-in-Draw-clause-part
 returns-in-Draw-clause-part g c = λ e. rw c.in-Draw.is (picture_part _ _ _ c.in-Draw.field-0 (c.draw_history.ensures.part (judged_fault _ _ (sym c.judged-in-Draw.ensures ∙ e))))
+
+pub returns-in-Order-clause-written : goal.returns-in-Order-clause-written
+returns-in-Order-clause-written g c = rw (c.in-Order.is, c.sought.ensures) (search_told _ _ _ _ c.in-Order.field-0 c.in-Order.steps c.order_history.ensures.written)
+
+pub returns-in-Order-clause-all_read : goal.returns-in-Order-clause-all_read
+returns-in-Order-clause-all_read g c = rw c.sought.ensures (sought_ok c.order_history.result _ c.order_history.ensures.all_read)
+
+pub returns-in-Order-clause-verdict : goal.returns-in-Order-clause-verdict
+returns-in-Order-clause-verdict g c = λ legal e. rw c.in-Order.is (search_legality _ c.in-Order.field-0 c.in-Order.steps _ _ c.order_history.ensures.told legal (sym c.sought.ensures ∙ e))
+
+pub returns-in-Order-clause-legal : goal.returns-in-Order-clause-legal
+returns-in-Order-clause-legal g c = λ e. absurd (sought_not_done _ (sym c.sought.ensures ∙ e))
+
+pub returns-in-Order-clause-line : goal.returns-in-Order-clause-line
+returns-in-Order-clause-line g c = λ number refusal e. rw c.in-Order.is (c.order_history.ensures.line number refusal (sought_fault _ _ (sym c.sought.ensures ∙ e)))
+
+pub returns-in-Order-clause-read : goal.returns-in-Order-clause-read
+returns-in-Order-clause-read g c = λ e. c.order_history.ensures.read (sought_fault _ _ (sym c.sought.ensures ∙ e))
+
+pub returns-in-Order-clause-write : goal.returns-in-Order-clause-write
+returns-in-Order-clause-write g c = λ e. c.order_history.ensures.write (sought_fault _ _ (sym c.sought.ensures ∙ e))
+
+pub returns-in-Order-clause-never_usage : goal.returns-in-Order-clause-never_usage
+returns-in-Order-clause-never_usage g c = λ e. c.order_history.ensures.never_usage (sought_fault _ _ (sym c.sought.ensures ∙ e))
+
+pub returns-in-Order-clause-silent : goal.returns-in-Order-clause-silent
+returns-in-Order-clause-silent g c = rw c.sought.ensures (sought_err c.order_history.result _ c.order_history.ensures.silent)
+
+pub returns-in-Order-clause-part : goal.returns-in-Order-clause-part
+returns-in-Order-clause-part g c = λ e. rw c.in-Order.is (search_part _ _ _ c.in-Order.field-0 c.in-Order.steps (c.order_history.ensures.part (sought_fault _ _ (sym c.sought.ensures ∙ e))))

@@ -1,5 +1,6 @@
 use Rattle.std.proofs.Common.{count_ones, refl}
-use Rattle.lock_free.proofs.CleanBranches.{clean_has, cleaning, cleaning_way, cleaned_stock, unchanged, contracted_making, contracted_over, clean_gives_up, clean_swap, clean_swap_way, cleaned_there}
+use Rattle.lock_free.proofs.CleanBranches.{clean_has, cleaning, cleaning_way, cleaned_stock, unchanged, contracted_making, contracted_over, clean_gives_up, clean_swap, clean_swap_way}
+use Rattle.lock_free.proofs.CleanBranches.{cleaned_there}
 use Rattle.lock_free.proofs.cleaning.clean_branch.Goals as goal
 
 pub see_entries-entries-requires-clause-held : goal.see_entries-entries-requires-clause-held
