@@ -1,5 +1,5 @@
 use Rattle.std.proofs.Common.{ap, arith}
-use Rattle.lock_free.proofs.CleanEntries.{single_cleaned, child_passing, child_way, tomb_ready, tomb_cleaned, link_cleaned, kind_in}
+use Rattle.lock_free.proofs.CleanEntries.{single_cleaned, child_passing, child_way, tomb_ready, tomb_cleaned, link_cleaned}
 use Rattle.lock_free.proofs.MainLooks.{kind_in}
 use Rattle.lock_free.proofs.cleaning.clean_entry.Goals as goal
 
