@@ -67,7 +67,7 @@ returns-then-not-complete_own-clause-stock g c =
     c.prepare.ensures.sound c.offer.new.actor.me.0
     (subst (λ b. HasOfferedOrMissed c.prepare.new.actor.me.0 c.in-Some.slot b c.offer.new.actor.me.0) c.if-not-offer.false c.offer.ensures.offered) c.offer.ensures.sound false
     c.complete_own.new.actor.me.0 (subst (λ b. HasCopied c.offer.new.actor.me.0 b c.complete_own.new.actor.me.0) c.if-not-complete_own.true c.complete_own.ensures.copied) c.prepare.new.stock
-        c.note.new.self c.hand_over.new.self c.prepare.ensures.stock
+    c.note.new.self c.hand_over.new.self c.prepare.ensures.stock
     c.note.ensures.sizes c.note.ensures.noted c.hand_over.ensures.sizes c.hand_over.ensures.pool c.hand_over.ensures.made
 
 pub returns-then-not-complete_own-clause-tried : goal.returns-then-not-complete_own-clause-tried
@@ -93,7 +93,7 @@ returns-clause-stock g c =
     c.prepare.ensures.sound c.offer.new.actor.me.0
     (subst (λ b. HasOfferedOrMissed c.prepare.new.actor.me.0 c.in-Some.slot b c.offer.new.actor.me.0) c.if-not-offer.false c.offer.ensures.offered) c.offer.ensures.sound true
     c.complete_own.new.actor.me.0 (subst (λ b. HasCopied c.offer.new.actor.me.0 b c.complete_own.new.actor.me.0) c.if-not-complete_own.false c.complete_own.ensures.copied) c.prepare.new.stock
-        c.note.new.self c.hand_over.new.self c.prepare.ensures.stock
+    c.note.new.self c.hand_over.new.self c.prepare.ensures.stock
     c.note.ensures.sizes c.note.ensures.noted c.hand_over.ensures.sizes c.hand_over.ensures.pool c.hand_over.ensures.made in
     let tried = copied_tried c.args.words.now.table_id.words c.args.actor.now.me.0 c.requires.sound c.args.which c.args.way.handle c.args.opens c.requires.copying c.args.root c.requires.at
     c.read_original-given.result c.read_original-given.new.actor.me.0 c.read_original-given.ensures.original c.in-Some.slot c.prepare.new.actor.me.0 (c.in-Some.ensures {u = tt}).prepared
