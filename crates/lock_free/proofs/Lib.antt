@@ -159,3 +159,10 @@ mod HistoriesOn
 mod Answered
 mod Seekings
 mod Trials
+mod WalkRoots
+mod WalkLines
+mod WalkMains
+mod WalkTakes
+mod WalkEnters
+mod WalkNexts
+mod WalkBegins

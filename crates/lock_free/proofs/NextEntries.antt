@@ -43,14 +43,14 @@ module _ (v : View) (l : Line) (at : IsOn v l) (path : List Ref) (main : Ref) (d
   pub next_kind : is_entry (node_at (now v).heap (entry_in v main (length done))) ≡ true
   next_kind = entry_stands v.sizes v.account sound.bounds main (length done) claims.1.1.0 claims.1.1.1.1.0
 
-single_of : (node : Node) → is_single node ≡ true → (k : ℕ) × (x : ℕ) × (node ≡ Single k x)
+pub single_of : (node : Node) → is_single node ≡ true → (k : ℕ) × (x : ℕ) × (node ≡ Single k x)
 single_of (Single k x) is = (k, x, refl)
 single_of (Indirection generation main) is = absurd (true≢false (sym is))
 single_of (Branch bitmap entries) is = absurd (true≢false (sym is))
 single_of (Tomb single) is = absurd (true≢false (sym is))
 single_of (Listed singles) is = absurd (true≢false (sym is))
 
-link_of : (node : Node) → is_entry node ≡ true → is_single node ≡ false → (generation : ℕ) × (main : Ref) × (node ≡ Indirection generation main)
+pub link_of : (node : Node) → is_entry node ≡ true → is_single node ≡ false → (generation : ℕ) × (main : Ref) × (node ≡ Indirection generation main)
 link_of (Indirection generation main) is no_single = (generation, main, refl)
 link_of (Single k v) is no_single = absurd (true≢false no_single)
 link_of (Branch bitmap entries) is no_single = absurd (true≢false (sym is))

@@ -45,3 +45,4 @@ pub mod Splitting
 pub mod Telling
 pub mod Answering
 pub mod Seeking
+pub mod Walks

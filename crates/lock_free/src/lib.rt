@@ -34,6 +34,7 @@ mod stock;
 mod stores;
 mod swapping;
 mod tasks;
+mod walking;
 
 pub use accounts::Account;
 pub use accounts::Known;
@@ -167,3 +168,6 @@ pub use swapping::Swapped;
 pub use swapping::swap;
 pub use swapping::swap_made;
 pub use tasks::Task;
+pub use walking::Walker;
+pub use walking::all_pairs;
+pub use walking::count_pairs;
