@@ -214,7 +214,8 @@ pub fn all_pairs<R: Wait, A: AsksRoot>(
     unreachable!()
 }
 
-/// How many pairs it has: then the operation is to end. After an error it is to give up.
+/// How many pairs the map has: then the operation is to end. It takes memory for what is still to do alone. After an error, which comes
+/// at 2^64 - 1 pairs too, it is to give up.
 pub fn count_pairs<R: Wait, A: AsksRoot>(
     alloc: Global,
     rt: &R,
@@ -232,6 +233,12 @@ pub fn count_pairs<R: Wait, A: AsksRoot>(
     ensures counted { IfOk result (λ n. (pairs : List (ℕ × ℕ)) × HasAllPairs actor.old.me.0 pairs actor.new.me.0 × (n ≡ length pairs)) }
     ensures left { OnErr result (IsLeft actor.old.me.0 actor.new.me.0) }
 {
-    let pairs = all_pairs(alloc, rt, asker, words, actor, way)?;
-    Ok(pairs.len() as u64)
+    let mut walker = Walker::begin(alloc, rt, asker, words, actor, way)?;
+    for count in 0..u64::MAX {
+        match walker.next(rt, asker, words, actor, way)? {
+            Some(_) => {}
+            None => return Ok(count),
+        }
+    }
+    Err(AllocError)
 }
