@@ -12,5 +12,5 @@ look_at_value-value-requires-clause-looking c =
 pub returns-clause-taken : goal.returns-clause-taken
 returns-clause-taken c =
     λ at.
-        pair_taken c.args.words.now.table_id.words c.args.actor.now.me.0 c.requires.sound c.args.single at c.see_key-key.new.actor.me.0 c.see_key-key.result c.see_key-key.ensures.seen
-        c.see_key-key.ensures.sound c.look_at_value-value.new.actor.me.0 c.look_at_value-value.ensures.sound c.look_at_value-value.result c.look_at_value-value.ensures.read
+    pair_taken c.args.words.now.table_id.words c.args.actor.now.me.0 c.requires.sound c.args.single at c.see_key-key.new.actor.me.0 c.see_key-key.result c.see_key-key.ensures.seen
+    c.see_key-key.ensures.sound c.look_at_value-value.new.actor.me.0 c.look_at_value-value.ensures.sound c.look_at_value-value.result c.look_at_value-value.ensures.read

@@ -15,8 +15,8 @@ returns-in_default-clause-sound g c = c.loop.invariant.3.sound
 
 pub returns-in_default-clause-next : goal.returns-in_default-clause-next
 returns-in_default-clause-next g c = all_had c.args.words.now.table_id.words c.args.way c.args.actor.now.me.0 c.args.self.now c.loop.actor.me.0 c.loop.self c.loop.invariant.3 (
-        let none = c.in_default.ensures {u = tt} in
-        sym c.self.view_is ∙ none.items ∙ ap (λ xs. xs ++ []) (none.rest ∙ ap (λ k. take (k - 1) c.self.inside.todo.items) none.cases.0)
+    let none = c.in_default.ensures {u = tt} in
+    sym c.self.view_is ∙ none.items ∙ ap (λ xs. xs ++ []) (none.rest ∙ ap (λ k. take (k - 1) c.self.inside.todo.items) none.cases.0)
     )
 
 pub take_pair-requires-clause-table : goal.take_pair-requires-clause-table
@@ -68,7 +68,7 @@ loop-preserved g c = (
   tt,
   c.enter.ensures.table ∙ c.look_at_link.ensures.table ∙ c.loop.invariant.2,
   goes_next c.args.words.now.table_id.words c.args.way c.args.actor.now.me.0 c.args.self.now c.loop.actor.me.0 c.loop.self c.loop.invariant.3 c.in-Some-pop.entry c.pop.new.self.items
-        (sym c.self.view_is ∙ (c.in-Some-pop.ensures {u = tt}).items) c.if-entry.false c.look_at_link.new.actor.me.0 c.look_at_link.ensures.sound c.look_at_link.ensures.read.0
+      (sym c.self.view_is ∙ (c.in-Some-pop.ensures {u = tt}).items) c.if-entry.false c.look_at_link.new.actor.me.0 c.look_at_link.ensures.sound c.look_at_link.ensures.read.0
       c.enter.new.actor.me.0 c.enter.new.self c.enter.ensures.sound (c.in_ok-enter.ensures {u = tt}).entered,
 )
 
@@ -78,8 +78,8 @@ returns-in_err-enter-clause-table g c = c.enter.ensures.table ∙ c.look_at_link
 pub returns-in_err-enter-clause-next : goal.returns-in_err-enter-clause-next
 returns-in_err-enter-clause-next g c =
     λ pairs at.
-        let p = err_from_is_err_and c.from_residual.result c.from_residual.ensures.1 in
-        subst (λ r. NextBy c.args.actor.now.me.0 pairs r c.enter.new.actor.me.0 c.enter.new.self) (sym p.1)
-        (left_next c.args.words.now.table_id.words c.args.way c.args.actor.now.me.0 c.args.self.now c.loop.actor.me.0 c.loop.self c.loop.invariant.3 c.in-Some-pop.entry c.pop.new.self.items
-        (sym c.self.view_is ∙ (c.in-Some-pop.ensures {u = tt}).items) c.if-entry.false c.look_at_link.new.actor.me.0 c.look_at_link.ensures.sound c.look_at_link.ensures.read.0
-        c.enter.new.actor.me.0 c.enter.new.self (c.in_err-enter.ensures {u = tt}).entered pairs at)
+    let p = err_from_is_err_and c.from_residual.result c.from_residual.ensures.1 in
+    subst (λ r. NextBy c.args.actor.now.me.0 pairs r c.enter.new.actor.me.0 c.enter.new.self) (sym p.1)
+    (left_next c.args.words.now.table_id.words c.args.way c.args.actor.now.me.0 c.args.self.now c.loop.actor.me.0 c.loop.self c.loop.invariant.3 c.in-Some-pop.entry c.pop.new.self.items
+    (sym c.self.view_is ∙ (c.in-Some-pop.ensures {u = tt}).items) c.if-entry.false c.look_at_link.new.actor.me.0 c.look_at_link.ensures.sound c.look_at_link.ensures.read.0
+    c.enter.new.actor.me.0 c.enter.new.self (c.in_err-enter.ensures {u = tt}).entered pairs at)
