@@ -16,9 +16,10 @@ see_entries-requires-in-List-clause-held c =
 
 pub returns-in-Branch-clause-seen : goal.returns-in-Branch-clause-seen
 returns-in-Branch-clause-seen c =
-    let g = c.see_entries.ensures.seen in (
+    let g = c.see_entries.ensures.seen in
+    let w = c.see_entries.new.actor.me.0 in (
       g.0,
-      λ at. branch_seen c.args.words.now.table_id.words c.args.actor.now.me.0 c.requires.sound c.args.given at c.in-Branch.bitmap c.in-Branch.is c.see_entries.new.actor.me.0 c.see_entries.result.items g,
+      λ at. branch_seen c.args.words.now.table_id.words c.args.actor.now.me.0 c.requires.sound c.args.given at c.in-Branch.bitmap c.in-Branch.is w c.see_entries.result.items g,
     )
 
 pub returns-in-List-clause-seen : goal.returns-in-List-clause-seen
