@@ -92,7 +92,6 @@ mod Cleanings
 mod Licenses
 mod RootLines
 mod Rootings
-mod WalkRoots
 mod EndStep
 mod PinnedFor
 mod PinStep
@@ -191,3 +190,10 @@ mod Trials
 mod Updates
 mod AfterChanges
 mod ChangedSwaps
+mod WalkRoots
+mod WalkLines
+mod WalkMains
+mod WalkTakes
+mod WalkEnters
+mod WalkNexts
+mod WalkBegins

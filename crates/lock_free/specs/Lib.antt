@@ -38,7 +38,6 @@ pub mod BuildingUp
 pub mod Updating
 pub mod GoingDown
 pub mod CopySteps
-pub mod Walks
 pub mod Holding
 pub mod Descending
 pub mod Repairing
@@ -52,3 +51,4 @@ pub mod Answers
 pub mod OneKey
 pub mod Answering
 pub mod Seeking
+pub mod Walks

@@ -156,4 +156,6 @@ pub use swapping::swap_made;
 pub use tasks::Task;
 pub use updating::change_main;
 pub use updating::update;
-pub use walking::walk_root;
+pub use walking::Walker;
+pub use walking::all_pairs;
+pub use walking::count_pairs;
