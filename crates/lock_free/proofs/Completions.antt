@@ -50,9 +50,6 @@ module _ (n : ℕ) (v0 : View) (sound0 : IsSound n v0) (way : Way) (offer : ℕ)
   reading1 : IsReading v1 its.offer.root read.Main
   reading1 = reading0 c.operation c.line (saw_runs v0 v1 olds.0 c.operation c.runs)
 
-  pub way1 : IsOnWay v0 way → IsOnWay v1 way
-  way1 = saw_way v0 v1 olds.0 c.operation c.runs way
-
   pub passing1 : IsPassing v1 pair.low None
   passing1 =
       let said = olds.1 its c.its.here c.its.place in

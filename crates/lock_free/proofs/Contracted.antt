@@ -1,17 +1,13 @@
 -- Which main node is made, by how many entries are left.
-use Rattle.std.proofs.Common.{◌≡◌, ◌&&◌, Bool, true, false, List, [], ◌∷◌, length, None, Some, refl, sym, ap, ap₂, subst, ◌∙◌, arith}
+use Rattle.std.proofs.Common.{◌≡◌, ◌&&◌, Bool, true, false, List, [], ◌∷◌, length, None, refl, sym, ap, subst, ◌∙◌, arith}
 use Rattle.std.proofs.lemmas.Bool.{true≢false}
 use Rattle.nodes.specs.Builders.{contracted, renewed}
 use Rattle.trie_words.specs.declared.entries.Entry.{Entry}
 use Rattle.machine_model.specs.Beneath.slot_arena.specs.declared.refs.Ref.{Ref}
-use Rattle.machine_model.specs.Beneath.slot_arena.specs.declared.nodes.Node.TheVariants.{Tomb}
-use Rattle.machine_model.specs.Beneath.slot_arena.specs.Heaps.{node_at}
 use Rattle.machine_model.specs.declared.actions.Action.TheVariants as act
 use Rattle.lock_free.specs.declared.rules.View.{View}
 use Rattle.lock_free.specs.Contracting.{IsAtContracted, IsLone}
-use Rattle.lock_free.specs.Loading.{now, IsAt}
-use Rattle.lock_free.specs.Nodes.{is_single}
-use Rattle.lock_free.specs.Passing.{IsPlaced}
+use Rattle.lock_free.specs.Loading.{IsAt}
 use Rattle.lock_free.specs.SeenEntries.{AreEntriesTo, IsAtBranch, entry_to, unowned}
 
 -- one entry leads to one node
@@ -34,18 +30,6 @@ one_entry v (e ∷ []) r h = (e, refl, ap (first (unowned e)) h)
 one_entry v (e ∷ f ∷ es) r h = absurd (omega (arith, (ap length h)))
 
 module _ (v : View) (may : Bool) (bitmap : _) (entries : List Entry) (at : IsAtContracted v may bitmap entries) where
-  pub tomb_making : (e : Entry) → IsLone may entries (Some e) → (r : Ref) × IsAt v (act.Make (Tomb r)) × IsPlaced v r e.slot
-  tomb_making e lone =
-      let one = one_ref v e at.refs (subst (λ xs. AreEntriesTo v xs at.refs) lone.1 at.names) in
-      let r = one.0 in
-      let its = at.lone r one.1 in
-      let single : is_single (node_at (now v).heap r) ≡ true = sym (ap (λ (x : Entry). x.is_single) one.2) ∙ lone.2 in
-      let entombs : at.entombs ≡ true = its.1 ∙ ap₂ (λ a b. a && b) lone.0 single in (
-        r,
-        subst (λ n. IsAt v (act.Make n)) (ap₂ (λ b rs. contracted b bitmap rs) entombs one.1) at.making,
-        (its.0, sym (ap (λ (x : Entry). x.slot) one.2)),
-      )
-
   plain : (b : Bool) (refs : List Ref) → ((r : Ref) → refs ≡ r ∷ [] → b ≡ false) → contracted b bitmap refs ≡ renewed bitmap refs
   plain true [] no_lone = refl
   plain true (r ∷ []) no_lone = absurd (true≢false (no_lone r refl))

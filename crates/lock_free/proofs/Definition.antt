@@ -1,5 +1,5 @@
 -- What the proof on words asks of the definition: what a step that only reads leaves, and what stays while others take steps.
-use Rattle.std.proofs.Common.{◌≡◌, ◌<◌, ◌++◌, ℕ, Bool, true, [], ◌∷◌, Contains, Some, None, refl, sym, ap, ◌∙◌, subst, length, get_or, append-nil, arith}
+use Rattle.std.proofs.Common.{◌≡◌, ◌++◌, ℕ, Bool, true, [], ◌∷◌, Contains, Some, None, refl, sym, ap, ◌∙◌, subst, length, get_or, append-nil, arith}
 use Rattle.std.proofs.lemmas.List.Elements.{Contains-get_or}
 use Rattle.machine_model.specs.Beneath.slot_arena.specs.declared.refs.Ref.{Ref}
 use Rattle.machine_model.specs.Beneath.slot_arena.specs.declared.nodes.Slot.{Slot}
@@ -24,7 +24,6 @@ use Rattle.proof_memory.proofs.Safety.AtEachTime.{safe_along}
 use Rattle.proof_memory.proofs.Safety.AtTimes.{action_finds}
 use Rattle.proof_memory.proofs.Safety.States.{IsSafe}
 use Rattle.proof_garbage.proofs.Known.{named_known}
-use Rattle.proof_waiting.specs.Beneath.proof_slots.proofs.Below.{slots_are_below_births}
 use Rattle.proof_waiting.specs.Beneath.proof_slots.proofs.Padded.Lines.{acts_wide}
 use Rattle.proof_waiting.proofs.Operations.{operations_wait}
 use Rattle.proof_memory.specs.Wants.{is_main_node}
@@ -111,15 +110,6 @@ module _ (sizes : Sizes) (account : Account) (bounds : AreBounds (bounds_for siz
     slot_found =
         let (slot, stands) = found.0 in
         (slot, (standing_parts state.heap m slot stands).0, subst (λ n. is_main_node n ≡ true) (node_standing state.heap m slot stands) found.1)
-
-  -- the main node that it is to read is live, in use, and a main node
-  pub prev_stands : (m : Ref) → action_of (state_of sizes account) operation ≡ act.ReadPrev m →
-      IsLive (state_of sizes account) m × ((slot : Slot) × (get_or (state_of sizes account).heap.slots (slot_of m) None ≡ Some slot) × (is_main_node slot.node ≡ true))
-  prev_stands m h = (named m h, slot_found m h)
-
-  -- what is named was made
-  pub prev_made : (m : Ref) → action_of (state_of sizes account) operation ≡ act.ReadPrev m → slot_of m < (state_of sizes account).heap.births
-  prev_made m h = slots_are_below_births (bounds_for sizes account.steps) account.steps m bounds (found m h).0
 
 -- while others take steps the operation stays, but for its mark, and so does what it is to do
 pub waits : (sizes : Sizes) (actor : ℕ) (before after : Account) → HasWaited actor before after → AreBounds (bounds_for sizes after.steps) → (operation : Operation) →

@@ -9,7 +9,7 @@ use Rattle.machine_model.specs.declared.building.BuildLine.TheVariants as build
 use Rattle.machine_model.specs.declared.building.Site.{Site}
 use Rattle.machine_model.specs.declared.building.Site.TheVariants as site
 use Rattle.machine_model.specs.declared.finding.WhenFound.{WhenFound}
-use Rattle.machine_model.specs.declared.finding.WhenFound.TheVariants.{Answers, Sets, Removes}
+use Rattle.machine_model.specs.declared.finding.WhenFound.TheVariants.{Answers, Sets}
 use Rattle.machine_model.specs.declared.lines.Line.TheVariants as line
 use Rattle.machine_model.specs.Calls.{absent_reply, inserts, when_found}
 use Rattle.machine_model.specs.Finding.{found_so}
@@ -17,7 +17,7 @@ use Rattle.lock_free.specs.declared.descending.Found.TheVariants as found
 use Rattle.lock_free.specs.declared.descending.Update.TheVariants as update
 use Rattle.lock_free.specs.declared.reading.Given.{Given}
 use Rattle.lock_free.specs.declared.rules.View.{View}
-use Rattle.lock_free.specs.Descending.{IsPlace, IsSite, IsFoundAt, IsRemovingAt, IsHere, absent_in, absent_at_end, absent_found, line_found, KnowsFound, HasFound}
+use Rattle.lock_free.specs.Descending.{IsPlace, IsSite, IsFoundAt, IsHere, absent_in, absent_at_end, absent_found, line_found, KnowsFound, HasFound}
 use Rattle.lock_free.specs.Holding.{IsOn}
 use Rattle.lock_free.specs.Loading.{now}
 use Rattle.lock_free.proofs.Descents.{found_here}
@@ -40,9 +40,6 @@ module _ (v : View) (call : Call) (slots : List ℕ) (given : Given) (position v
       found_here v slots (found.Changes (update.Builds (site.At position) (Some value)) given) path main no_ref (line.Build (build.Single path main (site.At position) (Some value)))
       (on_by Sets is) refl
       (is_at.2, is_at.3.0)
-
-  pub removing_here : Removes ≡ when_found call value → IsHere v slots given (IsRemovingAt v position value)
-  removing_here is = (path, main, is_at.2, (is_at.3.0, on_by Removes is))
 
 -- ---- where it is absent
 

@@ -47,9 +47,6 @@ module _ (before : View) (class name : ℕ) (mid : View) (slot : HasSlot before 
   pub at_there : (does : Action) → IsAt before does → IsAt d does
   at_there does p = subst (λ x. IsAt x does) (sym moved) (record { operation = p.operation; runs = p.runs; acts = p.acts })
 
-  pub at_before : (does : Action) → IsAt d does → IsAt before does
-  at_before does p = let q = subst (λ x. IsAt x does) moved p in record { operation = q.operation; runs = q.runs; acts = q.acts }
-
   pub pool_is : pool_of d.pool class ≡ slot.last.0 ++ name ∷ []
   pool_is = ap (λ (x : View). pool_of x.pool class) d_is ∙ slot.last.1
 

@@ -1,5 +1,5 @@
 -- A step of an operation that is in a READ is the READ's, whichever program it belongs to.
-use Rattle.std.proofs.Common.{◌≡◌, ℕ, List, Option, Some, None, refl, ap, subst, ◌∙◌, arith}
+use Rattle.std.proofs.Common.{◌≡◌, ℕ, List, Option, Some, refl, ap, subst, ◌∙◌, arith}
 use Rattle.std.proofs.lemmas.Option.{none-some, same_Some}
 use Rattle.machine_model.specs.Beneath.slot_arena.specs.declared.refs.Ref.{Ref}
 use Rattle.machine_model.specs.declared.actions.Action.{Action}
@@ -38,8 +38,6 @@ use Rattle.machine_model.specs.Climbing.{climb_after_read, climb_after_root}
 use Rattle.machine_model.specs.Copying.{copy_after_read, copy_after_complete}
 use Rattle.machine_model.specs.Walking.{walk_after_read}
 use Rattle.machine_model.specs.Acting.{operation_after, private_after, attempt_after, mark_after}
-use Rattle.machine_model.specs.Moves.{GoesOn}
-use Rattle.machine_model.proofs.Actors.{marks_of}
 use Rattle.lock_free.specs.OfReads.{line_by, read_to}
 
 module _ (state : State) (operation : Operation) where
@@ -202,20 +200,3 @@ module _ (state : State) (operation : Operation) where
         ∙ ap (λ g. with_action (read_action r.indirection r.line) g (line_after state operation operation.line)) its.generation
         ∙ ap (λ l. with_action (read_action r.indirection r.line) operation.generation l) its.leads
         ∙ quiet r.indirection r.line (line_by operation (out_of r))
-
--- such a step is no end, and marks nothing
-pub read_goes_on : (i : Ref) (x : ReadLine) → GoesOn (read_action i x)
-read_goes_on i read.Main = tt
-read_goes_on i (read.Prev m) = tt
-read_goes_on i (read.AskRoot m p) = tt
-read_goes_on i (read.Abort m p offer) = tt
-read_goes_on i (read.Decide m p told) = tt
-read_goes_on i (read.Restore m p) = tt
-
-pub read_marks_none : (state : State) (handle : ℕ) (i : Ref) (x : ReadLine) → marks_of state handle (read_action i x) ≡ None
-read_marks_none state handle i read.Main = refl
-read_marks_none state handle i (read.Prev m) = refl
-read_marks_none state handle i (read.AskRoot m p) = refl
-read_marks_none state handle i (read.Abort m p offer) = refl
-read_marks_none state handle i (read.Decide m p told) = refl
-read_marks_none state handle i (read.Restore m p) = refl

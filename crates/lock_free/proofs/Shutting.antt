@@ -1,5 +1,5 @@
 -- Closing a handle, access after access.
-use Rattle.std.proofs.Common.{◌≡◌, ◌+◌, ℕ, inl, inr, true, List, ◌∷◌, refl, sym, ap, subst, ◌∙◌}
+use Rattle.std.proofs.Common.{◌≡◌, ℕ, inl, inr, true, List, refl, sym, subst}
 use Rattle.std.proofs.lemmas.Bool.{false≢true}
 use Rattle.trie_words.specs.Codes.{IsRootWord, root_code}
 use Rattle.trie_words.specs.declared.roots.RootWord.{RootWord}
@@ -10,7 +10,7 @@ use Rattle.lock_free.specs.Closing.{with_marks, Watched}
 use Rattle.lock_free.specs.HandleWords.{is_unmarked, marked_by, HasSeenRoot}
 use Rattle.lock_free.specs.Loading.{IsSound, Saw}
 use Rattle.lock_free.specs.Rules.{SaysClosing}
-use Rattle.lock_free.specs.SeatWords.{closes, passing, IsIdle, WouldClose}
+use Rattle.lock_free.specs.SeatWords.{IsIdle, WouldClose}
 use Rattle.lock_free.proofs.OneStep.Idle.{idle_stays}
 use Rattle.lock_free.proofs.Waiting.{waited_twice}
 
@@ -28,13 +28,6 @@ pub record Passed (before v : View) (handle looked : ℕ) : Type 0 where
 
 pub none_passed : (before : View) (handle : ℕ) → WouldClose before handle 0 → Passed before before handle 0
 none_passed before handle would = record { marks = before.closing; is = refl; would = would }
-
-pub one_passed : (before v after : View) (handle looked : ℕ) → Passed before v handle looked → after ≡ passing v handle looked → Passed before after handle (looked + 1)
-one_passed before v after handle looked p e = record {
-  marks = closes handle (looked + 1) ∷ v.closing;
-  is = e ∙ ap (λ x. with_marks x (closes handle (looked + 1) ∷ v.closing)) p.is;
-  would = (v.closing, ap (λ (x : View). x.closing) e);
-}
 
 pub passed_sound : (words : ℕ) (before v : View) (handle looked : ℕ) → Passed before v handle looked → IsSound words before → IsSound words v
 passed_sound words before v handle looked p sound = subst (IsSound words) (sym p.is) (marks_sound words before p.marks sound)

@@ -34,7 +34,7 @@ use Rattle.lock_free.specs.declared.reading.Way.{Way}
 use Rattle.lock_free.specs.declared.rules.View.{View}
 use Rattle.lock_free.specs.declared.swapping.Swapped.TheVariants.{Commits, Fails, Misses}
 use Rattle.lock_free.specs.Accounts.{bounds_for, IsOwn, later, first}
-use Rattle.lock_free.specs.Exchanging.{IsAtPublish, HasPublished, given_up}
+use Rattle.lock_free.specs.Exchanging.{HasPublished, given_up}
 use Rattle.lock_free.specs.Loading.{now, seen, Runs, IsAt, IsSound, IsAtSlot, HasHeader, HasReadHeader}
 use Rattle.lock_free.specs.Nodes.{class_of, IsAhead, SaysPrevious, decided, ahead, pending, failed}
 use Rattle.lock_free.specs.Passing.{Later, IsReading, IsOnWay, IsPlaced, IsPassing, HasPassed, HasGiven}
@@ -99,9 +99,6 @@ module _ (v : View) (name : ℕ) (link : Link) (fresh : ℕ) (is_at : IsAtSwap v
 
   abbrev at_publish : IsAt v (act.Publish i a f)
   at_publish = record { operation = o0; runs = swaps.1.1; acts = subst (λ l. action_of (now v) (record o0 { line = l }) ≡ act.Publish i a f) (sym swaps.2) refl }
-
-  pub publish_ready : IsAtPublish v name link fresh
-  publish_ready = (i, a, f, at_publish, is_at.5.1, is_at.6.is, is_at.7.1)
 
   -- it is at no other SWAP
   lifted : (w : View) (b : Bool) → ((o : Operation) → Runs v o → Runs w (swap_done why (node_at (now v).heap f) b o)) →

@@ -217,14 +217,8 @@ SawOf Says before name after =
 abbrev pub HasSeenMain : View → ℕ → Header → View → Type 0
 HasSeenMain before name header after = SawOf (λ account state r. SaysMain account state r header) before name after
 
-abbrev pub HasSeenLink : View → ℕ → Link → View → Type 0
-HasSeenLink before name link after = SawOf (λ account state r. SaysLink account state r link) before name after
-
 abbrev pub HasSeenKey : View → ℕ → ℕ → View → Type 0
 HasSeenKey before name found after = SawOf (λ account state r. SaysKey state r found) before name after
-
-abbrev pub HasSeenValue : View → ℕ → ℕ → View → Type 0
-HasSeenValue before name found after = SawOf (λ account state r. SaysValue state r found) before name after
 
 abbrev pub HasSeenPair : View → ℕ → ℕ → Pair → View → Type 0
 HasSeenPair before name position pair after = SawOf (λ account state r. SaysPair account state r position pair) before name after

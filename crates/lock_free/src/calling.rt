@@ -10,6 +10,7 @@ use crate::loads::{Actor, Words};
 use crate::pins::{finish, pin, unpin};
 use crate::reading::Way;
 use crate::rules::{Abandons, Starts};
+use crate::tasks::key_of;
 use history::{Access, Call};
 use std::sync::Wait;
 use trie_words::{Pin, RootWord};
@@ -54,22 +55,6 @@ fn needs_read_only(call: &Call) -> bool
     ensures { result ≡ needs_read_only call.now }
 {
     matches!(call, Call::Entries { .. } | Call::Count { .. })
-}
-
-/// The key of a call on one key.
-fn key_of(call: Call) -> u64
-    ensures { result ≡ key_of call }
-{
-    match call {
-        Call::Get { key, .. }
-        | Call::Put { key, .. }
-        | Call::PutIfAbsent { key, .. }
-        | Call::Replace { key, .. }
-        | Call::ReplaceIf { key, .. }
-        | Call::Remove { key, .. }
-        | Call::RemoveIf { key, .. } => key,
-        _ => 0,
-    }
 }
 
 /// A law: the key of a call has 64 bits, since it is one of the program's. It does nothing.

@@ -4,7 +4,7 @@ ghost use Rattle.std.specs.Prelude.{◌≡◌};
 ghost use Rattle.machine_model.specs.declared.actions.Action.TheVariants as act;
 ghost use Rattle.lock_free.specs.Entries.{HasSeenEntry};
 ghost use Rattle.lock_free.specs.Loading.{IsSound, IsAtSlot, HoldsSlot, HasPosition, HasReadHeader, HasReadLink, HasLookedAtMain, HasLookedAtLink, HasLookedAtKey, HasLookedAtValue, HasSeenMain};
-ghost use Rattle.lock_free.specs.Loading.{HasSeenLink, HasSeenKey, HasSeenValue, HasSeenPair};
+ghost use Rattle.lock_free.specs.Loading.{HasSeenKey, HasSeenPair};
 
 use crate::rules::{Goes, Rule, Sees, View};
 use crate::sizes::Sizes;
@@ -106,18 +106,6 @@ pub fn see_main(words: &Words, actor: &mut Actor, main: u32) -> Header
     Header::of_word(words.load::<Sees>(actor, 2 * main as usize))
 }
 
-/// The word of an indirection that the seat's operation holds.
-pub fn see_link(words: &Words, actor: &mut Actor, indirection: u32) -> Link
-    requires table { actor.old.table_id ≡ words.now.table_id }
-    requires sound { IsSound words.now.table_id.words actor.old.me.0 }
-    requires held { HoldsSlot actor.old.me.0 indirection }
-    ensures table { actor.new.table_id ≡ actor.old.table_id }
-    ensures sound { IsSound words.now.table_id.words actor.new.me.0 }
-    ensures seen { HasSeenLink actor.old.me.0 indirection result actor.new.me.0 }
-{
-    Link::of_word(words.load::<Sees>(actor, 2 * indirection as usize))
-}
-
 /// The key of a single that the seat's operation holds.
 pub fn see_key(words: &Words, actor: &mut Actor, single: u32) -> u64
     requires table { actor.old.table_id ≡ words.now.table_id }
@@ -128,18 +116,6 @@ pub fn see_key(words: &Words, actor: &mut Actor, single: u32) -> u64
     ensures seen { HasSeenKey actor.old.me.0 single result actor.new.me.0 }
 {
     words.load::<Sees>(actor, 2 * single as usize)
-}
-
-/// The value of a single that the seat's operation holds.
-pub fn see_value(words: &Words, actor: &mut Actor, single: u32) -> u64
-    requires table { actor.old.table_id ≡ words.now.table_id }
-    requires sound { IsSound words.now.table_id.words actor.old.me.0 }
-    requires held { HoldsSlot actor.old.me.0 single }
-    ensures table { actor.new.table_id ≡ actor.old.table_id }
-    ensures sound { IsSound words.now.table_id.words actor.new.me.0 }
-    ensures seen { HasSeenValue actor.old.me.0 single result actor.new.me.0 }
-{
-    words.load::<Sees>(actor, 2 * single as usize + 1)
 }
 
 /// Two entries of a branch or list that the seat's operation holds: that of this position, and the one beside it in its word.

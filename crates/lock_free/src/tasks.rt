@@ -64,7 +64,7 @@ impl Task {
 }
 
 /// The key of a call on one key.
-fn key_of(call: Call) -> u64
+pub(crate) fn key_of(call: Call) -> u64
     ensures { result ≡ key_of call }
 {
     match call {

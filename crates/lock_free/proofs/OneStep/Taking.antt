@@ -67,9 +67,6 @@ module _ (sizes : Sizes) (steps : List Step) (bounds : AreBounds (bounds_for siz
       pub stands : standing (taken state.heap node) made ≡ Some (fresh_slot state.heap node)
       stands = (taken_all state.limits.slots state.heap safe.sound.heap node made made_next).0
 
-      pub was_none : standing state.heap made ≡ None
-      was_none = (taken_all state.limits.slots state.heap safe.sound.heap node made made_next).1
-
       pub others_stand : (r : Ref) → (r ≡ made → ⊥) → standing (taken state.heap node) r ≡ standing state.heap r
       others_stand = (taken_all state.limits.slots state.heap safe.sound.heap node made made_next).2
 
