@@ -1,18 +1,16 @@
 -- What is known in a safe state is in use and closed under slots, so what lines claim they claim of it.
-use Rattle.std.proofs.Common.{◌≡◌, ℕ, ◌<◌, Contains, length, get_or, Some, None, sym, ap, ◌∙◌, subst, inl, inr}
-use Rattle.std.proofs.lemmas.List.Elements.{Contains-append_left, Contains-append_cases, All-contains}
+use Rattle.std.proofs.Common.{◌≡◌, ℕ, Contains, get_or, Some, None, sym, subst, inl, inr}
+use Rattle.std.proofs.lemmas.List.Elements.{Contains-append_cases, All-contains}
 use Rattle.proof_garbage.specs.Beneath.slot_arena.specs.declared.refs.Ref.{Ref}
 use Rattle.proof_garbage.specs.Beneath.slot_arena.specs.declared.nodes.Slot.{Slot}
-use Rattle.proof_garbage.specs.Beneath.slot_arena.specs.Heaps.{node_at, entry_at, entries_of, refs_of_node, refs_of_prev, refs_of_slot}
+use Rattle.proof_garbage.specs.Beneath.slot_arena.specs.Heaps.{refs_of_slot}
 use Rattle.proof_garbage.specs.Beneath.machine_model.specs.declared.operations.Operation.{Operation}
 use Rattle.proof_garbage.specs.Beneath.machine_model.specs.States.{State, operation_of}
 use Rattle.proof_garbage.specs.Beneath.machine_model.specs.Counting.{refs_of_root}
 use Rattle.proof_garbage.specs.Beneath.machine_model.specs.Operations.{action_of}
 use Rattle.proof_garbage.specs.Beneath.machine_model.specs.Grown.{standing}
-use Rattle.proof_garbage.specs.Beneath.machine_model.proofs.Grown.{standing_parts, node_standing, prev_standing}
-use Rattle.proof_garbage.specs.Beneath.proof_memory.specs.Wants.{is_formed, AllHold, node_wants, prev_wants, word_wants, action_wants}
+use Rattle.proof_garbage.specs.Beneath.proof_memory.specs.Wants.{AllHold, word_wants, action_wants}
 use Rattle.proof_garbage.specs.Beneath.proof_memory.specs.Laws.{IsInUse}
-use Rattle.proof_garbage.specs.Beneath.proof_memory.proofs.Claims.Uses.{first_hold, last_hold}
 use Rattle.proof_garbage.specs.Beneath.proof_memory.proofs.Claims.Nodes.{Heaped}
 use Rattle.proof_garbage.specs.Beneath.proof_memory.proofs.Safety.Guards.{Safe}
 use Rattle.proof_garbage.specs.Beneath.proof_memory.proofs.Safety.States.{IsSafe}
@@ -21,7 +19,8 @@ use Rattle.proof_garbage.specs.Beneath.proof_memory.proofs.Safety.Standing.{in_r
 use Rattle.proof_garbage.specs.Beneath.proof_memory.proofs.Heap.RootWords.{WordsHold}
 use Rattle.proof_garbage.specs.Beneath.proof_memory.proofs.Lines.Acts.{line_acts}
 use Rattle.proof_garbage.specs.Live.{refs_of_claims, line_claims, at_hand, IsKnown, from_root, from_operation, from_slot}
-use Rattle.proof_garbage.proofs.Claims.{Are, first_of, last_of, refs_held, hold_by, entry_in, node_claimed, prev_claimed, word_claimed}
+use Rattle.proof_garbage.proofs.Claims.{Are, first_of, last_of, refs_held, hold_by, word_claimed}
+use Rattle.proof_garbage.proofs.Closed.{IsClosed, slot_closed, entries_closed, heaped_closed}
 
 module _ (state : State) (I : IsSafe state) (P : ℕ → Type 0) where
   abbrev pub Known : Ref → Type 0
@@ -40,43 +39,25 @@ module _ (state : State) (I : IsSafe state) (P : ℕ → Type 0) where
   known_used (from_operation actor operation r e p c) = operation_used actor operation r e c
   known_used (from_slot q r k c) = in_any_slot state I q r c
 
-  pub slot_known : (q : Ref) (slot : Slot) → Known q → standing state.heap q ≡ Some slot → Are Known (refs_of_slot (Some slot))
-  slot_known q slot k stands r c = from_slot q r k (subst (λ o. Contains (refs_of_slot o) r) (sym ((standing_parts state.heap q slot stands).0)) c)
+  pub closed : IsClosed state Known
+  closed = record { used = known_used; under = from_slot }
 
-  entries_known : (main : Ref) (position : ℕ) → Known main → position < length (entries_of (node_at state.heap main)) → Known (entry_at state.heap main position)
-  entries_known main position k within =
-      let (slot, stands) = known_used k in
-      slot_known main slot k stands (entry_at state.heap main position)
-      (Contains-append_left (refs_of_node slot.node) (refs_of_prev slot.prev) (entry_at state.heap main position)
-      (subst (λ n. Contains (refs_of_node n) (entry_at state.heap main position)) (node_standing state.heap main slot stands) (entry_in (node_at state.heap main) position within)))
+  pub slot_known : (q : Ref) (slot : Slot) → Known q → standing state.heap q ≡ Some slot → Are Known (refs_of_slot (Some slot))
+  slot_known = slot_closed state I Known closed
 
   pub heaped_known : Heaped Known state.heap
-  heaped_known = record {
-    inside = λ r k.
-        let (slot, stands) = known_used k in
-        subst (λ n. AllHold Known state.heap (node_wants n)) (sym (node_standing state.heap r slot stands))
-        (hold_by (IsInUse state.heap) Known state.heap entries_known (node_wants slot.node)
-        (first_hold (IsInUse state.heap) state.heap (node_wants slot.node) (prev_wants slot.prev) ((I.nodes r slot stands).0))
-        (node_claimed Known slot.node (first_of Known (refs_of_node slot.node) (refs_of_prev slot.prev) (slot_known r slot k stands))));
-    formed = λ r k. let (slot, stands) = known_used k in ap is_formed (node_standing state.heap r slot stands) ∙ (I.nodes r slot stands).1;
-    before = λ r k.
-        let (slot, stands) = known_used k in
-        subst (λ p. AllHold Known state.heap (prev_wants p)) (sym (prev_standing state.heap r slot stands))
-        (hold_by (IsInUse state.heap) Known state.heap entries_known (prev_wants slot.prev)
-        (last_hold (IsInUse state.heap) state.heap (node_wants slot.node) (prev_wants slot.prev) ((I.nodes r slot stands).0))
-        (prev_claimed Known slot.prev (last_of Known (refs_of_node slot.node) (refs_of_prev slot.prev) (slot_known r slot k stands))));
-  }
+  heaped_known = heaped_closed state I Known closed
 
   pub words_known : WordsHold Known state.heap state
   words_known handle root e =
-      hold_by (IsInUse state.heap) Known state.heap entries_known (word_wants root.word) (I.words handle root e)
+      hold_by (IsInUse state.heap) Known state.heap (entries_closed state I Known closed) (word_wants root.word) (I.words handle root e)
       (word_claimed Known root.word (λ r c. from_root handle r (subst (λ o. Contains (refs_of_root o) r) (sym e) c)))
 
   module _ (actor : ℕ) (operation : Operation) (e : operation_of state actor ≡ Some operation) (p : P operation.id) where
     pub line_known : AllHold Known state.heap (line_claims state operation)
     line_known =
         let (k, at_k) = of_actor state (λ k operation. get_or state.actors k None ≡ Some operation) (λ k operation e. e) actor operation e in
-        hold_by (Safe state operation.epoch) Known state.heap entries_known (line_claims state operation) (I.lines k operation at_k)
+        hold_by (Safe state operation.epoch) Known state.heap (entries_closed state I Known closed) (line_claims state operation) (I.lines k operation at_k)
         (first_of Known (refs_of_claims (line_claims state operation)) operation.private (λ r c. from_operation actor operation r e p c))
 
     pub privates_known : Are Known operation.private

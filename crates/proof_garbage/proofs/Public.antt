@@ -95,10 +95,14 @@ module _ (limits : Bounds) (ok : AreBounds limits) (steps : List Step) (r : Ref)
         let more = births_grow _ _ _ _ _ _ ((step_effect state I s o after m).3) in
         let made = h.made in record { made = omega (arith, more, made); apart = λ k found at_k c. by_owner s o after m k (is_of (suc k) s) found at_k c }
 
-pub public_along : (limits : Bounds) → AreBounds limits → (before since : List Step) (r : Ref) → IsReached (run limits before) r → IsPublic r (run limits (before ++ since))
-public_along limits ok before since r reached =
-    by_last (λ xs. IsPublic r (run limits (before ++ xs))) (subst (λ xs. IsPublic r (run limits xs)) (sym (append-nil before)) (first_public limits ok before r reached))
+-- and stays so
+pub public_on : (limits : Bounds) → AreBounds limits → (before since : List Step) (r : Ref) → IsPublic r (run limits before) → IsPublic r (run limits (before ++ since))
+public_on limits ok before since r first =
+    by_last (λ xs. IsPublic r (run limits (before ++ xs))) (subst (λ xs. IsPublic r (run limits xs)) (sym (append-nil before)) first)
     (λ xs s h.
     subst (λ ys. IsPublic r (run limits ys)) (append_assoc before xs (s ∷ []))
     (subst (IsPublic r) (sym (run_push (first_state limits) (before ++ xs) s))
     (kept_by_moves (IsPublic r) (run limits (before ++ xs)) s h (λ o after m. public_then limits ok (before ++ xs) r h s o after m)))) since
+
+pub public_along : (limits : Bounds) → AreBounds limits → (before since : List Step) (r : Ref) → IsReached (run limits before) r → IsPublic r (run limits (before ++ since))
+public_along limits ok before since r reached = public_on limits ok before since r (first_public limits ok before r reached)

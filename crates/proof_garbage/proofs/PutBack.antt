@@ -1,4 +1,4 @@
--- A run in which an offer puts back a main node that no root reached.
+-- A run in which an offer puts back a main node that no root reached. `limits`, `before` and `since` are cited from above.
 use lib.Count.{ones, ones_in}
 use Rattle.std.specs.Prelude.{replicate}
 use Rattle.std.proofs.Common.{◌≡◌, ℕ, zero, suc, ◌≤◌, ◌==◌, ◌&&◌, ◌||◌, Bool, true, false, nat_le, List, [], ◌∷◌, ◌++◌, Contains, get_or, Option, Some, None, is_some, eq-eqb, refl, sym, ap, ◌∙◌}
@@ -29,21 +29,21 @@ use Rattle.proof_garbage.specs.Live.{at_hand, IsLive, from_operation}
 use Rattle.proof_garbage.specs.Grace.{HaveEnded, DeadAfterGraceAlone}
 use Rattle.proof_garbage.proofs.Claims.{none_in}
 
-every : {X : Type 0} → (X → Bool) → List X → Bool
+unfoldable pub every : {X : Type 0} → (X → Bool) → List X → Bool
 every p [] = true
 every p (x ∷ xs) = p x && every p xs
 
-among : List Ref → Ref → Bool
+unfoldable pub among : List Ref → Ref → Bool
 among [] r = false
 among (x ∷ xs) r = (x == r) || among xs r
 
-every_one : {X : Type 0} (p : X → Bool) (xs : List X) → every p xs ≡ true → (x : X) → Contains xs x → p x ≡ true
+pub every_one : {X : Type 0} (p : X → Bool) (xs : List X) → every p xs ≡ true → (x : X) → Contains xs x → p x ≡ true
 unfolding every
 every_one p [] e x (i, within, at_i) = absurd (omega arith)
 every_one p (y ∷ xs) e x (zero, within, at_i) = subst (λ z. p z ≡ true) at_i (and_parts (p y) (every p xs) e).0
 every_one p (y ∷ xs) e x (suc i, within, at_i) = every_one p xs (and_parts (p y) (every p xs) e).1 x (i, omega arith, at_i)
 
-among_them : (xs : List Ref) (r : Ref) → among xs r ≡ true → Contains xs r
+pub among_them : (xs : List Ref) (r : Ref) → among xs r ≡ true → Contains xs r
 unfolding among
 among_them [] r e = absurd (false≢true e)
 among_them (x ∷ xs) r e = elim (or_cases (x == r) (among xs r) e) [
@@ -52,7 +52,7 @@ among_them (x ∷ xs) r e = elim (or_cases (x == r) (among xs r) e) [
 ]
 
 -- at a place in a list, or past its end
-every_at : {X : Type 0} (p : Option X → Bool) (xs : List (Option X)) → every p xs ≡ true → p None ≡ true → (k : ℕ) → p (get_or xs k None) ≡ true
+pub every_at : {X : Type 0} (p : Option X → Bool) (xs : List (Option X)) → every p xs ≡ true → p None ≡ true → (k : ℕ) → p (get_or xs k None) ≡ true
 unfolding every
 every_at p [] e n k = n
 every_at p (x ∷ xs) e n zero = (and_parts (p x) (every p xs) e).0
@@ -81,18 +81,18 @@ abbrev has_at_hand : State → Option Operation → Ref → Bool
 has_at_hand state None r = false
 has_at_hand state (Some operation) r = among (at_hand state operation) r
 
-abbrev limits : Bounds
+abbrev pub limits : Bounds
 limits = record { slots = 16; actors = 3; hash = Low; steps = 100 }
 
 -- a snapshot reads the root's main node; a put replaces it
-abbrev before : List Step
+abbrev pub before : List Step
 before = taking 1 (call.Snapshot 0) 3 ++ taking 2 (call.Put 0 5 50) 12
 
 -- the snapshot offers over it; a get meets the offer; the snapshot takes it back, offers anew, and ends
-abbrev since : List Step
+abbrev pub since : List Step
 since = replicate 3 (step.Go 1) ++ taking 3 (call.Get 0 5) 1 ++ replicate 13 (step.Go 1)
 
-abbrev first_main : Ref
+abbrev pub first_main : Ref
 first_main = ref_to 1 0
 
 abbrev reached_refs : List Ref
@@ -130,7 +130,7 @@ used_by : (o : Option Slot) → standing (run limits before).heap first_main ≡
 used_by None e h = absurd (false≢true h)
 used_by (Some slot) e h = (slot, e)
 
-among_from : (xs : List Ref) (r : Ref) → Contains xs r → among xs r ≡ true
+pub among_from : (xs : List Ref) (r : Ref) → Contains xs r → among xs r ≡ true
 unfolding among
 among_from [] r c = none_in r c
 among_from (x ∷ xs) r (zero, within, at_i) = ap (λ b. b || among xs r) (eq-eqb x r at_i)
@@ -154,9 +154,13 @@ live_by : (state : State) (o : Option Operation) (r : Ref) → operation_of stat
 live_by state None r e h = absurd (false≢true h)
 live_by state (Some operation) r e h = from_operation 3 operation r e tt (among_them (at_hand state operation) r h)
 
+-- the get has it at hand at the end
+pub held_live : IsLive (run limits (before ++ since)) first_main
+held_live = live_by (run limits (before ++ since)) (operation_of (run limits (before ++ since)) 3) first_main refl still_held
+
 pub not_dead_alone : DeadAfterGraceAlone → ⊥
 not_dead_alone law =
     law limits before since first_main (omega arith, omega arith, omega arith)
     (used_by (standing (run limits before).heap first_main) refl is_used)
     (λ reached. false≢true (sym not_among ∙ among_from reached_refs first_main (covered (run limits before) reached_refs is_covered reached)))
-    have_ended (live_by (run limits (before ++ since)) (operation_of (run limits (before ++ since)) 3) first_main refl still_held)
+    have_ended held_live

@@ -72,7 +72,7 @@ LineOwns l own = Unit {0}
 -- ---- a step of an operation
 
 -- what a READ does leaves the private nodes
-read_leaves : (state : State) (own : List Ref) (i : Ref) (l : ReadLine) → private_after state own (read_action i l) ≡ own
+pub read_leaves : (state : State) (own : List Ref) (i : Ref) (l : ReadLine) → private_after state own (read_action i l) ≡ own
 read_leaves state own i read.Main = refl
 read_leaves state own i (read.Prev m) = refl
 read_leaves state own i (read.AskRoot m p) = refl
@@ -80,11 +80,11 @@ read_leaves state own i (read.Abort m p offer) = refl
 read_leaves state own i (read.Decide m p told) = refl
 read_leaves state own i (read.Restore m p) = refl
 
-complete_leaves : (state : State) (own : List Ref) (offer : Descriptor) (l : CompleteLine) → private_after state own (complete_action_at offer l) ≡ own
+pub complete_leaves : (state : State) (own : List Ref) (offer : Descriptor) (l : CompleteLine) → private_after state own (complete_action_at offer l) ≡ own
 complete_leaves state own offer (complete.Reading l) = read_leaves state own offer.root l
 complete_leaves state own offer (complete.Swap main) = refl
 
-root_leaves : (state : State) (own : List Ref) (l : RootLine) → private_after state own (root_action l) ≡ own
+pub root_leaves : (state : State) (own : List Ref) (l : RootLine) → private_after state own (root_action l) ≡ own
 root_leaves state own root.Read = refl
 root_leaves state own (root.Completing c) = complete_leaves state own c.offer c.line
 
@@ -103,7 +103,7 @@ module _ (state : State) (operation : Operation) where
   root_owns own l next e = tt
 
   -- what is made last is private
-  last_private : (own : List Ref) (made : Ref) → next_ref state.heap ≡ Some made → Contains (with_made own (next_ref state.heap)) made
+  pub last_private : (own : List Ref) (made : Ref) → next_ref state.heap ≡ Some made → Contains (with_made own (next_ref state.heap)) made
   last_private own made e = subst (λ o. Contains (with_made own o) made) (sym e) (Contains-append_right own (made ∷ []) made (Contains-get_or (made ∷ []) 0 made (omega arith)))
 
   build_owns : (own : List Ref) (l : BuildLine) (next : Line) → BuildEdge state operation l next → LineOwns next (with_made own (next_ref state.heap))
@@ -189,7 +189,7 @@ module _ (state : State) (operation : Operation) where
   walk_owns own l next (WalkEdge.takes todo pairs k v n e on) = walk_next_owns own _ _ n on
   walk_owns own l next e = tt
 
-  build_makes : (own : List Ref) (l : BuildLine) → private_after state own (line_action state operation (line.Build l)) ≡ with_made own (next_ref state.heap)
+  pub build_makes : (own : List Ref) (l : BuildLine) → private_after state own (line_action state operation (line.Build l)) ≡ with_made own (next_ref state.heap)
   build_makes own (build.Single path main site former) = refl
   build_makes own l = refl
 

@@ -1,0 +1,4 @@
+pub mod Beneath
+pub mod Followed
+pub mod Laws
+pub mod Grace

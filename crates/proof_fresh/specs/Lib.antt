@@ -1,0 +1,4 @@
+pub mod Beneath
+pub mod Vocabulary
+pub mod Laws
+pub mod Grace

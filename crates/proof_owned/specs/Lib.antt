@@ -1,0 +1,5 @@
+pub mod Beneath
+pub mod Owned
+pub mod Laws
+pub mod Singles
+pub mod Window

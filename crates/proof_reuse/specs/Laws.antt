@@ -1,0 +1,62 @@
+-- When a slot may be used again, for every list of steps.
+use Rattle.std.specs.Prelude.{◌≡◌, ℕ, ◌+◌, ◌≤◌, List, ◌++◌, Contains, Some}
+use Rattle.proof_reuse.specs.Beneath.slot_arena.specs.declared.refs.Ref.{Ref}
+use Rattle.proof_reuse.specs.Beneath.machine_model.specs.declared.operations.Operation.{Operation}
+use Rattle.proof_reuse.specs.Beneath.machine_model.specs.declared.steps.Bounds.{Bounds}
+use Rattle.proof_reuse.specs.Beneath.machine_model.specs.declared.steps.Step.{Step}
+use Rattle.proof_reuse.specs.Beneath.machine_model.specs.Machine.{AreBounds, run}
+use Rattle.proof_reuse.specs.Beneath.machine_model.specs.Operations.{action_of}
+use Rattle.proof_reuse.specs.Beneath.machine_model.specs.States.{State, operation_of}
+use Rattle.proof_reuse.specs.Beneath.machine_model.specs.Times.{states_of, last_of}
+use Rattle.proof_reuse.specs.Beneath.proof_memory.specs.Laws.{IsInUse}
+use Rattle.proof_reuse.specs.Beneath.proof_garbage.specs.Live.{refs_of_claims}
+use Rattle.proof_fresh.specs.Grace.{IsPrivateToNone}
+use Rattle.proof_followed.specs.Followed.{IsFollowedByRoots, IsFollowedByAny, followed_action_wants}
+use Rattle.proof_followed.specs.Grace.{IsFollowedSince, IsNotSwappedBack, NobodyBrings}
+use Rattle.proof_owned.specs.Owned.{IsOwn}
+use Rattle.proof_owned.specs.Laws.{IsReplaced, IsFailed}
+
+-- in use, but followed from no root, private to nobody, and to be brought to a root by no copy
+pub record IsGarbage (state : State) (r : Ref) : Type 0 where
+  pub in_use : IsInUse state.heap r
+  pub unfollowed : ¬ IsFollowedByRoots state r
+  pub private_to_none : IsPrivateToNone state r
+  pub unbrought : NobodyBrings state r
+
+-- what is private to nobody isn't followed again, from roots or by those who begin later, by a swap-in of one who ran then
+abbrev pub SwapInsBringNothingBack : Type 0
+SwapInsBringNothingBack =
+    (limits : Bounds) (before since : List Step) (r : Ref) → AreBounds limits → IsInUse (run limits before).heap r → IsPrivateToNone (run limits before) r → IsNotSwappedBack limits before since r
+
+-- garbage is followed from no root, and by nobody who begins later
+abbrev pub GarbageDies : Type 0
+GarbageDies =
+    (limits : Bounds) (before since : List Step) (r : Ref) → AreBounds limits → IsGarbage (run limits before) r → ¬ IsFollowedSince (run limits before) (run limits (before ++ since)) r
+
+-- Once the epoch has grown twice nobody follows it, and no operation's next action reads or writes its words, or stores it: so its slot may be used again.
+abbrev pub GarbageIsDeadAfterTwoEpochs : Type 0
+GarbageIsDeadAfterTwoEpochs =
+    (limits : Bounds) (before since : List Step) (r : Ref) → AreBounds limits → IsGarbage (run limits before) r → (run limits before).epoch + 2 ≤ (run limits (before ++ since)).epoch →
+    (¬ IsFollowedByAny (run limits (before ++ since)) r)
+    × ((actor : ℕ) (operation : Operation) → operation_of (run limits (before ++ since)) actor ≡ Some operation →
+    ¬ Contains (refs_of_claims (followed_action_wants (action_of (run limits (before ++ since)) operation))) r)
+
+-- ---- what is garbage
+
+-- an indirection's own main node that was replaced there, as long as it is in use
+abbrev pub ReplacedOwnIsGarbage : Type 0
+ReplacedOwnIsGarbage =
+    (limits : Bounds) (steps : List Step) (i m : Ref) → AreBounds limits → IsOwn (states_of limits steps) (last_of limits steps) i m → IsReplaced limits steps i m →
+    IsInUse (run limits steps).heap m → IsGarbage (run limits steps) m
+
+-- one that has failed, where the node before it was put back, as long as it is in use
+abbrev pub FailedOwnIsGarbage : Type 0
+FailedOwnIsGarbage =
+    (limits : Bounds) (steps : List Step) (i m : Ref) → AreBounds limits → IsOwn (states_of limits steps) (last_of limits steps) i m → IsFailed limits steps i m →
+    IsInUse (run limits steps).heap m → IsGarbage (run limits steps) m
+
+-- what a root led to once, as long as it is in use, when none leads to it any more
+abbrev pub UnlinkedIsGarbage : Type 0
+UnlinkedIsGarbage =
+    (limits : Bounds) (before since : List Step) (r : Ref) → AreBounds limits → IsFollowedByRoots (run limits before) r → IsInUse (run limits (before ++ since)).heap r →
+    ¬ IsFollowedByRoots (run limits (before ++ since)) r → IsGarbage (run limits (before ++ since)) r

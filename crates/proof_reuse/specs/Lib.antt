@@ -1,0 +1,2 @@
+pub mod Beneath
+pub mod Laws
