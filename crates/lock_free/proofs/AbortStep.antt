@@ -1,6 +1,6 @@
 -- The exchange of an offer's first word that takes it back is the operation's step, whether it finds it undecided or not.
 use Rattle.history.specs.declared.calls.Call.{Call}
-use Rattle.std.proofs.Common.{◌≡◌, ◌≢◌, ◌*◌, ◌==◌, ◌<◌, ℕ, inl, inr, false, Contains, set, slice_index, refl, sym, ap, subst, ◌∙◌, eq-eqb, ne_eqb}
+use Rattle.std.proofs.Common.{◌≤◌, ◌≡◌, ◌≢◌, ◌*◌, ◌==◌, ◌<◌, ℕ, inl, inr, false, Contains, set, slice_index, refl, sym, ap, subst, ◌∙◌, eq-eqb, ne_eqb}
 use Rattle.std.proofs.lemmas.Bool.{cases_eq}
 use Rattle.std.proofs.lemmas.List.Elements.{Contains-append_right}
 use Rattle.std.proofs.lemmas.Option.{same_Some}
@@ -107,12 +107,14 @@ module _ (v : View) (k : Known) (known : Contains v.account.offers k) (p : IsAt 
       | inr differs ↦ no_more differs ∙ sym (ne_eqb found 0 differs)
     ]
 
-pub abort_allowed : (sizes : Sizes) (size id : ℕ) (me : Me Call View) (slot : ℕ) → IsAtAbort me.0 slot → AllowsExchange sizes size id me (2 * slot) 0 taken_back
-abort_allowed sizes size id me slot a =
+pub abort_allowed : (sizes : Sizes) (size id : ℕ) (me : Me Call View) (some_seats : 1 ≤ me.0.sizes.seats) (slot : ℕ) → IsAtAbort me.0 slot → AllowsExchange sizes size id me (2 * slot) 0 taken_back
+abort_allowed sizes size id me some_seats slot a =
     subst (λ n. AllowsExchange sizes size id me (2 * n) 0 taken_back) a.place
     (allowed sizes size id me (2 * a.its.slot) (λ n. either (n == 0) taken_back n) (has_gone (step size (2 * a.its.slot) 0 taken_back none) me)
+    some_seats
     (λ s kept at. (let x = leaves me.0 a.its a.here a.acts a.on s kept id at in
-    (seen me.0 (gone_on me.0.actor kept.account), x.0, ((record { table = s; kept = kept; id = id; at = at; finds = refl }, refl, x.1.1), x.1.0, refl)))))
+    (seen me.0 (gone_on me.0.actor kept.account), x.0, ((record { table = s; kept = kept; id = id; at = at; finds = refl }, refl, x.1.1), x.1.0, refl))))
+    (λ s kept at. refl))
 
 abbrev offer_in : Action → Descriptor → Descriptor
 offer_in (act.Abort offer) other = offer

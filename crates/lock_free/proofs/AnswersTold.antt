@@ -20,7 +20,7 @@ use Rattle.machine_model.specs.declared.steps.Step.TheVariants as step
 use Rattle.machine_model.specs.Machine.{AreBounds, begun_operation}
 use Rattle.machine_model.specs.Moves.{Moves, Begins, Goes, Ends, GivesUp, Sweeps}
 use Rattle.machine_model.specs.Operations.{action_of}
-use Rattle.machine_model.specs.Records.{Record, next_record, noted}
+use Rattle.machine_model.specs.Records.{Record, next_record, noted, record_from}
 use Rattle.machine_model.specs.States.{State, operation_of}
 use Rattle.machine_model.specs.Tellings.{told_in}
 use Rattle.machine_model.proofs.Notes.{noted_going, noted_ending}
@@ -29,9 +29,10 @@ use Rattle.proof_linearizable.specs.Beneath.proof_order.proofs.History.Books.{Bo
 use Rattle.proof_linearizable.specs.Beneath.proof_order.proofs.Views.Unconditional.{books_of}
 use Rattle.lock_free.specs.declared.accounts.Account.{Account}
 use Rattle.lock_free.specs.declared.sizes.Sizes.{Sizes}
-use Rattle.lock_free.specs.Accounts.{bounds_for, state_of, past_of, running, gone_on, IsOfOther}
-use Rattle.lock_free.specs.Answers.{Begun, Talk, silent, after_end, after_event, talk_of, answers_of, answer_to, AnswersGoOn, OthersTellNothing, BeginsTellNothing, EndsAreTold}
+use Rattle.lock_free.specs.Accounts.{bounds_for, state_of, past_of, running, gone_on, HasWaited, IsOfOther}
+use Rattle.lock_free.specs.Answers.{Begun, Talk, silent, after_end, after_event, talk_of, answers_of, answer_to, talk_from, AnswersGoOn, OthersTellNothing, BeginsTellNothing, EndsAreTold}
 use Rattle.lock_free.specs.Beginning.{taking}
+use Rattle.lock_free.specs.Rules.{first_account}
 use Rattle.lock_free.specs.Telling.{history_of, GoesOn}
 use Rattle.lock_free.proofs.HistoriesOn.{histories_go_on}
 use Rattle.lock_free.proofs.OneStep.Telling.{record_next, end_told}
@@ -127,9 +128,23 @@ module _ (actor : ℕ) (sizes : Sizes) where
       ∙ all_others (taking s account) more (bounds_on account s ok) (All-tail (IsOfOther actor) s more all)
       ∙ one_other account s ok (All-head (IsOfOther actor) s more all)
 
+-- nor do they change what it runs
+pub others_say_nothing : (actor : ℕ) (sizes : Sizes) (before after : Account) → AreBounds (bounds_for sizes before.steps) → HasWaited actor before after →
+    talk_of actor (history_of sizes after) ≡ talk_of actor (history_of sizes before)
+others_say_nothing actor sizes before after ok waited =
+    ap (λ (xs : List Step). talk_of actor (history_of sizes (record after { steps = xs }))) waited.goes_on ∙ all_others actor sizes before waited.steps ok waited.others
+
+pub first_silent : (sizes : Sizes) (actor : ℕ) → talk_of actor (history_of sizes (first_account sizes)) ≡ silent
+unfolding talk_from record_from
+first_silent sizes actor = refl
+
+-- who has never taken a step was told nothing
+pub never_told : (actor : ℕ) (sizes : Sizes) (account : Account) → AreBounds (bounds_for sizes (first_account sizes).steps) → HasWaited actor (first_account sizes) account →
+    talk_of actor (history_of sizes account) ≡ silent
+never_told actor sizes account ok waited = others_say_nothing actor sizes (first_account sizes) account ok waited ∙ first_silent sizes actor
+
 pub others_tell_nothing : OthersTellNothing
-others_tell_nothing actor sizes before after ok waited =
-    ap (λ (xs : List Step). answers_of actor sizes (record after { steps = xs })) waited.goes_on ∙ ap (λ (t : Talk). t.answers) (all_others actor sizes before waited.steps ok waited.others)
+others_tell_nothing actor sizes before after ok waited = ap (λ (t : Talk). t.answers) (others_say_nothing actor sizes before after ok waited)
 
 pub begins_tell_nothing : BeginsTellNothing
 begins_tell_nothing actor sizes account other call number ok =
@@ -137,6 +152,17 @@ begins_tell_nothing actor sizes account other call number ok =
     ∙ begins_told actor (state_of sizes account) (past_of sizes account) (books_of (bounds_for sizes account.steps) account.steps) other call number
 
 -- ---- from when an operation runs to its end
+
+-- its actor is told that it runs
+pub runs_told : (actor : ℕ) (sizes : Sizes) (account : Account) (o : Operation) → running sizes account actor o → (talk_of actor (history_of sizes account)).runs ≡ Some (record {
+  id = o.id;
+  call = o.call;
+  opens = o.opens;
+})
+runs_told actor sizes account o runs =
+    let books = books_at actor sizes account in
+    let t = told_of actor (state_of sizes account) (past_of sizes account) books actor o runs in
+    ap (λ (x : Talk). x.runs) (begun_runs actor t.0 (record { id = o.id; call = o.call; opens = o.opens }) (history_of sizes account) books.well_formed t.1 t.2)
 
 -- an event that stands at a place stands once, and what it says is the same
 same_begun : (history : List Event) (place other actor : ℕ) (a b : Begun) → BegunAt history actor place a → BegunAt history actor other b → place ≡ other → a ≡ b

@@ -36,7 +36,7 @@ use Rattle.lock_free.specs.HandleWords.{is_marked, TellsRoot}
 use Rattle.lock_free.specs.Loading.{IsSound, Saw}
 use Rattle.lock_free.specs.Places.{root_word, words_of}
 use Rattle.lock_free.specs.Roots.{MeansRoot, SaysRoot}
-use Rattle.lock_free.specs.Rules.{SaysClosing, IsSeat, IsKept, Reserves}
+use Rattle.lock_free.specs.Rules.{SaysClosing, IsSeat, IsKept, Reserves, IsRuled}
 use Rattle.lock_free.proofs.Allowed.{and_false, begin_allowed, no_handle, not_read_only, read_only}
 use Rattle.lock_free.proofs.Begun.{all_then, begin_kept}
 use Rattle.lock_free.proofs.Moments.{allowed, free_inside, seen_kept, seen_view, waited_so}
@@ -122,18 +122,19 @@ module _ (v : View) (call : Call) (b : IsBeginner v call) (low : handle_of call 
   abbrev Starts : Result Started RootWord → Type 0
   Starts result =
       (x : View) × IsKept v.sizes (record { words = s.words; homes = s.homes; views = set s.views id x }) × HasTriedToStart v call result x × IsSound (words_of v.sizes) x
+      × (x.heard ≡ v.heard)
 
   abbrev saw : Saw v (seen_view v s kept id at)
   saw = record { account = there; waited = waited_so v s kept id at; after_is = refl }
 
   denied : (why : Denial) → begin_denial state v.actor call v.opens ≡ Some (refusal_of why) → Starts (Ok (started.Denied why))
-  denied why is = (seen_view v s kept id at, seen_kept v s kept id at, (saw, is), saw.waited.sound)
+  denied why is = (seen_view v s kept id at, seen_kept v s kept id at, (saw, is), saw.waited.sound, refl)
 
   tells : (w : RootWord) → SaysRoot there s.words handle w (root_at state handle) → TellsRoot v.sizes there handle w
   tells w says = tells_by v.sizes there s.words kept.taken kept.roots.blocks handle w says
 
   closing : (w : RootWord) → IsRootWord w → is_marked w ≡ true → SaysRoot there s.words handle w (root_at state handle) → Starts (Err w)
-  closing w fits marked says = (seen_view v s kept id at, seen_kept v s kept id at, ((saw, fits, tells w says), marked), saw.waited.sound)
+  closing w fits marked says = (seen_view v s kept id at, seen_kept v s kept id at, ((saw, fits, tells w says), marked), saw.waited.sound, refl)
 
   -- the handle is open, and nobody would close it
   module _ (w : RootWord) (fits : IsRootWord w) (code : found ≡ root_code w) (says : SaysRoot there s.words handle w (root_at state handle)) (few : kind w < 6) (root : Root)
@@ -171,6 +172,7 @@ module _ (v : View) (call : Call) (b : IsBeginner v call) (low : handle_of call 
             (λ who h. not_closing w who fits few (subst (λ n. SaysClosing n who) code h)),
         has_begun,
         sound,
+        refl,
       )
 
     writable : root.access ≡ Writable → (c : Bool) → needs_read_only call ≡ c → Starts (runs_unless c denial.NotReadOnly w)
@@ -186,7 +188,7 @@ module _ (v : View) (call : Call) (b : IsBeginner v call) (low : handle_of call 
   starts_by : (w : RootWord) → IsRootWord w → found ≡ root_code w → SaysRoot there s.words handle w (root_at state handle) → Starts (started_by w call)
   starts_by word.Closed fits code says = denied denial.NoHandle (no_handle v.sizes s kept id v at idle call v.opens says)
   starts_by word.Reserved fits code says = denied denial.NoHandle (no_handle v.sizes s kept id v at idle call v.opens says)
-  starts_by (word.Opening slot) fits code says = (seen_view v s kept id at, seen_kept v s kept id at, (saw, fits, tells (word.Opening slot) says), saw.waited.sound)
+  starts_by (word.Opening slot) fits code says = (seen_view v s kept id at, seen_kept v s kept id at, (saw, fits, tells (word.Opening slot) says), saw.waited.sound, refl)
   starts_by (word.ClosingWritable root who) fits code says = closing (word.ClosingWritable root who) fits refl says
   starts_by (word.ClosingReadOnly root who) fits code says = closing (word.ClosingReadOnly root who) fits refl says
   starts_by (word.Writable slot) fits code says = writable (word.Writable slot) fits code says (omega arith) _ says.is refl refl (needs_read_only call) refl
@@ -200,10 +202,11 @@ module _ (v : View) (call : Call) (b : IsBeginner v call) (low : handle_of call 
   starts =
       subst (λ w. Starts (started_by w call)) (sym (ap root_of means.code ∙ root_back means.what means.fits)) (starts_by means.what means.fits means.code means.says)
 
-pub begin_step_allowed : (sizes : Sizes) (size id : ℕ) (me : Me Call View) (call : Call) → IsBeginner me.0 call → handle_of call < 256 → key_of call < 2 ^ 64 →
-    Allows (IsKept sizes) size id me (root_word (handle_of call)) (λ n. n) (has_started (step size (root_word (handle_of call)) 0 0 none) me)
-begin_step_allowed sizes size id me call b low key =
+pub begin_step_allowed : (sizes : Sizes) (size id : ℕ) (me : Me Call View) (some_seats : 1 ≤ me.0.sizes.seats) (call : Call) → IsBeginner me.0 call → handle_of call < 256 → key_of call < 2 ^ 64 →
+    Allows (IsRuled sizes) size id me (root_word (handle_of call)) (λ n. n) (has_started (step size (root_word (handle_of call)) 0 0 none) me)
+begin_step_allowed sizes size id me some_seats call b low key =
     allowed sizes size id me (root_word (handle_of call)) (λ n. n) (has_started (step size (root_word (handle_of call)) 0 0 none) me)
+    some_seats
     (λ s kept at. (let x = starts me.0 call b low key s kept id at in (
       x.0,
       subst (λ ws. IsKept me.0.sizes (record { words = ws; homes = s.homes; views = set s.views id x.0 })) (sym (set-get_or s.words (root_word (handle_of call)) 0)) x.1,
@@ -213,3 +216,4 @@ begin_step_allowed sizes size id me call b low key =
         refl,
       ),
     )))
+    (λ s kept at. (starts me.0 call b low key s kept id at).4)

@@ -22,7 +22,7 @@ use Rattle.lock_free.specs.Accounts.{state_of, HasWaited, IsOfOther}
 use Rattle.lock_free.specs.Beginning.{Begins, taking}
 use Rattle.lock_free.specs.Places.{root_word}
 use Rattle.lock_free.specs.Roots.{AreMarked, IsItsTry}
-use Rattle.lock_free.specs.Rules.{SaysClosing, IsSpare, IsHeld, Reserves, IsSeat, IsKept}
+use Rattle.lock_free.specs.Rules.{SaysClosing, IsSpare, IsHeld, Reserves, IsSeat, IsKept, first_account}
 use Rattle.lock_free.specs.Trying.{try_of, try_at}
 use Rattle.lock_free.proofs.Assembling.{AllStand, all_stand, closing_at, opening_stays, Numbers, assembled, other_actor}
 use Rattle.lock_free.proofs.Meanings.{unmarked_at, unmarked_then, marked_at}
@@ -124,7 +124,7 @@ module _ (sizes : Sizes) (s : Table.State Call View) (kept : IsKept sizes s) (id
     own_then : IsSeat sizes account_then kept.stands s.words view_then
     own_then =
         own_else sizes s kept id v at account_then kept.stands s.words stays account_then (waited_none v.actor account_then)
-        (λ a above below. waited_none a account_then) all_then.counted v.pin (Some (handle_of call)) v.closing v.opens
+        (λ a above below. waits a (first_account sizes) (λ is. absurd (omega (arith, above, is))) (seat.rested a above below)) all_then.counted v.pin (Some (handle_of call)) v.closing v.opens
         v.opening seat.pinned
         (λ g e. (let same = same_Some (handle_of call) g e in
         (subst (λ n. n < handle_limit) same low, ap (λ n. is_some (root_at next n)) (sym same) ∙ ap is_some (root_then (handle_of call)) ∙ is_open, (pin, pinned, its ∙ same))))

@@ -1,6 +1,6 @@
 -- The exchange by which a settled offer is taken out of the word of its handle.
 use Rattle.history.specs.declared.calls.Call.{Call}
-use Rattle.std.proofs.Common.{◌≡◌, ◌≢◌, ◌==◌, ◌<◌, ◌^◌, inl, inr, ℕ, Contains, set, slice_index, refl, sym, ap, subst, ◌∙◌, arith}
+use Rattle.std.proofs.Common.{◌≤◌, ◌≡◌, ◌≢◌, ◌==◌, ◌<◌, ◌^◌, inl, inr, ℕ, Contains, set, slice_index, refl, sym, ap, subst, ◌∙◌, arith}
 use Rattle.std.proofs.lemmas.Bool.{cases_eq}
 use mathlib.Core.Option.{some, none}
 use lib.ListN.{get_elem?}
@@ -25,7 +25,7 @@ use Rattle.lock_free.specs.Passing.{IsPlaced}
 use Rattle.lock_free.specs.Places.{root_word}
 use Rattle.lock_free.specs.Roots.{fate, undecided, open_with}
 use Rattle.lock_free.specs.RootWords.{IsAtClean, has_cleaned, settled_root}
-use Rattle.lock_free.specs.Rules.{IsKept}
+use Rattle.lock_free.specs.Rules.{IsKept, IsRuled}
 use Rattle.lock_free.proofs.AbortStep.{known_there}
 use Rattle.lock_free.proofs.Assembling.{closing_at}
 use Rattle.lock_free.proofs.Closers.{seat_kept}
@@ -104,10 +104,12 @@ module _ (v : View) (handle offer root : ℕ) (low : handle < 256) (a : IsAtClea
         (untouched v s kept id at)
   ]
 
-pub clean_allowed : (sizes : Sizes) (size id : ℕ) (me : Me Call View) (handle offer root : ℕ) → handle < 256 → IsAtClean me.0 handle offer root →
-    Allows (IsKept sizes) size id me (root_word handle) (λ n. either (n == root_code (word.Offered offer)) (root_code (word.Writable root)) n)
+pub clean_allowed : (sizes : Sizes) (size id : ℕ) (me : Me Call View) (some_seats : 1 ≤ me.0.sizes.seats) (handle offer root : ℕ) → handle < 256 → IsAtClean me.0 handle offer root →
+    Allows (IsRuled sizes) size id me (root_word handle) (λ n. either (n == root_code (word.Offered offer)) (root_code (word.Writable root)) n)
     (has_cleaned (step size (root_word handle) (root_code (word.Offered offer)) (root_code (word.Writable root)) none) me)
-clean_allowed sizes size id me handle offer root low a =
+clean_allowed sizes size id me some_seats handle offer root low a =
     allowed sizes size id me (root_word handle) (λ n. either (n == root_code (word.Offered offer)) (root_code (word.Writable root)) n)
     (has_cleaned (step size (root_word handle) (root_code (word.Offered offer)) (root_code (word.Writable root)) none) me)
+    some_seats
     (λ s kept at. (me.0, cleans me.0 handle offer root low a s kept id at, refl))
+    (λ s kept at. refl)

@@ -20,7 +20,7 @@ use Rattle.lock_free.specs.Beginning.{Closes}
 use Rattle.lock_free.specs.HandleWords.{once_closed, HasClosed, ShutBy, has_closed}
 use Rattle.lock_free.specs.Loading.{IsSound}
 use Rattle.lock_free.specs.Places.{root_word, words_of}
-use Rattle.lock_free.specs.Rules.{SaysClosing, IsSeat, IsKept}
+use Rattle.lock_free.specs.Rules.{SaysClosing, IsSeat, IsKept, IsRuled}
 use Rattle.lock_free.specs.SeatWords.{IsIdle, WouldClose, closes}
 use Rattle.lock_free.proofs.Allowed.{close_allowed}
 use Rattle.lock_free.proofs.Assembling.{closing_at}
@@ -60,7 +60,7 @@ module _ (v : View) (handle looked : ℕ) (low : handle < 256) (others : List Cl
   abbrev Shut : View → Type 0
   Shut x =
       IsKept v.sizes (record { words = words_then v s kept id at (root_word handle) old 0; homes = s.homes; views = set s.views id x })
-      × HasClosed v handle (found == old) x × (IsSound (words_of v.sizes) v → IsSound (words_of v.sizes) x)
+      × HasClosed v handle (found == old) x × (IsSound (words_of v.sizes) v → IsSound (words_of v.sizes) x) × (x.heard ≡ v.heard)
 
   module _ (e : found ≡ old) where
     says : SaysClosing found v.actor
@@ -97,6 +97,7 @@ module _ (v : View) (handle looked : ℕ) (low : handle < 256) (others : List Cl
       subst (λ ws. IsKept v.sizes (record { words = ws; homes = s.homes; views = set s.views id after })) (words_hit v s kept id at (root_word handle) old 0 e (root_word handle) refl) kept_after,
       (λ x. shut_by, λ x. absurd (true≢false (sym (eq-eqb found old e) ∙ x))),
       λ x. sound_after,
+      refl,
     )
 
   misses : found ≢ old → Shut v
@@ -106,16 +107,19 @@ module _ (v : View) (handle looked : ℕ) (low : handle < 256) (others : List Cl
         (λ g who below h. closing_at v.sizes s kept id v at v refl refl g who (λ x. x) (λ c x y z. x) (kept.closings g who below h))),
     (λ x. absurd (true≢false (sym x ∙ ne_eqb found old differs)), λ x. refl),
     λ x. x,
+    refl,
   )
 
   pub shuts : (x : View) × Shut x
   shuts = elim (cases_eq found old) [ inl e ↦ (after, hits e) | inr differs ↦ (v, misses differs) ]
 
-pub close_allows : (sizes : Sizes) (size id : ℕ) (me : Me Call View) (handle looked : ℕ) → handle < 256 → WouldClose me.0 handle looked → me.0.sizes.seats ≤ looked →
+pub close_allows : (sizes : Sizes) (size id : ℕ) (me : Me Call View) (some_seats : 1 ≤ me.0.sizes.seats) (handle looked : ℕ) → handle < 256 →
+    WouldClose me.0 handle looked → me.0.sizes.seats ≤ looked →
     me.0.entered ≢ Some handle → IsIdle me.0 → (w : RootWord) → SaysClosing (root_code w) me.0.actor →
-    Allows (IsKept sizes) size id me (root_word handle) (λ n. either (n == root_code w) 0 n) (has_closed (step size (root_word handle) (root_code w) 0 none) me)
-close_allows sizes size id me handle looked low (others, would) all_looked outside idle w mine =
+    Allows (IsRuled sizes) size id me (root_word handle) (λ n. either (n == root_code w) 0 n) (has_closed (step size (root_word handle) (root_code w) 0 none) me)
+close_allows sizes size id me some_seats handle looked low (others, would) all_looked outside idle w mine =
     allowed sizes size id me (root_word handle) (λ n. either (n == root_code w) 0 n) (has_closed (step size (root_word handle) (root_code w) 0 none) me)
+    some_seats
     (λ s kept at. (let x = shuts me.0 handle looked low others would all_looked outside idle w mine s kept id at in (
       x.0,
       x.1.0,
@@ -126,3 +130,4 @@ close_allows sizes size id me handle looked low (others, would) all_looked outsi
         refl,
       ),
     )))
+    (λ s kept at. (shuts me.0 handle looked low others would all_looked outside idle w mine s kept id at).1.3)

@@ -32,7 +32,7 @@ use Rattle.lock_free.specs.Beginning.{Closes, closed_by}
 use Rattle.lock_free.specs.Fates.{TellsFate}
 use Rattle.lock_free.specs.Places.{pin_word, root_word}
 use Rattle.lock_free.specs.Roots.{MeansRoot, IsPending, NoOffer, fate, undecided}
-use Rattle.lock_free.specs.Rules.{IsClosing, SaysClosing, IsFree, IsHeld, Reserves, Names, IsOpening, IsSeat, IsKept, latest}
+use Rattle.lock_free.specs.Rules.{IsClosing, SaysClosing, IsFree, IsHeld, Reserves, Names, IsOpening, IsSeat, IsKept, latest, first_account}
 use Rattle.lock_free.specs.Trying.{try_of, KeepsTries, as_before}
 use Rattle.lock_free.proofs.Assembling.{AllStand, all_stand, closing_at, opening_stays, assembled}
 use Rattle.lock_free.proofs.Closers.{newest}
@@ -254,7 +254,7 @@ module _ (sizes : Sizes) (s : Table.State Call View) (kept : IsKept sizes s) (id
     own_then : IsSeat sizes account_then kept.stands words_then view_then
     own_then =
         own_else sizes s kept id v at account_then kept.stands words_then stays account_then (waited_none v.actor account_then)
-        (λ a above below. waited_none a account_then) all_then.counted v.pin v.entered v.closing v.opens v.opening
+        (λ a above below. waits a (first_account sizes) (λ is. absurd (omega (arith, above, is))) (seat.rested a above below)) all_then.counted v.pin v.entered v.closing v.opens v.opening
         (pin_same v.actor seat.low ∙ seat.pinned) (λ g e. (let x = seat.entered g e in (x.0, still_open id v at g e x.1, x.2))) (λ o e. absurd (idle_then o e)) (held id v at)
         (λ o e. absurd (idle_then o e))
         (λ g slot o n. (let x = seat.opening g slot o n in record { low = x.low; fits = x.fits; is = named v g slot x ∙ x.is; free = x.free })) (λ b name free. spare_by id v b name at free)

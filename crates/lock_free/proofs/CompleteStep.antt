@@ -1,6 +1,6 @@
 -- The exchange of an offer's first word that settles it is the operation's step, whether it finds it undecided or not.
 use Rattle.history.specs.declared.calls.Call.{Call}
-use Rattle.std.proofs.Common.{◌≡◌, ◌≢◌, ◌*◌, ◌==◌, ◌<◌, ◌||◌, ℕ, inl, inr, Bool, true, false, Contains, set, slice_index, Some, refl, sym, ap, subst, ◌∙◌, eq-eqb, ne_eqb, if◌then◌else◌}
+use Rattle.std.proofs.Common.{◌≤◌, ◌≡◌, ◌≢◌, ◌*◌, ◌==◌, ◌<◌, ◌||◌, ℕ, inl, inr, Bool, true, false, Contains, set, slice_index, Some, refl, sym, ap, subst, ◌∙◌, eq-eqb, ne_eqb, if◌then◌else◌}
 use Rattle.std.specs.Prelude.{◌&&◌}
 use Rattle.std.proofs.lemmas.Bool.{cases_eq}
 use Rattle.std.proofs.lemmas.Option.{same_Some}
@@ -30,7 +30,7 @@ use Rattle.lock_free.specs.Loading.{Moment, now, seen, IsAt, IsSound}
 use Rattle.lock_free.specs.OfferWords.{IsAtComplete, TookUnmarked, HasCompleted, has_completed, outcome_by, carried_by}
 use Rattle.lock_free.specs.Places.{words_of}
 use Rattle.lock_free.specs.Roots.{open_with, carried_out, IsItsTry}
-use Rattle.lock_free.specs.Rules.{IsSeat, IsKept}
+use Rattle.lock_free.specs.Rules.{IsSeat, IsKept, IsRuled}
 use Rattle.lock_free.proofs.AbortStep.{known_there}
 use Rattle.lock_free.proofs.Exchanged.{words_then, words_hit, missed, sound_by}
 use Rattle.lock_free.proofs.Looking.{o_there, acts_there, same_action}
@@ -134,13 +134,15 @@ module _ (v : View) (k : Known) (main : Ref) (known : Contains v.account.offers 
           or_false true = refl
           or_false false = refl
 
-pub complete_allowed : (sizes : Sizes) (size id : ℕ) (me : Me Call View) (slot : ℕ) (expected : Bool) → IsAtComplete me.0 slot expected →
-    Allows (IsKept sizes) size id me (2 * slot) (λ n. either (n == 0) (outcome_by expected) n) (has_completed (step size (2 * slot) 0 (outcome_by expected) none) me)
-complete_allowed sizes size id me slot expected a =
-    subst (λ n. Allows (IsKept sizes) size id me (2 * n) (λ x. either (x == 0) (outcome_by expected) x) (has_completed (step size (2 * n) 0 (outcome_by expected) none) me)) a.place
+pub complete_allowed : (sizes : Sizes) (size id : ℕ) (me : Me Call View) (some_seats : 1 ≤ me.0.sizes.seats) (slot : ℕ) (expected : Bool) → IsAtComplete me.0 slot expected →
+    Allows (IsRuled sizes) size id me (2 * slot) (λ n. either (n == 0) (outcome_by expected) n) (has_completed (step size (2 * slot) 0 (outcome_by expected) none) me)
+complete_allowed sizes size id me some_seats slot expected a =
+    subst (λ n. Allows (IsRuled sizes) size id me (2 * n) (λ x. either (x == 0) (outcome_by expected) x) (has_completed (step size (2 * n) 0 (outcome_by expected) none) me)) a.place
     (allowed sizes size id me (2 * a.its.slot) (λ n. either (n == 0) (outcome_by expected) n) (has_completed (step size (2 * a.its.slot) 0 (outcome_by expected) none) me)
+    some_seats
     (λ s kept at. (let x = leaves me.0 a.its a.main a.here a.acts a.on expected a.test s kept id at in
-    (seen me.0 (gone_on me.0.actor kept.account), x.0.0, ((record { table = s; kept = kept; id = id; at = at; finds = refl }, refl, x.1), x.0.1, refl)))))
+    (seen me.0 (gone_on me.0.actor kept.account), x.0.0, ((record { table = s; kept = kept; id = id; at = at; finds = refl }, refl, x.1), x.0.1, refl))))
+    (λ s kept at. refl))
 
 abbrev parts_in : Action → Descriptor × Ref → Descriptor × Ref
 parts_in (act.Complete offer main) other = (offer, main)

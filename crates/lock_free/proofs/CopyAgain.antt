@@ -1,5 +1,5 @@
 -- COPY tries again, from the root.
-use Rattle.std.proofs.Common.{◌≡◌, ◌+◌, ℕ, Bool, true, List, [], Option, Some, refl, sym, ap, subst, ◌∙◌}
+use Rattle.std.proofs.Common.{◌≡◌, ◌+◌, ℕ, Bool, true, List, [], Option, Some, refl, ap, subst, ◌∙◌}
 use Rattle.std.proofs.lemmas.Bool.{false≢true}
 use Rattle.history.specs.declared.calls.Call.{Call}
 use Rattle.history.specs.declared.calls.Call.TheVariants.{Clear, Snapshot, Freeze}
@@ -16,12 +16,14 @@ use Rattle.lock_free.specs.declared.copy_roots.CopyKind.{CopyKind}
 use Rattle.lock_free.specs.declared.reading.Way.{Way}
 use Rattle.lock_free.specs.declared.rooting.Rooted.{Rooted}
 use Rattle.lock_free.specs.declared.rules.View.{View}
-use Rattle.lock_free.specs.CopySteps.{IsAtOriginal, IsAtTry, IsCopying, IsStill, HasComeTo, HasGivenOut, HasStopped, HasTried, copied_line, copies, copy_kind, tried_on}
+use Rattle.lock_free.specs.CopySteps.{IsAtOriginal, IsAtTry, IsCopying, HasComeTo, HasGivenOut, HasStopped, HasTried, copied_line, copies, copy_kind, tried_on}
 use Rattle.lock_free.specs.Loading.{IsSound, Runs}
 use Rattle.lock_free.specs.Passing.{IsOnWay}
 use Rattle.lock_free.specs.Rooting.{IsAtRoot, HasRooted}
+use Rattle.lock_free.specs.RunningOn.{IsStill}
 use Rattle.lock_free.specs.Stocks.{Stocked, IsStock}
 use Rattle.lock_free.proofs.Comings.{runs_one}
+use Rattle.lock_free.proofs.RunningOn.{still_self, still_both, still_later}
 use Rattle.lock_free.proofs.StockStays.{stock_later}
 
 -- a copy reads the root's main node first
@@ -31,14 +33,11 @@ read_first (Snapshot h) r e = refl
 read_first (Freeze h) r e = refl
 read_first call r e = absurd (false≢true e)
 
-pub still_both : (u v w : View) → IsStill u v → IsStill v w → IsStill u w
-still_both u v w p q = q ∙ ap (λ (x : View). record x { account = w.account; pool = w.pool; drafts = w.drafts; opening = w.opening }) p
-
 -- ---- nothing has happened yet
 
 pub none_tried : (v : View) → IsAtTry v → HasComeTo (λ o. new_try) v v
 none_tried v (p, r, is, kind) = record {
-  is = refl;
+  still = still_self v;
   comes = λ o s. (
     o.private,
     o.attempt,
@@ -92,9 +91,7 @@ module _ (u v : View) (at : IsAtTry u) (h : HasComeTo (λ o. new_try) u v) where
     at_original = (r.root, (then_is, reads.2, refl), ((r.at.slot, r.at.used), r.at.place))
 
     still_w : IsStill u w
-    still_w =
-        still_both u v w h.is
-        (r.later.is ∙ ap (λ (z : View). record v { account = z.account; pool = z.pool; drafts = z.drafts; opening = z.opening }) (sym r.later.is))
+    still_w = still_both u v w h.still (still_later v w r.later)
 
     pub way_on : (way : Way) → IsOnWay u way → IsOnWay w way
     way_on way on q s =
@@ -104,7 +101,7 @@ module _ (u v : View) (at : IsAtTry u) (h : HasComeTo (λ o. new_try) u v) where
 
     pub copying_on : (k : CopyKind) (handle : ℕ) (opens : Option ℕ) → IsCopying u k handle opens → IsCopying w k handle opens
     copying_on k handle opens c = record {
-      reserved = ap (λ (x : View). x.opens) still_w ∙ c.reserved;
+      reserved = ap (λ (x : View). x.opens) still_w.is ∙ c.reserved;
       low = c.low;
       which = λ q s. ap (λ (z : Operation). copy_kind z.call) (runs_one w q then_is s reads.2) ∙ c.which o at.1;
       on = λ q s.
@@ -122,7 +119,7 @@ module _ (u v : View) (at : IsAtTry u) (h : HasComeTo (λ o. new_try) u v) where
     module _ (x : View) where
       pub tried_again : (carried : Bool) → HasTried w carried x → HasComeTo (copied_line carried) u x
       tried_again carried t = record {
-        is = still_both u w x still_w t.is;
+        still = still_both u w x still_w t.still;
         comes = λ q s.
             (let y = comes_to_read q s in
             ([], y.1 + 1, Some given.generation, t.comes (tried_on y.0 y.1 (Some given.generation) (root_line q) q) y.2));
@@ -130,8 +127,7 @@ module _ (u v : View) (at : IsAtTry u) (h : HasComeTo (λ o. new_try) u v) where
 
       pub gave_out : HasStopped w x → HasGivenOut u x
       gave_out t = record {
-        is = still_both u w x still_w
-            (t.is ∙ ap (λ g. record w { account = x.account; pool = x.pool; drafts = x.drafts; opening = g }) (sym (ap (λ (z : View). z.opening) t.is)));
+        still = still_both u w x still_w t.still;
         stops = λ q s.
             (let y = comes_to_read q s in
             let z = t.stops (tried_on y.0 y.1 (Some given.generation) (root_line q) q) y.2 in (z.0, y.1, Some given.generation, z.1, z.2, z.3));

@@ -14,13 +14,15 @@ use Rattle.lock_free.specs.declared.copy_roots.NewRoots.{NewRoots as Roots}
 use Rattle.lock_free.specs.declared.rules.Pool.{Pool}
 use Rattle.lock_free.specs.declared.rules.View.{View}
 use Rattle.lock_free.specs.Accounts.{place_of}
-use Rattle.lock_free.specs.CopySteps.{IsCopying, IsReady, IsSecond, IsStill, HasDraftedOffer, HasNewRoots, HasPrepared, HasStopped}
+use Rattle.lock_free.specs.CopySteps.{IsCopying, IsReady, IsSecond, HasDraftedOffer, HasNewRoots, HasPrepared, HasStopped}
 use Rattle.lock_free.specs.Loading.{IsAt, Runs}
 use Rattle.lock_free.specs.Numbers.{IsNaming, naming}
 use Rattle.lock_free.specs.Roots.{second_of, undecided}
 use Rattle.lock_free.specs.Rules.{IsFree, pool_of}
+use Rattle.lock_free.specs.RunningOn.{IsStill}
 use Rattle.lock_free.specs.Stocks.{HasSlot}
 use Rattle.lock_free.proofs.Followings.{placed_on}
+use Rattle.lock_free.proofs.RunningOn.{still_follows, still_with}
 
 -- the operation's next offer
 abbrev offer_of : Operation → Ref → Ref → Ref → Option Ref → Descriptor
@@ -60,7 +62,7 @@ module _ (u : View) (k : CopyKind) (handle : ℕ) (opens : Option ℕ) (c : IsCo
   pub stopped_there : (b : View) → b ≡ a → HasStopped u b
   stopped_there b e =
       subst (HasStopped u) (sym e)
-      (record { is = made.follows.is; stops = λ q r. (let x = made.comes q r in (x.0, copy.Offer (offer_of q root main made.successor made.second), x.1, refl)) })
+      (record { still = still_follows u a made.follows; stops = λ q r. (let x = made.comes q r in (x.0, copy.Offer (offer_of q root main made.successor made.second), x.1, refl)) })
 
   -- ---- it is written
 
@@ -80,13 +82,13 @@ module _ (u : View) (k : CopyKind) (handle : ℕ) (opens : Option ℕ) (c : IsCo
     at_offer : IsAt e (act.Offer offer)
     at_offer = record { operation = record offering_it { is_marked = its_run.0 }; runs = its_run.1; acts = refl }
 
-    still : IsStill u e
-    still = ap (λ (x : View). record x { pool = pool; drafts = drafts; opening = opening }) made.follows.is
+    still_e : IsStill u e
+    still_e = still_with u e e (ap (λ (x : View). record x { pool = pool; drafts = drafts; opening = opening }) made.follows.is) made.follows.goes_on
 
     prepared : HasPrepared u k opens handle root_name slot e
     unfolding at_offer
     prepared = record {
-      is = still;
+      still = still_e;
       offers = (
         offer,
         rest,

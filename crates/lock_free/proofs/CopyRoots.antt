@@ -22,7 +22,8 @@ use Rattle.lock_free.specs.Loading.{now, IsAt, Runs}
 use Rattle.lock_free.specs.Passing.{IsPlaced}
 use Rattle.lock_free.specs.SeenEntries.{HasMadeNext}
 use Rattle.lock_free.proofs.CopyReads.{copy_line}
-use Rattle.lock_free.proofs.Followings.{follows_both, placed_on}
+use Rattle.lock_free.proofs.Followings.{follows_both, goes_self, placed_on}
+use Rattle.lock_free.proofs.RunningOn.{still_both, still_follows, still_with}
 
 -- ---- which copy it is
 
@@ -49,7 +50,7 @@ module _ (v : View) (l : CopyLine) (at : IsAtCopy v l) where
 
   pub stopped : copy_given_up l ≡ Some reply.NoSlots → (w : View) → w ≡ record v { pool = w.pool; drafts = w.drafts } → HasStopped v w
   stopped may w is = record {
-    is = is ∙ ap (λ a. record v { account = a; pool = w.pool; drafts = w.drafts }) (sym (ap (λ (x : View). x.account) is));
+    still = still_with v w (record v { pool = w.pool; drafts = w.drafts }) is (goes_self v.account.steps);
     stops = λ o r. (o.private, l, subst (λ x. Runs x (record o { line = line.Copy l })) (sym is) (stands_on o r), may);
   }
 
@@ -60,7 +61,7 @@ unchanged v w e = e ∙ ap (λ (x : View). record v { pool = x.pool; drafts = x.
 pub stopped_on : (u v w : View) (next : Operation → List Ref × Line) → Follows u v → ((o : Operation) → Runs u o → Runs v (record o { private = (next o).0; line = (next o).1 })) → HasStopped v
     w → HasStopped u w
 stopped_on u v w next f comes h = record {
-  is = h.is ∙ ap (λ (x : View). record x { account = w.account; pool = w.pool; drafts = w.drafts }) f.is;
+  still = still_both u v w (still_follows u v f) h.still;
   stops = λ o r. h.stops (record o { private = (next o).0; line = (next o).1 }) (comes o r);
 }
 

@@ -1,5 +1,5 @@
 -- A try of a copy, from the root that it reads to what comes of its offer.
-use Rattle.std.proofs.Common.{◌≡◌, ◌+◌, ◌*◌, ◌≤◌, ℕ, Bool, true, false, List, [], Contains, Option, Some, map, refl, sym, ap, subst, ◌∙◌, arith}
+use Rattle.std.proofs.Common.{◌≡◌, ◌+◌, ◌*◌, ◌≤◌, ◌++◌, ◌∷◌, ℕ, Bool, true, false, List, [], Contains, Option, Some, map, refl, sym, ap, subst, ◌∙◌, arith}
 use Rattle.std.proofs.lemmas.List.Elements.{Contains-push}
 use Rattle.machine_model.specs.Beneath.slot_arena.specs.declared.refs.Ref.{Ref}
 use Rattle.machine_model.specs.declared.actions.Action.TheVariants as act
@@ -8,6 +8,7 @@ use Rattle.machine_model.specs.declared.lines.Line.{Line}
 use Rattle.machine_model.specs.declared.lines.Line.TheVariants as line
 use Rattle.machine_model.specs.declared.operations.Operation.{Operation}
 use Rattle.machine_model.specs.declared.roots.Descriptor.{Descriptor}
+use Rattle.machine_model.specs.declared.steps.Step.TheVariants as step
 use Rattle.machine_model.specs.Acting.{operation_after}
 use Rattle.machine_model.specs.Calls.{handle_of}
 use Rattle.machine_model.specs.Copying.{after_given, after_offer}
@@ -19,9 +20,9 @@ use Rattle.lock_free.specs.declared.reading.Given.{Given}
 use Rattle.lock_free.specs.declared.reading.Way.{Way}
 use Rattle.lock_free.specs.declared.rules.View.{View}
 use Rattle.lock_free.specs.CopySteps.{HasCopied, HasOriginal, HasPrepared, HasReadOriginal, HasStopped, HasTried, IsAtOriginal, IsCopying}
-use Rattle.lock_free.specs.CopySteps.{IsReady, IsStill, IsToComplete, IsToOpenAll, copied_line, copied_on, copy_kind, given_line, is_snapshot}
+use Rattle.lock_free.specs.CopySteps.{IsReady, IsToComplete, IsToOpenAll, copied_line, copied_on, copy_kind, given_line, is_snapshot}
 use Rattle.lock_free.specs.Exchanging.{given_up}
-use Rattle.lock_free.specs.Loading.{now, seen, IsAt, IsSound, Runs, Saw}
+use Rattle.lock_free.specs.Loading.{now, seen, IsAt, IsSound, Runs, Saw, Waited}
 use Rattle.lock_free.specs.Making.{with_slots}
 use Rattle.lock_free.specs.Offering.{known_at, offered_by}
 use Rattle.lock_free.specs.Passing.{IsOnWay}
@@ -30,14 +31,16 @@ use Rattle.lock_free.specs.RootOffers.{HasMissed, HasOffered, TookOffer}
 use Rattle.lock_free.specs.RootWords.{IsToOpen}
 use Rattle.lock_free.specs.Roots.{IsItsTry}
 use Rattle.lock_free.specs.Rules.{pool_of}
+use Rattle.lock_free.specs.RunningOn.{IsStill}
 use Rattle.lock_free.specs.Stocks.{Stocked, IsStock, NotesLast, made_of, own_nodes, own_of, put_back}
 use Rattle.lock_free.proofs.Comings.{runs_one, saw_runs}
 use Rattle.lock_free.proofs.CopyRoots.{given_so}
-use Rattle.lock_free.proofs.Followings.{follows_later}
+use Rattle.lock_free.proofs.Followings.{follows_later, goes_both}
 use Rattle.lock_free.proofs.Laters.{placed_later, saw_later, waited_later}
 use Rattle.lock_free.proofs.NewNodes.{all_made_same, own_used}
 use Rattle.lock_free.proofs.OfferMisses.{same_offer}
 use Rattle.lock_free.proofs.Pools.{first_there}
+use Rattle.lock_free.proofs.RunningOn.{still_both, still_later, still_with}
 use Rattle.lock_free.proofs.StockStays.{stock_later, stock_moved}
 use Rattle.lock_free.proofs.SwapsMade.{back_is}
 
@@ -95,7 +98,7 @@ module _ (n : ℕ) (u : View) (sound : IsSound n u) (k : CopyKind) (handle : ℕ
 
   pub stopped_read : (w : View) → HasStopped v w → HasStopped u w
   stopped_read w h = record {
-    is = h.is ∙ ap (λ (x : View). record x { account = w.account; pool = w.pool; drafts = w.drafts }) r.moved.later.is;
+    still = still_both u v w (still_later u v r.moved.later) h.still;
     stops = λ q s. h.stops (record q { line = line_then q }) (r.moved.comes q s);
   }
 
@@ -126,7 +129,7 @@ module _ (n : ℕ) (u : View) (sound : IsSound n u) (k : CopyKind) (handle : ℕ
         }
 
     still_w : IsStill u w
-    still_w = ready.is ∙ ap (λ (x : View). record x { account = w.account; pool = w.pool; drafts = w.drafts; opening = w.opening }) r.moved.later.is
+    still_w = still_both u v w (still_later u v r.moved.later) ready.still
 
     -- ---- by its step
 
@@ -149,9 +152,12 @@ module _ (n : ℕ) (u : View) (sound : IsSound n u) (k : CopyKind) (handle : ℕ
       none_own : own_nodes x ≡ []
       none_own = ap own_of (took_so o at.1.1).1
 
-    -- what the seat was is still so
-    still_by : (x y : View) → y ≡ record x { account = y.account; pool = y.pool; drafts = y.drafts; opening = y.opening } → IsStill u x → IsStill u y
-    still_by x y e h = e ∙ ap (λ (z : View). record z { account = y.account; pool = y.pool; drafts = y.drafts; opening = y.opening }) h
+    -- by its step the seat stays what it was
+    still_step : (x : View) (account : Account) → Waited w account → (y : View) → x ≡ record w { account = y.account; pool = y.pool; drafts = y.drafts; opening = y.opening } →
+        y.account.steps ≡ account.steps ++ step.Go w.actor ∷ [] → IsStill u x
+    still_step x account waited y is more =
+        still_both u w x still_w
+        (still_with w x y is (goes_both w.account.steps account.steps y.account.steps (waited.waited.steps, waited.waited.goes_on) (step.Go w.actor ∷ [], more)))
 
     -- ---- it missed
 
@@ -167,9 +173,7 @@ module _ (n : ℕ) (u : View) (sound : IsSound n u) (k : CopyKind) (handle : ℕ
 
       pub missed_tried : HasTried u false x
       missed_tried = record {
-        is = still_by w x
-            (given_back_so ∙ ap (λ (z : View). record w { account = z.account; pool = z.pool; drafts = z.drafts; opening = z.opening }) (sym given_back_so))
-            still_w;
+        still = still_step x account missed.1.0 (given_up w account mine.private) given_back_so refl;
         comes = took_so x false account missed.1;
       }
 
@@ -262,8 +266,7 @@ module _ (n : ℕ) (u : View) (sound : IsSound n u) (k : CopyKind) (handle : ℕ
 
         pub copied_tried : HasTried u carried y
         copied_tried = record {
-          is = still_by x y (copied.later.is ∙ ap (λ (z : View). record x { account = z.account; pool = z.pool; drafts = z.drafts; opening = z.opening }) (sym copied.later.is))
-              (still_by w x (stood_so ∙ ap (λ (z : View). record w { account = z.account; pool = z.pool; drafts = z.drafts; opening = z.opening }) (sym stood_so)) still_w);
+          still = still_both u x y (still_step x then stands.1.0 stood stood_so refl) (still_later x y copied.later);
           comes = λ q s. copied.comes (completes q) (completing_it q s);
         }
 
@@ -287,7 +290,7 @@ module _ (n : ℕ) (u : View) (sound : IsSound n u) (k : CopyKind) (handle : ℕ
         module _ (sound_y : IsSound n y) (z : View) (saw : Saw y z) where
           pub opened_tried : HasTried u carried y → HasTried u carried z
           opened_tried t = record {
-            is = still_by y z (saw.after_is ∙ ap (λ (e : View). record y { account = e.account; pool = e.pool; drafts = e.drafts; opening = e.opening }) (sym saw.after_is)) t.is;
+            still = still_both u y z t.still (still_later y z (saw_later n y sound_y z saw));
             comes = λ q s. saw_runs y z saw (copied_on carried q) (t.comes q s);
           }
 

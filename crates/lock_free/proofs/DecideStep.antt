@@ -1,6 +1,6 @@
 -- The exchange of a header is the operation's step, whether it finds the main node pending or not.
 use Rattle.history.specs.declared.calls.Call.{Call}
-use Rattle.std.proofs.Common.{◌≡◌, ◌*◌, ◌==◌, ℕ, Bool, true, false, [], ◌∷◌, set, slice_index, Option, Some, None, refl, sym, ap, subst, ◌∙◌, arith, if◌then◌else◌, eq-eqb, ne_eqb}
+use Rattle.std.proofs.Common.{◌≤◌, ◌≡◌, ◌*◌, ◌==◌, ℕ, Bool, true, false, [], ◌∷◌, set, slice_index, Option, Some, None, refl, sym, ap, subst, ◌∙◌, arith, if◌then◌else◌, eq-eqb, ne_eqb}
 use Rattle.std.proofs.lemmas.List.Elements.{Contains-get_or}
 use mathlib.Core.Option.{some, none}
 use lib.ListN.{get_elem?}
@@ -153,13 +153,16 @@ module _ (v : View) (name : ℕ) (header : Header) (fits : IsHeader header) (lic
       (header_code (decided_header licensed header))
   it_leaves s kept id at = leaves v is_at.0 is_at.1 is_at.2 is_at.3 is_at.4 name is_at.5 header fits is_at.6 licensed is_at.7 s kept id at
 
-pub decide_allowed : (sizes : Sizes) (size id : ℕ) (me : Me Call View) (name : ℕ) (header : Header) (fits : IsHeader header) (licensed : Bool) (is_at : IsAtDecide me.0 name header licensed) →
+pub decide_allowed : (sizes : Sizes) (size id : ℕ) (me : Me Call View) (some_seats : 1 ≤ me.0.sizes.seats) (name : ℕ) (header : Header) (fits : IsHeader header) (licensed : Bool)
+    (is_at : IsAtDecide me.0 name header licensed) →
     AllowsExchange sizes size id me (2 * name) (header_code header) (header_code (decided_header licensed header))
-decide_allowed sizes size id me name header fits licensed is_at =
+decide_allowed sizes size id me some_seats name header fits licensed is_at =
     allowed sizes size id me (2 * name) (λ n. either (n == header_code header) (header_code (decided_header licensed header)) n)
     (has_gone (step size (2 * name) (header_code header) (header_code (decided_header licensed header)) none) me)
+    some_seats
     (λ s kept at. (let x = it_leaves me.0 name header fits licensed is_at s kept id at in
     (seen me.0 (gone_on me.0.actor kept.account), x.0, ((record { table = s; kept = kept; id = id; at = at; finds = refl }, refl, x.1.1), x.1.0, refl))))
+    (λ s kept at. refl)
 
 -- the main node, the one before it and what the root was told to be
 abbrev decided_of : Action → Ref × (Ref × (Ref × Option ℕ))

@@ -18,7 +18,7 @@ use Rattle.lock_free.specs.Accounts.{running}
 use Rattle.lock_free.specs.Beginning.{Ends}
 use Rattle.lock_free.specs.Loading.{now, seen, IsAt, IsSound, Runs, Waited}
 use Rattle.lock_free.specs.Places.{pin_word, words_of}
-use Rattle.lock_free.specs.Rules.{IsKept}
+use Rattle.lock_free.specs.Rules.{IsKept, IsRuled}
 use Rattle.lock_free.specs.SeatWords.{HasEnded, IsAtEnd, left_by, once_ended, has_ended}
 use Rattle.lock_free.proofs.Ended.{all_then, end_kept}
 use Rattle.lock_free.proofs.Moments.{allowed, waited_so, free_inside}
@@ -94,10 +94,11 @@ same_answer v a b p q =
     answer_in (act.End answer) other = answer
     answer_in action other = other
 
-pub end_allowed : (sizes : Sizes) (size id : ℕ) (me : Me Call View) → IsAtEnd me.0 →
-    Allows (IsKept sizes) size id me (pin_word me.0.actor) (λ n. 0) (λ n. has_ended (step size (pin_word me.0.actor) 0 0 none) me 0)
-end_allowed sizes size id me (answer, p) =
+pub end_allowed : (sizes : Sizes) (size id : ℕ) (me : Me Call View) (some_seats : 1 ≤ me.0.sizes.seats) → IsAtEnd me.0 →
+    Allows (IsRuled sizes) size id me (pin_word me.0.actor) (λ n. 0) (λ n. has_ended (step size (pin_word me.0.actor) 0 0 none) me 0)
+end_allowed sizes size id me some_seats (answer, p) =
     allowed sizes size id me (pin_word me.0.actor) (λ n. 0) (λ n. has_ended (step size (pin_word me.0.actor) 0 0 none) me 0)
+    some_seats
     (λ s kept at. (
       after me.0 answer p s kept id at,
       kept_after me.0 answer p s kept id at,
@@ -107,6 +108,7 @@ end_allowed sizes size id me (answer, p) =
         refl,
       ),
     ))
+    (λ s kept at. refl)
 
 -- the word is one of the table's
 pub pin_inside : (words : ℕ) (v : View) → IsSound words v → v.actor ≤ v.sizes.seats → pin_word v.actor < words

@@ -19,7 +19,7 @@ use Rattle.lock_free.specs.Accounts.{state_of, gone_on, HasWaited, IsOfOther}
 use Rattle.lock_free.specs.Beginning.{Ends}
 use Rattle.lock_free.specs.Places.{pin_word, root_word}
 use Rattle.lock_free.specs.Roots.{AreMarked, fate}
-use Rattle.lock_free.specs.Rules.{SaysClosing, IsFree, IsSpare, IsHeld, Reserves, IsSeat, IsKept}
+use Rattle.lock_free.specs.Rules.{SaysClosing, IsFree, IsSpare, IsHeld, Reserves, IsSeat, IsKept, first_account}
 use Rattle.lock_free.specs.Trying.{try_of, try_at}
 use Rattle.lock_free.proofs.Assembling.{AllStand, all_stand, closing_stays, opening_stays, Numbers, assembled, other_actor}
 use Rattle.lock_free.proofs.Meanings.{unmarked_at, unmarked_then, marked_at}
@@ -118,7 +118,7 @@ module _ (sizes : Sizes) (s : Table.State Call View) (kept : IsKept sizes s) (id
   own_then : IsSeat sizes account_then kept.stands words_then view_then
   own_then =
       own_else sizes s kept id v at account_then kept.stands words_then stays account_then (waited_none v.actor account_then)
-      (λ a above below. waited_none a account_then) all_then.counted None None v.closing opens None
+      (λ a above below. waits a (first_account sizes) (λ is. absurd (omega (arith, above, is))) (seat.rested a above below)) all_then.counted None None v.closing opens None
       (root.at_p sizes kept.account kept.stands s.words all v.actor seat.low most 0) (λ g e. absurd (none-some g e)) (λ o e. absurd (none-some o (sym ends.own ∙ e)))
       (λ g r. still_held g (seat.opens g (own_reserved g r.0))) (λ o e. absurd (none-some o (sym ends.own ∙ e))) (λ g slot o n. absurd (none-some slot n))
       (λ b name free. stays_spare id v b name at free)

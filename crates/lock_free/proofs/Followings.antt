@@ -1,5 +1,5 @@
 -- What a seat knows of nodes stays so, whatever becomes of its operation.
-use Rattle.std.proofs.Common.{◌≡◌, ℕ, true, [], ◌∷◌, Contains, refl, sym, ap, subst, ◌∙◌, arith}
+use Rattle.std.proofs.Common.{◌≡◌, ℕ, true, List, [], ◌∷◌, ◌++◌, Contains, refl, sym, ap, subst, ◌∙◌, arith, append_assoc, append-nil}
 use Rattle.std.proofs.lemmas.List.Elements.{Contains-get_or}
 use Rattle.trie_words.specs.declared.headers.Header.{Header}
 use Rattle.trie_words.specs.declared.headers.Shape.{Shape}
@@ -21,6 +21,7 @@ use Rattle.lock_free.specs.Exchanging.{IsNamed}
 use Rattle.lock_free.specs.Loading.{now, IsUsed}
 use Rattle.lock_free.specs.Nodes.{SaysShape, of_branch, of_tomb, of_list}
 use Rattle.lock_free.specs.Passing.{Later, KnowsLink, IsPlaced, KnowsMain, KnowsPending}
+use Rattle.lock_free.specs.Telling.{GoesOn}
 use Rattle.lock_free.proofs.GivenBack.{node_is}
 use Rattle.lock_free.proofs.LinkWords.{generation_is, generations}
 use Rattle.lock_free.proofs.Verdicts.{main_same}
@@ -51,8 +52,20 @@ main_kind (Listed singles) b same is = ap is_main_node same.1 ∙ is
 
 -- ---- how it goes on
 
+pub goes_self : {A : Type 0} (x : List A) → GoesOn x x
+goes_self x = ([], sym (append-nil x))
+
+pub goes_both : {A : Type 0} (x y z : List A) → GoesOn x y → GoesOn y z → GoesOn x z
+goes_both x y z (a, e) (b, f) = (a ++ b, f ∙ ap (λ xs. xs ++ b) e ∙ append_assoc x a b)
+
 pub follows_self : (v : View) → Follows v v
-follows_self v = record { is = refl; places = λ r slot u. refl; owns = λ a b c h. h; nodes = λ r slot u. (slot, u, same_self slot.node) }
+follows_self v = record {
+  is = refl;
+  places = λ r slot u. refl;
+  owns = λ a b c h. h;
+  nodes = λ r slot u. (slot, u, same_self slot.node);
+  goes_on = goes_self v.account.steps;
+}
 
 pub follows_both : (u v w : View) → Follows u v → Follows v w → Follows u w
 follows_both u v w p q = record {
@@ -60,11 +73,17 @@ follows_both u v w p q = record {
   places = λ r slot used. (let x = p.nodes r slot used in q.places r x.0 x.1 ∙ p.places r slot used);
   owns = λ a b c h. q.owns a b c (p.owns a b c h);
   nodes = λ r slot used. (let x = p.nodes r slot used in let y = q.nodes r x.0 x.1 in (y.0, y.1, same_both slot.node x.0.node y.0.node x.2 y.2));
+  goes_on = goes_both u.account.steps v.account.steps w.account.steps p.goes_on q.goes_on;
 }
 
 pub follows_later : (v w : View) → Later v w → Follows v w
-follows_later v w l =
-    record { is = l.is ∙ ap (λ (x : View). record v { account = w.account; pool = x.pool; drafts = x.drafts }) (sym l.is); places = l.places; owns = l.owns; nodes = l.nodes }
+follows_later v w l = record {
+  is = l.is ∙ ap (λ (x : View). record v { account = w.account; pool = x.pool; drafts = x.drafts }) (sym l.is);
+  places = l.places;
+  owns = l.owns;
+  nodes = l.nodes;
+  goes_on = l.goes_on;
+}
 
 pub become_both : (u v w : View) (first second : Operation → Operation) → HasBecome first u v → HasBecome second v w → HasBecome (λ o. second (first o)) u w
 become_both u v w first second p q = record { follows = follows_both u v w p.follows q.follows; comes = λ o r. q.comes (first o) (p.comes o r) }

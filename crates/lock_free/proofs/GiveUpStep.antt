@@ -1,7 +1,7 @@
 -- A load lets a seat's operation give up.
 use Rattle.history.specs.declared.calls.Call.{Call}
 use Rattle.history.specs.declared.replies.Reply.{Reply}
-use Rattle.std.proofs.Common.{◌≡◌, ◌<◌, ℕ, Bool, set, Some, refl, sym, ap, subst, ◌∙◌, arith}
+use Rattle.std.proofs.Common.{◌≤◌, ◌≡◌, ◌<◌, ℕ, Bool, set, Some, refl, sym, ap, subst, ◌∙◌, arith}
 use Rattle.std.proofs.lemmas.List.{set-get_or}
 use Rattle.std.proofs.lemmas.Option.{same_Some}
 use mathlib.Core.Option.{some, none}
@@ -21,7 +21,7 @@ use Rattle.lock_free.specs.Beginning.{taking}
 use Rattle.lock_free.specs.Calling.{GaveUp, HasGivenUp, MayGiveUp, once_given_up, has_given_up}
 use Rattle.lock_free.specs.Loading.{now, seen, IsAt, IsSound, Runs, Waited}
 use Rattle.lock_free.specs.Places.{epoch_word, words_of}
-use Rattle.lock_free.specs.Rules.{IsKept}
+use Rattle.lock_free.specs.Rules.{IsKept, IsRuled}
 use Rattle.lock_free.specs.Steps.{Leads}
 use Rattle.lock_free.proofs.Asked.{is_one_of}
 use Rattle.lock_free.proofs.Abandoned.{abandon_kept, abandon_sound}
@@ -71,15 +71,18 @@ module _ (v : View) (operation : Operation) (answer : Reply) (runs : Runs v oper
         );
       }
 
-pub give_up_allowed : (sizes : Sizes) (size id : ℕ) (me : Me Call View) → MayGiveUp me.0 → Allows (IsKept sizes) size id me epoch_word (λ n. n) (has_given_up (step size epoch_word 0 0 none) me)
-give_up_allowed sizes size id me (operation, answer, runs, may) =
+pub give_up_allowed : (sizes : Sizes) (size id : ℕ) (me : Me Call View) (some_seats : 1 ≤ me.0.sizes.seats) → MayGiveUp me.0 →
+    Allows (IsRuled sizes) size id me epoch_word (λ n. n) (has_given_up (step size epoch_word 0 0 none) me)
+give_up_allowed sizes size id me some_seats (operation, answer, runs, may) =
     allowed sizes size id me epoch_word (λ n. n) (has_given_up (step size epoch_word 0 0 none) me)
+    some_seats
     (λ s kept at. (
       after me.0 operation answer runs may s kept id at,
       subst (λ ws. IsKept me.0.sizes (record { words = ws; homes = s.homes; views = set s.views id (after me.0 operation answer runs may s kept id at) })) (sym (set-get_or s.words epoch_word 0))
           (kept_after me.0 operation answer runs may s kept id at),
       (has_given_up_so me.0 operation answer runs may s kept id at, sound_after me.0 operation answer runs may s kept id at, refl),
     ))
+    (λ s kept at. refl)
 
 -- the word is one of the table's
 pub epoch_inside : (words : ℕ) (v : View) → IsSound words v → epoch_word < words

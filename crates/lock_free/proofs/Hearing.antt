@@ -1,49 +1,25 @@
--- A seat hears what another one has seen.
+-- A seat hears of another one, which is given up.
 use Rattle.history.specs.declared.calls.Call.{Call}
-use Rattle.std.proofs.Common.{◌≡◌, ◌≤◌, ℕ, inl, inr, Bool, true, false, List, [], ◌∷◌, ◌++◌, All, set, slice_index, refl, sym, ap, subst, ◌∙◌, arith, append_assoc, append-nil}
-use Rattle.std.proofs.lemmas.Bool.{false≢true}
-use Rattle.std.proofs.lemmas.List.Elements.{All-tail}
+use Rattle.std.proofs.Common.{◌≡◌, ◌≢◌, ◌≤◌, ℕ, inl, inr, List, [], ◌∷◌, Contains, set, slice_index, refl, sym, ap, subst, ◌∙◌, arith}
 use Rattle.std.proofs.lemmas.List.{set-get_or}
 use mathlib.Core.Option.{Option, some, none}
 use lib.ListN.{get_elem?}
 use Rattle.atomic_table.specs.Table as Table
 use Rattle.atomic_table.specs.Table.{Me, Act, gives, keeps, chain, carried_after, homes_after, Valid, Allows, Joins, step}
-use Rattle.atomic_table.proofs.Lists.{set_else, set_again}
-use Rattle.machine_model.specs.declared.steps.Step.{Step}
-use Rattle.lock_free.specs.declared.accounts.Account.{Account}
+use Rattle.atomic_table.proofs.Lists.{at_set, set_else}
+use Rattle.lock_free.specs.declared.rules.Heard.{Heard}
 use Rattle.lock_free.specs.declared.rules.View.{View}
 use Rattle.lock_free.specs.declared.sizes.Sizes.{Sizes}
-use Rattle.lock_free.specs.Accounts.{state_of, HasWaited, IsOfOther}
-use Rattle.lock_free.specs.Finishing.{has_emptied}
-use Rattle.lock_free.specs.Loading.{HasSeen}
-use Rattle.lock_free.specs.Rules.{IsSeat, IsKept}
-use Rattle.lock_free.specs.Telling.{GoesOn}
-use Rattle.lock_free.proofs.Assembling.{all_stand, closing_stays, numbers_stay, assembled}
+use Rattle.lock_free.specs.Accounts.{state_of}
+use Rattle.lock_free.specs.Finishing.{gone, has_emptied, hearing, no_sizes, seen_by, HasHeard, HasHeardMore}
+use Rattle.lock_free.specs.Loading.{HasSeen, IsSound}
+use Rattle.lock_free.specs.Rules.{IsSeat, IsKept, IsRuled, WasGivenUp}
+use Rattle.lock_free.proofs.Assembling.{all_stand, closing_stays, here, numbers_stay, assembled}
+use Rattle.lock_free.proofs.GivenBack.{first_or}
+use Rattle.lock_free.proofs.GoneSeats.{given_up_still, heard_still}
 use Rattle.lock_free.proofs.Meanings.{no_tries}
 use Rattle.lock_free.proofs.Moments.{seen_view, seen_kept}
-use Rattle.lock_free.proofs.SameSteps.{goes_on, goes_on_is, goes_on_either}
-
--- ---- what it knows then
-
--- The longer account of the two, where the one goes on as the other. Else it is no seat, which can't be.
-abbrev heard_by : Bool → Bool → View → View → View
-heard_by true b v w = record v { account = w.account }
-heard_by false true v w = v
-heard_by false false v w = record v { actor = 0 }
-
-abbrev pub heard : View → View → View
-heard v w = heard_by (goes_on v.account.steps w.account.steps) (goes_on w.account.steps v.account.steps) v w
-
-known_by : (a b : Bool) (v w : View) → goes_on v.account.steps w.account.steps ≡ a → goes_on w.account.steps v.account.steps ≡ b → 1 ≤ (heard_by a b v w).actor →
-    GoesOn v.account.steps (heard_by a b v w).account.steps × GoesOn w.account.steps (heard_by a b v w).account.steps × ((heard_by a b v w).sizes ≡ v.sizes)
-known_by true b v w ea eb h = (goes_on_is v.account.steps w.account.steps ea, ([], sym (append-nil w.account.steps)), refl)
-known_by false true v w ea eb h = (([], sym (append-nil v.account.steps)), goes_on_is w.account.steps v.account.steps eb, refl)
-known_by false false v w ea eb h = absurd (omega (arith, h))
-
--- so where it is a seat then, it knows both
-pub heard_knows : (v w : View) → 1 ≤ (heard v w).actor →
-    GoesOn v.account.steps (heard v w).account.steps × GoesOn w.account.steps (heard v w).account.steps × ((heard v w).sizes ≡ v.sizes)
-heard_knows v w h = known_by (goes_on v.account.steps w.account.steps) (goes_on w.account.steps v.account.steps) v w refl refl h
+use Rattle.lock_free.proofs.Pools.{first_there, more_there}
 
 -- ---- the rule
 
@@ -71,98 +47,94 @@ homed sizes s kept homes = record {
   numbers = kept.numbers;
 }
 
-same_front : (xs ys zs : List Step) → xs ++ ys ≡ xs ++ zs → ys ≡ zs
-same_front [] ys zs e = e
-same_front (x ∷ xs) ys zs e = same_front xs ys zs (cc e)
+-- nor of whom a seat has heard, nor of the sizes of one that is given up
+module _ (sizes : Sizes) (s : Table.State Call View) (kept : IsKept sizes s) (id : ℕ) (v : View) (at : get_elem? s.views id ≡ some v) (its_sizes : Sizes) (heard : List Heard)
+    (same : 1 ≤ its_sizes.seats → its_sizes ≡ sizes) where
+  abbrev later : View
+  later = record v { sizes = its_sizes; heard = heard }
 
-all_last : (P : Step → Type 0) (xs ys : List Step) → All P (xs ++ ys) → All P ys
-all_last P [] ys h = h
-all_last P (x ∷ xs) ys h = all_last P xs ys (All-tail P x (xs ++ ys) h)
-
--- an account that has seen less has waited for what is in between too
-between : (actor : ℕ) (first middle last : Account) (more : List Step) → middle.steps ≡ first.steps ++ more → HasWaited actor first last → (later : List Step) → last.steps ≡ middle.steps ++ later →
-    All (IsOfOther actor) later
-between actor first middle last more e waited later f =
-    let same : more ++ later ≡ waited.steps =
-    same_front first.steps (more ++ later) waited.steps (sym (append_assoc first.steps more later) ∙ ap (λ xs. xs ++ later) (sym e) ∙ sym f ∙ waited.goes_on) in
-    all_last (IsOfOther actor) more later (subst (All (IsOfOther actor)) (sym same) waited.others)
-
-module _ (sizes : Sizes) (s : Table.State Call View) (kept : IsKept sizes s) (id : ℕ) (v : View) (at : get_elem? s.views id ≡ some v) (other : ℕ) (w : View)
-    (there : get_elem? s.views other ≡ some w) where
   mine : IsSeat sizes kept.account kept.stands s.words v
   mine = kept.seats id v at
 
-  its : IsSeat sizes kept.account kept.stands s.words w
-  its = kept.seats other w there
+  later_seat : IsSeat sizes kept.account kept.stands s.words later
+  later_seat = record {
+    same = same;
+    low = mine.low;
+    top = mine.top;
+    most = mine.most;
+    waited = mine.waited;
+    counts = mine.counts;
+    rested = mine.rested;
+    rests = mine.rests;
+    pinned = mine.pinned;
+    entered = mine.entered;
+    calls = mine.calls;
+    opens = mine.opens;
+    opening = λ handle slot o n. (let x = mine.opening handle slot o n in record { low = x.low; fits = x.fits; is = x.is; free = x.free });
+    reserves = mine.reserves;
+    spare = mine.spare;
+    once = mine.once;
+    drafts = mine.drafts;
+  }
 
-  waits : (actor : ℕ) → HasWaited actor v.account kept.account → GoesOn v.account.steps w.account.steps → HasWaited actor w.account kept.account
-  waits actor waited (more, e) =
-      let h = its.waited in
-      record {
-        steps = h.steps;
-        goes_on = h.goes_on;
-        others = between actor v.account w.account kept.account more e waited h.steps h.goes_on;
-        names = h.names;
-        more_names = h.more_names;
-        owned = h.owned;
-        more_owned = h.more_owned;
-        offers = h.offers;
-        more_offers = h.more_offers;
-      }
+  later_kept : IsKept sizes (record { words = s.words; homes = s.homes; views = set s.views id later })
+  later_kept =
+      assembled sizes s kept id v at later refl refl kept.account kept.stands s.words (all_stand sizes s kept)
+      (λ handle who low says. closing_stays sizes s kept id v at later refl refl (λ h e. e) refl handle who (kept.closings handle who low says)) later_seat
+      (λ other w e apart. kept.seats other w e) (λ b n f. inl f)
+      (numbers_stay sizes s kept id v at later refl refl kept.account s.words (no_tries kept.account.offers (state_of sizes kept.account)) (λ slot none. none) (λ handle low. refl) refl
+      (λ slot handle e free. free))
 
-  module _ (on : GoesOn v.account.steps w.account.steps) where
-    abbrev later : View
-    later = record v { account = w.account }
+-- ---- the one hears of the other
 
-    later_seat : IsSeat sizes kept.account kept.stands s.words later
-    later_seat = record {
-      same = mine.same;
-      low = mine.low;
-      top = mine.top;
-      most = mine.most;
-      waited = waits v.actor mine.waited on;
-      counts = its.counts;
-      rested = λ a above below. waits a (mine.rested a above below) on;
-      rests = mine.rests;
-      pinned = mine.pinned;
-      entered = mine.entered;
-      calls = mine.calls;
-      opens = mine.opens;
-      opening = λ handle slot o n. (let x = mine.opening handle slot o n in record { low = x.low; fits = x.fits; is = x.is; free = x.free });
-      reserves = mine.reserves;
-      spare = mine.spare;
-      once = mine.once;
-      drafts = mine.drafts;
-    }
+module _ (sizes : Sizes) (id : ℕ) (v : View) (some_v : 1 ≤ v.sizes.seats) (other : ℕ) (w : View) (some_w : 1 ≤ w.sizes.seats) (s : Table.State Call View) (ruled : IsRuled sizes s)
+    (at : get_elem? s.views id ≡ some v) (apart : other ≢ id) (e : get_elem? (set s.views id (hearing v w)) other ≡ some w) where
+  abbrev there : Table.State Call View
+  there = record { words = s.words; homes = s.homes; views = set s.views id (hearing v w) }
 
-    later_kept : IsKept sizes (record { words = s.words; homes = s.homes; views = set s.views id later })
-    later_kept =
-        assembled sizes s kept id v at later refl refl kept.account kept.stands s.words (all_stand sizes s kept)
-        (λ handle who low says. closing_stays sizes s kept id v at later refl refl (λ h e. e) refl handle who (kept.closings handle who low says)) later_seat
-        (λ other w e apart. kept.seats other w e) (λ b n f. inl f)
-        (numbers_stay sizes s kept id v at later refl refl kept.account s.words (no_tries kept.account.offers (state_of sizes kept.account)) (λ slot none. none) (λ handle low. refl) refl
-        (λ slot handle e free. free))
+  abbrev views_then : List View
+  views_then = set (set s.views id (hearing v w)) other (gone w)
 
-  same_kept : IsKept sizes (record { words = s.words; homes = s.homes; views = set s.views id v })
-  same_kept = subst (λ vs. IsKept sizes (record { words = s.words; homes = s.homes; views = vs })) (sym (set_again s.views id v at)) (homed sizes s kept s.homes)
+  kept_there : IsKept sizes there
+  kept_there = later_kept sizes s ruled.kept id v at v.sizes (seen_by w w.account ∷ v.heard) (ruled.kept.seats id v at).same
 
-  heard_kept_by : (a b : Bool) → goes_on v.account.steps w.account.steps ≡ a → goes_on w.account.steps v.account.steps ≡ b →
-      IsKept sizes (record { words = s.words; homes = s.homes; views = set s.views id (heard_by a b v w) })
-  heard_kept_by true b ea eb = later_kept (goes_on_is v.account.steps w.account.steps ea)
-  heard_kept_by false true ea eb = same_kept
-  heard_kept_by false false ea eb =
-      elim (goes_on_either v.account.steps w.account.steps mine.waited.steps its.waited.steps (sym mine.waited.goes_on ∙ its.waited.goes_on)) [
-        | inl h ↦ absurd (false≢true (sym ea ∙ h))
-        | inr h ↦ absurd (false≢true (sym eb ∙ h))
+  kept_then : IsKept sizes (record { words = s.words; homes = s.homes; views = views_then })
+  kept_then = later_kept sizes there kept_there other w e no_sizes w.heard (λ some_seats. absurd (omega (arith, some_seats)))
+
+  old : (h : Heard) → WasGivenUp s.views h → WasGivenUp views_then h
+  old h g = given_up_still (set s.views id (hearing v w)) other w e some_w (gone w) h (given_up_still s.views id v at some_v (hearing v w) h g)
+
+  new : (h : Heard) → seen_by w w.account ≡ h → WasGivenUp views_then h
+  new h same = record {
+    id = other;
+    view = gone w;
+    at = here sizes there kept_there other w e (gone w) refl refl;
+    spent = refl;
+    actor = ap (λ (x : Heard). x.actor) same;
+    last = ap (λ (x : Heard). x.last) same;
+    account = ap (λ (x : Heard). x.account) same;
+  }
+
+  was_there : get_elem? s.views other ≡ some w
+  was_there = sym (set_else s.views id other (hearing v w) apart) ∙ e
+
+  heard_then : (k : ℕ) (x : View) → get_elem? views_then k ≡ some x → (h : Heard) → Contains x.heard h → WasGivenUp views_then h
+  heard_then k x f h c = elim (at_set (set s.views id (hearing v w)) other k (gone w) x f) [
+    | inl p ↦ old h (ruled.heard other w was_there h (subst (λ (y : View). Contains y.heard h) (sym p.1) c))
+    | inr p ↦ elim (at_set s.views id k (hearing v w) x p.1) [
+      | inl q ↦ elim (first_or (seen_by w w.account) v.heard h (subst (λ (y : View). Contains y.heard h) (sym q.1) c)) [
+        | inl same ↦ new h same
+        | inr before ↦ old h (ruled.heard id v at h before)
       ]
+      | inr q ↦ old h (ruled.heard k x q.1 h c)
+    ]
+  ]
 
-  heard_kept : IsKept sizes (record { words = s.words; homes = s.homes; views = set s.views id (heard v w) })
-  heard_kept = heard_kept_by (goes_on v.account.steps w.account.steps) (goes_on w.account.steps v.account.steps) refl refl
+  pub heard_ruled : IsRuled sizes (record { words = s.words; homes = s.homes; views = views_then })
+  heard_ruled = record { kept = kept_then; heard = heard_then }
 
-pub hearing_joins : (sizes : Sizes) (id : ℕ) (v : View) (other : ℕ) (w : View) → Joins (IsKept sizes) id v other w (heard v w) w
-hearing_joins sizes id v other w s kept at apart e =
-    let there = sym (set_else s.views id other (heard v w) apart) ∙ e in
-    subst (λ vs. IsKept sizes (record { words = s.words; homes = s.homes; views = vs })) (sym (set_again (set s.views id (heard v w)) other w e)) (heard_kept sizes s kept id v at other w there)
+pub hearing_joins : (sizes : Sizes) (id : ℕ) (v : View) → 1 ≤ v.sizes.seats → (other : ℕ) (w : View) → 1 ≤ w.sizes.seats → Joins (IsRuled sizes) id v other w (hearing v w) (gone w)
+hearing_joins sizes id v some_v other w some_w s ruled at apart e = heard_ruled sizes id v some_v other w some_w s ruled at apart e
 
 -- ---- a seat gives back whatever slots it has
 
@@ -180,11 +152,11 @@ unfolding gives_all
 may_give homes [] = tt
 may_give homes (x ∷ xs) = (tt, may_give (set homes x.0 (some x.1)) xs)
 
-module _ (sizes : Sizes) (size id : ℕ) (me : Me Call View) (word : ℕ) where
-  pub empties : Allows (IsKept sizes) size id me word (λ n. n) (has_emptied (step size word 0 0 none) me)
-  empties s kept length_is at low =
-      let its = (kept.seats id me.0 at).same in
-      let own = subst (λ z. IsKept z s) (sym its) kept in
+module _ (sizes : Sizes) (size id : ℕ) (me : Me Call View) (word : ℕ) (some_seats : 1 ≤ me.0.sizes.seats) where
+  pub empties : Allows (IsRuled sizes) size id me word (λ n. n) (has_emptied (step size word 0 0 none) me)
+  empties s ruled length_is at low =
+      let its = (ruled.kept.seats id me.0 at).same some_seats in
+      let own = subst (λ z. IsKept z s) (sym its) ruled.kept in
       let view = seen_view me.0 s own id at in
       let after = homed me.0.sizes (record { words = s.words; homes = s.homes; views = set s.views id view }) (seen_kept me.0 s own id at) (homes_after s.homes me.1 (gives_all me.1)) in
       let there : IsKept me.0.sizes (record { words = set s.words word (slice_index s.words word); homes = homes_after s.homes me.1 (gives_all me.1); views = set s.views id view }) =
@@ -192,31 +164,46 @@ module _ (sizes : Sizes) (size id : ℕ) (me : Me Call View) (word : ℕ) where
         view,
         gives_all me.1,
         may_give s.homes me.1,
-        subst (λ z. IsKept z (record { words = set s.words word (slice_index s.words word); homes = homes_after s.homes me.1 (gives_all me.1); views = set s.views id view })) its there,
+        record {
+          kept =
+              subst (λ z. IsKept z (record { words = set s.words word (slice_index s.words word); homes = homes_after s.homes me.1 (gives_all me.1); views = set s.views id view })) its there;
+          heard = heard_still s.views id me.0 at some_seats view refl ruled.heard;
+        },
         ((record { table = s; kept = own; id = id; at = at; finds = refl }, refl), none_left me.1),
       )
 
--- ---- what a load shows
+-- ---- what is known then
 
-pub saw_more : (v : View) (word found : ℕ) (after : View) → HasSeen v word found after → (1 ≤ v.actor) × (after.sizes ≡ v.sizes) × GoesOn v.account.steps after.account.steps
-saw_more v word found after (m, is) =
-    let seat = m.kept.seats m.id v m.at in (
-      seat.low,
-      ap (λ (x : View). x.sizes) is,
-      (seat.waited.steps, ap (λ (x : View). x.account.steps) is ∙ seat.waited.goes_on),
-    )
+pub emptied_some : (w : View) (word found : ℕ) (left : View) → HasSeen w word found left → 1 ≤ w.sizes.seats → 1 ≤ left.sizes.seats
+emptied_some w word found left (m, is) some_seats = subst (λ (x : View). 1 ≤ x.sizes.seats) (sym is) some_seats
 
-pub knows_trans : (xs ys zs : List Step) → GoesOn xs ys → GoesOn ys zs → GoesOn xs zs
-knows_trans xs ys zs (a, e) (b, f) = (a ++ b, f ∙ ap (λ l. l ++ b) e ∙ append_assoc xs a b)
+pub has_heard : (v w : View) (word found : ℕ) (left : View) → HasSeen w word found left → (after : View) → after ≡ hearing v left → HasHeard after w
+has_heard v w word found left (m, is) after heard = record {
+  account = m.kept.account;
+  it =
+      subst (λ (x : View). Contains x.heard (seen_by w m.kept.account)) (sym (heard ∙ ap (hearing v) is))
+      (first_there (seen_by w m.kept.account) v.heard);
+  waited = (m.kept.seats m.id w m.at).waited;
+}
 
--- a seat that has heard of another one, and has seen more since, knows what both have seen
-pub heard_both : (v w heard_view : View) (word found : ℕ) (after : View) → heard_view ≡ heard v w → HasSeen heard_view word found after →
-    GoesOn v.account.steps after.account.steps × GoesOn w.account.steps after.account.steps × (after.sizes ≡ v.sizes)
-heard_both v w heard_view word found after is saw =
-    let more = saw_more heard_view word found after saw in
-    let both = heard_knows v w (subst (λ (x : View). 1 ≤ x.actor) is more.0) in
-    let on = subst (λ (x : View). GoesOn x.account.steps after.account.steps) is more.2 in (
-      knows_trans v.account.steps (heard v w).account.steps after.account.steps both.0 on,
-      knows_trans w.account.steps (heard v w).account.steps after.account.steps both.1 on,
-      more.1 ∙ ap (λ (x : View). x.sizes) is ∙ both.2,
-    )
+pub has_heard_more : (v left after : View) → after ≡ hearing v left → HasHeardMore v after
+has_heard_more v left after heard = record {
+  is = heard ∙ ap (λ (x : View). record v { heard = x.heard }) (sym heard);
+  all = λ h c. subst (λ (x : View). Contains x.heard h) (sym heard) (more_there (seen_by left left.account) v.heard h c);
+}
+
+-- ---- more and more
+
+pub heard_none : (v : View) → HasHeardMore v v
+heard_none v = record { is = refl; all = λ h c. c }
+
+pub heard_both : (u v w : View) → HasHeardMore u v → HasHeardMore v w → HasHeardMore u w
+heard_both u v w p q = record { is = q.is ∙ ap (λ (x : View). record x { heard = w.heard }) p.is; all = λ h c. q.all h (p.all h c) }
+
+pub still_heard : (v w other : View) → HasHeardMore v w → HasHeard v other → HasHeard w other
+still_heard v w other more h = record { account = h.account; it = more.all (seen_by other h.account) h.it; waited = h.waited }
+
+pub heard_sound : (n : ℕ) (v w : View) → HasHeardMore v w → IsSound n v → IsSound n w
+heard_sound n v w more s =
+    subst (IsSound n) (sym more.is)
+    (record { size = s.size; range = s.range; bounds = s.bounds; keys = s.keys; counted = s.counted; inside = s.inside; free = s.free })

@@ -1,6 +1,6 @@
 -- The last store in a free slot makes the node that is written there: the operation's step.
 use Rattle.history.specs.declared.calls.Call.{Call}
-use Rattle.std.proofs.Common.{◌≡◌, ◌≢◌, ◌*◌, ℕ, inl, inr, Bool, true, List, [], ◌∷◌, Contains, set, Option, Some, None, refl, sym, ap, subst, ◌∙◌, arith}
+use Rattle.std.proofs.Common.{◌≤◌, ◌≡◌, ◌≢◌, ◌*◌, ℕ, inl, inr, Bool, true, List, [], ◌∷◌, Contains, set, Option, Some, None, refl, sym, ap, subst, ◌∙◌, arith}
 use Rattle.std.proofs.lemmas.List.Elements.{Contains-get_or, Contains-append_left, Contains-push}
 use Rattle.std.proofs.lemmas.Bool.{cases_eq}
 use Rattle.std.proofs.lemmas.Option.{same_Some}
@@ -40,7 +40,7 @@ use Rattle.lock_free.specs.Loading.{now, IsAt, IsSound, Took}
 use Rattle.lock_free.specs.Making.{over_of, Drafted, IsOverBy, shape_with, DraftsHeader, DraftsNode, made_at, made_by, Makes}
 use Rattle.lock_free.specs.Nodes.{Has, is_single, AreEntries, class_of}
 use Rattle.lock_free.specs.Places.{words_of}
-use Rattle.lock_free.specs.Rules.{pool_of, IsFree, IsKept}
+use Rattle.lock_free.specs.Rules.{pool_of, IsFree, IsKept, IsRuled}
 use Rattle.lock_free.specs.Storing.{IsOwnWord, Writes, IsAtMake, IsAdded, has_made}
 use Rattle.lock_free.proofs.Added.{added}
 
@@ -178,10 +178,12 @@ module _ (v : View) (word value : ℕ) (node : Node) (rest : List ℕ) (name : �
   pub added_after : IsAdded v there node after
   added_after = added v (class_of node) name rest own node there kept.bounds kept.quiet kept.counted o 0 makes
 
-pub make_allowed : (sizes : Sizes) (size id : ℕ) (me : Me Call View) (word value : ℕ) → IsAtMake me.0 word value → Allows (IsKept sizes) size id me word (λ n. value)
+pub make_allowed : (sizes : Sizes) (size id : ℕ) (me : Me Call View) (some_seats : 1 ≤ me.0.sizes.seats) (word value : ℕ) → IsAtMake me.0 word value →
+    Allows (IsRuled sizes) size id me word (λ n. value)
     (λ n. has_made (step size word value 0 none) me value)
-make_allowed sizes size id me word value (node, rest, name, own, p, w) =
+make_allowed sizes size id me some_seats word value (node, rest, name, own, p, w) =
     allowed sizes size id me word (λ n. value) (λ n. has_made (step size word value 0 none) me value)
+    some_seats
     (λ s kept at. (
       made_by me.0 (class_of node) name rest own node kept.account,
       kept_after me.0 word value node rest name own p w s kept id at,
@@ -196,6 +198,7 @@ make_allowed sizes size id me word value (node, rest, name, own, p, w) =
         refl,
       ),
     ))
+    (λ s kept at. refl)
 
 -- its last word is free for the seat till then
 pub is_own_word : (v : View) (word value : ℕ) → IsAtMake v word value → IsOwnWord v word

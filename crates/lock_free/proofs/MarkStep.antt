@@ -1,6 +1,6 @@
 -- The exchange by which a seat marks a handle that it would close.
 use Rattle.history.specs.declared.calls.Call.{Call}
-use Rattle.std.proofs.Common.{◌≡◌, ◌==◌, ◌<◌, ◌^◌, inl, inr, ℕ, Bool, true, false, set, slice_index, refl, sym, ap, subst, ◌∙◌, eq-eqb}
+use Rattle.std.proofs.Common.{◌≤◌, ◌≡◌, ◌==◌, ◌<◌, ◌^◌, inl, inr, ℕ, Bool, true, false, set, slice_index, refl, sym, ap, subst, ◌∙◌, eq-eqb}
 use Rattle.std.proofs.lemmas.Bool.{cases_eq, ne_eqb, true≢false, false≢true}
 use mathlib.Core.Option.{some, none}
 use lib.ListN.{get_elem?}
@@ -19,7 +19,7 @@ use Rattle.lock_free.specs.HandleWords.{is_unmarked, marked_by, marking, HasMark
 use Rattle.lock_free.specs.Loading.{IsSound}
 use Rattle.lock_free.specs.Places.{root_word}
 use Rattle.lock_free.specs.Roots.{MeansRoot, SaysRoot}
-use Rattle.lock_free.specs.Rules.{SaysClosing, IsKept}
+use Rattle.lock_free.specs.Rules.{SaysClosing, IsKept, IsRuled}
 use Rattle.lock_free.proofs.Assembling.{closing_at}
 use Rattle.lock_free.proofs.Closers.{seat_kept}
 use Rattle.lock_free.proofs.Exchanged.{words_then, words_hit, words_miss}
@@ -84,6 +84,7 @@ module _ (v : View) (handle : ℕ) (low : handle < 256) (small : v.actor < 2 ^ 8
 
     abbrev Marked : View → Type 0
     Marked after = IsKept v.sizes (record { words = words_then v s kept id at (root_word handle) old new; homes = s.homes; views = set s.views id after }) × HasMarked v handle (found == old) after
+        × (after.heard ≡ v.heard)
 
     pub marks : (x : View) × Marked x
     marks = elim (cases_eq found old) [
@@ -94,6 +95,7 @@ module _ (v : View) (handle : ℕ) (low : handle < 256) (small : v.actor < 2 ^ 8
               (words_hit v s kept id at (root_word handle) old new e (root_word handle) refl)
               (hits w fits plain e),
           (λ x. refl, λ x. absurd (true≢false (sym (eq-eqb found old e) ∙ x))),
+          refl,
         ),
       )
       | inr differs ↦ (
@@ -101,18 +103,22 @@ module _ (v : View) (handle : ℕ) (low : handle < 256) (small : v.actor < 2 ^ 8
         (
           subst (λ ws. IsKept v.sizes (record { words = ws; homes = s.homes; views = set s.views id v })) (words_miss v s kept id at (root_word handle) old new differs) misses,
           (λ x. absurd (true≢false (sym x ∙ ne_eqb found old differs)), λ x. refl),
+          refl,
         ),
       )
     ]
 
-pub mark_allowed : (sizes : Sizes) (size id : ℕ) (me : Me Call View) (handle : ℕ) → handle < 256 → me.0.actor < 2 ^ 8 → (w : RootWord) → IsRootWord w → is_unmarked w ≡ true →
-    Allows (IsKept sizes) size id me (root_word handle) (λ n. either (n == root_code w) (root_code (marked_by me.0.actor w)) n)
+pub mark_allowed : (sizes : Sizes) (size id : ℕ) (me : Me Call View) (some_seats : 1 ≤ me.0.sizes.seats) (handle : ℕ) → handle < 256 → me.0.actor < 2 ^ 8 →
+    (w : RootWord) → IsRootWord w → is_unmarked w ≡ true →
+    Allows (IsRuled sizes) size id me (root_word handle) (λ n. either (n == root_code w) (root_code (marked_by me.0.actor w)) n)
     (has_marked (step size (root_word handle) (root_code w) (root_code (marked_by me.0.actor w)) none) me)
-mark_allowed sizes size id me handle low small w fits plain =
+mark_allowed sizes size id me some_seats handle low small w fits plain =
     allowed sizes size id me (root_word handle) (λ n. either (n == root_code w) (root_code (marked_by me.0.actor w)) n)
     (has_marked (step size (root_word handle) (root_code w) (root_code (marked_by me.0.actor w)) none) me)
+    some_seats
     (λ s kept at. (let x = marks me.0 handle low small s kept id at w fits plain in
     (x.0, x.1.0, (λ g is. subst (λ n. HasMarked me.0 n (slice_index s.words (root_word handle) == root_code w) x.0) (root_apart handle g is) x.1.1, refl))))
+    (λ s kept at. (marks me.0 handle low small s kept id at w fits plain).1.2)
 
 -- what is sound stays so
 by_made : (words : ℕ) (before : View) (handle : ℕ) (made : Bool) (after : View) → HasMarked before handle made after → IsSound words before → IsSound words after

@@ -32,13 +32,14 @@ use Rattle.lock_free.specs.Live.{refs_of_claims, at_hand, from_operation, from_s
 use Rattle.lock_free.specs.Loading.{now, IsUsed, IsSound, seen, Waited, Took, has_seen, has_gone, Holds}
 use Rattle.lock_free.specs.Nodes.{StandsAs, InTable}
 use Rattle.lock_free.specs.Places.{words_in, words_of}
-use Rattle.lock_free.specs.Rules.{IsFree, IsSeat, IsKept}
+use Rattle.lock_free.specs.Rules.{IsFree, IsSeat, IsKept, IsRuled}
 use Rattle.lock_free.specs.Steps.{Reads}
 use Rattle.lock_free.proofs.Asked.{in_use_made, live_in_use, nodes_stay}
 use Rattle.lock_free.proofs.Assembling.{all_stand, closing_stays, numbers_stay, assembled}
 use Rattle.lock_free.proofs.Meanings.{no_tries}
 use Rattle.lock_free.proofs.Definition.{IsReading, reads_of, waits, bounds_before}
 use Rattle.lock_free.proofs.Geometry.{end_inside}
+use Rattle.lock_free.proofs.GoneSeats.{heard_still}
 use Rattle.lock_free.proofs.Keeping.{keys_gone, kept_then}
 use Rattle.lock_free.proofs.Waiting.{waited_none}
 
@@ -50,11 +51,22 @@ module _ (sizes : Sizes) (size id : ℕ) (me : Me Call View) (word : ℕ) (f : �
   abbrev pub CanBe : Type 0
   CanBe = (s : Table.State Call View) → IsKept me.0.sizes s → get_elem? s.views id ≡ some me.0 → (w : View) × IsKept me.0.sizes (after_it s w) × then (slice_index s.words word) (w, me.1)
 
-  pub allowed : CanBe → Allows (IsKept sizes) size id me word f then
-  allowed h s kept length_is at low =
-      let its = (kept.seats id me.0 at).same in
-      let x = h s (subst (λ z. IsKept z s) (sym its) kept) at in
-      (x.0, keeps, tt, subst (λ z. IsKept z (after_it s x.0)) its x.1, x.2)
+  -- The seat wasn't given up, and has heard of nobody more.
+  pub allowed : 1 ≤ me.0.sizes.seats → (h : CanBe) → ((s : Table.State Call View) (kept : IsKept me.0.sizes s) (at : get_elem? s.views id ≡ some me.0) → (h s kept at).0.heard ≡ me.0.heard) →
+      Allows (IsRuled sizes) size id me word f then
+  allowed some_seats h same s ruled length_is at low =
+      let its = (ruled.kept.seats id me.0 at).same some_seats in
+      let kept = subst (λ z. IsKept z s) (sym its) ruled.kept in
+      let x = h s kept at in (
+        x.0,
+        keeps,
+        tt,
+        record {
+          kept = subst (λ z. IsKept z (after_it s x.0)) its x.1;
+          heard = heard_still s.views id me.0 at some_seats x.0 (same s kept at) ruled.heard;
+        },
+        x.2,
+      )
 
 -- places stay where they are
 pub place_stays : (names more : List ℕ) (k : ℕ) → k < length names → get_or (names ++ more) k 0 ≡ get_or names k 0
@@ -186,13 +198,13 @@ module _ (v : View) (s : Table.State Call View) (kept : IsKept v.sizes s) (id : 
 
   seen_seat : IsSeat v.sizes there kept.stands s.words seen_view
   seen_seat = record {
-    same = refl;
+    same = λ some. refl;
     low = seat.low;
     top = seat.top;
     most = seat.most;
     waited = waited_none v.actor there;
     counts = kept.counted;
-    rested = λ a above below. waited_none a there;
+    rested = seat.rested;
     rests = seat.rests;
     pinned = seat.pinned;
     entered = seat.entered;
@@ -253,21 +265,25 @@ module _ (sizes : Sizes) (size id : ℕ) (me : Me Call View) (word : ℕ) where
       IsKept me.0.sizes (record { words = set s.words word (slice_index s.words word); homes = s.homes; views = set s.views id w })
   unchanged s w h = subst (λ ws. IsKept me.0.sizes (record { words = ws; homes = s.homes; views = set s.views id w })) (sym (set-get_or s.words word 0)) h
 
-  pub load_allowed : Allows (IsKept sizes) size id me word (λ n. n) (has_seen (step size word 0 0 none) me)
-  load_allowed =
+  pub load_allowed : 1 ≤ me.0.sizes.seats → Allows (IsRuled sizes) size id me word (λ n. n) (has_seen (step size word 0 0 none) me)
+  load_allowed some_seats =
       allowed sizes size id me word (λ n. n) (has_seen (step size word 0 0 none) me)
+      some_seats
       (λ s kept at. (
         seen_view me.0 s kept id at,
         unchanged s (seen_view me.0 s kept id at) (seen_kept me.0 s kept id at),
         ((record { table = s; kept = kept; id = id; at = at; finds = refl }, refl), (waited_so me.0 s kept id at).sound, refl),
       ))
+      (λ s kept at. refl)
 
-  pub go_allowed : (o : Operation) → running me.0.sizes me.0.account me.0.actor o → IsReading (action_of (now me.0) o) → Allows (IsKept sizes) size id me word (λ n. n)
+  pub go_allowed : 1 ≤ me.0.sizes.seats → (o : Operation) → running me.0.sizes me.0.account me.0.actor o → IsReading (action_of (now me.0) o) → Allows (IsRuled sizes) size id me word (λ n. n)
       (has_gone (step size word 0 0 none) me)
-  go_allowed o runs reading =
+  go_allowed some_seats o runs reading =
       allowed sizes size id me word (λ n. n) (has_gone (step size word 0 0 none) me)
+      some_seats
       (λ s kept at. (
         gone_view me.0 s kept id at o runs reading,
         unchanged s (gone_view me.0 s kept id at o runs reading) (gone_kept me.0 s kept id at o runs reading),
         ((record { table = s; kept = kept; id = id; at = at; finds = refl }, refl, gone_took me.0 s kept id at o runs reading), gone_sound me.0 s kept id at o runs reading, refl),
       ))
+      (λ s kept at. refl)

@@ -12,6 +12,7 @@ use Rattle.machine_model.specs.Beneath.slot_arena.specs.Heaps.{node_at}
 use Rattle.machine_model.specs.Beneath.slot_arena.specs.Refs.{slot_of}
 use Rattle.machine_model.specs.declared.actions.Action.{Action}
 use Rattle.machine_model.specs.declared.operations.Operation.{Operation}
+use Rattle.machine_model.specs.declared.steps.Step.TheVariants as step
 use Rattle.machine_model.specs.Building.{key_in}
 use Rattle.machine_model.specs.Operations.{action_of}
 use Rattle.proof_memory.specs.Laws.{SameNode}
@@ -31,7 +32,7 @@ use Rattle.lock_free.specs.Passing.{Later, IsPlaced}
 use Rattle.lock_free.specs.Stocks.{Stocked, IsStock, own_of, own_nodes, made_of}
 use Rattle.lock_free.specs.Storing.{IsAdded}
 use Rattle.lock_free.proofs.Asked.{in_use_made, live_in_use, line_stands}
-use Rattle.lock_free.proofs.Followings.{follows_later, main_node_on}
+use Rattle.lock_free.proofs.Followings.{follows_later, goes_both, main_node_on}
 use Rattle.lock_free.proofs.GivenBack.{node_is}
 use Rattle.lock_free.proofs.KeyMoves.{hash_is}
 use Rattle.lock_free.proofs.Laters.{waited_later}
@@ -111,6 +112,7 @@ module _ (n : ℕ) (before : View) (sound : IsSound n before) (account : Account
     owns = λ a b c h. own_stays account.owned (length account.names) own node (slot_of a) (slot_of b) c (first.owns a b c h);
     nodes = λ r slot used.
         (let x = first.nodes r slot used in (x.0, added.others (slot_of r) (λ e. apart (slot_of r) x.0 x.1 (e ∙ added.number)) ∙ x.1, x.2));
+    goes_on = goes_both before.account.steps account.steps after.account.steps first.goes_on (step.Go before.actor ∷ [], refl);
   }
 
   placed : IsPlaced after added.made name

@@ -1,6 +1,6 @@
 -- Accesses of the word of a number that a call is to open.
 use Rattle.history.specs.declared.calls.Call.{Call}
-use Rattle.std.proofs.Common.{◌≡◌, ◌≢◌, ◌==◌, arith, ◌<◌, ◌^◌, inl, inr, ℕ, Bool, true, false, Contains, set, slice_index, Option, Some, None, refl, sym, ap, subst, ◌∙◌, eq-eqb}
+use Rattle.std.proofs.Common.{◌≤◌, ◌≡◌, ◌≢◌, ◌==◌, arith, ◌<◌, ◌^◌, inl, inr, ℕ, Bool, true, false, Contains, set, slice_index, Option, Some, None, refl, sym, ap, subst, ◌∙◌, eq-eqb}
 use Rattle.std.proofs.lemmas.Bool.{cases_eq, ne_eqb, true≢false}
 use Rattle.std.proofs.lemmas.Option.{none-some, same_Some}
 use mathlib.Core.Option.{some, none}
@@ -22,7 +22,7 @@ use Rattle.lock_free.specs.Loading.{IsSound}
 use Rattle.lock_free.specs.Numbers.{naming, reserving, without_number, has_given_back, has_named, has_reserved, HasTried, IsNaming}
 use Rattle.lock_free.specs.Places.{root_word}
 use Rattle.lock_free.specs.Roots.{fate, undecided}
-use Rattle.lock_free.specs.Rules.{IsFree, IsKept, Reserves}
+use Rattle.lock_free.specs.Rules.{IsFree, IsKept, Reserves, IsRuled}
 use Rattle.lock_free.specs.SeatWords.{IsIdle}
 use Rattle.lock_free.proofs.Assembling.{closing_at}
 use Rattle.lock_free.proofs.Closers.{seat_kept}
@@ -64,15 +64,17 @@ module _ (v : View) (number : ℕ) (low : number < 256) (idle : IsIdle v) (opens
     (λ x. absurd (true≢false (sym x ∙ ne_eqb found 0 differs)), λ x. refl),
   )
 
-  tries : (x : View) × Tried x
-  tries = elim (cases_eq found 0) [ inl e ↦ (reserving v number, hits e) | inr differs ↦ (v, misses differs) ]
+  tries : (x : View) × (x.heard ≡ v.heard) × Tried x
+  tries = elim (cases_eq found 0) [ inl e ↦ (reserving v number, refl, hits e) | inr differs ↦ (v, refl, misses differs) ]
 
-pub reserve_allowed : (sizes : Sizes) (size id : ℕ) (me : Me Call View) (number : ℕ) → number < 256 → IsIdle me.0 → me.0.opens ≡ None →
-    Allows (IsKept sizes) size id me (root_word number) (λ n. either (n == 0) (root_code word.Reserved) n) (has_reserved (step size (root_word number) 0 (root_code word.Reserved) none) me)
-reserve_allowed sizes size id me number low idle opens =
+pub reserve_allowed : (sizes : Sizes) (size id : ℕ) (me : Me Call View) (some_seats : 1 ≤ me.0.sizes.seats) (number : ℕ) → number < 256 → IsIdle me.0 → me.0.opens ≡ None →
+    Allows (IsRuled sizes) size id me (root_word number) (λ n. either (n == 0) (root_code word.Reserved) n) (has_reserved (step size (root_word number) 0 (root_code word.Reserved) none) me)
+reserve_allowed sizes size id me some_seats number low idle opens =
     allowed sizes size id me (root_word number) (λ n. either (n == 0) (root_code word.Reserved) n) (has_reserved (step size (root_word number) 0 (root_code word.Reserved) none) me)
+    some_seats
     (λ s kept at. (let x = tries me.0 number low idle opens s kept id at in
-    (x.0, x.1.0, (λ g is. subst (λ n. HasTried me.0 n (slice_index s.words (root_word number) == 0) x.0) (root_apart number g is) x.1.1, refl))))
+    (x.0, x.2.0, (λ g is. subst (λ n. HasTried me.0 n (slice_index s.words (root_word number) == 0) x.0) (root_apart number g is) x.2.1, refl))))
+    (λ s kept at. (tries me.0 number low idle opens s kept id at).1)
 
 -- ---- its word is stored
 
@@ -84,12 +86,13 @@ module _ (v : View) (s : Table.State Call View) (kept : IsKept v.sizes s) (id : 
   none_stands other k c stands opens =
       let own = own_pending v.sizes s kept (owner_of v.sizes kept.account kept.bounds) id v at number reserves k c stands opens in other own.0 own.1 own.2.0 own.2.1
 
-pub name_allowed : (sizes : Sizes) (size id : ℕ) (me : Me Call View) (number slot : ℕ) → number < 256 → IsNaming me.0 number slot → IsRootWord (word.Opening slot) →
-    Allows (IsKept sizes) size id me (root_word number) (λ n. root_code (word.Opening slot))
+pub name_allowed : (sizes : Sizes) (size id : ℕ) (me : Me Call View) (some_seats : 1 ≤ me.0.sizes.seats) (number slot : ℕ) → number < 256 → IsNaming me.0 number slot → IsRootWord (word.Opening slot) →
+    Allows (IsRuled sizes) size id me (root_word number) (λ n. root_code (word.Opening slot))
     (λ n. has_named (step size (root_word number) (root_code (word.Opening slot)) 0 none) me (root_code (word.Opening slot)))
-name_allowed sizes size id me number slot low n fits =
+name_allowed sizes size id me some_seats number slot low n fits =
     allowed sizes size id me (root_word number) (λ x. root_code (word.Opening slot))
     (λ x. has_named (step size (root_word number) (root_code (word.Opening slot)) 0 none) me (root_code (word.Opening slot)))
+    some_seats
     (λ s kept at. (
       naming me.0 slot,
       (let is = (waited_so me.0 s kept id at).stays (record n.operation { is_marked = n.runs.0 }) n.runs.1 in
@@ -105,14 +108,16 @@ name_allowed sizes size id me number slot low n fits =
           (λ p runs c at_line. (let both = sym at_line ∙ ap (λ (x : Operation). x.line) (same p runs) ∙ n.on in let wrong : ⊥ = cc both in wrong))) slot n.free),
       λ other is. ap (λ x. (naming me.0 x, me.1)) (slot_same slot other (sym (root_back (word.Opening slot) fits) ∙ is)),
     ))
+    (λ s kept at. refl)
   where
     slot_same : (a b : ℕ) → word.Opening a ≡ word.Opening b → a ≡ b
     slot_same a b e = cc e
 
-pub give_back_allowed : (sizes : Sizes) (size id : ℕ) (me : Me Call View) (number : ℕ) → IsIdle me.0 → me.0.opens ≡ Some number →
-    Allows (IsKept sizes) size id me (root_word number) (λ n. 0) (λ n. has_given_back (step size (root_word number) 0 0 none) me 0)
-give_back_allowed sizes size id me number idle opens =
+pub give_back_allowed : (sizes : Sizes) (size id : ℕ) (me : Me Call View) (some_seats : 1 ≤ me.0.sizes.seats) (number : ℕ) → IsIdle me.0 → me.0.opens ≡ Some number →
+    Allows (IsRuled sizes) size id me (root_word number) (λ n. 0) (λ n. has_given_back (step size (root_word number) 0 0 none) me 0)
+give_back_allowed sizes size id me some_seats number idle opens =
     allowed sizes size id me (root_word number) (λ n. 0) (λ n. has_given_back (step size (root_word number) 0 0 none) me 0)
+    some_seats
     (λ s kept at. (
       without_number me.0,
       (let rests = idle_stays me.0.sizes me.0.actor me.0.account kept.account (kept.seats id me.0 at).waited kept.bounds idle in
@@ -120,6 +125,7 @@ give_back_allowed sizes size id me number idle opens =
           give_back_kept me.0.sizes s kept id me.0 at number reserves (none_stands me.0 s kept id at number reserves (λ p runs c at_line. none-some p (sym rests ∙ runs))) rests),
       refl,
     ))
+    (λ s kept at. refl)
 
 -- ---- what is sound stays so
 

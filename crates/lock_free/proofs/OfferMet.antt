@@ -1,6 +1,6 @@
 -- The load of an offer's first word by which an operation that asks for the root finds it standing there is the operation's step; where it is settled, that is known for ever.
 use Rattle.history.specs.declared.calls.Call.{Call}
-use Rattle.std.proofs.Common.{◌≡◌, ◌≢◌, ◌*◌, ◌==◌, ℕ, Bool, true, false, Contains, set, slice_index, refl, sym, ap, subst, ◌∙◌, eqb-true, if◌then◌else◌}
+use Rattle.std.proofs.Common.{◌≤◌, ◌≡◌, ◌≢◌, ◌*◌, ◌==◌, ℕ, Bool, true, false, Contains, set, slice_index, refl, sym, ap, subst, ◌∙◌, eqb-true, if◌then◌else◌}
 use Rattle.std.proofs.lemmas.Bool.{eqb-false}
 use Rattle.std.proofs.lemmas.List.{set-get_or}
 use mathlib.Core.Option.{some, none}
@@ -24,7 +24,7 @@ use Rattle.lock_free.specs.Loading.{Moment, now, HasGone, HasSeen, IsSound}
 use Rattle.lock_free.specs.Places.{words_of}
 use Rattle.lock_free.specs.Roots.{fate, undecided, carried_out, taken_back, open_with}
 use Rattle.lock_free.specs.RootWords.{AsksAt, HasFoundOffer, HasMetOffer, HasSeenFate, HasSeenSettled, MetAs, fate_by, has_met}
-use Rattle.lock_free.specs.Rules.{IsKept}
+use Rattle.lock_free.specs.Rules.{IsKept, IsRuled}
 use Rattle.lock_free.proofs.AbortStep.{known_there}
 use Rattle.lock_free.proofs.Definition.{IsReading}
 use Rattle.lock_free.proofs.Looking.{saw, went}
@@ -42,7 +42,7 @@ module _ (v : View) (handle : ℕ) (asks : AsksAt v handle) (word : ℕ) (s : Ta
   reading = subst IsReading (sym asks.acts.acts) tt
 
   abbrev Meets : Bool → View → Type 0
-  Meets b w = IsKept v.sizes (record { words = s.words; homes = s.homes; views = set s.views id w }) × MetAs b v word found w × IsSound (words_of v.sizes) w
+  Meets b w = IsKept v.sizes (record { words = s.words; homes = s.homes; views = set s.views id w }) × MetAs b v word found w × IsSound (words_of v.sizes) w × (w.heard ≡ v.heard)
 
   pub meets_as : (b : Bool) → (w : View) × Meets b w
   meets_as true = (
@@ -51,19 +51,23 @@ module _ (v : View) (handle : ℕ) (asks : AsksAt v handle) (word : ℕ) (s : Ta
       gone_kept v s kept id at o asks.acts.runs reading,
       (record { table = s; kept = kept; id = id; at = at; finds = refl }, refl, gone_took v s kept id at o asks.acts.runs reading),
       gone_sound v s kept id at o asks.acts.runs reading,
+      refl,
     ),
   )
   meets_as false =
-      (seen_view v s kept id at, (seen_kept v s kept id at, (record { table = s; kept = kept; id = id; at = at; finds = refl }, refl), (waited_so v s kept id at).sound))
+      (seen_view v s kept id at, (seen_kept v s kept id at, (record { table = s; kept = kept; id = id; at = at; finds = refl }, refl), (waited_so v s kept id at).sound, refl))
 
-pub meet_allowed : (sizes : Sizes) (size id : ℕ) (me : Me Call View) (handle word : ℕ) → AsksAt me.0 handle → Allows (IsKept sizes) size id me word (λ n. n) (has_met (step size word 0 0 none) me)
-meet_allowed sizes size id me handle word asks =
+pub meet_allowed : (sizes : Sizes) (size id : ℕ) (me : Me Call View) (some_seats : 1 ≤ me.0.sizes.seats) (handle word : ℕ) → AsksAt me.0 handle →
+    Allows (IsRuled sizes) size id me word (λ n. n) (has_met (step size word 0 0 none) me)
+meet_allowed sizes size id me some_seats handle word asks =
     allowed sizes size id me word (λ n. n) (has_met (step size word 0 0 none) me)
+    some_seats
     (λ s kept at. (let x = meets_as me.0 handle asks word s kept id at (slice_index s.words word == undecided) in (
       x.0,
       subst (λ ws. IsKept me.0.sizes (record { words = ws; homes = s.homes; views = set s.views id x.0 })) (sym (set-get_or s.words word 0)) x.1.0,
       (x.1.1, x.1.2, refl),
     )))
+    (λ s kept at. (meets_as me.0 handle asks word s kept id at (slice_index s.words word == undecided)).1.3)
 
 -- ---- what the seat is told
 

@@ -1,6 +1,6 @@
 -- The exchange of a handle's word that is to bring an offer to stand: it finds its root there, another one, or what is no root.
 use Rattle.history.specs.declared.calls.Call.{Call}
-use Rattle.std.proofs.Common.{◌≡◌, ◌≢◌, ◌+◌, ◌*◌, ◌<◌, ◌^◌, ◌==◌, ℕ, inl, inr, true, false, List, [], ◌∷◌, ◌++◌}
+use Rattle.std.proofs.Common.{◌≤◌, ◌≡◌, ◌≢◌, ◌+◌, ◌*◌, ◌<◌, ◌^◌, ◌==◌, ℕ, inl, inr, true, false, List, [], ◌∷◌, ◌++◌}
 use Rattle.std.proofs.Common.{Contains, set, slice_index, Option, Some, None, refl, sym, ap, subst, ◌∙◌, arith, eq-eqb, ne_eqb, get_or, if◌then◌else◌}
 use Rattle.std.proofs.Common.{append-nil}
 use Rattle.std.proofs.lemmas.Bool.{cases_eq}
@@ -48,7 +48,7 @@ use Rattle.lock_free.specs.Offering.{DraftsOffer, Offers, offered_by}
 use Rattle.lock_free.specs.Places.{root_word, words_of}
 use Rattle.lock_free.specs.RootOffers.{WritesOffer, IsToOffer, HasProposed, proposed_by, has_proposed}
 use Rattle.lock_free.specs.Roots.{SaysRoot, SaysPlain, open_with, second_of}
-use Rattle.lock_free.specs.Rules.{Stands as StandsIn, IsSeat, IsKept, pool_of}
+use Rattle.lock_free.specs.Rules.{Stands as StandsIn, IsSeat, IsKept, pool_of, IsRuled}
 use Rattle.lock_free.proofs.Asked.{live_in_use, slots_tell}
 use Rattle.lock_free.proofs.Exchanged.{words_then, words_hit, words_miss}
 use Rattle.lock_free.proofs.Moments.{allowed, seen_kept, waited_so, live_place, held_there, free_inside}
@@ -169,7 +169,7 @@ module _ (v : View) (root slot : ℕ) (offer : Descriptor) (rest : List ℕ) (p 
     abbrev Left : RootWord → View → Type 0
     Left x after =
         IsKept v.sizes (record { words = words_then v s kept id at (root_word handle) old new; homes = s.homes; views = set s.views id after })
-        × (IsSound (words_of v.sizes) after × HasProposed v handle slot (proposed_by root x) after)
+        × (IsSound (words_of v.sizes) after × HasProposed v handle slot (proposed_by root x) after) × (after.heard ≡ v.heard)
 
     module _ (plain : root_at state handle ≡ open_with Writable (Plain offer.root)) where
       offers : Offers v.sizes there v.actor slot o offer
@@ -220,6 +220,7 @@ module _ (v : View) (root slot : ℕ) (offer : Descriptor) (rest : List ℕ) (p 
             subst (λ x. HasProposed v handle slot x offered) (ap (λ b. if b then Stands else Misses) (sym (eq-eqb other root is)))
                 (there, (waited_so v s kept id at, offered_took, tells_plain), tells_offered),
           ),
+          refl,
         ),
       )
 
@@ -238,6 +239,7 @@ module _ (v : View) (root slot : ℕ) (offer : Descriptor) (rest : List ℕ) (p 
               dropped_sound v offer p s kept id at another,
               subst (λ x. HasProposed v handle slot x after) (ap (λ b. if b then Stands else Misses) (sym (ne_eqb other root differs))) (has_missed v offer p s kept id at another),
             ),
+            refl,
           ),
         )
 
@@ -255,6 +257,7 @@ module _ (v : View) (root slot : ℕ) (offer : Descriptor) (rest : List ℕ) (p 
               (subst (λ y. HasSeenRoot v handle y (seen v there)) (ap root_of e ∙ root_back x fits) (root_told v handle found (seen v there) low
               (record { table = s; kept = kept; id = id; at = at; finds = refl }, refl))),
         ),
+        refl,
       ),
     )
 
@@ -296,7 +299,7 @@ module _ (v : View) (root slot : ℕ) (offer : Descriptor) (rest : List ℕ) (p 
         subst (λ x. (after : View) × Left x after) (sym (ap root_of means.code ∙ root_back means.what means.fits)) (by_word means.what means.fits means.code means.says)
 
 abbrev pub AllowsOffer : Sizes → ℕ → ℕ → Me Call View → ℕ → ℕ → ℕ → Type 0
-AllowsOffer sizes size id me word old new = Allows (IsKept sizes) size id me word (λ n. either (n == old) new n) (has_proposed (step size word old new none) me)
+AllowsOffer sizes size id me word old new = Allows (IsRuled sizes) size id me word (λ n. either (n == old) new n) (has_proposed (step size word old new none) me)
 
 -- what is asked names but one handle, root and slot
 told_so : (v : View) (handle root slot found : ℕ) (after : View) → IsToOffer v handle root slot → HasProposed v handle slot (proposed_by root (root_of found)) after → (h r n : ℕ) → IsToOffer v
@@ -311,12 +314,13 @@ told_so v handle root slot found after (offer, rest, p, w, on) told h r n (other
     subst (λ y. HasProposed v y n (proposed_by r (root_of found)) after) same_handle
     (subst (λ y. HasProposed v handle n (proposed_by y (root_of found)) after) same_root (subst (λ y. HasProposed v handle y (proposed_by root (root_of found)) after) same_slot told))
 
-pub offer_allowed : (sizes : Sizes) (size id : ℕ) (me : Me Call View) (named root slot : ℕ) → IsToOffer me.0 named root slot →
+pub offer_allowed : (sizes : Sizes) (size id : ℕ) (me : Me Call View) (some_seats : 1 ≤ me.0.sizes.seats) (named root slot : ℕ) → IsToOffer me.0 named root slot →
     AllowsOffer sizes size id me (root_word named) (root_code (word.Writable root)) (root_code (word.Offered slot))
-offer_allowed sizes size id me named root slot (offer, rest, p, w, on) =
+offer_allowed sizes size id me some_seats named root slot (offer, rest, p, w, on) =
     subst (λ h. AllowsOffer sizes size id me (root_word h) (root_code (word.Writable root)) (root_code (word.Offered slot))) on
     (allowed sizes size id me (root_word (handle_of p.operation.call)) (λ n. either (n == root_code (word.Writable root)) (root_code (word.Offered slot)) n)
     (has_proposed (step size (root_word (handle_of p.operation.call)) (root_code (word.Writable root)) (root_code (word.Offered slot)) none) me)
+    some_seats
     (λ s kept at. (let x = leaves me.0 root slot offer rest p w s kept id at in (
       x.0,
       x.1.0,
@@ -325,7 +329,8 @@ offer_allowed sizes size id me named root slot (offer, rest, p, w, on) =
         x.1.1.0,
         refl,
       ),
-    ))))
+    )))
+    (λ s kept at. (leaves me.0 root slot offer rest p w s kept id at).1.2))
 
 -- both slots are in range
 pub offer_fits : (words : ℕ) (v : View) (named root slot : ℕ) → IsSound words v → IsToOffer v named root slot → (root < 2 ^ 27) × (slot < 2 ^ 27)

@@ -1,6 +1,6 @@
 -- The exchange by which a handle is opened whose offer was carried out.
 use Rattle.history.specs.declared.calls.Call.{Call}
-use Rattle.std.proofs.Common.{◌≡◌, ◌==◌, ◌<◌, ◌^◌, inl, inr, ℕ, Contains, Option, Some, None, set, slice_index, refl, sym, ap, subst, ◌∙◌, arith}
+use Rattle.std.proofs.Common.{◌≤◌, ◌≡◌, ◌==◌, ◌<◌, ◌^◌, inl, inr, ℕ, Contains, Option, Some, None, set, slice_index, refl, sym, ap, subst, ◌∙◌, arith}
 use Rattle.std.proofs.lemmas.Bool.{cases_eq}
 use mathlib.Core.Option.{some, none}
 use lib.ListN.{get_elem?}
@@ -24,7 +24,7 @@ use Rattle.lock_free.specs.Passing.{IsPlaced}
 use Rattle.lock_free.specs.Places.{root_word}
 use Rattle.lock_free.specs.Roots.{fate, carried_out, open_with}
 use Rattle.lock_free.specs.RootWords.{IsAtOpen, OpensAs, as_copy, for_readers, has_cleaned}
-use Rattle.lock_free.specs.Rules.{IsKept}
+use Rattle.lock_free.specs.Rules.{IsKept, IsRuled}
 use Rattle.lock_free.proofs.AbortStep.{known_there}
 use Rattle.lock_free.proofs.CleanStep.{placed_small, untouched}
 use Rattle.lock_free.proofs.Exchanged.{words_then, words_hit, words_miss}
@@ -92,10 +92,12 @@ module _ (v : View) (handle offer : ℕ) (opened : RootWord) (low : handle < 256
         (untouched v s kept id at)
   ]
 
-pub open_allowed : (sizes : Sizes) (size id : ℕ) (me : Me Call View) (handle offer : ℕ) (opened : RootWord) → handle < 256 → IsAtOpen me.0 handle offer opened →
-    Allows (IsKept sizes) size id me (root_word handle) (λ n. either (n == root_code (word.Opening offer)) (root_code opened) n)
+pub open_allowed : (sizes : Sizes) (size id : ℕ) (me : Me Call View) (some_seats : 1 ≤ me.0.sizes.seats) (handle offer : ℕ) (opened : RootWord) → handle < 256 → IsAtOpen me.0 handle offer opened →
+    Allows (IsRuled sizes) size id me (root_word handle) (λ n. either (n == root_code (word.Opening offer)) (root_code opened) n)
     (has_cleaned (step size (root_word handle) (root_code (word.Opening offer)) (root_code opened) none) me)
-open_allowed sizes size id me handle offer opened low a =
+open_allowed sizes size id me some_seats handle offer opened low a =
     allowed sizes size id me (root_word handle) (λ n. either (n == root_code (word.Opening offer)) (root_code opened) n)
     (has_cleaned (step size (root_word handle) (root_code (word.Opening offer)) (root_code opened) none) me)
+    some_seats
     (λ s kept at. (me.0, opens me.0 handle offer opened low a s kept id at, refl))
+    (λ s kept at. refl)

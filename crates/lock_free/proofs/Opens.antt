@@ -1,6 +1,6 @@
 -- The words of a new map keep the rule.
-use Rattle.std.proofs.Common.{◌≡◌, ◌≢◌, ◌+◌, ◌*◌, ◌^◌, ◌<◌, ◌≤◌, ℕ, zero, suc, Bool, true, List, [], ◌∷◌, length, replicate, set, slice_index, length-set, refl, sym, ap, subst, ◌∙◌, inl, inr}
-use Rattle.std.proofs.Common.{arith}
+use Rattle.std.proofs.Common.{◌≡◌, ◌≢◌, ◌+◌, ◌*◌, ◌^◌, ◌<◌, ◌≤◌, ℕ, zero, suc, Bool, true, List, [], ◌∷◌, Contains, length, replicate, set, slice_index, length-set, refl, sym, ap, subst, ◌∙◌}
+use Rattle.std.proofs.Common.{inl, inr, arith}
 use Rattle.std.proofs.lemmas.List.{get_or-set_same, get_or-set_other, length-replicate}
 use Rattle.std.proofs.lemmas.List.Elements.{All-nil}
 use Rattle.std.proofs.lemmas.Option.{none-some}
@@ -31,7 +31,7 @@ use Rattle.lock_free.specs.Nodes.{IsAhead, AreOwners, StandsAs, InTable, class_o
 use Rattle.lock_free.specs.Opening.{counted_words, first_words, first_link, first_handle}
 use Rattle.lock_free.specs.Places.{AreSizes, HaveTaken, IsTaken, branch_slot, root_slot, words_of, words_in, generation_word, taken_word, root_word, pin_word}
 use Rattle.lock_free.specs.Roots.{MeansRoot}
-use Rattle.lock_free.specs.Rules.{first_account, first_view, Standing, NodesStand, RootsStand, SaysClosing, IsSeat, IsKept}
+use Rattle.lock_free.specs.Rules.{first_account, first_view, Standing, NodesStand, RootsStand, SaysClosing, IsSeat, IsKept, IsRuled}
 use Rattle.lock_free.proofs.Geometry.{next_root}
 use Rattle.lock_free.proofs.FirstState.{IsFirst, branch, link, births_are, generations_are, node_found, root_is, no_root, nobody_runs, none_runs}
 use Rattle.lock_free.proofs.Idle.{empty_has, none_free, none_twice}
@@ -253,7 +253,7 @@ module _ (sizes : Sizes) where
 
     seat_is : IsSeat sizes account all_stand (first_words sizes) (first_view sizes)
     seat_is = record {
-      same = refl;
+      same = λ some. refl;
       low = omega arith;
       top = ok.some;
       most = omega arith;
@@ -296,6 +296,13 @@ module _ (sizes : Sizes) where
       alone = λ i j v w a ei ej hv hw. (its v i ei).0 ∙ sym (its w j ej).0;
       pools = λ i j v w b c name ei ej hv hw. (its v i ei).0 ∙ sym (its w j ej).0;
       numbers = λ i j v w handle ei ej hv hw. (its v i ei).0 ∙ sym (its w j ej).0;
+    }
+
+    -- nobody has heard of anybody
+    pub opens_ruled : IsRuled sizes (opening {S = Call} (first_words sizes) [] (first_view sizes))
+    opens_ruled = record {
+      kept = opens;
+      heard = λ id v e h c. (let none = (subst (λ hs. Contains hs h) (ap (λ (x : View). x.heard) (sym (its v id e).1)) c).1 in absurd (omega (arith, none)));
     }
 
     pub first_sound : (words : ℕ) → words ≡ words_of sizes → IsSound words (first_view sizes)

@@ -121,7 +121,13 @@ module _ (before : View) (class name : ℕ) (mid : View) (slot : HasSlot before 
             placed = h.placed;
             node_is = h.node_is;
             become = record {
-              follows = record { is = h.become.follows.is; places = h.become.follows.places; owns = h.become.follows.owns; nodes = h.become.follows.nodes };
+              follows = record {
+                is = h.become.follows.is;
+                places = h.become.follows.places;
+                owns = h.become.follows.owns;
+                nodes = h.become.follows.nodes;
+                goes_on = h.become.follows.goes_on;
+              };
               comes = h.become.comes;
             };
           }

@@ -12,7 +12,7 @@ use Rattle.lock_free.specs.declared.rules.View.{View}
 use Rattle.lock_free.specs.declared.sizes.Sizes.{Sizes}
 use Rattle.lock_free.specs.Loading.{IsSound}
 use Rattle.lock_free.specs.Places.{words_in, words_of, part_of, slots_in, taken_word}
-use Rattle.lock_free.specs.Rules.{pool_of, IsKept}
+use Rattle.lock_free.specs.Rules.{pool_of, IsKept, IsRuled}
 use Rattle.lock_free.specs.Storing.{IsOwnWord, drafted, has_drafted, with_free, has_taken}
 use Rattle.lock_free.proofs.Drafting.{draft_kept}
 use Rattle.lock_free.proofs.Exchanged.{words_hit, words_miss}
@@ -22,11 +22,13 @@ use Rattle.lock_free.proofs.Taking.{take_kept, same_class}
 
 -- ---- a word is written
 
-pub draft_allowed : (sizes : Sizes) (size id : ℕ) (me : Me Call View) (word value : ℕ) → IsOwnWord me.0 word → Allows (IsKept sizes) size id me word (λ n. value)
+pub draft_allowed : (sizes : Sizes) (size id : ℕ) (me : Me Call View) (some_seats : 1 ≤ me.0.sizes.seats) (word value : ℕ) → IsOwnWord me.0 word → Allows (IsRuled sizes) size id me word (λ n. value)
     (λ n. has_drafted (step size word value 0 none) me value)
-draft_allowed sizes size id me word value (class, name, free, low, high) =
+draft_allowed sizes size id me some_seats word value (class, name, free, low, high) =
     allowed sizes size id me word (λ n. value) (λ n. has_drafted (step size word value 0 none) me value)
+    some_seats
     (λ s kept at. (drafted me.0 word value, draft_kept me.0.sizes s kept id me.0 at class name free word (record { low = low; high = high }) value, refl))
+    (λ s kept at. refl)
 
 pub drafted_sound : (words : ℕ) (v : View) (word value : ℕ) → IsSound words v → IsSound words (drafted v word value)
 drafted_sound words v word value h = record { size = h.size; range = h.range; bounds = h.bounds; keys = h.keys; counted = h.counted; inside = h.inside; free = h.free }
@@ -61,7 +63,7 @@ module _ (sizes : Sizes) (size id : ℕ) (me : Me Call View) (class : ℕ) (smal
 
   module _ (s : Table.State Call View) (kept : IsKept v.sizes s) (at : get_elem? s.views id ≡ some v) where
     abbrev Taken : Type 0
-    Taken = (w : View) × IsKept v.sizes (record {
+    Taken = (w : View) × (w.heard ≡ v.heard) × IsKept v.sizes (record {
       words = set s.words word (either (slice_index s.words word == count) (count + 1) (slice_index s.words word));
       homes = s.homes;
       views = set s.views id w;
@@ -74,6 +76,7 @@ module _ (sizes : Sizes) (size id : ℕ) (me : Me Call View) (class : ℕ) (smal
         let w = with_free v class slot.0 in
         let kept_then = take_kept v.sizes s kept id v at class small (subst (λ n. n < slots_in v.sizes class) (sym e) few) slot.0 slot.1 in (
           w,
+          refl,
           subst (λ ws. IsKept v.sizes (record { words = ws; homes = s.homes; views = set s.views id w }))
               (ap (λ n. set s.words word (n + 1)) e ∙ words_hit v s kept id at word count (count + 1) e word refl) kept_then,
           (
@@ -89,6 +92,7 @@ module _ (sizes : Sizes) (size id : ℕ) (me : Me Call View) (class : ℕ) (smal
     lost : slice_index s.words word ≢ count → Taken
     lost differs = (
       v,
+      refl,
       subst (λ ws. IsKept v.sizes (record { words = ws; homes = s.homes; views = set s.views id v })) (words_miss v s kept id at word count (count + 1) differs)
           (subst (λ vs. IsKept v.sizes (record { words = s.words; homes = s.homes; views = vs })) (sym (set_again s.views id v at)) kept),
       ((λ e. absurd (differs e)), λ other. refl),
@@ -100,8 +104,10 @@ module _ (sizes : Sizes) (size id : ℕ) (me : Me Call View) (class : ℕ) (smal
       | inr differs ↦ lost differs
     ]
 
-  pub take_allowed : Allows (IsKept sizes) size id me word (λ n. either (n == count) (count + 1) n) (has_taken (step size word count (count + 1) none) me)
-  take_allowed = allowed sizes size id me word (λ n. either (n == count) (count + 1) n) (has_taken (step size word count (count + 1) none) me) (λ s kept at. taken_or_lost s kept at)
+  pub take_allowed : 1 ≤ me.0.sizes.seats → Allows (IsRuled sizes) size id me word (λ n. either (n == count) (count + 1) n) (has_taken (step size word count (count + 1) none) me)
+  take_allowed some_seats =
+      allowed sizes size id me word (λ n. either (n == count) (count + 1) n) (has_taken (step size word count (count + 1) none) me) some_seats
+      (λ s kept at. (let x = taken_or_lost s kept at in (x.0, x.2, x.3))) (λ s kept at. (taken_or_lost s kept at).1)
 
 pub taken_sound : (words : ℕ) (v : View) (class count name : ℕ) → class < 3 → count < slots_in v.sizes class → 2 * name ≡ part_of v.sizes class + words_in class * count → IsSound words v →
     IsSound words (with_free v class name)

@@ -14,7 +14,7 @@ use Rattle.lock_free.specs.declared.rules.View.{View}
 use Rattle.lock_free.specs.declared.sizes.Sizes.{Sizes}
 use Rattle.lock_free.specs.Loading.{IsSound}
 use Rattle.lock_free.specs.Places.{pin_word}
-use Rattle.lock_free.specs.Rules.{IsKept}
+use Rattle.lock_free.specs.Rules.{IsKept, IsRuled}
 use Rattle.lock_free.specs.SeatWords.{is_out, WouldClose, closes, passing, HasPassed, is_passed, has_passed}
 use Rattle.lock_free.proofs.Assembling.{closing_at}
 use Rattle.lock_free.proofs.Closers.{seat_kept, pass_kept}
@@ -47,25 +47,28 @@ module _ (v : View) (handle looked : ℕ) (low : handle < 256) (others : List Cl
 
   abbrev Passed : View → Type 0
   Passed w = IsKept v.sizes (record { words = s.words; homes = s.homes; views = set s.views id w }) × HasPassed v handle looked (is_passed v handle looked found) w
+      × (w.heard ≡ v.heard)
 
   passes_by : (b : Bool) → is_passed v handle looked found ≡ b → (w : View) × Passed w
-  passes_by true e = (passing v handle looked, (pass_kept v.sizes s kept id v at handle looked others would (nobody e), (λ x. refl, λ x. absurd (true≢false (sym e ∙ x)))))
+  passes_by true e = (passing v handle looked, (pass_kept v.sizes s kept id v at handle looked others would (nobody e), (λ x. refl, λ x. absurd (true≢false (sym e ∙ x))), refl))
   passes_by false e = (
     v,
     (
       seat_kept v.sizes s kept id v at v.entered v.closing (kept.seats id v at).entered (kept.seats id v at).calls
           (λ g who below h. closing_at v.sizes s kept id v at v refl refl g who (λ x. x) (λ c x y z. x) (kept.closings g who below h)),
       (λ x. absurd (true≢false (sym x ∙ e)), λ x. refl),
+      refl,
     ),
   )
 
   pub passes : (w : View) × Passed w
   passes = passes_by (is_passed v handle looked found) refl
 
-pub pass_allowed : (sizes : Sizes) (size id : ℕ) (me : Me Call View) (handle looked : ℕ) → handle < 256 → WouldClose me.0 handle looked →
-    Allows (IsKept sizes) size id me (pin_word (looked + 1)) (λ n. n) (has_passed (step size (pin_word (looked + 1)) 0 0 none) me)
-pass_allowed sizes size id me handle looked low (others, would) =
+pub pass_allowed : (sizes : Sizes) (size id : ℕ) (me : Me Call View) (some_seats : 1 ≤ me.0.sizes.seats) (handle looked : ℕ) → handle < 256 → WouldClose me.0 handle looked →
+    Allows (IsRuled sizes) size id me (pin_word (looked + 1)) (λ n. n) (has_passed (step size (pin_word (looked + 1)) 0 0 none) me)
+pass_allowed sizes size id me some_seats handle looked low (others, would) =
     allowed sizes size id me (pin_word (looked + 1)) (λ n. n) (has_passed (step size (pin_word (looked + 1)) 0 0 none) me)
+    some_seats
     (λ s kept at. (let x = passes me.0 handle looked low others would s kept id at in (
       x.0,
       subst (λ ws. IsKept me.0.sizes (record { words = ws; homes = s.homes; views = set s.views id x.0 })) (sym (set-get_or s.words (pin_word (looked + 1)) 0)) x.1.0,
@@ -75,6 +78,7 @@ pass_allowed sizes size id me handle looked low (others, would) =
         refl,
       ),
     )))
+    (λ s kept at. (passes me.0 handle looked low others would s kept id at).1.2)
 
 -- what is sound stays so
 pub pass_sound : (words : ℕ) (before : View) (handle looked : ℕ) (out : Bool) (after : View) → HasPassed before handle looked out after → IsSound words before → IsSound words after

@@ -1,6 +1,6 @@
 -- An exchange of a seat's own word pins the seat, a store takes its pin away.
 use Rattle.history.specs.declared.calls.Call.{Call}
-use Rattle.std.proofs.Common.{◌≡◌, ◌≢◌, ◌+◌, ◌-◌, ◌*◌, ◌/◌, ◌%◌, ◌^◌, ◌<◌, ◌==◌, ℕ, set, Option, Some, None, refl, sym, ap, subst, ◌∙◌, arith, ne_eqb, if◌then◌else◌}
+use Rattle.std.proofs.Common.{◌≤◌, ◌≡◌, ◌≢◌, ◌+◌, ◌-◌, ◌*◌, ◌/◌, ◌%◌, ◌^◌, ◌<◌, ◌==◌, ℕ, set, Option, Some, None, refl, sym, ap, subst, ◌∙◌, arith, ne_eqb, if◌then◌else◌}
 use Rattle.std.proofs.lemmas.List.{set-set}
 use Rattle.std.proofs.lemmas.Option.{same_Some}
 use mathlib.Core.Option.{some, none, some-injective}
@@ -16,7 +16,7 @@ use Rattle.lock_free.specs.declared.sizes.Sizes.{Sizes}
 use Rattle.lock_free.specs.Accounts.{state_of}
 use Rattle.lock_free.specs.Loading.{IsSound}
 use Rattle.lock_free.specs.Places.{pin_word}
-use Rattle.lock_free.specs.Rules.{IsKept, pin_word_of}
+use Rattle.lock_free.specs.Rules.{IsKept, pin_word_of, IsRuled}
 use Rattle.lock_free.specs.SeatWords.{IsIdle, pinned_for, unpinned, has_pinned, has_unpinned}
 use Rattle.lock_free.proofs.PinnedFor.{asks_kept}
 use Rattle.lock_free.proofs.Assembling.{here}
@@ -59,10 +59,11 @@ module _ (v : View) (idle : IsIdle v) (s : Table.State Call View) (kept : IsKept
       (here v.sizes s kept id v at pinned refl refl) (Some call))
 
 -- its word says that it isn't pinned
-pub pin_allowed : (sizes : Sizes) (size id : ℕ) (me : Me Call View) (pin : Pin) (call : Call) → IsPin pin → IsIdle me.0 → me.0.pin ≡ None →
-    Allows (IsKept sizes) size id me (pin_word me.0.actor) (λ n. either (n == 0) (pin_code pin) n) (has_pinned (step size (pin_word me.0.actor) 0 (pin_code pin) (some call)) me)
-pin_allowed sizes size id me pin call fits idle free =
+pub pin_allowed : (sizes : Sizes) (size id : ℕ) (me : Me Call View) (some_seats : 1 ≤ me.0.sizes.seats) (pin : Pin) (call : Call) → IsPin pin → IsIdle me.0 → me.0.pin ≡ None →
+    Allows (IsRuled sizes) size id me (pin_word me.0.actor) (λ n. either (n == 0) (pin_code pin) n) (has_pinned (step size (pin_word me.0.actor) 0 (pin_code pin) (some call)) me)
+pin_allowed sizes size id me some_seats pin call fits idle free =
     allowed sizes size id me (pin_word me.0.actor) (λ n. either (n == 0) (pin_code pin) n) (has_pinned (step size (pin_word me.0.actor) 0 (pin_code pin) (some call)) me)
+    some_seats
     (λ s kept at. (
       pinned_for me.0 pin call,
       subst (λ ws. IsKept me.0.sizes (record { words = ws; homes = s.homes; views = set s.views id (pinned_for me.0 pin call) }))
@@ -70,12 +71,15 @@ pin_allowed sizes size id me pin call fits idle free =
           (asks me.0 idle s kept id at pin call),
       λ other said back is. ap (λ p. (pinned_for me.0 p call, me.1)) (same_Some pin other (sym (pin_back pin fits) ∙ back)) ∙ ap (λ c. (pinned_for me.0 other c, me.1)) (some-injective call said is),
     ))
+    (λ s kept at. refl)
 
-pub unpin_allowed : (sizes : Sizes) (size id : ℕ) (me : Me Call View) → IsIdle me.0 →
-    Allows (IsKept sizes) size id me (pin_word me.0.actor) (λ n. 0) (λ n. has_unpinned (step size (pin_word me.0.actor) 0 0 none) me 0)
-unpin_allowed sizes size id me idle =
+pub unpin_allowed : (sizes : Sizes) (size id : ℕ) (me : Me Call View) (some_seats : 1 ≤ me.0.sizes.seats) → IsIdle me.0 →
+    Allows (IsRuled sizes) size id me (pin_word me.0.actor) (λ n. 0) (λ n. has_unpinned (step size (pin_word me.0.actor) 0 0 none) me 0)
+unpin_allowed sizes size id me some_seats idle =
     allowed sizes size id me (pin_word me.0.actor) (λ n. 0) (λ n. has_unpinned (step size (pin_word me.0.actor) 0 0 none) me 0)
+    some_seats
     (λ s kept at. (unpinned me.0, unpins me.0 idle s kept id at, refl))
+    (λ s kept at. refl)
 
 -- what is sound stays so
 pub pin_sound : (words : ℕ) (v : View) (pin : Pin) (call : Call) → IsSound words v → IsSound words (pinned_for v pin call)

@@ -1,6 +1,6 @@
 -- The exchange of an indirection's word that swaps a fresh main node in is the operation's step, whether it finds the replaced one or not.
 use Rattle.history.specs.declared.calls.Call.{Call}
-use Rattle.std.proofs.Common.{◌≡◌, ◌≢◌, ◌*◌, ◌==◌, ℕ, inl, inr, Bool, true, false, [], ◌∷◌, Contains, set, slice_index, Some, refl, sym, ap, subst, ◌∙◌, arith, eq-eqb, ne_eqb}
+use Rattle.std.proofs.Common.{◌≤◌, ◌≡◌, ◌≢◌, ◌*◌, ◌==◌, ℕ, inl, inr, Bool, true, false, [], ◌∷◌, Contains, set, slice_index, Some, refl, sym, ap, subst, ◌∙◌, arith, eq-eqb, ne_eqb}
 use Rattle.std.proofs.lemmas.Bool.{true≢false}
 use Rattle.std.proofs.lemmas.List.Elements.{Contains-get_or}
 use Rattle.std.proofs.lemmas.Option.{same_Some}
@@ -29,7 +29,7 @@ use Rattle.lock_free.specs.Accounts.{state_of, place_of, running, gone_on}
 use Rattle.lock_free.specs.Exchanging.{IsLinkTo, IsAtPublish, given_up, HasSwapped, HasPublished, has_published}
 use Rattle.lock_free.specs.Loading.{Moment, now, seen, IsAt, Took}
 use Rattle.lock_free.specs.Publishing.{swapped_in, Publishes}
-use Rattle.lock_free.specs.Rules.{IsKept}
+use Rattle.lock_free.specs.Rules.{IsKept, IsRuled}
 use Rattle.lock_free.specs.Steps.{Leads}
 use Rattle.lock_free.proofs.Asked.{links_of, mains_of, is_one_of, publishes_or_not}
 use Rattle.lock_free.proofs.Assembling.{all_stand}
@@ -155,15 +155,16 @@ module _ (v : View) (i replaced made : Ref) (p : IsAt v (act.Publish i replaced 
 
     abbrev Either : Type 0
     Either = (after : View) × Left after × ((main_at state.heap i == replaced) ≡ (found == old)) × ((found == old) ≡ true → after ≡ swapped) × ((found == old) ≡ false → after ≡ dropped)
+        × (after.heard ≡ v.heard)
 
     pub leaves : Either
     leaves = elim (publishes_or_not v.sizes there kept.bounds v.actor o runs kept.quiet i replaced made (acts_there v word found m does p)) [
       | inl x ↦
           (let e = found_old x.1 in
-          (swapped, swaps x.0 e, eq-eqb (main_at state.heap i) replaced x.1 ∙ sym (eq-eqb found old e), λ h. refl, λ h. absurd (true≢false (sym (eq-eqb found old e) ∙ h))))
+          (swapped, swaps x.0 e, eq-eqb (main_at state.heap i) replaced x.1 ∙ sym (eq-eqb found old e), λ h. refl, λ h. absurd (true≢false (sym (eq-eqb found old e) ∙ h)), refl))
       | inr x ↦
           (let d = found_other x.1 in
-          (dropped, drops x.0 d, ne_eqb (main_at state.heap i) replaced x.1 ∙ sym (ne_eqb found old d), λ h. absurd (true≢false (sym h ∙ ne_eqb found old d)), λ h. refl))
+          (dropped, drops x.0 d, ne_eqb (main_at state.heap i) replaced x.1 ∙ sym (ne_eqb found old d), λ h. absurd (true≢false (sym h ∙ ne_eqb found old d)), λ h. refl, refl))
     ]
 
 -- the three nodes that it names
@@ -183,17 +184,19 @@ swapped_so before account stood after i replaced made p first hit_is miss_is j o
     )
 
 abbrev pub AllowsPublish : Sizes → ℕ → ℕ → Me Call View → ℕ → ℕ → ℕ → Type 0
-AllowsPublish sizes size id me word old new = Allows (IsKept sizes) size id me word (λ n. either (n == old) new n) (has_published (step size word old new none) me)
+AllowsPublish sizes size id me word old new = Allows (IsRuled sizes) size id me word (λ n. either (n == old) new n) (has_published (step size word old new none) me)
 
 pub publish_by : (sizes : Sizes) (size id : ℕ) (me : Me Call View) (word old new x y : ℕ) → x ≡ old → y ≡ new → AllowsPublish sizes size id me word old new → AllowsPublish sizes size id me word x y
 publish_by sizes size id me at before after x y e f h = subst (λ n. AllowsPublish sizes size id me at n y) (sym e) (subst (λ n. AllowsPublish sizes size id me at before n) (sym f) h)
 
-pub publish_allowed : (sizes : Sizes) (size id : ℕ) (me : Me Call View) (name : ℕ) (link : Link) (fits : IsLink link) (fresh : ℕ) → IsAtPublish me.0 name link fresh →
+pub publish_allowed : (sizes : Sizes) (size id : ℕ) (me : Me Call View) (some_seats : 1 ≤ me.0.sizes.seats) (name : ℕ) (link : Link) (fits : IsLink link) (fresh : ℕ) →
+    IsAtPublish me.0 name link fresh →
     AllowsPublish sizes size id me (2 * name) (link_code link) (link_code (record { generation = link.generation; main = record { slot = fresh; own = true } }))
-publish_allowed sizes size id me name link fits fresh (i, replaced, made, p, place, is, fresh_place) =
+publish_allowed sizes size id me some_seats name link fits fresh (i, replaced, made, p, place, is, fresh_place) =
     let old = link_code link in
     let new = link_code (record { generation = link.generation; main = record { slot = fresh; own = true } }) in
     allowed sizes size id me (2 * name) (λ n. either (n == old) new n) (has_published (step size (2 * name) old new none) me)
+    some_seats
     (λ s kept at. (let x = leaves me.0 i replaced made p name place link fits is fresh fresh_place s kept id at in (
       x.0,
       x.1.0,
@@ -207,6 +210,7 @@ publish_allowed sizes size id me name link fits fresh (i, replaced, made, p, pla
         refl,
       ),
     )))
+    (λ s kept at. (leaves me.0 i replaced made p name place link fits is fresh fresh_place s kept id at).5)
 
 -- what the seat is told
 pub publish_told : (before : View) (word found : ℕ) (old : ℕ) (after : View) → (m : Moment before word found) × Took before m.kept.account after × HasSwapped before m.kept.account

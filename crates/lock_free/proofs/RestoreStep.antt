@@ -1,6 +1,6 @@
 -- The exchange of an indirection's word that puts a main node back is the operation's step, whether it finds the failed one or not.
 use Rattle.history.specs.declared.calls.Call.{Call}
-use Rattle.std.proofs.Common.{◌≡◌, ◌≢◌, ◌*◌, ◌==◌, ℕ, inl, inr, true, [], ◌∷◌, Contains, set, slice_index, refl, sym, ap, subst, ◌∙◌, arith, eq-eqb, ne_eqb}
+use Rattle.std.proofs.Common.{◌≤◌, ◌≡◌, ◌≢◌, ◌*◌, ◌==◌, ℕ, inl, inr, true, [], ◌∷◌, Contains, set, slice_index, refl, sym, ap, subst, ◌∙◌, arith, eq-eqb, ne_eqb}
 use Rattle.std.proofs.lemmas.List.Elements.{Contains-get_or}
 use Rattle.std.proofs.lemmas.Option.{same_Some}
 use mathlib.Core.Option.{some, none}
@@ -143,14 +143,17 @@ module _ (v : View) (i main former : Ref) (p : IsAt v (act.Restore i main former
       | inr x ↦ ne_eqb (main_at state.heap i) main x.1 ∙ sym (ne_eqb found old (found_other x.1))
     ]
 
-pub restore_allowed : (sizes : Sizes) (size id : ℕ) (me : Me Call View) (name : ℕ) (link : Link) (fits : IsLink link) (former : Name) → IsAtRestore me.0 name link former →
+pub restore_allowed : (sizes : Sizes) (size id : ℕ) (me : Me Call View) (some_seats : 1 ≤ me.0.sizes.seats) (name : ℕ) (link : Link) (fits : IsLink link) (former : Name) →
+    IsAtRestore me.0 name link former →
     AllowsExchange sizes size id me (2 * name) (link_code link) (link_code (record { generation = link.generation; main = former }))
-restore_allowed sizes size id me name link fits former (i, main, replaced, p, place, is, names) =
+restore_allowed sizes size id me some_seats name link fits former (i, main, replaced, p, place, is, names) =
     let old = link_code link in
     let new = link_code (record { generation = link.generation; main = former }) in
     allowed sizes size id me (2 * name) (λ n. either (n == old) new n) (has_gone (step size (2 * name) old new none) me)
+    some_seats
     (λ s kept at. (let x = leaves me.0 i main replaced p name place link fits is former s kept id at names in
     (seen me.0 (gone_on me.0.actor kept.account), x.0, ((record { table = s; kept = kept; id = id; at = at; finds = refl }, refl, x.1.1), x.1.0, refl))))
+    (λ s kept at. refl)
 
 -- the indirection and the main node that failed
 abbrev restored_in : Action → Ref × Ref

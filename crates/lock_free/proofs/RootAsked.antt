@@ -1,6 +1,6 @@
 -- The load by which the root of a handle is asked for is the operation's step, where the word names the root.
 use Rattle.history.specs.declared.calls.Call.{Call}
-use Rattle.std.proofs.Common.{◌≡◌, ◌<◌, ◌∷◌, [], ℕ, Contains, set, slice_index, refl, sym, ap, subst, ◌∙◌, arith}
+use Rattle.std.proofs.Common.{◌≤◌, ◌≡◌, ◌<◌, ◌∷◌, [], ℕ, Contains, set, slice_index, refl, sym, ap, subst, ◌∙◌, arith}
 use Rattle.std.proofs.lemmas.List.{set-get_or}
 use Rattle.std.proofs.lemmas.List.Elements.{Contains-get_or}
 use mathlib.Core.Option.{some, none}
@@ -32,7 +32,7 @@ use Rattle.lock_free.specs.Loading.{now, seen, HasGone, HasSeen, IsSound, SameSl
 use Rattle.lock_free.specs.Places.{root_word, words_of}
 use Rattle.lock_free.specs.Roots.{MeansRoot, SaysRoot, SaysPlain}
 use Rattle.lock_free.specs.RootWords.{AsksAt, IsRootAt, HasFoundRoot, HasAskedRoot, LoadedAs, has_asked, named_by}
-use Rattle.lock_free.specs.Rules.{IsKept}
+use Rattle.lock_free.specs.Rules.{IsKept, IsRuled}
 use Rattle.lock_free.proofs.Definition.{IsReading}
 use Rattle.lock_free.proofs.Looking.{saw, same_slots, went}
 use Rattle.lock_free.proofs.Moments.{allowed, seen_view, seen_kept, waited_so, gone_view, gone_kept, gone_sound, gone_took}
@@ -57,11 +57,11 @@ module _ (v : View) (handle : ℕ) (asks : AsksAt v handle) (s : Table.State Cal
   reading = subst IsReading (sym asks.acts.acts) tt
 
   abbrev Asks : Named → View → Type 0
-  Asks n w = IsKept v.sizes (record { words = s.words; homes = s.homes; views = set s.views id w }) × LoadedAs n v (root_word handle) found w × IsSound (words_of v.sizes) w
+  Asks n w = IsKept v.sizes (record { words = s.words; homes = s.homes; views = set s.views id w }) × LoadedAs n v (root_word handle) found w × IsSound (words_of v.sizes) w × (w.heard ≡ v.heard)
 
   saw_it : IsKept v.sizes (record { words = s.words; homes = s.homes; views = set s.views id (seen_view v s kept id at) }) × HasSeen v (root_word handle) found (seen_view v s kept id at)
-      × IsSound (words_of v.sizes) (seen_view v s kept id at)
-  saw_it = (seen_kept v s kept id at, (record { table = s; kept = kept; id = id; at = at; finds = refl }, refl), (waited_so v s kept id at).sound)
+      × IsSound (words_of v.sizes) (seen_view v s kept id at) × ((seen_view v s kept id at).heard ≡ v.heard)
+  saw_it = (seen_kept v s kept id at, (record { table = s; kept = kept; id = id; at = at; finds = refl }, refl), (waited_so v s kept id at).sound, refl)
 
   pub asks_as : (n : Named) → (w : View) × Asks n w
   asks_as (named.Root slot) = (
@@ -70,20 +70,23 @@ module _ (v : View) (handle : ℕ) (asks : AsksAt v handle) (s : Table.State Cal
       gone_kept v s kept id at o asks.acts.runs reading,
       (record { table = s; kept = kept; id = id; at = at; finds = refl }, refl, gone_took v s kept id at o asks.acts.runs reading),
       gone_sound v s kept id at o asks.acts.runs reading,
+      refl,
     ),
   )
   asks_as (named.Offer slot) = (seen_view v s kept id at, saw_it)
   asks_as named.Nothing = (seen_view v s kept id at, saw_it)
 
-pub ask_allowed : (sizes : Sizes) (size id : ℕ) (me : Me Call View) (handle : ℕ) → AsksAt me.0 handle →
-    Allows (IsKept sizes) size id me (root_word handle) (λ n. n) (has_asked (step size (root_word handle) 0 0 none) me)
-ask_allowed sizes size id me handle asks =
+pub ask_allowed : (sizes : Sizes) (size id : ℕ) (me : Me Call View) (some_seats : 1 ≤ me.0.sizes.seats) (handle : ℕ) → AsksAt me.0 handle →
+    Allows (IsRuled sizes) size id me (root_word handle) (λ n. n) (has_asked (step size (root_word handle) 0 0 none) me)
+ask_allowed sizes size id me some_seats handle asks =
     allowed sizes size id me (root_word handle) (λ n. n) (has_asked (step size (root_word handle) 0 0 none) me)
+    some_seats
     (λ s kept at. (let x = asks_as me.0 handle asks s kept id at (named_by (root_of (slice_index s.words (root_word handle)))) in (
       x.0,
       subst (λ ws. IsKept me.0.sizes (record { words = ws; homes = s.homes; views = set s.views id x.0 })) (sym (set-get_or s.words (root_word handle) 0)) x.1.0,
       (x.1.1, x.1.2, refl),
     )))
+    (λ s kept at. (asks_as me.0 handle asks s kept id at (named_by (root_of (slice_index s.words (root_word handle))))).1.3)
 
 -- ---- what the seat is told
 

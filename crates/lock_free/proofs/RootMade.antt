@@ -1,6 +1,6 @@
 -- The exchange of the count of generations makes the root that is written in a free slot: the operation's step, where it finds the generation that was written.
 use Rattle.history.specs.declared.calls.Call.{Call}
-use Rattle.std.proofs.Common.{◌≡◌, ◌≢◌, ◌+◌, ◌*◌, ◌==◌, ℕ, inl, inr, Bool, List, [], ◌∷◌, Contains, set, slice_index, Some, refl, sym, ap, subst, ◌∙◌}
+use Rattle.std.proofs.Common.{◌≤◌, ◌≡◌, ◌≢◌, ◌+◌, ◌*◌, ◌==◌, ℕ, inl, inr, Bool, List, [], ◌∷◌, Contains, set, slice_index, Some, refl, sym, ap, subst, ◌∙◌}
 use Rattle.std.proofs.Common.{arith, eq-eqb, ne_eqb}
 use Rattle.std.proofs.lemmas.Bool.{cases_eq, true≢false}
 use Rattle.std.proofs.lemmas.List.Elements.{Contains-append_left}
@@ -29,12 +29,12 @@ use Rattle.lock_free.specs.Loading.{now, IsAt, IsSound, Took}
 use Rattle.lock_free.specs.Making.{over_of, AreDrafted, DraftsNode, made_at, made_by, Makes}
 use Rattle.lock_free.specs.Nodes.{class_of}
 use Rattle.lock_free.specs.Places.{generation_word, words_of}
-use Rattle.lock_free.specs.Rules.{pool_of, IsFree, IsKept}
+use Rattle.lock_free.specs.Rules.{pool_of, IsFree, IsKept, IsRuled}
 use Rattle.lock_free.specs.Storing.{WritesRoot, IsAtMakeRoot, IsAdded, has_made_root}
 use Rattle.lock_free.proofs.Added.{added}
 use Rattle.lock_free.proofs.Exchanged.{words_hit, words_miss}
 use Rattle.lock_free.proofs.MadeKept.{root_made, make_root_kept}
-use Rattle.lock_free.proofs.Moments.{allowed, waited_so, same_place, free_inside}
+use Rattle.lock_free.proofs.Moments.{after_it, allowed, waited_so, same_place, free_inside}
 use Rattle.lock_free.proofs.OneStep.Makes as making
 use Rattle.lock_free.proofs.Pools.{pool_else}
 
@@ -111,49 +111,62 @@ module _ (v : View) (generation : ℕ) (main : Ref) (rest : List ℕ) (name : �
 
 abbrev AllowsRoot : Sizes → ℕ → ℕ → Me Call View → ℕ → Type 0
 AllowsRoot sizes size id me generation =
-    Allows (IsKept sizes) size id me generation_word (λ n. either (n == generation) (generation + 1) n) (has_made_root (step size generation_word generation (generation + 1) none) me)
+    Allows (IsRuled sizes) size id me generation_word (λ n. either (n == generation) (generation + 1) n) (has_made_root (step size generation_word generation (generation + 1) none) me)
 
-pub root_allowed : (sizes : Sizes) (size id : ℕ) (me : Me Call View) (generation : ℕ) → IsAtMakeRoot me.0 generation → AllowsRoot sizes size id me generation
-root_allowed sizes size id me generation (main, rest, name, own, p, w) =
-    allowed sizes size id me generation_word (λ n. either (n == generation) (generation + 1) n) (has_made_root (step size generation_word generation (generation + 1) none) me)
-    (λ s kept at. elim (cases_eq (slice_index s.words generation_word) generation) [
-      | inl e ↦ (
-        made_by me.0 0 name rest own (Indirection generation main) kept.account,
-        subst (λ ws. IsKept me.0.sizes (record { words = ws; homes = s.homes; views = set s.views id (made_by me.0 0 name rest own (Indirection generation main) kept.account) }))
-            (ap (λ n. set s.words generation_word (n + 1)) e ∙ words_hit me.0 s kept id at generation_word generation (generation + 1) e generation_word refl)
-            (kept_after me.0 generation main rest name own p w s kept id at e),
+-- by what was found
+module _ (sizes : Sizes) (size id : ℕ) (me : Me Call View) (generation : ℕ) (main : Ref) (rest : List ℕ) (name : ℕ) (own : Bool) (p : IsAt me.0 (act.MakeRoot main))
+    (w : WritesRoot me.0 generation main rest name own) where
+  abbrev then : ℕ → Me Call View → Type 0
+  then = has_made_root (step size generation_word generation (generation + 1) none) me
+
+  made_or_not : (s : Table.State Call View) (kept : IsKept me.0.sizes s) (at : get_elem? s.views id ≡ some me.0) → (x : View) × (x.heard ≡ me.0.heard)
+      × IsKept me.0.sizes (after_it sizes size id me generation_word (λ n. either (n == generation) (generation + 1) n) then s x) × then (slice_index s.words generation_word) (x, me.1)
+  made_or_not s kept at = elim (cases_eq (slice_index s.words generation_word) generation) [
+    | inl e ↦ (
+      made_by me.0 0 name rest own (Indirection generation main) kept.account,
+      refl,
+      subst (λ ws. IsKept me.0.sizes (record { words = ws; homes = s.homes; views = set s.views id (made_by me.0 0 name rest own (Indirection generation main) kept.account) }))
+          (ap (λ n. set s.words generation_word (n + 1)) e ∙ words_hit me.0 s kept id at generation_word generation (generation + 1) e generation_word refl)
+          (kept_after me.0 generation main rest name own p w s kept id at e),
+      (
         (
-          (
-            λ h. (
-              kept.account,
-              waited_so me.0 s kept id at,
-              took_after me.0 generation main rest name own p w s kept id at e,
-              (
-                main,
-                rest,
-                name,
-                own,
-                p,
-                w,
-                refl,
-                added_after me.0 generation main rest name own p w s kept id at e,
-                next_is me.0 generation main rest name own p w s kept id at e,
-              ),
+          λ h. (
+            kept.account,
+            waited_so me.0 s kept id at,
+            took_after me.0 generation main rest name own p w s kept id at e,
+            (
+              main,
+              rest,
+              name,
+              own,
+              p,
+              w,
+              refl,
+              added_after me.0 generation main rest name own p w s kept id at e,
+              next_is me.0 generation main rest name own p w s kept id at e,
             ),
-            λ h. absurd (true≢false (sym (eq-eqb (slice_index s.words generation_word) generation e) ∙ h)),
           ),
-          λ h. sound_after me.0 generation main rest name own p w s kept id at e,
-          refl,
+          λ h. absurd (true≢false (sym (eq-eqb (slice_index s.words generation_word) generation e) ∙ h)),
         ),
-      )
-      | inr differs ↦ (
-        me.0,
-        subst (λ ws. IsKept me.0.sizes (record { words = ws; homes = s.homes; views = set s.views id me.0 })) (words_miss me.0 s kept id at generation_word generation (generation + 1) differs)
-            (subst (λ vs. IsKept me.0.sizes (record { words = s.words; homes = s.homes; views = vs })) (sym (set_again s.views id me.0 at)) kept),
-        (
-          (λ h. absurd (true≢false (sym h ∙ ne_eqb (slice_index s.words generation_word) generation differs)), λ h. refl),
-          λ h. h,
-          refl,
-        ),
-      )
-    ])
+        λ h. sound_after me.0 generation main rest name own p w s kept id at e,
+        refl,
+      ),
+    )
+    | inr differs ↦ (
+      me.0,
+      refl,
+      subst (λ ws. IsKept me.0.sizes (record { words = ws; homes = s.homes; views = set s.views id me.0 })) (words_miss me.0 s kept id at generation_word generation (generation + 1) differs)
+          (subst (λ vs. IsKept me.0.sizes (record { words = s.words; homes = s.homes; views = vs })) (sym (set_again s.views id me.0 at)) kept),
+      (
+        (λ h. absurd (true≢false (sym h ∙ ne_eqb (slice_index s.words generation_word) generation differs)), λ h. refl),
+        λ h. h,
+        refl,
+      ),
+    )
+  ]
+
+pub root_allowed : (sizes : Sizes) (size id : ℕ) (me : Me Call View) (some_seats : 1 ≤ me.0.sizes.seats) (generation : ℕ) → IsAtMakeRoot me.0 generation → AllowsRoot sizes size id me generation
+root_allowed sizes size id me some_seats generation (main, rest, name, own, p, w) =
+    allowed sizes size id me generation_word (λ n. either (n == generation) (generation + 1) n) (has_made_root (step size generation_word generation (generation + 1) none) me) some_seats
+    (λ s kept at. (let x = made_or_not sizes size id me generation main rest name own p w s kept at in (x.0, x.2, x.3)))
+    (λ s kept at. (made_or_not sizes size id me generation main rest name own p w s kept at).1)

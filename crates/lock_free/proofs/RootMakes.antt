@@ -144,7 +144,13 @@ module _ (n : ℕ) (before : View) (name : ℕ) (mid : View) (slot : HasSlot bef
         made = h.made;
         placed = h.placed;
         become = record {
-          follows = record { is = h.become.follows.is; places = h.become.follows.places; owns = h.become.follows.owns; nodes = h.become.follows.nodes };
+          follows = record {
+            is = h.become.follows.is;
+            places = h.become.follows.places;
+            owns = h.become.follows.owns;
+            nodes = h.become.follows.nodes;
+            goes_on = h.become.follows.goes_on;
+          };
           comes = λ o r.
               subst (λ x. Runs after (record o { private = o.private ++ h.made ∷ []; line = line_made (now before) (record o { line = x }) x h.made }) → Runs after (new_root_on l h.made o))
               (sym (copy_line before l at o r)) (λ x. x) (h.become.comes o r);

@@ -16,7 +16,7 @@ use Rattle.lock_free.specs.declared.rules.View.{View}
 use Rattle.lock_free.specs.declared.sizes.Sizes.{Sizes}
 use Rattle.lock_free.specs.Accounts.{state_of, HasWaited}
 use Rattle.lock_free.specs.Places.{pin_word, root_word, IsTaken}
-use Rattle.lock_free.specs.Rules.{Standing, AreDrafts, Once, pool_of, IsFree, IsSpare, IsSeat, IsKept, Reserves, IsHeld, Names, pin_word_of}
+use Rattle.lock_free.specs.Rules.{Standing, AreDrafts, Once, pool_of, IsFree, IsSpare, IsSeat, IsKept, Reserves, IsHeld, Names, pin_word_of, first_account}
 use Rattle.lock_free.proofs.Assembling.{not_its, other_actor}
 use Rattle.lock_free.specs.Trying.{KeepsTries}
 use Rattle.lock_free.proofs.Geometry.{IsWordOf}
@@ -101,7 +101,7 @@ module _ (sizes : Sizes) (s : Table.State Call View) (kept : IsKept sizes s) (id
           most = h.most;
           waited = stays.waits w.actor w.account differs h.waited;
           counts = h.counts;
-          rested = λ a above below. stays.waits a w.account (not_mine a (omega (arith, above), below)) (h.rested a above below);
+          rested = λ a above below. stays.waits a (first_account sizes) (not_mine a (omega (arith, above), below)) (h.rested a above below);
           rests = λ a above below.
               (let r = h.rests a above below in
               let its = not_mine a (omega (arith, above), below) in
@@ -139,7 +139,7 @@ module _ (sizes : Sizes) (s : Table.State Call View) (kept : IsKept sizes s) (id
             most = h.most;
             waited = waited_none v.actor account;
             counts = counted;
-            rested = λ a above below. waited_none a account;
+            rested = λ a above below. stays.waits a (first_account sizes) (λ is. absurd (omega (arith, above, is))) (h.rested a above below);
             rests = λ a above below.
                 (let r = h.rests a above below in
                 let its : a ≢ v.actor = λ is. absurd (omega (arith, above, is)) in
@@ -157,7 +157,7 @@ module _ (sizes : Sizes) (s : Table.State Call View) (kept : IsKept sizes s) (id
           }
 
     -- and the seat itself, where it pins itself, enters a handle, would close one, or reserves a number
-    module _ (first : Account) (waited : HasWaited v.actor first account) (rested : (a : ℕ) → v.actor < a → a ≤ v.last → HasWaited a first account)
+    module _ (first : Account) (waited : HasWaited v.actor first account) (rested : (a : ℕ) → v.actor < a → a ≤ v.last → HasWaited a (first_account sizes) account)
         (counted : length first.names ≡ (state_of sizes first).heap.births) (pin : Option Pin) (entered : Option ℕ)
         (closing : List Closing)
         (opens : Option ℕ) (opening : Option ℕ) where

@@ -1,5 +1,5 @@
 -- A seat is split: its last actor gets a seat of its own.
-use Rattle.std.proofs.Common.{◌≡◌, ◌≢◌, ℕ, zero, suc, ◌<◌, ◌⊎◌, inl, inr, List, [], ◌∷◌, ◌++◌, Some, length, set, length-set, refl, sym, ap, subst, ◌∙◌, arith}
+use Rattle.std.proofs.Common.{◌≡◌, ◌≢◌, ℕ, zero, suc, ◌<◌, ◌≤◌, ◌⊎◌, Contains, inl, inr, List, [], ◌∷◌, ◌++◌, Some, length, set, length-set, refl, sym, ap, subst, ◌∙◌, arith}
 use Rattle.std.proofs.lemmas.Bool.{cases_eq}
 use Rattle.std.proofs.lemmas.Option.{none-some}
 use mathlib.Core.Option.{some, some-injective, some-ne-none}
@@ -10,13 +10,15 @@ use Rattle.atomic_table.proofs.Lists.{at_set, at_longer, set_here, set_else}
 use Rattle.history.specs.declared.calls.Call.{Call}
 use Rattle.machine_model.specs.declared.operations.Operation.{Operation}
 use Rattle.machine_model.specs.States.{State, operation_of}
+use Rattle.lock_free.specs.declared.rules.Heard.{Heard}
 use Rattle.lock_free.specs.declared.rules.View.{View}
 use Rattle.lock_free.specs.declared.sizes.Sizes.{Sizes}
 use Rattle.lock_free.specs.Accounts.{state_of}
 use Rattle.lock_free.specs.Loading.{IsSound}
-use Rattle.lock_free.specs.Rules.{latest, IsClosing, IsOpening, IsFree, Reserves, HasActor, HasSeat, IsSeat, IsKept}
+use Rattle.lock_free.specs.Rules.{latest, IsClosing, IsOpening, IsFree, Reserves, HasActor, HasSeat, IsSeat, IsKept, IsRuled, WasGivenUp}
 use Rattle.lock_free.specs.Splitting.{without_last, of_last}
 use Rattle.lock_free.proofs.Idle.{empty_has, none_free, none_twice}
+use Rattle.lock_free.proofs.Silent.{waited_since}
 
 at_more : (xs : List View) (x w : View) (k : ℕ) → get_elem? (xs ++ x ∷ []) k ≡ some w → (get_elem? xs k ≡ some w) ⊎ ((k ≡ length xs) × (x ≡ w))
 at_more [] x w zero e = inr (refl, some-injective x w e)
@@ -116,7 +118,7 @@ module _ (sizes : Sizes) (s : Table.State Call View) (kept : IsKept sizes s) (id
         low = omega (arith, more);
         top = omega arith;
         most = seat.most;
-        waited = seat.rested v.last more (omega arith);
+        waited = waited_since v.last v.actor sizes v.account kept.account seat.waited (seat.rested v.last more (omega arith));
         counts = seat.counts;
         rested = λ a above below. absurd (omega (arith, above, below));
         rests = λ a above below. absurd (omega (arith, above, below));
@@ -223,8 +225,25 @@ module _ (sizes : Sizes) (s : Table.State Call View) (kept : IsKept sizes s) (id
         (λ h. absurd (none-some handle h.0)) (λ h g. none-some handle g.0) (λ h g. none-some handle h.0) i j x y ei ej hx hy;
   }
 
-pub splits : (sizes : Sizes) (id : ℕ) (v : View) → v.actor < v.last → Splits (IsKept sizes) id v (without_last v) (of_last v)
-splits sizes id v more s kept at = split_kept sizes s kept id v at more
+  -- ---- whom seats have heard of
+
+  module _ (some_seats : 1 ≤ v.sizes.seats) (heard : (k : ℕ) (x : View) → get_elem? s.views k ≡ some x → (h : Heard) → Contains x.heard h → WasGivenUp s.views h) where
+    gone_still : (h : Heard) → WasGivenUp s.views h → WasGivenUp split_views h
+    gone_still h g = record { id = g.id; view = g.view; at = other_at g.id g.view apart g.at; spent = g.spent; actor = g.actor; last = g.last; account = g.account }
+      where
+        apart : g.id ≡ id → ⊥
+        apart same = let none = ap (λ (x : View). x.sizes.seats) (sym (mine g.id g.view g.at same)) ∙ g.spent in omega (arith, some_seats, none)
+
+    heard_by : (k : ℕ) (x : View) → Was k x → (h : Heard) → Contains x.heard h → WasGivenUp split_views h
+    heard_by k x (was_first e p) h c = gone_still h (heard id v at h (subst (λ hs. Contains hs h) (ap (λ (y : View). y.heard) (sym p)) c))
+    heard_by k x (was_other e p) h c = gone_still h (heard k x p h c)
+    heard_by k x (was_second e p) h c = let none = (subst (λ hs. Contains hs h) (ap (λ (y : View). y.heard) (sym p)) c).1 in absurd (omega (arith, none))
+
+    pub split_ruled : IsRuled sizes (record { words = s.words; homes = s.homes; views = split_views })
+    split_ruled = record { kept = split_kept; heard = λ k x e h c. heard_by k x (was k x e) h c }
+
+pub splits : (sizes : Sizes) (id : ℕ) (v : View) → 1 ≤ v.sizes.seats → v.actor < v.last → Splits (IsRuled sizes) id v (without_last v) (of_last v)
+splits sizes id v some_seats more s ruled at = split_ruled sizes s ruled.kept id v at more some_seats ruled.heard
 
 pub left_sound : (words : ℕ) (v : View) → IsSound words v → IsSound words (without_last v)
 left_sound words v h = record { size = h.size; range = h.range; bounds = h.bounds; keys = h.keys; counted = h.counted; inside = h.inside; free = h.free }

@@ -50,7 +50,7 @@ module _ (n : ℕ) (before after : View) (sound : IsSound n before) (last : IsSo
     gone = gone_later n before sound account g.0.1 bounds
 
     follows : Follows before after
-    follows = subst (Follows before) (sym its) (record { is = refl; places = gone.places; owns = gone.owns; nodes = gone.nodes })
+    follows = subst (Follows before) (sym its) (record { is = refl; places = gone.places; owns = gone.owns; nodes = gone.nodes; goes_on = gone.goes_on })
 
     pub missed_become : HasBecome (swap_done why (node_at (now before).heap made) false) before after
     missed_become = record { follows = follows; comes = g.1 why i replaced made s }

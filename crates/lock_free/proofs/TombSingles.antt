@@ -16,7 +16,7 @@ use Rattle.lock_free.specs.Accounts.{bounds_for, state_of}
 use Rattle.lock_free.specs.Live.{IsLive}
 use Rattle.lock_free.specs.Nodes.{is_single}
 
-same_kind : (node : Node) → meets ASingle node ≡ true → is_single node ≡ true
+pub same_kind : (node : Node) → meets ASingle node ≡ true → is_single node ≡ true
 same_kind (Single key value) e = refl
 same_kind (Indirection generation main) e = e
 same_kind (Branch bitmap entries) e = e

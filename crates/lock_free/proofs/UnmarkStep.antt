@@ -1,7 +1,7 @@
 -- The exchange by which the mark of a seat that would close a handle is taken away.
 use Rattle.history.specs.declared.calls.Access.TheVariants.{Writable, ReadOnly}
 use Rattle.history.specs.declared.calls.Call.{Call}
-use Rattle.std.proofs.Common.{◌≡◌, ◌==◌, ◌<◌, inl, inr, ℕ, true, set, slice_index, refl, sym, subst, ◌∙◌, arith}
+use Rattle.std.proofs.Common.{◌≤◌, ◌≡◌, ◌==◌, ◌<◌, inl, inr, ℕ, true, set, slice_index, refl, sym, subst, ◌∙◌, arith}
 use Rattle.std.proofs.lemmas.Bool.{cases_eq, false≢true}
 use mathlib.Core.Option.{some, none}
 use lib.ListN.{get_elem?}
@@ -18,7 +18,7 @@ use Rattle.lock_free.specs.Accounts.{place_of, state_of}
 use Rattle.lock_free.specs.HandleWords.{is_marked, without_mark, has_unmarked}
 use Rattle.lock_free.specs.Places.{root_word}
 use Rattle.lock_free.specs.Roots.{MeansRoot, SaysRoot}
-use Rattle.lock_free.specs.Rules.{IsKept}
+use Rattle.lock_free.specs.Rules.{IsKept, IsRuled}
 use Rattle.lock_free.proofs.Assembling.{closing_at}
 use Rattle.lock_free.proofs.Closers.{seat_kept}
 use Rattle.lock_free.proofs.Exchanged.{words_then, words_hit, words_miss}
@@ -73,10 +73,12 @@ module _ (v : View) (handle : ℕ) (low : handle < 256) (s : Table.State Call Vi
         misses
   ]
 
-pub unmark_allowed : (sizes : Sizes) (size id : ℕ) (me : Me Call View) (handle : ℕ) → handle < 256 → (w : RootWord) → IsRootWord w → is_marked w ≡ true →
-    Allows (IsKept sizes) size id me (root_word handle) (λ n. either (n == root_code w) (root_code (without_mark w)) n)
+pub unmark_allowed : (sizes : Sizes) (size id : ℕ) (me : Me Call View) (some_seats : 1 ≤ me.0.sizes.seats) (handle : ℕ) → handle < 256 → (w : RootWord) → IsRootWord w → is_marked w ≡ true →
+    Allows (IsRuled sizes) size id me (root_word handle) (λ n. either (n == root_code w) (root_code (without_mark w)) n)
     (has_unmarked (step size (root_word handle) (root_code w) (root_code (without_mark w)) none) me)
-unmark_allowed sizes size id me handle low w fits marked =
+unmark_allowed sizes size id me some_seats handle low w fits marked =
     allowed sizes size id me (root_word handle) (λ n. either (n == root_code w) (root_code (without_mark w)) n)
     (has_unmarked (step size (root_word handle) (root_code w) (root_code (without_mark w)) none) me)
+    some_seats
     (λ s kept at. (me.0, unmarks me.0 handle low s kept id at w fits marked, refl))
+    (λ s kept at. refl)

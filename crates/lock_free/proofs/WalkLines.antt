@@ -27,7 +27,7 @@ use Rattle.lock_free.proofs.AllEntries.{entries_same}
 use Rattle.lock_free.proofs.Asked.{live_in_use}
 use Rattle.lock_free.proofs.Comings.{runs_one}
 use Rattle.lock_free.proofs.Descents.{moved_self}
-use Rattle.lock_free.proofs.Followings.{follows_both, follows_later}
+use Rattle.lock_free.proofs.Laters.{later_both}
 use Rattle.lock_free.proofs.KeyMoves.{hash_is}
 use Rattle.lock_free.proofs.OnLines.{moved_so}
 
@@ -48,13 +48,14 @@ next_gives_up o [] pairs = told_none o.call pairs
 next_gives_up o (r ∷ todo) pairs = refl
 
 pub left_by : (v w : View) (f : Operation → Line) → ((o : Operation) → given_up o.call (f o) ≡ Some reply.NoSlots) → HasMoved f v w → IsLeft v w
-left_by v w f may p = record { follows = follows_later v w p.later; runs = λ o r. (o.private, f o, p.comes o r, may o) }
+left_by v w f may p = (f, may, p)
 
 pub left_after : (u v w : View) (f : Operation → Line) → HasMoved f u v → IsLeft v w → IsLeft u w
-left_after u v w f p q = record {
-  follows = follows_both u v w (follows_later u v p.later) q.follows;
-  runs = λ o r. q.runs (record o { line = f o }) (p.comes o r);
-}
+left_after u v w f p (g, may, q) = (
+  (λ o. g (record o { line = f o })),
+  (λ o. may (record o { line = f o })),
+  record { later = later_both u v w p.later q.later; comes = λ o r. q.comes (record o { line = f o }) (p.comes o r) },
+)
 
 -- ---- what a line names is held
 

@@ -1,6 +1,6 @@
 -- A load of the first word of an offer that stands where another was to come to stand: undecided, it is why that one misses.
 use Rattle.history.specs.declared.calls.Call.{Call}
-use Rattle.std.proofs.Common.{◌≡◌, ◌*◌, ◌==◌, ℕ, inl, inr, Bool, true, false, Contains, set, slice_index, refl, sym, ap, subst, ◌∙◌, eq-eqb, ne_eqb, if◌then◌else◌}
+use Rattle.std.proofs.Common.{◌≤◌, ◌≡◌, ◌*◌, ◌==◌, ℕ, inl, inr, Bool, true, false, Contains, set, slice_index, refl, sym, ap, subst, ◌∙◌, eq-eqb, ne_eqb, if◌then◌else◌}
 use Rattle.std.proofs.lemmas.Bool.{cases_eq}
 use Rattle.std.proofs.lemmas.List.{set-get_or}
 use mathlib.Core.Option.{some, none}
@@ -23,7 +23,7 @@ use Rattle.lock_free.specs.Places.{words_of}
 use Rattle.lock_free.specs.RootOffers.{MeetsOffer, YieldedAs, HasYielded, has_yielded}
 use Rattle.lock_free.specs.RootWords.{fate_by}
 use Rattle.lock_free.specs.Roots.{undecided, carried_out}
-use Rattle.lock_free.specs.Rules.{IsKept}
+use Rattle.lock_free.specs.Rules.{IsKept, IsRuled}
 use Rattle.lock_free.proofs.AbortStep.{known_there}
 use Rattle.lock_free.proofs.Moments.{allowed, seen_kept, waited_so}
 use Rattle.lock_free.proofs.OfferMet.{settled_as}
@@ -50,7 +50,7 @@ module _ (v : View) (slot : ℕ) (offer : Descriptor) (p : IsAt v (act.Offer off
   abbrev Left : View → Type 0
   Left after =
       IsKept v.sizes (record { words = set s.words (2 * slot) found; homes = s.homes; views = set s.views id after }) ×
-      (IsSound (words_of v.sizes) after × YieldedAs (found == undecided) v (2 * slot) found after)
+      (IsSound (words_of v.sizes) after × YieldedAs (found == undecided) v (2 * slot) found after) × (after.heard ≡ v.heard)
 
   same_words : (after : View) → IsKept v.sizes (record { words = s.words; homes = s.homes; views = set s.views id after }) → IsKept v.sizes
       (record { words = set s.words (2 * slot) found; homes = s.homes; views = set s.views id after })
@@ -65,6 +65,7 @@ module _ (v : View) (slot : ℕ) (offer : Descriptor) (p : IsAt v (act.Offer off
           (
             same_words after (dropped_kept v offer p s kept id at none),
             (dropped_sound v offer p s kept id at none, subst (λ b. YieldedAs b v (2 * slot) found after) (sym (eq-eqb found 0 e)) (has_missed v offer p s kept id at none)),
+            refl,
           ),
         )
     | inr differs ↦
@@ -74,15 +75,18 @@ module _ (v : View) (slot : ℕ) (offer : Descriptor) (p : IsAt v (act.Offer off
           (
             same_words after (seen_kept v s kept id at),
             (waited.sound, subst (λ b. YieldedAs b v (2 * slot) found after) (sym (ne_eqb found 0 differs)) (record { table = s; kept = kept; id = id; at = at; finds = refl }, refl)),
+            refl,
           ),
         )
   ]
 
-pub yield_allowed : (sizes : Sizes) (size id : ℕ) (me : Me Call View) (slot : ℕ) → MeetsOffer me.0 slot → Allows (IsKept sizes) size id me (2 * slot) (λ n. n)
+pub yield_allowed : (sizes : Sizes) (size id : ℕ) (me : Me Call View) (some_seats : 1 ≤ me.0.sizes.seats) (slot : ℕ) → MeetsOffer me.0 slot → Allows (IsRuled sizes) size id me (2 * slot) (λ n. n)
     (has_yielded (step size (2 * slot) 0 0 none) me)
-yield_allowed sizes size id me slot (offer, p, met) =
+yield_allowed sizes size id me some_seats slot (offer, p, met) =
     allowed sizes size id me (2 * slot) (λ n. n) (has_yielded (step size (2 * slot) 0 0 none) me)
+    some_seats
     (λ s kept at. (let x = leaves me.0 slot offer p met s kept id at in (x.0, x.1.0, (x.1.1.1, x.1.1.0, refl))))
+    (λ s kept at. (leaves me.0 slot offer p met s kept id at).1.2)
 
 -- ---- what the seat is told
 

@@ -10,6 +10,7 @@ use Rattle.machine_model.specs.declared.steps.Step.TheVariants as step
 use Rattle.machine_model.specs.Machine.{AreBounds}
 use Rattle.machine_model.specs.Operations.{action_of}
 use Rattle.lock_free.specs.declared.accounts.Account.{Account}
+use Rattle.lock_free.specs.declared.rules.View.{View}
 use Rattle.lock_free.specs.declared.sizes.Sizes.{Sizes}
 use Rattle.lock_free.specs.Accounts.{bounds_for, state_of, running, gone_on, HasWaited}
 use Rattle.lock_free.specs.Beginning.{taking}
@@ -49,6 +50,10 @@ talk_from actor talk (event ∷ events) = talk_from actor (after_event actor tal
 
 abbrev pub talk_of : ℕ → List Event → Talk
 talk_of actor history = talk_from actor silent history
+
+-- what a seat has seen of an actor
+abbrev pub talk_at : View → ℕ → Talk
+talk_at v actor = talk_of actor (history_of v.sizes v.account)
 
 abbrev pub answers_of : ℕ → Sizes → Account → List Answer
 answers_of actor sizes account = (talk_of actor (history_of sizes account)).answers

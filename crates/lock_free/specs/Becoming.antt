@@ -25,6 +25,7 @@ use Rattle.lock_free.specs.declared.rules.View.{View}
 use Rattle.lock_free.specs.Accounts.{place_of, IsOwn}
 use Rattle.lock_free.specs.Loading.{now, Runs, IsUsed}
 use Rattle.lock_free.specs.Passing.{IsPlaced}
+use Rattle.lock_free.specs.Telling.{GoesOn}
 
 -- more has happened, and the seat's own slots are others; what it knew of nodes is so
 pub record Follows (v w : View) : Type 0 where
@@ -32,6 +33,7 @@ pub record Follows (v w : View) : Type 0 where
   pub places : (r : Ref) (slot : Slot) → IsUsed v r slot → place_of w.account r ≡ place_of v.account r
   pub owns : (a b : Ref) (c : Bool) → IsOwn v.account a b c → IsOwn w.account a b c
   pub nodes : (r : Ref) (slot : Slot) → IsUsed v r slot → (later : Slot) × IsUsed w r later × SameNode slot.node later.node
+  pub goes_on : GoesOn v.account.steps w.account.steps
 
 -- each operation that ran runs on as this one
 pub record HasBecome (next : Operation → Operation) (v w : View) : Type 0 where

@@ -1,6 +1,6 @@
 -- COPY: where an operation is on its way from the root to an offer that is carried out, and what it comes to.
 use Rattle.history.specs.declared.calls.Call.{Call}
-use Rattle.history.specs.declared.calls.Call.TheVariants.{Clear, Snapshot, Freeze}
+use Rattle.history.specs.declared.calls.Call.TheVariants.{Clear, Snapshot}
 use Rattle.history.specs.declared.replies.Reply.TheVariants as reply
 use Rattle.std.specs.Prelude.{◌≡◌, ◌<◌, ◌+◌, ◌*◌, ◌++◌, ◌∷◌, [], ℕ, Bool, true, false, List, Contains, Option, Some, None, is_some, unwrap_or, if◌then◌else◌}
 use Rattle.trie_words.specs.Codes.{pair_code}
@@ -12,6 +12,7 @@ use Rattle.machine_model.specs.declared.lines.Line.TheVariants as line
 use Rattle.machine_model.specs.declared.operations.Operation.{Operation}
 use Rattle.machine_model.specs.declared.roots.Descriptor.{Descriptor}
 use Rattle.machine_model.specs.Calls.{handle_of}
+pub use Rattle.machine_model.specs.Calls.{copies}
 use Rattle.machine_model.specs.Copying.{after_given, copy_after_made, offering, copied_reply}
 use Rattle.machine_model.specs.GivingUp.{copy_given_up}
 use Rattle.machine_model.specs.Lines.{new_try}
@@ -32,6 +33,7 @@ use Rattle.lock_free.specs.Passing.{IsPlaced, KnowsLink, KnowsMain}
 use Rattle.lock_free.specs.RootOffers.{IsToOffer}
 use Rattle.lock_free.specs.RootWords.{IsToOpen}
 use Rattle.lock_free.specs.Roots.{IsItsTry, undecided}
+use Rattle.lock_free.specs.RunningOn.{IsStill}
 use Rattle.lock_free.specs.Storing.{HasMadeRoot}
 
 -- the operation is on this line of COPY
@@ -121,7 +123,7 @@ StopsShort v w =
 
 -- a slot or a generation is missing
 pub record HasStopped (v w : View) : Type 0 where
-  pub is : w ≡ record v { account = w.account; pool = w.pool; drafts = w.drafts }
+  pub still : IsStill v w
   pub stops : StopsShort v w
 
 -- the second root, if there is one, is in this slot
@@ -158,13 +160,9 @@ pub record HasDraftedOffer (before : View) (slot root main : ℕ) (roots : NewRo
   pub olds : Contains after.drafts (2 * slot + 1, pair_code (record { low = root; high = main }))
   pub news : Contains after.drafts (2 * slot + 2, pair_code (record { low = roots.successor; high = unwrap_or roots.second 0 }))
 
--- it is what it was, but for what has happened, its own slots, and what the word of its number names
-abbrev pub IsStill : View → View → Type 0
-IsStill v w = w ≡ record v { account = w.account; pool = w.pool; drafts = w.drafts; opening = w.opening }
-
 -- its operation is about to offer it, by its next try
 pub record HasPrepared (before : View) (k : CopyKind) (opens : Option ℕ) (handle root slot : ℕ) (after : View) : Type 0 where
-  pub is : IsStill before after
+  pub still : IsStill before after
   pub offers : IsToOffer after handle root slot
   pub opening : offers.0.opens ≡ opens
   pub two : is_some offers.0.second ≡ is_snapshot k
@@ -215,7 +213,7 @@ abbrev pub copied_on : Bool → Operation → Operation
 copied_on carried operation = record operation { private = []; attempt = operation.attempt + 1; line = copied_line carried operation }
 
 pub record HasTried (before : View) (carried : Bool) (after : View) : Type 0 where
-  pub is : IsStill before after
+  pub still : IsStill before after
   pub comes : (operation : Operation) → Runs before operation → Runs after (copied_on carried operation)
 
 abbrev pub HasTriedCopy : View → Copied → View → Type 0
@@ -224,13 +222,6 @@ HasTriedCopy before copied.Again after = HasTried before false after
 HasTriedCopy before copied.Full after = HasStopped before after
 
 -- ---- as often as it takes
-
--- such a call makes a copy, or clears
-abbrev pub copies : Call → Bool
-copies (Clear h) = true
-copies (Snapshot h) = true
-copies (Freeze h) = true
-copies call = false
 
 -- the operation begins a try
 abbrev pub IsAtTry : View → Type 0
@@ -242,12 +233,12 @@ tried_on private attempt generation l operation = record operation { private = p
 
 -- after some tries it has come to this line
 pub record HasComeTo (next : Operation → Line) (v w : View) : Type 0 where
-  pub is : IsStill v w
+  pub still : IsStill v w
   pub comes : (operation : Operation) → Runs v operation → (private : List Ref) × (attempt : ℕ) × (generation : Option ℕ) × Runs w (tried_on private attempt generation (next operation) operation)
 
 -- after some tries it found no slot, or no generation, and may give up
 pub record HasGivenOut (v w : View) : Type 0 where
-  pub is : IsStill v w
+  pub still : IsStill v w
   pub stops : (operation : Operation) → Runs v operation →
       (private : List Ref) × (attempt : ℕ) × (generation : Option ℕ) × (l : CopyLine) × Runs w (tried_on private attempt generation (line.Copy l) operation) × (copy_given_up l ≡ Some reply.NoSlots)
 

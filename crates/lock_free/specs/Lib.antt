@@ -46,9 +46,16 @@ pub mod Climbs
 pub mod Opening
 pub mod Splitting
 pub mod Telling
+pub mod RunningOn
 pub mod Finishing
 pub mod Answers
 pub mod OneKey
+pub mod KeysApart
 pub mod Answering
 pub mod Seeking
 pub mod Walks
+pub mod Attempts
+pub mod Seated
+pub mod SeatCalls
+pub mod WholeCalls
+pub mod KeyReplies

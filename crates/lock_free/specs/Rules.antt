@@ -9,6 +9,7 @@ use Rattle.atomic_table.specs.Table as Table
 use Rattle.trie_words.specs.Codes.{pin_code, root_code, IsRootWord}
 use Rattle.trie_words.specs.declared.roots.RootWord.TheVariants as word
 use Rattle.lock_free.specs.declared.rules.Closing.{Closing}
+use Rattle.lock_free.specs.declared.rules.Heard.{Heard}
 use Rattle.lock_free.specs.declared.rules.Pool.{Pool}
 use Rattle.proof_waiting.specs.Beneath.proof_slots.specs.Unswept.{HasNoSweeps}
 use Rattle.lock_free.specs.Live.{IsLive}
@@ -56,6 +57,7 @@ idle_view sizes actor last account = record {
   opening = None;
   pool = record { small = []; medium = []; wide = [] };
   drafts = [];
+  heard = [];
 }
 
 abbrev pub first_view : Sizes → View
@@ -168,14 +170,15 @@ pub record Names (words : List ℕ) (v : View) (handle slot : ℕ) : Type 0 wher
   pub free : IsFree v 1 slot
 
 pub record IsSeat (sizes : Sizes) (account : Account) (stands : Standing) (words : List ℕ) (v : View) : Type 0 where
-  pub same : v.sizes ≡ sizes
+  -- a seat that was given up has no sizes
+  pub same : 1 ≤ v.sizes.seats → v.sizes ≡ sizes
   pub low : 1 ≤ v.actor
   pub top : v.actor ≤ v.last
   pub most : v.last ≤ sizes.seats
   pub waited : HasWaited v.actor v.account account
   pub counts : length v.account.names ≡ (state_of sizes v.account).heap.births
-  -- the actors after it have taken no step since then either, and run nothing
-  pub rested : (a : ℕ) → v.actor < a → a ≤ v.last → HasWaited a v.account account
+  -- the actors after it have never taken a step, and run nothing
+  pub rested : (a : ℕ) → v.actor < a → a ≤ v.last → HasWaited a (first_account sizes) account
   pub rests : (a : ℕ) → v.actor < a → a ≤ v.last → (operation_of (state_of sizes account) a ≡ None) × (slice_index words (pin_word a) ≡ 0)
   pub pinned : slice_index words (pin_word v.actor) ≡ pin_word_of v.pin
   pub entered : (handle : ℕ) → v.entered ≡ Some handle →
@@ -237,3 +240,20 @@ pub record IsKept (sizes : Sizes) (s : Table.State Call View) : Type 0 where
   pub pools : (i j : ℕ) (v w : View) (b c name : ℕ) → get_elem? s.views i ≡ some v → get_elem? s.views j ≡ some w → IsFree v b name → IsFree w c name → i ≡ j
   pub numbers : (i j : ℕ) (v w : View) (handle : ℕ) → get_elem? s.views i ≡ some v → get_elem? s.views j ≡ some w → Reserves (state_of sizes account) v handle → Reserves
       (state_of sizes account) w handle → i ≡ j
+
+-- ---- seats that were given up
+
+-- It was given up after it had seen this.
+pub record WasGivenUp (views : List View) (h : Heard) : Type 0 where
+  pub id : ℕ
+  pub view : View
+  pub at : get_elem? views id ≡ some view
+  pub spent : view.sizes.seats ≡ 0
+  pub actor : view.actor ≡ h.actor
+  pub last : view.last ≡ h.last
+  pub account : view.account ≡ h.account
+
+-- all of it, and that whom a seat has heard of makes no access any more
+pub record IsRuled (sizes : Sizes) (s : Table.State Call View) : Type 0 where
+  pub kept : IsKept sizes s
+  pub heard : (id : ℕ) (v : View) → get_elem? s.views id ≡ some v → (h : Heard) → Contains v.heard h → WasGivenUp s.views h

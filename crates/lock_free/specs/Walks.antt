@@ -4,9 +4,11 @@ use Rattle.history.specs.declared.replies.Reply.TheVariants as reply
 use Rattle.trie_words.specs.declared.entries.Entry.{Entry}
 use Rattle.machine_model.specs.Beneath.slot_arena.specs.declared.refs.Ref.{Ref}
 use Rattle.machine_model.specs.Beneath.slot_arena.specs.Heaps.{node_at, entries_of}
+use Rattle.machine_model.specs.declared.lines.Line.{Line}
 use Rattle.machine_model.specs.declared.lines.Line.TheVariants as line
 use Rattle.machine_model.specs.declared.operations.Operation.{Operation}
 use Rattle.machine_model.specs.declared.walking.WalkLine.TheVariants as walk
+use Rattle.machine_model.specs.GivingUp.{given_up}
 use Rattle.machine_model.specs.Reading.{reading}
 use Rattle.machine_model.specs.Walking.{walk_next, walked_reply}
 use Rattle.lock_free.specs.declared.reading.Given.{Given}
@@ -18,7 +20,6 @@ use Rattle.lock_free.specs.Holding.{IsOn, HasComeTo}
 use Rattle.lock_free.specs.Loading.{now, IsSound, Runs}
 use Rattle.lock_free.specs.Nodes.{is_single}
 use Rattle.lock_free.specs.Passing.{IsOnWay, IsPlaced, KnowsMain}
-use Rattle.lock_free.specs.Repairing.{GivesUp}
 use Rattle.lock_free.specs.SeenEntries.{AreEntriesTo}
 
 -- ---- what is to do
@@ -41,9 +42,9 @@ pub record HasWalked (before : View) (pairs : List (ℕ × ℕ)) (after : View) 
   pub moved : HasMoved (λ operation. walk_next operation todo pairs) before after
   pub knows : AreToDo after stack todo
 
--- it has no memory for what is to do
+-- it has no memory for what is to do: it has come to a line where it may give up
 abbrev pub IsLeft : View → View → Type 0
-IsLeft v w = GivesUp (λ operation. reply.NoSlots) v w
+IsLeft v w = (next : Operation → Line) × ((operation : Operation) → given_up operation.call (next operation) ≡ Some reply.NoSlots) × HasMoved next v w
 
 abbrev pub WalkedOrLeft : {E : Type 0} → View → List (ℕ × ℕ) → Result (Unit {0}) E → View → List Entry → Type 0
 WalkedOrLeft before pairs (Ok done) after stack = HasWalked before pairs after stack

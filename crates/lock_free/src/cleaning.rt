@@ -42,8 +42,8 @@ fn look_over(words: &Words, actor: &mut Actor, entry: Entry)
     }
 }
 
-/// The single of the tomb to which this link leads, as an entry: it is the tomb's own only where that is its indirection's, and this is
-/// of the generation in which the operation began its try.
+/// This single of the main node to which the link leads, as an entry of another one: it is that one's own only where it is this one's,
+/// which is its indirection's, and this is of the generation in which the operation began its try.
 pub fn single_in(link: Link, single: Entry, start: u64) -> Entry
     ensures { unowned result ≡ unowned single }
 {

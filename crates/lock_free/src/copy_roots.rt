@@ -17,7 +17,7 @@ use std::sync::Wait;
 use trie_words::{Link, Name, Previous};
 
 /// So many generations can be given out.
-const GENERATIONS: u64 = 1 << 36;
+pub(crate) const GENERATIONS: u64 = 1 << 36;
 
 /// Which copy an operation makes.
 #[derive(Clone, Copy, Drop)]

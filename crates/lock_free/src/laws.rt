@@ -1,8 +1,9 @@
 //! Laws of what seats have seen.
 
 ghost use Rattle.lock_free.specs.Answers.{AnswersGoOn, BeginsTellNothing, EndsAreTold, OthersTellNothing};
+ghost use Rattle.lock_free.specs.KeysApart.{FirstSeatIsSilent, KeysApartAreAnswered, RestingSeatsRunNothing};
 ghost use Rattle.lock_free.specs.OneKey.{OwnKeysAreAnswered};
-ghost use Rattle.lock_free.specs.Answering.{CallsAreAnswered, ClosesAreAnswered};
+ghost use Rattle.lock_free.specs.Answering.{CallsAreAnswered, ClosesAreAnswered, RefusalsAreAnswered};
 ghost use Rattle.lock_free.specs.Telling.{HistoriesGoOn, SeatsAreExplained};
 
 use proof_linearizable::every_order_is_legal;
@@ -48,10 +49,31 @@ pub fn own_keys_are_answered()
     ensures { OwnKeysAreAnswered }
 {}
 
-/// A law: a call that has begun and whose operation has ended was answered so in the history, as an operation of its seat's that began
-/// and ended meanwhile.
+/// A law: where a map has ended with all its seats, and no seat but one has called on a key of a handle, as each knows of itself, this
+/// seat's calls on it were answered, one after the other, as on a map of this key alone.
+pub fn keys_apart_are_answered()
+    ensures { KeysApartAreAnswered }
+{}
+
+/// A law: where a seat rests it runs nothing, so all that it has called was answered.
+pub fn resting_seats_run_nothing()
+    ensures { RestingSeatsRunNothing }
+{}
+
+/// A law: at first nobody has been told anything.
+pub fn first_seat_is_silent()
+    ensures { FirstSeatIsSilent }
+{}
+
+/// A law: a call that has begun and whose operation has ended was answered so, and its seat was answered nothing else meanwhile; in the
+/// history it is an operation of its seat's that began and ended since then.
 pub fn calls_are_answered()
     ensures { CallsAreAnswered }
+{}
+
+/// A law: so was a call whose operation has given up.
+pub fn refusals_are_answered()
+    ensures { RefusalsAreAnswered }
 {}
 
 /// A law: so was a call that has closed its handle.

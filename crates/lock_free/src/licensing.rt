@@ -51,6 +51,7 @@ fn ask_generation<R: Wait>(rt: &R, words: &Words, actor: &mut Actor, handle: u16
 }
 
 /// What tells a READ the generation of its handle's root.
+#[derive(Drop)]
 pub struct Asker<'a, R: Wait> {
     rt: &'a R,
 }

@@ -1,11 +1,11 @@
 //! The rule of the words.
 
 ghost use Rattle.lock_free.specs.declared.rules.View.{View};
-ghost use Rattle.lock_free.specs.Rules.{IsKept, first_view};
+ghost use Rattle.lock_free.specs.Rules.{IsRuled, first_view};
 ghost use Rattle.lock_free.specs.Loading.{has_seen, has_gone};
 ghost use Rattle.lock_free.specs.Calling.{has_given_up, has_started};
 ghost use Rattle.lock_free.specs.Exchanging.{has_published};
-ghost use Rattle.lock_free.specs.Finishing.{has_emptied, no_view};
+ghost use Rattle.lock_free.specs.Finishing.{has_emptied, hearing, no_view};
 ghost use Rattle.lock_free.specs.HandleWords.{has_closed, has_marked, has_unmarked};
 ghost use Rattle.lock_free.specs.Numbers.{has_given_back, has_named, has_reserved};
 ghost use Rattle.lock_free.specs.OfferWords.{has_completed};
@@ -37,6 +37,14 @@ pub struct Closing {
     pub looked: u8,
 }
 
+/// Another seat of which a seat has heard, with its actors and what had happened at its last access: it was given up then. No value of
+/// it is made.
+pub struct Heard {
+    pub actor: u8,
+    pub last: u8,
+    pub account: Account,
+}
+
 /// What a seat knows. No value of it is made.
 pub struct View {
     /// How many of everything there are.
@@ -63,12 +71,14 @@ pub struct View {
     pub pool: Pool,
     /// What it has written in these: the number of a word, and what it has.
     pub drafts: LinkedList<(u64, u64)>,
+    /// The seats of which it has heard.
+    pub heard: LinkedList<Heard>,
 }
 
 pub struct Rule;
 
 impl TableRule<Call, View, Sizes> for Rule {
-    ghost holds = { IsKept };
+    ghost holds = { IsRuled };
 
     ghost first = { first_view };
 }
@@ -82,26 +92,22 @@ impl Split<View> for Parts {
     ghost right = { of_last };
 }
 
-/// What is picked where a seat hears of another one: what it knows then, and what is left of the other.
+/// What is picked where a seat hears of another one: what is left of the other.
 pub trait Picks {
-    ghost heard: { View };
-
     ghost spent: { View };
 }
 
 impl Picks for Brand {
-    ghost heard = { no_view };
-
     ghost spent = { no_view };
 }
 
-/// A seat hears of another one.
+/// A seat hears of another one, which is given up.
 pub struct Hears<N> {
     marker: PhantomData<N>,
 }
 
 impl<N: Picks> Join<View> for Hears<N> {
-    ghost both = { λ v w. N.heard };
+    ghost both = { hearing };
 
     ghost spent = { N.spent };
 }

@@ -181,6 +181,7 @@ pub fn try_key<R: Wait, A: AsksRoot>(
     ensures table { actor.new.table_id ≡ actor.old.table_id }
     ensures sound { IsSound words.now.table_id.words actor.new.me.0 }
     ensures stock { IsStock stock.new actor.new.me.0 }
+    ensures small { result.0.start < 2 ^ 36 }
     ensures tried { HasTried actor.old.me.0 path.new.items result actor.new.me.0 }
 {
     let way = Way {

@@ -132,6 +132,13 @@ impl Stock {
         }
     }
 
+    /// How many of everything its seat's map has.
+    pub fn sizes(&self) -> Sizes
+        ensures { result ≡ self.now.sizes }
+    {
+        self.sizes
+    }
+
     /// The last free slot of this class.
     fn last(&self, class: u32) -> Option<u32>
         ensures { IsLast (pool_of self.now.pool class) result }

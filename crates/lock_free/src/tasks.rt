@@ -2,7 +2,7 @@
 
 ghost use Rattle.std.specs.Prelude.{◌≡◌, ◌==◌};
 ghost use Rattle.machine_model.specs.Beneath.ctrie_base.specs.Hashes.{hash_of};
-ghost use Rattle.machine_model.specs.Calls.{absent_reply, handle_of, inserts, key_of, when_found};
+ghost use Rattle.machine_model.specs.Calls.{absent_reply, changed_reply, handle_of, inserts, key_of, value_of, when_found};
 ghost use Rattle.machine_model.specs.Finding.{passes};
 
 use crate::reading::Way;
@@ -79,6 +79,18 @@ pub(crate) fn key_of(call: Call) -> u64
     }
 }
 
+/// The value that a call on one key sets.
+pub(crate) fn value_of(call: Call) -> u64
+    ensures { result ≡ value_of call }
+{
+    match call {
+        Call::Put { value, .. } | Call::PutIfAbsent { value, .. } | Call::Replace { value, .. } =>
+            value,
+        Call::ReplaceIf { new, .. } => new,
+        _ => 0,
+    }
+}
+
 /// Whether the call gives an absent key a value.
 pub fn inserts(call: Call) -> bool
     ensures { result ≡ inserts call }
@@ -93,6 +105,16 @@ pub fn absent_reply(call: Call) -> Reply
     match call {
         Call::ReplaceIf { .. } | Call::RemoveIf { .. } => Reply::Truth(false),
         _ => Reply::Found(None),
+    }
+}
+
+/// The reply once the call has changed the map, whose value of the key was this one, or none.
+pub(crate) fn changed_reply(call: Call, former: Option<u64>) -> Reply
+    ensures { result ≡ changed_reply call former }
+{
+    match call {
+        Call::ReplaceIf { .. } | Call::RemoveIf { .. } => Reply::Truth(true),
+        _ => Reply::Found(former),
     }
 }
 

@@ -1,6 +1,7 @@
 //! WALK: an operation on a read-only handle goes through all pairs.
 
 ghost use Rattle.std.specs.Prelude.{◌≡◌, ◌++◌, ℕ, List, IfOk, OnErr, OnOk, length, reverse};
+ghost use Rattle.machine_model.specs.Pairs.{by_key};
 ghost use Rattle.lock_free.specs.Loading.{IsSound};
 ghost use Rattle.lock_free.specs.Passing.{IsOnWay};
 ghost use Rattle.lock_free.specs.Walks.{HasFoundStart, HasSeenAll, HasTakenPair, IsAtStart, IsAtWalkedMain, IsAtWalkedSingle};
@@ -241,4 +242,12 @@ pub fn count_pairs<R: Wait, A: AsksRoot>(
         }
     }
     Err(AllocError)
+}
+
+/// These pairs by rising key. It takes no memory.
+pub(crate) fn in_order(mut pairs: Vec<(u64, u64)>) -> Vec<(u64, u64)>
+    ensures { result.items ≡ by_key pairs.items }
+{
+    pairs.sort_unstable();
+    pairs
 }

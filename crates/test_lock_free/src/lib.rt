@@ -3,3 +3,5 @@
 
 #[cfg(test)]
 mod opening;
+#[cfg(test)]
+mod wholes;

@@ -1,13 +1,12 @@
-//! A map is opened, its seats are handed out, and it is ended.
+//! A map is opened, its seats are handed out and make calls, and it is ended.
 
 ghost use Rattle.std.specs.Prelude.{◌≡◌};
 
-use lock_free::{OpenError, Sizes, finish_map, open, see_root, split};
+use lock_free::{CallError, OpenError, Sizes, finish_map, open};
 use nodes::HashKind;
 use std::test::Fail;
-use trie_words::RootWord;
 
-fn sizes(seats: u8, small: u32, wide: u32) -> Sizes
+pub(crate) fn sizes(seats: u8, small: u32, wide: u32) -> Sizes
     ensures { result.seats ≡ seats }
 {
     Sizes {
@@ -28,22 +27,48 @@ fn sizes_out_of_range_are_refused(rt: HostRuntime) -> Result<(), Fail> {
 }
 
 #[test]
-fn seats_are_handed_out_and_brought_together(rt: HostRuntime) -> Result<(), Fail> {
-    let Ok((board, mut first)) = open(rt.alloc(), sizes(3, 8, 4)) else {
+fn seats_call_the_map(rt: HostRuntime) -> Result<(), Fail> {
+    let Ok((board, mut first)) = open(rt.alloc(), sizes(2, 40, 4)) else {
         panic!(rt; "there is memory");
     };
-    let third = split(&board.shared, &mut first);
-    let mut second = split(&board.shared, &mut first);
-    // Before the first slot there are 352 words, and 16 for each seat: so it is the slot 200, and the root has the next one.
-    assert_eq!(rt;
-        see_root(&board.shared, &mut first, 0),
-        RootWord::Writable(201)
-    );
-    assert_eq!(rt; see_root(&board.shared, &mut second, 1), RootWord::Closed);
+    let words = &board.shared;
+    let mut second = first.split(words);
+    assert_eq!(rt; first.put(&rt, words, 0, 7, 70), Ok(None));
+    assert_eq!(rt; second.put(&rt, words, 0, 7, 71), Ok(Some(70)));
+    assert_eq!(rt; first.get(&rt, words, 0, 7), Ok(Some(71)));
+    assert_eq!(rt; second.contains(&rt, words, 0, 8), Ok(false));
+    assert_eq!(rt; first.put_if_absent(&rt, words, 0, 8, 80), Ok(None));
+    assert_eq!(rt; second.put_if_absent(&rt, words, 0, 8, 81), Ok(Some(80)));
+    assert_eq!(rt; first.replace(&rt, words, 0, 9, 90), Ok(None));
+    assert_eq!(rt; second.replace(&rt, words, 0, 8, 82), Ok(Some(80)));
+    assert_eq!(rt; first.replace_if(&rt, words, 0, 8, 80, 83), Ok(false));
+    assert_eq!(rt; second.replace_if(&rt, words, 0, 8, 82, 83), Ok(true));
+    assert_eq!(rt; first.remove_if(&rt, words, 0, 7, 70), Ok(false));
+    assert_eq!(rt; second.remove_if(&rt, words, 0, 7, 71), Ok(true));
+    assert_eq!(rt; first.remove(&rt, words, 0, 8), Ok(Some(83)));
+    assert_eq!(rt; second.get(&rt, words, 0, 8), Ok(None));
+    assert_eq!(rt; first.get(&rt, words, 1, 8), Err(CallError::NoHandle));
+    assert_eq!(rt; second.put(&rt, words, 256, 8, 1), Err(CallError::NoHandle));
     let mut seats = Vec::new(rt.alloc());
     seats.push(first)?;
     seats.push(second)?;
-    seats.push(third)?;
     finish_map(board, seats);
+    Ok(())
+}
+
+/// Two of five small slots are the first branch and its root. A put takes one for its single, and one for the main node.
+#[test]
+fn a_call_without_a_slot_is_refused(rt: HostRuntime) -> Result<(), Fail> {
+    let Ok((board, mut seat)) = open(rt.alloc(), sizes(1, 5, 4)) else {
+        panic!(rt; "there is memory");
+    };
+    let words = &board.shared;
+    assert_eq!(rt; seat.put(&rt, words, 0, 7, 70), Ok(None));
+    assert_eq!(rt; seat.put(&rt, words, 0, 8, 80), Err(CallError::Full));
+    assert_eq!(rt; seat.get(&rt, words, 0, 8), Ok(None));
+    // The slot of its single was given back.
+    assert_eq!(rt; seat.remove(&rt, words, 0, 7), Ok(Some(70)));
+    assert_eq!(rt; seat.get(&rt, words, 0, 7), Ok(None));
+    assert_eq!(rt; seat.put(&rt, words, 0, 7, 71), Err(CallError::Full));
     Ok(())
 }

@@ -27,7 +27,7 @@ use Rattle.proof_memory.proofs.Heap.Under.{prev_here, prev_other}
 use Rattle.proof_memory.proofs.Safety.AtEachTime.{safe_along}
 use Rattle.proof_memory.proofs.Safety.AtTimes.{action_finds}
 use Rattle.proof_waiting.specs.Beneath.proof_slots.proofs.Unswept.Kept.{one_ref}
-use Rattle.proof_garbage.proofs.Unknown.{pending_is}
+use Rattle.proof_garbage.proofs.Kept.{pending_is}
 use Rattle.proof_garbage.proofs.Fresh.{deciding_over, deciding_stands, deciding_met}
 use Rattle.lock_free.specs.declared.accounts.Account.{Account}
 use Rattle.lock_free.specs.declared.sizes.Sizes.{Sizes}

@@ -10,7 +10,7 @@ pub load-requires : goal.load-requires
 load-requires c = (
   c.requires.table,
   root_word_inside c.args.words.now.table_id.words c.args.actor.now.me.0 c.requires.sound c.requires.root.0 c.args.root c.requires.root.1,
-  load_allowed c.args.words.now.key c.args.words.now.table_id.slots c.args.actor.now.id c.args.actor.now.me (2 * c.args.root),
+  load_allowed c.args.words.now.key c.args.words.now.table_id.slots c.args.actor.now.id c.args.actor.now.me (2 * c.args.root) c.requires.sound.bounds.1,
 )
 
 pub returns-clause-seen : goal.returns-clause-seen

@@ -7,7 +7,7 @@ pub load-requires : goal.load-requires
 load-requires c = (
   c.requires.table,
   epoch_inside c.args.words.now.table_id.words c.args.actor.now.me.0 c.requires.sound,
-  give_up_allowed c.args.words.now.key c.args.words.now.table_id.slots c.args.actor.now.id c.args.actor.now.me c.requires.may,
+  give_up_allowed c.args.words.now.key c.args.words.now.table_id.slots c.args.actor.now.id c.args.actor.now.me c.requires.sound.bounds.1 c.requires.may,
 )
 
 pub returns-clause-sound : goal.returns-clause-sound

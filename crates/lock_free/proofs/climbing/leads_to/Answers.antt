@@ -11,7 +11,7 @@ pub load-found-requires : goal.load-found-requires
 load-found-requires c = (
   c.requires.table,
   pair_inside c.args.words.now.table_id.words c.args.actor.now.me.0 c.requires.sound c.args.main c.args.position c.requires.held,
-  load_allowed c.args.words.now.key c.args.words.now.table_id.slots c.args.actor.now.id c.args.actor.now.me (2 * c.args.main + 1 + c.args.position / 2),
+  load_allowed c.args.words.now.key c.args.words.now.table_id.slots c.args.actor.now.id c.args.actor.now.me (2 * c.args.main + 1 + c.args.position / 2) c.requires.sound.bounds.1,
 )
 
 pub returns-clause-compared : goal.returns-clause-compared

@@ -20,7 +20,8 @@ compare_exchange-requires c =
       exchange_by c.args.words.now.key c.args.words.now.table_id.slots c.args.actor.now.id c.args.actor.now.me (2 * c.args.main) (header_code c.args.header)
           (header_code (decided_header c.args.is_licensed c.args.header))
           c.to_word-pending.result c.to_word-decided.result c.to_word-pending.ensures (c.to_word-decided.ensures ∙ ap header_code c.once_decided.ensures)
-          (decide_allowed c.args.words.now.key c.args.words.now.table_id.slots c.args.actor.now.id c.args.actor.now.me c.args.main c.args.header c.requires.fits c.args.is_licensed
+          (decide_allowed c.args.words.now.key c.args.words.now.table_id.slots c.args.actor.now.id c.args.actor.now.me c.requires.sound.bounds.1
+          c.args.main c.args.header c.requires.fits c.args.is_licensed
           c.requires.deciding),
     )
 

@@ -29,7 +29,8 @@ compare_exchange-requires c =
       publish_by c.args.words.now.key c.args.words.now.table_id.slots c.args.actor.now.id c.args.actor.now.me (2 * c.args.indirection) (link_code c.args.link)
           (link_code (record { generation = c.args.link.generation; main = record { slot = c.args.fresh; own = true } })) c.to_word-before.result c.to_word-swapped.result c.to_word-before.ensures
           c.to_word-swapped.ensures
-          (publish_allowed c.args.words.now.key c.args.words.now.table_id.slots c.args.actor.now.id c.args.actor.now.me c.args.indirection c.args.link c.requires.fits c.args.fresh
+          (publish_allowed c.args.words.now.key c.args.words.now.table_id.slots c.args.actor.now.id c.args.actor.now.me c.requires.sound.bounds.1
+          c.args.indirection c.args.link c.requires.fits c.args.fresh
           c.requires.publishing),
     )
 

@@ -19,7 +19,8 @@ compare_exchange-requires c =
       (both_inside c.args.words.now.table_id.words v c.requires.sound i c.args.indirection live place).0,
       exchange_by c.args.words.now.key c.args.words.now.table_id.slots c.args.actor.now.id c.args.actor.now.me (2 * c.args.indirection) (link_code c.args.link)
           (link_code (record { generation = c.args.link.generation; main = c.args.former })) c.to_word-failed.result c.to_word-restored.result c.to_word-failed.ensures c.to_word-restored.ensures
-          (restore_allowed c.args.words.now.key c.args.words.now.table_id.slots c.args.actor.now.id c.args.actor.now.me c.args.indirection c.args.link c.requires.fits c.args.former
+          (restore_allowed c.args.words.now.key c.args.words.now.table_id.slots c.args.actor.now.id c.args.actor.now.me c.requires.sound.bounds.1
+          c.args.indirection c.args.link c.requires.fits c.args.former
           c.requires.restoring),
     )
 

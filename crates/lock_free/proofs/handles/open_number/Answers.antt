@@ -6,7 +6,7 @@ use Rattle.trie_words.specs.Codes.{root_code}
 use Rattle.trie_words.specs.declared.roots.RootWord.TheVariants as word
 use Rattle.lock_free.specs.Places.{root_word}
 use Rattle.lock_free.specs.RootWords.{has_cleaned}
-use Rattle.lock_free.specs.Rules.{IsKept}
+use Rattle.lock_free.specs.Rules.{IsRuled}
 use Rattle.lock_free.proofs.OpenStep.{open_allowed, opened_fits}
 use Rattle.lock_free.proofs.SeenRoots.{root_inside}
 use Rattle.lock_free.proofs.handles.open_number.Goals as goal
@@ -26,13 +26,13 @@ compare_exchange-requires c =
     let me = c.args.actor.now.me in (
       c.requires.table,
       subst (λ n. n < c.args.words.now.table_id.words) (sym c.root_word_of.ensures) (root_inside c.args.words.now.table_id.words me.0 c.requires.sound c.args.handle c.requires.low),
-      subst (λ n. Allows (IsKept sizes) slots id me n (λ x. either (x == c.to_word-opening.result) c.to_word-plain.result x)
+      subst (λ n. Allows (IsRuled sizes) slots id me n (λ x. either (x == c.to_word-opening.result) c.to_word-plain.result x)
           (has_cleaned (step slots n c.to_word-opening.result c.to_word-plain.result none) me))
           (sym c.root_word_of.ensures)
-          (subst (λ n. Allows (IsKept sizes) slots id me (root_word c.args.handle) (λ x. either (x == n) c.to_word-plain.result x)
+          (subst (λ n. Allows (IsRuled sizes) slots id me (root_word c.args.handle) (λ x. either (x == n) c.to_word-plain.result x)
           (has_cleaned (step slots (root_word c.args.handle) n c.to_word-plain.result none) me))
           (sym c.to_word-opening.ensures)
-          (subst (λ n. Allows (IsKept sizes) slots id me (root_word c.args.handle) (λ x. either (x == root_code (word.Opening c.args.offer)) n x)
+          (subst (λ n. Allows (IsRuled sizes) slots id me (root_word c.args.handle) (λ x. either (x == root_code (word.Opening c.args.offer)) n x)
           (has_cleaned (step slots (root_word c.args.handle) (root_code (word.Opening c.args.offer)) n none) me))
-          (sym c.to_word-plain.ensures) (open_allowed sizes slots id me c.args.handle c.args.offer c.args.opened c.requires.low c.requires.opening))),
+          (sym c.to_word-plain.ensures) (open_allowed sizes slots id me c.requires.sound.bounds.1 c.args.handle c.args.offer c.args.opened c.requires.low c.requires.opening))),
     )

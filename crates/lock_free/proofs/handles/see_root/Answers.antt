@@ -9,7 +9,7 @@ pub load-found-requires : goal.load-found-requires
 load-found-requires c = (
   c.requires.table,
   subst (λ n. n < c.args.words.now.table_id.words) (sym c.root_word_of.ensures) (root_inside c.args.words.now.table_id.words c.args.actor.now.me.0 c.requires.sound c.args.handle c.requires.low),
-  load_allowed c.args.words.now.key c.args.words.now.table_id.slots c.args.actor.now.id c.args.actor.now.me c.root_word_of.result,
+  load_allowed c.args.words.now.key c.args.words.now.table_id.slots c.args.actor.now.id c.args.actor.now.me c.root_word_of.result c.requires.sound.bounds.1,
 )
 
 pub returns-clause-seen : goal.returns-clause-seen

@@ -14,7 +14,8 @@ load-requires c =
     let live = looked_at_lives v.sizes v.account c.requires.sound.bounds v.actor p.operation p.runs r p.acts in (
       c.requires.table,
       (both_inside c.args.words.now.table_id.words v c.requires.sound r c.args.single live place).1,
-      go_allowed c.args.words.now.key c.args.words.now.table_id.slots c.args.actor.now.id c.args.actor.now.me (2 * c.args.single + 1) p.operation p.runs (subst IsReading (sym p.acts) tt),
+      go_allowed c.args.words.now.key c.args.words.now.table_id.slots c.args.actor.now.id c.args.actor.now.me (2 * c.args.single + 1) c.requires.sound.bounds.1
+          p.operation p.runs (subst IsReading (sym p.acts) tt),
     )
 
 pub returns-clause-read : goal.returns-clause-read

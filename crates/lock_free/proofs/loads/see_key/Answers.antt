@@ -10,7 +10,7 @@ load-requires c = (
   c.requires.table,
   (both_inside c.args.words.now.table_id.words c.args.actor.now.me.0 c.requires.sound c.requires.held.0 c.args.single
       (held_lives c.args.actor.now.me.0 c.requires.held.0 c.requires.held.1) c.requires.held.2).0,
-  load_allowed c.args.words.now.key c.args.words.now.table_id.slots c.args.actor.now.id c.args.actor.now.me (2 * c.args.single),
+  load_allowed c.args.words.now.key c.args.words.now.table_id.slots c.args.actor.now.id c.args.actor.now.me (2 * c.args.single) c.requires.sound.bounds.1,
 )
 
 pub returns-clause-seen : goal.returns-clause-seen

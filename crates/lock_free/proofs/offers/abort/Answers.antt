@@ -5,7 +5,7 @@ pub compare_exchange-requires : goal.compare_exchange-requires
 compare_exchange-requires c = (
   c.requires.table,
   c.requires.within,
-  abort_allowed c.args.words.now.key c.args.words.now.table_id.slots c.args.actor.now.id c.args.actor.now.me c.args.offer c.requires.aborting,
+  abort_allowed c.args.words.now.key c.args.words.now.table_id.slots c.args.actor.now.id c.args.actor.now.me c.requires.sound.bounds.1 c.args.offer c.requires.aborting,
 )
 
 pub returns-clause-aborted : goal.returns-clause-aborted

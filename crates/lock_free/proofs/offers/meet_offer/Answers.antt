@@ -9,7 +9,7 @@ pub load-requires : goal.load-requires
 load-requires c = (
   c.requires.table,
   (offer_inside c.args.words.now.table_id.words c.args.actor.now.me.0 c.requires.sound c.args.handle c.args.offer c.requires.known).0,
-  meet_allowed c.args.words.now.key c.args.words.now.table_id.slots c.args.actor.now.id c.args.actor.now.me c.args.handle (2 * c.args.offer) c.requires.asking,
+  meet_allowed c.args.words.now.key c.args.words.now.table_id.slots c.args.actor.now.id c.args.actor.now.me c.requires.sound.bounds.1 c.args.handle (2 * c.args.offer) c.requires.asking,
 )
 
 pub returns-clause-met : goal.returns-clause-met

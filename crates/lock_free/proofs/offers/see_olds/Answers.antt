@@ -9,7 +9,7 @@ pub load-requires : goal.load-requires
 load-requires c = (
   c.requires.table,
   (offer_inside c.args.words.now.table_id.words c.args.actor.now.me.0 c.requires.sound c.requires.known.0 c.args.offer c.requires.known.1).1,
-  load_allowed c.args.words.now.key c.args.words.now.table_id.slots c.args.actor.now.id c.args.actor.now.me (2 * c.args.offer + 1),
+  load_allowed c.args.words.now.key c.args.words.now.table_id.slots c.args.actor.now.id c.args.actor.now.me (2 * c.args.offer + 1) c.requires.sound.bounds.1,
 )
 
 pub returns-clause-seen : goal.returns-clause-seen

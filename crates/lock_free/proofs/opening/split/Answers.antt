@@ -6,7 +6,7 @@ use Rattle.lock_free.proofs.opening.split.Goals as goal
 pub split_seat-requires : goal.split_seat-requires
 split_seat-requires c =
     let size = c.requires.sound.size in
-    (c.requires.table, omega (arith, size), splits c.args.words.now.key c.args.actor.now.id c.args.actor.now.me.0 c.requires.more)
+    (c.requires.table, omega (arith, size), splits c.args.words.now.key c.args.actor.now.id c.args.actor.now.me.0 c.requires.sound.bounds.1 c.requires.more)
 
 pub returns-clause-sound : goal.returns-clause-sound
 returns-clause-sound c =

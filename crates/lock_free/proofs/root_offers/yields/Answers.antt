@@ -9,7 +9,7 @@ pub load-requires : goal.load-requires
 load-requires c = (
   c.requires.table,
   (offer_inside c.args.words.now.table_id.words c.args.actor.now.me.0 c.requires.sound _ c.args.met c.requires.met.2).0,
-  yield_allowed c.args.words.now.key c.args.words.now.table_id.slots c.args.actor.now.id c.args.actor.now.me c.args.met c.requires.met,
+  yield_allowed c.args.words.now.key c.args.words.now.table_id.slots c.args.actor.now.id c.args.actor.now.me c.requires.sound.bounds.1 c.args.met c.requires.met,
 )
 
 pub returns-clause-yielded : goal.returns-clause-yielded

@@ -5,8 +5,11 @@ use Rattle.lock_free.proofs.stores.make_root.Goals as goal
 
 pub compare_exchange-requires : goal.compare_exchange-requires
 compare_exchange-requires c =
-    let size = c.requires.sound.size in
-    (c.requires.table, omega (arith, size), root_allowed c.args.words.now.key c.args.words.now.table_id.slots c.args.actor.now.id c.args.actor.now.me c.args.generation c.requires.making)
+    let size = c.requires.sound.size in (
+      c.requires.table,
+      omega (arith, size),
+      root_allowed c.args.words.now.key c.args.words.now.table_id.slots c.args.actor.now.id c.args.actor.now.me c.requires.sound.bounds.1 c.args.generation c.requires.making,
+    )
 
 pub returns-clause-sound : goal.returns-clause-sound
 returns-clause-sound c =

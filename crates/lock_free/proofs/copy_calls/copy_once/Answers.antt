@@ -1,0 +1,59 @@
+use Rattle.std.proofs.Common.{Ok, sym, subst}
+use Rattle.lock_free.specs.CopySteps.{HasMadeCopy}
+use Rattle.lock_free.specs.WholeCalls.{HasCopiedOnce}
+use Rattle.lock_free.proofs.CallBegins.{denied_stock}
+use Rattle.lock_free.proofs.CopiesWhole.{at_try, came_denied, came_false, came_true, ends_copied, low_way, may_refuse}
+use Rattle.lock_free.proofs.copy_calls.copy_once.Goals as goal
+
+pub returns-in-Err-clause-stock : goal.returns-in-Err-clause-stock
+returns-in-Err-clause-stock g c =
+    denied_stock c.args.actor.now.me.0 c.args.opens c.requires.ready c.args.call.now c.in-Err.denial c.start.new.actor.me.0 (c.in-Err.ensures {u = tt}).called c.args.stock.now c.requires.stock
+
+pub returns-in-Err-clause-copied : goal.returns-in-Err-clause-copied
+returns-in-Err-clause-copied g c =
+    came_denied c.args.words.now.table_id.words c.args.actor.now.me.0 c.requires.sound c.args.opens c.requires.ready c.args.call.now c.args.which c.requires.copies c.in-Err.denial
+    c.start.new.actor.me.0 (c.in-Err.ensures {u = tt}).called
+
+pub make_copy-made-requires-clause-low : goal.make_copy-made-requires-clause-low
+make_copy-made-requires-clause-low g c =
+    low_way c.args.words.now.table_id.words c.args.actor.now.me.0 c.requires.sound c.args.opens c.requires.ready c.args.call.now c.args.which c.requires.copies c.in-Ok.way c.start.new.actor.me.0
+    (c.in-Ok.ensures {u = tt}).called c.requires.low
+
+pub make_copy-made-requires-clause-at : goal.make_copy-made-requires-clause-at
+make_copy-made-requires-clause-at g c =
+    at_try c.args.words.now.table_id.words c.args.actor.now.me.0 c.requires.sound c.args.opens c.requires.ready c.args.call.now c.args.which c.requires.copies c.in-Ok.way c.start.new.actor.me.0
+    (c.in-Ok.ensures {u = tt}).called
+
+pub end-requires-clause-ending : goal.end-requires-clause-ending
+end-requires-clause-ending g c =
+    let u = c.start.new.actor.me.0 in
+    let w = c.make_copy-made.new.actor.me.0 in
+    ends_copied c.args.words.now.table_id.words c.args.actor.now.me.0 c.requires.sound c.args.opens c.requires.ready c.args.call.now c.args.which c.requires.copies c.in-Ok.way u
+    (c.in-Ok.ensures {u = tt}).called c.start.ensures.sound w (subst (λ b. HasMadeCopy u b w) c.if-made.true c.make_copy-made.ensures.made)
+
+pub refuse-requires-clause-may : goal.refuse-requires-clause-may
+refuse-requires-clause-may g c =
+    let u = c.start.new.actor.me.0 in
+    let w = c.make_copy-made.new.actor.me.0 in
+    may_refuse c.args.words.now.table_id.words c.args.actor.now.me.0 c.requires.sound c.args.opens c.requires.ready c.args.call.now c.args.which c.requires.copies c.in-Ok.way u
+    (c.in-Ok.ensures {u = tt}).called c.start.ensures.sound w (subst (λ b. HasMadeCopy u b w) c.if-made.false c.make_copy-made.ensures.made)
+
+pub returns-then-made-clause-copied : goal.returns-then-made-clause-copied
+returns-then-made-clause-copied g c =
+    let v = c.args.actor.now.me.0 in
+    let u = c.start.new.actor.me.0 in
+    let w = c.make_copy-made.new.actor.me.0 in
+    let x = c.end.new.actor.me.0 in
+    subst (λ b. HasCopiedOnce v c.args.call.now c.args.opens (Ok b) x) (sym c.if-made.true)
+    (came_true c.args.words.now.table_id.words v c.requires.sound c.args.opens c.requires.ready c.args.call.now c.args.which c.requires.copies c.in-Ok.way u (c.in-Ok.ensures {u = tt}).called
+    c.start.ensures.sound w x (subst (λ b. HasMadeCopy u b w) c.if-made.true c.make_copy-made.ensures.made) c.end.ensures.ended)
+
+pub returns-else-made-clause-copied : goal.returns-else-made-clause-copied
+returns-else-made-clause-copied g c =
+    let v = c.args.actor.now.me.0 in
+    let u = c.start.new.actor.me.0 in
+    let w = c.make_copy-made.new.actor.me.0 in
+    let x = c.refuse.new.actor.me.0 in
+    subst (λ b. HasCopiedOnce v c.args.call.now c.args.opens (Ok b) x) (sym c.if-made.false)
+    (came_false c.args.words.now.table_id.words v c.requires.sound c.args.opens c.requires.ready c.args.call.now c.args.which c.requires.copies c.in-Ok.way u (c.in-Ok.ensures {u = tt}).called
+    c.start.ensures.sound w x (subst (λ b. HasMadeCopy u b w) c.if-made.false c.make_copy-made.ensures.made) c.refuse.ensures.refused)

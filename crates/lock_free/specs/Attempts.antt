@@ -1,0 +1,86 @@
+-- A call on a key: what a whole try of it comes to, and what all of them do.
+use Rattle.std.specs.Prelude.{◌≡◌, ℕ, List, Option, Some, None}
+use Rattle.history.specs.declared.calls.Call.{Call}
+use Rattle.history.specs.declared.calls.Call.TheVariants.{Get, Put, PutIfAbsent, Replace, ReplaceIf, Remove, RemoveIf}
+use Rattle.history.specs.declared.replies.Reply.{Reply}
+use Rattle.history.specs.declared.replies.Reply.TheVariants as reply
+use Rattle.trie_words.specs.declared.entries.Entry.{Entry}
+use Rattle.machine_model.specs.Beneath.slot_arena.specs.declared.refs.Ref.{Ref}
+use Rattle.machine_model.specs.declared.actions.Action.TheVariants as act
+use Rattle.machine_model.specs.declared.lines.Line.TheVariants as line
+use Rattle.machine_model.specs.Calls.{changed_reply}
+use Rattle.machine_model.specs.Lines.{new_try}
+use Rattle.lock_free.specs.declared.descending.Update.{Update}
+use Rattle.lock_free.specs.declared.attempts.Attempt.{Attempt}
+use Rattle.lock_free.specs.declared.attempts.Attempt.TheVariants as attempt
+use Rattle.lock_free.specs.declared.reading.Given.{Given}
+use Rattle.lock_free.specs.declared.rules.View.{View}
+use Rattle.lock_free.specs.declared.swapping.Swapped.{Swapped}
+use Rattle.lock_free.specs.declared.swapping.Swapped.TheVariants.{Commits, Fails, Misses}
+use Rattle.lock_free.specs.Climbs.{IsClimbing}
+use Rattle.lock_free.specs.Descending.{IsPlace, KnowsUpdate, line_updated}
+use Rattle.lock_free.specs.Holding.{IsOn}
+use Rattle.lock_free.specs.Loading.{IsAt}
+use Rattle.lock_free.specs.RunningOn.{MayAnswer, RunsOn}
+use Rattle.lock_free.specs.SeatWords.{HasEnded}
+
+-- the call is one on a key
+abbrev pub IsKeyed : Call → Type 0
+IsKeyed (Get h k) = Unit {0}
+IsKeyed (Put h k v) = Unit {0}
+IsKeyed (PutIfAbsent h k v) = Unit {0}
+IsKeyed (Replace h k v) = Unit {0}
+IsKeyed (ReplaceIf h k a b) = Unit {0}
+IsKeyed (Remove h k) = Unit {0}
+IsKeyed (RemoveIf h k v) = Unit {0}
+IsKeyed call = ⊥
+
+-- ---- a change
+
+-- it is to make this change of the main node that READ gave at the end of its path
+pub record IsToChange (v : View) (slots : List ℕ) (given : Given) (change : Update) : Type 0 where
+  pub path : List Ref
+  pub main : Ref
+  pub other : Ref
+  pub on : IsOn v (line_updated path main other change)
+  pub place : IsPlace v slots given path main
+  pub knows : KnowsUpdate v main other change
+
+-- it is to climb from the end of its path, where it has left a tomb of this single, and to answer that its key had this value
+pub record IsToClimb (v : View) (slots : List ℕ) (hash : ℕ) (single : Entry) (former : Option ℕ) : Type 0 where
+  pub climbing : IsClimbing v slots hash single
+  pub its : climbing.climb.former ≡ former
+
+-- what a SWAP makes of it; no slot was had where there was none
+abbrev pub attempted : Option Swapped → Call → Option ℕ → Attempt
+attempted None call former = attempt.Full
+attempted (Some Commits) call former = attempt.Answers (changed_reply call former)
+attempted (Some Fails) call former = attempt.Again
+attempted (Some Misses) call former = attempt.Again
+
+-- ---- a try
+
+-- it is to end with this reply, begins a new try, or has no slot
+abbrev pub HasAttempted : View → Attempt → View → Type 0
+HasAttempted before (attempt.Answers answer) after = RunsOn before after × IsOn after (line.End answer)
+HasAttempted before attempt.Again after = RunsOn before after × IsOn after new_try
+HasAttempted before attempt.Full after = RunsOn before after × MayAnswer after reply.NoSlots
+
+-- ---- all of them
+
+-- it is to end with this reply, or no slot was had
+abbrev pub IsEnding : View → Option Reply → Type 0
+IsEnding v (Some answer) = IsOn v (line.End answer)
+IsEnding v None = MayAnswer v reply.NoSlots
+
+abbrev pub HasReplied : View → Option Reply → View → Type 0
+HasReplied before result after = RunsOn before after × IsEnding after result
+
+-- ---- its end
+
+-- it has ended with this reply, where it had to give up first or not
+pub record HasEndedWith (before : View) (answer : Reply) (after : View) : Type 0 where
+  pub late : View
+  pub on : RunsOn before late
+  pub at : IsAt late (act.End answer)
+  pub ended : HasEnded late answer after

@@ -1,0 +1,105 @@
+-- Calls about a whole map: copies, a clear and a close.
+use Rattle.std.specs.Prelude.{◌≡◌, ◌<◌, ◌≤◌, ◌⊎◌, ℕ, true, false, Bool, is_some, Option, Some, None, Result, Ok, Err}
+use Rattle.history.specs.declared.calls.Call.{Call}
+use Rattle.history.specs.declared.calls.Call.TheVariants.{Close}
+use Rattle.history.specs.declared.replies.Reply.TheVariants as reply
+use Rattle.machine_model.specs.Calls.{copies, opens_handle}
+use Rattle.machine_model.specs.Copying.{copied_reply}
+use Rattle.machine_model.specs.States.{handle_limit}
+use Rattle.lock_free.specs.declared.call_errors.CallError.{CallError}
+use Rattle.lock_free.specs.declared.call_errors.CallError.TheVariants as error
+use Rattle.lock_free.specs.declared.calling.Denial.{Denial}
+use Rattle.lock_free.specs.declared.calling.Denial.TheVariants as denial
+use Rattle.lock_free.specs.declared.copy_roots.CopyKind.{CopyKind}
+use Rattle.lock_free.specs.declared.rules.View.{View}
+use Rattle.lock_free.specs.Accounts.{HasWaited}
+use Rattle.lock_free.specs.Answering.{HasAnswered}
+use Rattle.lock_free.specs.Calling.{HasCalled}
+use Rattle.lock_free.specs.Closing.{FoundClosed}
+use Rattle.lock_free.specs.CopySteps.{copy_kind}
+use Rattle.lock_free.specs.Numbers.{reserving, without_number}
+use Rattle.lock_free.specs.SeatCalls.{IsNoHandle}
+use Rattle.lock_free.specs.SeatWords.{IsIdle}
+use Rattle.lock_free.specs.Telling.{GoesOn}
+
+-- ---- a copy, for which a number is reserved
+
+-- the seat runs nothing, is pinned nowhere, and has reserved this number, or none
+pub record RestsWith (v : View) (opens : Option ℕ) : Type 0 where
+  pub idle : IsIdle v
+  pub pin : v.pin ≡ None
+  pub entered : v.entered ≡ None
+  pub opens_it : v.opens ≡ opens
+
+-- the same seat later
+pub record SameSeat (before after : View) : Type 0 where
+  pub sizes : after.sizes ≡ before.sizes
+  pub actor : after.actor ≡ before.actor
+  pub last : after.last ≡ before.last
+  pub goes_on : GoesOn before.account.steps after.account.steps
+
+-- the same seat later, between two calls
+pub record HasLeft (before after : View) : Type 0 where
+  pub same : SameSeat before after
+  pub rests : RestsWith after None
+
+-- the call makes such a copy, with that number
+pub record IsCopyCall (call : Call) (which : CopyKind) (opens : Option ℕ) : Type 0 where
+  pub its : copies call ≡ true
+  pub kind : copy_kind call ≡ which
+  pub number : opens_handle call ≡ is_some opens
+  pub low : (n : ℕ) → opens ≡ Some n → n < handle_limit
+
+-- it was made; or a slot or a generation was missing; or the call was denied
+abbrev pub ComesTo : View → Call → Option ℕ → Result Bool Denial → View → Type 0
+ComesTo before call opens (Ok true) after = HasAnswered before call opens (copied_reply call opens) after × RestsWith after None
+ComesTo before call opens (Ok false) after = HasAnswered before call opens reply.NoSlots after × RestsWith after opens
+ComesTo before call opens (Err why) after = HasCalled before call (Err why) after × RestsWith after opens
+
+abbrev pub HasCopiedOnce : View → Call → Option ℕ → Result Bool Denial → View → Type 0
+HasCopiedOnce before call opens result after = SameSeat before after × ComesTo before call opens result after
+
+-- ---- a call that opens a handle
+
+-- the call hasn't begun; meanwhile others alone have gone on
+pub record WasDeniedCopy (before : View) (call : Call) (why : Denial) (after : View) : Type 0 where
+  pub waited : HasWaited before.actor before.account after.account
+  pub reason : IsNoHandle call why ⊎ ((number : ℕ) × (at : View) × HasCalled (reserving before number) call (Err why) at × (after ≡ without_number at))
+
+-- it is answered in the history that nothing was changed, as it stands in no order
+abbrev pub HasFoundNoSlot : View → Call → View → Type 0
+HasFoundNoSlot before call after = (number : ℕ) × HasAnswered before call (Some number) reply.NoSlots after
+
+-- or nothing of it is in the history
+abbrev pub WasRefusedCopy : View → Call → CallError → View → Type 0
+WasRefusedCopy before call error.NoHandle after = WasDeniedCopy before call denial.NoHandle after
+WasRefusedCopy before call error.ReadOnly after = WasDeniedCopy before call denial.ReadOnly after
+WasRefusedCopy before call error.NotReadOnly after = WasDeniedCopy before call denial.NotReadOnly after
+WasRefusedCopy before call error.HandlesFull after = after ≡ before
+WasRefusedCopy before call error.Full after = HasFoundNoSlot before call after
+WasRefusedCopy before call error.WornOut after = HasFoundNoSlot before call after
+WasRefusedCopy before call why after = ⊥
+
+-- the handle that is returned is the one in the reply
+abbrev pub IsToldCopy : View → Call → Result ℕ CallError → View → Type 0
+IsToldCopy before call (Ok number) after = HasAnswered before call (Some number) (reply.Opened number) after
+IsToldCopy before call (Err why) after = WasRefusedCopy before call why after
+
+-- why a copy wasn't made that had begun
+abbrev pub IsLack : CallError → Type 0
+IsLack error.Full = Unit {0}
+IsLack error.WornOut = Unit {0}
+IsLack why = ⊥
+
+-- ---- a close
+
+-- there is no such number, or no handle of it was open
+abbrev pub FoundNoHandle : View → ℕ → View → Type 0
+FoundNoHandle before handle after = (handle_limit ≤ handle) ⊎ FoundClosed before handle after
+
+-- it is closed; or nothing of the call is in the history, and others alone have gone on
+abbrev pub IsToldClose : {A : Type 0} → View → ℕ → Result A CallError → View → Type 0
+IsToldClose before handle (Ok done) after = HasAnswered before (Close handle) None reply.Closed after
+IsToldClose before handle (Err error.NoHandle) after = HasWaited before.actor before.account after.account × FoundNoHandle before handle after
+IsToldClose before handle (Err error.Busy) after = HasWaited before.actor before.account after.account
+IsToldClose before handle (Err why) after = ⊥
