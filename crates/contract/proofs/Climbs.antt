@@ -1,15 +1,8 @@
 -- What a climb comes to by the look at a branch.
 use Rattle.std.specs.Prelude.{◌≡◌, Bool, true, false, refl}
-use Rattle.contract.specs.Beneath.slot_arena.specs.declared.refs.Ref.{Ref}
-use Rattle.contract.specs.Beneath.slot_arena.specs.declared.nodes.Node.{Node}
-use Rattle.contract.specs.Beneath.slot_arena.specs.declared.nodes.Node.TheVariants.{Indirection, Branch, Single, Tomb, List as Listed}
-use Rattle.contract.specs.Beneath.slot_arena.specs.Heaps.{bitmap_of, entries_of}
+use Rattle.contract.specs.Vocabulary.{Ref, Node, Indirection, Branch, Single, Tomb, List as Listed, bitmap_of, entries_of, Operation, Climb, climb_after_main, climbed, holds_it, State}
 use Rattle.contract.specs.Beneath.machine_model.specs.declared.lines.Line.TheVariants as line
-use Rattle.contract.specs.Beneath.machine_model.specs.declared.operations.Operation.{Operation}
-use Rattle.contract.specs.Beneath.machine_model.specs.declared.repairs.Climb.{Climb}
 use Rattle.contract.specs.Beneath.machine_model.specs.declared.repairs.ClimbLine.TheVariants as climb
-use Rattle.contract.specs.Beneath.machine_model.specs.Climbing.{climb_after_main, climbed, holds_it}
-use Rattle.contract.specs.Beneath.machine_model.specs.States.{State}
 use Rattle.contract.specs.Climbing.{IsBranch}
 
 -- the tombed indirection stands in it

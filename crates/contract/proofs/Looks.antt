@@ -2,19 +2,9 @@
 use Rattle.std.specs.Prelude.{◌≡◌, List, ◌∷◌, [], ◌++◌, None, refl}
 use Rattle.std.proofs.Common.{◌∙◌, sym}
 use Rattle.contract.specs.Beneath.ctrie_base.specs.declared.kinds.Kind.TheVariants as kind
-use Rattle.contract.specs.Beneath.slot_arena.specs.declared.refs.Ref.{Ref}
-use Rattle.contract.specs.Beneath.slot_arena.specs.declared.nodes.Node.TheVariants.{Single}
-use Rattle.contract.specs.Beneath.slot_arena.specs.Heaps.{node_at}
-use Rattle.contract.specs.Beneath.machine_model.specs.declared.lines.Line.{Line}
-use Rattle.contract.specs.Beneath.machine_model.specs.declared.operations.Operation.{Operation}
-use Rattle.contract.specs.Beneath.machine_model.specs.Cleaning.{clean_next, clean_after_entry}
-use Rattle.contract.specs.Beneath.machine_model.specs.Operations.{kind_of, line_action, line_after, read_of}
-use Rattle.contract.specs.Beneath.machine_model.specs.Renewing.{next_entry}
-use Rattle.contract.specs.Beneath.machine_model.specs.States.{State}
-use Rattle.contract.specs.Beneath.gcas.specs.declared.next.Next.{Next}
-use Rattle.contract.specs.Beneath.gcas.specs.declared.next.Next.TheVariants.{More, AskRoot, Done}
-use Rattle.contract.specs.Beneath.gcas.specs.declared.read.ReadAt.{ReadAt}
-use Rattle.trie_parts.specs.Steps.{StepsOn}
+use Rattle.contract.specs.Vocabulary.{Ref, Single, node_at, Line, Operation, clean_next, clean_after_entry, kind_of, line_action, line_after, next_entry, State, Next, More, AskRoot, Done, ReadAt}
+use Rattle.contract.specs.Vocabulary.{StepsOn}
+use Rattle.contract.specs.Beneath.machine_model.specs.Operations.{read_of}
 use Rattle.contract.specs.declared.clean.Cleaned.{Cleaned}
 use Rattle.contract.specs.Cleaning.{GoesOn, line_behind}
 

@@ -1,22 +1,8 @@
 -- What a climb makes depends on nothing of the state but heap and hashes, and on nothing of the operation but its task.
 use Rattle.std.specs.Prelude.{◌≡◌, slice_set}
 use Rattle.std.proofs.Common.{ap}
-use Rattle.contract.specs.Beneath.ctrie_base.specs.Hashes.{hash_of}
-use Rattle.contract.specs.Beneath.ctrie_base.specs.Paths.{position_of}
-use Rattle.contract.specs.Beneath.history.specs.declared.calls.Access.{Access}
-use Rattle.contract.specs.Beneath.history.specs.declared.calls.Access.TheVariants.{Writable}
-use Rattle.contract.specs.Beneath.slot_arena.specs.declared.refs.Ref.{Ref}
-use Rattle.contract.specs.Beneath.slot_arena.specs.Heaps.{Heap, node_at, bitmap_of, entries_of}
-use Rattle.contract.specs.Beneath.nodes.specs.Builders.{contracted}
-use Rattle.contract.specs.Beneath.nodes.specs.Levels.{flag_of}
-use Rattle.contract.specs.Beneath.machine_model.specs.declared.operations.Operation.{Operation}
-use Rattle.contract.specs.Beneath.machine_model.specs.declared.repairs.Climb.{Climb}
-use Rattle.contract.specs.Beneath.machine_model.specs.Calls.{handle_of}
-use Rattle.contract.specs.Beneath.machine_model.specs.Climbing.{climbed_node}
-use Rattle.contract.specs.Beneath.machine_model.specs.Paths.{above, depth_of, is_below_root}
-use Rattle.contract.specs.Beneath.machine_model.specs.States.{State}
-use Rattle.trie_parts.specs.declared.calls.Task.{Task}
-use Rattle.trie_parts.specs.Here.{at_heap, no_state, no_operation}
+use Rattle.contract.specs.Vocabulary.{hash_of, position_of, Access, Writable, Ref, Heap, node_at, bitmap_of, entries_of, contracted, flag_of, Operation, Climb, handle_of, climbed_node, above}
+use Rattle.contract.specs.Vocabulary.{depth_of, is_below_root, State, Task, at_heap, no_state, no_operation}
 use Rattle.trie_parts.specs.Tasks.{for_task}
 use Rattle.trie_parts.proofs.Handles.{key_same}
 

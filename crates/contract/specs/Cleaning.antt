@@ -2,23 +2,12 @@
 use Rattle.std.specs.Prelude.{◌≡◌, ◌<◌, ℕ, List, length, Option}
 use Rattle.contract.specs.Beneath.ctrie_base.specs.declared.kinds.Kind.TheVariants as kind
 use Rattle.contract.specs.Beneath.history.specs.declared.replies.Reply.TheVariants as reply
-use Rattle.contract.specs.Beneath.slot_arena.specs.declared.refs.Ref.{Ref}
-use Rattle.contract.specs.Beneath.slot_arena.specs.Heaps.{Heap}
-use Rattle.contract.specs.Beneath.machine_model.specs.declared.lines.Line.{Line}
+use Rattle.contract.specs.Vocabulary.{Ref, Heap, Line, cleaned, new_try, impossible, Low, Next, More, AskRoot, Done, CanReadOn, swap_of, CanSwapOn, at_heap, no_state, Work, CanMake}
 use Rattle.contract.specs.Beneath.machine_model.specs.declared.lines.Line.TheVariants as line
 use Rattle.contract.specs.Beneath.machine_model.specs.declared.lines.Purpose.TheVariants as purpose
 use Rattle.contract.specs.Beneath.machine_model.specs.declared.repairs.CleanLine.TheVariants as clean
-use Rattle.contract.specs.Beneath.machine_model.specs.Cleaning.{cleaned}
-use Rattle.contract.specs.Beneath.machine_model.specs.Lines.{new_try, impossible}
-use Rattle.contract.specs.Beneath.ctrie_base.specs.declared.hashes.HashKind.TheVariants.{Low}
-use Rattle.contract.specs.Beneath.gcas.specs.declared.next.Next.{Next}
-use Rattle.contract.specs.Beneath.gcas.specs.declared.next.Next.TheVariants.{More, AskRoot, Done}
 use Rattle.contract.specs.Beneath.gcas.specs.declared.swap.Swap.{Swap}
-use Rattle.contract.specs.Beneath.gcas.specs.Reads.{read_of, CanReadOn}
-use Rattle.contract.specs.Beneath.gcas.specs.Swaps.{swap_of, CanSwapOn}
-use Rattle.trie_parts.specs.Here.{at_heap, no_state}
-use Rattle.trie_parts.specs.declared.work.Work.{Work}
-use Rattle.trie_parts.specs.Steps.{CanMake}
+use Rattle.contract.specs.Beneath.gcas.specs.Reads.{read_of}
 use Rattle.contract.specs.declared.clean.Clean.{Clean}
 use Rattle.contract.specs.declared.clean.CleanAt.{CleanAt}
 use Rattle.contract.specs.declared.clean.CleanAt.TheVariants as at

@@ -1,26 +1,13 @@
 -- A CLIMB of the code as the definition's, and what a step of it comes to.
 use Rattle.std.specs.Prelude.{ℕ, List, Option}
-use Rattle.contract.specs.Beneath.slot_arena.specs.declared.refs.Ref.{Ref}
-use Rattle.contract.specs.Beneath.slot_arena.specs.declared.nodes.Node.{Node}
-use Rattle.contract.specs.Beneath.slot_arena.specs.declared.nodes.Node.TheVariants.{Branch}
-use Rattle.contract.specs.Beneath.slot_arena.specs.Heaps.{Heap}
-use Rattle.contract.specs.Beneath.history.specs.declared.calls.Access.TheVariants.{Writable}
-use Rattle.contract.specs.Beneath.machine_model.specs.declared.lines.Line.{Line}
+use Rattle.contract.specs.Vocabulary.{Ref, Node, Branch, Heap, Writable, Line, Operation, Climb as Defined, climbing, climbed, climbed_node, higher, impossible, CanReadOn, swap_of, CanSwapOn, Task}
+use Rattle.contract.specs.Vocabulary.{at_heap, no_state, no_operation, Work, CanMake}
 use Rattle.contract.specs.Beneath.machine_model.specs.declared.lines.Line.TheVariants as line
 use Rattle.contract.specs.Beneath.machine_model.specs.declared.lines.Purpose.TheVariants as purpose
-use Rattle.contract.specs.Beneath.machine_model.specs.declared.operations.Operation.{Operation}
-use Rattle.contract.specs.Beneath.machine_model.specs.declared.repairs.Climb.{Climb as Defined}
 use Rattle.contract.specs.Beneath.machine_model.specs.declared.repairs.ClimbLine.TheVariants as climb
 use Rattle.contract.specs.Beneath.machine_model.specs.declared.roots.RootLine.TheVariants as root
-use Rattle.contract.specs.Beneath.machine_model.specs.Climbing.{climbing, climbed, climbed_node, higher}
-use Rattle.contract.specs.Beneath.machine_model.specs.Lines.{impossible}
 use Rattle.contract.specs.Beneath.gcas.specs.declared.swap.Swap.{Swap}
-use Rattle.contract.specs.Beneath.gcas.specs.Reads.{read_of, CanReadOn}
-use Rattle.contract.specs.Beneath.gcas.specs.Swaps.{swap_of, CanSwapOn}
-use Rattle.trie_parts.specs.declared.calls.Task.{Task}
-use Rattle.trie_parts.specs.Here.{at_heap, no_state, no_operation}
-use Rattle.trie_parts.specs.declared.work.Work.{Work}
-use Rattle.trie_parts.specs.Steps.{CanMake}
+use Rattle.contract.specs.Beneath.gcas.specs.Reads.{read_of}
 use Rattle.trie_parts.specs.Tasks.{for_task}
 use Rattle.contract.specs.declared.climb.Climb.{Climb}
 use Rattle.contract.specs.declared.climb.ClimbAt.{ClimbAt}

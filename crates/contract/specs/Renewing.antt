@@ -1,23 +1,13 @@
 -- A RENEW of the code as the definition's, and what a step of it comes to.
 use Rattle.std.specs.Prelude.{ℕ, ◌<◌, nat_lt, List, length, Option, if◌then◌else◌}
 use Rattle.contract.specs.Beneath.history.specs.declared.replies.Reply.TheVariants as reply
-use Rattle.contract.specs.Beneath.slot_arena.specs.declared.refs.Ref.{Ref}
-use Rattle.contract.specs.Beneath.slot_arena.specs.declared.nodes.Node.TheVariants.{Indirection}
-use Rattle.contract.specs.Beneath.slot_arena.specs.Heaps.{Heap, bitmap_of, node_at}
-use Rattle.contract.specs.Beneath.nodes.specs.Builders.{renewed}
+use Rattle.contract.specs.Vocabulary.{Ref, Indirection, Heap, bitmap_of, node_at, renewed, Line, new_try, impossible, current, reading, CanReadOn, swap_of, CanSwapOn, Work, CanMake}
 use Rattle.contract.specs.Beneath.machine_model.specs.declared.finding.KeyLine.TheVariants as key
-use Rattle.contract.specs.Beneath.machine_model.specs.declared.lines.Line.{Line}
 use Rattle.contract.specs.Beneath.machine_model.specs.declared.lines.Line.TheVariants as line
 use Rattle.contract.specs.Beneath.machine_model.specs.declared.lines.Purpose.TheVariants as purpose
 use Rattle.contract.specs.Beneath.machine_model.specs.declared.repairs.RenewLine.TheVariants as renew
-use Rattle.contract.specs.Beneath.machine_model.specs.Lines.{new_try, impossible}
-use Rattle.contract.specs.Beneath.machine_model.specs.Paths.{current}
-use Rattle.contract.specs.Beneath.machine_model.specs.Reading.{reading}
 use Rattle.contract.specs.Beneath.gcas.specs.declared.swap.Swap.{Swap}
-use Rattle.contract.specs.Beneath.gcas.specs.Reads.{read_of, CanReadOn}
-use Rattle.contract.specs.Beneath.gcas.specs.Swaps.{swap_of, CanSwapOn}
-use Rattle.trie_parts.specs.declared.work.Work.{Work}
-use Rattle.trie_parts.specs.Steps.{CanMake}
+use Rattle.contract.specs.Beneath.gcas.specs.Reads.{read_of}
 use Rattle.contract.specs.declared.renew.Renew.{Renew}
 use Rattle.contract.specs.declared.renew.RenewAt.{RenewAt}
 use Rattle.contract.specs.declared.renew.RenewAt.TheVariants as at

@@ -84,21 +84,21 @@ pair_text c name h k v n m l p q r s = cc
 on_pair : (o : Option CallName) (name h k v : List ℕ) (x : Call × Option ℕ) → Named o name → call_on_pair o (both (handle_word h) (both (value_word k) (value_word v))) ≡ Ok x
     → SaysCall (name ∷ h ∷ k ∷ v ∷ []) x
 on_pair (Some call.Put) name h k v x is e =
-    let m = made_ok _ (both (handle_word h) (both (value_word k) (value_word v))) x e in let w = at_pair h k v m.0 m.1 in
-    subst (λ (y : Call × Option ℕ). SaysCall (name ∷ h ∷ k ∷ v ∷ []) y) m.2
-    (record { text = pair_text call.Put name h k v m.0.0 m.0.1.0 m.0.1.1 (is call.Put refl) w.0 w.1 w.2; fits = (w.3, w.4, w.5); opened = tt; rightly = refl })
+    let ((n, (i, j)), ok, same) = made_ok _ (both (handle_word h) (both (value_word k) (value_word v))) x e in let w = at_pair h k v (n, (i, j)) ok in
+    subst (λ (y : Call × Option ℕ). SaysCall (name ∷ h ∷ k ∷ v ∷ []) y) same
+    (record { text = pair_text call.Put name h k v n i j (is call.Put refl) w.0 w.1 w.2; fits = (w.3, w.4, w.5); opened = tt; rightly = refl })
 on_pair (Some call.PutIfAbsent) name h k v x is e =
-    let m = made_ok _ (both (handle_word h) (both (value_word k) (value_word v))) x e in let w = at_pair h k v m.0 m.1 in
-    subst (λ (y : Call × Option ℕ). SaysCall (name ∷ h ∷ k ∷ v ∷ []) y) m.2
-    (record { text = pair_text call.PutIfAbsent name h k v m.0.0 m.0.1.0 m.0.1.1 (is call.PutIfAbsent refl) w.0 w.1 w.2; fits = (w.3, w.4, w.5); opened = tt; rightly = refl })
+    let ((n, (i, j)), ok, same) = made_ok _ (both (handle_word h) (both (value_word k) (value_word v))) x e in let w = at_pair h k v (n, (i, j)) ok in
+    subst (λ (y : Call × Option ℕ). SaysCall (name ∷ h ∷ k ∷ v ∷ []) y) same
+    (record { text = pair_text call.PutIfAbsent name h k v n i j (is call.PutIfAbsent refl) w.0 w.1 w.2; fits = (w.3, w.4, w.5); opened = tt; rightly = refl })
 on_pair (Some call.Replace) name h k v x is e =
-    let m = made_ok _ (both (handle_word h) (both (value_word k) (value_word v))) x e in let w = at_pair h k v m.0 m.1 in
-    subst (λ (y : Call × Option ℕ). SaysCall (name ∷ h ∷ k ∷ v ∷ []) y) m.2
-    (record { text = pair_text call.Replace name h k v m.0.0 m.0.1.0 m.0.1.1 (is call.Replace refl) w.0 w.1 w.2; fits = (w.3, w.4, w.5); opened = tt; rightly = refl })
+    let ((n, (i, j)), ok, same) = made_ok _ (both (handle_word h) (both (value_word k) (value_word v))) x e in let w = at_pair h k v (n, (i, j)) ok in
+    subst (λ (y : Call × Option ℕ). SaysCall (name ∷ h ∷ k ∷ v ∷ []) y) same
+    (record { text = pair_text call.Replace name h k v n i j (is call.Replace refl) w.0 w.1 w.2; fits = (w.3, w.4, w.5); opened = tt; rightly = refl })
 on_pair (Some call.RemoveIf) name h k v x is e =
-    let m = made_ok _ (both (handle_word h) (both (value_word k) (value_word v))) x e in let w = at_pair h k v m.0 m.1 in
-    subst (λ (y : Call × Option ℕ). SaysCall (name ∷ h ∷ k ∷ v ∷ []) y) m.2
-    (record { text = pair_text call.RemoveIf name h k v m.0.0 m.0.1.0 m.0.1.1 (is call.RemoveIf refl) w.0 w.1 w.2; fits = (w.3, w.4, w.5); opened = tt; rightly = refl })
+    let ((n, (i, j)), ok, same) = made_ok _ (both (handle_word h) (both (value_word k) (value_word v))) x e in let w = at_pair h k v (n, (i, j)) ok in
+    subst (λ (y : Call × Option ℕ). SaysCall (name ∷ h ∷ k ∷ v ∷ []) y) same
+    (record { text = pair_text call.RemoveIf name h k v n i j (is call.RemoveIf refl) w.0 w.1 w.2; fits = (w.3, w.4, w.5); opened = tt; rightly = refl })
 on_pair other name h k v x is e = absurd cc
 
 opened_text : (c : CallName) (name h y z : List ℕ) (n m : ℕ) → name ≡ call_name c → h ≡ decimal n → y ≡ codes "as" → z ≡ decimal m
@@ -133,13 +133,13 @@ change_text name h k a b n m i j p q r s t = cc
 on_change : (o : Option CallName) (name h k a b : List ℕ) (x : Call × Option ℕ) → Named o name
     → call_on_change o (both (handle_word h) (both (value_word k) (both (value_word a) (value_word b)))) ≡ Ok x → SaysCall (name ∷ h ∷ k ∷ a ∷ b ∷ []) x
 on_change (Some call.ReplaceIf) name h k a b x is e =
-    let m = made_ok _ (both (handle_word h) (both (value_word k) (both (value_word a) (value_word b)))) x e in
-    let d = both_ok (handle_word h) (both (value_word k) (both (value_word a) (value_word b))) m.0 m.1 in
-    let f = both_ok (value_word k) (both (value_word a) (value_word b)) m.0.1 d.1 in
-    let g = both_ok (value_word a) (value_word b) m.0.1.1 f.1 in
-    let p = word_is 65535 h m.0.0 d.0 in let q = word_is largest k m.0.1.0 f.0 in let r = word_is largest a m.0.1.1.0 g.0 in let s = word_is largest b m.0.1.1.1 g.1 in
-    subst (λ (y : Call × Option ℕ). SaysCall (name ∷ h ∷ k ∷ a ∷ b ∷ []) y) m.2
-    (record { text = change_text name h k a b m.0.0 m.0.1.0 m.0.1.1.0 m.0.1.1.1 (is call.ReplaceIf refl) p.0 q.0 r.0 s.0; fits = (p.1, q.1, r.1, s.1); opened = tt; rightly = refl })
+    let ((n, (l, (i, j))), ok, same) = made_ok _ (both (handle_word h) (both (value_word k) (both (value_word a) (value_word b)))) x e in
+    let d = both_ok (handle_word h) (both (value_word k) (both (value_word a) (value_word b))) (n, (l, (i, j))) ok in
+    let f = both_ok (value_word k) (both (value_word a) (value_word b)) (l, (i, j)) d.1 in
+    let g = both_ok (value_word a) (value_word b) (i, j) f.1 in
+    let p = word_is 65535 h n d.0 in let q = word_is largest k l f.0 in let r = word_is largest a i g.0 in let s = word_is largest b j g.1 in
+    subst (λ (y : Call × Option ℕ). SaysCall (name ∷ h ∷ k ∷ a ∷ b ∷ []) y) same
+    (record { text = change_text name h k a b n l i j (is call.ReplaceIf refl) p.0 q.0 r.0 s.0; fits = (p.1, q.1, r.1, s.1); opened = tt; rightly = refl })
 on_change other name h k a b x is e = absurd cc
 
 pub call_found : (words : List (List ℕ)) (x : Call × Option ℕ) → call_of words ≡ Ok x → SaysCall words x

@@ -36,19 +36,19 @@ three first id actor i a call rest p q r = cc
 
 from_found : (es : List Event) (id actor : List ℕ) (call : List (List ℕ)) (e : Event) → Tied es → begin_from es id actor call ≡ Ok e → SaysEvent es (codes "begin" ∷ id ∷ actor ∷ call) e
 from_found es id actor call e t h =
-    let m = made_ok _ (both (next_id es id) (both (idle_actor es actor) (call_of call))) e h in
-    let p = both_ok (next_id es id) (both (idle_actor es actor) (call_of call)) m.0 m.1 in
-    let q = both_ok (idle_actor es actor) (call_of call) m.0.1 p.1 in
-    let i = passing_ok (λ n. eqb n (begun es)) (value_word id) m.0.0 p.0 in
-    let a = passing_ok (λ n. not (is_busy es n)) (actor_word actor) m.0.1.0 q.0 in
-    let iw = word_is largest id m.0.0 i.0 in
-    let aw = word_is 255 actor m.0.1.0 a.0 in
-    let c = call_found call m.0.1.1 q.1 in
-    subst (λ (x : Event). SaysEvent es (codes "begin" ∷ id ∷ actor ∷ call) x) m.2
+    let ((number, (own, (asked, opens))), ok, same) = made_ok _ (both (next_id es id) (both (idle_actor es actor) (call_of call))) e h in
+    let p = both_ok (next_id es id) (both (idle_actor es actor) (call_of call)) (number, (own, (asked, opens))) ok in
+    let q = both_ok (idle_actor es actor) (call_of call) (own, (asked, opens)) p.1 in
+    let i = passing_ok (λ n. eqb n (begun es)) (value_word id) number p.0 in
+    let a = passing_ok (λ n. not (is_busy es n)) (actor_word actor) own q.0 in
+    let iw = word_is largest id number i.0 in
+    let aw = word_is 255 actor own a.0 in
+    let c = call_found call (asked, opens) q.1 in
+    subst (λ (x : Event). SaysEvent es (codes "begin" ∷ id ∷ actor ∷ call) x) same
     (record {
-      text = three (codes "begin") id actor (decimal m.0.0) (decimal m.0.1.0) call (call_words m.0.1.1.0 ++ opens_words m.0.1.1.1) iw.0 aw.0 c.text;
+      text = three (codes "begin") id actor (decimal number) (decimal own) call (call_words asked ++ opens_words opens) iw.0 aw.0 c.text;
       fits = (iw.1, aw.1, c.fits, c.opened);
-      may = begin_may es m.0.0 m.0.1.0 m.0.1.1.0 m.0.1.1.1 t (eqb-true m.0.0 (begun es) i.1) (not-true (is_busy es m.0.1.0) a.1) c.rightly;
+      may = begin_may es number own asked opens t (eqb-true number (begun es) i.1) (not-true (is_busy es own) a.1) c.rightly;
     })
 
 begin_found : (es : List Event) (words : List (List ℕ)) (e : Event) → Tied es → begin_of es words ≡ Ok e → SaysEvent es (codes "begin" ∷ words) e

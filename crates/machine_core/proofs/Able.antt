@@ -1,35 +1,23 @@
 -- An operation's programs can take its next step.
 use Rattle.std.proofs.Common.{arith, length, ◌≡◌, ℕ, ◌+◌, ◌-◌, ◌<◌, ◌^◌, Some, None, sym, ap, subst, ◌∙◌}
-use Rattle.machine_core.specs.Vocabulary.{Call, IsLive, Action, Line, Operation, Descriptor, ReadLine, handle_of, action_of, line_action, State, birth_limit, with_read}
+use Rattle.machine_core.specs.Vocabulary.{Call, IsLive, Action, Line, Operation, Descriptor, ReadLine, handle_of, action_of, line_action, State, birth_limit, with_read, action_wants, line_wants}
+use Rattle.machine_core.specs.Vocabulary.{ReadAt, line_of, IsAskingLine, KeyCall, CanAbortOn, Table, Asking, Unasked, Met, abort_of, operation_for as as_key, IsReadyBeside, Program, Key, Copy}
+use Rattle.machine_core.specs.Vocabulary.{Programs, ProgramAt, Swapped, Walked, IsBegun, IsSound, IsWaiting, ReadsIn, asking_line, line_for, met_at, program_line, program_line_at, CanProgram}
+use Rattle.machine_core.specs.Vocabulary.{CanProgramAt, CanStep, at_scene, scene, LineHasRoom}
 use Rattle.epochs.specs.Memories.{Memory}
 use Rattle.machine_model.specs.declared.reading.ReadLine.TheVariants as read
-use Rattle.machine_core.specs.Beneath.proof_memory.specs.Wants.{action_wants, line_wants}
-use Rattle.machine_core.specs.Beneath.gcas.specs.declared.read.ReadAt.{ReadAt}
-use Rattle.machine_core.specs.Beneath.gcas.specs.Reads.{line_of}
-use Rattle.machine_core.specs.Beneath.trie_parts.specs.Steps.{IsAskingLine}
 use Rattle.machine_core.specs.Beneath.trie_parts.specs.Tasks.{call_of as key_call}
-use Rattle.machine_core.specs.Beneath.trie_parts.specs.declared.calls.KeyCall.{KeyCall}
 use Rattle.machine_core.specs.Beneath.rdcss_root.specs.Holding.{IsReady}
-use Rattle.machine_core.specs.Beneath.rdcss_root.specs.Programs.{CanAbortOn}
-use Rattle.machine_core.specs.Beneath.rdcss_root.specs.Tables.{Table}
-use Rattle.machine_core.specs.Beneath.root_asking.specs.declared.asking.Asking.{Asking}
-use Rattle.machine_core.specs.Beneath.root_asking.specs.declared.asking.Asking.TheVariants.{Unasked, Met, Told}
-use Rattle.machine_core.specs.Beneath.root_asking.specs.Asked.{abort_of}
+use Rattle.machine_core.specs.Beneath.root_asking.specs.declared.asking.Asking.TheVariants.{Told}
 use Rattle.machine_model.proofs.Embedding.{each_embeds}
-use Rattle.machine_core.specs.Beneath.operate.specs.Steps.{operation_for as as_key}
-use Rattle.machine_core.specs.Beneath.snapshot.specs.Copies.{IsReadyBeside}
-use Rattle.running.specs.declared.job.Program.{Program}
-use Rattle.running.specs.declared.job.Program.TheVariants.{Key, Copy, Walk, Close}
-use Rattle.running.specs.declared.programs.Programs.{Programs}
-use Rattle.running.specs.declared.programs.ProgramAt.{ProgramAt}
-use Rattle.running.specs.declared.programs.ProgramAt.TheVariants.{Runs, Answered, Swapped, Walked, Impossible}
-use Rattle.running.specs.Places.{IsBegun, IsSound, IsWaiting, ReadsIn, ReadsOn, asking_line, line_for, met_at, program_line, program_line_at}
-use Rattle.running.specs.Steps.{CanProgram, CanProgramAt, CanStep, at_scene, scene}
+use Rattle.running.specs.declared.job.Program.TheVariants.{Walk, Close}
+use Rattle.running.specs.declared.programs.ProgramAt.TheVariants.{Runs, Answered, Impossible}
+use Rattle.running.specs.Places.{ReadsOn}
 use Rattle.running.proofs.Asks.{Asks, asked, asks, key_handle}
 use Rattle.running.proofs.Lasting.{tells}
 use Rattle.machine_core.specs.declared.parts.UnderWay.{UnderWay}
 use Rattle.machine_core.specs.Seen.{operation_at}
-use Rattle.machine_core.specs.Beneath.proof_operations.specs.Laws.{LineHasRoom, MakesNode}
+use Rattle.machine_core.specs.Beneath.proof_operations.specs.Laws.{MakesNode}
 use Rattle.machine_core.specs.Beneath.proof_memory.proofs.Claims.Reads.{read_claims}
 use Rattle.proof_core.proofs.Claims.{Lives, root_live}
 use Rattle.machine_core.proofs.Conditions.{Finds, IsLineOf, can_key, can_copy, can_walk, met, told}

@@ -2,20 +2,15 @@
 use Rattle.std.proofs.Common.{arith, ◌≡◌, ℕ, ◌-◌, ◌<◌, length, Option, Some, sym, ap, subst, ◌∙◌}
 use Rattle.std.specs.Prelude.{option_and_then, slice_get}
 use Rattle.std.proofs.lemmas.Option.{same_Some}
-use Rattle.machine_core.specs.Vocabulary.{HashKind, IsLive, node_at, Operation, run, action_of, State, operation_of}
+use Rattle.machine_core.specs.Vocabulary.{HashKind, IsLive, node_at, Operation, run, action_of, State, operation_of, IsInUse, action_wants, line_wants, CanStep, at_scene, scene, IsBounded, IsOfRun}
 use Rattle.machine_model.proofs.Along.{limits_along}
-use Rattle.machine_core.specs.Beneath.proof_memory.specs.Laws.{IsInUse}
-use Rattle.machine_core.specs.Beneath.proof_memory.specs.Wants.{action_wants, line_wants}
 use Rattle.machine_core.specs.Beneath.proof_memory.proofs.Claims.Uses.{all_carried, same_node}
 use Rattle.machine_core.specs.Beneath.proof_memory.proofs.Holding.Lives.{in_use_lives}
 use Rattle.machine_core.specs.Beneath.proof_memory.proofs.Safety.AtEachTime.{safe_along}
 use Rattle.machine_core.specs.Beneath.proof_memory.proofs.Safety.AtTimes.{line_finds_in}
-use Rattle.running.specs.Steps.{CanStep, at_scene, scene}
 use Rattle.machine_core.specs.declared.parts.Actor.{Actor}
 use Rattle.machine_core.specs.declared.parts.Parts.{Parts}
 use Rattle.machine_core.specs.declared.parts.UnderWay.{UnderWay}
-use Rattle.proof_core.specs.Bounds.{IsBounded}
-use Rattle.machine_core.specs.Beneath.proof_straight.specs.Resting.{IsOfRun}
 use Rattle.machine_core.specs.Keeping.{IsKept, IsSeated}
 use Rattle.machine_core.specs.Seen.{actor_of, operation_at, operation_seen, seen, under_way_of}
 use Rattle.machine_core.proofs.Able.{can_step}

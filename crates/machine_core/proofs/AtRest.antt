@@ -1,14 +1,12 @@
 -- What a call finds that begins in a state of a run in which nothing runs.
 use Rattle.std.proofs.Common.{arith, ◌≡◌, ℕ, ◌+◌, ◌*◌, ◌<◌, ◌≤◌, false, length, None, refl, sym, subst}
-use Rattle.machine_core.specs.Vocabulary.{Call, Ref, IsLive, main_at, Plain, handle_of, most_levels, begin_denial, is_busy, State, word_at}
-use Rattle.machine_core.specs.Beneath.proof_memory.specs.Laws.{IsInUse}
-use Rattle.machine_core.specs.Beneath.proof_memory.specs.Wants.{AMain, Holds, Is, is}
+use Rattle.machine_core.specs.Vocabulary.{Call, Ref, IsLive, main_at, Plain, handle_of, most_levels, begin_denial, is_busy, State, word_at, IsInUse, AMain, Holds, Is, is, IsOfRun, HasEmptySlots}
+use Rattle.machine_core.specs.Vocabulary.{IsUpToDate}
 use Rattle.machine_core.specs.Beneath.proof_memory.proofs.Claims.Nodes.{main_read}
 use Rattle.machine_core.specs.Beneath.proof_memory.proofs.Claims.Uses.{safe_of}
 use Rattle.machine_core.specs.Beneath.proof_memory.proofs.Holding.Lives.{in_use_lives}
 use Rattle.machine_core.specs.Beneath.proof_memory.proofs.Safety.Base.{handle_given}
-use Rattle.machine_core.specs.Beneath.proof_straight.specs.Resting.{IsOfRun}
-use Rattle.machine_core.specs.Beneath.proof_straight.specs.Running.{HasEmptySlots, IsAtRest, IsReady, IsUpToDate}
+use Rattle.machine_core.specs.Beneath.proof_straight.specs.Running.{IsAtRest, IsReady}
 use Rattle.machine_core.specs.Beneath.proof_straight.proofs.Runs.Resting.{free_slots_empty, limbo_up_to_date}
 use Rattle.machine_core.specs.declared.parts.Parts.{Parts}
 use Rattle.machine_core.specs.Keeping.{IsCore}

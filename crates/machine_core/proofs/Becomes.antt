@@ -2,18 +2,11 @@
 use Rattle.std.specs.Prelude.{◌≡◌, ◌-◌, ℕ, zero, suc, Bool, false, List, [], ◌∷◌, slice_index_or, slice_set, Option, Some, option_map, refl}
 use Rattle.std.proofs.Common.{sym, ap, ◌∙◌, get_or, set}
 use Rattle.machine_core.specs.Vocabulary.{Low, Access, Ref, Action, Line, Operation, Descriptor, acted, attempt_after, gone, mark_after, operation_after, private_after, handle_of, action_of}
-use Rattle.machine_core.specs.Vocabulary.{generation_from, State, with_operation, word_at}
+use Rattle.machine_core.specs.Vocabulary.{generation_from, State, with_operation, word_at, acted_heap, Table, acted_table, drawn_by, with_generation, at_heap, no_state, Programs, generation_in}
+use Rattle.machine_core.specs.Vocabulary.{line_for, Changes, Scene, Takes, at_scene, Taken, carried_offer}
 use Rattle.machine_model.specs.declared.actions.Action.TheVariants as act
 use Rattle.machine_model.proofs.Actors.{after_marks}
-use Rattle.machine_core.specs.Beneath.operate.specs.Beneath.gcas.specs.Acted.{acted_heap}
-use Rattle.machine_core.specs.Beneath.rdcss_root.specs.Tables.{Table, acted_table}
-use Rattle.machine_core.specs.Beneath.snapshot.specs.Tasks.{drawn_by, with_generation}
-use Rattle.machine_core.specs.Beneath.trie_parts.specs.Here.{at_heap, no_state}
-use Rattle.running.specs.declared.programs.Programs.{Programs}
-use Rattle.running.specs.Places.{generation_in, line_for}
-use Rattle.running.specs.Steps.{Changes, Does, Scene, Takes, at_scene}
-use Rattle.running.specs.Taking.{Taken}
-use Rattle.running.specs.Carried.{carried_offer}
+use Rattle.running.specs.Steps.{Does}
 use Rattle.running.proofs.ByParts.{ActsBy, acts_by}
 use Rattle.running.proofs.Offers.{unmarked}
 use Rattle.machine_core.specs.declared.parts.UnderWay.{UnderWay}

@@ -4,21 +4,17 @@ use Rattle.std.specs.Prelude.{option_and_then, option_map, unwrap_or, ifâ—Œthenâ
 use Rattle.std.proofs.lemmas.List.{get_or-set_other, length-set}
 use Rattle.std.proofs.lemmas.Option.{none-some, same_Some}
 use Rattle.machine_core.specs.Vocabulary.{HashKind, Access, Writable, Call, Ref, times, Line, Operation, Descriptor, Offer, handle_of, opens_handle, access_of, begin_denial, handle_closed}
-use Rattle.machine_core.specs.Vocabulary.{least_free, with_begin, begun_operation, first_line, State, operation_of, root_at, with_operation, word_of}
+use Rattle.machine_core.specs.Vocabulary.{least_free, with_begin, begun_operation, first_line, State, operation_of, root_at, with_operation, word_of, root_refs, Table, word_in, IsSound, call_for}
+use Rattle.machine_core.specs.Vocabulary.{IsOfRun, KnowsNumbers, begun_on, StandsAt}
 use Rattle.handle_table.specs.Numbers.{Numbers}
 use Rattle.epochs.specs.Memories.{Memory}
-use Rattle.machine_core.specs.Beneath.rdcss_root.specs.Holding.{Moves, root_refs}
-use Rattle.machine_core.specs.Beneath.rdcss_root.specs.Tables.{Table, word_in}
-use Rattle.running.specs.Places.{IsSound, call_for}
+use Rattle.machine_core.specs.Beneath.rdcss_root.specs.Holding.{Moves}
 use Rattle.machine_core.specs.declared.parts.Parts.{Parts}
 use Rattle.machine_core.specs.declared.parts.UnderWay.{UnderWay}
 use Rattle.machine_core.specs.Beginnings.{Begins}
-use Rattle.machine_core.specs.Beneath.proof_straight.specs.Resting.{IsOfRun}
 use Rattle.machine_core.specs.Keeping.{AreSeated, IsKept, IsSeated, Replaces}
-use Rattle.proof_core.specs.Numbering.{KnowsNumbers, begun_on}
 use Rattle.machine_core.specs.Seen.{actors_seen, operation_at, operation_seen, seen}
 use Rattle.machine_core.specs.Ties.{IsTied}
-use Rattle.proof_core.specs.Standing.{StandsAt}
 use Rattle.proof_core.proofs.Given.{begin_stands}
 use Rattle.machine_core.proofs.Kept.{replaced_seated, replaced_seen}
 use Rattle.machine_core.proofs.Knows.{offer_given, offerers_over, runs_set}

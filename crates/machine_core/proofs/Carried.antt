@@ -1,15 +1,13 @@
 -- A call that is carried out at once comes to what its steps come to.
-use Rattle.std.proofs.Common.{arith, ◌≡◌, ℕ, ◌+◌, ◌*◌, ◌<◌, ◌≤◌, ◌^◌, true, Option, List, [], Some, None, Ok, refl, sym, ap, ◌∙◌, subst}
+use Rattle.std.proofs.Common.{arith, ◌≡◌, ℕ, ◌+◌, ◌*◌, ◌<◌, ◌≤◌, ◌^◌, true, List, [], Some, None, Ok, refl, sym, ap, ◌∙◌, subst}
 use Rattle.machine_core.specs.Vocabulary.{Call, Reply, Ref, IsLive, entry_at, main_at, node_at, Writable, times, changed_reply, inserts, key_of, when_found, Removes, outside, FitsKey, Ended}
-use Rattle.machine_core.specs.Vocabulary.{first_record, State, key_hash, flag_of}
+use Rattle.machine_core.specs.Vocabulary.{first_record, State, key_hash, flag_of, parts_at, with_change, with_pair, with_single, Draft, after_call, first_draft, held_with, Finds, Misses}
+use Rattle.machine_core.specs.Vocabulary.{beside_other, no_entry, steps_down, IsOfRun, Comes, starts, walks, CanSwap, IsDraft, KeepsRecords}
 use Rattle.slot_arena.proofs.Times.{times-append}
 use Rattle.epochs.specs.Memories.{Memory}
 use Rattle.machine_model.specs.declared.steps.Step.TheVariants as step
-use Rattle.machine_core.specs.Beneath.proof_straight.specs.Changes.{parts_at, with_change, with_pair, with_single}
-use Rattle.machine_core.specs.Beneath.proof_straight.specs.Drafts.{Draft, after_call, first_draft, held_with}
-use Rattle.machine_core.specs.Beneath.proof_straight.specs.Places.{Finds, HasRoom, Leaves, Misses, beside_other, in_branch, no_entry, steps_down}
-use Rattle.machine_core.specs.Beneath.proof_straight.specs.Resting.{IsOfRun}
-use Rattle.machine_core.specs.Beneath.proof_straight.specs.Running.{Comes, GoesOn, IsKeyed, starts, walks}
+use Rattle.machine_core.specs.Beneath.proof_straight.specs.Places.{HasRoom, Leaves, in_branch}
+use Rattle.machine_core.specs.Beneath.proof_straight.specs.Running.{GoesOn, IsKeyed}
 use Rattle.machine_core.specs.Beneath.proof_straight.proofs.Change.Changes.{inserts_straight, removes_straight, sets_straight}
 use Rattle.machine_core.specs.Beneath.proof_straight.proofs.Change.Parting.{parts_straight}
 use Rattle.machine_core.specs.Beneath.proof_straight.proofs.Way.Unchanged.{answers_straight, misses_straight}
@@ -23,7 +21,6 @@ use Rattle.machine_core.specs.declared.descending.Place.{Place}
 use Rattle.machine_core.specs.declared.parts.Parts.{Parts}
 use Rattle.machine_core.specs.Changing.{IsAnswer, IsPut, IsRemoval, looks_at, putting, value_in}
 use Rattle.machine_core.specs.Descending.{EndsAt, IsHere}
-use Rattle.proof_core.specs.Drafting.{CanSwap, IsDraft, KeepsRecords}
 use Rattle.machine_core.specs.Keeping.{IsCore, IsKept}
 use Rattle.machine_core.specs.Pairing.{IsPaired}
 use Rattle.machine_core.specs.Seen.{seen}
@@ -101,17 +98,30 @@ comes_from : (start now : State) (actor : ℕ) (call : Call) (depth n : ℕ) (an
 comes_from start now actor call depth n answer after to long h =
     let (m, longer, goes) = to.passes n h.last long h.goes in (m, record { last = h.last; goes = goes; ends = h.ends ∙ ap (λ id. Ok (Ended id answer, after)) to.begun })
 
--- the call is carried out, in so many steps between its begin and its end, and leaves a core
-pub carried : (start : State) (before after : Parts) (memory : Memory) (draft : Draft) (actor : ℕ) (call : Call) (depth n all : ℕ) (reply : Reply) → IsKept before →
-    LeadsTo start (seen before) actor call depth → FitsKey (step.Begin actor call None) → ComesAsFar before memory draft → after ≡ counted before memory all → all ≡ n + 2 → 4 * depth + 3 ≤ n →
-    Comes (seen before) actor call n reply (after_call (seen before) draft (n + 2)) → CarriesFrom start actor call reply after
-carried start before after memory draft actor call depth n all reply kept leads fits to is many long comes =
-    let (m, so) = comes_from start (seen before) actor call depth n reply (after_call (seen before) draft (n + 2)) leads long comes in
-    let counts : after ≡ counted before memory (n + 2) = is ∙ ap (counted before memory) many in (
-      (m, subst (Comes start actor call m reply) (sym (ap seen counts ∙ seen_then before memory draft (n + 2) to)) so),
+-- a call on one key that runs alone, at the place where its way down has ended
+pub record Prepared : Type 0 where
+  pub start : State
+  pub before : Parts
+  pub actor : ℕ
+  pub call : Call
+  pub root : Ref
+  pub place : Place
+  pub fit : IsFit before actor call root 0
+  pub leads : LeadsTo start (seen before) actor call place.depth
+  pub keyed : IsKeyed call
+  pub ends : EndsAt (seen before).heap root (key_hash (seen before) (key_of call)) (key_of call) place
+  pub fits : key_of call < 2 ^ 64
+
+-- it is carried out, in so many steps between its begin and its end, and leaves a core
+pub carried : (p : Prepared) (after : Parts) (memory : Memory) (draft : Draft) (n all : ℕ) (reply : Reply) → ComesAsFar p.before memory draft → after ≡ counted p.before memory all → all ≡ n + 2 →
+    4 * p.place.depth + 3 ≤ n → Comes (seen p.before) p.actor p.call n reply (after_call (seen p.before) draft (n + 2)) → CarriesFrom p.start p.actor p.call reply after
+carried p after memory draft n all reply to is many long comes =
+    let (m, so) = comes_from p.start (seen p.before) p.actor p.call p.place.depth n reply (after_call (seen p.before) draft (n + 2)) p.leads long comes in
+    let counts : after ≡ counted p.before memory (n + 2) = is ∙ ap (counted p.before memory) many in (
+      (m, subst (Comes p.start p.actor p.call m reply) (sym (ap seen counts ∙ seen_then p.before memory draft (n + 2) to)) so),
       subst IsCore (sym counts) (record {
-        run = subst IsOfRun (sym (seen_then before memory draft (n + 2) to)) (comes_run start actor call m reply _ leads.run fits so);
-        kept = kept_over before memory draft (before.begun + 1) (before.steps + (n + 2)) kept to;
+        run = subst IsOfRun (sym (seen_then p.before memory draft (n + 2) to)) (comes_run p.start p.actor p.call m reply _ p.leads.run p.fits so);
+        kept = kept_over p.before memory draft (p.before.begun + 1) (p.before.steps + (n + 2)) p.fit.kept to;
         settled = to.draft_is.settled;
       }),
     )
@@ -229,72 +239,59 @@ module _ (state : State) (actor : ℕ) (call : Call) (root : Ref) (can : CanGo s
       can.ready (first_is_record state) keyed (misses_other place ends is) never (omega (arith, can.steps, ends.deep))))
 
 -- a call that put its key's single is carried out
-pub put_done : (start : State) (before after : Parts) (memory : Memory) (actor : ℕ) (call : Call) (root : Ref) (place : Place) (key looks : ℕ) (former : Option ℕ) (reply : Reply) →
-    IsFit before actor call root 0 → LeadsTo start (seen before) actor call place.depth → IsKeyed call →
-    EndsAt (seen before).heap root (key_hash (seen before) (key_of call)) (key_of call) place → IsPut call place.entry → key ≡ key_of call → key < 2 ^ 64 →
-    IsDraft (seen before)
-    (with_change (seen before) call place.depth place.indirection (with_single (seen before) call) (putting place.entry place.position (with_single (seen before) call).newest)) memory →
-    KeepsRecords before.heap memory → looks ≡ looks_at place.entry → after ≡ counted before memory (4 * place.depth + looks + 13) → former ≡ value_in place.entry →
-    reply ≡ changed_reply call former → CarriesFrom start actor call reply after
-put_done start before after memory actor call root place key looks former reply fit leads keyed ends puts own fits is records many counts was replies =
-    let state = seen before in
-    let draft = with_change state call place.depth place.indirection (with_single state call) (putting place.entry place.position (with_single state call).newest) in
-    let to : ComesAsFar before memory draft = record { draft_is = is; private = refl; records = records } in
-    let comes = puts_straight state actor call root fit.can keyed place place.entry ends refl puts in
-    let answers : reply ≡ changed_reply call (value_in place.entry) = replies ∙ ap (changed_reply call) was in
-    let steps : 4 * place.depth + looks + 13 ≡ steps_down place.depth (looks_at place.entry) + 7 + 2 = omega (arith, many) in
-    subst (λ r. CarriesFrom start actor call r after) (sym answers)
-    (carried start before after memory draft actor call place.depth (steps_down place.depth (looks_at place.entry) + 7) (4 * place.depth + looks + 13)
-    (changed_reply call (value_in place.entry)) fit.kept leads (subst (λ k. k < 2 ^ 64) own fits) to counts steps (omega arith) comes)
+pub put_done : (p : Prepared) (after : Parts) (memory : Memory) (looks : ℕ) (reply : Reply) → IsPut p.call p.place.entry →
+    ComesAsFar p.before memory
+    (with_change (seen p.before) p.call p.place.depth p.place.indirection (with_single (seen p.before) p.call) (putting p.place.entry p.place.position (with_single (seen p.before) p.call).newest)) →
+    looks ≡ looks_at p.place.entry → after ≡ counted p.before memory (4 * p.place.depth + looks + 13) → reply ≡ changed_reply p.call (value_in p.place.entry) →
+    CarriesFrom p.start p.actor p.call reply after
+put_done p after memory looks reply puts to many counts replies =
+    let state = seen p.before in
+    let draft = with_change state p.call p.place.depth p.place.indirection (with_single state p.call) (putting p.place.entry p.place.position (with_single state p.call).newest) in
+    let comes = puts_straight state p.actor p.call p.root p.fit.can p.keyed p.place p.place.entry p.ends refl puts in
+    let steps : 4 * p.place.depth + looks + 13 ≡ steps_down p.place.depth (looks_at p.place.entry) + 7 + 2 = omega (arith, many) in
+    subst (λ r. CarriesFrom p.start p.actor p.call r after) (sym replies)
+    (carried p after memory draft (steps_down p.place.depth (looks_at p.place.entry) + 7) (4 * p.place.depth + looks + 13) (changed_reply p.call (value_in p.place.entry)) to counts steps
+    (omega arith) comes)
 
 -- a call that put its key's single beside another is carried out
-pub part_done : (start : State) (before after : Parts) (memory : Memory) (actor : ℕ) (call : Call) (root : Ref) (place : Place) (key levels : ℕ) (reply : Reply) → IsFit before actor call root 0 →
-    LeadsTo start (seen before) actor call place.depth → IsKeyed call →
-    EndsAt (seen before).heap root (key_hash (seen before) (key_of call)) (key_of call) place → place.entry ≡ Other → inserts call ≡ true → key ≡ key_of call → key < 2 ^ 64 →
-    IsPaired (seen before) call root place.depth place.indirection place.position levels memory → KeepsRecords before.heap memory →
-    after ≡ counted before memory (4 * place.depth + 2 * levels + 16) → reply ≡ changed_reply call None → CarriesFrom start actor call reply after
-part_done start before after memory actor call root place key levels reply fit leads keyed ends other puts own fits paired records counts replies =
-    let state = seen before in
-    let draft =
-    with_change state call place.depth place.indirection (with_pair state call root place.depth place.indirection place.position levels)
-    (change.Update place.position (with_pair state call root place.depth place.indirection place.position levels).newest) in
-    let to : ComesAsFar before memory draft = record { draft_is = paired.draft; private = refl; records = records } in
-    let comes = parts_beside state actor call root fit.can keyed place levels ends other puts paired.parts paired.few in
-    let steps : 4 * place.depth + 2 * levels + 16 ≡ steps_down place.depth 1 + 2 * levels + 9 + 2 = omega arith in
-    subst (λ r. CarriesFrom start actor call r after) (sym replies)
-    (carried start before after memory draft actor call place.depth (steps_down place.depth 1 + 2 * levels + 9) (4 * place.depth + 2 * levels + 16) (changed_reply call None) fit.kept leads
-    (subst (λ k. k < 2 ^ 64) own fits) to counts steps (omega arith) comes)
+pub part_done : (p : Prepared) (after : Parts) (memory : Memory) (levels : ℕ) (reply : Reply) → p.place.entry ≡ Other → inserts p.call ≡ true →
+    IsPaired (seen p.before) p.call p.root p.place.depth p.place.indirection p.place.position levels memory → KeepsRecords p.before.heap memory →
+    after ≡ counted p.before memory (4 * p.place.depth + 2 * levels + 16) → reply ≡ changed_reply p.call None → CarriesFrom p.start p.actor p.call reply after
+part_done p after memory levels reply other puts paired records counts replies =
+    let state = seen p.before in
+    let pair = with_pair state p.call p.root p.place.depth p.place.indirection p.place.position levels in
+    let draft = with_change state p.call p.place.depth p.place.indirection pair (change.Update p.place.position pair.newest) in
+    let to : ComesAsFar p.before memory draft = record { draft_is = paired.draft; private = refl; records = records } in
+    let comes = parts_beside state p.actor p.call p.root p.fit.can p.keyed p.place levels p.ends other puts paired.parts paired.few in
+    let steps : 4 * p.place.depth + 2 * levels + 16 ≡ steps_down p.place.depth 1 + 2 * levels + 9 + 2 = omega arith in
+    subst (λ r. CarriesFrom p.start p.actor p.call r after) (sym replies)
+    (carried p after memory draft (steps_down p.place.depth 1 + 2 * levels + 9) (4 * p.place.depth + 2 * levels + 16) (changed_reply p.call None) to counts steps (omega arith) comes)
 
 -- a call that took its key out is carried out
-pub remove_done : (start : State) (before after : Parts) (memory : Memory) (actor : ℕ) (call : Call) (root : Ref) (place : Place) (key more : ℕ) (former : Option ℕ) (reply : Reply) →
-    IsFit before actor call root 0 → LeadsTo start (seen before) actor call place.depth → IsKeyed call →
-    EndsAt (seen before).heap root (key_hash (seen before) (key_of call)) (key_of call) place → (entry : Entry) → place.entry ≡ entry → IsRemoval call entry →
-    more ≤ 1 → Leaves (seen before).heap place.depth place.indirection place.position more → key ≡ key_of call → key < 2 ^ 64 →
-    IsDraft (seen before) (with_change (seen before) call place.depth place.indirection (first_draft (seen before)) (change.Remove place.position)) memory →
-    KeepsRecords before.heap memory → after ≡ counted before memory (4 * place.depth + more + 13) → former ≡ value_in place.entry →
-    reply ≡ changed_reply call former → CarriesFrom start actor call reply after
-remove_done start before after memory actor call root place key more former reply fit leads keyed ends Vacant same removes few leaves own fits is records counts was replies = absurd removes
-remove_done start before after memory actor call root place key more former reply fit leads keyed ends Other same removes few leaves own fits is records counts was replies = absurd removes
-remove_done start before after memory actor call root place key more former reply fit leads keyed ends (Own value) same removes few leaves own fits is records counts was replies =
-    let state = seen before in
-    let draft = with_change state call place.depth place.indirection (first_draft state) (change.Remove place.position) in
-    let to : ComesAsFar before memory draft = record { draft_is = is; private = refl; records = records } in
-    let comes = removes_at state actor call root fit.can keyed place value more ends same removes leaves few in
-    let answers : reply ≡ changed_reply call (Some value) = replies ∙ ap (changed_reply call) (was ∙ ap value_in same) in
-    let steps : 4 * place.depth + more + 13 ≡ steps_down place.depth (1 + more) + 6 + 2 = omega arith in
-    subst (λ r. CarriesFrom start actor call r after) (sym answers)
-    (carried start before after memory draft actor call place.depth (steps_down place.depth (1 + more) + 6) (4 * place.depth + more + 13) (changed_reply call (Some value)) fit.kept leads
-    (subst (λ k. k < 2 ^ 64) own fits) to counts steps (omega arith) comes)
+pub remove_done : (p : Prepared) (after : Parts) (memory : Memory) (more : ℕ) (reply : Reply) → IsRemoval p.call p.place.entry → more ≤ 1 →
+    Leaves (seen p.before).heap p.place.depth p.place.indirection p.place.position more →
+    ComesAsFar p.before memory (with_change (seen p.before) p.call p.place.depth p.place.indirection (first_draft (seen p.before)) (change.Remove p.place.position)) →
+    after ≡ counted p.before memory (4 * p.place.depth + more + 13) → reply ≡ changed_reply p.call (value_in p.place.entry) → CarriesFrom p.start p.actor p.call reply after
+remove_done p after memory more reply removes few leaves to counts replies = by p.place.entry refl removes
+  where
+    by : (entry : Entry) → p.place.entry ≡ entry → IsRemoval p.call entry → CarriesFrom p.start p.actor p.call reply after
+    by Vacant same removes = absurd removes
+    by Other same removes = absurd removes
+    by (Own value) same removes =
+        let state = seen p.before in
+        let draft = with_change state p.call p.place.depth p.place.indirection (first_draft state) (change.Remove p.place.position) in
+        let comes = removes_at state p.actor p.call p.root p.fit.can p.keyed p.place value more p.ends same removes leaves few in
+        let answers : reply ≡ changed_reply p.call (Some value) = replies ∙ ap (λ e. changed_reply p.call (value_in e)) same in
+        let steps : 4 * p.place.depth + more + 13 ≡ steps_down p.place.depth (1 + more) + 6 + 2 = omega arith in
+        subst (λ r. CarriesFrom p.start p.actor p.call r after) (sym answers)
+        (carried p after memory draft (steps_down p.place.depth (1 + more) + 6) (4 * p.place.depth + more + 13) (changed_reply p.call (Some value)) to counts steps (omega arith) comes)
 
 -- a call that changed nothing is carried out
-pub leave_done : (start : State) (before after : Parts) (actor : ℕ) (call : Call) (root : Ref) (place : Place) (looks : ℕ) (answer : Reply) → IsFit before actor call root 0 →
-    LeadsTo start (seen before) actor call place.depth → IsKeyed call →
-    EndsAt (seen before).heap root (key_hash (seen before) (key_of call)) (key_of call) place → IsAnswer call place.entry answer → key_of call < 2 ^ 64 →
-    looks ≡ looks_at place.entry → after ≡ counted before before.heap (4 * place.depth + looks + 6) → CarriesFrom start actor call answer after
-leave_done start before after actor call root place looks answer fit leads keyed ends answers fits many counts =
-    let state = seen before in
-    let to : ComesAsFar before before.heap (first_draft state) = record { draft_is = drafted_first before fit.kept fit.settled; private = refl; records = (refl, refl) } in
-    let comes = answers_at state actor call root fit.can keyed place place.entry answer ends refl answers in
-    let steps : 4 * place.depth + looks + 6 ≡ steps_down place.depth (looks_at place.entry) + 2 = omega (arith, many) in
-    carried start before after before.heap (first_draft state) actor call place.depth (steps_down place.depth (looks_at place.entry)) (4 * place.depth + looks + 6) answer fit.kept leads fits to
-    counts steps (omega arith) comes
+pub leave_done : (p : Prepared) (after : Parts) (looks : ℕ) (answer : Reply) → IsAnswer p.call p.place.entry answer → looks ≡ looks_at p.place.entry →
+    after ≡ counted p.before p.before.heap (4 * p.place.depth + looks + 6) → CarriesFrom p.start p.actor p.call answer after
+leave_done p after looks answer answers many counts =
+    let state = seen p.before in
+    let to : ComesAsFar p.before p.before.heap (first_draft state) = record { draft_is = drafted_first p.before p.fit.kept p.fit.settled; private = refl; records = (refl, refl) } in
+    let comes = answers_at state p.actor p.call p.root p.fit.can p.keyed p.place p.place.entry answer p.ends refl answers in
+    let steps : 4 * p.place.depth + looks + 6 ≡ steps_down p.place.depth (looks_at p.place.entry) + 2 = omega (arith, many) in
+    carried p after p.before.heap (first_draft state) (steps_down p.place.depth (looks_at p.place.entry)) (4 * p.place.depth + looks + 6) answer to counts steps (omega arith) comes

@@ -2,18 +2,16 @@
 use Rattle.std.proofs.Common.{◌≡◌, ℕ, ◌-◌, ◌≤◌, true, length, List, refl, sym, ap, ◌∙◌, subst}
 use Rattle.arrayvec.specs.ArrayVec.{ArrayVec}
 use Rattle.machine_core.specs.Vocabulary.{Call, Node, Branch, Indirection, Single, Ref, AreLive, IsLive, is_main_node, Heap, entries_of, entry_at, main_at, node_at, refs_of_node, Change, changed}
-use Rattle.machine_core.specs.Vocabulary.{key_of, value_of, State, key_hash, flag_of}
+use Rattle.machine_core.specs.Vocabulary.{key_of, value_of, State, key_hash, flag_of, changed_main, with_change, with_single, Draft, first_draft, swapped_in, IsDraft, an_indirection, not_two}
 use Rattle.epochs.specs.Memories.{Memory}
 use Rattle.machine_model.specs.declared.building.Change.TheVariants as change
-use Rattle.machine_core.specs.Beneath.proof_straight.specs.Changes.{changed_main, with_change, with_single}
-use Rattle.machine_core.specs.Beneath.proof_straight.specs.Drafts.{Draft, first_draft, swapped_in, with_made}
+use Rattle.machine_core.specs.Beneath.proof_straight.specs.Drafts.{with_made}
 use Rattle.machine_core.specs.Beneath.proof_generations.proofs.Falling.MadeNodes.{ChangeFits, changed_entries}
 use Rattle.machine_core.specs.declared.descending.Entry.{Entry}
 use Rattle.machine_core.specs.declared.descending.Entry.TheVariants.{Vacant, Own, Other}
 use Rattle.machine_core.specs.Changing.{putting}
 use Rattle.machine_core.specs.Descending.{IsHere}
-use Rattle.proof_core.specs.Drafting.{IsDraft}
-use Rattle.machine_core.specs.Beneath.proof_straight.specs.Places.{Leaves, an_indirection, at_root, not_two}
+use Rattle.machine_core.specs.Beneath.proof_straight.specs.Places.{Leaves, at_root}
 
 -- the change leaves a branch
 abbrev pub IsNoTomb : Change → Type 0

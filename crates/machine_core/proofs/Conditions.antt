@@ -2,62 +2,41 @@
 use Rattle.std.proofs.Common.{◌≡◌, ℕ, ◌+◌, ◌<◌, List, length, Option, Some, None, refl, sym, ap, subst, ◌∙◌}
 use Rattle.machine_core.specs.Vocabulary.{Access, Writable, ReadOnly, Ref, Node, Indirection, Heap, empty_branch, Action, Line, Operation, Read as Defined, ReadLine, Climb, Descriptor}
 use Rattle.machine_core.specs.Vocabulary.{completing_read, line_action, read_of, rooting_read, swapping_read, above, State, action_at, complete_action_at, root_action, birth_limit, completing_at}
-use Rattle.machine_core.specs.Vocabulary.{rooting_at, swapping_at, with_read}
+use Rattle.machine_core.specs.Vocabulary.{rooting_at, swapping_at, with_read, action_wants, read_wants, ReadAt, SwapAt, CanReadAt, CanReadOn, line_of, CanSwapAt, swap_line_at, at_heap, CanMake}
+use Rattle.machine_core.specs.Vocabulary.{CompleteAt, CanCompleteAt, CanRootOn, ReadsItsRoot, ReadsOffered, complete_line_at, Table, ChangeAt, CanChangeAt, CleanAt, ClimbAt, RenewAt, CanCleanAt}
+use Rattle.machine_core.specs.Vocabulary.{clean_line_at, CanClimbAt, climb_line_at, climb_of, CanRenewAt, renew_line_at, BelowAt, KeyAt, KeyOp, below_line, key_line_at, CanBelow, CanKeyAt}
+use Rattle.machine_core.specs.Vocabulary.{operation_for, Making, CopyAt, WalkAt, CanCopyAt, making_line, copy_line_at, CanWalkAt, walk_line_at, Work, LineHasRoom}
 use Rattle.epochs.specs.Memories.{Memory}
 use Rattle.machine_model.specs.declared.actions.Action.TheVariants as act
 use Rattle.machine_model.specs.declared.lines.Line.TheVariants as line
 use Rattle.machine_model.specs.declared.reading.ReadLine.TheVariants as read
-use Rattle.machine_core.specs.Beneath.proof_memory.specs.Wants.{action_wants, read_wants}
 use Rattle.machine_core.specs.Beneath.proof_memory.proofs.Claims.Uses.{meets_of, safe_of}
 use Rattle.machine_core.specs.Beneath.operate.specs.Beneath.gcas.specs.declared.read.Read.{Read}
-use Rattle.machine_core.specs.Beneath.operate.specs.Beneath.gcas.specs.declared.read.ReadAt.{ReadAt}
 use Rattle.machine_core.specs.Beneath.operate.specs.Beneath.gcas.specs.declared.read.ReadAt.TheVariants as at
-use Rattle.machine_core.specs.Beneath.operate.specs.Beneath.gcas.specs.declared.swap.SwapAt.{SwapAt}
 use Rattle.machine_core.specs.Beneath.operate.specs.Beneath.gcas.specs.declared.swap.SwapAt.TheVariants as swap
-use Rattle.machine_core.specs.Beneath.operate.specs.Beneath.gcas.specs.Reads.{CanReadAt, CanReadOn, line_at, line_of}
-use Rattle.machine_core.specs.Beneath.operate.specs.Beneath.gcas.specs.Swaps.{CanSwapAt, swap_line_at}
-use Rattle.machine_core.specs.Beneath.trie_parts.specs.Here.{at_heap}
-use Rattle.machine_core.specs.Beneath.trie_parts.specs.Steps.{CanMake}
-use Rattle.machine_core.specs.Beneath.rdcss_root.specs.declared.complete.CompleteAt.{CompleteAt}
+use Rattle.machine_core.specs.Beneath.operate.specs.Beneath.gcas.specs.Reads.{line_at}
 use Rattle.machine_core.specs.Beneath.rdcss_root.specs.declared.complete.CompleteAt.TheVariants as complete
 use Rattle.machine_core.specs.Beneath.rdcss_root.specs.declared.root.ReadRoot.{ReadRoot}
 use Rattle.machine_core.specs.Beneath.rdcss_root.specs.declared.root.ReadRoot.TheVariants as rooting
 use Rattle.machine_core.specs.Beneath.rdcss_root.specs.Holding.{IsReady}
-use Rattle.machine_core.specs.Beneath.rdcss_root.specs.Programs.{CanCompleteAt, CanRootOn, ReadsItsRoot, ReadsOffered, complete_line_at, root_of}
-use Rattle.machine_core.specs.Beneath.rdcss_root.specs.Tables.{Table}
-use Rattle.machine_core.specs.Beneath.operate.specs.Beneath.key_change.specs.declared.change.ChangeAt.{ChangeAt}
+use Rattle.machine_core.specs.Beneath.rdcss_root.specs.Programs.{root_of}
 use Rattle.machine_core.specs.Beneath.operate.specs.Beneath.key_change.specs.declared.change.ChangeAt.TheVariants as change
 use Rattle.machine_core.specs.Beneath.operate.specs.Beneath.key_change.specs.Lines.{line_at as change_at}
-use Rattle.machine_core.specs.Beneath.operate.specs.Beneath.key_change.specs.Steps.{CanChangeAt}
 use Rattle.machine_core.specs.Beneath.operate.specs.Beneath.key_change.proofs.Made.{builds}
-use Rattle.machine_core.specs.Beneath.operate.specs.Beneath.contract.specs.declared.clean.CleanAt.{CleanAt}
 use Rattle.machine_core.specs.Beneath.operate.specs.Beneath.contract.specs.declared.clean.CleanAt.TheVariants as clean
-use Rattle.machine_core.specs.Beneath.operate.specs.Beneath.contract.specs.declared.climb.ClimbAt.{ClimbAt}
 use Rattle.machine_core.specs.Beneath.operate.specs.Beneath.contract.specs.declared.climb.ClimbAt.TheVariants as climb
-use Rattle.machine_core.specs.Beneath.operate.specs.Beneath.contract.specs.declared.renew.RenewAt.{RenewAt}
 use Rattle.machine_core.specs.Beneath.operate.specs.Beneath.contract.specs.declared.renew.RenewAt.TheVariants as renew
-use Rattle.machine_core.specs.Beneath.operate.specs.Beneath.contract.specs.Cleaning.{CanCleanAt, clean_line_at}
-use Rattle.machine_core.specs.Beneath.operate.specs.Beneath.contract.specs.Climbing.{CanClimbAt, climb_line_at, climb_of}
-use Rattle.machine_core.specs.Beneath.operate.specs.Beneath.contract.specs.Renewing.{CanRenewAt, renew_line_at}
 use Rattle.machine_core.specs.Beneath.operate.specs.Beneath.contract.proofs.Made.{climbs}
-use Rattle.machine_core.specs.Beneath.operate.specs.declared.key_op.BelowAt.{BelowAt}
 use Rattle.machine_core.specs.Beneath.operate.specs.declared.key_op.BelowAt.TheVariants as below
-use Rattle.machine_core.specs.Beneath.operate.specs.declared.key_op.KeyAt.{KeyAt}
 use Rattle.machine_core.specs.Beneath.operate.specs.declared.key_op.KeyAt.TheVariants as key
-use Rattle.machine_core.specs.Beneath.operate.specs.declared.key_op.KeyOp.{KeyOp}
-use Rattle.machine_core.specs.Beneath.operate.specs.Places.{below_line, key_line_at}
-use Rattle.machine_core.specs.Beneath.operate.specs.Steps.{CanBelow, CanKeyAt, ReadsAt, operation_for}
-use Rattle.machine_core.specs.Beneath.snapshot.specs.declared.copy_op.Making.{Making}
+use Rattle.machine_core.specs.Beneath.operate.specs.Steps.{ReadsAt}
 use Rattle.machine_core.specs.Beneath.snapshot.specs.declared.copy_op.Making.TheVariants as making
-use Rattle.machine_core.specs.Beneath.snapshot.specs.declared.copy_op.CopyAt.{CopyAt}
 use Rattle.machine_core.specs.Beneath.snapshot.specs.declared.copy_op.CopyAt.TheVariants as copy
-use Rattle.machine_core.specs.Beneath.snapshot.specs.declared.walk.WalkAt.{WalkAt}
 use Rattle.machine_core.specs.Beneath.snapshot.specs.declared.walk.WalkAt.TheVariants as walk
-use Rattle.machine_core.specs.Beneath.snapshot.specs.Copies.{CanCopyAt, made_node, making_line, copy_line_at, ReadsAt as CopyReadsAt}
-use Rattle.machine_core.specs.Beneath.snapshot.specs.Walks.{CanWalkAt, walk_line_at}
-use Rattle.machine_core.specs.Beneath.trie_parts.specs.declared.work.Work.{Work}
-use Rattle.machine_core.specs.Beneath.proof_operations.specs.Laws.{LineHasRoom, MakesNode}
+use Rattle.machine_core.specs.Beneath.snapshot.specs.Copies.{made_node, ReadsAt as CopyReadsAt}
+use Rattle.machine_core.specs.Beneath.proof_operations.specs.Laws.{MakesNode}
 use Rattle.proof_core.proofs.Claims.{Lives, node_live, offer_live}
+use Rattle.machine_core.specs.Beneath.proof_memory.proofs.Claims.Named.{third_claim}
 
 -- ---- a READ
 
@@ -69,15 +48,15 @@ pub data IsLineOf (r : Read) : ReadLine → Type 0 where
 reads_at : (heap : Heap) (indirection : Ref) (access : Access) (t : Option ℕ) (place : ReadAt) → Lives heap (read_wants indirection (line_at access t place)) → CanReadAt heap indirection place
 reads_at heap indirection access t at.Main h = tt
 reads_at heap indirection access t (at.Prev main) h = tt
-reads_at heap indirection ReadOnly t (at.Decide main previous) h = (safe_of h.1.0, meets_of h.1.0, safe_of h.1.1.0)
-reads_at heap indirection Writable None (at.Decide main previous) h = (safe_of h.1.0, meets_of h.1.0, safe_of h.1.1.0)
-reads_at heap indirection Writable (Some generation) (at.Decide main previous) h = (safe_of h.1.0, meets_of h.1.0, safe_of h.1.1.0)
-reads_at heap indirection access t (at.Restore main previous) h = (safe_of h.0, meets_of h.0, safe_of h.1.1.0)
+reads_at heap indirection ReadOnly t (at.Decide main previous) h = (safe_of h.1.0, meets_of h.1.0, safe_of (third_claim h))
+reads_at heap indirection Writable None (at.Decide main previous) h = (safe_of h.1.0, meets_of h.1.0, safe_of (third_claim h))
+reads_at heap indirection Writable (Some generation) (at.Decide main previous) h = (safe_of h.1.0, meets_of h.1.0, safe_of (third_claim h))
+reads_at heap indirection access t (at.Restore main previous) h = (safe_of h.0, meets_of h.0, safe_of (third_claim h))
 reads_at heap indirection access t (at.Given main) h = tt
 
 can_read : (heap : Heap) (r : Read) (here : ReadLine) → IsLineOf r here → Lives heap (read_wants r.indirection here) → CanReadOn heap r
 can_read heap r here (told t) h = reads_at heap r.indirection r.access t r.at h
-can_read heap r here (met main previous offer is) h = subst (CanReadAt heap r.indirection) (sym is) (safe_of h.1.0, meets_of h.1.0, safe_of h.1.1.0)
+can_read heap r here (met main previous offer is) h = subst (CanReadAt heap r.indirection) (sym is) (safe_of h.1.0, meets_of h.1.0, safe_of (third_claim h))
 
 -- ---- a line
 
@@ -121,7 +100,7 @@ module _ (memory : Memory) (table : Table) (private : List Ref) (state : State) 
         Finds memory.heap private state operation l → CanSwapAt memory.heap r fresh place
     can_swap replaced fresh swap.Publish l acts reads finds =
         let does = subst (λ (a : Action). Lives memory.heap (action_wants a)) acts finds.does in
-        (safe_of does.0, meets_of does.0, safe_of does.1.1.0)
+        (safe_of does.0, meets_of does.0, safe_of (third_claim does))
     can_swap replaced fresh swap.Deciding l acts reads finds = own_read l finds reads
     can_swap replaced fresh swap.Check l acts reads finds = tt
 

@@ -9,22 +9,18 @@ use Rattle.std.proofs.Common.{inl, inr}
 use Rattle.handle_table.specs.Numbers.{Numbers, is_taken_in}
 use Rattle.machine_core.specs.Vocabulary.{Writable, Call, Reply, Ref, AreLive, IsLive, birth_limit, Heap, empty_branch, main_at, main_of, prev_at, taken, Node, Branch, times, Descriptor, Root}
 use Rattle.machine_core.specs.Vocabulary.{Plain, handle_of, needs_writable, FitsKey, access_of, begin_denial, is_busy, is_number, State, root_at, with_root, with_word, word_at, word_of, least_free}
-use Rattle.machine_core.specs.Vocabulary.{first_record}
+use Rattle.machine_core.specs.Vocabulary.{first_record, Course, IsSettled, first_course, with_offer, Draft, after_call, Comes, HasEmptySlots, KeepsRecords, KnowsNumbers, given_back, reserved}
+use Rattle.machine_core.specs.Vocabulary.{cleared, closed, frozen, snapshotted, IsOfRun, Table}
 use Rattle.arrayvec.specs.ArrayVec.{ArrayVec}
 use Rattle.slot_arena.specs.declared.nodes.Prev.TheVariants as prev
 use Rattle.slot_arena.proofs.Times.{times_le}
 use Rattle.epochs.specs.Memories.{Memory}
 use Rattle.machine_model.specs.declared.steps.Step.TheVariants as step
-use Rattle.machine_core.specs.Beneath.proof_straight.specs.Copies.{Course, IsSettled, first_course, with_offer}
-use Rattle.machine_core.specs.Beneath.proof_straight.specs.Drafts.{Draft, after_call}
-use Rattle.machine_core.specs.Beneath.proof_straight.specs.Running.{Comes, HasEmptySlots}
 use Rattle.machine_model.proofs.Found.{found_within}
 use Rattle.machine_core.specs.Beneath.proof_memory.proofs.Safety.Base.{handle_given}
 use Rattle.machine_core.specs.Beneath.proof_straight.proofs.Change.Builds.{writable_at}
 use Rattle.machine_core.specs.declared.parts.Parts.{Parts}
-use Rattle.proof_core.specs.Drafting.{KeepsRecords}
 use Rattle.machine_core.specs.Keeping.{IsCore}
-use Rattle.proof_core.specs.Numbering.{KnowsNumbers, given_back, reserved}
 use Rattle.machine_core.specs.Rooting.{HoldsBeside, IsCourse, IsOverDecided, writable}
 use Rattle.machine_core.specs.Seen.{actors_seen, seen}
 use Rattle.machine_core.specs.Straight.{CarriesBy}
@@ -38,13 +34,10 @@ use Rattle.proof_core.proofs.Reserved.{given_other, given_own, given_running, gi
 use Rattle.machine_core.proofs.Rooted.{course_counted, opened_is, some_closed, some_opened}
 use Rattle.history.specs.declared.calls.Call.TheVariants as call
 use Rattle.history.specs.declared.replies.Reply.TheVariants as reply
-use Rattle.machine_core.specs.Beneath.proof_straight.specs.Copies.{cleared, closed, frozen, snapshotted}
-use Rattle.machine_core.specs.Beneath.proof_straight.specs.Resting.{IsOfRun}
 use Rattle.machine_core.specs.Beneath.proof_straight.proofs.Roots.Copying.{clears_straight, freezes_straight, snapshots_straight}
 use Rattle.machine_core.specs.Beneath.proof_straight.proofs.Roots.Closing.{closes_straight}
 use Rattle.machine_core.specs.Beneath.proof_straight.proofs.Change.Recording.{first_is_record}
 use Rattle.machine_core.specs.Beneath.proof_straight.proofs.Runs.ByRuns.{comes_without_record}
-use Rattle.machine_core.specs.Beneath.rdcss_root.specs.Tables.{Table}
 use Rattle.machine_core.specs.Straight.{IsClear}
 use Rattle.machine_core.proofs.AtRest.{ready_at, rests_at}
 

@@ -1,8 +1,8 @@
 -- The way down along a key's hash, level by level.
 use Rattle.std.proofs.Common.{◌≡◌, ℕ, suc, ◌+◌, true, nat_eq, Some, refl, ap, sym, ◌∙◌, subst, eq-eqb, arith}
 use Rattle.std.specs.Option.{option_eq}
-use Rattle.machine_core.specs.Vocabulary.{Access, Writable, ReadOnly, Indirection, Ref, Heap, node_at, main_at, generation_at, passes, flag_of}
-use Rattle.machine_core.specs.Beneath.proof_straight.specs.Places.{Leads, to_root, below}
+use Rattle.machine_core.specs.Vocabulary.{Access, Writable, ReadOnly, Indirection, Ref, Heap, node_at, main_at, generation_at, passes, flag_of, to_root, below}
+use Rattle.machine_core.specs.Beneath.proof_straight.specs.Places.{Leads}
 use Rattle.machine_core.specs.Descending.{IsBelow}
 
 -- the hash leads down there, whatever the handle's access

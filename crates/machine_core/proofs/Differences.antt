@@ -12,7 +12,7 @@ use Rattle.std.proofs.lemmas.List.Kept.{IsStrictlySortedBy-filter}
 use Rattle.machine_core.specs.declared.differing.Difference.{Difference}
 use Rattle.machine_core.specs.Beneath.proof_contents.proofs.Values.Crowds.{AreDistinct}
 use Rattle.machine_core.specs.Comparing.{AreDifferences, difference_of, key_of}
-use Rattle.proof_core.specs.Reading.{Covers}
+use Rattle.machine_core.specs.Vocabulary.{Covers}
 use Rattle.proof_core.proofs.Found.{found_there, keys, there_found}
 
 -- ---- one key after the other

@@ -4,22 +4,17 @@ use Rattle.std.specs.Option.{option_eq}
 use Rattle.std.proofs.lemmas.Bool.{false≢true, true≢false}
 use Rattle.arrayvec.specs.ArrayVec.{ArrayVec}
 use Rattle.machine_core.specs.Vocabulary.{index_at, position_of, Access, ReadOnly, Writable, Call, Node, Ref, IsLive, is_indirection, Heap, bitmap_of, entries_of, entry_at, generation_at, main_at}
-use Rattle.machine_core.specs.Vocabulary.{main_of, no_ref, node_at, birth_limit, handle_of, key_of, passes, begun_operation, State, key_hash, root_at, word_at, flag_of}
+use Rattle.machine_core.specs.Vocabulary.{main_of, no_ref, node_at, birth_limit, handle_of, key_of, passes, begun_operation, State, key_hash, root_at, word_at, flag_of, IsInUse, AnEntry, IsRenewed}
+use Rattle.machine_core.specs.Vocabulary.{MeetsOld, HasEntry, below, entry_for, to_root, is_of_other, renewal_slots, renewed_state, steps_of_renewal, IsOfRun, CanSwap}
 use Rattle.epochs.specs.Memories.{Memory}
-use Rattle.machine_core.specs.Beneath.proof_memory.specs.Laws.{IsInUse}
-use Rattle.machine_core.specs.Beneath.proof_memory.specs.Wants.{AnEntry}
 use Rattle.machine_core.specs.Beneath.proof_memory.proofs.Claims.Uses.{Meets, meets_of, safe_of}
 use Rattle.machine_core.specs.Beneath.proof_memory.proofs.Holding.Lives.{in_use_lives}
 use Rattle.machine_core.specs.Beneath.proof_memory.proofs.Safety.Base.{handle_given}
-use Rattle.machine_core.specs.Beneath.proof_straight.specs.Passing.{IsRenewed, MeetsOld}
-use Rattle.machine_core.specs.Beneath.proof_straight.specs.Places.{HasEntry, Leads, below, entry_for, to_root}
-use Rattle.machine_core.specs.Beneath.proof_straight.specs.Renewals.{is_of_other, renewal_slots, renewed_state, steps_of_renewal}
-use Rattle.machine_core.specs.Beneath.proof_straight.specs.Resting.{IsOfRun}
+use Rattle.machine_core.specs.Beneath.proof_straight.specs.Places.{Leads}
 use Rattle.machine_core.specs.Beneath.proof_straight.proofs.Change.Builds.{writable_at}
 use Rattle.machine_core.specs.Beneath.proof_straight.proofs.Renewal.NewEntries.{slots_most, steps_by_slots}
 use Rattle.machine_core.specs.Beneath.proof_straight.proofs.Renewal.Passing.{passes_renewal}
 use Rattle.machine_core.specs.declared.descending.Place.{Place}
-use Rattle.proof_core.specs.Drafting.{CanSwap}
 use Rattle.machine_core.specs.Renewing.{AreOverLive, IsBranch, IsDown, IsOver, LeadsOn, Renews}
 use Rattle.machine_core.specs.Straight.{CanGo, LeadsTo}
 use Rattle.proof_core.specs.Tries.{IsTrie}

@@ -1,15 +1,14 @@
 -- The end of each step, and a step of the sweep.
-use Rattle.std.proofs.Common.{◌≡◌, ℕ, ◌+◌, ◌-◌, ◌≤◌, nat_le, Bool, true, false, cond, List, [], ◌∷◌, length, map, drop, slice_index_or, Option, Some, None, Ok, refl, sym, ap, ◌∙◌, subst}
+use Rattle.std.proofs.Common.{◌≡◌, ℕ, ◌+◌, ◌-◌, nat_le, Bool, true, false, cond, List, [], ◌∷◌, length, map, drop, slice_index_or, Option, Some, None, Ok, refl, sym, ap, ◌∙◌, subst}
 use Rattle.std.proofs.lemmas.Option.{none-some, same_Some}
 use Rattle.machine_core.specs.Vocabulary.{Ref, Slot, freed, Zeroed, Swept, limbo_after, AreAlike, Reclaimer, ripe, is_passed, scanned, advanced, sweep_by, swept_once, freed_by, outside, settled}
-use Rattle.machine_core.specs.Vocabulary.{standing, next, is_spent, pin_of, reclaimer_of, swept_with, settled_after, State, most_slots}
+use Rattle.machine_core.specs.Vocabulary.{standing, next, is_spent, pin_of, reclaimer_of, swept_with, settled_after, State, root_refs}
 use Rattle.slot_arena.proofs.Times.{times-append}
 use Rattle.epochs.specs.Memories.{Memory}
 use Rattle.epochs.proofs.Forgetting.{counts_alone, freed_leaves}
 use Rattle.machine_model.specs.declared.steps.Outcome.TheVariants as outcome
 use Rattle.machine_model.specs.declared.steps.Step.TheVariants as step
 use Rattle.machine_core.specs.Beneath.proof_memory.proofs.Heap.Under.{freed_before}
-use Rattle.machine_core.specs.Beneath.rdcss_root.specs.Holding.{root_refs}
 use Rattle.machine_core.specs.Ties.{IsTied, private_refs}
 use Rattle.machine_core.proofs.Steps.{sweep_answer}
 

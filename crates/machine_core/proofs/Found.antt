@@ -4,9 +4,7 @@ use Rattle.std.proofs.Common.{refl, sym, ap, subst, ◌∙◌}
 use Rattle.std.specs.FinMap.{find}
 use Rattle.std.specs.Ordering.{nat_cmp}
 use Rattle.std.specs.Option.{IsSome}
-use Rattle.machine_core.specs.Vocabulary.{hash_of, logical_main, node_at, Root, content_at, most_levels, State, root_at, root_of, word_of}
-use Rattle.machine_core.specs.Beneath.proof_straight.specs.Resting.{IsOfRun}
-use Rattle.machine_core.specs.Beneath.proof_contents.specs.Nodes.Looking.{find_at}
+use Rattle.machine_core.specs.Vocabulary.{hash_of, logical_main, node_at, Root, content_at, most_levels, State, root_at, root_of, word_of, IsOfRun, find_at}
 use Rattle.machine_core.specs.Beneath.proof_shape.proofs.Shaped.Looking.{looking_finds}
 use Rattle.machine_core.specs.Finding.{found_along}
 

@@ -1,19 +1,14 @@
 -- What a step of an operation comes to is what the definition says.
 use Rattle.std.proofs.Common.{arith, ◌≡◌, ℕ, ◌-◌, ◌<◌, List, length, Option, Some, None, refl, sym, ap, subst, ◌∙◌}
 use Rattle.std.specs.Prelude.{option_map, slice_index_or, slice_set}
-use Rattle.machine_core.specs.Vocabulary.{Action, Operation, Descriptor, gone, operation_after, handle_of, action_of, State}
+use Rattle.machine_core.specs.Vocabulary.{Action, Operation, Descriptor, gone, operation_after, handle_of, action_of, State, Table, acted_table, word_in, carried_offer, line_for, Changes, Takes}
+use Rattle.machine_core.specs.Vocabulary.{at_scene, scene, Taken, IsOfRun}
 use Rattle.machine_model.proofs.Actors.{after_marks}
-use Rattle.machine_core.specs.Beneath.rdcss_root.specs.Tables.{Table, acted_table, word_in}
-use Rattle.running.specs.Carried.{carried_offer}
-use Rattle.running.specs.Places.{line_for}
-use Rattle.running.specs.Steps.{Changes, Takes, at_scene, scene}
-use Rattle.running.specs.Taking.{Taken}
 use Rattle.running.proofs.Offers.{carried_or, marked_at, marks_by, unmarked}
 use Rattle.running.proofs.Asks.{handle_named}
 use Rattle.machine_core.specs.declared.parts.Actor.{Actor}
 use Rattle.machine_core.specs.declared.parts.Parts.{Parts}
 use Rattle.machine_core.specs.declared.parts.UnderWay.{UnderWay}
-use Rattle.machine_core.specs.Beneath.proof_straight.specs.Resting.{IsOfRun}
 use Rattle.machine_core.specs.Keeping.{IsKept, IsSeated}
 use Rattle.machine_core.specs.Seen.{actors_seen, operation_at, seen}
 use Rattle.machine_core.proofs.Allowed.{there_is}

@@ -2,17 +2,15 @@
 use Rattle.std.proofs.Common.{arith, ◌≡◌, ◌≢◌, ℕ, zero, suc, ◌+◌, ◌<◌, ◌≤◌, true, false, [], length, map, Ok, refl, sym, ap, ◌∙◌, subst}
 use Rattle.std.proofs.lemmas.List.{length-map}
 use Rattle.epochs.specs.Memories.{reclaimer_of as what_it_works_on}
-use Rattle.machine_core.specs.Vocabulary.{TakesUpTo, times, Swept, limbo_after, Reclaimer, passes_all, Sweep, outside, is_spent, next, pin_of, reclaimer_of, settled_after, swept_with, State}
+use Rattle.machine_core.specs.Vocabulary.{TakesUpTo, times, Swept, limbo_after, Reclaimer, passes_all, Sweep, outside, is_spent, next, pin_of, reclaimer_of, settled_after, swept_with, State, Worked}
+use Rattle.machine_core.specs.Vocabulary.{IsOfRun, IsUpToDate}
 use Rattle.epochs.specs.declared.limbo.Swept.TheVariants as swept
 use Rattle.epochs.proofs.Growing.{from_first, grows_last, passes_next}
 use Rattle.epochs.specs.Memories.{Memory}
 use Rattle.epochs.proofs.Forgetting.{counts_alone}
 use Rattle.machine_model.specs.declared.steps.Outcome.TheVariants as outcome
 use Rattle.proof_core.proofs.Given.{sizes}
-use Rattle.proof_core.specs.Work.{Worked}
 use Rattle.proof_core.proofs.Bounded.{taken_run}
-use Rattle.machine_core.specs.Beneath.proof_straight.specs.Resting.{IsOfRun}
-use Rattle.machine_core.specs.Beneath.proof_straight.specs.Running.{IsUpToDate}
 use Rattle.machine_core.specs.declared.parts.Parts.{Parts}
 use Rattle.machine_core.specs.Keeping.{IsCore}
 use Rattle.machine_core.specs.Seen.{seen}

@@ -1,8 +1,7 @@
 -- How often references are held in a state of a run.
 use Rattle.std.proofs.Common.{◌≡◌, suc, ◌<◌, ◌≤◌, ◌^◌, get_or, Option, Some, None, refl, arith}
-use Rattle.machine_core.specs.Vocabulary.{Ref, times, Operation, State, refs_of_root, refs_of_operation}
+use Rattle.machine_core.specs.Vocabulary.{Ref, times, Operation, State, refs_of_root, refs_of_operation, IsOfRun}
 use Rattle.epochs.specs.Memories.{Memory}
-use Rattle.machine_core.specs.Beneath.proof_straight.specs.Resting.{IsOfRun}
 use Rattle.machine_core.specs.Beneath.rdcss_root.specs.Holding.{IsReady}
 use Rattle.machine_core.specs.Ties.{IsTied}
 use Rattle.machine_core.proofs.Tying.{times_most, root_few}

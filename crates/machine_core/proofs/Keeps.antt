@@ -5,17 +5,12 @@ use Rattle.std.proofs.lemmas.List.{length-set, map-set}
 use Rattle.std.proofs.lemmas.List.Concat.{flat_map-cons}
 use Rattle.std.proofs.lemmas.Option.{none-some, same_Some}
 use Rattle.std.proofs.Math.Seq.{map-set_same}
-use Rattle.machine_core.specs.Vocabulary.{times, Action, Operation, Descriptor, refs_of_operation, pin_of, action_of}
+use Rattle.machine_core.specs.Vocabulary.{times, Action, Operation, Descriptor, refs_of_operation, pin_of, action_of, Table, word_in, carried_offer, Taken, IsSound, IsOfRun}
 use Rattle.machine_model.specs.declared.actions.Action.TheVariants as act
-use Rattle.machine_core.specs.Beneath.rdcss_root.specs.Tables.{Table, word_in}
-use Rattle.running.specs.Carried.{carried_offer}
 use Rattle.running.proofs.Offers.{marked_at, marks_by, unmarked}
-use Rattle.running.specs.Taking.{Taken}
-use Rattle.running.specs.Places.{IsSound}
 use Rattle.machine_core.specs.declared.parts.Actor.{Actor}
 use Rattle.machine_core.specs.declared.parts.Parts.{Parts}
 use Rattle.machine_core.specs.declared.parts.UnderWay.{UnderWay}
-use Rattle.machine_core.specs.Beneath.proof_straight.specs.Resting.{IsOfRun}
 use Rattle.machine_core.specs.Keeping.{AreSeated, IsKept, IsSeated}
 use Rattle.machine_core.specs.Seen.{actors_seen, operation_at, operation_seen, seen}
 use Rattle.machine_core.specs.Ties.{IsTied, private_refs}

@@ -2,18 +2,13 @@
 use Rattle.std.proofs.Common.{◌≡◌, ◌≢◌, length, ℕ, zero, suc, ◌-◌, ◌<◌, ◌≤◌, ◌⊎◌, inl, inr, List, set, get_or, map, Option, Some, None, refl, sym, ap, ◌∙◌, subst, arith}
 use Rattle.std.specs.Prelude.{false, is_some, option_and_then, option_map, slice_get}
 use Rattle.std.proofs.lemmas.Option.{none-some, slice_get-get_or}
-use Rattle.machine_core.specs.Vocabulary.{HashKind, Ref, times, Offer, is_running, pin_of, operation_of}
+use Rattle.machine_core.specs.Vocabulary.{HashKind, Ref, times, Offer, is_running, pin_of, operation_of, root_refs, Table, word_in, Programs, IsSound, KnowsNumbers}
 use Rattle.handle_table.specs.Numbers.{Numbers}
 use Rattle.history.proofs.Places.{at_set_cases}
-use Rattle.machine_core.specs.Beneath.rdcss_root.specs.Holding.{root_refs}
-use Rattle.machine_core.specs.Beneath.rdcss_root.specs.Tables.{Table, word_in}
-use Rattle.running.specs.declared.programs.Programs.{Programs}
-use Rattle.running.specs.Places.{IsSound}
 use Rattle.machine_core.specs.declared.parts.Actor.{Actor}
 use Rattle.machine_core.specs.declared.parts.Parts.{Parts}
 use Rattle.machine_core.specs.declared.parts.UnderWay.{UnderWay}
 use Rattle.machine_core.specs.Keeping.{AreSeated, IsKept, IsNoted, IsSeated, Replaces}
-use Rattle.proof_core.specs.Numbering.{KnowsNumbers}
 use Rattle.machine_core.specs.Seen.{actor_of, actors_seen, operation_at, operation_seen, seen, under_way_of}
 use Rattle.machine_core.specs.Ties.{private_refs}
 use Rattle.machine_core.proofs.Knows.{offerers_over, runs_same}

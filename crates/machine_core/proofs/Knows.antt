@@ -3,14 +3,11 @@ use Rattle.std.proofs.Common.{◌≡◌, ℕ, zero, suc, ◌<◌, ◌⊎◌, inl
 use Rattle.std.proofs.lemmas.Bool.{cases_eq}
 use Rattle.std.proofs.lemmas.List.{get_or-set_other}
 use Rattle.std.proofs.lemmas.Option.{none-some}
-use Rattle.machine_core.specs.Vocabulary.{Operation, Descriptor, Root, Offer, State, operation_of, word_at, word_of, run}
+use Rattle.machine_core.specs.Vocabulary.{Operation, Descriptor, Root, Offer, State, operation_of, word_at, word_of, run, HaveIds, Table, with_root_in, word_in, IsOfRun}
 use Rattle.machine_model.proofs.Found.{found_elsewhere, found_here}
 use Rattle.machine_core.specs.Beneath.proof_generations.proofs.Roots.OfLists.{has_handles_along}
 use Rattle.machine_core.specs.Beneath.proof_generations.proofs.Offers.Standing.{own_numbers}
-use Rattle.machine_core.specs.Beneath.proof_operations.specs.Laws.{HaveIds}
 use Rattle.machine_core.specs.Beneath.proof_operations.proofs.Given.{ids_apart}
-use Rattle.machine_core.specs.Beneath.rdcss_root.specs.Tables.{Table, with_root_in, word_in}
-use Rattle.machine_core.specs.Beneath.proof_straight.specs.Resting.{IsOfRun}
 use Rattle.machine_core.specs.Keeping.{KnowsOfferers}
 
 -- ---- who runs

@@ -2,19 +2,14 @@
 use Rattle.std.proofs.Common.{◌≡◌, ℕ, ◌+◌, ◌-◌, ◌≤◌, set, Some, None, refl, sym, ap, ◌∙◌, subst, arith, inl, inr}
 use Rattle.std.specs.Prelude.{option_map, slice_get}
 use Rattle.std.proofs.lemmas.Option.{none-some, same_Some}
-use Rattle.machine_core.specs.Vocabulary.{HashKind, Ref, times, Operation, Offer, ended, reserved_by, operation_of}
+use Rattle.machine_core.specs.Vocabulary.{HashKind, Ref, times, Operation, Offer, ended, reserved_by, operation_of, Table, word_in, AreHeld, Programs, IsOfRun, KnowsNumbers, ended_on}
 use Rattle.handle_table.specs.Numbers.{Numbers}
 use Rattle.epochs.specs.Memories.{Memory}
-use Rattle.machine_core.specs.Beneath.rdcss_root.specs.Tables.{Table, word_in}
-use Rattle.machine_core.specs.Beneath.trie_parts.specs.Holding.{AreHeld}
-use Rattle.running.specs.declared.programs.Programs.{Programs}
 use Rattle.machine_core.specs.declared.parts.Actor.{Actor}
 use Rattle.machine_core.specs.declared.parts.Parts.{Parts}
 use Rattle.machine_core.specs.declared.parts.UnderWay.{UnderWay}
 use Rattle.machine_core.specs.Beginnings.{Leaves}
-use Rattle.machine_core.specs.Beneath.proof_straight.specs.Resting.{IsOfRun}
 use Rattle.machine_core.specs.Keeping.{AreSeated, IsKept, IsNoted, IsSeated, Replaces}
-use Rattle.proof_core.specs.Numbering.{KnowsNumbers, ended_on}
 use Rattle.machine_core.specs.Seen.{actors_seen, operation_at, seen, under_way_of}
 use Rattle.machine_core.specs.Ties.{IsTied}
 use Rattle.machine_core.proofs.Kept.{seat_of, operation_there, replaced_seated, replaced_seen}

@@ -4,11 +4,9 @@ use Rattle.std.specs.Prelude.{Option, Some, None, option_map, refl, if◌then◌
 use Rattle.std.proofs.Common.{arith, sym, ap, subst, ◌∙◌, get_or, set}
 use Rattle.std.proofs.lemmas.Bool.{eqb-true, false≢true}
 use Rattle.std.proofs.lemmas.List.{get_or-set_same, get_or-set_other}
-use Rattle.machine_core.specs.Vocabulary.{HashKind, Action, Operation, Descriptor, marked, State, word_at, is_carried_out}
+use Rattle.machine_core.specs.Vocabulary.{HashKind, Action, Operation, Descriptor, marked, State, word_at, is_carried_out, Table, carried_offer}
 use Rattle.machine_model.specs.declared.actions.Action.TheVariants as act
 use Rattle.machine_model.proofs.Actors.{after_marks, marks_of}
-use Rattle.machine_core.specs.Beneath.rdcss_root.specs.Tables.{Table}
-use Rattle.running.specs.Carried.{carried_offer}
 use Rattle.running.proofs.Offers.{marked_at, unmarked}
 use Rattle.machine_core.specs.declared.parts.Actor.{Actor}
 use Rattle.machine_core.specs.declared.parts.UnderWay.{UnderWay}

@@ -5,7 +5,8 @@ use Rattle.std.proofs.lemmas.Bool.{cases_eq, cases_lt, false≢true}
 use Rattle.std.proofs.lemmas.List.{get_or_past, get_or-set_other, get_or-set_same, length-set}
 use Rattle.std.proofs.lemmas.Option.{none-some, same_Some}
 use Rattle.history.proofs.Places.{at_set_cases}
-use Rattle.machine_core.specs.Vocabulary.{Action, Operation, Descriptor, Root, Plain, Offer, if_changed, run, action_of, State, operation_of, rewritten, word_of, is_plain, stands_in}
+use Rattle.machine_core.specs.Vocabulary.{Action, Operation, Descriptor, Root, Plain, Offer, if_changed, run, action_of, State, operation_of, rewritten, word_of, is_plain, stands_in, Table}
+use Rattle.machine_core.specs.Vocabulary.{acted_table, carried_out_in, opened_in, with_word_in, word_in, Taken, IsOfRun}
 use Rattle.machine_model.specs.declared.actions.Action.TheVariants as act
 use Rattle.machine_model.specs.declared.lines.Line.TheVariants as line
 use Rattle.machine_model.specs.declared.copying.CopyLine.TheVariants as copy
@@ -13,13 +14,10 @@ use Rattle.machine_model.proofs.Basics.{not_offer}
 use Rattle.machine_core.specs.Beneath.proof_generations.proofs.Lines.Copy.{LineFits}
 use Rattle.machine_core.specs.Beneath.proof_generations.proofs.Offers.Standing.{OfferFrom, offer_from, offer_line, put, stood}
 use Rattle.machine_core.specs.Beneath.proof_generations.proofs.Roots.OfLists.{has_handles_along}
-use Rattle.machine_core.specs.Beneath.rdcss_root.specs.Tables.{Table, acted_table, carried_out_in, opened_in, with_word_in, word_in}
 use Rattle.running.proofs.ByParts.{acts_by}
-use Rattle.running.specs.Taking.{Taken}
 use Rattle.machine_core.specs.declared.parts.Actor.{Actor}
 use Rattle.machine_core.specs.declared.parts.Parts.{Parts}
 use Rattle.machine_core.specs.declared.parts.UnderWay.{UnderWay}
-use Rattle.machine_core.specs.Beneath.proof_straight.specs.Resting.{IsOfRun}
 use Rattle.machine_core.specs.Keeping.{IsKept, KnowsOfferers}
 use Rattle.machine_core.specs.Seen.{operation_at, operation_seen, seen}
 use Rattle.proof_core.proofs.Given.{sizes}

@@ -4,18 +4,14 @@ use Rattle.std.specs.Prelude.{option_map, slice_get, slice_index_or, if◌then�
 use Rattle.std.proofs.lemmas.Bool.{false≢true}
 use Rattle.std.proofs.lemmas.Option.{none-some, same_Some}
 use Rattle.history.proofs.Places.{at_set_cases}
-use Rattle.machine_core.specs.Vocabulary.{Ref, Action, Operation, Descriptor, RootWord, Plain, Offer, run, State, operation_of, word_at, is_carried_out}
+use Rattle.machine_core.specs.Vocabulary.{Ref, Action, Operation, Descriptor, RootWord, Plain, Offer, run, State, operation_of, word_at, is_carried_out, word_in, Taken, carried_offer, IsOfRun}
 use Rattle.machine_model.specs.declared.actions.Action.TheVariants as act
 use Rattle.machine_core.specs.Beneath.proof_generations.proofs.Roots.OfLists.{has_handles_along}
 use Rattle.machine_core.specs.Beneath.proof_generations.proofs.Offers.Standing.{own_numbers}
-use Rattle.machine_core.specs.Beneath.rdcss_root.specs.Tables.{word_in}
-use Rattle.running.specs.Taking.{Taken}
-use Rattle.running.specs.Carried.{carried_offer}
 use Rattle.running.proofs.Offers.{unmarked}
 use Rattle.machine_core.specs.declared.parts.Actor.{Actor}
 use Rattle.machine_core.specs.declared.parts.Parts.{Parts}
 use Rattle.machine_core.specs.declared.parts.UnderWay.{UnderWay}
-use Rattle.machine_core.specs.Beneath.proof_straight.specs.Resting.{IsOfRun}
 use Rattle.machine_core.specs.Keeping.{IsKept}
 use Rattle.machine_core.specs.Seen.{operation_at, seen}
 use Rattle.proof_core.proofs.Given.{sizes}

@@ -2,15 +2,13 @@
 use Rattle.std.proofs.Common.{◌≡◌, ℕ, Option, Some, arith, refl, sym, ap, ◌∙◌}
 use Rattle.std.specs.Prelude.{Bool, true, is_some, not, option_and_then, option_map}
 use Rattle.std.proofs.lemmas.Option.{none-some}
-use Rattle.machine_core.specs.Vocabulary.{Reply, Action, Line, Operation, next_kind, action_of, kind_of, line_action, State}
+use Rattle.machine_core.specs.Vocabulary.{Reply, Action, Line, Operation, next_kind, action_of, kind_of, line_action, State, answer_of, goes_on}
 use Rattle.machine_model.specs.declared.actions.Action.TheVariants as act
 use Rattle.machine_model.specs.declared.lines.Line.TheVariants as line
-use Rattle.machine_core.specs.Beneath.operate.specs.Places.{answer_of}
 use Rattle.machine_core.specs.declared.parts.Actor.{Actor}
 use Rattle.machine_core.specs.declared.parts.Parts.{Parts}
 use Rattle.machine_core.specs.Seen.{actor_of, operation_seen, seen}
 use Rattle.machine_core.specs.Told.{published_in, published_of}
-use Rattle.proof_core.specs.Going.{goes_on}
 use Rattle.machine_core.proofs.Kept.{found_operation}
 
 pub only_end : (state : State) (operation : Operation) (l : Line) (answer : Reply) → line_action state operation l ≡ act.End answer → l ≡ line.End answer

@@ -3,15 +3,12 @@ use Rattle.std.proofs.Common.{arith, ◌≡◌, ℕ, suc, ◌+◌, ◌-◌, ◌*
 use Rattle.std.proofs.lemmas.Bool.{cond_both}
 use Rattle.std.proofs.lemmas.List.Elements.{All-take, All-weaker}
 use Rattle.machine_core.specs.Vocabulary.{HashKind, hash_of, Call, Node, Indirection, Single, Ref, AreLive, IsLive, is_indirection, Heap, entry_at, generation_at, main_at, main_of, node_at}
-use Rattle.machine_core.specs.Vocabulary.{refs_of_node, taken, times, by_index, pair, rung, index_in, list_depth, parting, key_in, old_hash, key_of, value_of, State, key_hash}
+use Rattle.machine_core.specs.Vocabulary.{refs_of_node, taken, times, by_index, pair, rung, index_in, list_depth, parting, key_in, old_hash, key_of, value_of, State, key_hash, parts_at, with_link}
+use Rattle.machine_core.specs.Vocabulary.{with_links, with_single, Draft, first_draft, next_made, HasEmptySlots, at_heap, no_state, CanSwap, IsDraft, KeepsRecords}
 use Rattle.epochs.specs.Memories.{Memory}
 use Rattle.machine_core.specs.Beneath.proof_operations.proofs.MostHeld.{pair_within}
-use Rattle.machine_core.specs.Beneath.proof_straight.specs.Changes.{parts_at, with_link, with_links, with_single}
-use Rattle.machine_core.specs.Beneath.proof_straight.specs.Drafts.{Draft, first_draft, next_made, with_made}
-use Rattle.machine_core.specs.Beneath.proof_straight.specs.Running.{HasEmptySlots}
+use Rattle.machine_core.specs.Beneath.proof_straight.specs.Drafts.{with_made}
 use Rattle.machine_core.specs.Beneath.proof_memory.proofs.Claims.Made.{by_index_all, pair_all}
-use Rattle.machine_core.specs.Beneath.trie_parts.specs.Here.{at_heap, no_state}
-use Rattle.proof_core.specs.Drafting.{CanSwap, IsDraft, KeepsRecords}
 use Rattle.machine_core.specs.Pairing.{CanMake, IsMade, Makes}
 use Rattle.proof_core.proofs.Claims.{one_live}
 use Rattle.proof_core.proofs.Drafts.{births_more, held_more, node_still, takes_one}

@@ -5,14 +5,11 @@ use Rattle.std.proofs.lemmas.Bool.{cases_eq, false≢true}
 use Rattle.std.proofs.lemmas.List.{append_assoc, length-append}
 use Rattle.arrayvec.specs.ArrayVec.{ArrayVec}
 use Rattle.machine_core.specs.Vocabulary.{index_at, position_of, Node, Branch, Indirection, Single, Tomb, List as Listed, Slot, Ref, IsLive, is_indirection, Heap, entries_of, entry_at, main_at}
-use Rattle.machine_core.specs.Vocabulary.{main_of, node_at, node_of, no_ref, prev_at, stored, slot_of, most_levels, State, flag_of}
+use Rattle.machine_core.specs.Vocabulary.{main_of, node_at, node_of, no_ref, prev_at, stored, slot_of, most_levels, State, flag_of, IsInUse, AnEntry, is as held, AreRenewable, IsRenewable}
 use Rattle.machine_model.proofs.Grown.{standing_parts}
-use Rattle.machine_core.specs.Beneath.proof_memory.specs.Laws.{IsInUse}
-use Rattle.machine_core.specs.Beneath.proof_memory.specs.Wants.{AnEntry, is as held}
 use Rattle.machine_core.specs.Beneath.proof_memory.proofs.Claims.Nodes.{main_read}
 use Rattle.machine_core.specs.Beneath.proof_memory.proofs.Claims.Uses.{Meets, safe_of}
 use Rattle.machine_core.specs.Beneath.proof_memory.proofs.Holding.Lives.{in_use_lives}
-use Rattle.machine_core.specs.Beneath.proof_straight.specs.Renewals.{AreRenewable, IsRenewable}
 use Rattle.machine_core.specs.Beneath.proof_straight.proofs.Change.Slots.{node_again, prev_stays, same_stored}
 use Rattle.machine_core.specs.declared.descending.Entry.{Entry}
 use Rattle.machine_core.specs.declared.descending.Entry.TheVariants.{Vacant, Own, Other}

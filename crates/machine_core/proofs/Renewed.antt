@@ -5,11 +5,10 @@ use Rattle.std.proofs.lemmas.List.{drop_all, length-append}
 use Rattle.std.proofs.lemmas.List.Elements.{All-nil, All-push, All-weaker}
 use Rattle.arrayvec.specs.ArrayVec.{ArrayVec}
 use Rattle.machine_core.specs.Vocabulary.{Node, Branch, Indirection, Ref, AreLive, IsLive, Heap, entries_of, entry_at, generation_at, main_at, main_of, node_at, no_ref, refs_of_node, renewed, State}
+use Rattle.machine_core.specs.Vocabulary.{Draft, first_draft, swapped_in, Renewal, is_of_other, is_old, renewal_of, renewed_entries, renewed_entry, CanSwap, IsDraft}
 use Rattle.epochs.specs.Memories.{Memory}
-use Rattle.machine_core.specs.Beneath.proof_straight.specs.Drafts.{Draft, first_draft, swapped_in, with_made}
-use Rattle.machine_core.specs.Beneath.proof_straight.specs.Renewals.{Renewal, is_of_other, is_old, renewal_of, renewed_entries, renewed_entry}
+use Rattle.machine_core.specs.Beneath.proof_straight.specs.Drafts.{with_made}
 use Rattle.machine_core.specs.Beneath.proof_straight.proofs.Renewal.NewEntries.{all_private, steps_by_slots}
-use Rattle.proof_core.specs.Drafting.{CanSwap, IsDraft}
 use Rattle.machine_core.specs.Pairing.{CanMake, IsMade, Makes}
 use Rattle.machine_core.specs.Renewing.{IsRenewing, IsSoFar, Renews}
 use Rattle.machine_core.proofs.Paired.{can_begin, can_fewer, made_same, makes_on}

@@ -4,20 +4,14 @@ use Rattle.std.proofs.Common.{refl, sym, ap, ◌∙◌, subst}
 use Rattle.std.specs.List.{count_by, list_any}
 use Rattle.std.proofs.lemmas.Bool.{true≢false}
 use Rattle.std.proofs.lemmas.Option.{none-some}
-use Rattle.machine_core.specs.Vocabulary.{HashKind, Call, Reply, Ref, times, Root, outside, FitsKey, is_busy, is_taken, names, pin_of, State, operation_of}
+use Rattle.machine_core.specs.Vocabulary.{HashKind, Call, Reply, Ref, times, Root, outside, FitsKey, is_busy, is_taken, names, pin_of, State, operation_of, Course, Draft, after_call, held_with}
+use Rattle.machine_core.specs.Vocabulary.{Comes, root_refs, Table, KeepsRecords, KnowsNumbers}
 use Rattle.handle_table.specs.Numbers.{Numbers, is_taken_in}
 use Rattle.slot_arena.proofs.Times.{times-append}
 use Rattle.machine_model.specs.declared.steps.Step.TheVariants as step
 use Rattle.machine_core.specs.Beneath.proof_operations.proofs.Numbers.{reserves}
-use Rattle.machine_core.specs.Beneath.proof_straight.specs.Copies.{Course}
-use Rattle.machine_core.specs.Beneath.proof_straight.specs.Drafts.{Draft, after_call, held_with}
-use Rattle.machine_core.specs.Beneath.proof_straight.specs.Running.{Comes}
-use Rattle.machine_core.specs.Beneath.rdcss_root.specs.Holding.{root_refs}
-use Rattle.machine_core.specs.Beneath.rdcss_root.specs.Tables.{Table}
 use Rattle.machine_core.specs.declared.parts.Parts.{Parts}
-use Rattle.proof_core.specs.Drafting.{KeepsRecords}
 use Rattle.machine_core.specs.Keeping.{AreSeated, IsCore, IsKept}
-use Rattle.proof_core.specs.Numbering.{KnowsNumbers}
 use Rattle.machine_core.specs.Rooting.{IsCourse}
 use Rattle.machine_core.specs.Seen.{actors_seen, seen}
 use Rattle.machine_core.specs.Straight.{CarriesBy}

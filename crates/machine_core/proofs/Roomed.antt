@@ -3,24 +3,16 @@ use Rattle.std.proofs.Common.{◌≡◌, ℕ, ◌-◌, ◌<◌, true, length, Li
 use Rattle.std.specs.Prelude.{option_map, slice_get, OnErr, OnOk, Result, Ok, Err}
 use Rattle.std.proofs.lemmas.Option.{same_Some}
 use Rattle.history.proofs.Places.{at_set}
-use Rattle.machine_core.specs.Vocabulary.{needs_read_only, operation_of, HashKind, State}
+use Rattle.machine_core.specs.Vocabulary.{needs_read_only, operation_of, HashKind, State, Program, Key, Copy, call_for, IsWalk, Walks, Table, Programs, line_for, KnowsNumbers}
 use Rattle.machine_core.specs.Beneath.snapshot.specs.declared.tasks.WalkCall.TheVariants as walk
-use Rattle.running.specs.declared.job.Program.{Program}
-use Rattle.running.specs.declared.job.Program.TheVariants.{Key, Copy, Walk, Close}
-use Rattle.running.specs.Places.{call_for}
-use Rattle.running.specs.Steps.{IsWalk}
-use Rattle.proof_core.specs.Bounds.{Walks}
+use Rattle.running.specs.declared.job.Program.TheVariants.{Walk, Close}
 use Rattle.std.proofs.Math.Seq.{map-set_same}
 use Rattle.std.proofs.lemmas.Option.{get_or_from_slice_get}
-use Rattle.machine_core.specs.Beneath.rdcss_root.specs.Tables.{Table}
-use Rattle.running.specs.declared.programs.Programs.{Programs}
-use Rattle.running.specs.Places.{line_for}
 use Rattle.running.proofs.Roomy.{generation_same}
 use Rattle.machine_core.specs.declared.parts.Actor.{Actor}
 use Rattle.machine_core.specs.declared.parts.Parts.{Parts}
 use Rattle.machine_core.specs.declared.parts.UnderWay.{UnderWay}
 use Rattle.machine_core.specs.Keeping.{IsKept, IsSeated, KnowsOfferers, Replaces}
-use Rattle.proof_core.specs.Numbering.{KnowsNumbers}
 use Rattle.machine_core.specs.Rooming.{GivesRoom, HasRoomToStep, IsWalking}
 use Rattle.machine_core.specs.Seen.{actors_seen, operation_at, operation_seen, seen}
 use Rattle.machine_core.specs.Ties.{IsTied}

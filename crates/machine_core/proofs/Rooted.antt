@@ -5,15 +5,11 @@ use Rattle.std.proofs.lemmas.Bool.{cases_eq}
 use Rattle.std.proofs.lemmas.List.Elements.{All-head, All-tail}
 use Rattle.std.proofs.lemmas.List.{get_or-set_other, get_or-set_same, set-set}
 use Rattle.machine_core.specs.Vocabulary.{Ref, AreLive, IsLive, Heap, times, Descriptor, Root, RootWord, Offer, Plain, opened, opened_root, outside, refs_of_operation, is_number, State, rewritten}
-use Rattle.machine_core.specs.Vocabulary.{root_at, with_root, with_word}
+use Rattle.machine_core.specs.Vocabulary.{root_at, with_root, with_word, Course, with_offer, Draft, held_with, redrafted, root_refs, Table, opened_in, with_root_in, IsDraft}
 use Rattle.slot_arena.proofs.Times.{times-append}
 use Rattle.epochs.specs.Memories.{Memory}
-use Rattle.machine_core.specs.Beneath.proof_straight.specs.Copies.{Course, with_offer}
-use Rattle.machine_core.specs.Beneath.proof_straight.specs.Drafts.{Draft, held_with, redrafted}
-use Rattle.machine_core.specs.Beneath.rdcss_root.specs.Holding.{Moves, root_refs}
-use Rattle.machine_core.specs.Beneath.rdcss_root.specs.Tables.{Table, opened_in, with_root_in}
+use Rattle.machine_core.specs.Beneath.rdcss_root.specs.Holding.{Moves}
 use Rattle.machine_core.specs.declared.parts.Parts.{Parts}
-use Rattle.proof_core.specs.Drafting.{IsDraft}
 use Rattle.proof_core.proofs.Claims.{one_live}
 use Rattle.machine_core.specs.Rooting.{HoldsBeside, IsCourse, writable}
 

@@ -6,11 +6,9 @@ use Rattle.std.specs.Option.{IsSome}
 use Rattle.std.proofs.lemmas.List.{get_or-drop, length-drop}
 use Rattle.arrayvec.specs.ArrayVec.{ArrayVec}
 use Rattle.machine_core.specs.Vocabulary.{hash_of, position_of, HashKind, Node, Branch, Indirection, Single, Tomb, List as Listed, Ref, Heap, bitmap_of, entries_of, logical_main, node_at, flag_of}
-use Rattle.machine_core.specs.Vocabulary.{has_flag, Root, content_at, most_levels, pairs_below, by_key, State, root_at, root_of, word_at, word_of}
-use Rattle.machine_core.specs.Beneath.proof_memory.specs.Wants.{is_branch}
-use Rattle.machine_core.specs.Beneath.proof_straight.specs.Resting.{IsOfRun}
-use Rattle.proof_core.specs.Reading.{is_after, next_of}
-use Rattle.proof_core.specs.Scanning.{IsEntryPlaced, IsMainPlaced, IsPlaced, is_behind, scanned, walked, walked_in}
+use Rattle.machine_core.specs.Vocabulary.{has_flag, Root, content_at, most_levels, pairs_below, by_key, State, root_at, root_of, word_at, word_of, is_branch, IsOfRun, is_after, next_of}
+use Rattle.machine_core.specs.Vocabulary.{IsEntryPlaced, IsMainPlaced, is_behind, walked, walked_in}
+use Rattle.proof_core.specs.Scanning.{IsPlaced, scanned}
 use Rattle.proof_core.proofs.Gathering.{gather_more, gather_none}
 use Rattle.proof_core.proofs.Scanned.{entry_in_place, singles_met}
 use Rattle.proof_core.proofs.Scanning.Cursors.{branch_off, branch_on, branch_way, list_behind, tomb_walked}

@@ -2,13 +2,12 @@
 use Rattle.std.proofs.Common.{◌≡◌, ℕ, ◌+◌, drop, get_or, ◌<◌, ◌≤◌, Bool, false, cond, List, [], ◌∷◌, ◌++◌, length, take, arith, refl, sym, ap, ap₂, ◌∙◌}
 use Rattle.std.specs.BinaryHeap.{heap_items}
 use Rattle.std.specs.List.{filter, flat_map}
-use Rattle.machine_core.specs.Vocabulary.{Ref, by_key, comes_before}
+use Rattle.machine_core.specs.Vocabulary.{Ref, by_key, comes_before, is_after, next_of}
 use Rattle.std.specs.Prelude.{count_by}
 use Rattle.std.proofs.lemmas.List.{append-nil, take_all, take-take}
 use Rattle.std.proofs.lemmas.List.Elements.{filter-append}
 use Rattle.std.proofs.lemmas.List.Sums.{sum_by-append}
 use Rattle.machine_core.specs.declared.selection.Selection.{Selection}
-use Rattle.proof_core.specs.Reading.{is_after, next_of}
 use Rattle.machine_core.specs.Selecting.{Takes, is_wanted, selected, selected_with}
 use Rattle.proof_core.proofs.Filtered.{filter_sorted}
 use Rattle.machine_core.proofs.Sorting.{pairs_order}

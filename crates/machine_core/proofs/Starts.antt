@@ -8,17 +8,14 @@ use Rattle.std.proofs.lemmas.List.Elements.{All-get_or, All-head, All-push, All-
 use Rattle.std.proofs.lemmas.Option.{get_or_from_slice_get, none-some, slice_get_within}
 use Rattle.machine_core.specs.Vocabulary.{HashKind, Writable, Ref, Slot, ref_to, Heap, taken, empty_branch, next_ref, named_from, in_use, heap_refs, refs_of_slot, count_of, times, without, Settles}
 use Rattle.machine_core.specs.Vocabulary.{is_zero, is_in, limbo_after, by_birth, Operation, Root, Plain, Bounds, refs_of_root, refs_of_operation, pin_of, State, empty_heap, first_heap, first_state}
-use Rattle.machine_core.specs.Vocabulary.{operation_of}
+use Rattle.machine_core.specs.Vocabulary.{operation_of, root_refs, Table, new_table, with_root_in, KnowsNumbers, crossing}
 use Rattle.handle_table.specs.Numbers.{Numbers, no_numbers, with_taken}
 use Rattle.slot_arena.proofs.Times.{once_same, times-cons, times-without, times_le}
 use Rattle.epochs.specs.Memories.{Memory}
-use Rattle.machine_core.specs.Beneath.rdcss_root.specs.Holding.{IsReady, Moves, root_refs}
-use Rattle.machine_core.specs.Beneath.rdcss_root.specs.Tables.{Table, new_table, with_root_in}
+use Rattle.machine_core.specs.Beneath.rdcss_root.specs.Holding.{IsReady, Moves}
 use Rattle.machine_core.specs.declared.parts.Actor.{Actor}
 use Rattle.machine_core.specs.declared.parts.Parts.{Parts}
 use Rattle.machine_core.specs.Keeping.{AreSeated, IsKept}
-use Rattle.proof_core.specs.Numbering.{KnowsNumbers}
-use Rattle.proof_core.specs.Work.{crossing}
 use Rattle.proof_core.proofs.Crossing.{settling_pays}
 use Rattle.machine_core.specs.Seen.{actors_seen, operation_at, seen}
 use Rattle.machine_core.specs.Starting.{AreIdle, IsIdle}

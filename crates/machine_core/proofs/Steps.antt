@@ -2,13 +2,14 @@
 use Rattle.std.proofs.Common.{◌≡◌, ℕ, ◌+◌, ◌-◌, slice_set, inl, inr, true, false, if◌then◌else◌, Option, Some, None, IfErr, IfOk, OnErr, Result, Ok, Err, refl, sym, ap, ◌∙◌, arith, Bool}
 use Rattle.std.proofs.lemmas.Option.{none-some, same_Some}
 use Rattle.machine_core.specs.Vocabulary.{Refusal, Call, Action, Operation, Outcome, Step, State, operation_of, handle_of, action_of, gone, limbo_after, outside, settled, next, begin_denial}
-use Rattle.machine_core.specs.Vocabulary.{begin_unless, with_begin, go_denial, go_unless, go_on, went, is_spent, swept, settled_after, is_taken_step, denial_of, begun_operation, Told}
+use Rattle.machine_core.specs.Vocabulary.{begin_unless, with_begin, go_denial, go_unless, go_on, went, is_spent, swept, settled_after, is_taken_step, denial_of, begun_operation, Told, Applies}
+use Rattle.machine_core.specs.Vocabulary.{Walks}
 use Rattle.ctrie_base.specs.declared.refusals.Refusal.TheVariants as refuse
 use Rattle.machine_model.specs.declared.actions.Action.TheVariants as act
 use Rattle.machine_model.specs.declared.steps.Outcome.TheVariants as outcome
 use Rattle.machine_model.specs.declared.steps.Step.TheVariants as step
 use Rattle.machine_model.proofs.Frames.{acted_framed}
-use Rattle.proof_core.specs.Bounds.{Answers, Applies, Leads, Walks}
+use Rattle.proof_core.specs.Bounds.{Answers, Leads}
 use Rattle.machine_core.specs.Told.{TellsBegin, stepped}
 use Rattle.machine_core.proofs.Stopped.{giving_up_denied, giving_up_taken}
 use Rattle.machine_core.specs.declared.telling.Begun.{Begun}

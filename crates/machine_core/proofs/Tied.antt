@@ -2,12 +2,10 @@
 use Rattle.std.proofs.Common.{◌≡◌, ℕ, zero, suc, ◌+◌, ◌-◌, ◌≤◌, List, [], length, set, get_or, Option, Some, None, refl, sym, ap, ◌∙◌, arith}
 use Rattle.std.proofs.lemmas.List.{map-set, length-map}
 use Rattle.std.proofs.lemmas.Option.{none-some}
-use Rattle.machine_core.specs.Vocabulary.{Ref, times, Operation, Root, State, operation_of, refs_of_operation, pin_of}
+use Rattle.machine_core.specs.Vocabulary.{Ref, times, Operation, Root, State, operation_of, refs_of_operation, pin_of, root_refs, StandsAt}
 use Rattle.epochs.specs.Memories.{Memory}
 use Rattle.machine_model.proofs.Found.{found_within}
-use Rattle.machine_core.specs.Beneath.rdcss_root.specs.Holding.{root_refs}
 use Rattle.machine_core.specs.Ties.{IsTied}
-use Rattle.proof_core.specs.Standing.{StandsAt}
 use Rattle.machine_core.specs.Beneath.rdcss_root.proofs.Rewriting.{times_set}
 use Rattle.machine_core.proofs.Tying.{times_part}
 

@@ -2,10 +2,8 @@
 use Rattle.std.proofs.Common.{arith, ◌≡◌, ℕ, zero, suc, ◌-◌, Some, sym, ap, subst, ◌∙◌}
 use Rattle.std.specs.Prelude.{slice_get, slice_set}
 use Rattle.std.proofs.lemmas.Option.{same_Some}
-use Rattle.running.specs.declared.programs.Programs.{Programs}
-use Rattle.running.specs.Places.{line_for}
-use Rattle.running.specs.Steps.{Does, scene}
-use Rattle.running.specs.Taking.{Taken}
+use Rattle.machine_core.specs.Vocabulary.{Programs, line_for, scene, Taken}
+use Rattle.running.specs.Steps.{Does}
 use Rattle.machine_core.specs.declared.parts.Actor.{Actor}
 use Rattle.machine_core.specs.declared.parts.Parts.{Parts}
 use Rattle.machine_core.specs.declared.parts.UnderWay.{UnderWay}

@@ -4,12 +4,10 @@ use Rattle.std.specs.Prelude.{is_some, option_map}
 use Rattle.std.proofs.lemmas.List.{length-map}
 use Rattle.std.proofs.lemmas.Option.{slice_get_within}
 use Rattle.ctrie_base.specs.declared.refusals.Refusal.TheVariants as refuse
-use Rattle.machine_core.specs.Vocabulary.{first_reason, go_denial, is_actor, is_running, is_spent, next_kind, action_of, kind_of, operation_of, Operation}
+use Rattle.machine_core.specs.Vocabulary.{first_reason, go_denial, is_actor, is_running, is_spent, next_kind, action_of, kind_of, operation_of, Operation, IsOfRun, goes_on}
 use Rattle.machine_model.proofs.Actors.{actor_by}
 use Rattle.machine_core.specs.declared.parts.Parts.{Parts}
-use Rattle.machine_core.specs.Beneath.proof_straight.specs.Resting.{IsOfRun}
 use Rattle.machine_core.specs.Seen.{actor_of, operation_seen, seen}
-use Rattle.proof_core.specs.Going.{goes_on}
 use Rattle.machine_core.proofs.Allowed.{owner_runs}
 use Rattle.proof_core.proofs.Given.{sizes}
 use Rattle.machine_core.proofs.Kept.{seat_of}

@@ -2,17 +2,12 @@
 use Rattle.std.proofs.Common.{arith, ◌≡◌, ℕ, ◌-◌, ◌<◌, Option, Some, None, length, refl, sym, ap, ◌∙◌}
 use Rattle.std.specs.Prelude.{true, false, not, is_some, IsSome, option_and_then, option_map, slice_get}
 use Rattle.std.proofs.lemmas.Option.{none-some, same_Some, slice_get_within}
-use Rattle.machine_core.specs.Vocabulary.{Reply, go_denial, next_kind, Operation}
-use Rattle.running.specs.Places.{line_for}
-use Rattle.running.specs.Steps.{CanStep, scene}
+use Rattle.machine_core.specs.Vocabulary.{Reply, go_denial, next_kind, Operation, line_for, CanStep, scene, IsOfRun, answer_of, goes_on}
 use Rattle.machine_core.specs.declared.parts.Actor.{Actor}
 use Rattle.machine_core.specs.declared.parts.Parts.{Parts}
 use Rattle.machine_core.specs.declared.parts.UnderWay.{UnderWay}
-use Rattle.machine_core.specs.Beneath.proof_straight.specs.Resting.{IsOfRun}
-use Rattle.machine_core.specs.Beneath.operate.specs.Places.{answer_of}
 use Rattle.machine_core.specs.Keeping.{IsKept}
 use Rattle.machine_core.specs.Seen.{actor_of, operation_at, operation_seen, seen, under_way_of}
-use Rattle.proof_core.specs.Going.{goes_on}
 use Rattle.machine_core.proofs.Allowed.{can, owner_runs}
 use Rattle.machine_core.proofs.Kept.{Seat, seat_of}
 use Rattle.machine_core.proofs.Onward.{line_onward, onward_of, onward_there}

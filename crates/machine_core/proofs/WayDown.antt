@@ -2,16 +2,14 @@
 use Rattle.std.proofs.Common.{arith, ◌≡◌, ℕ, ◌+◌, ◌*◌, ◌<◌, ◌≤◌, ◌==◌, true, false, not, length, None, refl, sym, ap, ◌∙◌, subst}
 use Rattle.std.proofs.lemmas.Bool.{false≢true}
 use Rattle.machine_core.specs.Vocabulary.{position_of, Writable, Call, Node, Indirection, Ref, is_indirection, Heap, bitmap_of, entries_of, entry_at, generation_at, main_at, node_at, key_of}
-use Rattle.machine_core.specs.Vocabulary.{needs_writable, FitsKey, begin_denial, is_busy, State, key_hash, flag_of}
+use Rattle.machine_core.specs.Vocabulary.{needs_writable, FitsKey, begin_denial, is_busy, State, key_hash, flag_of, not_two, to_root, is_of_other, with_renewal, KeepsRecords}
 use Rattle.epochs.specs.Memories.{Memory}
 use Rattle.machine_model.specs.declared.steps.Step.TheVariants as step
-use Rattle.machine_core.specs.Beneath.proof_straight.specs.Places.{Leads, Leaves, not_two, to_root}
-use Rattle.machine_core.specs.Beneath.proof_straight.specs.Renewals.{is_of_other, with_renewal}
+use Rattle.machine_core.specs.Beneath.proof_straight.specs.Places.{Leads, Leaves}
 use Rattle.machine_core.specs.Beneath.proof_straight.specs.Running.{IsKeyed}
 use Rattle.machine_core.specs.declared.descending.Place.{Place}
 use Rattle.machine_core.specs.declared.parts.Parts.{Parts}
 use Rattle.machine_core.specs.Descending.{EndsAt}
-use Rattle.proof_core.specs.Drafting.{KeepsRecords}
 use Rattle.machine_core.specs.Renewing.{EndsPast, IsOn, Renews}
 use Rattle.machine_core.specs.Keeping.{IsCore}
 use Rattle.machine_core.specs.Seen.{seen}

@@ -3,28 +3,21 @@ use Rattle.std.proofs.Common.{arith, ◌≡◌, ℕ, ◌+◌, ◌-◌, Some, Non
 use Rattle.std.specs.Prelude.{option_map}
 use Rattle.std.proofs.lemmas.Option.{none-some, same_Some}
 use Rattle.machine_core.specs.Vocabulary.{Kind, Reply, Action, Line, Operation, Entrant, Bounds, ended, gone, handle_of, go_denial, went, GoesOn, action_of, kind_of, line_action, State}
-use Rattle.machine_core.specs.Vocabulary.{operation_of, word_at, entrant_of, progress_of, published_by, told_by, told_of, RootWord}
+use Rattle.machine_core.specs.Vocabulary.{operation_of, word_at, entrant_of, progress_of, published_by, told_by, told_of, RootWord, answer_of, Table, carried_of, carried_offer, line_for, Taken}
+use Rattle.machine_core.specs.Vocabulary.{scene, IsOfRun, KnowsNumbers}
 use Rattle.handle_table.specs.Numbers.{Numbers}
 use Rattle.machine_model.specs.declared.actions.Action.TheVariants as act
 use Rattle.machine_model.specs.declared.lines.Line.TheVariants as line
 use Rattle.machine_model.specs.declared.records.Told.TheVariants as told
 use Rattle.machine_model.specs.declared.steps.Outcome.TheVariants as outcome
-use Rattle.machine_core.specs.Beneath.operate.specs.Places.{answer_of}
-use Rattle.machine_core.specs.Beneath.rdcss_root.specs.Tables.{Table}
-use Rattle.running.specs.Carried.{carried_of, carried_offer}
-use Rattle.running.specs.Places.{line_for}
-use Rattle.running.specs.Taking.{Taken}
 use Rattle.running.proofs.Progress.{progress_is}
-use Rattle.running.specs.Steps.{scene}
 use Rattle.machine_core.specs.Going.{CarriesUnless}
 use Rattle.machine_core.proofs.Allowed.{there_is}
 use Rattle.machine_core.specs.declared.parts.Parts.{Parts}
 use Rattle.machine_core.specs.declared.parts.UnderWay.{UnderWay}
 use Rattle.machine_core.specs.declared.telling.Ended.{Ended}
 use Rattle.machine_core.specs.declared.telling.Stepped.{Stepped}
-use Rattle.machine_core.specs.Beneath.proof_straight.specs.Resting.{IsOfRun}
 use Rattle.machine_core.specs.Keeping.{AreSeated, IsKept}
-use Rattle.proof_core.specs.Numbering.{KnowsNumbers}
 use Rattle.machine_core.specs.Seen.{operation_at, seen}
 use Rattle.machine_core.specs.Told.{TellsEnd, TellsStep}
 use Rattle.machine_core.proofs.Gone.{carried_is, gone_seen, takes}

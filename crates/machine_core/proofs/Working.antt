@@ -3,21 +3,19 @@ use Rattle.std.proofs.Common.{arith, ◌≡◌, ℕ, ◌+◌, ◌-◌, ◌*◌, 
 use Rattle.std.specs.Prelude.{slice_get}
 use Rattle.std.proofs.lemmas.Option.{same_Some}
 use Rattle.epochs.specs.Memories.{reclaimer_of}
-use Rattle.machine_core.specs.Vocabulary.{TakesUpTo, Swept, Zeroed, limbo_after, newly_zero, freed_by, staying, swept_once, Operation, refs_of_operation, State, operation_of, most_slots}
+use Rattle.machine_core.specs.Vocabulary.{TakesUpTo, Swept, Zeroed, limbo_after, newly_zero, freed_by, staying, swept_once, Operation, refs_of_operation, State, operation_of, Taken}
+use Rattle.machine_core.specs.Vocabulary.{IsOfRun, NotesUpTo, WorksLittle, WorksUpTo, crossing, held_by, ticks_of_a_step}
 use Rattle.epochs.specs.declared.limbo.Swept.TheVariants as swept
 use Rattle.epochs.specs.Memories.{Memory}
 use Rattle.machine_core.specs.Beneath.proof_operations.proofs.Privates.{privates_short}
-use Rattle.running.specs.Taking.{Taken}
 use Rattle.machine_core.specs.declared.parts.Actor.{Actor}
 use Rattle.machine_core.specs.declared.parts.Parts.{Parts}
 use Rattle.machine_core.specs.declared.parts.UnderWay.{UnderWay}
 use Rattle.machine_core.specs.Beginnings.{Leaves}
-use Rattle.machine_core.specs.Beneath.proof_straight.specs.Resting.{IsOfRun}
 use Rattle.machine_core.specs.Going.{Steps}
 use Rattle.machine_core.specs.Keeping.{Replaces}
 use Rattle.machine_core.specs.Seen.{operation_at, seen, under_way_of}
 use Rattle.machine_core.specs.Work.{ActsLittle, ticks_of_a_sweep, worked}
-use Rattle.proof_core.specs.Work.{NotesUpTo, WorksLittle, WorksUpTo, crossing, held_by, ticks_of_a_step}
 use Rattle.proof_core.proofs.Crossing.{sweeping_pays}
 use Rattle.machine_core.proofs.Ends.{left}
 use Rattle.machine_core.proofs.Kept.{operation_there, seat_of}

@@ -1,12 +1,9 @@
 -- How an actor's operation begins and ends.
 use Rattle.std.specs.Prelude.{◌≡◌, ℕ, [], length, Some, None}
-use Rattle.machine_core.specs.Vocabulary.{Access, first_line}
+use Rattle.machine_core.specs.Vocabulary.{Access, first_line, KeepsOthers, IsSound, call_for, generation_in, line_for, NotesUpTo}
 use Rattle.epochs.specs.Memories.{Memory}
-use Rattle.machine_core.specs.Beneath.trie_parts.specs.Holding.{KeepsOthers}
-use Rattle.running.specs.Places.{IsSound, call_for, generation_in, line_for}
 use Rattle.machine_core.specs.declared.parts.Actor.{Actor}
 use Rattle.machine_core.specs.declared.parts.UnderWay.{UnderWay}
-use Rattle.proof_core.specs.Work.{NotesUpTo}
 
 -- the actor begins this operation, on a handle of this kind
 pub record Begins (u : UnderWay) (access : Access) (before after : Actor) : Type 0 where

@@ -1,12 +1,9 @@
 -- A step of an operation in place: what its programs did.
 use Rattle.std.specs.Prelude.{◌≡◌, ℕ, ◌-◌, None}
-use Rattle.machine_core.specs.Vocabulary.{Kind}
+use Rattle.machine_core.specs.Vocabulary.{Kind, Table, line_for, scene, Taken}
 use Rattle.ctrie_base.specs.declared.kinds.Kind.TheVariants as kind
 use Rattle.epochs.specs.Memories.{Memory}
-use Rattle.machine_core.specs.Beneath.rdcss_root.specs.Tables.{Table}
-use Rattle.running.specs.Places.{line_for}
-use Rattle.running.specs.Steps.{Does, scene}
-use Rattle.running.specs.Taking.{Taken}
+use Rattle.running.specs.Steps.{Does}
 use Rattle.machine_core.specs.declared.parts.Actor.{Actor}
 use Rattle.machine_core.specs.declared.parts.Parts.{Parts}
 use Rattle.machine_core.specs.declared.parts.UnderWay.{UnderWay}

@@ -1,13 +1,9 @@
 -- What the parts of a machine keep, beside the state that they hold, between steps and in the midst of one.
 use Rattle.std.specs.Prelude.{◌≡◌, ℕ, ◌+◌, List, [], length, slice_get, slice_set, slice_index_or, Some, None}
-use Rattle.machine_core.specs.Vocabulary.{HashKind, Operation, Descriptor, Offer, State, handle_limit, operation_of}
-use Rattle.machine_core.specs.Beneath.rdcss_root.specs.Tables.{Table, word_in}
-use Rattle.running.specs.Places.{IsSound}
+use Rattle.machine_core.specs.Vocabulary.{HashKind, Operation, Descriptor, Offer, State, handle_limit, operation_of, Table, word_in, IsSound, IsOfRun, KnowsNumbers}
 use Rattle.machine_core.specs.declared.parts.Actor.{Actor}
 use Rattle.machine_core.specs.declared.parts.Parts.{Parts}
 use Rattle.machine_core.specs.declared.parts.UnderWay.{UnderWay}
-use Rattle.machine_core.specs.Beneath.proof_straight.specs.Resting.{IsOfRun}
-use Rattle.proof_core.specs.Numbering.{KnowsNumbers}
 use Rattle.machine_core.specs.Seen.{seen}
 use Rattle.machine_core.specs.Ties.{IsTied}
 

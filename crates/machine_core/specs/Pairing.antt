@@ -1,13 +1,8 @@
 -- Two keys whose ways part below: how the way down to both is made.
 use Rattle.std.specs.Prelude.{◌≡◌, ℕ, ◌+◌, ◌<◌, ◌≤◌, List, length}
-use Rattle.machine_core.specs.Vocabulary.{Call, Ref, IsLive, node_at, birth_limit, State}
+use Rattle.machine_core.specs.Vocabulary.{Call, Ref, IsLive, node_at, birth_limit, State, parts_at, with_change, with_pair, Draft, HasEmptySlots, AreHeld, IsDraft, KeepsRecords}
 use Rattle.epochs.specs.Memories.{Memory}
 use Rattle.machine_model.specs.declared.building.Change.TheVariants as change
-use Rattle.machine_core.specs.Beneath.proof_straight.specs.Changes.{parts_at, with_change, with_pair}
-use Rattle.machine_core.specs.Beneath.proof_straight.specs.Drafts.{Draft}
-use Rattle.machine_core.specs.Beneath.proof_straight.specs.Running.{HasEmptySlots}
-use Rattle.machine_core.specs.Beneath.trie_parts.specs.Holding.{AreHeld}
-use Rattle.proof_core.specs.Drafting.{IsDraft, KeepsRecords}
 
 -- so many nodes can be made, which are held with these
 pub record CanMake (memory : Memory) (made : List Ref) (nodes : ℕ) : Type 0 where

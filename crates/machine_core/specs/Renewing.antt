@@ -2,20 +2,18 @@
 use Rattle.std.specs.Prelude.{None, ◌≡◌, ℕ, suc, ◌+◌, ◌<◌, ◌≤◌, true, List, [], drop, length}
 use Rattle.arrayvec.specs.ArrayVec.{ArrayVec}
 use Rattle.machine_core.specs.Vocabulary.{position_of, Writable, Call, Node, Branch, Indirection, Single, Ref, AreLive, IsLive, Heap, entries_of, entry_at, generation_at, main_at, node_at, prev_at}
-use Rattle.machine_core.specs.Vocabulary.{key_of, needs_writable, most_levels, FitsKey, State, key_hash, flag_of, has_flag}
+use Rattle.machine_core.specs.Vocabulary.{key_of, needs_writable, most_levels, FitsKey, State, key_hash, flag_of, has_flag, first_draft, Renewal, renewal_of, renewed_entries, steps_of_renewal}
+use Rattle.machine_core.specs.Vocabulary.{with_renewal, IsDraft}
 use Rattle.slot_arena.specs.declared.nodes.Prev.TheVariants as prev
 use Rattle.epochs.specs.Memories.{Memory}
 use Rattle.machine_model.specs.declared.steps.Step.TheVariants as step
-use Rattle.machine_core.specs.Beneath.proof_straight.specs.Drafts.{first_draft}
 use Rattle.machine_core.specs.Beneath.proof_straight.specs.Places.{Leads}
-use Rattle.machine_core.specs.Beneath.proof_straight.specs.Renewals.{Renewal, renewal_of, renewed_entries, steps_of_renewal, with_renewal}
 use Rattle.machine_core.specs.Beneath.proof_straight.specs.Running.{IsKeyed}
 use Rattle.machine_core.specs.declared.descending.Onward.{Onward}
 use Rattle.machine_core.specs.declared.descending.Onward.TheVariants.{Below, Here, Barred}
 use Rattle.machine_core.specs.declared.descending.Place.{Place}
 use Rattle.machine_core.specs.declared.parts.Parts.{Parts}
 use Rattle.machine_core.specs.Descending.{IsHere}
-use Rattle.proof_core.specs.Drafting.{IsDraft}
 use Rattle.machine_core.specs.Keeping.{IsKept}
 use Rattle.machine_core.specs.Pairing.{Makes}
 use Rattle.machine_core.specs.Seen.{seen}

@@ -1,8 +1,6 @@
 -- What an actor is whose walk was given room.
 use Rattle.std.specs.Prelude.{◌≡◌, Option, Some, None}
-use Rattle.running.specs.declared.job.Program.{Program}
-use Rattle.running.specs.Places.{line_for, IsSound}
-use Rattle.running.specs.Steps.{CanStep, IsWalk, RoomFor, Scene}
+use Rattle.machine_core.specs.Vocabulary.{Program, line_for, IsSound, CanStep, IsWalk, RoomFor, Scene}
 use Rattle.machine_core.specs.declared.parts.Actor.{Actor}
 use Rattle.machine_core.specs.declared.parts.UnderWay.{UnderWay}
 

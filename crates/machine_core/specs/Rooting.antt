@@ -1,12 +1,9 @@
 -- Parts whose root words and next generation a call changes that runs alone.
 use Rattle.std.specs.Prelude.{◌≡◌, ℕ, ◌+◌, ◌<◌, ◌≤◌, ◌^◌, List, Option, Some}
-use Rattle.machine_core.specs.Vocabulary.{Writable, Indirection, Ref, Heap, node_at, prev_at, times, Root, RootWord}
+use Rattle.machine_core.specs.Vocabulary.{Writable, Indirection, Ref, Heap, node_at, prev_at, times, Root, RootWord, Course, root_refs, IsDraft}
 use Rattle.slot_arena.specs.declared.nodes.Prev.TheVariants as prev
 use Rattle.epochs.specs.Memories.{Memory}
-use Rattle.machine_core.specs.Beneath.proof_straight.specs.Copies.{Course}
-use Rattle.machine_core.specs.Beneath.rdcss_root.specs.Holding.{root_refs}
 use Rattle.machine_core.specs.declared.parts.Parts.{Parts}
-use Rattle.proof_core.specs.Drafting.{IsDraft}
 
 -- the parts have come as far as this course of a call
 pub record IsCourse (course : Course) (parts : Parts) : Type 0 where

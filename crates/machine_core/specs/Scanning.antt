@@ -1,8 +1,8 @@
 -- How far a scan has come, and where its cursor leads.
 use Rattle.std.specs.Prelude.{◌≡◌, ℕ, ◌-◌, ◌*◌, ◌%◌, ◌^◌, ◌++◌, List, length, take, Option, Some, None, ⊤}
 use Rattle.std.specs.List.{filter}
-use Rattle.machine_core.specs.Vocabulary.{hash_of, HashKind, Node, Ref, Heap}
-use Rattle.proof_core.specs.Scanning.{IsMainPlaced, IsPlaced, is_behind}
+use Rattle.machine_core.specs.Vocabulary.{hash_of, HashKind, Node, Ref, Heap, IsMainPlaced, is_behind}
+use Rattle.proof_core.specs.Scanning.{IsPlaced}
 
 -- what was taken, and then the first of these pairs that are behind the cursor, until there are so many
 unfoldable pub with_next : HashKind → Option ℕ → ℕ → List (ℕ × ℕ) → List (ℕ × ℕ) → List (ℕ × ℕ)

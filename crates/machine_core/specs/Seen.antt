@@ -1,9 +1,6 @@
 -- The state that the parts of a machine hold.
 use Rattle.std.specs.Prelude.{ℕ, zero, suc, List, map, slice_get, slice_index_or, false, Option, None, option_map, option_and_then}
-use Rattle.machine_core.specs.Vocabulary.{Operation, State}
-use Rattle.machine_core.specs.Beneath.rdcss_root.specs.Tables.{Table}
-use Rattle.running.specs.declared.programs.Programs.{Programs}
-use Rattle.running.specs.Places.{call_for, generation_in, line_for}
+use Rattle.machine_core.specs.Vocabulary.{Operation, State, Table, Programs, call_for, generation_in, line_for}
 use Rattle.machine_core.specs.declared.parts.Actor.{Actor}
 use Rattle.machine_core.specs.declared.parts.Parts.{Parts}
 use Rattle.machine_core.specs.declared.parts.UnderWay.{UnderWay}

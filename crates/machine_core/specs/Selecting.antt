@@ -2,8 +2,7 @@
 use Rattle.std.specs.Prelude.{◌≡◌, ℕ, Bool, List, ◌++◌, take}
 use Rattle.std.specs.BinaryHeap.{heap_items}
 use Rattle.std.specs.List.{filter}
-use Rattle.machine_core.specs.Vocabulary.{by_key}
-use Rattle.proof_core.specs.Reading.{is_after}
+use Rattle.machine_core.specs.Vocabulary.{by_key, is_after}
 use Rattle.machine_core.specs.declared.selection.Selection.{Selection}
 
 -- the least of these pairs, so many at most, in ascending order

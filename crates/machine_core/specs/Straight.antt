@@ -1,9 +1,8 @@
 -- Calls that are carried out at once.
 use Rattle.std.specs.Prelude.{◌≡◌, ℕ, ◌+◌, ◌*◌, ◌<◌, ◌≤◌, [], length}
-use Rattle.machine_core.specs.Vocabulary.{Call, Reply, Ref, birth_limit, Plain, handle_of, longest_life, State, word_at}
+use Rattle.machine_core.specs.Vocabulary.{Call, Reply, Ref, birth_limit, Plain, handle_of, longest_life, State, word_at, IsOfRun, Comes}
 use Rattle.machine_core.specs.Beneath.proof_straight.specs.Passing.{Passes}
-use Rattle.machine_core.specs.Beneath.proof_straight.specs.Resting.{IsOfRun}
-use Rattle.machine_core.specs.Beneath.proof_straight.specs.Running.{Comes, IsReady}
+use Rattle.machine_core.specs.Beneath.proof_straight.specs.Running.{IsReady}
 use Rattle.machine_core.specs.declared.parts.Parts.{Parts}
 use Rattle.machine_core.specs.Keeping.{IsCore, IsKept}
 use Rattle.machine_core.specs.Seen.{seen}

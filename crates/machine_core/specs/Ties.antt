@@ -1,8 +1,7 @@
 -- How the references that the heap counts from outside are tied to root words and private lists.
 use Rattle.std.specs.Prelude.{◌≡◌, ◌+◌, List, flat_map, map, Option}
-use Rattle.machine_core.specs.Vocabulary.{Ref, times, Operation, Root, refs_of_operation, pin_of}
+use Rattle.machine_core.specs.Vocabulary.{Ref, times, Operation, Root, refs_of_operation, pin_of, root_refs}
 use Rattle.epochs.specs.Memories.{Memory}
-use Rattle.machine_core.specs.Beneath.rdcss_root.specs.Holding.{root_refs}
 
 -- the references in the private lists of running operations
 abbrev pub private_refs : List (Option Operation) → List Ref

@@ -1,10 +1,9 @@
 -- What the steps of a core tell: their outcome, and what the definition tells of them beside it.
 use Rattle.std.specs.Prelude.{None, ◌≡◌, ℕ, Option, option_and_then, Result, Ok, Err}
-use Rattle.machine_core.specs.Vocabulary.{Refusal, Call, Operation, Publication, Outcome, Reply, State, operation_of, published_by, told_in}
+use Rattle.machine_core.specs.Vocabulary.{Refusal, Call, Operation, Publication, Outcome, Reply, State, operation_of, published_by, told_in, answer_of}
 use Rattle.machine_model.specs.declared.records.Told.TheVariants as told
 use Rattle.machine_model.specs.declared.steps.Outcome.TheVariants as outcome
 use Rattle.machine_model.specs.declared.steps.Step.TheVariants as step
-use Rattle.machine_core.specs.Beneath.operate.specs.Places.{answer_of}
 use Rattle.machine_core.specs.declared.telling.Begun.{Begun}
 use Rattle.machine_core.specs.declared.telling.Ended.{Ended}
 use Rattle.machine_core.specs.declared.telling.Stepped.{Stepped}

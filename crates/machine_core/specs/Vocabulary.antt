@@ -1,4 +1,4 @@
--- The words of the definition, for the files of this crate.
+-- The words of the definition and of the crates below, for the files of this crate.
 pub use Rattle.ctrie_base.specs.Hashes.{hash_of}
 pub use Rattle.ctrie_base.specs.Paths.{index_at, position_of}
 pub use Rattle.ctrie_base.specs.declared.hashes.HashKind.{HashKind}
@@ -75,3 +75,74 @@ pub use Rattle.machine_model.specs.declared.steps.Outcome.{Outcome}
 pub use Rattle.machine_model.specs.declared.steps.Outcome.TheVariants.{Ended}
 pub use Rattle.machine_model.specs.declared.steps.Step.{Step}
 pub use Rattle.machine_model.specs.declared.steps.Step.TheVariants.{Sweep}
+pub use Rattle.machine_core.specs.Beneath.proof_contents.specs.Nodes.Looking.{Absent, Below, Has, look_among}
+unfoldable pub use Rattle.machine_core.specs.Beneath.proof_contents.specs.Nodes.Looking.{find_at}
+pub use Rattle.machine_core.specs.Beneath.proof_memory.specs.Laws.{IsInUse}
+pub use Rattle.machine_core.specs.Beneath.proof_memory.specs.Wants.{AMain, AnEntry, Holds, Is, action_wants, is, is_branch, line_wants, read_wants}
+pub use Rattle.machine_core.specs.Beneath.proof_operations.specs.Laws.{HaveIds, LineHasRoom}
+pub use Rattle.machine_core.specs.Beneath.proof_straight.specs.Changes.{changed_main, parts_at, with_change, with_link, with_pair, with_single}
+unfoldable pub use Rattle.machine_core.specs.Beneath.proof_straight.specs.Changes.{with_links}
+pub use Rattle.machine_core.specs.Beneath.proof_straight.specs.Copies.{Course, IsSettled, cleared, closed, first_course, frozen, offer_of, snapshotted, with_new_root, with_offer}
+pub use Rattle.machine_core.specs.Beneath.proof_straight.specs.Drafts.{Draft, after_call, first_draft, held_with, next_made, redrafted, swapped_in, with_published}
+pub use Rattle.machine_core.specs.Beneath.proof_straight.specs.Passing.{IsRenewed, MeetsOld}
+pub use Rattle.machine_core.specs.Beneath.proof_straight.specs.Places.{Finds, HasEntry, Misses, an_indirection, below, beside_other, entry_for, no_entry, not_two, steps_down, to_root}
+pub use Rattle.machine_core.specs.Beneath.proof_straight.specs.Renewals.{AreRenewable, IsRenewable, Renewal, is_of_other, is_old, renewal_of, renewed_entry, renewed_state, steps_of_renewal}
+pub use Rattle.machine_core.specs.Beneath.proof_straight.specs.Renewals.{with_renewal}
+unfoldable pub use Rattle.machine_core.specs.Beneath.proof_straight.specs.Renewals.{renewal_slots, renewed_entries}
+pub use Rattle.machine_core.specs.Beneath.proof_straight.specs.Resting.{IsOfRun}
+pub use Rattle.machine_core.specs.Beneath.proof_straight.specs.Running.{Comes, HasEmptySlots, IsUpToDate, starts, walks}
+pub use Rattle.machine_core.specs.Beneath.operate.specs.Beneath.gcas.specs.Acted.{acted_heap}
+pub use Rattle.machine_core.specs.Beneath.operate.specs.Beneath.gcas.specs.Reads.{CanReadAt, CanReadOn, line_of}
+pub use Rattle.machine_core.specs.Beneath.operate.specs.Beneath.gcas.specs.Swaps.{CanSwapAt, swap_line_at}
+pub use Rattle.machine_core.specs.Beneath.operate.specs.Beneath.gcas.specs.declared.read.ReadAt.{ReadAt}
+pub use Rattle.machine_core.specs.Beneath.operate.specs.Beneath.gcas.specs.declared.swap.SwapAt.{SwapAt}
+pub use Rattle.machine_core.specs.Beneath.trie_parts.specs.Here.{at_heap, no_state}
+pub use Rattle.machine_core.specs.Beneath.trie_parts.specs.Holding.{AreHeld, KeepsOthers}
+pub use Rattle.machine_core.specs.Beneath.trie_parts.specs.Steps.{CanMake, IsAskingLine}
+pub use Rattle.machine_core.specs.Beneath.trie_parts.specs.declared.calls.KeyCall.{KeyCall}
+pub use Rattle.machine_core.specs.Beneath.trie_parts.specs.declared.work.Work.{Work}
+pub use Rattle.machine_core.specs.Beneath.rdcss_root.specs.Holding.{root_refs}
+pub use Rattle.machine_core.specs.Beneath.rdcss_root.specs.Programs.{CanAbortOn, CanCompleteAt, CanRootOn, ReadsItsRoot, ReadsOffered, complete_line_at}
+pub use Rattle.machine_core.specs.Beneath.rdcss_root.specs.Tables.{Table, acted_table, carried_out_in, new_table, opened_in, with_root_in, with_word_in, word_in}
+pub use Rattle.machine_core.specs.Beneath.rdcss_root.specs.declared.complete.CompleteAt.{CompleteAt}
+pub use Rattle.machine_core.specs.Beneath.root_asking.specs.Asked.{abort_of}
+pub use Rattle.machine_core.specs.Beneath.root_asking.specs.declared.asking.Asking.{Asking}
+pub use Rattle.machine_core.specs.Beneath.root_asking.specs.declared.asking.Asking.TheVariants.{Met, Unasked}
+pub use Rattle.machine_core.specs.Beneath.operate.specs.Beneath.key_change.specs.Steps.{CanChangeAt}
+pub use Rattle.machine_core.specs.Beneath.operate.specs.Beneath.key_change.specs.declared.change.ChangeAt.{ChangeAt}
+pub use Rattle.machine_core.specs.Beneath.operate.specs.Beneath.contract.specs.Cleaning.{CanCleanAt, clean_line_at}
+pub use Rattle.machine_core.specs.Beneath.operate.specs.Beneath.contract.specs.Climbing.{CanClimbAt, climb_line_at, climb_of}
+pub use Rattle.machine_core.specs.Beneath.operate.specs.Beneath.contract.specs.Renewing.{CanRenewAt, renew_line_at}
+pub use Rattle.machine_core.specs.Beneath.operate.specs.Beneath.contract.specs.declared.clean.CleanAt.{CleanAt}
+pub use Rattle.machine_core.specs.Beneath.operate.specs.Beneath.contract.specs.declared.climb.ClimbAt.{ClimbAt}
+pub use Rattle.machine_core.specs.Beneath.operate.specs.Beneath.contract.specs.declared.renew.RenewAt.{RenewAt}
+pub use Rattle.machine_core.specs.Beneath.snapshot.specs.Copies.{CanCopyAt, IsReadyBeside, copy_line_at, making_line}
+pub use Rattle.machine_core.specs.Beneath.snapshot.specs.Tasks.{drawn_by, with_generation}
+pub use Rattle.machine_core.specs.Beneath.snapshot.specs.Walks.{CanWalkAt, walk_line_at}
+pub use Rattle.machine_core.specs.Beneath.snapshot.specs.declared.copy_op.CopyAt.{CopyAt}
+pub use Rattle.machine_core.specs.Beneath.snapshot.specs.declared.copy_op.Making.{Making}
+pub use Rattle.machine_core.specs.Beneath.snapshot.specs.declared.walk.WalkAt.{WalkAt}
+pub use Rattle.machine_core.specs.Beneath.operate.specs.Places.{answer_of, below_line, key_line_at}
+pub use Rattle.machine_core.specs.Beneath.operate.specs.Steps.{CanBelow, CanKeyAt, operation_for}
+pub use Rattle.machine_core.specs.Beneath.operate.specs.declared.key_op.BelowAt.{BelowAt}
+pub use Rattle.machine_core.specs.Beneath.operate.specs.declared.key_op.KeyAt.{KeyAt}
+pub use Rattle.machine_core.specs.Beneath.operate.specs.declared.key_op.KeyOp.{KeyOp}
+pub use Rattle.running.specs.Carried.{carried_of, carried_offer}
+pub use Rattle.running.specs.Places.{IsBegun, IsSound, IsWaiting, ReadsIn, asking_line, call_for, generation_in, line_for, met_at, program_line, program_line_at}
+pub use Rattle.running.specs.Steps.{CanProgram, CanProgramAt, CanStep, Changes, IsWalk, RoomFor, Scene, Takes, at_scene, scene}
+pub use Rattle.running.specs.Taking.{Taken}
+pub use Rattle.running.specs.declared.job.Program.{Program}
+pub use Rattle.running.specs.declared.job.Program.TheVariants.{Copy, Key}
+pub use Rattle.running.specs.declared.programs.ProgramAt.{ProgramAt}
+pub use Rattle.running.specs.declared.programs.ProgramAt.TheVariants.{Swapped, Walked}
+pub use Rattle.running.specs.declared.programs.Programs.{Programs}
+pub use Rattle.proof_core.specs.Bounds.{Applies, IsBounded, Walks}
+pub use Rattle.proof_core.specs.Comparing.{Adds, Grows, entries_below, main_below}
+pub use Rattle.proof_core.specs.Drafting.{CanSwap, IsDraft, KeepsRecords}
+pub use Rattle.proof_core.specs.Going.{goes_on}
+pub use Rattle.proof_core.specs.Numbering.{KnowsNumbers, begun_on, ended_on, given_back, reserved}
+pub use Rattle.proof_core.specs.Reading.{Covers, IsOneOf, is_after, next_of}
+pub use Rattle.proof_core.specs.Scanning.{IsEntryPlaced, IsMainPlaced, is_behind, walked_in}
+unfoldable pub use Rattle.proof_core.specs.Scanning.{walked}
+pub use Rattle.proof_core.specs.Standing.{StandsAt}
+pub use Rattle.proof_core.specs.Work.{NotesUpTo, Worked, WorksLittle, WorksUpTo, crossing, held_by, ticks_of_a_step}

@@ -2,7 +2,7 @@
 use Rattle.std.specs.Prelude.{ℕ, ◌+◌}
 use Rattle.machine_core.specs.declared.parts.Parts.{Parts}
 use Rattle.machine_core.specs.Seen.{seen}
-use Rattle.proof_core.specs.Work.{Worked, NotesUpTo, WorksUpTo, held_by}
+use Rattle.machine_core.specs.Vocabulary.{Worked, NotesUpTo, WorksUpTo, held_by}
 
 abbrev pub worked : Parts → Worked
 worked parts = record { state = seen parts; work = parts.heap.ticks }

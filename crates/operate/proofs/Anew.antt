@@ -1,13 +1,9 @@
 -- A READ that begins anew has committed nothing.
 use Rattle.std.specs.Prelude.{◌≡◌, Option, None, refl}
-use Rattle.operate.specs.Beneath.ctrie_base.specs.declared.kinds.Kind.{Kind}
+use Rattle.operate.specs.Vocabulary.{Kind, Access, Heap, ReadAt, ReadsAlong}
 use Rattle.operate.specs.Beneath.ctrie_base.specs.declared.kinds.Kind.TheVariants as kind
-use Rattle.operate.specs.Beneath.history.specs.declared.calls.Access.{Access}
-use Rattle.operate.specs.Beneath.slot_arena.specs.Heaps.{Heap}
 use Rattle.operate.specs.Beneath.machine_model.specs.declared.reading.Read.{Read}
-use Rattle.operate.specs.Beneath.gcas.specs.declared.read.ReadAt.{ReadAt}
 use Rattle.operate.specs.Beneath.gcas.specs.declared.read.ReadAt.TheVariants as at
-use Rattle.operate.specs.Beneath.gcas.specs.Reads.{ReadsAlong}
 use Rattle.operate.specs.Steps.{CommitsNoMore}
 
 pub begins : (place : ReadAt) → CommitsNoMore place at.Main

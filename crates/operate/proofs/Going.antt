@@ -1,46 +1,21 @@
 -- What each line of a call on one key is told, asks and does.
 use Rattle.std.specs.Prelude.{◌≡◌, ℕ, List, Option, Some, None, refl}
-use Rattle.operate.specs.Beneath.history.specs.declared.calls.Access.{Access}
-use Rattle.operate.specs.Beneath.history.specs.declared.calls.Access.TheVariants.{Writable, ReadOnly}
-use Rattle.operate.specs.Beneath.history.specs.declared.replies.Reply.{Reply}
-use Rattle.operate.specs.Beneath.slot_arena.specs.declared.refs.Ref.{Ref}
-use Rattle.operate.specs.Beneath.slot_arena.specs.declared.nodes.Node.{Node}
-use Rattle.operate.specs.Beneath.machine_model.specs.declared.actions.Action.{Action}
+use Rattle.operate.specs.Vocabulary.{Access, Writable, ReadOnly, Reply, Ref, Node, Action, Line, Purpose, Operation, Climb, attempt_after, line_action, read_action, State, ReadAt, SwapAt, IsAsking}
+use Rattle.operate.specs.Vocabulary.{line_of, swap_with, IsAskingLine, Table, acted_table, with_read, ChangeAt, CleanAt, ClimbAt, RenewAt, clean_line_at, climb_line_at, renew_line_at}
 use Rattle.operate.specs.Beneath.machine_model.specs.declared.actions.Action.TheVariants as act
-use Rattle.operate.specs.Beneath.machine_model.specs.declared.lines.Line.{Line}
 use Rattle.operate.specs.Beneath.machine_model.specs.declared.lines.Line.TheVariants as line
-use Rattle.operate.specs.Beneath.machine_model.specs.declared.lines.Purpose.{Purpose}
 use Rattle.operate.specs.Beneath.machine_model.specs.declared.lines.Purpose.TheVariants as purpose
-use Rattle.operate.specs.Beneath.machine_model.specs.declared.operations.Operation.{Operation}
-use Rattle.operate.specs.Beneath.machine_model.specs.declared.repairs.Climb.{Climb}
-use Rattle.operate.specs.Beneath.machine_model.specs.Acting.{attempt_after}
-use Rattle.operate.specs.Beneath.machine_model.specs.Operations.{line_action}
-use Rattle.operate.specs.Beneath.machine_model.specs.Reading.{read_action}
-use Rattle.operate.specs.Beneath.machine_model.specs.States.{State}
 use Rattle.operate.specs.Beneath.gcas.specs.declared.read.Read.{Read}
-use Rattle.operate.specs.Beneath.gcas.specs.declared.read.ReadAt.{ReadAt}
 use Rattle.operate.specs.Beneath.gcas.specs.declared.read.ReadAt.TheVariants as read
 use Rattle.operate.specs.Beneath.gcas.specs.declared.swap.Swap.{Swap}
-use Rattle.operate.specs.Beneath.gcas.specs.declared.swap.SwapAt.{SwapAt}
 use Rattle.operate.specs.Beneath.gcas.specs.declared.swap.SwapAt.TheVariants as swap
-use Rattle.operate.specs.Beneath.gcas.specs.Reads.{IsAsking, line_at, line_of}
-use Rattle.operate.specs.Beneath.gcas.specs.Swaps.{swap_with}
-use Rattle.operate.specs.Beneath.trie_parts.specs.Steps.{IsAskingLine}
-use Rattle.operate.specs.Beneath.rdcss_root.specs.Tables.{Table, acted_table}
-use Rattle.operate.specs.Beneath.machine_model.specs.Reads.{with_read}
+use Rattle.operate.specs.Beneath.gcas.specs.Reads.{line_at}
 use Rattle.operate.specs.Beneath.key_change.specs.declared.building.Building.TheVariants as building
-use Rattle.operate.specs.Beneath.key_change.specs.declared.change.ChangeAt.{ChangeAt}
 use Rattle.operate.specs.Beneath.key_change.specs.declared.change.ChangeAt.TheVariants as change
 use Rattle.operate.specs.Beneath.key_change.specs.Lines.{line_at as change_at}
-use Rattle.contract.specs.declared.clean.CleanAt.{CleanAt}
 use Rattle.contract.specs.declared.clean.CleanAt.TheVariants as clean
-use Rattle.contract.specs.declared.climb.ClimbAt.{ClimbAt}
 use Rattle.contract.specs.declared.climb.ClimbAt.TheVariants as climb
-use Rattle.contract.specs.declared.renew.RenewAt.{RenewAt}
 use Rattle.contract.specs.declared.renew.RenewAt.TheVariants as renew
-use Rattle.contract.specs.Cleaning.{clean_line_at}
-use Rattle.contract.specs.Climbing.{climb_line_at}
-use Rattle.contract.specs.Renewing.{renew_line_at}
 use Rattle.operate.specs.Places.{answer_of}
 use Rattle.operate.specs.Reach.{SwapsNoRoot}
 

@@ -1,25 +1,11 @@
 -- What ROOT comes to, as a call on one key sees it in which it runs.
 use Rattle.std.specs.Prelude.{◌≡◌, refl}
 use Rattle.std.proofs.Common.{ap, sym, ◌∙◌}
-use Rattle.operate.specs.Beneath.ctrie_base.specs.declared.kinds.Kind.{Kind}
+use Rattle.operate.specs.Vocabulary.{Kind, Access, Ref, Heap, Operation, After, RootLine, RootWord, handle_of, kind_of, rooting_read, State, word_at, root_action, root_after, ReadAt, ReadsAlong}
+use Rattle.operate.specs.Vocabulary.{KeyCall, Task}
 use Rattle.operate.specs.Beneath.ctrie_base.specs.declared.kinds.Kind.TheVariants as kind
-use Rattle.operate.specs.Beneath.history.specs.declared.calls.Access.{Access}
-use Rattle.operate.specs.Beneath.slot_arena.specs.declared.refs.Ref.{Ref}
-use Rattle.operate.specs.Beneath.slot_arena.specs.Heaps.{Heap}
-use Rattle.operate.specs.Beneath.machine_model.specs.declared.operations.Operation.{Operation}
-use Rattle.operate.specs.Beneath.machine_model.specs.declared.reading.After.{After}
-use Rattle.operate.specs.Beneath.machine_model.specs.declared.roots.RootLine.{RootLine}
 use Rattle.operate.specs.Beneath.machine_model.specs.declared.roots.RootLine.TheVariants as root
-use Rattle.operate.specs.Beneath.machine_model.specs.declared.roots.RootWord.{RootWord}
-use Rattle.operate.specs.Beneath.machine_model.specs.Calls.{handle_of}
-use Rattle.operate.specs.Beneath.machine_model.specs.Operations.{kind_of, rooting_read}
-use Rattle.operate.specs.Beneath.machine_model.specs.States.{State, word_at}
-use Rattle.operate.specs.Beneath.machine_model.specs.Swapping.{root_action, root_after}
 use Rattle.operate.specs.Beneath.gcas.specs.declared.read.Read.{Read}
-use Rattle.operate.specs.Beneath.gcas.specs.declared.read.ReadAt.{ReadAt}
-use Rattle.operate.specs.Beneath.gcas.specs.Reads.{ReadsAlong}
-use Rattle.operate.specs.Beneath.trie_parts.specs.declared.calls.KeyCall.{KeyCall}
-use Rattle.operate.specs.Beneath.trie_parts.specs.declared.calls.Task.{Task}
 use Rattle.operate.specs.Beneath.trie_parts.specs.Tasks.{call_of}
 use Rattle.operate.specs.Beneath.trie_parts.proofs.Handles.{handle_same}
 

@@ -1,26 +1,13 @@
 -- What a call on one key is told, asks and does, wherever it stands.
 use Rattle.std.specs.Prelude.{◌≡◌, ℕ, Option, Some, None, refl}
-use Rattle.operate.specs.Beneath.machine_model.specs.declared.operations.Operation.{Operation}
-use Rattle.operate.specs.Beneath.machine_model.specs.declared.repairs.Climb.{Climb}
+use Rattle.operate.specs.Vocabulary.{Operation, Climb, Descriptor, line_action, above, State, root_action, line_of, CompleteAt, rooted_at, Table, IsAskingLine, with_read, climb_of, reply_of}
 use Rattle.operate.specs.Beneath.machine_model.specs.declared.repairs.ClimbLine.TheVariants as climbing
 use Rattle.operate.specs.Beneath.machine_model.specs.declared.lines.Line.TheVariants as line
-use Rattle.operate.specs.Beneath.machine_model.specs.declared.roots.Descriptor.{Descriptor}
-use Rattle.operate.specs.Beneath.machine_model.specs.Operations.{line_action}
-use Rattle.operate.specs.Beneath.machine_model.specs.Paths.{above}
-use Rattle.operate.specs.Beneath.machine_model.specs.States.{State}
-use Rattle.operate.specs.Beneath.machine_model.specs.Swapping.{root_action}
 use Rattle.operate.specs.Beneath.gcas.specs.declared.read.Read.{Read}
-use Rattle.operate.specs.Beneath.gcas.specs.Reads.{line_of}
-use Rattle.operate.specs.Beneath.rdcss_root.specs.declared.complete.CompleteAt.{CompleteAt}
 use Rattle.operate.specs.Beneath.rdcss_root.specs.declared.complete.CompleteAt.TheVariants as complete
 use Rattle.operate.specs.Beneath.rdcss_root.specs.declared.root.ReadRoot.{ReadRoot}
 use Rattle.operate.specs.Beneath.rdcss_root.specs.declared.root.ReadRoot.TheVariants as rooting
-use Rattle.operate.specs.Beneath.rdcss_root.specs.Programs.{root_of, rooted_at}
-use Rattle.operate.specs.Beneath.rdcss_root.specs.Tables.{Table}
-use Rattle.operate.specs.Beneath.trie_parts.specs.Steps.{IsAskingLine}
-use Rattle.operate.specs.Beneath.machine_model.specs.Reads.{with_read}
-use Rattle.contract.specs.Climbing.{climb_of}
-use Rattle.key_finding.specs.Replies.{reply_of}
+use Rattle.operate.specs.Beneath.rdcss_root.specs.Programs.{root_of}
 use Rattle.operate.specs.declared.key_op.BelowAt.{BelowAt}
 use Rattle.operate.specs.declared.key_op.BelowAt.TheVariants as at
 use Rattle.operate.specs.declared.key_op.KeyAt.{KeyAt}

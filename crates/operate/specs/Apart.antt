@@ -1,7 +1,6 @@
 -- What a step that is taken apart from the others comes to.
-use Rattle.operate.specs.Beneath.gcas.specs.declared.next.Next.{Next}
+use Rattle.operate.specs.Vocabulary.{Next, KeyReply}
 use Rattle.operate.specs.Beneath.gcas.specs.declared.next.Next.TheVariants as next
-use Rattle.key_finding.specs.declared.calls.KeyReply.{KeyReply}
 use Rattle.operate.specs.declared.went.Went.{Went}
 use Rattle.operate.specs.declared.went.Went.TheVariants.{More, AskRoot}
 

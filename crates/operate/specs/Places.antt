@@ -1,24 +1,12 @@
 -- Where a call on one key stands, as the definition's lines.
 use Rattle.std.specs.Prelude.{ℕ, List, Option, Some, None}
-use Rattle.operate.specs.Beneath.history.specs.declared.replies.Reply.{Reply}
-use Rattle.operate.specs.Beneath.slot_arena.specs.declared.refs.Ref.{Ref}
+use Rattle.operate.specs.Vocabulary.{Reply, Ref, Line, Operation, climbing, climbed, impossible, above, clean_line, climb_line, climb_of, renew_line, Tried, Changed, reply_of}
 use Rattle.operate.specs.Beneath.machine_model.specs.declared.finding.KeyLine.TheVariants as key
-use Rattle.operate.specs.Beneath.machine_model.specs.declared.lines.Line.{Line}
 use Rattle.operate.specs.Beneath.machine_model.specs.declared.lines.Line.TheVariants as line
-use Rattle.operate.specs.Beneath.machine_model.specs.declared.operations.Operation.{Operation}
 use Rattle.operate.specs.Beneath.machine_model.specs.declared.repairs.ClimbLine.TheVariants as climb
-use Rattle.operate.specs.Beneath.machine_model.specs.Climbing.{climbing, climbed}
-use Rattle.operate.specs.Beneath.machine_model.specs.Lines.{impossible}
-use Rattle.operate.specs.Beneath.machine_model.specs.Paths.{above}
 use Rattle.operate.specs.Beneath.gcas.specs.Reads.{read_of}
 use Rattle.operate.specs.Beneath.rdcss_root.specs.Programs.{root_of}
-use Rattle.contract.specs.Cleaning.{clean_line}
-use Rattle.contract.specs.Climbing.{climb_line, climb_of}
-use Rattle.contract.specs.Renewing.{renew_line}
 use Rattle.operate.specs.Beneath.key_change.specs.Lines.{line_of as change_line}
-use Rattle.operate.specs.Beneath.key_change.specs.declared.change.Tried.{Tried}
-use Rattle.operate.specs.Beneath.key_change.specs.declared.change.Tried.TheVariants.{Changed}
-use Rattle.key_finding.specs.Replies.{reply_of}
 use Rattle.operate.specs.declared.key_op.KeyOp.{KeyOp}
 use Rattle.operate.specs.declared.key_op.KeyAt.{KeyAt}
 use Rattle.operate.specs.declared.key_op.KeyAt.TheVariants.{Root, RootAgain, Down}

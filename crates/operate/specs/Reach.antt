@@ -1,12 +1,7 @@
 -- What a call on one key does beside the slots.
 use Rattle.std.specs.Prelude.{◌≡◌, ℕ, Option}
-use Rattle.operate.specs.Beneath.machine_model.specs.declared.actions.Action.{Action}
+use Rattle.operate.specs.Vocabulary.{Action, Operation, attempt_after, line_action, State, Table, acted_table}
 use Rattle.operate.specs.Beneath.machine_model.specs.declared.actions.Action.TheVariants as act
-use Rattle.operate.specs.Beneath.machine_model.specs.declared.operations.Operation.{Operation}
-use Rattle.operate.specs.Beneath.machine_model.specs.Acting.{attempt_after}
-use Rattle.operate.specs.Beneath.machine_model.specs.Operations.{line_action}
-use Rattle.operate.specs.Beneath.machine_model.specs.States.{State}
-use Rattle.operate.specs.Beneath.rdcss_root.specs.Tables.{Table, acted_table}
 use Rattle.operate.specs.declared.key_op.KeyOp.{KeyOp}
 use Rattle.operate.specs.Places.{key_line}
 use Rattle.operate.specs.Steps.{table_after}

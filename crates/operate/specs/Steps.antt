@@ -1,38 +1,14 @@
 -- What a step of a call on one key comes to, does and asks.
 use Rattle.std.specs.Prelude.{◌≡◌, ◌<◌, ℕ, List, length, Option, None}
-use Rattle.operate.specs.Beneath.ctrie_base.specs.declared.kinds.Kind.{Kind}
-use Rattle.operate.specs.Beneath.slot_arena.specs.declared.refs.Ref.{Ref}
-use Rattle.operate.specs.Beneath.slot_arena.specs.Heaps.{Heap}
+use Rattle.operate.specs.Vocabulary.{Kind, Ref, Heap, Line, Operation, Root, RootWord, handle_of, generation_from, line_action, above, State, word_at, Next, More, AskRoot, Done, ReadAt, CanReadOn}
+use Rattle.operate.specs.Vocabulary.{Task, at_heap, StepsOn, ActsInAll, CanRootOn, ReadsItsRoot, rooted_at, Table, CanChange, CanClean, CanClimb, CanRenew, KeyReply, reply_of}
 use Rattle.operate.specs.Beneath.epochs.specs.Memories.{Memory}
-use Rattle.operate.specs.Beneath.machine_model.specs.declared.lines.Line.{Line}
 use Rattle.operate.specs.Beneath.machine_model.specs.declared.lines.Line.TheVariants as line
-use Rattle.operate.specs.Beneath.machine_model.specs.declared.operations.Operation.{Operation}
-use Rattle.operate.specs.Beneath.machine_model.specs.declared.roots.Root.{Root}
-use Rattle.operate.specs.Beneath.machine_model.specs.declared.roots.RootWord.{RootWord}
-use Rattle.operate.specs.Beneath.machine_model.specs.Calls.{handle_of}
-use Rattle.operate.specs.Beneath.machine_model.specs.Operations.{generation_from, line_action}
-use Rattle.operate.specs.Beneath.machine_model.specs.Paths.{above}
-use Rattle.operate.specs.Beneath.machine_model.specs.States.{State, word_at}
-use Rattle.operate.specs.Beneath.gcas.specs.declared.next.Next.{Next}
-use Rattle.operate.specs.Beneath.gcas.specs.declared.next.Next.TheVariants.{More, AskRoot, Done}
 use Rattle.operate.specs.Beneath.gcas.specs.declared.read.Read.{Read}
-use Rattle.operate.specs.Beneath.gcas.specs.declared.read.ReadAt.{ReadAt}
-use Rattle.operate.specs.Beneath.gcas.specs.Reads.{CanReadOn, committed_so}
-use Rattle.operate.specs.Beneath.trie_parts.specs.declared.calls.Task.{Task}
-use Rattle.operate.specs.Beneath.trie_parts.specs.Here.{at_heap}
+use Rattle.operate.specs.Beneath.gcas.specs.Reads.{committed_so}
 use Rattle.operate.specs.Beneath.trie_parts.specs.Holding.{Acts}
-use Rattle.operate.specs.Beneath.trie_parts.specs.Steps.{StepsOn}
 use Rattle.operate.specs.Beneath.trie_parts.specs.Tasks.{for_task}
-use Rattle.operate.specs.Beneath.rdcss_root.specs.Acts.{ActsInAll}
 use Rattle.operate.specs.Beneath.rdcss_root.specs.declared.root.ReadRoot.{ReadRoot}
-use Rattle.operate.specs.Beneath.rdcss_root.specs.Programs.{CanRootOn, ReadsItsRoot, rooted_at}
-use Rattle.operate.specs.Beneath.rdcss_root.specs.Tables.{Table}
-use Rattle.operate.specs.Beneath.key_change.specs.Steps.{CanChange}
-use Rattle.contract.specs.Cleaning.{CanClean}
-use Rattle.contract.specs.Climbing.{CanClimb}
-use Rattle.contract.specs.Renewing.{CanRenew}
-use Rattle.key_finding.specs.declared.calls.KeyReply.{KeyReply}
-use Rattle.key_finding.specs.Replies.{reply_of}
 use Rattle.operate.specs.declared.key_op.KeyOp.{KeyOp}
 use Rattle.operate.specs.declared.key_op.KeyAt.{KeyAt}
 use Rattle.operate.specs.declared.key_op.KeyAt.TheVariants as op

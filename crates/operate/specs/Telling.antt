@@ -1,8 +1,6 @@
 -- What a call on one key is told of the root's generation.
 use Rattle.std.specs.Prelude.{◌≡◌, ℕ, Option, None}
-use Rattle.operate.specs.Beneath.trie_parts.specs.Steps.{IsAskingLine}
-use Rattle.operate.specs.Beneath.gcas.specs.Reads.{line_of}
-use Rattle.operate.specs.Beneath.machine_model.specs.Reads.{with_read}
+use Rattle.operate.specs.Vocabulary.{IsAskingLine, line_of, with_read}
 use Rattle.operate.specs.declared.key_op.KeyOp.{KeyOp}
 use Rattle.operate.specs.Places.{key_line}
 

@@ -3,28 +3,21 @@ use Rattle.std.specs.Prelude.{None, ◌≡◌, ◌≢◌, ◌≤◌, ◌+◌, �
 use Rattle.std.proofs.Common.{refl, sym, ap, subst, arith, ◌∙◌}
 use Rattle.std.proofs.lemmas.List.{append_assoc}
 use Rattle.proof_alone.specs.Vocabulary.{hash_of, Call, Clear, Close, Count, Entries, Freeze, Snapshot, Reply, Closed, NoSlots, Effect, HandleMap, Heap, Bounds, Ended, Step, Go, is_close, KeysFit}
-use Rattle.proof_alone.specs.Vocabulary.{AreBounds, next, run, Record, record_of, State}
+use Rattle.proof_alone.specs.Vocabulary.{AreBounds, next, run, Record, record_of, State, acts, refused, RanAlone, world_of, IsCopying, IsOnKeyOrRoot, makes_alone, most_makes_alone}
+use Rattle.proof_alone.specs.Vocabulary.{most_steps_of_copies, IsOfRun, Comes, IsNoWalk, slots_of}
 use Rattle.proof_alone.specs.Beneath.machine_model.specs.declared.steps.Step.TheVariants.{Begin}
 use Rattle.proof_alone.specs.Beneath.machine_model.proofs.Along.{limits_along}
 use Rattle.proof_alone.specs.Beneath.machine_model.proofs.Frames.{steps_counted}
 use Rattle.proof_alone.specs.Beneath.machine_model.proofs.Moves.{moved}
-use Rattle.proof_alone.specs.Beneath.proof_linearizable.specs.Laws.{acts, refused, RanAlone}
 use Rattle.proof_alone.specs.Beneath.proof_linearizable.specs.Laws.{Does as DoesInOrder}
 use Rattle.proof_alone.specs.Beneath.proof_linearizable.proofs.Legal.{alone_it_acts}
-use Rattle.map_worlds.specs.Worlds.{world_of}
 use Rattle.map_worlds.proofs.Shown.{shown_is_one}
-use Rattle.proof_obstruction_free.specs.Copies.{IsCopying}
-use Rattle.proof_obstruction_free.specs.Laws.{IsOnKeyOrRoot}
-use Rattle.proof_obstruction_free.specs.Slots.{makes_alone, most_makes_alone, most_steps_of_copies}
 use Rattle.proof_obstruction_free.proofs.Ends.Alone.{all_fit}
 use Rattle.proof_obstruction_free.proofs.Slots.AtBegin.{tries_first}
 use Rattle.proof_obstruction_free.proofs.Slots.Few.{copies_make_few}
 use Rattle.proof_obstruction_free.proofs.Slots.Free.{free_after}
 use Rattle.proof_obstruction_free.proofs.Slots.Tries.{tries_make_few}
-use Rattle.proof_straight.specs.Resting.{IsOfRun}
-use Rattle.proof_straight.specs.Running.{Comes}
 use Rattle.proof_alone.specs.Calls.{Acts, CallsDo, CanCall, Does, steps_of}
-use Rattle.proof_obstruction_free.specs.Calls.{IsNoWalk, slots_of}
 use Rattle.proof_alone.proofs.Ending.{alone, closes, first_step, fit, free_first, within, own}
 use Rattle.proof_alone.proofs.Going.{began, end_is_there, is_there, of_run_on_its_way, steps_so_far, there, went_on}
 use Rattle.proof_alone.proofs.Resting.{comes_to_rest}

@@ -4,22 +4,19 @@ use Rattle.std.proofs.Common.{inl, inr, refl, sym, ap, subst, arith, ◌∙◌}
 use Rattle.std.proofs.lemmas.Bool.{cases_lt}
 use Rattle.std.proofs.lemmas.List.Elements.{All-push}
 use Rattle.proof_alone.specs.Vocabulary.{Call, Clear, Close, Freeze, Snapshot, Reply, Closed, Operation, Bounds, Began, Ended, Went, Step, Go, is_close, FitsKey, KeysFit, AreBounds, begun_operation}
-use Rattle.proof_alone.specs.Vocabulary.{next, run, State, operation_of, Heap}
+use Rattle.proof_alone.specs.Vocabulary.{next, run, State, operation_of, Heap, IsSame, IsCopying, GoesOnAt, IsOnKeyOrRoot, RunsAlone, most_steps_alone, most_steps_of_copies, Comes, starts}
 use Rattle.proof_alone.specs.Beneath.machine_model.specs.declared.steps.Step.TheVariants.{Begin}
 use Rattle.proof_alone.specs.Beneath.machine_model.proofs.Along.{limits_along}
 use Rattle.proof_alone.specs.Beneath.machine_model.proofs.HeapMoves.{begin_heap}
 use Rattle.proof_alone.specs.Beneath.proof_memory.proofs.Holding.Sizes.{sizes_stay}
-use Rattle.proof_alone.specs.Beneath.proof_order.specs.Running.{IsSame}
-use Rattle.proof_obstruction_free.specs.Copies.{IsCopying}
-use Rattle.proof_obstruction_free.specs.Laws.{EndsAt, GoesOnAt, IsOnKeyOrRoot, RunsAlone, most_steps_alone}
-use Rattle.proof_obstruction_free.specs.Slots.{most_steps_of_copies}
+use Rattle.proof_obstruction_free.specs.Laws.{EndsAt}
 use Rattle.proof_obstruction_free.proofs.Ends.Bounds.{copies_end_first}
 use Rattle.proof_obstruction_free.proofs.Ends.Closes.{closes_end}
 use Rattle.proof_obstruction_free.proofs.Ends.Lists.{none_more}
 use Rattle.proof_obstruction_free.proofs.Inherited.EndsAll.{each_step_leads_to_its_end}
 use Rattle.proof_obstruction_free.proofs.NoWalks.{of_no_walk}
 use Rattle.proof_obstruction_free.proofs.Slots.AtBegin.{tries_first}
-use Rattle.proof_straight.specs.Running.{Comes, GoesOn, starts}
+use Rattle.proof_straight.specs.Running.{GoesOn}
 use Rattle.proof_alone.specs.Calls.{CallsBegin, CallsEnd, CallsGoOn, CanCall, IsOnItsWay, LeadsOn, steps_of}
 use Rattle.proof_alone.proofs.Going.{began, goes_there, is_there, not_later, still_runs, there}
 use Rattle.proof_alone.proofs.Runs.{by_run, stepped}

@@ -2,7 +2,7 @@
 use Rattle.std.specs.Prelude.{◌≡◌, ◌≢◌, ◌≤◌, ◌+◌, ◌*◌, ℕ, false, [], length}
 use Rattle.std.specs.Prelude.{Ok}
 use Rattle.std.proofs.Common.{sym, ap, ◌∙◌}
-use Rattle.proof_alone.specs.Vocabulary.{Bounds, Outcome, is_busy, next, State}
+use Rattle.proof_alone.specs.Vocabulary.{Bounds, Outcome, is_busy, next, State, IsOfRun}
 use Rattle.proof_alone.specs.Beneath.machine_model.specs.declared.steps.Step.TheVariants as step
 use Rattle.proof_alone.specs.Beneath.machine_model.proofs.Along.{limits_along}
 use Rattle.proof_alone.specs.Beneath.machine_model.proofs.Moves.{moved}
@@ -10,7 +10,6 @@ use Rattle.proof_alone.specs.Beneath.proof_memory.proofs.Holding.Sizes.{sizes_st
 use Rattle.proof_alone.specs.Beneath.proof_memory.proofs.Limbo.Epochs.{LimboLies, limbo_lies}
 use Rattle.proof_alone.specs.Beneath.proof_memory.proofs.Safety.AtEachTime.{safe_along}
 use Rattle.proof_alone.specs.Beneath.proof_memory.proofs.Safety.States.{IsSafe}
-use Rattle.proof_straight.specs.Resting.{IsOfRun}
 use Rattle.proof_alone.proofs.Runs.{by_run}
 use Rattle.proof_alone.specs.Beneath.proof_memory.proofs.Limbo.Nearing.{Nears, counts_along, move_nears, ripe_most, until_ripe}
 

@@ -2,16 +2,14 @@
 use Rattle.std.specs.Prelude.{None, ◌≡◌, ◌⊎◌, ◌<◌, ◌≤◌, ◌+◌, ℕ, zero, suc, List, [], ◌∷◌, ◌++◌, Some, Ok}
 use Rattle.std.proofs.Common.{inl, inr, refl, sym, ap, subst, arith, ◌∙◌}
 use Rattle.std.proofs.lemmas.Bool.{cases_lt}
-use Rattle.proof_alone.specs.Vocabulary.{Kind, Call, Reply, Operation, Bounds, Began, Ended, Went, Step, Go, FitsKey, next, next_state, run, state_after, State, operation_of}
+use Rattle.proof_alone.specs.Vocabulary.{Kind, Call, Reply, Operation, Bounds, Began, Ended, Went, Step, Go, FitsKey, next, next_state, run, state_after, State, operation_of, IsSame, GoesOnAt}
+use Rattle.proof_alone.specs.Vocabulary.{alone_after, IsOfRun, Comes, starts, walks}
 use Rattle.proof_alone.specs.Beneath.machine_model.specs.declared.steps.Step.TheVariants.{Begin}
 use Rattle.proof_alone.specs.Beneath.machine_model.proofs.Frames.{steps_counted}
 use Rattle.proof_alone.specs.Beneath.machine_model.proofs.Moves.{moved}
-use Rattle.proof_alone.specs.Beneath.proof_order.specs.Running.{IsSame}
 use Rattle.proof_alone.specs.Beneath.proof_order.proofs.History.Running.{same_trans}
-use Rattle.proof_obstruction_free.specs.Laws.{GoesOnAt, alone_after}
 use Rattle.proof_obstruction_free.proofs.Ends.Lists.{none_more, one_more}
-use Rattle.proof_straight.specs.Resting.{IsOfRun}
-use Rattle.proof_straight.specs.Running.{Comes, GoesOn, starts, walks}
+use Rattle.proof_straight.specs.Running.{GoesOn}
 use Rattle.proof_alone.proofs.Runs.{of_run_behind, stepped}
 use Rattle.proof_alone.proofs.Steps.{end_or_on, one_state, runs_on}
 

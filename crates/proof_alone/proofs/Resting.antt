@@ -1,10 +1,10 @@
 -- From rest one actor alone takes steps, and the end of its operation leaves rest.
 use Rattle.std.specs.Prelude.{None, ◌≡◌, ℕ, false}
 use Rattle.std.proofs.Common.{refl}
-use Rattle.proof_alone.specs.Vocabulary.{Call, Reply, Ended, Go, is_busy, State}
+use Rattle.proof_alone.specs.Vocabulary.{Call, Reply, Ended, Go, is_busy, State, Comes, starts, walks}
 use Rattle.proof_alone.specs.Beneath.machine_model.specs.declared.steps.Step.TheVariants.{Begin}
 use Rattle.proof_alone.specs.Beneath.proof_commits.proofs.Resting.{OnlyRuns, idle_behind, only_at_rest, rest_if_idle, still_only}
-use Rattle.proof_straight.specs.Running.{Comes, GoesOn, starts, walks}
+use Rattle.proof_straight.specs.Running.{GoesOn}
 
 goes_alone : (state : State) (actor : ℕ) (call : Call) → is_busy state ≡ false → (n : ℕ) (now : State) → GoesOn state actor call n now → OnlyRuns actor now
 goes_alone state actor call rest n now (starts is) = still_only actor state (Begin actor call None) _ now is refl (only_at_rest state rest actor)

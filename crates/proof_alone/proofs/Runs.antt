@@ -3,10 +3,9 @@ use Rattle.std.specs.Prelude.{◌≡◌, ◌≤◌, List, [], ◌∷◌, ◌++�
 use Rattle.std.proofs.Common.{cond, sym, ap, subst, ◌∙◌}
 use Rattle.std.proofs.lemmas.List.Elements.{All-push}
 use Rattle.proof_alone.specs.Vocabulary.{Bounds, Outcome, Step, FitsKey, KeysFit, AreBounds, longest_life, most_actors, is_taken_step, next, run, state_after, first_record, noted, record_of, State}
-use Rattle.proof_alone.specs.Vocabulary.{first_state, told_in, most_slots}
+use Rattle.proof_alone.specs.Vocabulary.{first_state, told_in, most_slots, IsOfRun}
 use Rattle.proof_alone.specs.Beneath.machine_model.proofs.Along.{limits_along, run_push}
 use Rattle.proof_alone.specs.Beneath.machine_model.proofs.Recorded.{record_push}
-use Rattle.proof_straight.specs.Resting.{IsOfRun}
 
 -- what holds of the state behind each run holds of each state that a run leads to
 pub by_run : (P : State → Type 0) → ((limits : Bounds) (steps : List Step) → AreBounds limits → KeysFit steps → P (run limits steps)) → (state : State) → IsOfRun state → P state

@@ -5,13 +5,12 @@ use Rattle.std.proofs.lemmas.Bool.{true≢false}
 use Rattle.std.proofs.lemmas.List.{get_or-set_same}
 use Rattle.std.proofs.lemmas.Option.{none-some, same_Some}
 use Rattle.proof_alone.specs.Vocabulary.{Kind, Call, Reply, Closed, Operation, Outcome, Began, Ended, Went, Step, Go, gone, operation_after, settled, Answer, begin_denial, begin_unless}
-use Rattle.proof_alone.specs.Vocabulary.{begun_operation, next, state_after, with_begin, Begins, Ends, Moves, Sweeps, GivesUp, State, operation_of}
+use Rattle.proof_alone.specs.Vocabulary.{begun_operation, next, state_after, with_begin, Begins, Ends, Moves, Sweeps, GivesUp, State, operation_of, IsSame}
 use Rattle.proof_alone.specs.Beneath.machine_model.specs.declared.steps.Step.TheVariants.{Begin}
 use Rattle.proof_alone.specs.Beneath.machine_model.specs.Moves.{Goes}
 use Rattle.proof_alone.specs.Beneath.machine_model.proofs.Actors.{begin_actor, begin_actors, begin_counts, mark_one, marks_by}
 use Rattle.proof_alone.specs.Beneath.machine_model.proofs.Moves.{moved}
 use Rattle.proof_alone.specs.Beneath.proof_commits.proofs.Known.StepsAt.{after_mark, go_own}
-use Rattle.proof_alone.specs.Beneath.proof_order.specs.Running.{IsSame}
 use Rattle.proof_alone.specs.Beneath.proof_order.proofs.History.Running.{after_same}
 
 -- ---- answers

@@ -6,6 +6,7 @@ use Rattle.std.specs.FinMap.{same_map, nat_cmp-IsAntisymmetric}
 use Rattle.std.proofs.Common.{refl, sym, ap, subst, arith, ◌∙◌}
 use Rattle.std.proofs.Math.Nat.{mul-le-mul_left, mul-suc}
 use Rattle.proof_alone.specs.Vocabulary.{in_use, Root, Bounds, Outcome, Step, Sweep, content_at, is_busy, next, next_state, run, state_after, Ends, Moves, Sweeps as SweepsOnce, State, root_at}
+use Rattle.proof_alone.specs.Vocabulary.{named_at, world_of, IsOfRun, UsesReached, steps_for_a_slot}
 use Rattle.proof_alone.specs.Beneath.machine_model.proofs.Frames.{limits_kept, steps_counted}
 use Rattle.proof_alone.specs.Beneath.machine_model.proofs.Moves.{moved}
 use Rattle.proof_alone.specs.Beneath.machine_model.proofs.Slots.{add_up}
@@ -16,11 +17,8 @@ use Rattle.proof_alone.specs.Beneath.proof_memory.proofs.Limbo.Sweeps.{sweep_lea
 use Rattle.proof_alone.specs.Beneath.proof_memory.proofs.Limbo.Zeros.{has_zeros}
 use Rattle.proof_alone.specs.Beneath.proof_memory.proofs.Safety.AtEachTime.{safe_along}
 use Rattle.proof_alone.specs.Beneath.proof_memory.proofs.Safety.States.{IsSafe}
-use Rattle.map_worlds.specs.Worlds.{named_at, world_of}
 use Rattle.map_worlds.proofs.Shown.{shows_roots}
-use Rattle.proof_straight.specs.Resting.{IsOfRun}
 use Rattle.proof_alone.specs.Sweeps.{CleanIsReached, Sweeps, SweepsLeave, most_sweeps, sweeps, unswept}
-use Rattle.proof_alone.specs.Beneath.proof_memory.specs.Sweeping.{UsesReached, steps_for_a_slot}
 use Rattle.proof_alone.proofs.Freeing.{IsSwept, is_swept, step_nears, until, until_at_most}
 use Rattle.proof_alone.specs.Beneath.proof_memory.proofs.Limbo.Nearing.{Nears, frees, nears, until_ripe}
 use Rattle.proof_alone.proofs.Runs.{by_run, of_run_behind}

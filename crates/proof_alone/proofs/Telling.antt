@@ -3,14 +3,13 @@ use Rattle.std.specs.Prelude.{None, ◌≡◌, ◌<◌, ℕ, zero, suc, List, []
 use Rattle.std.proofs.Common.{cond, refl, ap, arith, ◌∙◌}
 use Rattle.std.proofs.lemmas.List.{append-nil, append_assoc}
 use Rattle.proof_alone.specs.Vocabulary.{Kind, Call, Event, Reply, Bounds, Outcome, Began, Ended, Went, Step, Go, begun_operation, is_taken_step, next, run, Begins, Ends, Moves, Sweeps, GivesUp}
-use Rattle.proof_alone.specs.Vocabulary.{Record, next_record, noted, record_of, State, told_in}
+use Rattle.proof_alone.specs.Vocabulary.{Record, next_record, noted, record_of, State, told_in, GoesOnAt}
 use Rattle.proof_alone.specs.Beneath.history.specs.declared.events.Event.TheVariants as event
 use Rattle.proof_alone.specs.Beneath.machine_model.specs.declared.steps.Step.TheVariants.{Begin}
 use Rattle.proof_alone.specs.Beneath.machine_model.specs.Moves.{Goes}
 use Rattle.proof_alone.specs.Beneath.machine_model.proofs.Moves.{moved}
 use Rattle.proof_alone.specs.Beneath.machine_model.proofs.Notes.{noted_going}
 use Rattle.proof_alone.specs.Beneath.proof_order.proofs.History.Recalling.{end_event}
-use Rattle.proof_obstruction_free.specs.Laws.{GoesOnAt}
 use Rattle.proof_obstruction_free.proofs.Ends.Lists.{one_more_recorded, record_after}
 use Rattle.proof_alone.proofs.Going.{began, there}
 use Rattle.proof_alone.proofs.Runs.{noted_step}

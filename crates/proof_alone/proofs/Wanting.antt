@@ -5,20 +5,16 @@ use Rattle.std.proofs.lemmas.List.{append_assoc, replicate-append-replicate}
 use Rattle.std.proofs.lemmas.List.Elements.{Contains-push}
 use Rattle.std.proofs.lemmas.Option.{same_Some}
 use Rattle.proof_alone.specs.Vocabulary.{Call, Clear, Close, Count, Entries, Freeze, Snapshot, Reply, Closed, NoSlots, Operation, Bounds, Ended, Step, Go, GiveUp, is_close, KeysFit, FindsNoSlot}
-use Rattle.proof_alone.specs.Vocabulary.{AreBounds, next, run, State}
+use Rattle.proof_alone.specs.Vocabulary.{AreBounds, next, run, State, IsCopying, IsOnKeyOrRoot, most_makes_alone, most_steps_of_copies, Comes, starts, walks, IsNoWalk, slots_of}
 use Rattle.proof_alone.specs.Beneath.machine_model.proofs.Moves.{ending, moved}
 use Rattle.proof_alone.specs.Beneath.machine_model.proofs.Refusals.{IsRefusal, end_line, first_refusal}
 use Rattle.proof_alone.specs.Beneath.machine_model.proofs.Refused.{refused_alone}
-use Rattle.proof_obstruction_free.specs.Copies.{IsCopying}
-use Rattle.proof_obstruction_free.specs.Laws.{IsOnKeyOrRoot}
-use Rattle.proof_obstruction_free.specs.Slots.{most_makes_alone, most_steps_of_copies}
 use Rattle.proof_obstruction_free.proofs.Ends.Lists.{none_more}
 use Rattle.proof_obstruction_free.proofs.Slots.AtBegin.{tries_first}
 use Rattle.proof_obstruction_free.proofs.Slots.Few.{enough_for_copies}
 use Rattle.proof_obstruction_free.proofs.Slots.Tries.{enough_for_tries}
-use Rattle.proof_straight.specs.Running.{Comes, GoesOn, starts, walks}
+use Rattle.proof_straight.specs.Running.{GoesOn}
 use Rattle.proof_alone.specs.Calls.{CanCall, EnoughSlotsForCalls, RefusedIfOut, RunsOut, steps_of}
-use Rattle.proof_obstruction_free.specs.Calls.{IsNoWalk, slots_of}
 use Rattle.proof_alone.proofs.Ending.{alone, closes, free_first, own, runs, within}
 use Rattle.proof_alone.proofs.Going.{began, is_there, there}
 use Rattle.proof_alone.proofs.Runs.{by_run}

@@ -1,13 +1,8 @@
 -- A call that runs alone from rest, and what it comes to.
 use Rattle.std.specs.Prelude.{◌≡◌, ◌≢◌, ◌⊎◌, ℕ, suc, ◌+◌, ◌<◌, ◌≤◌, ◌^◌, false, length, Option, Some, None, Ok}
 use Rattle.proof_alone.specs.Vocabulary.{hash_of, Kind, Call, Clear, Snapshot, Freeze, Close, Reply, NoSlots, Effect, Operation, Went, Ended, Go, key_of, FindsNoSlot, begin_denial, is_busy, next}
-use Rattle.proof_alone.specs.Vocabulary.{State, operation_of}
-use Rattle.map_worlds.specs.Worlds.{world_of}
-use Rattle.proof_obstruction_free.specs.Calls.{IsNoWalk, slots_of}
-use Rattle.proof_obstruction_free.specs.Laws.{most_steps_alone}
-use Rattle.proof_obstruction_free.specs.Slots.{most_steps_of_copies}
-use Rattle.proof_straight.specs.Resting.{IsOfRun}
-use Rattle.proof_straight.specs.Running.{Comes, GoesOn}
+use Rattle.proof_alone.specs.Vocabulary.{State, operation_of, world_of, IsNoWalk, slots_of, most_steps_alone, most_steps_of_copies, IsOfRun, Comes}
+use Rattle.proof_straight.specs.Running.{GoesOn}
 
 -- ---- how much it takes
 

@@ -1,9 +1,6 @@
 -- The sweep while nothing runs.
 use Rattle.std.specs.Prelude.{◌≡◌, ◌≢◌, ℕ, zero, suc, ◌+◌, ◌*◌, ◌≤◌, false, [], length, Ok}
-use Rattle.proof_alone.specs.Vocabulary.{in_use, Outcome, Sweep, is_busy, next, State}
-use Rattle.map_worlds.specs.Worlds.{world_of}
-use Rattle.proof_alone.specs.Beneath.proof_memory.specs.Sweeping.{UsesReached, steps_for_a_slot}
-use Rattle.proof_straight.specs.Resting.{IsOfRun}
+use Rattle.proof_alone.specs.Vocabulary.{in_use, Outcome, Sweep, is_busy, next, State, world_of, UsesReached, steps_for_a_slot, IsOfRun}
 
 -- so many steps of the sweep lead from one state to the other, and limbo isn't empty before any of them
 pub data Sweeps (before : State) : ℕ → State → Type 0 where

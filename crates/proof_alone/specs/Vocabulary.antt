@@ -1,4 +1,4 @@
--- The words of the definition, for the files of this crate.
+-- The words of the definition and of the crates below, for the files of this crate.
 pub use Rattle.proof_alone.specs.Beneath.ctrie_base.specs.Hashes.{hash_of}
 pub use Rattle.proof_alone.specs.Beneath.ctrie_base.specs.declared.kinds.Kind.{Kind}
 pub use Rattle.proof_alone.specs.Beneath.slot_arena.specs.Heaps.{Heap, in_use}
@@ -31,3 +31,14 @@ pub use Rattle.proof_alone.specs.Beneath.machine_model.specs.declared.steps.Outc
 pub use Rattle.proof_alone.specs.Beneath.machine_model.specs.declared.steps.Outcome.TheVariants.{Began, Ended, Went}
 pub use Rattle.proof_alone.specs.Beneath.machine_model.specs.declared.steps.Step.{Step}
 pub use Rattle.proof_alone.specs.Beneath.machine_model.specs.declared.steps.Step.TheVariants.{GiveUp, Go, Sweep}
+pub use Rattle.proof_alone.specs.Beneath.proof_memory.specs.Sweeping.{UsesReached, steps_for_a_slot}
+pub use Rattle.proof_alone.specs.Beneath.proof_order.specs.Running.{IsSame}
+pub use Rattle.proof_alone.specs.Beneath.proof_linearizable.specs.Laws.{RanAlone, acts, refused}
+pub use Rattle.proof_obstruction_free.specs.Calls.{IsNoWalk, slots_of}
+pub use Rattle.proof_obstruction_free.specs.Copies.{IsCopying}
+pub use Rattle.proof_obstruction_free.specs.Laws.{GoesOnAt, IsOnKeyOrRoot, RunsAlone, alone_after, most_steps_alone}
+pub use Rattle.proof_obstruction_free.specs.Slots.{most_makes_alone, most_steps_of_copies}
+unfoldable pub use Rattle.proof_obstruction_free.specs.Slots.{makes_alone}
+pub use Rattle.proof_straight.specs.Resting.{IsOfRun}
+pub use Rattle.proof_straight.specs.Running.{Comes, starts, walks}
+pub use Rattle.map_worlds.specs.Worlds.{named_at, world_of}

@@ -3,7 +3,7 @@ use Rattle.std.proofs.Common.{◌≡◌, ℕ, ◌+◌, ◌*◌, ◌≤◌, false
 use Rattle.proof_core.specs.Vocabulary.{Call, Ref, Node, Action, Operation, Bounds, Outcome, Step, handle_of, Heap, empty_branch, with_main, with_prev, taken, take_from, freed, ref_to, Indirection}
 use Rattle.proof_core.specs.Vocabulary.{State, empty_heap, first_state, action_of, Prev, Reclaimer, ripe, sweep_by, acted, new_root_taken, attempt_after, operation_after, next, next_state}
 use Rattle.proof_core.specs.Vocabulary.{state_after, is_spent, begin_denial, go_denial, with_begin, pin_of, reclaimer_of, run, run_from, AreBounds, longest_life, most_actors, most_slots, Begins}
-use Rattle.proof_core.specs.Vocabulary.{Ends, Sweeps, Moves, begun_operation, FitsKey, GivesUp}
+use Rattle.proof_core.specs.Vocabulary.{Ends, Sweeps, Moves, begun_operation, FitsKey, GivesUp, IsOfRun}
 use Rattle.proof_core.specs.Beneath.machine_model.specs.declared.actions.Action.TheVariants as act
 use Rattle.proof_core.specs.Beneath.machine_model.specs.declared.steps.Step.TheVariants as step
 use Rattle.std.proofs.lemmas.List.FromFn.{length-range_with_len}
@@ -19,7 +19,6 @@ use Rattle.proof_core.specs.Beneath.proof_memory.proofs.Safety.Steps.{gone_epoch
 use Rattle.proof_core.specs.Beneath.proof_generations.proofs.Counter.Drawn.{aborted_generations, completed_generations, offered_generations}
 use Rattle.proof_core.specs.Bounds.{IsBounded, AreInRange}
 use Rattle.std.proofs.lemmas.List.Elements.{All-nil, All-push}
-use Rattle.proof_straight.specs.Resting.{IsOfRun}
 
 -- ---- steps
 

@@ -1,9 +1,10 @@
 -- What is live, of what a line and an action take their references for.
 use Rattle.std.proofs.Common.{List, [], ◌∷◌, All}
 use Rattle.std.proofs.lemmas.List.Elements.{All-nil, All-cons, All-weaker}
-use Rattle.proof_core.specs.Vocabulary.{Ref, Node, Indirection, Branch, Single, Tomb, List as Listed, Heap, refs_of_node, refs_of_option, IsLive, AreLive, Descriptor, Offer, refs_of_word}
-use Rattle.proof_core.specs.Beneath.proof_memory.specs.Wants.{AllHold, AnEntry, AnIndirection, ASingle, Claim, Wanted, node_wants, offer_wants}
+use Rattle.proof_core.specs.Vocabulary.{Ref, Node, Indirection, Branch, Single, Tomb, List as Listed, Heap, refs_of_node, refs_of_option, IsLive, AreLive, Descriptor, Offer, refs_of_word, AllHold}
+use Rattle.proof_core.specs.Vocabulary.{AnEntry, AnIndirection, ASingle, Claim, Wanted, node_wants, offer_wants}
 use Rattle.proof_core.specs.Beneath.proof_memory.proofs.Claims.Uses.{Meets, all_of, safe_of}
+use Rattle.proof_core.specs.Beneath.proof_memory.proofs.Claims.Named.{third_claim, past_third}
 
 -- the claims are true of what is in use
 abbrev pub Lives : Heap → List Claim → Type 0
@@ -21,7 +22,7 @@ pub offer_live : (heap : Heap) (offer : Descriptor) → Lives heap (offer_wants 
 offer_live heap offer h =
     All-cons (IsLive heap) offer.root (offer.expected ∷ offer.successor ∷ refs_of_option offer.second) (safe_of h.0)
     (All-cons (IsLive heap) offer.expected (offer.successor ∷ refs_of_option offer.second) (safe_of h.1.0)
-    (All-cons (IsLive heap) offer.successor (refs_of_option offer.second) (safe_of h.1.1.0) (met_live heap AnIndirection (refs_of_option offer.second) (all_of (h.1.1.1.0)))))
+    (All-cons (IsLive heap) offer.successor (refs_of_option offer.second) (safe_of (third_claim h)) (met_live heap AnIndirection (refs_of_option offer.second) (all_of (past_third h).0))))
 
 pub root_live : (heap : Heap) (offer : Descriptor) → Lives heap (offer_wants offer) → AreLive heap (offer.root ∷ [])
 root_live heap offer h = one_live heap offer.root (safe_of h.0)

@@ -4,13 +4,11 @@ use Rattle.std.proofs.lemmas.Bool.{false≢true}
 use Rattle.std.proofs.lemmas.List.Elements.{All-weaker}
 use Rattle.proof_core.specs.Vocabulary.{Node, Indirection, Branch, Single, Tomb, List as Listed, Slot, Ref, Heap, stored, node_of, node_at, prev_of, prev_at, main_at, main_of, refs_of_node, taken}
 use Rattle.proof_core.specs.Vocabulary.{take_from, prev_changed, with_prev, with_main, AreLive, IsLive, has_birth, is_indirection, is_main_node, birth_of, slot_of, times, without, limbo_after}
-use Rattle.proof_core.specs.Vocabulary.{Settles, published, if_changed, outside, State}
+use Rattle.proof_core.specs.Vocabulary.{Settles, published, if_changed, outside, State, Draft, held_with, next_made, redrafted, HasEmptySlots}
 use Rattle.proof_core.specs.Beneath.slot_arena.specs.declared.nodes.Prev.TheVariants as prev
 use Rattle.proof_core.specs.Beneath.slot_arena.proofs.Times.{once_same, times-append, times-cons, times-without, times_push}
 use Rattle.proof_core.specs.Beneath.epochs.specs.Memories.{Memory}
 use Rattle.proof_core.specs.Beneath.epochs.proofs.Forgetting.{counts_alone}
-use Rattle.proof_straight.specs.Drafts.{Draft, held_with, next_made, redrafted}
-use Rattle.proof_straight.specs.Running.{HasEmptySlots}
 use Rattle.proof_straight.proofs.Change.Slots.{Takes, fresh_published, made_slot, node_again, same_stored, stored_node, takes}
 use Rattle.proof_core.specs.Drafting.{CanSwap, IsDraft}
 

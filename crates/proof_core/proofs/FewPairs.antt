@@ -8,9 +8,8 @@ use Rattle.std.specs.Ordering.{eq_by_cmp, nat_cmp}
 use Rattle.std.proofs.lemmas.List.Elements.{All-nil, All-cons, All-head, All-tail, All-append}
 use Rattle.std.proofs.lemmas.Map.Made.{length-le_from_is_member}
 use Rattle.proof_core.specs.Vocabulary.{most_slots, slot_of, Node, Indirection, Branch, Single, Tomb, List as Listed, Slot, Ref, Heap, entries_of, logical_main, node_at, node_of, stored, content_at}
-use Rattle.proof_core.specs.Vocabulary.{most_levels, pairs_at, pairs_below, comes_before, State, root_at, root_of, word_at}
+use Rattle.proof_core.specs.Vocabulary.{most_levels, pairs_at, pairs_below, comes_before, State, root_at, root_of, word_at, IsOfRun}
 use Rattle.proof_core.specs.Beneath.ctrie_base.proofs.Sorting.{sorted_all}
-use Rattle.proof_straight.specs.Resting.{IsOfRun}
 use Rattle.proof_core.specs.Beneath.proof_contents.proofs.Values.Crowds.{is_among, sorted_distinct}
 use Rattle.proof_core.proofs.Bounded.{bounded}
 use Rattle.proof_core.proofs.Found.{content_rises}

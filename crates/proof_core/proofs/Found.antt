@@ -7,8 +7,7 @@ use Rattle.std.specs.List.{AllByRecursion, IsDistinct}
 use Rattle.std.specs.Ordering.{eq_by_cmp, nat_cmp}
 use Rattle.std.specs.FinMap.Entries.{is_sorted}
 use Rattle.std.specs.Option.{IsSome}
-use Rattle.proof_core.specs.Vocabulary.{Root, content_at, State, root_at}
-use Rattle.proof_straight.specs.Resting.{IsOfRun}
+use Rattle.proof_core.specs.Vocabulary.{Root, content_at, State, root_at, IsOfRun}
 use Rattle.proof_core.specs.Beneath.proof_contents.proofs.Values.Crowds.{AreDistinct}
 use Rattle.proof_core.specs.Beneath.proof_shape.proofs.Shaped.OfLists.{no_key_twice}
 

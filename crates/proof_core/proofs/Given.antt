@@ -1,16 +1,14 @@
 -- What a state of a run gives: the claims of the next action, and room for what it adds; whose begin may come.
 use Rattle.std.proofs.Common.{◌≡◌, ℕ, zero, suc, ◌-◌, ◌<◌, ◌≤◌, ◌&&◌, true, false, nat_lt, nat_le, length, get_or, Some, None, sym, ap, ◌∙◌, subst, arith}
 use Rattle.std.proofs.lemmas.Bool.Decides.{nat_tests}
-use Rattle.proof_core.specs.Vocabulary.{Call, Ref, times, IsLive, Operation, State, operation_of, handle_limit, action_of, begin_denial, is_running}
+use Rattle.proof_core.specs.Vocabulary.{Call, Ref, times, IsLive, Operation, State, operation_of, handle_limit, action_of, begin_denial, is_running, AllHold, action_wants, LineHasRoom, IsOfRun}
 use Rattle.proof_core.specs.Beneath.history.proofs.Places.{option_untested}
 use Rattle.proof_core.specs.Beneath.machine_model.proofs.Actors.{begin_actor}
-use Rattle.proof_core.specs.Beneath.proof_memory.specs.Wants.{AllHold, action_wants}
 use Rattle.proof_core.specs.Beneath.proof_memory.proofs.Holding.Lives.{lines_live}
 use Rattle.proof_core.specs.Beneath.proof_memory.proofs.Holding.Privates.{privates_once}
 use Rattle.proof_core.specs.Beneath.proof_memory.proofs.Holding.Sizes.{sizes_stay}
-use Rattle.proof_operations.specs.Laws.{LineHasRoom, MakesNode}
+use Rattle.proof_operations.specs.Laws.{MakesNode}
 use Rattle.proof_operations.proofs.Rooms.{lists_have_room}
-use Rattle.proof_straight.specs.Resting.{IsOfRun}
 use Rattle.proof_core.specs.Standing.{StandsAt}
 
 -- ---- laws, at a state of a run

@@ -1,7 +1,7 @@
 -- Looking along a hash, level by level.
 use Rattle.std.proofs.Common.{◌≡◌, ℕ, suc, ◌+◌, ◌-◌, ◌<◌, None, refl, sym, ap, ◌∙◌, arith}
-use Rattle.proof_core.specs.Vocabulary.{Ref, Node, flag_of}
-use Rattle.proof_core.specs.Beneath.proof_contents.specs.Nodes.Looking.{Found, look_in, value_by, find_at}
+use Rattle.proof_core.specs.Vocabulary.{Ref, Node, flag_of, look_in, value_by, find_at}
+use Rattle.proof_core.specs.Beneath.proof_contents.specs.Nodes.Looking.{Found}
 
 module _ (node : Ref → Node) (main : Ref → Ref) (hash : ℕ → ℕ) (key : ℕ) where
   -- what the main node at this depth says decides it

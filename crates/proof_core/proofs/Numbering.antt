@@ -5,11 +5,10 @@ use Rattle.std.specs.List.{count_by, list_any}
 use Rattle.std.proofs.lemmas.List.Sums.{sum_by-cons, sum_by-set}
 use Rattle.std.proofs.lemmas.Option.{none-some}
 use Rattle.handle_table.specs.Numbers.{Numbers}
-use Rattle.proof_core.specs.Vocabulary.{Operation, gone, marked, operation_after, go_denial, is_taken, names, GoesOn, action_of, State, operation_of, root_at}
+use Rattle.proof_core.specs.Vocabulary.{Operation, gone, marked, operation_after, go_denial, is_taken, names, GoesOn, action_of, State, operation_of, root_at, IsOfRun}
 use Rattle.proof_core.specs.Beneath.machine_model.proofs.Actors.{after_marks, gone_actors, marks_by}
 use Rattle.proof_core.specs.Beneath.machine_model.proofs.Found.{found_within}
 use Rattle.proof_operations.proofs.Numbers.{numbers_stay, reserves}
-use Rattle.proof_straight.specs.Resting.{IsOfRun}
 use Rattle.proof_core.specs.Numbering.{KnowsNumbers}
 
 -- ---- lists of operations

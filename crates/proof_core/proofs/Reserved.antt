@@ -7,7 +7,7 @@ use Rattle.std.proofs.lemmas.List.{get_or-replicate, get_or-set_same, get_or-set
 use Rattle.std.proofs.lemmas.List.Sums.{count_by-le-length, sum_by-cons}
 use Rattle.std.proofs.lemmas.Option.{none-some, same_Some}
 use Rattle.proof_core.specs.Vocabulary.{Call, Operation, Root, ended, handle_of, is_close, begin_denial, handle_closed, is_number, is_taken, names, reserved_by, with_begin, begun_operation, State}
-use Rattle.proof_core.specs.Vocabulary.{first_state, root_at, Bounds}
+use Rattle.proof_core.specs.Vocabulary.{first_state, root_at, Bounds, IsOfRun}
 use Rattle.handle_table.specs.Numbers.{Numbers, is_taken_in, no_numbers, running_on, with_running, with_taken}
 use Rattle.proof_core.specs.Beneath.machine_model.proofs.Actors.{begin_actors}
 use Rattle.proof_core.specs.Beneath.machine_model.proofs.Found.{found_elsewhere, found_here, found_within}
@@ -15,7 +15,6 @@ use Rattle.proof_core.specs.Beneath.proof_generations.proofs.Handles.Operations.
 use Rattle.proof_core.specs.Beneath.proof_generations.proofs.Roots.OfLists.{has_handles_along}
 use Rattle.proof_core.specs.Beneath.proof_memory.proofs.Safety.Base.{closed_root, handle_given}
 use Rattle.proof_operations.proofs.Numbers.{reserved_somewhere, reserves, reserves_so}
-use Rattle.proof_straight.specs.Resting.{IsOfRun}
 use Rattle.proof_core.specs.Numbering.{KnowsNumbers, begun_on, closes, ended_on, given_back, reserved}
 use Rattle.proof_core.specs.Standing.{StandsAt}
 use Rattle.proof_core.proofs.Given.{begin_stands, sizes}

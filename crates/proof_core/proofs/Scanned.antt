@@ -2,9 +2,8 @@
 use Rattle.std.proofs.Common.{◌≡◌, ◌≢◌, ℕ, zero, suc, ◌+◌, ◌*◌, ◌^◌, ◌<◌, ◌==◌, Bool, true, false, cond, nat_lt, List, [], ◌∷◌, ◌++◌, length, get_or, refl, sym, ap, ap₂, subst, ◌∙◌, arith}
 use Rattle.std.specs.List.{flat_map}
 use Rattle.arrayvec.specs.ArrayVec.{ArrayVec}
-use Rattle.proof_core.specs.Vocabulary.{HashKind, pairs_at, pairs_below, index_in, parting, Branch, Single, Ref, Heap, node_at}
+use Rattle.proof_core.specs.Vocabulary.{HashKind, pairs_at, pairs_below, index_in, parting, Branch, Single, Ref, Heap, node_at, AreSingles}
 use Rattle.proof_core.specs.Beneath.proof_contents.specs.Nodes.Branches.{standing}
-use Rattle.proof_core.specs.Beneath.proof_contents.specs.Nodes.Lists.{AreSingles}
 use Rattle.proof_core.specs.Beneath.proof_contents.proofs.Nodes.Tombs.{place_of}
 use Rattle.proof_core.specs.Scanning.{IsMainPlaced, by_indices, walked, walked_at}
 

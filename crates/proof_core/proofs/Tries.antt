@@ -5,12 +5,10 @@ use Rattle.std.proofs.lemmas.Option.{same_Some}
 use Rattle.std.proofs.lemmas.Bool.{and_parts, false≢true}
 use Rattle.arrayvec.specs.ArrayVec.{ArrayVec}
 use Rattle.proof_core.specs.Vocabulary.{position_of, index_at, Access, Node, Branch, Indirection, Slot, Ref, AreLive, IsLive, is_indirection, Heap, entries_of, entry_at, main_at, main_of, node_at}
-use Rattle.proof_core.specs.Vocabulary.{no_ref, refs_of_node, birth_limit, slot_of, Plain, State, root_at, word_at, flag_of, has_flag}
+use Rattle.proof_core.specs.Vocabulary.{no_ref, refs_of_node, birth_limit, slot_of, Plain, State, root_at, word_at, flag_of, has_flag, IsInUse, EntryLevel, InsideLevel, KindLevel, AMain, AnEntry}
+use Rattle.proof_core.specs.Vocabulary.{AnIndirection, Anything, Holds, Is, AllHold, is, is_formed, meets, word_wants, below, entry_for, to_root, IsOfRun, HasEmptySlots}
 use Rattle.proof_core.specs.Beneath.slot_arena.proofs.Live.{same_ref}
 use Rattle.proof_core.specs.Beneath.machine_model.proofs.Grown.{standing_parts}
-use Rattle.proof_core.specs.Beneath.proof_memory.specs.Laws.{IsInUse}
-use Rattle.proof_core.specs.Beneath.proof_memory.specs.Levels.{EntryLevel, InsideLevel, KindLevel}
-use Rattle.proof_core.specs.Beneath.proof_memory.specs.Wants.{AMain, AnEntry, AnIndirection, Anything, Holds, Is, AllHold, is, is_formed, meets, word_wants}
 use Rattle.proof_core.specs.Beneath.proof_memory.proofs.Claims.Nodes.{Heaped, main_entries, main_read}
 use Rattle.proof_core.specs.Beneath.proof_memory.proofs.Claims.Uses.{Meets, meets_of, safe_of}
 use Rattle.proof_core.specs.Beneath.proof_memory.proofs.Holding.Lives.{in_use_lives}
@@ -20,9 +18,7 @@ use Rattle.proof_core.specs.Beneath.proof_memory.proofs.Lines.Shared.{position_w
 use Rattle.proof_core.specs.Beneath.proof_memory.proofs.Safety.AtEachTime.{safe_along}
 use Rattle.proof_core.specs.Beneath.proof_memory.proofs.Safety.Guards.{Safe}
 use Rattle.proof_core.specs.Beneath.proof_memory.proofs.Safety.States.{IsSafe, open_word}
-use Rattle.proof_straight.specs.Places.{Leads, below, entry_for, to_root}
-use Rattle.proof_straight.specs.Resting.{IsOfRun}
-use Rattle.proof_straight.specs.Running.{HasEmptySlots}
+use Rattle.proof_straight.specs.Places.{Leads}
 use Rattle.proof_straight.proofs.Change.Slots.{same_stored}
 use Rattle.proof_core.specs.Drafting.{CanSwap}
 use Rattle.proof_core.specs.Tries.{IsTrie}

@@ -1,9 +1,7 @@
 -- A heap on which a call that runs alone does its changes one after the other.
 use Rattle.std.specs.Prelude.{◌≡◌, ℕ, ◌+◌, ◌<◌, ◌≤◌, true, [], length}
-use Rattle.proof_core.specs.Vocabulary.{Ref, Heap, node_at, main_at, refs_of_node, IsLive, AreLive, is_indirection, times, State, birth_limit}
+use Rattle.proof_core.specs.Vocabulary.{Ref, Heap, node_at, main_at, refs_of_node, IsLive, AreLive, is_indirection, times, State, birth_limit, Draft, held_with, HasEmptySlots}
 use Rattle.proof_core.specs.Beneath.epochs.specs.Memories.{Memory}
-use Rattle.proof_straight.specs.Drafts.{Draft, held_with}
-use Rattle.proof_straight.specs.Running.{HasEmptySlots}
 
 -- the heap has come as far as the draft of a call that began in this state
 pub record IsDraft (state : State) (draft : Draft) (memory : Memory) : Type 0 where

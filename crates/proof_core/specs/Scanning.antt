@@ -2,10 +2,7 @@
 use Rattle.std.specs.Prelude.{◌≡◌, ◌<◌, ℕ, zero, suc, ◌+◌, ◌*◌, ◌%◌, ◌^◌, ◌==◌, ⊤, Bool, true, nat_lt, List, [], ◌∷◌, take, Option, Some, None, if◌then◌else◌}
 use Rattle.std.specs.List.{filter, flat_map}
 use Rattle.proof_core.specs.Vocabulary.{hash_of, sorted_by, HashKind, by_key, comes_before, index_in, list_depth, Node, Branch, Indirection, Single, Tomb, List as Listed, Ref, Heap, entries_of}
-use Rattle.proof_core.specs.Vocabulary.{logical_main, node_at}
-use Rattle.proof_core.specs.Beneath.proof_contents.specs.Nodes.Branches.{HasPlaces, at_place}
-use Rattle.proof_core.specs.Beneath.proof_contents.specs.Nodes.Lists.{AreSingles}
-use Rattle.proof_core.specs.Beneath.proof_contents.specs.Nodes.Looking.{Has, look_among}
+use Rattle.proof_core.specs.Vocabulary.{logical_main, node_at, HasPlaces, at_place, AreSingles, Has, look_among}
 
 -- ---- the order
 

@@ -1,9 +1,6 @@
 -- What holds of a heap below a root, whatever the calls that come to it.
 use Rattle.std.specs.Prelude.{◌≡◌, ℕ, true}
-use Rattle.proof_core.specs.Vocabulary.{Ref, is_indirection, Heap, node_at, prev_at}
-use Rattle.proof_core.specs.Beneath.proof_memory.specs.Laws.{IsInUse}
-use Rattle.proof_core.specs.Beneath.proof_memory.specs.Levels.{NodeLevel}
-use Rattle.proof_core.specs.Beneath.proof_memory.specs.Wants.{AllHold, is_formed, node_wants, prev_wants}
+use Rattle.proof_core.specs.Vocabulary.{Ref, is_indirection, Heap, node_at, prev_at, IsInUse, NodeLevel, AllHold, is_formed, node_wants, prev_wants}
 
 -- What stands in a slot in use is what it is taken for, and has a level, by which no way down comes to one slot twice. The root is an indirection in use.
 pub record IsTrie (heap : Heap) (root : Ref) : Type 0 where

@@ -1,4 +1,4 @@
--- The words of the definition, for the files of this crate.
+-- The words of the definition and of the crates below, for the files of this crate.
 pub use Rattle.proof_core.specs.Beneath.ctrie_base.specs.Hashes.{hash_of}
 pub use Rattle.proof_core.specs.Beneath.ctrie_base.specs.Paths.{index_at, position_of}
 pub use Rattle.proof_core.specs.Beneath.ctrie_base.specs.Sorting.{put_by, sorted_by}
@@ -49,3 +49,22 @@ pub use Rattle.proof_core.specs.Beneath.machine_model.specs.declared.roots.RootW
 pub use Rattle.proof_core.specs.Beneath.machine_model.specs.declared.steps.Bounds.{Bounds}
 pub use Rattle.proof_core.specs.Beneath.machine_model.specs.declared.steps.Outcome.{Outcome}
 pub use Rattle.proof_core.specs.Beneath.machine_model.specs.declared.steps.Step.{Step}
+pub use Rattle.proof_core.specs.Beneath.proof_contents.specs.InUse.{ReachesInUse}
+pub use Rattle.proof_core.specs.Beneath.proof_contents.specs.Nodes.Branches.{HasPlaces, at_place}
+pub use Rattle.proof_core.specs.Beneath.proof_contents.specs.Nodes.Lists.{AreSingles}
+pub use Rattle.proof_core.specs.Beneath.proof_contents.specs.Nodes.Looking.{Absent, Has, look_among, look_at, look_in, or_else, value_by}
+unfoldable pub use Rattle.proof_core.specs.Beneath.proof_contents.specs.Nodes.Looking.{find_at}
+pub use Rattle.proof_core.specs.Beneath.proof_contents.specs.Runs.{counting_main}
+pub use Rattle.proof_core.specs.Beneath.proof_contents.specs.Tries.{IsShaped, Trie, branch, list, tomb}
+pub use Rattle.proof_core.specs.Beneath.proof_memory.specs.Laws.{IsInUse}
+pub use Rattle.proof_core.specs.Beneath.proof_memory.specs.Levels.{EntryLevel, InsideLevel, KindLevel, NodeLevel}
+pub use Rattle.proof_core.specs.Beneath.proof_memory.specs.Wants.{AMain, ASingle, AllHold, AnEntry, AnIndirection, Anything, Claim, Holds, Is, Wanted, action_wants, is, is_formed, meets, node_wants}
+pub use Rattle.proof_core.specs.Beneath.proof_memory.specs.Wants.{offer_wants, prev_wants, word_wants}
+pub use Rattle.proof_core.specs.Beneath.proof_shape.specs.Sites.At.{StepsFit, TakesSteps}
+pub use Rattle.proof_core.specs.Beneath.proof_shape.specs.Sites.Lines.{bare}
+pub use Rattle.proof_core.specs.Beneath.proof_shape.specs.Sites.Nodes.{path_to}
+pub use Rattle.proof_operations.specs.Laws.{LineHasRoom}
+pub use Rattle.proof_straight.specs.Drafts.{Draft, held_with, next_made, redrafted}
+pub use Rattle.proof_straight.specs.Places.{below, entry_for, to_root}
+pub use Rattle.proof_straight.specs.Resting.{IsOfRun}
+pub use Rattle.proof_straight.specs.Running.{HasEmptySlots}

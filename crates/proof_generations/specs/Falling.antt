@@ -1,16 +1,13 @@
 -- How generations fall along paths, over a run of so many steps: what is shown of it, in the words that the layers above use.
 use Rattle.std.specs.Prelude.{◌≡◌, ℕ, suc, ◌<◌, ◌≤◌, ◌⊎◌, List, Contains, Some, []}
 use Rattle.proof_generations.specs.Vocabulary.{Writable, ReadOnly, Ref, Indirection, generation_of, entries_of, Purpose, Operation, Moment, Gives, Read, Swap, RenewLine, Root, Bounds, Outcome, Go}
-use Rattle.proof_generations.specs.Vocabulary.{State, root_at, operation_of, read_of, read_step, Moves, node_under, Record, closed_at, moment_at, noted, told_in}
+use Rattle.proof_generations.specs.Vocabulary.{State, root_at, operation_of, read_of, read_step, Moves, node_under, Record, closed_at, moment_at, noted, told_in, IsNoSwap, generation, node_in}
+use Rattle.proof_generations.specs.Vocabulary.{counting_main, trie_of, ReadsBelow}
 use Rattle.proof_generations.specs.Beneath.machine_model.specs.declared.lines.Line.TheVariants as line
 use Rattle.proof_generations.specs.Beneath.machine_model.specs.declared.lines.Purpose.TheVariants as purpose
 use Rattle.proof_generations.specs.Beneath.machine_model.specs.declared.reading.ReadLine.TheVariants as read
 use Rattle.proof_generations.specs.Beneath.machine_model.specs.declared.repairs.RenewLine.TheVariants as renew
-use Rattle.proof_commits.specs.Laws.{IsNoSwap}
 use Rattle.proof_generations.specs.Laws.Roots.{root_generation}
-use Rattle.proof_contents.specs.Tries.{generation, node_in}
-use Rattle.proof_contents.specs.Runs.{counting_main, trie_of}
-use Rattle.proof_contents.specs.Lines.Repairs.{ReadsBelow}
 
 -- ---- what falls
 

@@ -1,4 +1,4 @@
--- The words of the definition, for the files of this crate.
+-- The words of the definition and of the crates below, for the files of this crate.
 pub use Rattle.proof_generations.specs.Beneath.ctrie_base.specs.declared.hashes.HashKind.{HashKind}
 pub use Rattle.proof_generations.specs.Beneath.slot_arena.specs.Heaps.{Heap, bitmap_of, empty_branch, entries_of, entry_at, generation_at, generation_of, logical, logical_main, main_at}
 pub use Rattle.proof_generations.specs.Beneath.slot_arena.specs.Heaps.{main_changed, main_of, next_ref, no_ref, node_of, prev_changed, prev_of, refs_of_option, take_from, with_main_word, written}
@@ -87,3 +87,18 @@ pub use Rattle.proof_generations.specs.Beneath.machine_model.specs.declared.step
 pub use Rattle.proof_generations.specs.Beneath.machine_model.specs.declared.steps.Step.{Step}
 pub use Rattle.proof_generations.specs.Beneath.machine_model.specs.declared.steps.Step.TheVariants.{Go}
 pub use Rattle.proof_generations.specs.Beneath.machine_model.specs.declared.walking.WalkLine.{WalkLine}
+pub use Rattle.proof_contents.specs.Grows.{NodesStay}
+pub use Rattle.proof_contents.specs.Lines.Repairs.{ReadsBelow}
+pub use Rattle.proof_contents.specs.Runs.{counting_main, is_made, trie_of}
+unfoldable pub use Rattle.proof_contents.specs.Runs.{main_within}
+pub use Rattle.proof_contents.specs.Tries.{generation, node_in}
+pub use Rattle.proof_generations.specs.Beneath.proof_memory.specs.Laws.{IsInUse, SameNode, is_end}
+pub use Rattle.proof_generations.specs.Beneath.proof_memory.specs.Making.{made_node}
+pub use Rattle.proof_generations.specs.Beneath.proof_memory.specs.Wants.{AMain, ASingle, AllHold, AnEntry, AnIndirection, BranchOrList, Each, Holds, Is, WithEntry, action_wants, change_wants}
+pub use Rattle.proof_generations.specs.Beneath.proof_memory.specs.Wants.{complete_wants, line_wants, meets, node_wants, offer_wants, prev_wants, read_wants, word_wants}
+pub use Rattle.proof_commits.specs.Laws.{IsGiven, IsInSwap, IsNoSwap, known_after}
+pub use Rattle.proof_commits.specs.Moments.{IsMoment}
+pub use Rattle.proof_commits.specs.Protocol.{DecidesOn, Given, Idles, Protocol, Publishes, ReadTurn, Reads, Stage, SwapsNode, Words, counts_at}
+pub use Rattle.proof_commits.specs.Runs.{HasIndirection}
+pub use Rattle.proof_commits.specs.Stages.{stage_of, stage_of_actor}
+pub use Rattle.proof_commits.specs.Words.{words_of}

@@ -26,7 +26,7 @@ module _ {limits : Bounds} {states : ℕ → State} {last : ℕ} (run : IsRun li
         still = λ t s o within m notes none generation stood. steps_keep steps run takes keys t s o within m notes none generation;
         updates = updates_follow steps run takes keys;
         swaps = λ t s o within m notes handle offer carries k offerer runs its.
-            swap_so run depth path ok t s o within m notes handle offer carries k offerer runs its
+            swap_so run depth path ok t handle offer (record { taken = within; step = s; outcome = o; moves = m; notes = notes; carries = carries }) k offerer runs its
             (offers_unplaced run t s o within m notes handle offer carries);
         replies = replies_right steps run takes keys;
         refused = refused_unplaced run;

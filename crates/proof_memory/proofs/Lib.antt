@@ -4,8 +4,9 @@
 -- Its `heaped` says what is read from what is safe, `open_word` what stands in an open handle's root word; `step_claims` (Safety.Steps) what a step touches.
 --
 -- What lines take their references for (specs/Wants): `line_at`, `action_at`, `kind_at` (Safety.AtTimes) at a time of a run, `line_behind` behind a step,
--- `line_finds`, `action_finds` in a safe state. A claim is used by `safe_of`, `meets_of`, `all_of`, `fact_of`, `entry_of` (Claims.Uses), and a READ's by
--- `read_claims` (Claims.Reads); `node_found`, `main_found`, `prev_found` (Safety.AtTimes) lead from a look-up in the machine's heap to the heap that only grows.
+-- `line_finds`, `action_finds` in a safe state. A claim is used by `safe_of`, `meets_of`, `all_of`, `fact_of`, `entry_of` (Claims.Uses), a READ's by
+-- `read_claims` (Claims.Reads), and read out of a line's by its name: `main_claim`, `done_claim`, `past_place` .. (Claims.Named);
+-- `node_found`, `main_found`, `prev_found` (Safety.AtTimes) lead from a look-up in the machine's heap to the heap that only grows.
 --
 -- The heap that only grows: `word_move` (Heap.Moves) says what the step at a time writes, tied to the action of the operation that takes it; `grown_stays`
 -- that what was made stays, `not_yet_drawn` that what is drawn was never made, `used_before` that what is made and later in use is in use between. What stands

@@ -1,10 +1,9 @@
 -- COMPLETE, RENEW, CLEAN and CLIMB of an actor that is alone, in steps alone.
 use Rattle.std.proofs.Common.{ℕ, suc, ◌+◌, ◌<◌, ◌≤◌, ◌⊎◌, ◌||◌, Bool, true, false, cond, Option, Some, inl, inr, refl, arith}
 use Rattle.std.proofs.lemmas.Bool.{cases_lt}
-use Rattle.proof_obstruction_free.specs.Vocabulary.{Reply, Ref, Descriptor, handle_of, copied_reply, new_try, current, word_at, is_carried_out}
+use Rattle.proof_obstruction_free.specs.Vocabulary.{Reply, Ref, Descriptor, handle_of, copied_reply, new_try, current, word_at, is_carried_out, renew_path}
 use Rattle.proof_obstruction_free.specs.Beneath.machine_model.specs.declared.lines.Line.TheVariants as line
 use Rattle.proof_obstruction_free.specs.Beneath.machine_model.specs.declared.lines.Purpose.TheVariants as purpose
-use Rattle.proof_obstruction_free.specs.Beneath.proof_generations.specs.Falling.{renew_path}
 use Rattle.proof_obstruction_free.specs.Alone.{Lone, Stands, word}
 use Rattle.proof_obstruction_free.specs.Machines.{Machines}
 use Rattle.proof_obstruction_free.specs.ProgramEnds.{CleanEnds, ClimbEnds, CompleteEnds, CompleteGoesToItsEnd, HasCompleted, RenewEnds, climb_steps}

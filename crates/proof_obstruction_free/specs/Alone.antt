@@ -1,12 +1,10 @@
 -- One actor alone takes steps: what is asked of such a run, and how it is said that something comes within so many steps.
 use Rattle.std.specs.Prelude.{◌≡◌, ℕ, suc, ◌+◌, ◌<◌, ◌≤◌, true, Option, Some}
 use Rattle.proof_obstruction_free.specs.Vocabulary.{Ref, Node, generation_of, Action, Line, Operation, RootWord, Plain, Offer, Bounds, Step, handle_of, action_of, State, operation_of, word_at}
-use Rattle.proof_obstruction_free.specs.Vocabulary.{IsRun, node_under, main_word, prev_word}
+use Rattle.proof_obstruction_free.specs.Vocabulary.{IsRun, node_under, main_word, prev_word, is_made, TakesSteps, StepsFit}
 use Rattle.proof_obstruction_free.specs.Beneath.slot_arena.specs.declared.nodes.Prev.TheVariants as prev
 use Rattle.proof_obstruction_free.specs.Beneath.machine_model.specs.declared.actions.Action.TheVariants as act
 use Rattle.proof_obstruction_free.specs.Beneath.machine_model.specs.declared.steps.Step.TheVariants as step
-use Rattle.proof_obstruction_free.specs.Beneath.proof_contents.specs.Runs.{is_made}
-use Rattle.proof_obstruction_free.specs.Beneath.proof_shape.specs.Sites.At.{TakesSteps, StepsFit}
 
 -- ---- alone
 

@@ -3,14 +3,12 @@ use Rattle.std.specs.Prelude.{◌≡◌, ℕ, suc, ◌+◌, ◌-◌, ◌*◌, �
 use Rattle.arrayvec.specs.ArrayVec.{ArrayVec}
 use Rattle.proof_obstruction_free.specs.Vocabulary.{hash_of, position_of, Call, Clear, Snapshot, Freeze, Close, Entries, Count, Ref, Node, Indirection, Branch, Single, Tomb, no_ref, entries_of}
 use Rattle.proof_obstruction_free.specs.Vocabulary.{bitmap_of, has_flag, flag_of, BuildLine, ClimbLine, CleanLine, RenewLine, key_of, going_down, new_try, is_single, current, depth_of}
-use Rattle.proof_obstruction_free.specs.Vocabulary.{is_below_root, reading, swapping, renewed, contracted}
+use Rattle.proof_obstruction_free.specs.Vocabulary.{is_below_root, reading, swapping, renewed, contracted, build_path, main_of_build, renew_path}
 use Rattle.proof_obstruction_free.specs.Beneath.machine_model.specs.declared.finding.KeyLine.TheVariants as key
 use Rattle.proof_obstruction_free.specs.Beneath.machine_model.specs.declared.lines.Line.TheVariants as line
 use Rattle.proof_obstruction_free.specs.Beneath.machine_model.specs.declared.lines.Purpose.TheVariants as purpose
 use Rattle.proof_obstruction_free.specs.Beneath.machine_model.specs.declared.repairs.CleanLine.TheVariants as clean
 use Rattle.proof_obstruction_free.specs.Beneath.machine_model.specs.declared.repairs.RenewLine.TheVariants as renew
-use Rattle.proof_obstruction_free.specs.Beneath.proof_contents.specs.Lines.Changes.{build_path, main_of_build}
-use Rattle.proof_obstruction_free.specs.Beneath.proof_generations.specs.Falling.{renew_path}
 use Rattle.proof_obstruction_free.specs.Alone.{Lone, Stands, Has, Keeps, WordStays, IsCurrent, Within, node}
 
 -- a call on one key

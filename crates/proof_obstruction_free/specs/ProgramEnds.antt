@@ -1,12 +1,11 @@
 -- COMPLETE, RENEW, CLEAN and CLIMB, where one actor alone takes steps, in steps alone.
 use Rattle.std.specs.Prelude.{ℕ, ◌+◌, ◌<◌, ◌≤◌, ◌⊎◌, Option, Some}
-use Rattle.proof_obstruction_free.specs.Vocabulary.{Reply, Ref, ReadLine, CleanLine, ClimbLine, RenewLine, Descriptor, new_try}
+use Rattle.proof_obstruction_free.specs.Vocabulary.{Reply, Ref, ReadLine, CleanLine, ClimbLine, RenewLine, Descriptor, new_try, renew_path}
 use Rattle.proof_obstruction_free.specs.Beneath.machine_model.specs.declared.copying.CopyLine.TheVariants as copy
 use Rattle.proof_obstruction_free.specs.Beneath.machine_model.specs.declared.lines.Line.TheVariants as line
 use Rattle.proof_obstruction_free.specs.Beneath.machine_model.specs.declared.lines.Purpose.TheVariants as purpose
 use Rattle.proof_obstruction_free.specs.Beneath.machine_model.specs.declared.reading.ReadLine.TheVariants as read
 use Rattle.proof_obstruction_free.specs.Beneath.machine_model.specs.declared.roots.CompleteLine.TheVariants as complete
-use Rattle.proof_obstruction_free.specs.Beneath.proof_generations.specs.Falling.{renew_path}
 use Rattle.proof_obstruction_free.specs.Alone.{Lone, Stands}
 use Rattle.proof_obstruction_free.specs.SwapEnds.{HasEnded}
 

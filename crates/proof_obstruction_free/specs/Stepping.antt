@@ -1,10 +1,9 @@
 -- One step of an actor that is alone: what it leaves, and what it finds.
 use Rattle.std.specs.Prelude.{◌≡◌, ℕ, suc, ◌<◌, ◌≤◌, false, Option, Some}
-use Rattle.proof_obstruction_free.specs.Vocabulary.{Reply, Ref, Node, Indirection, node_at, next_ref, Action, Line, line_action, line_after, generation_from}
+use Rattle.proof_obstruction_free.specs.Vocabulary.{Reply, Ref, Node, Indirection, node_at, next_ref, Action, Line, line_action, line_after, generation_from, IsInUse, AllHold, line_wants}
 use Rattle.proof_obstruction_free.specs.Beneath.machine_model.specs.declared.actions.Action.TheVariants as act
 use Rattle.proof_obstruction_free.specs.Beneath.machine_model.specs.declared.lines.Line.TheVariants as line
-use Rattle.proof_obstruction_free.specs.Beneath.proof_memory.specs.Laws.{IsInUse}
-use Rattle.proof_obstruction_free.specs.Beneath.proof_memory.specs.Wants.{AllHold, is_indirection, line_wants}
+use Rattle.proof_obstruction_free.specs.Beneath.proof_memory.specs.Wants.{is_indirection}
 use Rattle.proof_obstruction_free.specs.Alone.{Lone, Stands, Keeps, IsQuiet, word, node}
 
 -- the line isn't an end

@@ -1,4 +1,4 @@
--- The words of the definition, for the files of this crate.
+-- The words of the definition and of the crates below, for the files of this crate.
 pub use Rattle.proof_obstruction_free.specs.Beneath.ctrie_base.specs.Hashes.{hash_of}
 pub use Rattle.proof_obstruction_free.specs.Beneath.ctrie_base.specs.Paths.{position_of}
 pub use Rattle.proof_obstruction_free.specs.Beneath.ctrie_base.specs.declared.kinds.Kind.{Kind}
@@ -90,3 +90,24 @@ pub use Rattle.proof_obstruction_free.specs.Beneath.machine_model.specs.declared
 pub use Rattle.proof_obstruction_free.specs.Beneath.machine_model.specs.declared.steps.Outcome.TheVariants.{Ended, Went}
 pub use Rattle.proof_obstruction_free.specs.Beneath.machine_model.specs.declared.steps.Step.{Step}
 pub use Rattle.proof_obstruction_free.specs.Beneath.machine_model.specs.declared.steps.Step.TheVariants.{Go}
+pub use Rattle.proof_obstruction_free.specs.Beneath.proof_contents.specs.Lines.Changes.{build_path, main_of_build}
+pub use Rattle.proof_obstruction_free.specs.Beneath.proof_contents.specs.Nodes.Looking.{Absent, Below, look_at, look_in}
+pub use Rattle.proof_obstruction_free.specs.Beneath.proof_contents.specs.Runs.{is_made}
+pub use Rattle.proof_obstruction_free.specs.Beneath.proof_contents.specs.Tries.{IsTombed, On, Trie, at_below, generation, says}
+pub use Rattle.proof_obstruction_free.specs.Beneath.proof_memory.specs.Laws.{IsInUse, is_end}
+pub use Rattle.proof_obstruction_free.specs.Beneath.proof_memory.specs.Levels.{LineLevel}
+pub use Rattle.proof_obstruction_free.specs.Beneath.proof_memory.specs.Wants.{ABranch, AMain, AllHold, AnEntry, AnIndirection, Holds, Is, TombOrList, action_wants, all_done_wants, done_wants}
+pub use Rattle.proof_obstruction_free.specs.Beneath.proof_memory.specs.Wants.{is_branch, line_wants, listed, meets, read_wants, word_wants}
+pub use Rattle.proof_obstruction_free.specs.Beneath.proof_commits.specs.Protocol.{Aborts, Builds, Checks, CommitsNode, Decides, DecidesAtOnce, DecidesOn, FailsNode, FindsAnother, FindsDecided}
+pub use Rattle.proof_obstruction_free.specs.Beneath.proof_commits.specs.Protocol.{FindsFailed, FindsOffer, FindsPending, Idles, Kept, Makes, MakesNothing, MayHave, Protocol, Publishes, PutsBack}
+pub use Rattle.proof_obstruction_free.specs.Beneath.proof_commits.specs.Protocol.{ReadTurn, Reads, ReadsMain, Restores, Rests, Stage, SwapsIn, SwapsNode, Words, Written, after_read}
+pub use Rattle.proof_obstruction_free.specs.Beneath.proof_commits.specs.Stages.{stage_of, stage_of_actor, stage_of_complete, stage_of_root, stage_of_swap}
+pub use Rattle.proof_obstruction_free.specs.Beneath.proof_commits.specs.Words.{words_of}
+pub use Rattle.proof_obstruction_free.specs.Beneath.proof_generations.specs.Falling.{renew_path}
+pub use Rattle.proof_obstruction_free.specs.Beneath.proof_generations.specs.Laws.Roots.{settles}
+pub use Rattle.proof_obstruction_free.specs.Beneath.proof_shape.specs.Shaped.{trie_of_run}
+pub use Rattle.proof_obstruction_free.specs.Beneath.proof_shape.specs.Sites.At.{StepsFit, TakesSteps, way_of}
+pub use Rattle.proof_obstruction_free.specs.Beneath.proof_shape.specs.Sites.Lines.{InsideSite, LineSite, Sites, sites_of, trie_at}
+pub use Rattle.proof_obstruction_free.specs.Beneath.proof_shape.specs.Sites.Nodes.{depth_of_run}
+unfoldable pub use Rattle.proof_obstruction_free.specs.Beneath.proof_shape.specs.Sites.Nodes.{level_until}
+pub use Rattle.proof_updates.specs.Paths.{LiesOn, path_of}

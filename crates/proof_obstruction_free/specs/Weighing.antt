@@ -1,9 +1,8 @@
 -- What is asked of a weight, so that to decide a main node that another actor left undecided is paid by the weight that this takes off.
 use Rattle.std.specs.Prelude.{◌≡◌, ℕ, suc, ◌+◌, ◌<◌, ◌≤◌, true, Option, Some}
-use Rattle.proof_obstruction_free.specs.Vocabulary.{Ref, Prev, Action, Operation, Descriptor, Offer, action_of, operation_of, main_word, prev_word}
+use Rattle.proof_obstruction_free.specs.Vocabulary.{Ref, Prev, Action, Operation, Descriptor, Offer, action_of, operation_of, main_word, prev_word, is_made}
 use Rattle.proof_obstruction_free.specs.Beneath.slot_arena.specs.declared.nodes.Prev.TheVariants as prev
 use Rattle.proof_obstruction_free.specs.Beneath.machine_model.specs.declared.actions.Action.TheVariants as act
-use Rattle.proof_obstruction_free.specs.Beneath.proof_contents.specs.Runs.{is_made}
 use Rattle.proof_obstruction_free.specs.Alone.{Lone, IsStillWeight, word}
 
 module _ (a : Lone) where

@@ -12,6 +12,7 @@ use Rattle.proof_operations.specs.Beneath.proof_memory.specs.Laws.{IsInUse}
 use Rattle.proof_operations.specs.Beneath.proof_memory.specs.Levels.{LineLevel}
 use Rattle.proof_operations.specs.Beneath.proof_memory.specs.Wants.{ABranch, AllHold, line_wants, meets}
 use Rattle.proof_operations.specs.Beneath.proof_memory.proofs.Claims.Uses.{meets_of, safe_of}
+use Rattle.proof_operations.specs.Beneath.proof_memory.proofs.Claims.Named.{main_claim, left_claim}
 use Rattle.proof_operations.specs.Beneath.proof_memory.proofs.Levels.Shapes.{ShapeAt}
 use Rattle.proof_operations.specs.Beneath.proof_memory.proofs.Safety.AtTimes.{limits_at, line_at}
 use Rattle.proof_operations.specs.Beneath.proof_memory.proofs.Safety.Steps.{of_actor}
@@ -57,7 +58,7 @@ module _ (limits : Bounds) (steps : List Step) (ok : AreBounds limits) (actor : 
   entry_short : (path : List Ref) (main : Ref) (position : ℕ) → operation.line ≡ line.Key (key.Entry path main position) → length path < 14
   entry_short path main position e =
       let lv = level_until (states_of limits steps) (steps_of limits steps) last in
-      let its = (stands (line.Key (key.Entry path main position)) e).1.1.0 in
+      let its = main_claim (stands (line.Key (key.Entry path main position)) e) in
       let used = safe_of its in
       let shape = (levels_there (steps_of limits steps) (run_is limits steps ok) (takes_steps limits steps) last (omega arith)).1.nodes
       main used.0 used.1 in
@@ -69,12 +70,12 @@ module _ (limits : Bounds) (steps : List Step) (ok : AreBounds limits) (actor : 
 
   fits : (l : Line) → operation.line ≡ l → LineHasRoom l
   fits (line.Key (key.Entry path main position)) e = entry_short path main position e
-  fits (line.Renew (renew.Entry path main done)) e = within main done (ltb-true (length done) _ (meets_of (stands (line.Renew (renew.Entry path main done)) e).1.1.1.1.0))
+  fits (line.Renew (renew.Entry path main done)) e = within main done (ltb-true (length done) _ (meets_of (left_claim (stands (line.Renew (renew.Entry path main done)) e))))
   fits (line.Renew (renew.Link path main done child)) e =
-      within main done (ltb-true (length done) _ (meets_of (stands (line.Renew (renew.Link path main done child)) e).1.1.1.1.0))
-  fits (line.Clean (clean.Entry path main done)) e = within main done (ltb-true (length done) _ (meets_of (stands (line.Clean (clean.Entry path main done)) e).1.1.1.1.0))
+      within main done (ltb-true (length done) _ (meets_of (left_claim (stands (line.Renew (renew.Link path main done child)) e))))
+  fits (line.Clean (clean.Entry path main done)) e = within main done (ltb-true (length done) _ (meets_of (left_claim (stands (line.Clean (clean.Entry path main done)) e))))
   fits (line.Clean (clean.Tomb path main done child)) e =
-      within main done (ltb-true (length done) _ (meets_of (stands (line.Clean (clean.Tomb path main done child)) e).1.1.1.1.0))
+      within main done (ltb-true (length done) _ (meets_of (left_claim (stands (line.Clean (clean.Tomb path main done child)) e))))
   fits l e = tt
 
 pub lists_have_room : ListsHaveRoom

@@ -2,11 +2,9 @@
 use Rattle.std.specs.Prelude.{◌≡◌, ℕ, suc, ◌≤◌, ◌<◌, Some, None}
 use Rattle.std.specs.FinMap as map
 use Rattle.proof_order.specs.Vocabulary.{Ref, generation_of, generation_at, empty_branch, Operation, Descriptor, Root, Bounds, Outcome, Step, Call, Clear, Snapshot, Freeze, content_at, State}
-use Rattle.proof_order.specs.Vocabulary.{root_of, operation_of, node_under, Moves, Record}
+use Rattle.proof_order.specs.Vocabulary.{root_of, operation_of, node_under, Moves, Record, counting_main, trie_of, content}
 use Rattle.proof_order.specs.Beneath.machine_model.specs.States as state
 use Rattle.proof_order.specs.Beneath.proof_contents.specs.Runs as trie
-use Rattle.proof_order.specs.Beneath.proof_contents.specs.Runs.{counting_main, trie_of}
-use Rattle.proof_order.specs.Beneath.proof_contents.specs.Tries.{content}
 use Rattle.proof_order.specs.Beneath.proof_contents.specs.Steps.{IsTrie}
 use Rattle.proof_order.specs.Facts.{CarriesOut, Opens, Notes}
 

@@ -1,4 +1,4 @@
--- The words of the definition, for the files of this crate.
+-- The words of the definition and of the crates below, for the files of this crate.
 pub use Rattle.proof_order.specs.Beneath.ctrie_base.specs.Hashes.{hash_of}
 pub use Rattle.proof_order.specs.Beneath.slot_arena.specs.Heaps.{Heap, empty_branch, entries_of, entry_at, generation_at, generation_of, logical, logical_main, main_at, main_of, next_ref, no_ref}
 pub use Rattle.proof_order.specs.Beneath.slot_arena.specs.Heaps.{node_of, prev_of, with_main_word}
@@ -97,3 +97,16 @@ pub use Rattle.proof_order.specs.Beneath.machine_model.specs.declared.steps.Boun
 pub use Rattle.proof_order.specs.Beneath.machine_model.specs.declared.steps.Outcome.{Outcome}
 pub use Rattle.proof_order.specs.Beneath.machine_model.specs.declared.steps.Step.{Step}
 pub use Rattle.proof_order.specs.Beneath.machine_model.specs.declared.walking.WalkLine.{WalkLine}
+pub use Rattle.proof_order.specs.Beneath.proof_contents.specs.InUse.{ReachesInUse}
+pub use Rattle.proof_order.specs.Beneath.proof_contents.specs.Runs.{counting_main, is_made, or_other, root_among, root_if, root_of_generation, trie_of}
+unfoldable pub use Rattle.proof_order.specs.Beneath.proof_contents.specs.Runs.{root_until}
+pub use Rattle.proof_order.specs.Beneath.proof_contents.specs.Tries.{Trie}
+unfoldable pub use Rattle.proof_order.specs.Beneath.proof_contents.specs.Tries.{content}
+pub use Rattle.proof_order.specs.Beneath.proof_memory.specs.Laws.{IsInUse, is_end, is_past_root}
+pub use Rattle.proof_order.specs.Beneath.proof_memory.specs.Making.{made_node}
+pub use Rattle.proof_order.specs.Beneath.proof_memory.specs.Wants.{AllHold, AnIndirection, complete_wants, copy_wants, line_wants, meets, node_wants, prev_wants, word_wants}
+pub use Rattle.proof_order.specs.Beneath.proof_commits.specs.Moments.{IsMoment}
+pub use Rattle.proof_order.specs.Beneath.proof_commits.specs.Protocol.{Given, Protocol, Reads, Words, counts_at}
+pub use Rattle.proof_order.specs.Beneath.proof_commits.specs.Stages.{stage_of, stage_of_actor, stage_of_complete, stage_of_swap}
+pub use Rattle.proof_order.specs.Beneath.proof_commits.specs.Words.{words_of}
+pub use Rattle.proof_generations.specs.Laws.Roots.{root_generation, settles}

@@ -1,15 +1,14 @@
 -- What the laws say of a step that was asked for, be it taken or refused.
 use Rattle.std.proofs.Common.{◌≡◌, ◌⊎◌, ◌+◌, ◌≤◌, List, ◌++◌, Result, Ok, Err, OnOk, sym, ap, subst, inl, inr, arith}
-use Rattle.proof_runs.specs.Vocabulary.{Refusal, birth_of, Ref, Bounds, Outcome, Step, KeysFit, bounded, AreBounds, next, run, state_after, State, first_state}
+use Rattle.proof_runs.specs.Vocabulary.{Refusal, birth_of, Ref, Bounds, Outcome, Step, KeysFit, bounded, AreBounds, next, run, state_after, State, first_state, IsInUse, HeldInUse, StandingInUse}
+use Rattle.proof_runs.specs.Vocabulary.{FreedLate, OfEachStep, UntouchedStay, UpdatesChange, RepairsStay, ClearsEmpty, ClosesTake, OpenedCopy}
 use Rattle.proof_runs.specs.Beneath.ctrie_base.specs.declared.refusals.Refusal.TheVariants as refuse
 use Rattle.proof_runs.specs.Beneath.machine_model.proofs.Along.{run-append}
 use Rattle.proof_runs.specs.Beneath.machine_model.proofs.Moves.{moved}
-use Rattle.proof_memory.specs.Laws.{IsInUse, HeldInUse, StandingInUse, FreedLate}
 use Rattle.proof_memory.proofs.Heap.Later.{onward, births_later}
 use Rattle.proof_memory.proofs.Safety.AtEachTime.{safe_along}
 use Rattle.proof_memory.proofs.Safety.States.{stood_or_made}
 use Rattle.proof_memory.proofs.Safety.Steps.{step_effect}
-use Rattle.proof_runs.specs.Beneath.proof_updates.specs.Laws.Handles.{OfEachStep, UntouchedStay, UpdatesChange, RepairsStay, ClearsEmpty, ClosesTake, OpenedCopy}
 use Rattle.proof_runs.specs.Contents.{ChangesContents}
 use Rattle.proof_runs.specs.Machines.{Taken, state_of, with_step, Applied}
 use Rattle.proof_runs.specs.Memory.{Uses, UsesWhatItNames, FreesLate, DrawsNew}

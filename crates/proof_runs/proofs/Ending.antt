@@ -4,7 +4,8 @@ use Rattle.std.proofs.Common.{◌≡◌, ℕ, zero, suc, ◌+◌, ◌<◌, ◌�
 use Rattle.std.proofs.lemmas.Bool.{cases_lt}
 use Rattle.std.proofs.lemmas.List.{append-nil, replicate-append-replicate}
 use Rattle.proof_runs.specs.Vocabulary.{Refusal, Call, Clear, Snapshot, Freeze, Close, Reply, Closed, NoSlots, is_close, Operation, Bounds, Step, Outcome, FitsKey, KeysFit, begun_operation, settled}
-use Rattle.proof_runs.specs.Vocabulary.{go_limit, AreLimits, bounded, Answer, next, begin_denial, begin_unless, run, with_begin, Record, State, operation_of, new_try}
+use Rattle.proof_runs.specs.Vocabulary.{go_limit, AreLimits, bounded, Answer, next, begin_denial, begin_unless, run, with_begin, Record, State, operation_of, new_try, ClosesEnd, IsCopying}
+use Rattle.proof_runs.specs.Vocabulary.{EachStepLeadsToItsEnd, GoesOnAt, IsOnKeyOrRoot, RunsAlone, alone_after, most_steps_alone, EnoughForCopies, EnoughForTries, slots_of}
 use Rattle.proof_runs.specs.Beneath.ctrie_base.specs.declared.refusals.Refusal.TheVariants as refuse
 use Rattle.proof_runs.specs.Beneath.machine_model.specs.declared.steps.Step.TheVariants as step
 use Rattle.proof_runs.specs.Beneath.machine_model.specs.declared.steps.Outcome.TheVariants as outcome
@@ -15,17 +16,13 @@ use Rattle.proof_runs.specs.Beneath.proof_order.proofs.Views.Unconditional.{book
 use Rattle.std.proofs.lemmas.List.Elements.{All-push}
 use Rattle.std.proofs.lemmas.Option.{none-some}
 use Rattle.proof_runs.proofs.Telling.{answered_parts, begun_runs, denied_parts, noted_step, stepped, unanswered}
-use Rattle.proof_obstruction_free.specs.Closes.{ClosesEnd}
-use Rattle.proof_obstruction_free.specs.Copies.{IsCopying}
-use Rattle.proof_obstruction_free.specs.Laws.{EachStepLeadsToItsEnd, EndsAt, GoesOnAt, IsOnKeyOrRoot, RunsAlone, alone_after, most_steps_alone}
-use Rattle.proof_obstruction_free.specs.Slots.{EnoughForCopies, EnoughForTries}
+use Rattle.proof_obstruction_free.specs.Laws.{EndsAt}
 use Rattle.proof_runs.specs.Beneath.proof_commits.proofs.Resting.{idle_behind}
 use Rattle.proof_obstruction_free.proofs.NoWalks.{of_no_walk}
 use Rattle.proof_obstruction_free.proofs.Slots.AtBegin.{tries_first}
 use Rattle.proof_runs.specs.Machines.{Taken, past_of, state_of, with_step, Applied, IsTaken}
 use Rattle.proof_runs.specs.Callers.{after_go, going_on, Resumes, Completes, CompletesUnless}
 use Rattle.proof_runs.specs.Ending.{EndsIfSure, EndsIn, IsAnswer, IsNearer, IsSure}
-use Rattle.proof_obstruction_free.specs.Calls.{slots_of}
 use Rattle.proof_runs.proofs.Bounds.{few_actors, in_bounds}
 use Rattle.proof_runs.proofs.Going.{goes, ends}
 

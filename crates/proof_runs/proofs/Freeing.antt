@@ -3,7 +3,7 @@ use Rattle.std.specs.Prelude.{◌≡◌, ◌≤◌, ◌+◌, ◌*◌, ℕ, zero,
 use Rattle.std.specs.Prelude.{Result, Ok, Err}
 use Rattle.std.proofs.Common.{refl, sym, ap, subst, arith, ◌∙◌}
 use Rattle.std.proofs.Math.Nat.{mul-suc}
-use Rattle.proof_runs.specs.Vocabulary.{Refusal, Limits, bounded, AreBounds, is_busy, next, State}
+use Rattle.proof_runs.specs.Vocabulary.{Refusal, Limits, bounded, AreBounds, is_busy, next, State, steps_for_a_slot}
 use Rattle.proof_runs.specs.Beneath.machine_model.specs.declared.steps.Step.TheVariants as step
 use Rattle.proof_runs.specs.Beneath.machine_model.proofs.Moves.{moved}
 use Rattle.proof_memory.proofs.Holding.Sizes.{sizes_stay}
@@ -12,7 +12,6 @@ use Rattle.proof_memory.proofs.Safety.AtEachTime.{safe_along}
 use Rattle.proof_runs.specs.Callers.{AreNeeded, HasLimbo, Reclaims, ReclaimsUnless, SweepsUntil, swept}
 use Rattle.proof_runs.specs.Machines.{IsTaken, Taken, state_of, with_step}
 use Rattle.proof_runs.specs.Reclaiming.{SweepsFew, SweepsUpTo}
-use Rattle.proof_memory.specs.Sweeping.{steps_for_a_slot}
 use Rattle.proof_runs.proofs.Sweeping.{nearer, step_by}
 use Rattle.proof_memory.proofs.Limbo.Nearing.{Nears, counts_along, frees, move_nears, nears, ripe_most, until_ripe}
 

@@ -7,12 +7,11 @@ use Rattle.std.proofs.lemmas.List.Elements.{All-contains, Contains-push}
 use Rattle.std.proofs.lemmas.Option.{same_Some}
 use Rattle.std.specs.declared.alloc.Global.{Global}
 use Rattle.proof_runs.specs.Vocabulary.{Refusal, NoHandle, Writable, Call, Reply, NoSlots, HandleState, Root, Limits, Outcome, State, first_state, root_at, order_of, content_at, FitsKey, KeysFit}
-use Rattle.proof_runs.specs.Vocabulary.{AreLimits, bounded, next, access_of, begin_denial, begin_unless, is_access, is_busy, state_after, go_limit, RefusesContent}
+use Rattle.proof_runs.specs.Vocabulary.{AreLimits, bounded, next, access_of, begin_denial, begin_unless, is_access, is_busy, state_after, go_limit, RefusesContent, Names, IsExplained, AloneItActs}
+use Rattle.proof_runs.specs.Vocabulary.{RanAlone, slots_of, ClosesEnd, EachStepLeadsToItsEnd, most_steps_alone}
 use Rattle.proof_runs.specs.Beneath.machine_model.specs.declared.steps.Step.TheVariants as step
 use Rattle.proof_runs.specs.Beneath.machine_model.proofs.Along.{run_push}
-use Rattle.proof_runs.specs.Beneath.proof_order.specs.Laws.Orders.{Names, IsExplained}
 use Rattle.proof_linearizable.proofs.Legal.{fit_in_front}
-use Rattle.proof_linearizable.specs.Laws.{AloneItActs, RanAlone}
 use Rattle.proof_runs.specs.Machines.{Taken, past_of, state_of, with_step}
 use Rattle.proof_runs.specs.Callers.{going_on, Resumes, Completes, CompletesUnless}
 use Rattle.proof_runs.specs.Legality.{IsLegalFor, LeadsToContents, HasInOrder, InOrder, IsInOrder, writable_in, ActedAlone, RestsIfAnswered, WentAlone}
@@ -20,9 +19,6 @@ use Rattle.proof_runs.proofs.Bounds.{in_bounds}
 use Rattle.proof_runs.proofs.Going.{HasMore, going-append, has_more}
 use Rattle.proof_runs.proofs.Ending.{EnoughForCall, spared_behind}
 use Rattle.proof_runs.specs.Ending.{IsSpared, IsSure}
-use Rattle.proof_obstruction_free.specs.Calls.{slots_of}
-use Rattle.proof_obstruction_free.specs.Closes.{ClosesEnd}
-use Rattle.proof_obstruction_free.specs.Laws.{EachStepLeadsToItsEnd, most_steps_alone}
 use Rattle.proof_runs.proofs.Resting.{leads_to_rest, unanswered_at_rest}
 use Rattle.proof_runs.specs.Beneath.proof_commits.proofs.Resting.{OnlyRuns, only_at_rest, still_only}
 use Rattle.proof_runs.proofs.Telling.{Tells, stepped, tells}

@@ -3,15 +3,13 @@ use Rattle.std.specs.Prelude.{◌≡◌, ℕ, zero, suc, Bool, true, false, is_s
 use Rattle.std.specs.List.{list_any}
 use Rattle.std.proofs.Common.{refl, sym, ap, subst, ◌∙◌}
 use Rattle.proof_runs.specs.Vocabulary.{Refusal, Busy, Sweep, State, first_state, root_at, bounded, AreBounds, Answer, next, next_state, state_after, is_busy, Sweeps, MovesIfTaken, content_at}
-use Rattle.proof_runs.specs.Vocabulary.{first_record, order_of}
+use Rattle.proof_runs.specs.Vocabulary.{first_record, order_of, SweepLeaves, UsesReached, Reclaimed}
 use Rattle.proof_runs.specs.Beneath.machine_model.proofs.Along.{run_push}
 use Rattle.proof_runs.specs.Beneath.machine_model.proofs.Moves.{moves}
-use Rattle.proof_memory.specs.Laws.{SweepLeaves}
 use Rattle.proof_runs.specs.Beneath.machine_model.proofs.Recorded.{record_push}
 use Rattle.proof_runs.specs.Machines.{Taken, past_of, state_of, with_step}
 use Rattle.proof_runs.specs.Callers.{swept, Reclaims, ReclaimsUnless}
 use Rattle.proof_runs.specs.Reclaiming.{LooksSame}
-use Rattle.proof_memory.specs.Sweeping.{UsesReached, Reclaimed}
 
 pub same_looks : (machine : Taken) → LooksSame machine machine
 same_looks machine = record { events = refl; order = refl; roots = λ handle. refl; contents = λ handle root e. refl }

@@ -1,6 +1,5 @@
 -- What a step does to the contents of the open handles.
-use Rattle.proof_runs.specs.Vocabulary.{Step, bounded}
-use Rattle.proof_runs.specs.Beneath.proof_updates.specs.Laws.Handles.{UntouchedStay, UpdatesChange, RepairsStay, ClearsEmpty, ClosesTake, OpenedCopy}
+use Rattle.proof_runs.specs.Vocabulary.{Step, bounded, UntouchedStay, UpdatesChange, RepairsStay, ClearsEmpty, ClosesTake, OpenedCopy}
 use Rattle.proof_runs.specs.Machines.{Taken, state_of}
 
 -- A handle that the step doesn't touch stays open, of its kind, with its content. The commit of an operation's own update does its call's change, with its

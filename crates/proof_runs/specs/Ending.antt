@@ -1,9 +1,7 @@
 -- Operations and calls that are sure to end where their actor alone takes steps.
 use Rattle.std.specs.Prelude.{◌≡◌, ◌≢◌, ℕ, zero, suc, ◌+◌, ◌≤◌, ◌⊎◌, length, Option, Some, None, Result, Ok, Err}
-use Rattle.proof_runs.specs.Vocabulary.{Refusal, Call, Reply, NoSlots, Operation, Step, Go, begin_denial, State, operation_of}
+use Rattle.proof_runs.specs.Vocabulary.{Refusal, Call, Reply, NoSlots, Operation, Step, Go, begin_denial, State, operation_of, IsNoWalk, slots_of, most_steps_alone}
 use Rattle.proof_runs.specs.Beneath.ctrie_base.specs.declared.refusals.Refusal.TheVariants.{Memory}
-use Rattle.proof_obstruction_free.specs.Calls.{IsNoWalk, slots_of}
-use Rattle.proof_obstruction_free.specs.Laws.{most_steps_alone}
 use Rattle.proof_runs.specs.Machines.{Taken, state_of, with_step, IsTaken}
 
 -- such a call, while so many steps are left

@@ -1,7 +1,6 @@
 -- What the steps of a machine add to its record, for every list of steps.
 use Rattle.std.specs.Prelude.{◌≡◌, ◌+◌, ◌≤◌, List, All, length, ◌++◌, ◌∷◌, []}
-use Rattle.proof_runs.specs.Vocabulary.{Ref, slot_of, Bounds, Step, AreBounds, run, record_of}
-use Rattle.proof_memory.specs.Laws.{IsInUse}
+use Rattle.proof_runs.specs.Vocabulary.{Ref, slot_of, Bounds, Step, AreBounds, run, record_of, IsInUse}
 
 -- a step adds at most one place
 abbrev pub OnePlaceAStep : Type 0

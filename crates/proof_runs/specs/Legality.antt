@@ -1,10 +1,9 @@
 -- The legal order, of a machine at any time, and what a call does that runs alone.
 use Rattle.std.specs.Prelude.{◌≡◌, ℕ, Bool, false, List, [], ◌∷◌, ◌++◌, Option, Some, None, option_map, Result, Ok}
 use Rattle.std.specs.FinMap as map
-use Rattle.proof_runs.specs.Vocabulary.{hash_of, Refusal, Writable, Call, Reply, HandleState, HandleMap, Explains, IsLegal, is_access, is_busy, order_of, root_at}
+use Rattle.proof_runs.specs.Vocabulary.{hash_of, Refusal, Writable, Call, Reply, HandleState, HandleMap, Explains, IsLegal, is_access, is_busy, order_of, root_at, Names, ShowsContents}
 use Rattle.proof_runs.specs.Beneath.history.specs.declared.events.Event.TheVariants as event
 use Rattle.proof_runs.specs.Beneath.machine_model.specs.declared.steps.Step.TheVariants.{Begin}
-use Rattle.proof_runs.specs.Beneath.proof_order.specs.Laws.Orders.{Names, ShowsContents}
 use Rattle.proof_linearizable.specs.Laws.{Does}
 use Rattle.proof_runs.specs.Machines.{Taken, past_of, state_of, with_step}
 use Rattle.proof_runs.specs.Callers.{going_on}

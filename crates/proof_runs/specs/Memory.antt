@@ -1,7 +1,6 @@
 -- What a machine's memory is like, and what a step does to it.
 use Rattle.std.specs.Prelude.{◌≡◌, ℕ, ◌+◌, ◌≤◌, List, ◌++◌, Contains, Some}
-use Rattle.proof_runs.specs.Vocabulary.{Ref, stored, refs_of_slot, Operation, Step, Sweep, held, refs_of_root, bounded, run, root_at, operation_of}
-use Rattle.proof_memory.specs.Laws.{IsInUse, IsZero}
+use Rattle.proof_runs.specs.Vocabulary.{Ref, stored, refs_of_slot, Operation, Step, Sweep, held, refs_of_root, bounded, run, root_at, operation_of, IsInUse, IsZero}
 use Rattle.proof_runs.specs.Machines.{Taken, state_of}
 
 -- the reference names a slot that the machine uses, under that very birth

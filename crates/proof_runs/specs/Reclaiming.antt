@@ -1,7 +1,6 @@
 -- What the sweep leaves.
 use Rattle.std.specs.Prelude.{◌≡◌, ◌≤◌, ◌+◌, ◌*◌, ℕ, length, Some, Result, Ok, Err}
-use Rattle.proof_runs.specs.Vocabulary.{Refusal, Root, root_at, order_of, content_at}
-use Rattle.proof_memory.specs.Sweeping.{steps_for_a_slot}
+use Rattle.proof_runs.specs.Vocabulary.{Refusal, Root, root_at, order_of, content_at, steps_for_a_slot}
 use Rattle.proof_runs.specs.Machines.{Taken, past_of, state_of}
 
 -- history and order are the same, and so are the handles and the content of each open one

@@ -1,4 +1,4 @@
--- The words of the definition, for the files of this crate.
+-- The words of the definition and of the crates below, for the files of this crate.
 pub use Rattle.proof_runs.specs.Beneath.ctrie_base.specs.Hashes.{hash_of}
 pub use Rattle.proof_runs.specs.Beneath.ctrie_base.specs.declared.refusals.Refusal.{Refusal}
 pub use Rattle.proof_runs.specs.Beneath.ctrie_base.specs.declared.refusals.Refusal.TheVariants.{Busy, NoHandle, Spent}
@@ -70,3 +70,14 @@ pub use Rattle.proof_runs.specs.Beneath.machine_model.specs.declared.steps.Outco
 pub use Rattle.proof_runs.specs.Beneath.machine_model.specs.declared.steps.Outcome.TheVariants.{Ended}
 pub use Rattle.proof_runs.specs.Beneath.machine_model.specs.declared.steps.Step.{Step}
 pub use Rattle.proof_runs.specs.Beneath.machine_model.specs.declared.steps.Step.TheVariants.{Go, Sweep}
+pub use Rattle.proof_memory.specs.Laws.{FreedLate, HeldInUse, IsInUse, IsZero, StandingInUse, SweepLeaves}
+pub use Rattle.proof_memory.specs.Sweeping.{Reclaimed, UsesReached, steps_for_a_slot}
+pub use Rattle.proof_memory.specs.Wants.{AllHold, action_wants}
+pub use Rattle.proof_runs.specs.Beneath.proof_order.specs.Laws.Orders.{IsExplained, Names, ShowsContents}
+pub use Rattle.proof_runs.specs.Beneath.proof_updates.specs.Laws.Handles.{ClearsEmpty, ClosesTake, OfEachStep, OpenedCopy, RepairsStay, UntouchedStay, UpdatesChange}
+pub use Rattle.proof_linearizable.specs.Laws.{AloneItActs, RanAlone}
+pub use Rattle.proof_obstruction_free.specs.Calls.{IsNoWalk, slots_of}
+pub use Rattle.proof_obstruction_free.specs.Closes.{ClosesEnd}
+pub use Rattle.proof_obstruction_free.specs.Copies.{IsCopying}
+pub use Rattle.proof_obstruction_free.specs.Laws.{EachStepLeadsToItsEnd, GoesOnAt, IsOnKeyOrRoot, RunsAlone, alone_after, most_steps_alone}
+pub use Rattle.proof_obstruction_free.specs.Slots.{EnoughForCopies, EnoughForTries}

@@ -3,7 +3,8 @@
 -- What lines know (specs/Lines/Knowing): `knows_at` (Lines.Knows) of a key's place and of a change that is built, `repairs_at` (Lines.RepairsAt) of the entries
 -- that RENEW and CLEAN have done, `climbs_at` (Lines.ClimbsAt) of the tomb that CLIMB comes from; `places_at` (Lines.Places) where a line swaps, and that it has
 -- a generation; `settled_at` which calls come to which lines. What a READ gave, when it began and from when on that was so (specs/Lines/Given): `gave_now`,
--- `reading_at` (Runs.Began), `was_given` (Commits.Was); a READ of RENEW or CLEAN has `GaveBelow`, with its last step and its try besides, from `repairs_at`.
+-- `reading_at` (Runs.Began), `was_given` (Commits.Was); a READ of RENEW or CLEAN has `GaveBelow`, with its last step and its try besides, from `repairs_at`;
+-- what that gave of an older generation counts for good, by `given_below` (Commits.Was).
 --
 -- Who commits what (specs/Lines/Commits): `fresh_commits_at` (Held.Commits), by the main nodes that fresh indirections have at the commit; `commits_at`
 -- (Commits.At), by those with which they were made.

@@ -3,10 +3,8 @@ use Rattle.std.specs.Prelude.{◌≡◌, ℕ, suc, ◌+◌, ◌≤◌, List, Som
 use Rattle.std.specs.Ordering.{nat_cmp}
 use Rattle.std.specs.FinMap as map
 use Rattle.proof_shape.specs.Vocabulary.{hash_of, KeyMap, Ref, Indirection, logical_main, node_at, Root, Bounds, Step, content_at, most_levels, KeysFit, AreBounds, run, by_key, root_at, root_of}
-use Rattle.proof_shape.specs.Beneath.proof_contents.specs.Laws.{HoldsAt}
-use Rattle.proof_shape.specs.Beneath.proof_contents.specs.Nodes.Looking.{find_at}
+use Rattle.proof_shape.specs.Vocabulary.{HoldsAt, find_at, Trie, node_in}
 use Rattle.proof_shape.specs.Beneath.proof_contents.specs.Pairs.{pairs_from}
-use Rattle.proof_shape.specs.Beneath.proof_contents.specs.Tries.{Trie, node_in}
 use Rattle.proof_shape.specs.Shaped.{HasShape}
 
 -- Wherever nodes stand at their places: the content of an indirection's main node, of which the laws of the builders speak, is the map of all pairs that

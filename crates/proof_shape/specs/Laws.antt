@@ -4,12 +4,9 @@ use Rattle.std.specs.FinMap.Entries.{is_sorted}
 use Rattle.std.specs.Ordering.{nat_cmp}
 use Rattle.arrayvec.specs.ArrayVec.{ArrayVec}
 use Rattle.proof_shape.specs.Vocabulary.{hash_of, Ref, Node, Indirection, Branch, Single, List as Listed, Slot, node_at, logical_main, no_ref, list_depth, index_in, Operation, Root, Bounds, Step}
-use Rattle.proof_shape.specs.Vocabulary.{key_of, root_at, root_of, operation_of, AreBounds, run, content_at, pairs_below, most_levels, standing, KeysFit}
-use Rattle.proof_shape.specs.Beneath.proof_contents.specs.Nodes.Branches.{HasPlaces, at_place}
-use Rattle.proof_shape.specs.Beneath.proof_contents.specs.Nodes.Lists.{AreSingles}
-use Rattle.proof_shape.specs.Beneath.proof_contents.specs.Nodes.Looking.{Has, look_among}
-use Rattle.proof_shape.specs.Beneath.proof_memory.specs.Wants.{is_branch, is_indirection}
-use Rattle.proof_shape.specs.Beneath.proof_memory.specs.Laws.{IsInUse}
+use Rattle.proof_shape.specs.Vocabulary.{key_of, root_at, root_of, operation_of, AreBounds, run, content_at, pairs_below, most_levels, standing, KeysFit, HasPlaces, at_place, AreSingles, Has}
+use Rattle.proof_shape.specs.Vocabulary.{look_among, is_branch, IsInUse}
+use Rattle.proof_shape.specs.Beneath.proof_memory.specs.Wants.{is_indirection}
 use Rattle.proof_shape.specs.Sites.Nodes.{path_to, depth_at, level_of, path_of}
 use Rattle.proof_shape.specs.Sites.At.{way_of}
 

@@ -1,8 +1,6 @@
 -- The trie of a run has its shape at each time.
 use Rattle.std.specs.Prelude.{◌≡◌, ℕ, ◌*◌, ◌^◌, ◌<◌, ◌≤◌, Contains}
-use Rattle.proof_shape.specs.Vocabulary.{Ref, Single, Bounds, Step, State, IsRun, node_under}
-use Rattle.proof_shape.specs.Beneath.proof_contents.specs.Tries.{Trie, IsShaped, node_in}
-use Rattle.proof_shape.specs.Beneath.proof_contents.specs.Runs.{trie_of}
+use Rattle.proof_shape.specs.Vocabulary.{Ref, Single, Bounds, Step, State, IsRun, node_under, Trie, IsShaped, node_in, trie_of}
 use Rattle.proof_shape.specs.Sites.Lines.{bare}
 use Rattle.proof_shape.specs.Sites.At.{TakesSteps, StepsFit}
 use Rattle.proof_shape.specs.Sites.Nodes.{depth_of_run, path_of_run}

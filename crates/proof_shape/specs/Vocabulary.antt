@@ -1,4 +1,4 @@
--- The words of the definition, for the files of this crate.
+-- The words of the definition and of the crates below, for the files of this crate.
 pub use Rattle.proof_shape.specs.Beneath.ctrie_base.specs.Hashes.{hash_of}
 pub use Rattle.proof_shape.specs.Beneath.ctrie_base.specs.Paths.{position_of}
 pub use Rattle.proof_shape.specs.Beneath.ctrie_base.specs.declared.hashes.HashKind.{HashKind}
@@ -95,3 +95,36 @@ pub use Rattle.proof_shape.specs.Beneath.machine_model.specs.declared.steps.Outc
 pub use Rattle.proof_shape.specs.Beneath.machine_model.specs.declared.steps.Step.{Step}
 pub use Rattle.proof_shape.specs.Beneath.machine_model.specs.declared.steps.Step.TheVariants.{Go}
 pub use Rattle.proof_shape.specs.Beneath.machine_model.specs.declared.walking.WalkLine.{WalkLine}
+pub use Rattle.proof_shape.specs.Beneath.proof_contents.specs.Grows.{NodesStay}
+pub use Rattle.proof_shape.specs.Beneath.proof_contents.specs.InUse.{ReachesInUse}
+pub use Rattle.proof_shape.specs.Beneath.proof_contents.specs.Laws.{HoldsAt}
+pub use Rattle.proof_shape.specs.Beneath.proof_contents.specs.Lines.Changes.{Absence, IsFlagged, IsGet, IsOther, Known, KnowsBuild, KnowsChange, KnowsKey, KnowsLine, KnowsSwap, LeadsBelow}
+pub use Rattle.proof_shape.specs.Beneath.proof_contents.specs.Lines.Changes.{Neighbour, Presence, build_path, by_link, by_pair, in_list, main_of_build, main_of_key, no_flag, not_listed, of_branch}
+pub use Rattle.proof_shape.specs.Beneath.proof_contents.specs.Lines.Changes.{of_list}
+pub use Rattle.proof_shape.specs.Beneath.proof_contents.specs.Lines.Repairs.{AllDone, AreDone, IsDone, IsLink, IsOlder, IsRepaired, KnowsClean, KnowsRenew, KnowsRepair, ReadsBelow, SomeDone, cleans}
+pub use Rattle.proof_shape.specs.Beneath.proof_contents.specs.Lines.Repairs.{keeps, renews}
+pub use Rattle.proof_shape.specs.Beneath.proof_contents.specs.Nodes.Branches.{HasPlaces, at_place}
+pub use Rattle.proof_shape.specs.Beneath.proof_contents.specs.Nodes.Chains.{LeadsToPair, Parts, at_pair, by_rung}
+pub use Rattle.proof_shape.specs.Beneath.proof_contents.specs.Nodes.Lists.{AreSingles}
+pub use Rattle.proof_shape.specs.Beneath.proof_contents.specs.Nodes.Looking.{Absent, Has, look_among, look_at, look_in, or_else, value_by}
+unfoldable pub use Rattle.proof_shape.specs.Beneath.proof_contents.specs.Nodes.Looking.{find_at}
+pub use Rattle.proof_shape.specs.Beneath.proof_contents.specs.Pairs.{pairs_of}
+pub use Rattle.proof_shape.specs.Beneath.proof_contents.specs.Runs.{counting_main, is_made, or_other, root_among, trie_of}
+unfoldable pub use Rattle.proof_shape.specs.Beneath.proof_contents.specs.Runs.{main_within, root_until}
+pub use Rattle.proof_shape.specs.Beneath.proof_contents.specs.Shapes.{LeadsTo, StandsFor, becomes_single, stands_for, unchanged}
+pub use Rattle.proof_shape.specs.Beneath.proof_contents.specs.Tries.{IsChild, IsShaped, Trie, branch, generation, list, node_in, tomb}
+unfoldable pub use Rattle.proof_shape.specs.Beneath.proof_contents.specs.Tries.{content}
+pub use Rattle.proof_shape.specs.Beneath.proof_memory.specs.Laws.{IsInUse}
+pub use Rattle.proof_shape.specs.Beneath.proof_memory.specs.Levels.{BuildLevel, ChangeLevel, CompleteLevel, DoneLevel, EntryLevel, KindLevel, LineLevel, NodeLevel, PathLevel, PlaceLevel, PrevLevel}
+pub use Rattle.proof_shape.specs.Beneath.proof_memory.specs.Levels.{PurposeLevel, ReadLevel, RootLevel, UpdateLevel, WordLevel, made_level}
+pub use Rattle.proof_shape.specs.Beneath.proof_memory.specs.Making.{if_made, level_by, level_now, made_by, made_node, made_now}
+pub use Rattle.proof_shape.specs.Beneath.proof_memory.specs.Wants.{ABranch, AMain, ASingle, AllHold, AnEntry, AnIndirection, BranchOrList, Each, Holds, Is, Wanted, action_wants, flags, is_branch}
+pub use Rattle.proof_shape.specs.Beneath.proof_memory.specs.Wants.{is_branch_or_list, is_formed, line_wants, listed, meets, node_wants, path_wants, prev_wants, purpose_wants, read_wants, site_wants}
+pub use Rattle.proof_shape.specs.Beneath.proof_memory.specs.Wants.{swap_line_wants, swap_wants, word_wants}
+pub use Rattle.proof_shape.specs.Beneath.proof_commits.specs.Laws.{IsInSwap}
+pub use Rattle.proof_shape.specs.Beneath.proof_commits.specs.Moments.{IsMoment, later_of}
+pub use Rattle.proof_shape.specs.Beneath.proof_commits.specs.Protocol.{Builds, Checks, CommitsNode, Decides, DecidesOn, Given, Idles, MayHave, MayName, Protocol, ReadTurn, Reads, Rests, Stage}
+pub use Rattle.proof_shape.specs.Beneath.proof_commits.specs.Protocol.{SwapsNode, Words, counts_at}
+pub use Rattle.proof_shape.specs.Beneath.proof_commits.specs.Stages.{stage_of, stage_of_actor, stage_of_complete, stage_of_swap}
+pub use Rattle.proof_shape.specs.Beneath.proof_commits.specs.Words.{words_of}
+pub use Rattle.proof_generations.specs.Falling.{purpose_path, renew_path}

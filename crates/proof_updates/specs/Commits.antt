@@ -1,10 +1,7 @@
 -- What is known of a node that its owner commits: what a repair was given, and at which depth a change is swapped in.
 use Rattle.std.specs.Prelude.{◌≡◌, ℕ, ◌<◌, ◌≤◌, List, Option}
-use Rattle.proof_updates.specs.Vocabulary.{Ref, Purpose, Bounds, Step, depth_of, State, node_under, Record}
+use Rattle.proof_updates.specs.Vocabulary.{Ref, Purpose, Bounds, Step, depth_of, State, node_under, Record, IsRepaired, OwnCommit, assigned_at, WasGiven}
 use Rattle.proof_updates.specs.Beneath.machine_model.specs.declared.lines.Purpose.TheVariants as purpose
-use Rattle.proof_updates.specs.Beneath.proof_contents.specs.Lines.Repairs.{IsRepaired}
-use Rattle.proof_shape.specs.Lines.Commits.{OwnCommit, assigned_at}
-use Rattle.proof_updates.specs.Beneath.proof_generations.specs.Falling.{WasGiven}
 
 -- it swaps in what RENEW or CLEAN made
 abbrev pub IsRepairing : Purpose → Type 0

@@ -1,12 +1,9 @@
 -- What an operation that looks for its key knows of its path.
 use Rattle.std.specs.Prelude.{ℕ, ◌<◌, ◌≤◌, List, length, slice_index_or, Option, Some, None}
-use Rattle.proof_updates.specs.Vocabulary.{Ref, no_ref, KeyLine, Line}
+use Rattle.proof_updates.specs.Vocabulary.{Ref, no_ref, KeyLine, Line, Trie, On, build_path, renew_path}
 use Rattle.proof_updates.specs.Beneath.machine_model.specs.declared.finding.KeyLine.TheVariants as key
 use Rattle.proof_updates.specs.Beneath.machine_model.specs.declared.lines.Purpose.TheVariants as purpose
 use Rattle.proof_updates.specs.Beneath.machine_model.specs.declared.lines.Line.TheVariants as line
-use Rattle.proof_updates.specs.Beneath.proof_contents.specs.Tries.{Trie, On}
-use Rattle.proof_updates.specs.Beneath.proof_contents.specs.Lines.Changes.{build_path}
-use Rattle.proof_updates.specs.Beneath.proof_generations.specs.Falling.{renew_path}
 
 -- each indirection of the path was on the key's path in the generation, at some time up to t
 abbrev pub LiesOn : Trie → ℕ → ℕ → ℕ → List Ref → Type 0

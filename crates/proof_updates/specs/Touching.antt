@@ -1,11 +1,10 @@
 -- What a step does to handles: which of their contents it touches.
 use Rattle.std.specs.Prelude.{◌≡◌, ◌≢◌, ℕ, List, Contains, Option, Some}
 use Rattle.proof_updates.specs.Vocabulary.{Call, Clear, Close, Ref, Indirection, node_at, logical_main, entries_of, Purpose, Operation, Swap, Descriptor, Root, Step, State, root_at, root_of}
-use Rattle.proof_updates.specs.Vocabulary.{operation_of}
+use Rattle.proof_updates.specs.Vocabulary.{operation_of, CarriesOut, committed_by_step}
 use Rattle.proof_updates.specs.Beneath.machine_model.specs.declared.lines.Line.TheVariants as line
 use Rattle.proof_updates.specs.Beneath.machine_model.specs.declared.lines.Purpose.TheVariants as purpose
 use Rattle.proof_updates.specs.Beneath.machine_model.specs.declared.steps.Step.TheVariants as step
-use Rattle.proof_order.specs.Facts.{CarriesOut, committed_by_step}
 
 -- an indirection or a single is reached from a handle's root, through the logical main nodes
 pub data Reaches (state : State) (handle : ℕ) : Ref → Type 0 where

@@ -1,19 +1,15 @@
 -- What the steps of a run do to its trie, and what operations find in it.
 use Rattle.std.specs.Prelude.{◌≡◌, ◌≢◌, ℕ, suc, ◌<◌, ◌≤◌, false, List, [], Option, Some}
 use Rattle.proof_updates.specs.Vocabulary.{hash_of, Writable, Reply, Ref, KeyLine, Operation, Bounds, Outcome, Step, key_of, changed_reply, action_of, current, State, operation_of, Moves, is_placed}
-use Rattle.proof_updates.specs.Vocabulary.{Record, moment_at}
+use Rattle.proof_updates.specs.Vocabulary.{Record, moment_at, Trie, content, Updates, Looks, main_of_key, entered_by_step, Replied, OwnCommit, assigned_at, Notes}
 use Rattle.proof_updates.specs.Beneath.history.specs.declared.replies.Reply.TheVariants as reply
 use Rattle.proof_updates.specs.Beneath.machine_model.specs.declared.actions.Action.TheVariants as act
 use Rattle.proof_updates.specs.Beneath.machine_model.specs.declared.lines.Line.TheVariants as line
 use Rattle.proof_updates.specs.Beneath.machine_model.specs.declared.lines.Purpose.TheVariants as purpose
 use Rattle.proof_updates.specs.Beneath.machine_model.specs.declared.steps.Step.TheVariants as step
-use Rattle.proof_updates.specs.Beneath.proof_contents.specs.Tries.{Trie, content}
-use Rattle.proof_updates.specs.Beneath.proof_contents.specs.Steps.{Does, Updates, Looks}
-use Rattle.proof_updates.specs.Beneath.proof_contents.specs.Lines.Changes.{main_of_key}
-use Rattle.proof_order.specs.Facts.{act_in, entered_by_step, Update, Replied}
-use Rattle.proof_shape.specs.Lines.Commits.{OwnCommit, assigned_at}
+use Rattle.proof_updates.specs.Beneath.proof_contents.specs.Steps.{Does}
+use Rattle.proof_order.specs.Facts.{act_in, Update}
 use Rattle.proof_updates.specs.Paths.{LiesOn, path_of}
-use Rattle.proof_updates.specs.Beneath.proof_order.specs.Facts.{Notes}
 
 -- each step leaves the main nodes, repairs one, or updates a key in one
 abbrev pub StepsDo : Trie → Type 0

@@ -1,4 +1,4 @@
--- The words of the definition, for the files of this crate.
+-- The words of the definition and of the crates below, for the files of this crate.
 pub use Rattle.proof_updates.specs.Beneath.ctrie_base.specs.Hashes.{hash_of}
 pub use Rattle.proof_updates.specs.Beneath.ctrie_base.specs.Paths.{position_of}
 pub use Rattle.proof_updates.specs.Beneath.ctrie_base.specs.declared.hashes.HashKind.{HashKind}
@@ -83,3 +83,40 @@ pub use Rattle.proof_updates.specs.Beneath.machine_model.specs.declared.steps.Bo
 pub use Rattle.proof_updates.specs.Beneath.machine_model.specs.declared.steps.Outcome.{Outcome}
 pub use Rattle.proof_updates.specs.Beneath.machine_model.specs.declared.steps.Step.{Step}
 pub use Rattle.proof_updates.specs.Beneath.machine_model.specs.declared.walking.WalkLine.{WalkLine}
+pub use Rattle.proof_updates.specs.Beneath.proof_contents.specs.Lines.Changes.{Absence, GoesThrough, IsFlagged, IsGet, IsOther, Known, KnowsChange, KnowsKey, KnowsLine, KnowsSwap, Presence}
+pub use Rattle.proof_updates.specs.Beneath.proof_contents.specs.Lines.Changes.{build_path, in_list, main_of_key, no_flag, not_listed, of_branch, of_list}
+pub use Rattle.proof_updates.specs.Beneath.proof_contents.specs.Lines.Repairs.{IsDone, IsRepaired, ReadsBelow, cleans, keeps, renews}
+pub use Rattle.proof_updates.specs.Beneath.proof_contents.specs.Nodes.Branches.{at_place}
+pub use Rattle.proof_updates.specs.Beneath.proof_contents.specs.Nodes.Chains.{LeadsToPair, at_pair, by_rung}
+pub use Rattle.proof_updates.specs.Beneath.proof_contents.specs.Nodes.Changing.{look}
+pub use Rattle.proof_updates.specs.Beneath.proof_contents.specs.Nodes.Lists.{AreSingles}
+pub use Rattle.proof_updates.specs.Beneath.proof_contents.specs.Nodes.Looking.{Absent, Below, look_at, look_in, value_by, value_in}
+unfoldable pub use Rattle.proof_updates.specs.Beneath.proof_contents.specs.Nodes.Looking.{find_at}
+pub use Rattle.proof_updates.specs.Beneath.proof_contents.specs.Pairs.{pairs_of}
+pub use Rattle.proof_updates.specs.Beneath.proof_contents.specs.Runs.{counting_main, root_of_generation, trie_of}
+pub use Rattle.proof_updates.specs.Beneath.proof_contents.specs.Steps.{IsOwnUpdate, IsRepair, LeavesOthers, Looks, Stays, Updates, a_repair, an_update, below_is, branch_entombs, branch_inserts}
+pub use Rattle.proof_updates.specs.Beneath.proof_contents.specs.Steps.{branch_removes, branch_updates, entombs, goes_beside, kept, list_entombs, list_inserts, list_removes, list_updates, nothing}
+pub use Rattle.proof_updates.specs.Beneath.proof_contents.specs.Steps.{refills, renewed_by, root_is, to_insert, to_remove, to_set, untombed}
+pub use Rattle.proof_updates.specs.Beneath.proof_contents.specs.Tries.{IsShaped, On, Trie, assigned, at_below, branch, generation, list, node_in, put_value, says, tomb, value_at}
+unfoldable pub use Rattle.proof_updates.specs.Beneath.proof_contents.specs.Tries.{content}
+pub use Rattle.proof_updates.specs.Beneath.proof_memory.specs.Laws.{IsInUse, is_end}
+pub use Rattle.proof_updates.specs.Beneath.proof_memory.specs.Wants.{ABranch, AList, AMain, AllHold, AnIndirection, Holds, Is, action_wants, line_wants, listed, meets, word_wants}
+pub use Rattle.proof_updates.specs.Beneath.proof_commits.specs.Laws.{IsNoSwap}
+pub use Rattle.proof_updates.specs.Beneath.proof_commits.specs.Moments.{IsMoment}
+pub use Rattle.proof_updates.specs.Beneath.proof_commits.specs.Protocol.{CommitsNode, Decides, Protocol, Reads, counts_at}
+pub use Rattle.proof_updates.specs.Beneath.proof_commits.specs.Stages.{stage_of, stage_of_actor}
+pub use Rattle.proof_updates.specs.Beneath.proof_commits.specs.Words.{words_of}
+pub use Rattle.proof_updates.specs.Beneath.proof_generations.specs.Falling.{GivesAt, WasGiven, renew_path}
+pub use Rattle.proof_order.specs.Facts.{CarriesOut, Notes, Replied, committed_by_step, committed_of, entered_by_step, on_read_only, on_writable, standing_of}
+pub use Rattle.proof_order.specs.Openings.{Brings, IsSwap, freezes, snapshots}
+pub use Rattle.proof_order.specs.Phases.{IsPublished, OwnUpdate}
+pub use Rattle.proof_order.specs.Times.{IsWithin, Since, counts, has_read, read_counts}
+pub use Rattle.proof_shape.specs.Lines.Climbing.{IsClimbed}
+pub use Rattle.proof_shape.specs.Lines.Commits.{CommitsAt, CommitsNone, KnowsFresh, MainStep, OwnCommit, assigned_at, begins, changes, gives_up, goes, places_for, stays}
+pub use Rattle.proof_shape.specs.Lines.Given.{GaveBelow, Was}
+pub use Rattle.proof_shape.specs.Lines.Knowing.{SwapsAt, first_main, known_with}
+pub use Rattle.proof_shape.specs.Shaped.{HasShape, trie_of_run}
+pub use Rattle.proof_shape.specs.Sites.At.{StepsFit, TakesSteps}
+pub use Rattle.proof_shape.specs.Sites.Lines.{bare, sites_of}
+pub use Rattle.proof_shape.specs.Sites.Nodes.{depth_at, depth_of_run, path_of_run}
+unfoldable pub use Rattle.proof_shape.specs.Sites.Nodes.{level_until, path_until}

@@ -1,11 +1,10 @@
 -- What an operation is about to swap in.
 use Rattle.std.specs.Prelude.{◌≡◌, ℕ, Option, Some, None, refl}
 use Rattle.std.proofs.Common.{sym, ◌∙◌}
-use Rattle.running.specs.Vocabulary.{Ref, Line, Operation, ReadLine, SwapLine, Entrant, Publication, changer_for, published_at, published_by, swapping_at, with_read}
+use Rattle.running.specs.Vocabulary.{Ref, Line, Operation, ReadLine, SwapLine, Entrant, Publication, changer_for, published_at, published_by, swapping_at, with_read, Asking, Unasked, Met}
 use Rattle.running.specs.Beneath.machine_model.specs.declared.lines.Line.TheVariants as line
 use Rattle.running.specs.Beneath.machine_model.specs.declared.reading.SwapLine.TheVariants as swap
-use Rattle.running.specs.Beneath.root_asking.specs.declared.asking.Asking.{Asking}
-use Rattle.running.specs.Beneath.root_asking.specs.declared.asking.Asking.TheVariants.{Unasked, Met, Told}
+use Rattle.running.specs.Beneath.root_asking.specs.declared.asking.Asking.TheVariants.{Told}
 use Rattle.running.specs.declared.job.Program.{Program}
 use Rattle.running.specs.declared.programs.Programs.{Programs}
 use Rattle.running.specs.declared.programs.ProgramAt.{ProgramAt}

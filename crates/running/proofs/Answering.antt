@@ -1,22 +1,16 @@
 -- Where an operation ends next.
 use Rattle.std.specs.Prelude.{◌≡◌, ℕ, List, Option, Some, None, refl}
 use Rattle.std.proofs.Common.{◌∙◌}
-use Rattle.running.specs.Vocabulary.{Reply, Ref, Line, ReadLine, with_read}
+use Rattle.running.specs.Vocabulary.{Reply, Ref, Line, ReadLine, with_read, Asking, Unasked, Met, CopyAt, WalkAt, copy_line_at, walk_line_at, answer_of}
 use Rattle.running.specs.Beneath.machine_model.specs.declared.lines.Line.TheVariants as line
 use Rattle.running.specs.Beneath.gcas.specs.declared.read.Read.{Read}
-use Rattle.running.specs.Beneath.root_asking.specs.declared.asking.Asking.{Asking}
-use Rattle.running.specs.Beneath.root_asking.specs.declared.asking.Asking.TheVariants.{Unasked, Met, Told}
+use Rattle.running.specs.Beneath.root_asking.specs.declared.asking.Asking.TheVariants.{Told}
 use Rattle.snapshot.specs.declared.copy_op.Making.TheVariants as making
-use Rattle.snapshot.specs.declared.copy_op.CopyAt.{CopyAt}
 use Rattle.snapshot.specs.declared.copy_op.CopyAt.TheVariants as at
-use Rattle.snapshot.specs.declared.walk.WalkAt.{WalkAt}
 use Rattle.snapshot.specs.declared.walk.WalkAt.TheVariants as walk
-use Rattle.snapshot.specs.Copies.{copy_line_at}
-use Rattle.snapshot.specs.Walks.{walk_line_at}
 use Rattle.running.specs.declared.job.Program.{Program}
 use Rattle.running.specs.declared.programs.Programs.{Programs}
 use Rattle.running.specs.declared.programs.ProgramAt.{ProgramAt}
-use Rattle.operate.specs.Places.{answer_of}
 use Rattle.running.specs.Places.{asking_line, met_at, program_line_at}
 
 -- the line on which its READ stands doesn't matter to that

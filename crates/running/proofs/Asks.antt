@@ -4,7 +4,8 @@ use Rattle.std.proofs.Common.{sym, ap, subst, ◌∙◌}
 use Rattle.std.proofs.lemmas.Option.{none-some, same_Some}
 use Rattle.running.specs.Vocabulary.{Kind, Access, Writable, ReadOnly, Ref, Heap, Action, Line, Operation, Read, ReadLine, CompleteLine, Descriptor, RootWord, Plain, Offer, attempt_after, handle_of}
 use Rattle.running.specs.Vocabulary.{generation_from, given_root, kind_of, line_action, line_after, read_of, rooting_read, State, word_at, committed_in, counts_from, given_in, root_after}
-use Rattle.running.specs.Vocabulary.{rooting_at, with_read}
+use Rattle.running.specs.Vocabulary.{rooting_at, with_read, ReadAt, IsAsking, line_of, IsAskingLine, IsAskingRead, KeyCall, ActsInAll, Table, acted_table, table_after_abort, Asking, Unasked, Met}
+use Rattle.running.specs.Vocabulary.{AsksOn, IsUntold, abort_of, ask_action, asked_at, asked_line, asked_read, drawn_by, with_generation}
 use Rattle.ctrie_base.specs.declared.kinds.Kind.TheVariants as kind
 use Rattle.running.specs.Beneath.epochs.specs.Memories.{Memory}
 use Rattle.running.specs.Beneath.machine_model.specs.declared.lines.Line.TheVariants as line
@@ -12,21 +13,12 @@ use Rattle.running.specs.Beneath.machine_model.specs.declared.reading.ReadLine.T
 use Rattle.running.specs.Beneath.machine_model.specs.declared.roots.CompleteLine.TheVariants as complete
 use Rattle.running.specs.Beneath.machine_model.specs.declared.roots.RootLine.TheVariants as root
 use Rattle.running.specs.Beneath.gcas.specs.declared.read.Read.{Read as Running}
-use Rattle.running.specs.Beneath.gcas.specs.declared.read.ReadAt.{ReadAt}
 use Rattle.running.specs.Beneath.gcas.specs.declared.read.ReadAt.TheVariants as at
-use Rattle.running.specs.Beneath.gcas.specs.Reads.{IsAsking, line_at, line_of}
-use Rattle.running.specs.Beneath.trie_parts.specs.Steps.{IsAskingLine, IsAskingRead}
+use Rattle.running.specs.Beneath.gcas.specs.Reads.{line_at}
 use Rattle.running.specs.Beneath.trie_parts.specs.Tasks.{call_of as key_call}
-use Rattle.running.specs.Beneath.trie_parts.specs.declared.calls.KeyCall.{KeyCall}
 use Rattle.running.specs.Beneath.trie_parts.specs.declared.calls.KeyCall.TheVariants.{Get, Put, PutIfAbsent, Replace, ReplaceIf, Remove, RemoveIf}
-use Rattle.running.specs.Beneath.rdcss_root.specs.Acts.{ActsInAll}
-use Rattle.running.specs.Beneath.rdcss_root.specs.Tables.{Table, acted_table}
-use Rattle.running.specs.Beneath.rdcss_root.specs.Programs.{table_after_abort}
-use Rattle.running.specs.Beneath.root_asking.specs.declared.asking.Asking.{Asking}
-use Rattle.running.specs.Beneath.root_asking.specs.declared.asking.Asking.TheVariants.{Unasked, Met, Told}
-use Rattle.running.specs.Beneath.root_asking.specs.Asked.{AsksOn, IsUntold, abort_of, ask_action, asked_at, asked_line, asked_read}
+use Rattle.running.specs.Beneath.root_asking.specs.declared.asking.Asking.TheVariants.{Told}
 use Rattle.running.specs.Beneath.machine_model.proofs.Embedding.{each_embeds}
-use Rattle.snapshot.specs.Tasks.{drawn_by, with_generation}
 use Rattle.snapshot.specs.declared.tasks.WalkCall.TheVariants.{Entries, Count}
 use Rattle.running.specs.declared.job.Job.{Job}
 use Rattle.running.specs.declared.job.Program.{Program}

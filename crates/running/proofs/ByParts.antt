@@ -1,12 +1,9 @@
 -- The state after a step of an operation that isn't its end, part by part.
 use Rattle.std.specs.Prelude.{◌≡◌, ℕ}
-use Rattle.running.specs.Vocabulary.{Action, acted, State}
+use Rattle.running.specs.Vocabulary.{Action, acted, State, acted_heap, Table, acted_table, drawn_by, with_generation}
 use Rattle.running.specs.Beneath.machine_model.proofs.Actors.{acted_actors, after_marks, marks_of}
 use Rattle.running.specs.Beneath.machine_model.proofs.Frames.{IsFramed, acted_framed}
-use Rattle.running.specs.Beneath.gcas.specs.Acted.{acted_heap}
-use Rattle.running.specs.Beneath.rdcss_root.specs.Tables.{Table, acted_table}
 use Rattle.running.specs.Beneath.rdcss_root.proofs.Acting.{acts_on_table}
-use Rattle.snapshot.specs.Tasks.{drawn_by, with_generation}
 use Rattle.snapshot.proofs.Drawing.{draws_generations}
 
 -- what an action on this handle makes of a state

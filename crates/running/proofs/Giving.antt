@@ -3,7 +3,8 @@ use Rattle.std.specs.Prelude.{◌≡◌, Bool, ◌&&◌, is_some, Option, Some, 
 use Rattle.std.proofs.Common.{sym, ap, ◌∙◌}
 use Rattle.std.proofs.lemmas.Option.{none-some}
 use Rattle.running.specs.Vocabulary.{Kind, Access, Ref, Heap, no_ref, Line, Operation, Read, ReadLine, CompleteLine, Descriptor, RootWord, Plain, Offer, handle_of, kind_of, line_action, read_of}
-use Rattle.running.specs.Vocabulary.{after_ask, at_indirection, read_action, read_after, State, word_at, committed_in, counts_from, given_by, given_in}
+use Rattle.running.specs.Vocabulary.{after_ask, at_indirection, read_action, read_after, State, word_at, committed_in, counts_from, given_by, given_in, ReadAt, ReadsAlong, come_to, given_so}
+use Rattle.running.specs.Vocabulary.{action_on}
 use Rattle.ctrie_base.specs.declared.kinds.Kind.TheVariants as kind
 use Rattle.running.specs.Beneath.machine_model.specs.declared.copying.CopyLine.TheVariants as copy
 use Rattle.running.specs.Beneath.machine_model.specs.declared.lines.Line.TheVariants as line
@@ -11,12 +12,10 @@ use Rattle.running.specs.Beneath.machine_model.specs.declared.reading.ReadLine.T
 use Rattle.running.specs.Beneath.machine_model.specs.declared.roots.CompleteLine.TheVariants as complete
 use Rattle.running.specs.Beneath.machine_model.specs.declared.roots.RootLine.TheVariants as root
 use Rattle.running.specs.Beneath.machine_model.specs.declared.walking.WalkLine.TheVariants as walk
-use Rattle.running.specs.Beneath.gcas.specs.declared.read.ReadAt.{ReadAt}
 use Rattle.running.specs.Beneath.gcas.specs.declared.read.ReadAt.TheVariants as at
-use Rattle.running.specs.Beneath.gcas.specs.Reads.{ReadsAlong, come_to, committed_so, given_so}
+use Rattle.running.specs.Beneath.gcas.specs.Reads.{committed_so}
 use Rattle.running.specs.Beneath.trie_parts.specs.Steps.{Leads}
 use Rattle.running.specs.Beneath.machine_model.proofs.Embedding.{each_embeds}
-use Rattle.snapshot.specs.Copies.{action_on}
 use Rattle.running.specs.Steps.{Takes, taken_in, taken_so}
 use Rattle.running.specs.Taking.{committed_if, counts_if, given_if, if_reading}
 use Rattle.running.proofs.Counting.{gives_nothing, in_read, outside}

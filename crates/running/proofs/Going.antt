@@ -2,39 +2,24 @@
 use Rattle.std.specs.Prelude.{◌≡◌, ℕ, Bool, is_some, List, [], ◌∷◌, Option, Some, None, refl}
 use Rattle.std.proofs.Common.{sym, ap, subst, ◌∙◌}
 use Rattle.running.specs.Vocabulary.{Kind, Call, Access, Writable, ReadOnly, Ref, Heap, Action, Line, Operation, RootWord, attempt_after, handle_of, generation_from, line_action, read_of}
-use Rattle.running.specs.Vocabulary.{read_action, State, word_at, walked_reply}
+use Rattle.running.specs.Vocabulary.{read_action, State, word_at, walked_reply, ReadAt, Work, KeyCall, Task, at_heap, no_state, ActsInAll, Table, acted_table, word_in, Unasked, KeyOp, key_line}
+use Rattle.running.specs.Vocabulary.{IsOfKey, SwapsNoRoot, operation_for as as_key, table_after, CopyOp as ACopyOp, CopyCall, WalkCall, WalkAt, action_on, copy_line, at_roots, drawn_by, mark_of}
+use Rattle.running.specs.Vocabulary.{with_generation, on_call, walk_line, walk_line_at}
 use Rattle.running.specs.Beneath.epochs.specs.Memories.{Memory}
 use Rattle.running.specs.Beneath.machine_model.specs.declared.actions.Action.TheVariants as act
 use Rattle.running.specs.Beneath.gcas.specs.declared.read.Read.{Read}
-use Rattle.running.specs.Beneath.gcas.specs.declared.read.ReadAt.{ReadAt}
 use Rattle.running.specs.Beneath.gcas.specs.declared.read.ReadAt.TheVariants as read
 use Rattle.running.specs.Beneath.gcas.specs.Reads.{line_at}
-use Rattle.running.specs.Beneath.trie_parts.specs.declared.work.Work.{Work}
-use Rattle.running.specs.Beneath.trie_parts.specs.declared.calls.KeyCall.{KeyCall}
-use Rattle.running.specs.Beneath.trie_parts.specs.declared.calls.Task.{Task}
-use Rattle.running.specs.Beneath.trie_parts.specs.Here.{at_heap, no_state}
 use Rattle.running.specs.Beneath.trie_parts.specs.Holding.{Acts}
 use Rattle.running.specs.Beneath.trie_parts.specs.Steps.{Leads}
 use Rattle.running.specs.Beneath.trie_parts.specs.Tasks.{call_of as key_call}
-use Rattle.running.specs.Beneath.rdcss_root.specs.Acts.{ActsInAll}
-use Rattle.running.specs.Beneath.rdcss_root.specs.Tables.{Table, acted_table, word_in}
 use Rattle.running.specs.Beneath.rdcss_root.proofs.Together.{by_parts}
-use Rattle.running.specs.Beneath.root_asking.specs.declared.asking.Asking.TheVariants.{Unasked}
-use Rattle.operate.specs.declared.key_op.KeyOp.{KeyOp}
-use Rattle.operate.specs.Places.{key_line}
-use Rattle.operate.specs.Reach.{IsOfKey, SwapsNoRoot}
-use Rattle.operate.specs.Steps.{operation_for as as_key, table_after}
 use Rattle.operate.proofs.Wherever.{acts as key_acts}
-use Rattle.snapshot.specs.declared.copy_op.CopyOp.{CopyOp as ACopyOp}
-use Rattle.snapshot.specs.declared.tasks.CopyCall.{CopyCall}
-use Rattle.snapshot.specs.declared.tasks.WalkCall.{WalkCall}
 use Rattle.snapshot.specs.declared.tasks.WalkCall.TheVariants.{Entries, Count}
 use Rattle.snapshot.specs.declared.walk.Walk.{Walk as AWalk}
-use Rattle.snapshot.specs.declared.walk.WalkAt.{WalkAt}
 use Rattle.snapshot.specs.declared.walk.WalkAt.TheVariants as walk
-use Rattle.snapshot.specs.Copies.{action_on, copy_line}
-use Rattle.snapshot.specs.Tasks.{at_roots, drawn_by, for_task, mark_of, with_generation}
-use Rattle.snapshot.specs.Walks.{call_of as walk_call, on_call, walk_line, walk_line_at}
+use Rattle.snapshot.specs.Tasks.{for_task}
+use Rattle.snapshot.specs.Walks.{call_of as walk_call}
 use Rattle.running.specs.declared.job.Job.{Job}
 use Rattle.running.specs.declared.job.Program.TheVariants.{Key, Copy, Walk}
 use Rattle.running.specs.declared.programs.Programs.{Programs}

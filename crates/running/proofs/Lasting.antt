@@ -1,21 +1,13 @@
 -- Lines of the programs: what is told comes to them by their READ alone, and they swap no main node of their own.
 use Rattle.std.specs.Prelude.{◌≡◌, ℕ, List, Option, Some, None, refl}
-use Rattle.running.specs.Vocabulary.{Ref, Descriptor, with_read}
+use Rattle.running.specs.Vocabulary.{Ref, Descriptor, with_read, line_of, IsAskingLine, CompleteAt, CopyOp as ACopyOp, CopyAt, WalkAt, copy_line, copy_line_at, walk_line, walk_line_at}
 use Rattle.running.specs.Beneath.gcas.specs.declared.read.Read.{Read}
-use Rattle.running.specs.Beneath.gcas.specs.Reads.{line_of}
-use Rattle.running.specs.Beneath.trie_parts.specs.Steps.{IsAskingLine}
-use Rattle.running.specs.Beneath.rdcss_root.specs.declared.complete.CompleteAt.{CompleteAt}
 use Rattle.running.specs.Beneath.rdcss_root.specs.declared.complete.CompleteAt.TheVariants as complete
 use Rattle.running.specs.Beneath.rdcss_root.specs.declared.root.ReadRoot.TheVariants as rooting
 use Rattle.snapshot.specs.declared.copy_op.Making.TheVariants as making
-use Rattle.snapshot.specs.declared.copy_op.CopyOp.{CopyOp as ACopyOp}
-use Rattle.snapshot.specs.declared.copy_op.CopyAt.{CopyAt}
 use Rattle.snapshot.specs.declared.copy_op.CopyAt.TheVariants as at
 use Rattle.snapshot.specs.declared.walk.Walk.{Walk as AWalk}
-use Rattle.snapshot.specs.declared.walk.WalkAt.{WalkAt}
 use Rattle.snapshot.specs.declared.walk.WalkAt.TheVariants as walk
-use Rattle.snapshot.specs.Copies.{copy_line, copy_line_at}
-use Rattle.snapshot.specs.Walks.{walk_line, walk_line_at}
 use Rattle.operate.proofs.Wherever.{tells as key_tells}
 use Rattle.operate.proofs.Going.{told_on}
 use Rattle.snapshot.proofs.Told.{tells_copy, tells_walk}

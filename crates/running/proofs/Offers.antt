@@ -1,8 +1,8 @@
 -- What an action makes of the offers in the table of root words, and of marks.
 use Rattle.std.specs.Prelude.{◌≡◌, ◌==◌, ◌&&◌, ℕ, Bool, true, false, List, Option, Some, None, option_map, refl, slice_index_or, slice_set, if◌then◌else◌}
-use Rattle.running.specs.Vocabulary.{Action, Descriptor, Plain, if_changed, State, word_at, is_carried_out, is_plain, stands_in, carried_by}
+use Rattle.running.specs.Vocabulary.{Action, Descriptor, Plain, if_changed, State, word_at, is_carried_out, is_plain, stands_in, carried_by, Table, acted_table, carried_out_in, with_word_in}
+use Rattle.running.specs.Vocabulary.{word_in}
 use Rattle.running.specs.Beneath.machine_model.specs.declared.actions.Action.TheVariants as act
-use Rattle.running.specs.Beneath.rdcss_root.specs.Tables.{Table, acted_table, carried_out_in, with_word_in, word_in}
 use Rattle.running.specs.Carried.{carried_of, carried_offer}
 
 -- ---- marks

@@ -2,11 +2,9 @@
 use Rattle.std.specs.Prelude.{◌≡◌, ℕ, Option, Some, None, option_map, refl}
 use Rattle.std.proofs.Common.{sym, ap, ◌∙◌}
 use Rattle.std.proofs.lemmas.Option.{none-some}
-use Rattle.running.specs.Vocabulary.{Heap, Action, Operation, Progress, Descriptor, RootWord, handle_of, action_of, State, word_at, carried_by, progress_of, published_by}
+use Rattle.running.specs.Vocabulary.{Heap, Action, Operation, Progress, Descriptor, RootWord, handle_of, action_of, State, word_at, carried_by, progress_of, published_by, acted_heap, word_in}
+use Rattle.running.specs.Vocabulary.{with_generation}
 use Rattle.running.specs.Beneath.machine_model.specs.declared.actions.Action.TheVariants as act
-use Rattle.running.specs.Beneath.gcas.specs.Acted.{acted_heap}
-use Rattle.running.specs.Beneath.rdcss_root.specs.Tables.{word_in}
-use Rattle.snapshot.specs.Tasks.{with_generation}
 use Rattle.running.specs.declared.job.Job.{Job}
 use Rattle.running.specs.declared.job.Program.{Program}
 use Rattle.running.specs.Carried.{carried_of, carried_offer}

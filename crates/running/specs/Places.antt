@@ -1,24 +1,18 @@
 -- Where an operation of the code stands, as the definition's line.
 use Rattle.std.specs.Prelude.{◌≡◌, ℕ, slice_index_or, Bool, true, false, Option, Some, None}
-use Rattle.running.specs.Vocabulary.{Call, Reply, Line, Operation, ReadLine, Descriptor, impossible, walked_reply, with_read}
+use Rattle.running.specs.Vocabulary.{Call, Reply, Line, Operation, ReadLine, Descriptor, impossible, walked_reply, with_read, ReadAt, IsAskingLine, Table, Asking, Unasked, Met, key_line, ReadsKey}
+use Rattle.running.specs.Vocabulary.{CopyCall, CopyTask, copy_line, walk_line}
 use Rattle.running.specs.Beneath.history.specs.declared.calls.Call.TheVariants as calls
 use Rattle.running.specs.Beneath.history.specs.declared.replies.Reply.TheVariants as reply
 use Rattle.running.specs.Beneath.machine_model.specs.declared.lines.Line.TheVariants as line
 use Rattle.running.specs.Beneath.machine_model.specs.declared.reading.ReadLine.TheVariants as read
-use Rattle.running.specs.Beneath.gcas.specs.declared.read.ReadAt.{ReadAt}
 use Rattle.running.specs.Beneath.gcas.specs.declared.read.ReadAt.TheVariants as at
-use Rattle.running.specs.Beneath.trie_parts.specs.Steps.{IsAskingLine}
 use Rattle.running.specs.Beneath.trie_parts.specs.Tasks.{call_of as key_call}
-use Rattle.running.specs.Beneath.rdcss_root.specs.Tables.{Table}
-use Rattle.running.specs.Beneath.root_asking.specs.declared.asking.Asking.{Asking}
-use Rattle.running.specs.Beneath.root_asking.specs.declared.asking.Asking.TheVariants.{Unasked, Met, Told}
-use Rattle.operate.specs.Places.{key_line}
-use Rattle.operate.specs.Steps.{line_behind as line_answered, ReadsKey}
-use Rattle.snapshot.specs.declared.tasks.CopyCall.{CopyCall}
-use Rattle.snapshot.specs.declared.tasks.CopyTask.{CopyTask}
-use Rattle.snapshot.specs.Copies.{copy_line, line_behind, ReadsAt as CopyReadsAt}
+use Rattle.running.specs.Beneath.root_asking.specs.declared.asking.Asking.TheVariants.{Told}
+use Rattle.operate.specs.Steps.{line_behind as line_answered}
+use Rattle.snapshot.specs.Copies.{line_behind, ReadsAt as CopyReadsAt}
 use Rattle.snapshot.specs.Tasks.{call_of as copy_call}
-use Rattle.snapshot.specs.Walks.{call_of as walk_call, walk_line}
+use Rattle.snapshot.specs.Walks.{call_of as walk_call}
 use Rattle.running.specs.declared.job.Job.{Job}
 use Rattle.running.specs.declared.job.Program.{Program}
 use Rattle.running.specs.declared.job.Program.TheVariants.{Key, Copy, Walk, Close}

@@ -1,17 +1,9 @@
 -- What a step of an operation comes to, does and asks.
 use Rattle.std.specs.Prelude.{◌≡◌, ℕ, Bool, false, ◌&&◌, ◌<◌, ◌-◌, ◌^◌, None}
-use Rattle.running.specs.Vocabulary.{Kind, Action, Line, Operation, attempt_after, kind_of, line_action, line_after, read_of, generation_from, State, committed_in, counts_from, given_in}
+use Rattle.running.specs.Vocabulary.{Kind, Action, Line, Operation, attempt_after, kind_of, line_action, line_after, read_of, generation_from, State, committed_in, counts_from, given_in, ReadAt}
+use Rattle.running.specs.Vocabulary.{given_so, ActsInAll, CanAbortOn, Table, acted_table, abort_of, CanKey, CanCopy, IsReadyBeside, drawn_by, with_generation, CanWalk}
 use Rattle.running.specs.Beneath.epochs.specs.Memories.{Memory}
-use Rattle.running.specs.Beneath.gcas.specs.declared.read.ReadAt.{ReadAt}
-use Rattle.running.specs.Beneath.gcas.specs.Reads.{given_so}
-use Rattle.running.specs.Beneath.rdcss_root.specs.Acts.{ActsInAll}
-use Rattle.running.specs.Beneath.rdcss_root.specs.Programs.{CanAbortOn}
-use Rattle.running.specs.Beneath.rdcss_root.specs.Tables.{Table, acted_table}
-use Rattle.running.specs.Beneath.root_asking.specs.Asked.{abort_of}
-use Rattle.operate.specs.Steps.{CanKey}
-use Rattle.snapshot.specs.Copies.{CanCopy, IsReadyBeside}
-use Rattle.snapshot.specs.Tasks.{drawn_by, with_generation}
-use Rattle.snapshot.specs.Walks.{CanWalk, HasRoom}
+use Rattle.snapshot.specs.Walks.{HasRoom}
 use Rattle.running.specs.declared.job.Job.{Job}
 use Rattle.running.specs.declared.job.Program.{Program}
 use Rattle.running.specs.declared.job.Program.TheVariants.{Key, Copy, Walk, Close}

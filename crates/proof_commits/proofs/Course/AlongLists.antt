@@ -1,11 +1,10 @@
 -- The laws of main nodes, for every list of steps.
 use Rattle.std.proofs.Common.{◌≡◌, ℕ, suc, ◌+◌, ◌<◌, ◌⊎◌, List, Some, refl, sym, ◌∙◌, ap, subst, add-one, arith}
-use Rattle.proof_commits.specs.Vocabulary.{Ref, prev_at, generation_at, logical_main, Operation, Bounds, Step, State, operation_of, Record, closed_at, record_of, AreBounds, states_of, records_of}
+use Rattle.proof_commits.specs.Vocabulary.{Ref, prev_at, generation_at, logical_main, Operation, Bounds, Step, State, operation_of, closed_at, record_of, AreBounds, states_of, records_of}
 use Rattle.proof_commits.specs.Vocabulary.{last_of}
 use Rattle.proof_commits.specs.Beneath.slot_arena.specs.declared.nodes.Prev.TheVariants as over
 use Rattle.proof_commits.specs.Beneath.machine_model.specs.declared.reading.SwapLine.TheVariants as swap
 use Rattle.proof_commits.specs.Beneath.machine_model.proofs.Times.{run_ends}
-use Rattle.proof_commits.proofs.Known.Given.{Known}
 use Rattle.proof_commits.specs.Runs.{HasIndirection}
 use Rattle.proof_commits.specs.Laws.{IsInSwap, PendingHasOwner, PrevChange, PrevWordsChange, DecidedForGood}
 use Rattle.proof_commits.specs.Laws.{CommitsMain, MainsChangeByCommits, ReplacedForGood, MomentIsFirst, GivenForGood, CheckedIsDecided, ChangesLate, LateStoodBefore}
@@ -13,7 +12,7 @@ use Rattle.proof_commits.specs.Laws.{LateOnce, TombsStay}
 use Rattle.proof_memory.specs.Laws.{IsInUse}
 use Rattle.proof_commits.specs.Beneath.machine_model.proofs.Recorded.{record_ends}
 use Rattle.proof_commits.proofs.Course.OfLists.{known_from, RootsOfRuns, known_of, OwnedIn, states, owned_at, prev_changes, decided_for_good_at, main_changes}
-use Rattle.proof_commits.proofs.Course.OfLists.{replaced_at, tomb_at, moment_over, moment_of_given, read_behind, Told, for_good_at, late_stood_at, late_once_at, checked_at}
+use Rattle.proof_commits.proofs.Course.OfLists.{replaced_at, tomb_at, moment_over, moment_of_given, read_behind, Changes, for_good_at, late_stood_at, late_once_at, checked_at}
 
 pub pending_has_owner : PendingHasOwner
 pending_has_owner limits steps ok =
@@ -58,37 +57,29 @@ law_given_for_good roots limits steps ok n h i m g closed is before has k after 
     let kn = known_of roots limits steps ok in
     for_good_at limits ok steps kn (λ g. refl) n h i m _ _ (moment_of_given limits ok steps kn refl n h i m g) closed has (closed_last limits steps n closed i is) before k after within still
 
--- the state after a late change
-late_after : (limits : Bounds) (steps : List Step) (closed n : ℕ) (i : Ref) → ChangesLate limits steps closed n i →
-    HasIndirection (states_of limits steps (suc n)) i × (logical_main (states_of limits steps (suc n)).heap i ≡ logical_main (states_of limits steps n).heap i → ⊥)
-late_after limits steps closed n i x =
-    subst (λ k. HasIndirection (states_of limits steps k) i × (logical_main (states_of limits steps k).heap i ≡ logical_main (states_of limits steps n).heap i → ⊥)) (add-one n)
-    (x.after, x.changes)
+-- a late change is one
+late_changes : (limits : Bounds) (steps : List Step) (closed n : ℕ) (i : Ref) → ChangesLate limits steps closed n i → Changes (states_of limits steps) n i
+late_changes limits steps closed n i x =
+    let after = subst (λ k. HasIndirection (states_of limits steps k) i × (logical_main (states_of limits steps k).heap i ≡ logical_main (states_of limits steps n).heap i → ⊥)) (add-one n)
+    (x.after, x.changes) in
+    record { has = x.before; still = after.0; other = after.1 }
 
 pub late_stood_before : RootsOfRuns → LateStoodBefore
 late_stood_before roots limits steps ok closed n i x =
-    let after = late_after limits steps closed n i x in
-    late_stood_at limits ok steps (known_of roots limits steps ok) (λ g. refl) closed n x.late x.taken i x.before after.0 (closed_last limits steps n closed i x.closing) after.1
+    late_stood_at limits ok steps (known_of roots limits steps ok) (λ g. refl) closed n x.late x.taken i (late_changes limits steps closed n i x) (closed_last limits steps n closed i x.closing)
 
 -- by which is first
-once_by : (limits : Bounds) (steps : List Step) (ok : AreBounds limits) (kn : Known limits (states_of limits steps) (last_of limits steps)) →
-    kn.run.records ≡ records_of limits steps → Told limits ok steps kn →
-    (closed n k : ℕ) (i : Ref) → ChangesLate limits steps closed n i → ChangesLate limits steps closed k i → n < k → ⊥
-once_by limits steps ok kn same told closed n k i x y before =
-    let here : (j : ℕ) (c : ℕ) → closed_at (records_of limits steps (last_of limits steps)) (generation_at (states_of limits steps j).heap i) ≡ Some c →
-    closed_at (kn.run.records (last_of limits steps)) (generation_at (states_of limits steps j).heap i) ≡ Some c =
-    λ j c is. subst (λ (r : ℕ → Record). closed_at (r (last_of limits steps)) (generation_at (states_of limits steps j).heap i) ≡ Some c) (sym same) is in
-    let s = late_after limits steps closed n i x in
-    let r = late_after limits steps closed k i y in
-    late_once_at limits ok steps kn told closed n k x.late before y.taken i x.before s.0 (here n closed (closed_last limits steps n closed i x.closing)) s.1 y.before r.0 r.1
+once_by : RootsOfRuns → (limits : Bounds) (steps : List Step) → AreBounds limits → (closed n k : ℕ) (i : Ref) → ChangesLate limits steps closed n i → ChangesLate limits steps closed k i → n < k → ⊥
+once_by roots limits steps ok closed n k i x y before =
+    late_once_at limits ok steps (known_of roots limits steps ok) (λ g. refl) closed n k x.late before y.taken i (late_changes limits steps closed n i x) (late_changes limits steps closed k i y)
+    (closed_last limits steps n closed i x.closing)
 
 in_order : (n k : ℕ) → (n < k → ⊥) → (k < n → ⊥) → n ≡ k
 in_order n k a b = omega arith
 
 pub late_once : RootsOfRuns → LateOnce
 late_once roots limits steps ok closed n k i x y =
-    let kn = known_of roots limits steps ok in
-    in_order n k (once_by limits steps ok kn refl (λ g. refl) closed n k i x y) (once_by limits steps ok kn refl (λ g. refl) closed k n i y x)
+    in_order n k (once_by roots limits steps ok closed n k i x y) (once_by roots limits steps ok closed k n i y x)
 
 pub checked_is_decided : CheckedIsDecided
 checked_is_decided limits steps ok =

@@ -61,8 +61,21 @@ before_deciding w t k s after (DecidesOn {out = Gives m} turn) i a f l e = let w
 -- ---- by the lines
 
 -- the SWAP with its place
-abbrev in_swap : Ref → Ref → Ref → ReadLine → Swap
+abbrev pub in_swap : Ref → Ref → Ref → ReadLine → Swap
 in_swap i a f l = record { indirection = i; replaced = a; fresh = f; line = swap.Deciding l }
+
+-- an operation that decides in its SWAP
+pub record Deciding (operation : Operation) : Type 0 where
+  pub why : Purpose
+  pub indirection : Ref
+  pub replaced : Ref
+  pub fresh : Ref
+  pub at : ReadLine
+  pub is : operation.line ≡ line.Swap why (in_swap indirection replaced fresh at)
+
+-- one that runs on the same line
+abbrev moved : {before after : Operation} → before.line ≡ after.line → Deciding after → Deciding before
+moved e d = record { why = d.why; indirection = d.indirection; replaced = d.replaced; fresh = d.fresh; at = d.at; is = e ∙ d.is }
 
 -- a SWAP that goes on is for what it was
 same_why : (state : State) (operation : Operation) (why : Purpose) (s : Swap) (out : After Swap Bool) (because : Purpose) (i a f : Ref) (l : ReadLine) →
@@ -92,8 +105,7 @@ find_elsewhere past g f c apart =
 -- whose change a node is that is being decided: its owner's, if the SWAP is for a change of its key
 abbrev pub ChangersKnown : (ℕ → State) → (ℕ → Record) → ℕ → Type 0
 ChangersKnown states records t =
-    (k : ℕ) (operation : Operation) → operation_of (states t) k ≡ Some operation → (why : Purpose) (i a f : Ref) (l : ReadLine) →
-    operation.line ≡ line.Swap why (in_swap i a f l) → changer_of (records t) f ≡ changer_for operation why
+    (k : ℕ) (operation : Operation) → operation_of (states t) k ≡ Some operation → (d : Deciding operation) → changer_of (records t) d.fresh ≡ changer_for operation d.why
 
 -- a mark changes neither the line nor whose change it is
 marked_so : (m : Option ℕ) (operation found : Operation) → after_mark m (Some operation) ≡ Some found → (operation.line ≡ found.line)
@@ -141,41 +153,41 @@ module _ (limits : Bounds) (states : ℕ → State) (last : ℕ) (known : Known 
   -- nothing was published, and the actor runs what it ran
   rests : (t : ℕ) → All t → (k : ℕ) (m : Option ℕ) → operation_of (states (suc t)) k ≡ after_mark m (operation_of (states t) k) →
       (past : Record) → ((f : Ref) → changer_of past f ≡ changer_of (known.run.records t) f) → (operation : Operation) → operation_of (states (suc t)) k ≡ Some operation →
-      (why : Purpose) (i a f : Ref) (l : ReadLine) → operation.line ≡ line.Swap why (in_swap i a f l) → changer_of past f ≡ changer_for operation why
-  rests t all k m same past kept operation runs why i a f l at =
+      (d : Deciding operation) → changer_of past d.fresh ≡ changer_for operation d.why
+  rests t all k m same past kept operation runs d =
       let (was, ran, line_is, changer_is) = ran_so m (operation_of (states t) k) operation (sym same ∙ runs) in
-      kept f ∙ all k was ran why i a f l (line_is ∙ at) ∙ changer_is why
+      kept d.fresh ∙ all k was ran (moved line_is d) ∙ changer_is d.why
 
-  -- two actors have two nodes
-  apart : (t : ℕ) → t ≤ last → (j k : ℕ) → (j ≡ k → ⊥) → (i a g f : Ref) (s : Stage) → w.stage t j ≡ Publishes i a g → w.stage t k ≡ s → HasFresh s f → g ≡ f → ⊥
-  apart t h j k differ i a g f s one two has same =
-      (sound_at (protocol limits states last known) t h).apart j k f differ (subst (λ x. HasFresh x f) (sym one) same) (subst (λ x. HasFresh x f) (sym two) has)
-
-  -- what a step of an operation leaves
-  others_by : (t : ℕ) → t ≤ last → All t → (actor k : ℕ) → (k ≡ actor → ⊥) → (mover : Operation) → operation_of (states t) actor ≡ Some mover → (l' : Line) → mover.line ≡ l' →
-      (found : Operation) → operation_of (states t) k ≡ Some found → (why : Purpose) (i a f : Ref) (l : ReadLine) → found.line ≡ line.Swap why (in_swap i a f l) →
-      option_and_then (λ (p : Publication). p.changer) (find (λ (p : Publication). p.main == f) (option_to_list (published_by mover l') ++ (known.run.records t).published)) ≡ changer_for found why
-  others_by t h all actor k differ mover moves (line.Swap because s) at found runs why i a f l is = by_line s.line refl
+  -- what a step of another operation leaves: two actors have two nodes
+  others_by : (t : ℕ) → t ≤ last → All t → (actor k : ℕ) → (k ≡ actor → ⊥) → (mover : Operation) → operation_of (states t) actor ≡ Some mover →
+      (found : Operation) → operation_of (states t) k ≡ Some found → (d : Deciding found) →
+      Finds d.fresh (option_to_list (published_by mover mover.line) ++ (known.run.records t).published) (changer_for found d.why)
+  others_by t h all actor k differ mover moves found runs d = by mover.line refl
     where
-      by_line : (x : SwapLine) → s.line ≡ x → Finds f (option_to_list (published_at (changer_for mover because) s.fresh x) ++ (known.run.records t).published) (changer_for found why)
-      by_line swap.Publish e =
-          find_elsewhere (known.run.records t).published s.fresh f (changer_for mover because)
-          (apart t h actor k (λ e. differ (sym e)) s.indirection s.replaced s.fresh f _
-          (ap stage_of_actor moves ∙ ap stage_of at ∙ ap (stage_of_swap s.indirection s.replaced s.fresh) e) (ap stage_of_actor runs ∙ ap stage_of is) refl)
-          ∙ all k found runs why i a f l is
-      by_line (swap.Deciding y) e = all k found runs why i a f l is
-      by_line swap.Check e = all k found runs why i a f l is
-  others_by t h all actor k differ mover moves l' at found runs why i a f l is = all k found runs why i a f l is
+      by : (l : Line) → mover.line ≡ l → Finds d.fresh (option_to_list (published_by mover l) ++ (known.run.records t).published) (changer_for found d.why)
+      by (line.Swap because s) at = by_line s.line refl
+        where
+          apart : s.line ≡ swap.Publish → s.fresh ≡ d.fresh → ⊥
+          apart e same =
+              (sound_at (protocol limits states last known) t h).apart actor k d.fresh (λ e. differ (sym e))
+              (subst (λ x. HasFresh x d.fresh) (sym (ap stage_of_actor moves ∙ ap stage_of at ∙ ap (stage_of_swap s.indirection s.replaced s.fresh) e)) same)
+              (subst (λ x. HasFresh x d.fresh) (sym (ap stage_of_actor runs ∙ ap stage_of d.is)) refl)
+
+          by_line : (x : SwapLine) → s.line ≡ x → Finds d.fresh (option_to_list (published_at (changer_for mover because) s.fresh x) ++ (known.run.records t).published) (changer_for found d.why)
+          by_line swap.Publish e = find_elsewhere (known.run.records t).published s.fresh d.fresh (changer_for mover because) (apart e) ∙ all k found runs d
+          by_line (swap.Deciding y) e = all k found runs d
+          by_line swap.Check e = all k found runs d
+      by l at = all k found runs d
 
   -- a step of its own
   own_by : (t : ℕ) (h : t < last) → All t → (actor : ℕ) (operation : Operation) (o : Outcome) → Machine.Moves (states t) (step.Go actor) o (states (suc t)) →
       operation_of (states t) actor ≡ Some operation → GoesOn (action_of (states t) operation) →
       known.run.records (suc t) ≡ noted_progress (known.run.records t) (states t).steps actor (progress_of (states t) operation) →
-      (why : Purpose) (i a f : Ref) (l : ReadLine) → line_after (states t) operation operation.line ≡ line.Swap why (in_swap i a f l) →
-      changer_of (known.run.records (suc t)) f ≡ changer_for (operation_after (states t) operation) why
+      (d : Deciding (operation_after (states t) operation)) → changer_of (known.run.records (suc t)) d.fresh ≡ changer_for (operation_after (states t) operation) d.why
   unfolding Before
-  own_by t h all actor operation o m is g notes why i a f l at =
-      ap (λ past. changer_of past f) notes ∙ by_stage (before_deciding w t actor (stage_of operation.line) _ turn i a f l (ap stage_of at))
+  own_by t h all actor operation o m is g notes d =
+      ap (λ past. changer_of past d.fresh) notes
+      ∙ by_stage (before_deciding w t actor (stage_of operation.line) _ turn d.indirection d.replaced d.fresh d.at (ap stage_of d.is))
     where
       turn : Moves w t actor (stage_of operation.line) (stage_of (line_after (states t) operation operation.line))
       turn = line_turn limits states last known t h actor operation operation.line g (record {
@@ -183,68 +195,71 @@ module _ (limits : Bounds) (states : ℕ → State) (last : ℕ) (known : Known 
         remembers = remembers_at limits states last known t (omega arith) actor operation is;
       })
 
-      because : (x : Line) → operation.line ≡ x → (why' : Purpose) (s : Swap) → x ≡ line.Swap why' s → why' ≡ why
+      because : (x : Line) → operation.line ≡ x → (why' : Purpose) (s : Swap) → x ≡ line.Swap why' s → why' ≡ d.why
       because x e why' s same =
-          same_why (states t) operation why' s (swap_after (states t).heap operation.access (word_at (states t) (handle_of operation.call)) s) why i a f l
-          (ap (λ y. line_after (states t) operation y) (sym same ∙ sym e) ∙ at)
+          same_why (states t) operation why' s (swap_after (states t).heap operation.access (word_at (states t) (handle_of operation.call)) s) d.why
+          d.indirection d.replaced d.fresh d.at (ap (λ y. line_after (states t) operation y) (sym same ∙ sym e) ∙ d.is)
 
-      by_stage : Before (stage_of operation.line) i a f → Finds f (option_to_list (published_by operation operation.line) ++ (known.run.records t).published)
-          (changer_for (operation_after (states t) operation) why)
+      by_stage : Before (stage_of operation.line) d.indirection d.replaced d.fresh → Finds d.fresh (option_to_list (published_by operation operation.line) ++ (known.run.records t).published)
+          (changer_for (operation_after (states t) operation) d.why)
       by_stage (inl e) =
-          let (why', same) = line_publishes operation.line i a f e in
-          ap (λ x. option_and_then (λ (p : Publication). p.changer) (find (λ (p : Publication). p.main == f) (option_to_list (published_by operation x) ++ (known.run.records t).published))) same
-          ∙ find_here (known.run.records t).published f (changer_for operation why') ∙ ap (changer_for operation) (because _ refl why' _ same) ∙ changer_kept (states t) operation why why' _ same
+          let (why', same) = line_publishes operation.line d.indirection d.replaced d.fresh e in
+          ap (λ x. option_and_then (λ (p : Publication). p.changer) (find (λ (p : Publication). p.main == d.fresh) (option_to_list (published_by operation x) ++ (known.run.records t).published))) same
+          ∙ find_here (known.run.records t).published d.fresh (changer_for operation why') ∙ ap (changer_for operation) (because _ refl why' _ same)
+          ∙ changer_kept (states t) operation d.why why' _ same
       by_stage (inr (x, e)) =
-          let (why', same) = line_decides operation.line i a f x e in
-          ap (λ y. option_and_then (λ (p : Publication). p.changer) (find (λ (p : Publication). p.main == f) (option_to_list (published_by operation y) ++ (known.run.records t).published))) same
-          ∙ all actor operation is why' i a f x same ∙ ap (changer_for operation) (because _ refl why' _ same) ∙ changer_kept (states t) operation why why' _ same
+          let (why', same) = line_decides operation.line d.indirection d.replaced d.fresh x e in
+          ap (λ y. option_and_then (λ (p : Publication). p.changer) (find (λ (p : Publication). p.main == d.fresh) (option_to_list (published_by operation y) ++ (known.run.records t).published))) same
+          ∙ all actor operation is (record { why = why'; indirection = d.indirection; replaced = d.replaced; fresh = d.fresh; at = x; is = same })
+          ∙ ap (changer_for operation) (because _ refl why' _ same) ∙ changer_kept (states t) operation d.why why' _ same
 
   at_next : (t : ℕ) → t < last → All t → NotedAt (states t) (known.run.records t) (states (suc t)) (known.run.records (suc t)) → All (suc t)
-  at_next t h all (NotesBegin actor call number o m d e notes) k operation runs why i a f l is = elim (cases_eq k actor) [
+  at_next t h all (NotesBegin actor call number o m d e notes) k operation runs its = elim (cases_eq k actor) [
     | inl same ↦
         let found = subst (λ (s : State). (operation_of s actor ≡ None) ⊎ (operation_of s actor ≡ Some (begun_operation (states t) call number))) (sym e)
         (begin_own (states t) actor call (begun_operation (states t) call number)) in
         absurd (not_begun call number (subst (λ j. operation_of (states (suc t)) j ≡ Some operation) same runs) found)
     | inr other ↦
         rests t all k None (ap (λ (s : State). operation_of s k) e ∙ begin_others (states t) actor call (begun_operation (states t) call number) (begin_counts (states t) actor call number d) k other)
-        (known.run.records (suc t)) (λ g. ap (λ past. changer_of past g) notes) operation runs why i a f l is
+        (known.run.records (suc t)) (λ g. ap (λ past. changer_of past g) notes) operation runs its
   ]
     where
       not_begun : (c : Call) (number : Option ℕ) → operation_of (states (suc t)) actor ≡ Some operation →
           (operation_of (states (suc t)) actor ≡ None) ⊎ (operation_of (states (suc t)) actor ≡ Some (begun_operation (states t) c number)) → ⊥
       not_begun c number at (inl none) = none-some operation (sym none ∙ at)
-      not_begun c number at (inr begun) = at_rest _ i a f l (first_at_rest c) (ap stage_of (ap (λ (x : Operation). x.line) (same_Some _ _ (sym begun ∙ at))) ∙ ap stage_of is)
-  at_next t h all (NotesGo actor mover o m d ran g e notes) k operation runs why i a f l is = elim (cases_eq k actor) [
+      not_begun c number at (inr begun) = at_rest _ its.indirection its.replaced its.fresh its.at (first_at_rest c)
+          (ap stage_of (ap (λ (x : Operation). x.line) (same_Some _ _ (sym begun ∙ at))) ∙ ap stage_of its.is)
+  at_next t h all (NotesGo actor mover o m d ran g e notes) k operation runs its = elim (cases_eq k actor) [
     | inl same ↦
         let own = ap (λ (s : State). operation_of s actor) e ∙ go_own (states t) actor mover ran in
         let so = marked_so (marks_by (states t) (Some mover)) (operation_after (states t) mover) operation (sym own ∙ subst (λ j. operation_of (states (suc t)) j ≡ Some operation) same runs) in
-        own_by t h all actor mover o m ran g notes why i a f l (so.0 ∙ is) ∙ so.1 why
+        own_by t h all actor mover o m ran g notes (moved so.0 its) ∙ so.1 its.why
     | inr other ↦
         let others = ap (λ (s : State). operation_of s k) e ∙ go_others (states t) actor mover (actor_counts (states t) actor mover ran) k other in
         let (was, before, line_is, changer_is) = ran_so (marks_by (states t) (Some mover)) (operation_of (states t) k) operation (sym others ∙ runs) in
-        ap (λ past. changer_of past f) notes ∙ others_by t (omega arith) all actor k other mover ran mover.line refl was before why i a f l (line_is ∙ is) ∙ changer_is why
+        ap (λ past. changer_of past its.fresh) notes ∙ others_by t (omega arith) all actor k other mover ran was before (moved line_is its) ∙ changer_is its.why
   ]
-  at_next t h all (NotesEnd actor ending answer o m ran action e notes) k operation runs why i a f l is = elim (cases_eq k actor) [
+  at_next t h all (NotesEnd actor ending answer o m ran action e notes) k operation runs its = elim (cases_eq k actor) [
     | inl same ↦
         absurd (none-some operation (sym (ap (λ (s : State). operation_of s actor) e ∙ end_own (states t) actor ending answer)
         ∙ subst (λ j. operation_of (states (suc t)) j ≡ Some operation) same runs))
     | inr other ↦
         rests t all k None (ap (λ (s : State). operation_of s k) e ∙ end_others (states t) actor ending answer (actor_counts (states t) actor ending ran) k other)
-        (known.run.records (suc t)) (λ g. ap (λ past. changer_of past g) notes) operation runs why i a f l is
+        (known.run.records (suc t)) (λ g. ap (λ past. changer_of past g) notes) operation runs its
   ]
-  at_next t h all (NotesGivingUp actor was answer o m ran may e notes) k operation runs why i a f l is = elim (cases_eq k actor) [
+  at_next t h all (NotesGivingUp actor was answer o m ran may e notes) k operation runs its = elim (cases_eq k actor) [
     | inl same ↦
         let own = ap (λ (s : State). operation_of s actor) e ∙ give_up_own (states t) actor was answer ran in
-        absurd (not_ending answer (ap (λ (x : Operation). x.line) (same_Some _ _ (sym own ∙ subst (λ j. operation_of (states (suc t)) j ≡ Some operation) same runs)) ∙ is))
+        absurd (not_ending answer (ap (λ (x : Operation). x.line) (same_Some _ _ (sym own ∙ subst (λ j. operation_of (states (suc t)) j ≡ Some operation) same runs)) ∙ its.is))
     | inr other ↦
         rests t all k None (ap (λ (s : State). operation_of s k) e ∙ give_up_others (states t) actor was answer (actor_counts (states t) actor was ran) k other)
-        (known.run.records (suc t)) (λ g. ap (λ past. changer_of past g) notes) operation runs why i a f l is
+        (known.run.records (suc t)) (λ g. ap (λ past. changer_of past g) notes) operation runs its
   ]
     where
-      not_ending : (x : Reply) → line.End x ≡ line.Swap why (in_swap i a f l) → ⊥
+      not_ending : (x : Reply) → line.End x ≡ line.Swap its.why (in_swap its.indirection its.replaced its.fresh its.at) → ⊥
       not_ending x same = cc same
-  at_next t h all (NotesSweep o m e notes) k operation runs why i a f l is =
-      rests t all k None (ap (λ (s : State). operation_of s k) e) (known.run.records (suc t)) (λ g. ap (λ past. changer_of past g) notes) operation runs why i a f l is
+  at_next t h all (NotesSweep o m e notes) k operation runs its =
+      rests t all k None (ap (λ (s : State). operation_of s k) e) (known.run.records (suc t)) (λ g. ap (λ past. changer_of past g) notes) operation runs its
 
   pub changers_known : (t : ℕ) → t ≤ last → All t
   changers_known =

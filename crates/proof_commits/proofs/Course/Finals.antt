@@ -140,20 +140,19 @@ same_commit : (w : Words) (t : ℕ) (m q x r : Ref) → CommitsNode w t m q → 
 same_commit w t m q x r e c (inl same) = same
 same_commit w t m q x r e c (inr apart) = absurd (none≢pending (sym (e.prev.elsewhere x apart) ∙ c.prev.here) c.was)
 
-each_here : (w : Words) (t : ℕ) → AreCommits w t → (m q : Ref) → CommitsNode w t m q → w.commit (suc t) m ≡ Some t → (x : Ref) (c : ℕ) → w.commit (suc t) x ≡ Some c →
-    (x ≡ m) ⊎ (x ≡ m → ⊥) → (c < suc t) × (r : Ref) × CommitsNode w c x r
-each_here w t h m q e here x c is (inl same) =
-    let now : t ≡ c = same_Some _ _ (sym here ∙ ap (w.commit (suc t)) (sym same) ∙ is) in
-    (omega arith, q, subst (λ u. CommitsNode w u x q) now (subst (λ y. CommitsNode w t y q) (sym same) e))
-each_here w t h m q e here x c is (inr apart) =
-    let was = h.each x c (sym (e.commits_elsewhere x apart) ∙ is) in
-    (omega (arith, was.0), was.1, was.2)
+module _ (w : Words) (t : ℕ) (h : AreCommits w t) (m q : Ref) (e : CommitsNode w t m q) (here : w.commit (suc t) m ≡ Some t) where
+  each_here : (x : Ref) (c : ℕ) → w.commit (suc t) x ≡ Some c → (x ≡ m) ⊎ (x ≡ m → ⊥) → (c < suc t) × (r : Ref) × CommitsNode w c x r
+  each_here x c is (inl same) =
+      let now : t ≡ c = same_Some _ _ (sym here ∙ ap (w.commit (suc t)) (sym same) ∙ is) in
+      (omega arith, q, subst (λ u. CommitsNode w u x q) now (subst (λ y. CommitsNode w t y q) (sym same) e))
+  each_here x c is (inr apart) =
+      let was = h.each x c (sym (e.commits_elsewhere x apart) ∙ is) in
+      (omega (arith, was.0), was.1, was.2)
 
-all_here : (w : Words) (t : ℕ) → AreCommits w t → (m q : Ref) → CommitsNode w t m q → w.commit (suc t) m ≡ Some t → (x : Ref) (c : ℕ) (r : Ref) → CommitsNode w c x r →
-    (c < t) ⊎ (c ≡ t) → w.commit (suc t) x ≡ None → (x ≡ m) ⊎ (x ≡ m → ⊥) → ⊥
-all_here w t h m q e here x c r other when is (inl same) = none-some t (sym is ∙ ap (w.commit (suc t)) same ∙ here)
-all_here w t h m q e here x c r other (inl before) is (inr apart) = h.all x c r before other (sym (e.commits_elsewhere x apart) ∙ is)
-all_here w t h m q e here x c r other (inr now) is (inr apart) = apart (same_commit w t m q x r e (subst (λ u. CommitsNode w u x r) now other) (cases_eq x m))
+  all_here : (x : Ref) (c : ℕ) (r : Ref) → CommitsNode w c x r → (c < t) ⊎ (c ≡ t) → w.commit (suc t) x ≡ None → (x ≡ m) ⊎ (x ≡ m → ⊥) → ⊥
+  all_here x c r other when is (inl same) = none-some t (sym is ∙ ap (w.commit (suc t)) same ∙ here)
+  all_here x c r other (inl before) is (inr apart) = h.all x c r before other (sym (e.commits_elsewhere x apart) ∙ is)
+  all_here x c r other (inr now) is (inr apart) = apart (same_commit w t m q x r e (subst (λ u. CommitsNode w u x r) now other) (cases_eq x m))
 
 all_still : (w : Words) (t : ℕ) → AreCommits w t → Kept (w.commit t) (w.commit (suc t)) → ((m q : Ref) → CommitsNode w t m q → ⊥) → (x : Ref) (c : ℕ) (r : Ref) →
     CommitsNode w c x r → (c < t) ⊎ (c ≡ t) → w.commit (suc t) x ≡ None → ⊥

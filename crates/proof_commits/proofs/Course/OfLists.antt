@@ -57,6 +57,12 @@ use Rattle.proof_commits.proofs.Known.MainsInUse.{logical_standing}
 abbrev pub known_from : (limits : Bounds) (steps : List Step) → AreBounds limits → Known limits (states_of limits steps) (last_of limits steps)
 known_from limits steps ok = known_run (run_is limits steps ok)
 
+-- a step changes the logical main node of an indirection
+pub record Changes (states : ℕ → State) (n : ℕ) (i : Ref) : Type 0 where
+  pub has : HasIndirection (states n) i
+  pub still : HasIndirection (states (suc n)) i
+  pub other : logical_main (states (suc n)).heap i ≡ logical_main (states n).heap i → ⊥
+
 -- roots are open where they are asked for: the layer of roots shows it
 abbrev pub RootsOfRuns : Type 0
 RootsOfRuns =
@@ -102,12 +108,9 @@ module _ (limits : Bounds) (ok : AreBounds limits) (steps : List Step) (known : 
       let runs = runs_deciding (operation_of (states t) o.actor) o.link q m o.line o.stage in
       record { actor = o.actor; operation = runs.operation; runs = runs.is; line = o.line; swaps = runs.swaps }
 
-  owner_alone : (t : ℕ) → t ≤ last → (m q : Ref) (o : Owned.Owner w t m q) (actor : ℕ) (operation : Operation) (i r : Ref) (l : SwapLine) →
-      operation_of (states t) actor ≡ Some operation → IsInSwap operation i r m l → (actor ≡ o.actor) ⊎ (actor ≡ o.actor → ⊥) → actor ≡ o.actor
-  owner_alone t h m q o actor operation i r l runs swaps (inl same) = same
-  owner_alone t h m q o actor operation i r l runs swaps (inr other) =
-      absurd ((sound_at p t h).apart actor o.actor m other (subst (λ x. HasFresh (stage_of_actor x) m) (sym runs) (in_swap_fresh operation i r m l swaps))
-      (subst (λ s. HasFresh s m) (sym o.stage) refl))
+  owner_alone : (t : ℕ) → t ≤ last → (m q : Ref) (o : Owned.Owner w t m q) (actor : ℕ) → HasFresh (w.stage t actor) m → (actor ≡ o.actor) ⊎ (actor ≡ o.actor → ⊥) → actor ≡ o.actor
+  owner_alone t h m q o actor has (inl same) = same
+  owner_alone t h m q o actor has (inr other) = absurd ((sound_at p t h).apart actor o.actor m other has (subst (λ s. HasFresh s m) (sym o.stage) refl))
 
   pub owned_at : (t : ℕ) → t ≤ last → OwnedIn (states t)
   unfolding machine_owner
@@ -115,7 +118,8 @@ module _ (limits : Bounds) (ok : AreBounds limits) (steps : List Step) (known : 
       let o = (sound_at p t h).owned fresh replaced (sym (prev_in_use t fresh used) ∙ pend) in (
         o.link,
         machine_owner t fresh replaced o,
-        λ actor operation i r l runs swaps. owner_alone t h fresh replaced o actor operation i r l runs swaps (cases_eq actor o.actor),
+        λ actor operation i r l runs swaps.
+            owner_alone t h fresh replaced o actor (subst (λ x. HasFresh (stage_of_actor x) fresh) (sym runs) (in_swap_fresh operation i r fresh l swaps)) (cases_eq actor o.actor),
       )
 
   -- ---- prev words
@@ -290,7 +294,7 @@ module _ (limits : Bounds) (ok : AreBounds limits) (steps : List Step) (known : 
       let generation : generation_at (states n).heap i ≡ generation_of (node_under states last i) =
       ap generation_of (node_in_use n i has.0) ∙ sym (generation_stays limits states last known n i (omega arith) (link_in_use n i has)) in
       main_in_use k within i still
-      ∙ protocol_for_good p i m r mu n closed h moment (told (generation_of (node_under states last i)) ∙ ap (closed_at (known.run.records last)) (sym generation) ∙ is) before k after within
+      ∙ protocol_for_good p i m r mu n closed moment (told (generation_of (node_under states last i)) ∙ ap (closed_at (known.run.records last)) (sym generation) ∙ is) before h k after within
 
   -- ---- after a closing
 
@@ -302,36 +306,29 @@ module _ (limits : Bounds) (ok : AreBounds limits) (steps : List Step) (known : 
       told (generation_of (node_under states last i)) ∙ ap (closed_at (known.run.records last)) (sym generation) ∙ is
 
   -- a step that changes a logical main node commits
-  changes_commit : (n : ℕ) → n < last → (i : Ref) → HasIndirection (states n) i → HasIndirection (states (suc n)) i →
-      (logical_main (states (suc n)).heap i ≡ logical_main (states n).heap i → ⊥) → MainStep w n i → Changed w n i
-  changes_commit n h i has still other (MainStays e) = absurd (other (main_in_use (suc n) h i still ∙ e ∙ sym (main_in_use n (omega arith) i has)))
-  changes_commit n h i has still other (MainChanges c) = c
+  changes_commit : (n : ℕ) → n < last → (i : Ref) → Changes states n i → MainStep w n i → Changed w n i
+  changes_commit n h i x (MainStays e) = absurd (x.other (main_in_use (suc n) h i x.still ∙ e ∙ sym (main_in_use n (omega arith) i x.has)))
+  changes_commit n h i x (MainChanges c) = c
 
-  changed_at : (n : ℕ) → n < last → (i : Ref) → HasIndirection (states n) i → HasIndirection (states (suc n)) i →
-      (logical_main (states (suc n)).heap i ≡ logical_main (states n).heap i → ⊥) → Changed w n i
-  changed_at n h i has still other = changes_commit n h i has still other (main_step p n h i (link_in_use n i has))
+  changed_at : (n : ℕ) → n < last → (i : Ref) → Changes states n i → Changed w n i
+  changed_at n h i x = changes_commit n h i x (main_step p n h i (link_in_use n i x.has))
 
-  pub late_stood_at : Told → (c n : ℕ) → c ≤ n → n < last → (i : Ref) → HasIndirection (states n) i → HasIndirection (states (suc n)) i →
-      closed_at (known.run.records last) (generation_at (states n).heap i) ≡ Some c → (logical_main (states (suc n)).heap i ≡ logical_main (states n).heap i → ⊥) →
+  pub late_stood_at : Told → (c n : ℕ) → c ≤ n → n < last → (i : Ref) → Changes states n i → closed_at (known.run.records last) (generation_at (states n).heap i) ≡ Some c →
       (k : ℕ) × (k ≤ c) × HasIndirection (states k) i × (main_at (states k).heap i ≡ main_at (states n).heap i)
-  late_stood_at told c n late h i has still closing other =
-      let x = changed_at n h i has still other in
-      let early = commits_early p n h i x.fresh x.replaced x.commits (stands_now (link_in_use n i has) x.stands) in
-      let there = had_before early.at n (omega (arith, early.past)) (omega arith) i early.link has in (
+  late_stood_at told c n late h i changes closing =
+      let x = changed_at n h i changes in
+      let early = commits_early p n h i x.fresh x.replaced x.commits (stands_now (link_in_use n i changes.has) x.stands) in
+      let there = had_before early.at n (omega (arith, early.past)) (omega arith) i early.link changes.has in (
         early.at,
-        early.early c (closing_at told n (omega arith) i c has closing),
+        early.early c (closing_at told n (omega arith) i c changes.has closing),
         there,
-        ap main_of (node_in_use early.at i there.0) ∙ early.is ∙ sym x.stands ∙ sym (ap main_of (node_in_use n i has.0)),
+        ap main_of (node_in_use early.at i there.0) ∙ early.is ∙ sym x.stands ∙ sym (ap main_of (node_in_use n i changes.has.0)),
       )
 
-  pub late_once_at : Told → (c n k : ℕ) → c ≤ n → n < k → k < last → (i : Ref) → HasIndirection (states n) i → HasIndirection (states (suc n)) i →
-      closed_at (known.run.records last) (generation_at (states n).heap i) ≡ Some c → (logical_main (states (suc n)).heap i ≡ logical_main (states n).heap i → ⊥) →
-      HasIndirection (states k) i → HasIndirection (states (suc k)) i → (logical_main (states (suc k)).heap i ≡ logical_main (states k).heap i → ⊥) → ⊥
-  late_once_at told c n k late before h i has still closing other has_k still_k other_k =
-      let x = changed_at n (omega arith) i has still other in
-      let y = changed_at k h i has_k still_k other_k in
-      closed_once p i x.fresh x.replaced y.fresh y.replaced c n k (closing_at told n (omega arith) i c has closing) late before h (link_in_use n i has) x.stands x.commits
-      (link_in_use k i has_k) y.stands y.commits
+  pub late_once_at : Told → (c n k : ℕ) → c ≤ n → n < k → k < last → (i : Ref) → Changes states n i → Changes states k i →
+      closed_at (known.run.records last) (generation_at (states n).heap i) ≡ Some c → ⊥
+  late_once_at told c n k late before h i x y closing =
+      closed_once p i c (closing_at told n (omega arith) i c x.has closing) n k late before h (link_in_use k i y.has) (changed_at n (omega arith) i x) (changed_at k h i y)
 
   pub checked_at : (t : ℕ) → t ≤ last → (actor : ℕ) (operation : Operation) (i a f q : Ref) → operation_of (states t) actor ≡ Some operation → IsInSwap operation i a f swap.Check →
       IsInUse (states t).heap f → prev_at (states t).heap f ≡ over.Pending q → ⊥

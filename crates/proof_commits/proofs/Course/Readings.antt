@@ -13,7 +13,7 @@ use Rattle.proof_commits.proofs.Known.Owners.{OnLine, Staged, IsSound}
 use Rattle.proof_commits.proofs.Known.Sounds.{sound_at}
 use Rattle.proof_commits.proofs.Course.Finals.{from_time, none_final, failed_final, link_stays, pending_back, pending_stands, Fate, StillPending, HasFailed, HasCommitted, fate}
 use Rattle.proof_commits.proofs.Course.Finals.{committed_stays, commits_at}
-use Rattle.proof_commits.proofs.Course.Mains.{main_when_none, main_when_pending, MainStep, MainStays, MainChanges, main_step}
+use Rattle.proof_commits.proofs.Course.Mains.{main_when_none, main_when_pending, CommitsMain, MainStep, MainStays, MainChanges, main_step}
 use Rattle.proof_commits.proofs.Course.Closings.{commits_early}
 use Rattle.proof_commits.specs.Moments.{later_of, IsMoment}
 
@@ -151,72 +151,59 @@ no_commit_by p i m r t h within s n c (over.Pending q) e = by_fate (fate p i m q
     by_fate (HasFailed x) = let wrong : over.None ≡ over.Failed q = sym n ∙ x in cc
     by_fate (HasCommitted x y) = absurd ((commits_at p (suc t) (omega arith)).all m x.at q (x.before) x.commits c)
 
-no_commit : (p : Protocol) (i m : Ref) (r t : ℕ) → r ≤ t → t < p.last → Stood p.words (suc r) i m → p.words.prev (suc t) m ≡ over.None → p.words.commit (suc t) m ≡ None →
-    p.words.prev (suc r) m ≡ over.None
-no_commit p i m r t h within s n c = no_commit_by p i m r t h within s n c (p.words.prev (suc r) m) refl
-
--- the node was decided when it was read
-decided_then : (p : Protocol) (i m : Ref) (r t mu : ℕ) → r ≤ t → mu ≡ r → p.words.link (suc r) i ≡ true → p.words.main (suc r) i ≡ m → p.words.prev (suc r) m ≡ over.None →
-    IsMoment p.words i m r mu t
-decided_then p i m r t mu h e l is n = subst (λ x. IsMoment p.words i m r x t) (sym e) (record {
-  from = omega arith;
-  past = h;
-  link = l;
-  stood = is;
-  none = n;
-  is = main_when_none p.words (suc r) i m is n;
-  first = λ v after before same. absurd (omega arith);
-})
-
--- while it was pending another was the logical main node
-pending_before : (p : Protocol) (i m q : Ref) (r c v : ℕ) → c < p.last → CommitsNode p.words c m q → p.words.link (suc r) i ≡ true → p.words.main (suc r) i ≡ m → r < v → v ≤ c →
-    logical_at p.words v i ≡ m → ⊥
-pending_before p i m q r c v within e l is after before same =
-    let s : Stood p.words v i m = record { at = suc r; past = omega arith; link = l; is = is } in
-    let pend = pending_back p i m q v c before (omega arith) s e.was in
-    let stands = pending_stands p.words v (sound_at p v (omega arith)) i m q s pend in
-    let below = (sound_at p v (omega arith)).words.over m q (over_pending pend) in
-    let is_below : m ≡ q = sym same ∙ main_when_pending p.words v i m q stands pend in
-    none≢pending (ap (p.words.prev v) is_below ∙ below.none) pend
-
--- it was committed after it was read
-committed_then : (p : Protocol) (i m q : Ref) (r t c mu : ℕ) → t < p.last → r < c → c ≤ t → mu ≡ c → p.words.link (suc r) i ≡ true → p.words.main (suc r) i ≡ m →
-    CommitsNode p.words c m q → IsMoment p.words i m r mu t
-committed_then p i m q r t c mu within h k e l is commits =
-    let s : Stood p.words c i m = record { at = suc r; past = omega arith; link = l; is = is } in
-    let stands = pending_stands p.words c (sound_at p c (omega arith)) i m q s commits.was in
-    subst (λ x. IsMoment p.words i m r x t) (sym e) (record {
-      from = omega arith;
-      past = k;
-      link = l;
-      stood = is;
-      none = commits.prev.here;
-      is = main_when_none p.words (suc c) i m (commits.main i ∙ stands) commits.prev.here;
-      first = λ v after before same. pending_before p i m q r c v (omega arith) commits l is after before same;
-    })
-
-by_order : (p : Protocol) (i m q : Ref) (r t c : ℕ) → r ≤ t → t < p.last → c ≤ t → p.words.link (suc r) i ≡ true → p.words.main (suc r) i ≡ m →
-    CommitsNode p.words c m q → (c ≤ r) ⊎ (r < c) → IsMoment p.words i m r (max r c) t
-by_order p i m q r t c h within k l is commits (inl early) =
-    decided_then p i m r t (max r c) h (omega arith) l is (committed_stays p m q c (suc r) (omega arith) (omega arith) commits)
-by_order p i m q r t c h within k l is commits (inr late) = committed_then p i m q r t c (max r c) within late k (omega arith) l is commits
-
 early_or_late : (c r : ℕ) → (c ≤ r) ⊎ (r < c)
 early_or_late c r = grind arith
 
-by_commit : (p : Protocol) (i m : Ref) (r t : ℕ) → r ≤ t → t < p.last → p.words.link (suc r) i ≡ true → p.words.main (suc r) i ≡ m →
-    p.words.prev (suc t) m ≡ over.None → (c : Option ℕ) → p.words.commit (suc t) m ≡ c → IsMoment p.words i m r (later_of r c) t
-by_commit p i m r t h within l is n None e =
-    let s : Stood p.words (suc r) i m = record { at = suc r; past = omega arith; link = l; is = is } in
-    decided_then p i m r t r h refl l is (no_commit p i m r t h within s n e)
-by_commit p i m r t h within l is n (Some c) e =
-    let was = (commits_at p (suc t) within).each m c e in
-    by_order p i m was.1 r t c h within (omega (arith, was.0)) l is was.2 (early_or_late c r)
-
 -- a node that stood in the word after step r, and is decided after step t
-pub moment_of : (p : Protocol) (i m : Ref) (r t : ℕ) → r ≤ t → t < p.last → p.words.link (suc r) i ≡ true → p.words.main (suc r) i ≡ m →
-    p.words.prev (suc t) m ≡ over.None → IsMoment p.words i m r (later_of r (p.words.commit (suc t) m)) t
-moment_of p i m r t h within l is n = by_commit p i m r t h within l is n (p.words.commit (suc t) m) refl
+module _ (p : Protocol) (i m : Ref) (r t : ℕ) (within : t < p.last) (s : StoodAfter p.words (suc t) r i m) where
+  stood_by : (v : ℕ) → r < v → Stood p.words v i m
+  stood_by v after = record { at = suc r; past = omega arith; link = s.link; is = s.is }
+
+  -- it was decided when it was read
+  decided_then : (mu : ℕ) → mu ≡ r → p.words.prev (suc r) m ≡ over.None → IsMoment p.words i m r mu t
+  decided_then mu e n = subst (λ x. IsMoment p.words i m r x t) (sym e) (record {
+    from = omega arith;
+    past = omega (arith, s.past);
+    link = s.link;
+    stood = s.is;
+    none = n;
+    is = main_when_none p.words (suc r) i m s.is n;
+    first = λ v after before same. absurd (omega arith);
+  })
+
+  -- while it was pending another was the logical main node
+  pending_before : (q : Ref) (c v : ℕ) → c ≤ t → CommitsNode p.words c m q → r < v → v ≤ c → logical_at p.words v i ≡ m → ⊥
+  pending_before q c v by e after before same =
+      let pend = pending_back p i m q v c before (omega arith) (stood_by v after) e.was in
+      let stands = pending_stands p.words v (sound_at p v (omega arith)) i m q (stood_by v after) pend in
+      let below = (sound_at p v (omega arith)).words.over m q (over_pending pend) in
+      let is_below : m ≡ q = sym same ∙ main_when_pending p.words v i m q stands pend in
+      none≢pending (ap (p.words.prev v) is_below ∙ below.none) pend
+
+  -- it was committed after it was read
+  committed_then : (q : Ref) (c mu : ℕ) → r < c → c ≤ t → mu ≡ c → CommitsNode p.words c m q → IsMoment p.words i m r mu t
+  committed_then q c mu h k e commits =
+      let stands = pending_stands p.words c (sound_at p c (omega arith)) i m q (stood_by c h) commits.was in
+      subst (λ x. IsMoment p.words i m r x t) (sym e) (record {
+        from = omega arith;
+        past = k;
+        link = s.link;
+        stood = s.is;
+        none = commits.prev.here;
+        is = main_when_none p.words (suc c) i m (commits.main i ∙ stands) commits.prev.here;
+        first = λ v after before same. pending_before q c v k commits after before same;
+      })
+
+  by_order : (q : Ref) (c : ℕ) → c ≤ t → CommitsNode p.words c m q → (c ≤ r) ⊎ (r < c) → IsMoment p.words i m r (max r c) t
+  by_order q c k commits (inl early) =
+      decided_then (max r c) (omega arith) (committed_stays p m q c (suc r) (omega arith) (omega (arith, s.past)) commits)
+  by_order q c k commits (inr late) = committed_then q c (max r c) late k (omega arith) commits
+
+  by_commit : p.words.prev (suc t) m ≡ over.None → (c : Option ℕ) → p.words.commit (suc t) m ≡ c → IsMoment p.words i m r (later_of r c) t
+  by_commit n None e = decided_then r refl (no_commit_by p i m r t (omega (arith, s.past)) within (stood_by (suc r) (omega arith)) n e (p.words.prev (suc r) m) refl)
+  by_commit n (Some c) e =
+      let was = (commits_at p (suc t) within).each m c e in
+      by_order was.1 c (omega (arith, was.0)) was.2 (early_or_late c r)
 
 -- what a READ gives: it counts from its last read or swap of the main word
 pub gives_moment : (p : Protocol) (t : ℕ) → t < p.last → (k : ℕ) (i m : Ref) (l : ReadLine) → p.words.stage t k ≡ Reads i l → ReadTurn p.words t i l (Gives m) →
@@ -228,53 +215,49 @@ gives_moment p t h k i m l stage turn =
     let from_line : FromLine p.words t (p.words.from t k) i l = subst (λ s. FromIn p.words t (p.words.from t k) s) stage (from_at p t (omega arith) k) in
     let stood : StoodAfter p.words (suc t) (counts_at l t (p.words.from t k)) i m = from_next p.words t (p.words.from t k) sound.words i l (Gives m) on_line from_line turn in
     let given = (sound_at p (suc t) h).given k i m (record { at = t; past = omega arith; line = l; stage = stage; gives = turn }) in
-    moment_of p i m (counts_at l t (p.words.from t k)) t (omega (arith, stood.past)) h stood.link stood.is given.none
+    by_commit p i m (counts_at l t (p.words.from t k)) t h stood given.none (p.words.commit (suc t) m) refl
 
 -- ---- finality
 
--- what commits at a later step in an indirection whose generation was closed before step r stood in its word at step r already
-no_change : (p : Protocol) (i m : Ref) (r mu t c u : ℕ) → IsMoment p.words i m r mu t → p.words.closing (p.words.generation i) ≡ Some c → c < r → mu < u → u < p.last →
-    (f q : Ref) → CommitsNode p.words u f q → p.words.main u i ≡ f → ⊥
-no_change p i m r mu t c u moment closed before after within f q commits stands =
-    let sound = sound_at p u (omega arith) in
-    let l : p.words.link u i ≡ true = link_stays p i (suc r) u (omega (arith, moment.from)) (omega arith) moment.link in
-    let s : Stood p.words u i f = record { at = u; past = omega arith; link = l; is = stands } in
-    let early = commits_early p u within i f q commits s in
-    let at_read : Stood p.words (suc r) i f = record { at = early.at; past = omega (arith, early.early c closed); link = early.link; is = early.is } in
-    let pend = pending_back p i f q (suc r) u (omega (arith, moment.from)) (omega arith) at_read commits.was in
-    let is_read : f ≡ m = sym (pending_stands p.words (suc r) (sound_at p (suc r) (omega (arith, moment.from))) i f q at_read pend) ∙ moment.stood in
-    let stood_then : Stood p.words (suc mu) i m = record { at = suc r; past = omega (arith, moment.from); link = moment.link; is = moment.stood } in
-    let still = none_final p i m (suc mu) u after (omega arith) stood_then moment.none in
-    none≢pending still (ap (p.words.prev u) (sym is_read) ∙ commits.was)
+-- a READ of an indirection whose generation was closed before
+module _ (p : Protocol) (i m : Ref) (r mu t c : ℕ) (moment : IsMoment p.words i m r mu t) (closed : p.words.closing (p.words.generation i) ≡ Some c) (before : c < r) where
+  -- what commits there at a later step stood in its word at step r already
+  no_change : (u : ℕ) → mu < u → u < p.last → CommitsMain p.words u i → ⊥
+  no_change u after within x =
+      let sound = sound_at p u (omega arith) in
+      let l : p.words.link u i ≡ true = link_stays p i (suc r) u (omega (arith, moment.from)) (omega arith) moment.link in
+      let s : Stood p.words u i x.fresh = record { at = u; past = omega arith; link = l; is = x.stands } in
+      let early = commits_early p u within i x.fresh x.replaced x.commits s in
+      let at_read : Stood p.words (suc r) i x.fresh = record { at = early.at; past = omega (arith, early.early c closed); link = early.link; is = early.is } in
+      let pend = pending_back p i x.fresh x.replaced (suc r) u (omega (arith, moment.from)) (omega arith) at_read x.commits.was in
+      let is_read : x.fresh ≡ m =
+      sym (pending_stands p.words (suc r) (sound_at p (suc r) (omega (arith, moment.from))) i x.fresh x.replaced at_read pend) ∙ moment.stood in
+      let stood_then : Stood p.words (suc mu) i m = record { at = suc r; past = omega (arith, moment.from); link = moment.link; is = moment.stood } in
+      let still = none_final p i m (suc mu) u after (omega arith) stood_then moment.none in
+      none≢pending still (ap (p.words.prev u) (sym is_read) ∙ x.commits.was)
 
-final_step : (p : Protocol) (i m : Ref) (r mu t c u : ℕ) → IsMoment p.words i m r mu t → p.words.closing (p.words.generation i) ≡ Some c → c < r → mu < u → u < p.last →
-    logical_at p.words u i ≡ m → MainStep p.words u i → logical_at p.words (suc u) i ≡ m
-final_step p i m r mu t c u moment closed before after within is (MainStays e) = e ∙ is
-final_step p i m r mu t c u moment closed before after within is (MainChanges x) =
-    absurd (no_change p i m r mu t c u moment closed before after within x.fresh x.replaced x.commits x.stands)
+  final_step : (u : ℕ) → mu < u → u < p.last → logical_at p.words u i ≡ m → MainStep p.words u i → logical_at p.words (suc u) i ≡ m
+  final_step u after within is (MainStays e) = e ∙ is
+  final_step u after within is (MainChanges x) = absurd (no_change u after within x)
 
--- what a READ gives of an indirection whose generation was closed before is its logical main node for ever
-pub given_for_good : (p : Protocol) (i m : Ref) (r mu t c : ℕ) → t < p.last → IsMoment p.words i m r mu t → p.words.closing (p.words.generation i) ≡ Some c → c < r →
-    (u : ℕ) → mu < u → u ≤ p.last → logical_at p.words u i ≡ m
-given_for_good p i m r mu t c h moment closed before u after within =
-    from_time (λ v. logical_at p.words v i ≡ m) (suc mu) p.last moment.is
-    (λ v later inside is. final_step p i m r mu t c v moment closed before later inside is
-    (main_step p v inside i (link_stays p i (suc r) v (omega (arith, moment.from)) (omega arith) moment.link))) u after within
+  -- what it gives is its logical main node for ever
+  pub given_for_good : t < p.last → (u : ℕ) → mu < u → u ≤ p.last → logical_at p.words u i ≡ m
+  given_for_good h u after within =
+      from_time (λ v. logical_at p.words v i ≡ m) (suc mu) p.last moment.is
+      (λ v later inside is. final_step v later inside is (main_step p v inside i (link_stays p i (suc r) v (omega (arith, moment.from)) (omega arith) moment.link))) u after within
 
 -- ---- after a closing
 
--- what commits after the generation was closed stood in the word at each step from the closing on
-late_stood : (p : Protocol) (i f q : Ref) (c n u : ℕ) → p.words.closing (p.words.generation i) ≡ Some c → c ≤ n → n ≤ u → u < p.last → Stood p.words u i f →
-    CommitsNode p.words u f q → p.words.main n i ≡ f
-late_stood p i f q c n u closed before after within s commits =
-    let early = commits_early p u within i f q commits s in
-    let at_n : Stood p.words n i f = record { at = early.at; past = omega (arith, early.early c closed); link = early.link; is = early.is } in
-    pending_stands p.words n (sound_at p n (omega arith)) i f q at_n (pending_back p i f q n u after (omega arith) at_n commits.was)
+module _ (p : Protocol) (i : Ref) (c : ℕ) (closed : p.words.closing (p.words.generation i) ≡ Some c) where
+  -- what commits after the generation was closed stood in the word at each step from the closing on
+  late_stood : (n u : ℕ) → c ≤ n → n ≤ u → u < p.last → p.words.link u i ≡ true → (x : CommitsMain p.words u i) → p.words.main n i ≡ x.fresh
+  late_stood n u before after within link x =
+      let early = commits_early p u within i x.fresh x.replaced x.commits (record { at = u; past = omega arith; link = link; is = x.stands }) in
+      let at_n : Stood p.words n i x.fresh = record { at = early.at; past = omega (arith, early.early c closed); link = early.link; is = early.is } in
+      pending_stands p.words n (sound_at p n (omega arith)) i x.fresh x.replaced at_n (pending_back p i x.fresh x.replaced n u after (omega arith) at_n x.commits.was)
 
--- so there is one such commit at most
-pub closed_once : (p : Protocol) (i f q g r : Ref) (c n u : ℕ) → p.words.closing (p.words.generation i) ≡ Some c → c ≤ n → n < u → u < p.last → p.words.link n i ≡ true →
-    p.words.main n i ≡ f → CommitsNode p.words n f q → p.words.link u i ≡ true → p.words.main u i ≡ g → CommitsNode p.words u g r → ⊥
-closed_once p i f q g r c n u closed before after within ln stands first lu stands_u second =
-    let s : Stood p.words u i g = record { at = u; past = omega arith; link = lu; is = stands_u } in
-    let same : g ≡ f = sym (late_stood p i g r c n u closed before (omega arith) within s second) ∙ stands in
-    none≢pending (committed_stays p f q n u after (omega arith) first) (ap (p.words.prev u) (sym same) ∙ second.was)
+  -- so there is one such commit at most
+  pub closed_once : (n u : ℕ) → c ≤ n → n < u → u < p.last → p.words.link u i ≡ true → CommitsMain p.words n i → CommitsMain p.words u i → ⊥
+  closed_once n u before after within link x y =
+      let same : y.fresh ≡ x.fresh = sym (late_stood n u before (omega arith) within link y) ∙ x.stands in
+      none≢pending (committed_stays p x.fresh x.replaced n u after (omega arith) x.commits) (ap (p.words.prev u) (sym same) ∙ y.commits.was)

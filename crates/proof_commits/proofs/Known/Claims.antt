@@ -9,8 +9,8 @@ use Rattle.proof_commits.specs.Beneath.machine_model.specs.declared.lines.Line.T
 use Rattle.proof_commits.specs.Beneath.machine_model.specs.declared.repairs.RenewLine.TheVariants as renew
 use Rattle.proof_commits.specs.Beneath.machine_model.specs.declared.repairs.CleanLine.TheVariants as clean
 use Rattle.proof_commits.specs.Beneath.machine_model.specs.declared.repairs.ClimbLine.TheVariants as climb
-use Rattle.proof_memory.specs.Wants.{Wanted, AnIndirection, AMain, ABranch, BranchOrList, line_wants, meets, Is, Holds, AllHold, action_wants, node_wants, prev_wants, place_wants}
-use Rattle.proof_memory.specs.Wants.{change_wants, flag_on, is_indirection, is_branch_or_list}
+use Rattle.proof_memory.specs.Wants.{Wanted, AnIndirection, AMain, ABranch, BranchOrList, line_wants, meets, Is, Holds, AllHold, action_wants, node_wants, prev_wants}
+use Rattle.proof_memory.specs.Wants.{is_indirection, is_branch_or_list}
 use Rattle.proof_memory.specs.Laws.{IsInUse}
 use Rattle.proof_memory.proofs.Claims.Uses.{safe_of, meets_of, first_hold}
 use Rattle.proof_memory.proofs.Heap.Under.{taken_all}
@@ -20,6 +20,7 @@ use Rattle.proof_memory.proofs.Safety.AtTimes.{action_at, line_at}
 use Rattle.proof_memory.proofs.Heap.Moves.{not_yet_drawn}
 use Rattle.proof_commits.proofs.Known.Given.{BuildsFrom, HasSolid}
 use Rattle.proof_memory.proofs.Claims.Nodes.{main_plain}
+use Rattle.proof_memory.proofs.Claims.Named.{main_claim, past_climb, third_claim}
 use Rattle.proof_commits.specs.Beneath.machine_model.proofs.Grown.{node_standing}
 use Rattle.proof_commits.specs.Beneath.slot_arena.specs.declared.nodes.Prev.TheVariants as over
 
@@ -76,7 +77,7 @@ has_main state m h =
 finds_so : (state : State) (a : Action) → AllHold (IsInUse state.heap) state.heap (action_wants a) → Finds state a
 finds_so state (act.ReadMain i) h = has_link state i h.0
 finds_so state (act.ReadPrev m) h = has_main state m h.0
-finds_so state (act.Publish i a f) h = (has_link state i h.0, has_main state f h.1.1.0)
+finds_so state (act.Publish i a f) h = (has_link state i h.0, has_main state f (third_claim h))
 finds_so state (act.Restore i m p) h = has_link state i h.0
 finds_so state (act.Decide i m p told) h = (has_link state i h.0, has_main state m h.1.0)
 finds_so state a h = tt
@@ -113,9 +114,8 @@ module _ {limits : Bounds} {states : ℕ → State} {last : ℕ} (run : IsRun li
 
       by_line : (l : Line) (m : Ref) → BuildsFrom l m → AllHold S (states t).heap (line_wants limits.hash operation.call operation.access l) → HasSolid (states t) m
       by_line (line.Build (build.Main path main c former)) m b wants =
-          let place = first_hold S (states t).heap (place_wants path main BranchOrList) (change_wants main (flag_on limits.hash operation.call path) former c) wants in
-          subst (λ x. HasSolid (states t) x) b (has_solid (states t) main BranchOrList built_solid place.1.1.0)
-      by_line (line.Renew (renew.Branch path main done)) m b wants = subst (λ x. HasSolid (states t) x) b (has_solid (states t) main ABranch branch_solid wants.1.1.0)
-      by_line (line.Clean (clean.Contracted path main done)) m b wants = subst (λ x. HasSolid (states t) x) b (has_solid (states t) main ABranch branch_solid wants.1.1.0)
-      by_line (line.Climb (climb.Contracted c main)) m b wants = subst (λ x. HasSolid (states t) x) b (has_solid (states t) main ABranch branch_solid wants.1.1.1.0)
+          subst (λ x. HasSolid (states t) x) b (has_solid (states t) main BranchOrList built_solid (main_claim wants))
+      by_line (line.Renew (renew.Branch path main done)) m b wants = subst (λ x. HasSolid (states t) x) b (has_solid (states t) main ABranch branch_solid (main_claim wants))
+      by_line (line.Clean (clean.Contracted path main done)) m b wants = subst (λ x. HasSolid (states t) x) b (has_solid (states t) main ABranch branch_solid (main_claim wants))
+      by_line (line.Climb (climb.Contracted c main)) m b wants = subst (λ x. HasSolid (states t) x) b (has_solid (states t) main ABranch branch_solid (past_climb wants).0)
       by_line l m b wants = absurd b

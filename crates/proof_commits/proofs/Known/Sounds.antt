@@ -53,23 +53,20 @@ fresh_made w t k h (Decides i a x l) st f e = subst (λ y. w.made t y ≡ true) 
 fresh_made w t k h (Checks i a x) st f e = subst (λ y. w.made t y ≡ true) e (h.made i x st.0)
 
 -- the acting one has none of another's
-own_apart : (w : Words) (t k : ℕ) → IsSound w t → Moves w t k (w.stage t k) (w.stage (suc t) k) → (j : ℕ) → (j ≡ k → ⊥) → (f : Ref) →
-    HasFresh (w.stage t j) f → HasFresh (w.stage (suc t) k) f → ⊥
-own_apart w t k h m j other f theirs own =
-    elim (fresh_before w t k (w.stage t k) (w.stage (suc t) k) m f own) [
-      | inl before ↦ h.apart j k f other theirs before
-      | inr new ↦ not_both (fresh_made w t j h.words (w.stage t j) (h.staged j) f theirs) new
-    ]
+module _ (w : Words) (t k : ℕ) (h : IsSound w t) (m : Moves w t k (w.stage t k) (w.stage (suc t) k)) where
+  own_apart : (j : ℕ) → (j ≡ k → ⊥) → (f : Ref) → HasFresh (w.stage t j) f → HasFresh (w.stage (suc t) k) f → ⊥
+  own_apart j other f theirs own =
+      elim (fresh_before w t k (w.stage t k) (w.stage (suc t) k) m f own) [
+        | inl before ↦ h.apart j k f other theirs before
+        | inr new ↦ not_both (fresh_made w t j h.words (w.stage t j) (h.staged j) f theirs) new
+      ]
 
-apart_by : (w : Words) (t k : ℕ) → IsSound w t → Moves w t k (w.stage t k) (w.stage (suc t) k) → ((j : ℕ) → (j ≡ k → ⊥) → w.stage (suc t) j ≡ w.stage t j) →
-    (i j : ℕ) (f : Ref) → (i ≡ j → ⊥) → HasFresh (w.stage (suc t) i) f → HasFresh (w.stage (suc t) j) f → (i ≡ k) ⊎ (i ≡ k → ⊥) → (j ≡ k) ⊎ (j ≡ k → ⊥) → ⊥
-apart_by w t k h m others i j f other x y (inl a) (inl b) = other (a ∙ sym b)
-apart_by w t k h m others i j f other x y (inl a) (inr b) =
-    own_apart w t k h m j b f (subst (λ s. HasFresh s f) (others j b) y) (subst (λ q. HasFresh (w.stage (suc t) q) f) a x)
-apart_by w t k h m others i j f other x y (inr a) (inl b) =
-    own_apart w t k h m i a f (subst (λ s. HasFresh s f) (others i a) x) (subst (λ q. HasFresh (w.stage (suc t) q) f) b y)
-apart_by w t k h m others i j f other x y (inr a) (inr b) =
-    h.apart i j f other (subst (λ s. HasFresh s f) (others i a) x) (subst (λ s. HasFresh s f) (others j b) y)
+  apart_by : ((j : ℕ) → (j ≡ k → ⊥) → w.stage (suc t) j ≡ w.stage t j) → (i j : ℕ) (f : Ref) → (i ≡ j → ⊥) → HasFresh (w.stage (suc t) i) f → HasFresh (w.stage (suc t) j) f →
+      (i ≡ k) ⊎ (i ≡ k → ⊥) → (j ≡ k) ⊎ (j ≡ k → ⊥) → ⊥
+  apart_by others i j f other x y (inl a) (inl b) = other (a ∙ sym b)
+  apart_by others i j f other x y (inl a) (inr b) = own_apart j b f (subst (λ s. HasFresh s f) (others j b) y) (subst (λ q. HasFresh (w.stage (suc t) q) f) a x)
+  apart_by others i j f other x y (inr a) (inl b) = own_apart i a f (subst (λ s. HasFresh s f) (others i a) x) (subst (λ q. HasFresh (w.stage (suc t) q) f) b y)
+  apart_by others i j f other x y (inr a) (inr b) = h.apart i j f other (subst (λ s. HasFresh s f) (others i a) x) (subst (λ s. HasFresh s f) (others j b) y)
 
 -- ---- a pending node stays in its word
 
@@ -77,30 +74,29 @@ stays_made : (w : Words) (t : ℕ) (n i : Ref) → Makes w t n → w.link t i �
 stays_made w t n i e l (inl same) = absurd (not_both (subst (λ x. w.link t x ≡ true) same l) e.was_no_link)
 stays_made w t n i e l (inr apart) = e.main i apart
 
-stays_swapped : (w : Words) (t : ℕ) (j a f i m p : Ref) → SwapsIn w t j a f → w.prev t a ≡ over.None → w.prev t m ≡ over.Pending p → w.main t i ≡ m →
-    (i ≡ j) ⊎ (i ≡ j → ⊥) → w.main (suc t) i ≡ w.main t i
-stays_swapped w t j a f i m p e n pend is (inl same) =
-    let is_replaced : m ≡ a = sym is ∙ ap (w.main t) same ∙ e.stood in
-    absurd (none≢pending n (ap (w.prev t) (sym is_replaced) ∙ pend))
-stays_swapped w t j a f i m p e n pend is (inr apart) = e.main.elsewhere i apart
+module _ (w : Words) (t : ℕ) (i m p : Ref) (is : w.main t i ≡ m) (pend : w.prev t m ≡ over.Pending p) where
+  stays_swapped : (j a f : Ref) → SwapsIn w t j a f → w.prev t a ≡ over.None → (i ≡ j) ⊎ (i ≡ j → ⊥) → w.main (suc t) i ≡ w.main t i
+  stays_swapped j a f e n (inl same) =
+      let is_replaced : m ≡ a = sym is ∙ ap (w.main t) same ∙ e.stood in
+      absurd (none≢pending n (ap (w.prev t) (sym is_replaced) ∙ pend))
+  stays_swapped j a f e n (inr apart) = e.main.elsewhere i apart
 
-stays_put_back : (w : Words) (t : ℕ) (j x q i m p : Ref) → PutsBack w t j x q → w.prev t x ≡ over.Failed q → w.prev t m ≡ over.Pending p → w.main t i ≡ m →
-    (i ≡ j) ⊎ (i ≡ j → ⊥) → w.main (suc t) i ≡ w.main t i
-stays_put_back w t j x q i m p e failed pend is (inl same) =
-    let is_failed : m ≡ x = sym is ∙ ap (w.main t) same ∙ e.stood in
-    absurd (pending≢failed pend (ap (w.prev t) is_failed ∙ failed))
-stays_put_back w t j x q i m p e failed pend is (inr apart) = e.main.elsewhere i apart
+  stays_put_back : (j x q : Ref) → PutsBack w t j x q → w.prev t x ≡ over.Failed q → (i ≡ j) ⊎ (i ≡ j → ⊥) → w.main (suc t) i ≡ w.main t i
+  stays_put_back j x q e failed (inl same) =
+      let is_failed : m ≡ x = sym is ∙ ap (w.main t) same ∙ e.stood in
+      absurd (pending≢failed pend (ap (w.prev t) is_failed ∙ failed))
+  stays_put_back j x q e failed (inr apart) = e.main.elsewhere i apart
 
-word_kept : (w : Words) (t : ℕ) → Effect w t → (i m p : Ref) → w.link t i ≡ true → w.main t i ≡ m → w.prev t m ≡ over.Pending p → w.main (suc t) i ≡ w.main t i
-word_kept w t (Nothing e) i m p l is pend = e.main i
-word_kept w t (Made n e s) i m p l is pend = stays_made w t n i e l (cases_eq i n)
-word_kept w t (SwappedIn j a f k e x d) i m p l is pend = stays_swapped w t j a f i m p e d.none pend is (cases_eq i j)
-word_kept w t (PutBack j x q k e failed s) i m p l is pend = stays_put_back w t j x q i m p e failed pend is (cases_eq i j)
-word_kept w t (Committed x q e) i m p l is pend = e.main i
-word_kept w t (Failed x q e) i m p l is pend = e.main i
+  word_kept : Effect w t → w.link t i ≡ true → w.main (suc t) i ≡ w.main t i
+  word_kept (Nothing e) l = e.main i
+  word_kept (Made n e s) l = stays_made w t n i e l (cases_eq i n)
+  word_kept (SwappedIn j a f k e x d) l = stays_swapped j a f e d.none (cases_eq i j)
+  word_kept (PutBack j x q k e failed s) l = stays_put_back j x q e failed (cases_eq i j)
+  word_kept (Committed x q e) l = e.main i
+  word_kept (Failed x q e) l = e.main i
 
 pub word_stays : (w : Words) (t : ℕ) → Effect w t → (i m p : Ref) → w.link t i ≡ true → w.main t i ≡ m → w.prev t m ≡ over.Pending p → w.main (suc t) i ≡ m
-word_stays w t e i m p l is pend = word_kept w t e i m p l is pend ∙ is
+word_stays w t e i m p l is pend = word_kept w t i m p is pend e l ∙ is
 
 -- ---- each pending node has an owner
 

@@ -2,9 +2,9 @@
 use Rattle.std.proofs.Common.{◌≡◌, ℕ, zero, suc, ◌+◌, ◌<◌, ◌≤◌, Bool, false, List, [], ◌∷◌, ◌++◌, take, drop, Option, Some, None, refl, subst, arith}
 use Rattle.std.specs.List.{flat_map}
 use Rattle.std.proofs.lemmas.Option.{none-some}
-use Rattle.proof_core.specs.Vocabulary.{Ref}
+use Rattle.proof_core.specs.Vocabulary.{Ref, at_place}
 use Rattle.proof_core.specs.Beneath.ctrie_base.proofs.Sorting.{Rises}
-use Rattle.proof_core.specs.Beneath.proof_contents.specs.Nodes.Branches.{at_place, standing}
+use Rattle.proof_core.specs.Beneath.proof_contents.specs.Nodes.Branches.{standing}
 use Rattle.proof_core.specs.Beneath.proof_contents.proofs.Nodes.Branches.{before}
 use Rattle.proof_core.specs.Beneath.proof_contents.proofs.Pairs.Lists.{EachKey, Pairs, each-append, each-weaker}
 

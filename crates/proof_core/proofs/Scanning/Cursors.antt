@@ -6,12 +6,11 @@ use Rattle.std.proofs.lemmas.List.{take-append-drop}
 use Rattle.std.proofs.lemmas.List.Concat.{flat_map-append}
 use Rattle.std.proofs.lemmas.List.Elements.{filter-append}
 use Rattle.arrayvec.specs.ArrayVec.{ArrayVec}
-use Rattle.proof_core.specs.Vocabulary.{hash_of, position_of, HashKind, by_key, flag_of, has_flag, index_in, list_depth, Branch, Tomb, List as Listed, Ref, Heap}
-use Rattle.proof_core.specs.Beneath.proof_contents.specs.Nodes.Branches.{HasPlaces, standing}
+use Rattle.proof_core.specs.Vocabulary.{hash_of, position_of, HashKind, by_key, flag_of, has_flag, index_in, list_depth, Branch, Tomb, List as Listed, Ref, Heap, HasPlaces, path_to}
+use Rattle.proof_core.specs.Beneath.proof_contents.specs.Nodes.Branches.{standing}
 use Rattle.proof_core.specs.Beneath.proof_contents.proofs.Nodes.Branches.{before, flagged, position-before, unflagged}
 use Rattle.proof_core.specs.Beneath.proof_contents.proofs.Nodes.Tombs.{before-lt}
 use Rattle.proof_core.specs.Beneath.proof_contents.proofs.Pairs.Lists.{EachKey, Pairs, each-weaker}
-use Rattle.proof_core.specs.Beneath.proof_shape.specs.Sites.Nodes.{path_to}
 use Rattle.proof_core.specs.Beneath.proof_shape.proofs.Sites.Ways.{path_again, path_fits}
 use Rattle.proof_core.specs.Reading.{is_after}
 use Rattle.proof_core.specs.Scanning.{IsMainPlaced, IsPlaced, is_behind, walked, walked_in}

@@ -3,10 +3,9 @@ use Rattle.std.proofs.Common.{◌≡◌, ◌≢◌, ℕ, zero, suc, ◌+◌, ◌
 use Rattle.std.proofs.Common.{refl, sym, ap, ◌∙◌, arith, eq-eqb, ne_eqb, add_comm, pow_pos}
 use Rattle.std.proofs.lemmas.Bool.Decides.{nat_tests}
 use Rattle.std.proofs.lemmas.Nat.{mod-mul-add}
-use Rattle.proof_core.specs.Vocabulary.{HashKind, hash_of, comes_before, index_in, list_depth}
+use Rattle.proof_core.specs.Vocabulary.{HashKind, hash_of, comes_before, index_in, list_depth, path_to}
 use Rattle.proof_core.specs.Beneath.ctrie_base.proofs.Sorting.{IsOrder}
 use Rattle.proof_core.specs.Beneath.proof_contents.proofs.Changes.Repairs.{same_factor}
-use Rattle.proof_core.specs.Beneath.proof_shape.specs.Sites.Nodes.{path_to}
 use Rattle.proof_core.specs.Beneath.proof_shape.proofs.Sites.Ways.{path_fits, path_parts, path_shorter}
 use Rattle.proof_core.specs.Scanning.{by_indices, scan_order}
 

@@ -1,29 +1,21 @@
 -- In each state of a run what a handle's root reaches stands where the hashes of the keys lead.
 use Rattle.std.proofs.Common.{◌≡◌, ℕ, zero, suc, ◌+◌, ◌*◌, ◌^◌, List, [], ◌∷◌, Contains, Some, refl, sym, ap, ap₂, subst, ◌∙◌, arith}
 use Rattle.proof_core.specs.Vocabulary.{hash_of, HashKind, Root, Bounds, Step, IsReached, most_levels, refs_of_root, node_under, KeysFit, AreBounds, run as run_of, State, root_at, root_of, IsRun}
-use Rattle.proof_core.specs.Vocabulary.{last_of, states_of, Node, Branch, Indirection, Single, Tomb, List as Listed, Ref, Heap, entries_of, logical_main, no_ref, node_at}
+use Rattle.proof_core.specs.Vocabulary.{Node, Branch, Indirection, Single, Tomb, List as Listed, Ref, Heap, entries_of, logical_main, no_ref, node_at, ReachesInUse, at_place}
+use Rattle.proof_core.specs.Vocabulary.{AreSingles, look_among, look_at, or_else, counting_main, IsShaped, Trie, branch, list, tomb, StepsFit, TakesSteps, bare, path_to, IsOfRun}
 use Rattle.proof_core.specs.Beneath.machine_model.specs.Contents.{from_root}
 use Rattle.proof_core.specs.Beneath.machine_model.proofs.Times.{run_ends, run_is}
-use Rattle.proof_core.specs.Beneath.proof_contents.specs.InUse.{ReachesInUse}
-use Rattle.proof_core.specs.Beneath.proof_contents.specs.Nodes.Branches.{at_place}
-use Rattle.proof_core.specs.Beneath.proof_contents.specs.Nodes.Lists.{AreSingles}
-use Rattle.proof_core.specs.Beneath.proof_contents.specs.Nodes.Looking.{look_among, look_at, or_else}
-use Rattle.proof_core.specs.Beneath.proof_contents.specs.Runs.{counting_main}
 use Rattle.proof_core.specs.Beneath.proof_contents.specs.Steps.{IsTrie}
-use Rattle.proof_core.specs.Beneath.proof_contents.specs.Tries.{IsShaped, Trie, branch, list, tomb}
 use Rattle.proof_core.specs.Beneath.proof_contents.proofs.Pairs.Heap as pairs
 use Rattle.proof_core.specs.Beneath.proof_contents.proofs.Pairs.Heap.{word_root as names_root}
 use Rattle.proof_core.specs.Beneath.proof_contents.proofs.Values.Runs.{counting_main-last}
 use Rattle.proof_core.specs.Beneath.proof_generations.proofs.Lines.ReaderKnows.{indirection_is}
-use Rattle.proof_core.specs.Beneath.proof_shape.specs.Sites.At.{StepsFit, TakesSteps}
-use Rattle.proof_core.specs.Beneath.proof_shape.specs.Sites.Lines.{bare}
-use Rattle.proof_core.specs.Beneath.proof_shape.specs.Sites.Nodes.{path_to, steps_of}
+use Rattle.proof_core.specs.Beneath.proof_shape.specs.Sites.Nodes.{steps_of}
 use Rattle.proof_core.specs.Beneath.proof_shape.proofs.Shaped.KeysOnce as once
 use Rattle.proof_core.specs.Beneath.proof_shape.proofs.Shaped.Looking.{stands_there}
 use Rattle.proof_core.specs.Beneath.proof_shape.proofs.Shaped.Places.{bare_branch, bare_list, bare_single, bare_tomb}
 use Rattle.proof_core.specs.Beneath.proof_shape.proofs.Sites.Fixed.{keys_fit}
 use Rattle.proof_core.specs.Beneath.proof_shape.proofs.Sites.Stepped.{takes_steps}
-use Rattle.proof_straight.specs.Resting.{IsOfRun}
 use Rattle.proof_core.specs.Scanning.{IsEntryPlaced, IsMainPlaced, IsPlaced}
 use Rattle.proof_core.proofs.Scanning.Order.{path_joins}
 

@@ -4,10 +4,9 @@ use Rattle.std.specs.List.{flat_map}
 use Rattle.std.specs.Option.{IsSome}
 use Rattle.std.proofs.lemmas.List.Sums.{sum_by-append}
 use Rattle.proof_core.specs.Vocabulary.{sorted_by, Root, content_at, most_levels, pairs_at, pairs_below, comes_before, State, root_at, root_of, word_at, word_of, Node, Branch, Indirection, Single}
-use Rattle.proof_core.specs.Vocabulary.{Tomb, List as Listed, Ref, Heap, entries_of, logical_main, node_at}
+use Rattle.proof_core.specs.Vocabulary.{Tomb, List as Listed, Ref, Heap, entries_of, logical_main, node_at, IsOfRun}
 use Rattle.proof_core.specs.Beneath.ctrie_base.proofs.Sorting.{Alike, Rises, same_rising, sorted_alike, sorted_rises}
 use Rattle.proof_core.specs.Beneath.proof_contents.proofs.Pairs.Lists.{Pairs}
-use Rattle.proof_straight.specs.Resting.{IsOfRun}
 use Rattle.proof_core.specs.Scanning.{scan_order, walked, walked_at, walked_in}
 use Rattle.proof_core.proofs.Scanning.Order.{pairs_order, scan_is_order}
 use Rattle.proof_core.proofs.Scanning.Placed.{placed}

@@ -8,12 +8,10 @@ use Rattle.std.proofs.lemmas.List.{get_or_past}
 use Rattle.std.proofs.lemmas.Option.{none-some}
 use Rattle.arrayvec.specs.ArrayVec.{ArrayVec}
 use Rattle.proof_core.specs.Vocabulary.{hash_of, HashKind, by_key, comes_before, index_in, list_depth, Node, Branch, Indirection, Single, Tomb, List as Listed, Ref, Heap, logical_main, node_at}
+use Rattle.proof_core.specs.Vocabulary.{at_place, AreSingles, Absent, Has, look_among, look_at, or_else, path_to}
 use Rattle.proof_core.specs.Beneath.ctrie_base.proofs.Sorting.{Rises, sorted_rises}
-use Rattle.proof_core.specs.Beneath.proof_contents.specs.Nodes.Branches.{at_place, standing}
-use Rattle.proof_core.specs.Beneath.proof_contents.specs.Nodes.Lists.{AreSingles}
-use Rattle.proof_core.specs.Beneath.proof_contents.specs.Nodes.Looking.{Absent, Has, look_among, look_at, or_else}
+use Rattle.proof_core.specs.Beneath.proof_contents.specs.Nodes.Branches.{standing}
 use Rattle.proof_core.specs.Beneath.proof_contents.proofs.Pairs.Lists.{EachKey, Pairs, by_key_each, each-append, each-weaker}
-use Rattle.proof_core.specs.Beneath.proof_shape.specs.Sites.Nodes.{path_to}
 use Rattle.proof_core.specs.Beneath.proof_shape.proofs.Sites.Ways.{path_again}
 use Rattle.proof_core.specs.Scanning.{IsEntryPlaced, IsMainPlaced, IsPlaced, scan_order, walked, walked_at, walked_in}
 use Rattle.proof_core.proofs.Scanning.Branches.{From, StandApart, from_first, standing_rises}

@@ -8,7 +8,7 @@ use Rattle.proof_generations.specs.Vocabulary.{node_of, with_main, with_prev, wr
 use Rattle.proof_generations.specs.Vocabulary.{Line, After, Gives, RootLine, root_after, is_carried_out, State, first_state, operation_of, word_at, turns, IsRun, Turn, start_of, Verdict, Commits}
 use Rattle.proof_generations.specs.Vocabulary.{Fails, Overtaken, verdict, action_of, generation_from, given_root, acted, aborted, offered, completed, decided, new_root_taken, if_changed}
 use Rattle.proof_generations.specs.Vocabulary.{operation_after, with_begin, pin_of, reclaimer_of, Begins, Ends, Sweeps, GivesUp, Moves, begun_operation, step_of, Record, closed_by, noted, Carried}
-use Rattle.proof_generations.specs.Vocabulary.{carried_by, told_in}
+use Rattle.proof_generations.specs.Vocabulary.{carried_by, told_in, made_node, IsInUse}
 use Rattle.proof_generations.specs.Beneath.slot_arena.specs.declared.nodes.Prev.TheVariants as prev
 use Rattle.proof_generations.specs.Beneath.machine_model.specs.declared.actions.Action.TheVariants as act
 use Rattle.proof_generations.specs.Beneath.machine_model.specs.declared.lines.Line.TheVariants as line
@@ -22,10 +22,8 @@ use Rattle.proof_generations.specs.Running.{Runs}
 use Rattle.proof_generations.specs.Beneath.machine_model.specs.Moves.{Goes}
 use Rattle.proof_generations.specs.Beneath.machine_model.proofs.HeapMoves.{aborted_heap, offered_heap, completed_heap}
 use Rattle.proof_generations.specs.Beneath.machine_model.proofs.Found.{found_elsewhere, found_here, none_found}
-use Rattle.proof_generations.specs.Beneath.proof_memory.specs.Making.{made_node}
 use Rattle.proof_generations.specs.Beneath.proof_memory.proofs.Safety.States.{IsSafe}
 use Rattle.proof_generations.specs.Beneath.proof_memory.proofs.Safety.AtTimes.{line_finds}
-use Rattle.proof_generations.specs.Beneath.proof_memory.specs.Laws.{IsInUse}
 use Rattle.proof_generations.proofs.Counter.Made.{MadeOf, plain, started, drawn, made_of}
 use Rattle.proof_generations.proofs.Counter.Drawn.{counter_rises, taken_list, generation_kept, first_list}
 use Rattle.proof_generations.specs.Beneath.machine_model.proofs.Notes.{noted_going, noted_ending}

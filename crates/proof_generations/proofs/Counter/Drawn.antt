@@ -4,13 +4,11 @@ use Rattle.std.proofs.lemmas.Bool.{cases_eq}
 use Rattle.std.proofs.lemmas.Option.{none-some, same_Some}
 use Rattle.proof_generations.specs.Vocabulary.{ref_to, Ref, Node, Indirection, Slot, Heap, taken, take_from, generation_of, node_of, with_main_word, next_ref, empty_branch, Action, Operation}
 use Rattle.proof_generations.specs.Vocabulary.{Descriptor, Bounds, Outcome, Step, handle_of, State, first_heap, empty_heap, operation_of, action_of, acted, aborted, offered, completed}
-use Rattle.proof_generations.specs.Vocabulary.{new_root_taken, with_begin, Begins, Ends, Sweeps, GivesUp, Moves, begun_operation, IsRun, grown, node_under}
+use Rattle.proof_generations.specs.Vocabulary.{new_root_taken, with_begin, Begins, Ends, Sweeps, GivesUp, Moves, begun_operation, IsRun, grown, node_under, SameNode, made_node}
 use Rattle.proof_generations.specs.Beneath.slot_arena.specs.declared.nodes.Prev.TheVariants as prev
 use Rattle.proof_generations.specs.Beneath.machine_model.specs.declared.actions.Action.TheVariants as act
 use Rattle.proof_generations.specs.Beneath.machine_model.specs.Moves.{Goes}
 use Rattle.proof_generations.specs.Beneath.machine_model.proofs.Found.{found_elsewhere, found_here, none_found}
-use Rattle.proof_generations.specs.Beneath.proof_memory.specs.Laws.{SameNode}
-use Rattle.proof_generations.specs.Beneath.proof_memory.specs.Making.{made_node}
 use Rattle.proof_generations.specs.Beneath.proof_memory.proofs.Heap.Moves.{WordMove, keeps, makes, publishes, restores, commits, fails, grown_stays}
 
 -- ---- the counter

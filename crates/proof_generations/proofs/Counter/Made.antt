@@ -4,7 +4,7 @@ use Rattle.std.proofs.lemmas.Bool.{false≢true, cond_both}
 use Rattle.std.proofs.lemmas.Option.{none-some, same_Some}
 use Rattle.proof_generations.specs.Vocabulary.{HashKind, Ref, Node, Indirection, Branch, List as Listed, node_at, generation_of, list_depth, pair, contracted, Action, Change, BuildLine, CopyLine}
 use Rattle.proof_generations.specs.Vocabulary.{KeyLine, Line, Operation, ReadLine, Swap, Purpose, CleanLine, ClimbLine, RenewLine, Complete, RootLine, WalkLine, State, start_of, flag_in}
-use Rattle.proof_generations.specs.Vocabulary.{read_action, complete_action, changed, line_action}
+use Rattle.proof_generations.specs.Vocabulary.{read_action, complete_action, changed, line_action, BranchOrList, meets, AllHold, line_wants, made_node}
 use Rattle.proof_generations.specs.Beneath.machine_model.specs.declared.actions.Action.TheVariants as act
 use Rattle.proof_generations.specs.Beneath.machine_model.specs.declared.building.Change.TheVariants as change
 use Rattle.proof_generations.specs.Beneath.machine_model.specs.declared.building.BuildLine.TheVariants as build
@@ -13,9 +13,8 @@ use Rattle.proof_generations.specs.Beneath.machine_model.specs.declared.lines.Li
 use Rattle.proof_generations.specs.Beneath.machine_model.specs.declared.repairs.CleanLine.TheVariants as clean
 use Rattle.proof_generations.specs.Beneath.machine_model.specs.declared.repairs.ClimbLine.TheVariants as climb
 use Rattle.proof_generations.specs.Beneath.machine_model.specs.declared.repairs.RenewLine.TheVariants as renew
-use Rattle.proof_generations.specs.Beneath.proof_memory.specs.Wants.{BranchOrList, meets, AllHold, line_wants}
 use Rattle.proof_generations.specs.Beneath.proof_memory.proofs.Claims.Uses.{meets_of}
-use Rattle.proof_generations.specs.Beneath.proof_memory.specs.Making.{made_node}
+use Rattle.proof_generations.specs.Beneath.proof_memory.proofs.Claims.Named.{main_claim}
 
 -- what is made is no indirection, or of the start generation, or a root of the generation that is drawn
 pub data MadeOf (state : State) (operation : Operation) (action : Action) (node : Node) : Type 0 where
@@ -77,7 +76,7 @@ module _ (state : State) (operation : Operation) (S : Ref → Type 0) where
   build_made (build.Pair path main position single depth) h made e = plain_is _ _ made (pair_plain _ depth _ _ _ single) e
   build_made (build.Link path main position below depth) h made e = start_is _ _ made refl e
   build_made (build.Rung path main position below depth) h made e = plain_is _ _ made refl e
-  build_made (build.Main path main c former) h made e = plain_is _ _ made (changed_plain (flag_in state operation path) (node_at state.heap main) c (meets_of h.1.1.0)) e
+  build_made (build.Main path main c former) h made e = plain_is _ _ made (changed_plain (flag_in state operation path) (node_at state.heap main) c (meets_of (main_claim h))) e
 
   renew_made : (l : RenewLine) (made : Node) → made_node state (line_action state operation (line.Renew l)) ≡ Some made → Of (line.Renew l) made
   renew_made (renew.Entry path main done) made e = absurd (none-some made e)

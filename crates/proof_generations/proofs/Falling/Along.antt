@@ -6,10 +6,9 @@ use Rattle.std.proofs.lemmas.Option.{none-some}
 use Rattle.std.proofs.lemmas.List.Elements.{All-nil}
 use Rattle.proof_generations.specs.Vocabulary.{Access, Writable, ReadOnly, next_ref, action_of, generation_from, GoesOn, ref_to, slot_of, Ref, Indirection, Slot, taken, stored, entries_of}
 use Rattle.proof_generations.specs.Vocabulary.{empty_branch, Line, Operation, Bounds, Outcome, Step, State, first_state, first_heap, empty_heap, operation_after, Moves, turns, noted_turn, IsRun}
-use Rattle.proof_generations.specs.Vocabulary.{Turn, standing, grown, node_under, Record, noted, moment_at, noted_progress, told_in, progress_of}
+use Rattle.proof_generations.specs.Vocabulary.{Turn, standing, grown, node_under, Record, noted, moment_at, noted_progress, told_in, progress_of, made_node}
 use Rattle.proof_generations.specs.Beneath.machine_model.specs.declared.actions.Action.TheVariants as act
 use Rattle.proof_generations.specs.Beneath.machine_model.specs.declared.steps.Step.TheVariants as step
-use Rattle.proof_generations.specs.Beneath.proof_memory.specs.Making.{made_node}
 use Rattle.proof_generations.proofs.Lines.OwnKnows.{inner_generation}
 use Rattle.proof_generations.proofs.Falling.NewLinks.{makes_inner, reader_makes, made_root}
 use Rattle.proof_generations.proofs.Falling.Runs.{Ends, Shut, LateEnd}

@@ -1,7 +1,7 @@
 -- What a step brings into a word: the main node of an indirection that it makes, or what an operation swaps in there.
 use Rattle.std.proofs.Common.{◌≡◌, ℕ, suc, ◌<◌, ◌⊎◌, true, false, inl, inr, refl, sym, ap, ◌∙◌, subst, arith}
-use Rattle.proof_generations.specs.Vocabulary.{Ref}
-use Rattle.proof_commits.specs.Protocol.{Words, Leaves, Stage, Publishes, Moves, Idles, MakesNode, SwapsNode, ReadsOn, DecidesOn, Turn, Acts, Passes, Protocol}
+use Rattle.proof_generations.specs.Vocabulary.{Ref, Words, Stage, Publishes, Idles, SwapsNode, DecidesOn, Protocol}
+use Rattle.proof_commits.specs.Protocol.{Leaves, Moves, MakesNode, ReadsOn, Turn, Acts, Passes}
 use Rattle.proof_commits.proofs.Words.Stood.{Stood}
 use Rattle.proof_commits.proofs.Words.Effects.{Nothing, Brings, comes}
 use Rattle.proof_commits.proofs.Known.Owners.{Staged, IsSound, effect_of, read_brings}

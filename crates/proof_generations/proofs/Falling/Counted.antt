@@ -1,7 +1,6 @@
 -- Every indirection that was made so far, and every generation that was opened, is below the counter; the generation that is drawn next isn't opened by the step that draws it.
 use Rattle.std.proofs.Common.{◌≡◌, ℕ, zero, suc, ◌<◌, ◌≤◌, Bool, Option, Some, None, refl, arith}
-use Rattle.proof_generations.specs.Vocabulary.{Ref, Slot, Operation, Bounds, State, operation_of, root_of, turns, IsRun, Turn, standing, grown, or_before}
-use Rattle.proof_generations.specs.Beneath.proof_memory.specs.Laws.{IsInUse}
+use Rattle.proof_generations.specs.Vocabulary.{Ref, Slot, Operation, Bounds, State, operation_of, root_of, turns, IsRun, Turn, standing, grown, or_before, IsInUse}
 use Rattle.proof_generations.specs.Beneath.proof_memory.proofs.Safety.AtEachTime.{safe_at}
 use Rattle.proof_generations.specs.Beneath.proof_memory.proofs.Safety.AtTimes.{line_finds}
 use Rattle.proof_commits.proofs.Course.Finals.{from_time}

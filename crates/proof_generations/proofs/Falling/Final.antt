@@ -2,7 +2,8 @@
 use Rattle.std.proofs.Common.{◌≡◌, ℕ, suc, ◌<◌, ◌≤◌, true, Some, inl, inr, refl, sym, ap, ◌∙◌, subst, arith}
 use Rattle.std.proofs.lemmas.Option.{none-some, same_Some}
 use Rattle.proof_generations.specs.Vocabulary.{Access, Writable, ReadOnly, Ref, KeyLine, Line, Operation, Read, CleanLine, RenewLine, Bounds, WalkLine, handle_of, State, word_at, read_of, action_of}
-use Rattle.proof_generations.specs.Vocabulary.{read_after, IsRun, grown, main_before, moment_after, moment_at, noted_progress, Moment, GoesOn, is_actor, progress_of}
+use Rattle.proof_generations.specs.Vocabulary.{read_after, IsRun, grown, main_before, moment_after, moment_at, noted_progress, Moment, GoesOn, is_actor, progress_of, IsMoment, stage_of, Reads}
+use Rattle.proof_generations.specs.Vocabulary.{counting_main, ReadsBelow}
 use Rattle.proof_generations.specs.Beneath.machine_model.specs.declared.finding.KeyLine.TheVariants as key
 use Rattle.proof_generations.specs.Beneath.machine_model.specs.declared.lines.Line.TheVariants as line
 use Rattle.proof_generations.specs.Beneath.machine_model.specs.declared.repairs.CleanLine.TheVariants as clean
@@ -11,12 +12,8 @@ use Rattle.proof_generations.specs.Beneath.machine_model.specs.declared.roots.Ro
 use Rattle.proof_generations.specs.Beneath.machine_model.specs.declared.walking.WalkLine.TheVariants as walk
 use Rattle.proof_commits.proofs.Course.Finals.{link_stays}
 use Rattle.proof_commits.proofs.Course.Readings.{given_for_good}
-use Rattle.proof_commits.specs.Moments.{IsMoment}
-use Rattle.proof_commits.specs.Stages.{stage_of}
 use Rattle.proof_commits.proofs.Lines.Swap.{reads_stage}
-use Rattle.proof_commits.specs.Protocol.{Reads}
 use Rattle.proof_contents.proofs.Values.Runs.{counting_main-made}
-use Rattle.proof_contents.specs.Runs.{counting_main}
 use Rattle.proof_generations.specs.Falling.{ClosedBeforeRead, ReadsClosed, IsLate, GivesAt, GivenForEver, RepairsAreGiven}
 use Rattle.proof_generations.proofs.Falling.KnownRoots.{words, known, protocol_of}
 use Rattle.proof_generations.proofs.Falling.Opened.{closed_until}
@@ -25,7 +22,6 @@ use Rattle.proof_generations.proofs.Lines.Reader.{KnowsReader, ReaderKey, Reader
 use Rattle.proof_generations.proofs.Falling.ReadsGive.{late_after, reads_goes}
 use Rattle.proof_generations.proofs.Falling.Runs.{gen_of, IsOwn, FitsBelow, FallsBelow, LateBelow, Ends, Shut, LateEnd, KnowsGenerations}
 use Rattle.proof_generations.proofs.Falling.OwnSwaps.{knows_at}
-use Rattle.proof_contents.specs.Lines.Repairs.{ReadsBelow}
 use Rattle.proof_commits.proofs.Words.OfRuns.{link_made}
 use Rattle.proof_commits.proofs.Course.OfLists.{given_read}
 use Rattle.proof_generations.specs.Beneath.machine_model.proofs.Notes.{noted_going}
@@ -165,9 +161,9 @@ module _ {limits : Bounds} {states : ℕ → State} {last : ℕ} (run : IsRun li
         let late = closed_before_read t (omega arith) actor operation g.read g.runs g.reads (subst (λ j. ReadsClosed operation (gen_of states last j)) (sym g.of) closed) in
         let (c, before, is, since) = subst (λ j. IsLate run.records t (moment_at (run.records t) actor) g.read (gen_of states last j)) g.of late in
         counts_in_trie u within i m (link_from u after within)
-        (given_for_good (protocol_of run) i m now_read.read_at now_read.moment t c lt moment
+        (given_for_good (protocol_of run) i m now_read.read_at now_read.moment t c moment
         (closed_until run t last (omega arith) (omega arith) (gen_of states last i) c is)
-        (late_after run t lt actor operation g.runs g.read own_stage noted own c before since) u after within)
+        (late_after run t lt actor operation g.runs g.read own_stage noted own c before since) lt u after within)
 
     once : (now_read.moment ≤ t) × (counting_main states last (suc now_read.moment) i ≡ m)
     once = (

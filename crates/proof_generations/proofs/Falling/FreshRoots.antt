@@ -1,12 +1,10 @@
 -- The fresh roots that an operation is to offer: while it is to offer them none is swapped into, and no other indirection has their generation.
-use Rattle.std.proofs.Common.{◌≡◌, ℕ, suc, ◌<◌, ◌≤◌, ◌⊎◌, Bool, true, false, [], Option, Some, None, inl, inr, refl, sym, ap, ◌∙◌, subst, arith}
+use Rattle.std.proofs.Common.{◌≡◌, ℕ, suc, ◌<◌, ◌≤◌, ◌⊎◌, Bool, true, false, Option, Some, None, inl, inr, refl, sym, ap, ◌∙◌, subst, arith}
 use Rattle.std.proofs.lemmas.Bool.{true≢false}
 use Rattle.std.proofs.lemmas.Option.{none-some, same_Some}
-use Rattle.std.proofs.lemmas.List.Elements.{All-head}
-use Rattle.proof_generations.specs.Vocabulary.{Writable, Indirection, Slot, Outcome, handle_of, action_of, Moves, GoesOn, main_word, Ref, Heap, node_at, node_of, generation_at, main_of, next_ref}
-use Rattle.proof_generations.specs.Vocabulary.{refs_of_option, Line, Operation, CompleteLine, Descriptor, Bounds, State, IsRun, grown, Record, noted_progress, progress_of}
+use Rattle.proof_generations.specs.Vocabulary.{Writable, Indirection, Slot, Outcome, handle_of, action_of, Moves, GoesOn, main_word, Ref, node_at, node_of, generation_at, main_of, next_ref}
+use Rattle.proof_generations.specs.Vocabulary.{Operation, Bounds, State, IsRun, grown, Record, noted_progress, progress_of, made_node, IsInUse}
 use Rattle.proof_generations.specs.Beneath.machine_model.specs.declared.steps.Step.TheVariants as step
-use Rattle.proof_generations.specs.Beneath.proof_memory.specs.Making.{made_node}
 use Rattle.proof_generations.specs.Beneath.proof_memory.proofs.Heap.Moves.{not_yet_drawn}
 use Rattle.proof_commits.proofs.Known.Sounds.{sound_at}
 use Rattle.proof_generations.proofs.Falling.Nodes.{link_used, told_generation}
@@ -15,19 +13,15 @@ use Rattle.proof_generations.proofs.Falling.Runs.{MainsFall}
 use Rattle.proof_generations.proofs.Falling.Counted.{made_below, start_below}
 use Rattle.proof_generations.proofs.Lines.OwnKnows.{new_used}
 use Rattle.proof_generations.specs.Beneath.machine_model.specs.declared.actions.Action.TheVariants as act
-use Rattle.proof_generations.specs.Beneath.machine_model.specs.declared.copying.CopyLine.TheVariants as copy
-use Rattle.proof_generations.specs.Beneath.machine_model.specs.declared.lines.Line.TheVariants as line
-use Rattle.proof_generations.specs.Beneath.machine_model.specs.declared.roots.CompleteLine.TheVariants as complete
-use Rattle.proof_generations.specs.Beneath.proof_memory.specs.Laws.{IsInUse}
-use Rattle.proof_generations.specs.Beneath.proof_memory.specs.Wants.{AnIndirection, Is, Each, Holds, AllHold, line_wants, complete_wants, offer_wants, is_indirection}
+use Rattle.proof_generations.specs.Beneath.proof_memory.specs.Wants.{is_indirection}
 use Rattle.proof_generations.specs.Beneath.proof_memory.proofs.Safety.AtEachTime.{safe_at}
 use Rattle.proof_generations.specs.Beneath.proof_memory.proofs.Safety.AtTimes.{line_finds, node_found}
-use Rattle.proof_generations.specs.Beneath.proof_memory.proofs.Claims.Uses.{Meets, all_of, safe_of, meets_of, from_meets}
+use Rattle.proof_generations.specs.Beneath.proof_memory.proofs.Claims.Uses.{safe_of, meets_of}
 use Rattle.proof_commits.proofs.Words.Stood.{Stood}
 use Rattle.proof_generations.proofs.Counter.Below.{below_at, looked_up_below}
 use Rattle.proof_generations.proofs.Roots.Own.{IsUnused}
 use Rattle.proof_generations.proofs.Roots.Along.{ordered_at}
-use Rattle.proof_generations.proofs.Roots.Kept.{fresh_in, fresh_of}
+use Rattle.proof_generations.proofs.Roots.Kept.{fresh_in, fresh_link}
 use Rattle.proof_generations.specs.Running.{Runs}
 use Rattle.proof_generations.proofs.Falling.KnownRoots.{words, protocol_of}
 use Rattle.proof_generations.proofs.Falling.Nodes.{used_generation}
@@ -40,29 +34,6 @@ use Rattle.proof_generations.proofs.Lines.ReaderKnows.{indirection_is}
 use Rattle.proof_generations.specs.Standing.{IsRooted}
 use Rattle.proof_generations.proofs.Roots.Rooted.{standing_root}
 
--- ---- a fresh root is an indirection
-
-module _ (S : Ref → Type 0) (heap : Heap) where
-  offer_link : (offer : Descriptor) → AllHold S heap (offer_wants offer) → (x : Bool) (r : Ref) → fresh_of x offer ≡ Some r → Holds S heap (Is r AnIndirection)
-  offer_link offer h true r e = subst (λ q. Holds S heap (Is q AnIndirection)) (same_Some _ _ e) h.1.1.0
-  offer_link offer h false r e = by offer.second h.1.1.1.0 e
-    where
-      by : (second : Option Ref) → Holds S heap (Each (refs_of_option second) AnIndirection) → second ≡ Some r → Holds S heap (Is r AnIndirection)
-      by None h e = absurd (none-some r e)
-      by (Some q) h e = subst (λ p. Holds S heap (Is p AnIndirection)) (same_Some _ _ e) (from_meets q (All-head (Meets S heap AnIndirection) q [] (all_of h)))
-
-  complete_link : (offer : Descriptor) (l : CompleteLine) → AllHold S heap (complete_wants offer l) → (x : Bool) (r : Ref) → fresh_of x offer ≡ Some r → Holds S heap (Is r AnIndirection)
-  complete_link offer (complete.Reading l) h = offer_link offer (h.0, (h.1.0, (h.1.1.0, (h.1.1.1.0, tt))))
-  complete_link offer (complete.Swap main) h = offer_link offer (h.0, (h.1.0, (h.1.1.0, (h.1.1.1.0, tt))))
-
-  fresh_link : (state : State) (operation : Operation) (l : Line) → AllHold S heap (line_wants state.limits.hash operation.call operation.access l) →
-      (x : Bool) (r : Ref) → fresh_in x l ≡ Some r → Holds S heap (Is r AnIndirection)
-  fresh_link state operation (line.Copy (copy.Second root main successor)) h true r e = subst (λ q. Holds S heap (Is q AnIndirection)) (same_Some _ _ e) h.1.1.0
-  fresh_link state operation (line.Copy (copy.Second root main successor)) h false r e = absurd (none-some r e)
-  fresh_link state operation (line.Copy (copy.Offer offer)) h x r e = offer_link offer h x r e
-  fresh_link state operation (line.Copy (copy.Complete c)) h x r e = complete_link c.offer c.line h x r e
-  fresh_link state operation l h x r e = absurd (none-some r e)
-
 -- a generation that no root has isn't that of an operation
 pub not_rooted : (states : ℕ → State) (records : ℕ → Record) (t handle g : ℕ) → IsUnused (states t) (records t) g → IsRooted states records t handle g → ⊥
 not_rooted states records t handle g u (inl on) = let (root, is, writable, its) = standing_root (states t) handle Writable g on in u.alone handle root is its
@@ -72,7 +43,7 @@ module _ {limits : Bounds} {states : ℕ → State} {last : ℕ} (run : IsRun li
   pub fresh_stands : (t : ℕ) → t ≤ last → (k : ℕ) (operation : Operation) (x : Bool) (r : Ref) → Runs (states t) k operation → fresh_in x operation.line ≡ Some r →
       (words states run.records last).link t r ≡ true
   fresh_stands t within k operation x r runs e =
-      let claim = fresh_link (IsInUse (states t).heap) (states t).heap (states t) operation operation.line
+      let claim = fresh_link (IsInUse (states t).heap) (states t) operation operation.line
       (line_finds (states t) (safe_at run t within) (suc k) operation runs) x r e in
       let (h, word, is) = indirection_is (node_at (states t).heap r) (meets_of claim) in
       ap is_indirection (sym (node_found states t r (safe_of claim)) ∙ is)

@@ -2,15 +2,12 @@
 -- with the steps that close generations.
 use Rattle.std.proofs.Common.{◌≡◌, ℕ, false, Some, refl, arith}
 use Rattle.std.proofs.lemmas.Option.{none-some}
-use Rattle.proof_generations.specs.Vocabulary.{Line, Read, Bounds, State, read_of, IsRun, states_of, last_of, closed_at, Record}
+use Rattle.proof_generations.specs.Vocabulary.{Line, Read, Bounds, State, read_of, IsRun, closed_at, Record, is_end, Words, Protocol, words_of}
 use Rattle.proof_generations.specs.Beneath.machine_model.specs.declared.lines.Line.TheVariants as line
 use Rattle.proof_generations.specs.Beneath.machine_model.proofs.Times.{run_is}
-use Rattle.proof_generations.specs.Beneath.proof_memory.specs.Laws.{is_end}
 use Rattle.proof_generations.proofs.Roots.Open.{open_root}
-use Rattle.proof_commits.specs.Protocol.{Words, Protocol}
 use Rattle.proof_commits.proofs.Known.Given.{RootsAreOpen, Known}
 use Rattle.proof_commits.proofs.Known.Acts.{known_by}
-use Rattle.proof_commits.specs.Words.{words_of}
 use Rattle.proof_commits.proofs.Words.Along.{protocol}
 use Rattle.proof_commits.proofs.Course.OfLists.{RootsOfRuns}
 

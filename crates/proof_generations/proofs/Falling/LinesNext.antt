@@ -3,13 +3,12 @@ use Rattle.std.proofs.Common.{Option, ◌≡◌, ℕ, suc, ◌<◌, List, ◌∷
 use Rattle.proof_generations.specs.Vocabulary.{Writable, Call, Entries, Count, Close, Ref, Node, Indirection, Branch, Single, Tomb, List as Listed, node_at, generation_at, entries_of, Line}
 use Rattle.proof_generations.specs.Vocabulary.{Operation, After, Gives, Read, RootLine, Plain, Bounds, Outcome, Step, WalkLine, handle_of, State, root_of, word_of, word_at, read_step, root_after}
 use Rattle.proof_generations.specs.Vocabulary.{walk_after, walk_after_read, walk_next, walk_after_entry, first_of, rest_of, action_of, line_after, first_line, after_root, given_root}
-use Rattle.proof_generations.specs.Vocabulary.{generation_from, operation_after, Moves, GoesOn, begun_operation, IsRun, noted_progress, noted, moment_at, Moment, progress_of, told_in, Runs}
+use Rattle.proof_generations.specs.Vocabulary.{generation_from, operation_after, Moves, GoesOn, begun_operation, IsRun, noted_progress, noted, moment_at, Moment, progress_of, told_in, Runs, IsInUse}
 use Rattle.proof_generations.specs.Beneath.machine_model.specs.declared.lines.Line.TheVariants as line
 use Rattle.proof_generations.specs.Beneath.machine_model.specs.declared.reading.After.TheVariants.{Goes as Continues}
 use Rattle.proof_generations.specs.Beneath.machine_model.specs.declared.steps.Step.TheVariants as step
 use Rattle.proof_generations.specs.Beneath.machine_model.specs.declared.walking.WalkLine.TheVariants as walk
 use Rattle.proof_generations.specs.Beneath.machine_model.proofs.Actors.{marks_in}
-use Rattle.proof_generations.specs.Beneath.proof_memory.specs.Laws.{IsInUse}
 use Rattle.proof_generations.specs.Beneath.proof_memory.proofs.Safety.AtEachTime.{safe_at}
 use Rattle.proof_generations.specs.Beneath.proof_memory.proofs.Claims.Uses.{safe_of}
 use Rattle.proof_generations.proofs.Roots.Open.{no_close_at}

@@ -3,9 +3,8 @@ use Rattle.std.proofs.Common.{◌≡◌, ℕ, ◌==◌, Bool, true, false, List,
 use Rattle.std.specs.List.{All}
 use Rattle.std.proofs.lemmas.Bool.{cond_both, false≢true}
 use Rattle.std.proofs.lemmas.List.Elements.{All-append, All-take, All-set}
-use Rattle.proof_generations.specs.Vocabulary.{HashKind, Ref, Node, Branch, List as Listed, entries_of, list_depth, index_in, pair, contracted, by_index, Change, changed}
+use Rattle.proof_generations.specs.Vocabulary.{HashKind, Ref, Node, Branch, List as Listed, entries_of, list_depth, index_in, pair, contracted, by_index, Change, changed, BranchOrList, meets}
 use Rattle.proof_generations.specs.Beneath.machine_model.specs.declared.building.Change.TheVariants as change
-use Rattle.proof_generations.specs.Beneath.proof_memory.specs.Wants.{BranchOrList, meets}
 use Rattle.proof_generations.specs.Beneath.proof_memory.proofs.Claims.Made.{All-inserted, All-removed, by_index_all, pair_all}
 use Rattle.proof_generations.proofs.Lines.Knows.{one_of}
 

@@ -3,21 +3,16 @@ use Rattle.std.proofs.Common.{◌≡◌, ℕ, suc, ◌<◌, ◌⊎◌, false, in
 use Rattle.std.specs.List.{All}
 use Rattle.std.proofs.lemmas.List.Elements.{All-weaker}
 use Rattle.proof_generations.specs.Vocabulary.{Access, Writable, ReadOnly, Ref, generation_at, entries_of, Line, Operation, Complete, CompleteLine, Descriptor, Bounds, handle_of, State}
-use Rattle.proof_generations.specs.Vocabulary.{operation_of, IsRun, node_under, main_word, moment_at, Moment}
+use Rattle.proof_generations.specs.Vocabulary.{operation_of, IsRun, node_under, main_word, moment_at, Moment, is_end, IsInUse, AllHold, line_wants, complete_wants, Publishes, IsInSwap}
 use Rattle.proof_generations.specs.Beneath.machine_model.specs.declared.lines.Line.TheVariants as line
 use Rattle.proof_generations.specs.Beneath.machine_model.specs.declared.reading.SwapLine.TheVariants as swap
 use Rattle.proof_generations.specs.Beneath.machine_model.specs.declared.roots.CompleteLine.TheVariants as complete
-use Rattle.proof_generations.specs.Beneath.proof_memory.specs.Laws.{is_end}
-use Rattle.proof_generations.specs.Beneath.proof_memory.specs.Laws.{IsInUse}
-use Rattle.proof_generations.specs.Beneath.proof_memory.specs.Wants.{AllHold, line_wants, complete_wants}
 use Rattle.proof_generations.specs.Beneath.proof_memory.proofs.Safety.AtEachTime.{safe_at}
 use Rattle.proof_generations.specs.Beneath.proof_memory.proofs.Safety.AtTimes.{line_finds}
 use Rattle.proof_generations.specs.Beneath.proof_memory.proofs.Claims.Uses.{safe_of}
-use Rattle.proof_commits.specs.Protocol.{Publishes}
 use Rattle.proof_commits.proofs.Known.Sounds.{sound_at}
 use Rattle.proof_commits.proofs.Words.Stood.{Stood}
 use Rattle.proof_commits.proofs.Lines.Swap.{runs_publishing}
-use Rattle.proof_commits.specs.Laws.{IsInSwap}
 use Rattle.proof_generations.proofs.Offers.Standing.{StandsBy, own_offer, completes_it}
 use Rattle.proof_generations.proofs.Roots.Open.{no_close_at}
 use Rattle.proof_generations.proofs.Roots.Rooted.{rooted_at}

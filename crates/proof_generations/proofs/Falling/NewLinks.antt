@@ -3,13 +3,11 @@ use Rattle.std.proofs.Common.{◌≡◌, ℕ, suc, ◌<◌, ◌⊎◌, true, fal
 use Rattle.std.proofs.lemmas.Bool.{true≢false}
 use Rattle.std.proofs.lemmas.Option.{none-some}
 use Rattle.proof_generations.specs.Vocabulary.{Access, Writable, ReadOnly, Ref, Node, Indirection, Slot, node_of, main_of, next_ref, Line, Operation, Read, Bounds, State, action_of, line_action}
-use Rattle.proof_generations.specs.Vocabulary.{IsRun, grown, main_word, moment_at}
+use Rattle.proof_generations.specs.Vocabulary.{IsRun, grown, main_word, moment_at, IsInUse, made_node}
 use Rattle.proof_generations.specs.Beneath.machine_model.specs.declared.actions.Action.TheVariants as act
 use Rattle.proof_generations.specs.Beneath.machine_model.specs.declared.lines.Line.TheVariants as line
-use Rattle.proof_generations.specs.Beneath.proof_memory.specs.Laws.{IsInUse}
 use Rattle.proof_generations.specs.Beneath.proof_memory.proofs.Safety.AtEachTime.{safe_at}
 use Rattle.proof_generations.specs.Beneath.proof_memory.proofs.Safety.AtTimes.{line_finds}
-use Rattle.proof_generations.specs.Beneath.proof_memory.specs.Making.{made_node}
 use Rattle.proof_generations.specs.Beneath.proof_memory.proofs.Heap.Moves.{word_move, grown_stays}
 use Rattle.proof_generations.proofs.Counter.Drawn.{Made, new_is_made}
 use Rattle.proof_generations.proofs.Handles.Running.{place_of_actor}

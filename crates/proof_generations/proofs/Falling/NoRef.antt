@@ -1,7 +1,7 @@
 -- Nothing ever stands under the reference that stands for none; so what is no indirection has nothing below it.
 use Rattle.std.proofs.Common.{◌≡◌, ℕ, zero, suc, ◌+◌, ◌-◌, ◌≤◌, Bool, true, false, cond, refl, ap, ◌∙◌, arith}
-use Rattle.proof_generations.specs.Vocabulary.{Ref, node_of, prev_of, logical, no_ref, empty_branch, Bounds, State, IsRun, node_under, main_word, prev_word, main_before}
-use Rattle.proof_contents.specs.Runs.{is_made, main_within, counting_main}
+use Rattle.proof_generations.specs.Vocabulary.{Ref, node_of, prev_of, logical, no_ref, empty_branch, Bounds, State, IsRun, node_under, main_word, prev_word, main_before, is_made, main_within}
+use Rattle.proof_generations.specs.Vocabulary.{counting_main}
 use Rattle.proof_generations.specs.Beneath.proof_memory.specs.Wants.{is_indirection}
 use Rattle.proof_generations.specs.Beneath.proof_memory.proofs.Claims.Nodes.{no_main}
 use Rattle.proof_generations.specs.Beneath.proof_memory.proofs.Heap.NoRef.{nothing_stands}

@@ -2,15 +2,12 @@
 use Rattle.std.proofs.Common.{◌≡◌, ℕ, ◌≤◌, true, Some, sym, ap, ◌∙◌, subst, arith}
 use Rattle.std.proofs.lemmas.Bool.{false≢true}
 use Rattle.proof_generations.specs.Vocabulary.{Ref, Node, Indirection, Branch, Single, Tomb, List as Listed, Slot, node_at, node_of, generation_of, generation_at, entries_of, with_main_word, Bounds}
-use Rattle.proof_generations.specs.Vocabulary.{State, IsRun, grown, node_under}
-use Rattle.proof_generations.specs.Beneath.proof_memory.specs.Wants.{ASingle, meets}
-use Rattle.proof_generations.specs.Beneath.proof_memory.specs.Laws.{IsInUse, SameNode}
+use Rattle.proof_generations.specs.Vocabulary.{State, IsRun, grown, node_under, ASingle, meets, IsInUse, SameNode, NodesStay}
 use Rattle.proof_generations.specs.Beneath.proof_memory.proofs.Claims.Uses.{entries_same}
 use Rattle.proof_generations.specs.Beneath.proof_memory.proofs.Heap.Moves.{grown_stays}
 use Rattle.proof_generations.proofs.Counter.Drawn.{generation_kept}
 use Rattle.proof_generations.specs.Falling.{IsIndirectionOf}
 use Rattle.proof_generations.specs.Beneath.machine_model.proofs.Grown.{grown_in_use, node_standing}
-use Rattle.proof_contents.specs.Grows.{NodesStay}
 
 -- an indirection under another main word, both ways
 pub same_link : (was now : Node) → SameNode was now → (h : ℕ) (word : Ref) → now ≡ Indirection h word → (w : Ref) × (was ≡ Indirection h w)

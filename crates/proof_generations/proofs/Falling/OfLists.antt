@@ -4,8 +4,8 @@ use Rattle.std.specs.List.{All}
 use Rattle.std.proofs.lemmas.List.Elements.{All-contains, All-weaker, All-nil}
 use Rattle.proof_generations.specs.Vocabulary.{Heap, generation_of, Writable, Purpose, Operation, Swap, operation_of, Ref, Node, Indirection, Branch, Single, Tomb, List as Listed, Prev, node_at}
 use Rattle.proof_generations.specs.Vocabulary.{main_at, main_of, prev_at, generation_at, entries_of, logical, Bounds, Step, State, AreBounds, run, IsRun, states_of, last_of, records_of, node_under}
-use Rattle.proof_generations.specs.Vocabulary.{closed_at, Record}
-use Rattle.proof_generations.specs.Beneath.proof_memory.specs.Wants.{AnEntry, ASingle, line_wants, is_indirection}
+use Rattle.proof_generations.specs.Vocabulary.{closed_at, Record, AnEntry, ASingle, line_wants, IsInUse, AllHold, node_wants, prev_wants}
+use Rattle.proof_generations.specs.Beneath.proof_memory.specs.Wants.{is_indirection}
 use Rattle.proof_generations.specs.Beneath.proof_memory.proofs.Safety.AtTimes.{line_finds, node_found, main_found}
 use Rattle.proof_generations.specs.Beneath.proof_memory.proofs.Claims.Uses.{Meets}
 use Rattle.proof_commits.proofs.Words.Stood.{Stood, stands_now}
@@ -21,8 +21,6 @@ use Rattle.proof_generations.proofs.Falling.OwnSwaps.{swaps_in_own_generation}
 use Rattle.proof_generations.specs.Beneath.slot_arena.specs.declared.nodes.Prev.TheVariants as prev
 use Rattle.proof_generations.specs.Beneath.machine_model.specs.declared.lines.Line.TheVariants as line
 use Rattle.proof_generations.specs.Beneath.machine_model.proofs.Times.{run_is, run_ends}
-use Rattle.proof_generations.specs.Beneath.proof_memory.specs.Laws.{IsInUse}
-use Rattle.proof_generations.specs.Beneath.proof_memory.specs.Wants.{AllHold, node_wants, prev_wants}
 use Rattle.proof_generations.specs.Beneath.proof_memory.proofs.Safety.AtEachTime.{safe_at}
 use Rattle.proof_generations.specs.Beneath.proof_memory.proofs.Claims.Uses.{safe_of, all_of, first_hold, last_hold}
 use Rattle.proof_generations.specs.Beneath.proof_memory.proofs.Safety.States.{IsSafe}

@@ -4,10 +4,9 @@ use Rattle.std.proofs.Common.{◌≡◌, ℕ, zero, suc, ◌<◌, ◌≤◌, Boo
 use Rattle.std.proofs.lemmas.Bool.{cases_eq}
 use Rattle.std.proofs.lemmas.Option.{none-some, same_Some}
 use Rattle.proof_generations.specs.Vocabulary.{Ref, generation_at, generation_of, Operation, Descriptor, Root, RootWord, Plain, Offer, Bounds, Outcome, Step, handle_of, State, root_at, root_of}
-use Rattle.proof_generations.specs.Vocabulary.{word_of, operation_of, action_of, opened_root, Moves, turns, noted_turn, IsRun, Turn, node_under, Writable, closed_at, Record}
+use Rattle.proof_generations.specs.Vocabulary.{word_of, operation_of, action_of, opened_root, Moves, turns, noted_turn, IsRun, Turn, node_under, Writable, closed_at, Record, AllHold, word_wants}
+use Rattle.proof_generations.specs.Vocabulary.{IsInUse}
 use Rattle.proof_generations.specs.Beneath.machine_model.proofs.Times.{steps_at}
-use Rattle.proof_generations.specs.Beneath.proof_memory.specs.Wants.{AllHold, word_wants}
-use Rattle.proof_generations.specs.Beneath.proof_memory.specs.Laws.{IsInUse}
 use Rattle.proof_generations.specs.Beneath.proof_memory.proofs.Claims.Uses.{safe_of}
 use Rattle.proof_generations.specs.Beneath.proof_memory.proofs.Safety.States.{IsSafe}
 use Rattle.proof_generations.specs.Beneath.proof_memory.proofs.Safety.AtEachTime.{safe_at}

@@ -2,15 +2,14 @@
 use Rattle.std.proofs.Common.{◌≡◌, ℕ, suc, ◌<◌, ◌⊎◌, inl, inr, Some, sym, ap, ◌∙◌, subst, arith, true}
 use Rattle.std.proofs.lemmas.Option.{same_Some}
 use Rattle.proof_generations.specs.Vocabulary.{Ref, Operation, Gives, Read, ReadLine, Bounds, Outcome, handle_of, State, word_at, operation_of, read_after, read_step, read_action, action_of, gone}
-use Rattle.proof_generations.specs.Vocabulary.{settled, Ends, Moves, GoesOn, IsRun, read_at_after, noted_progress, moment_at, progress_of, counts_from, is_actor, Moment}
+use Rattle.proof_generations.specs.Vocabulary.{settled, Ends, Moves, GoesOn, IsRun, read_at_after, noted_progress, moment_at, progress_of, counts_from, is_actor, Moment, Reads, ReadTurn, Given}
+use Rattle.proof_generations.specs.Vocabulary.{counts_at, stage_of, stage_of_actor}
 use Rattle.proof_generations.specs.Beneath.machine_model.specs.declared.reading.ReadLine.TheVariants as read
 use Rattle.proof_generations.specs.Beneath.machine_model.specs.declared.steps.Step.TheVariants as step
 use Rattle.proof_generations.specs.Beneath.machine_model.specs.Moves.{Goes}
 use Rattle.proof_generations.specs.Beneath.machine_model.proofs.Times.{steps_at}
-use Rattle.proof_commits.specs.Protocol.{Reads, ReadTurn, Given, counts_at}
 use Rattle.proof_commits.proofs.Words.Stood.{Stood}
 use Rattle.proof_commits.proofs.Known.Sounds.{sound_at}
-use Rattle.proof_commits.specs.Stages.{stage_of, stage_of_actor}
 use Rattle.proof_commits.proofs.Lines.Reads.{on_stage, read_counts}
 use Rattle.proof_commits.proofs.Words.Along.{reading_turn}
 use Rattle.proof_commits.proofs.Course.OfLists.{given_read}

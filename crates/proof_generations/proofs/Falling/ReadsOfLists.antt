@@ -1,10 +1,8 @@
 -- For every list of steps: what is read of closed generations stays. And what repairs are given stands, in the form in which the laws of contents take it.
 use Rattle.std.proofs.Common.{◌≡◌, ℕ, ◌<◌, List, Some, refl, sym, ap, ◌∙◌, subst, arith, slice_get, suc}
 use Rattle.proof_generations.specs.Vocabulary.{Ref, generation_at, Operation, Read, Bounds, Step, State, operation_of, read_of, AreBounds, taken_steps, IsRun, states_of, last_of, records_of}
-use Rattle.proof_generations.specs.Vocabulary.{closed_at, moment_at}
+use Rattle.proof_generations.specs.Vocabulary.{closed_at, moment_at, IsNoSwap, HasIndirection}
 use Rattle.proof_generations.specs.Beneath.machine_model.proofs.Times.{run_is}
-use Rattle.proof_commits.specs.Laws.{IsNoSwap}
-use Rattle.proof_commits.specs.Runs.{HasIndirection}
 use Rattle.proof_commits.proofs.Course.AlongLists.{law_given_for_good}
 use Rattle.proof_commits.proofs.Lines.Swap.{reads_stage}
 use Rattle.proof_generations.specs.Falling.{ReadsClosed}

@@ -2,10 +2,9 @@
 use Rattle.std.proofs.Common.{◌≡◌, ℕ, suc, ◌<◌, ◌≤◌, Bool, true, false, Some, inl, inr, sym, ◌∙◌, subst, arith}
 use Rattle.std.specs.List.{All}
 use Rattle.std.proofs.lemmas.List.Elements.{All-weaker}
-use Rattle.proof_generations.specs.Vocabulary.{Writable, ReadOnly, Ref, node_at, generation_of, entries_of, Operation, Read, Bounds, State, IsRun, node_under, Record, moment_at, Moment}
+use Rattle.proof_generations.specs.Vocabulary.{Writable, ReadOnly, Ref, node_at, generation_of, entries_of, Operation, Read, Bounds, State, IsRun, node_under, Record, moment_at, Moment, ASingle}
+use Rattle.proof_generations.specs.Vocabulary.{meets, IsInUse}
 use Rattle.proof_generations.specs.Beneath.machine_model.proofs.Actors.{mark_one, mark_only}
-use Rattle.proof_generations.specs.Beneath.proof_memory.specs.Wants.{ASingle, meets}
-use Rattle.proof_generations.specs.Beneath.proof_memory.specs.Laws.{IsInUse}
 use Rattle.proof_commits.proofs.Words.Stood.{Stood}
 use Rattle.proof_generations.specs.Running.{Runs}
 use Rattle.proof_generations.proofs.Roots.Kept.{fresh_in}

@@ -6,7 +6,7 @@ use Rattle.std.proofs.lemmas.Bool.{false≢true}
 use Rattle.std.proofs.lemmas.Option.{none-some, same_Some}
 use Rattle.std.proofs.lemmas.List.Elements.{All-take, All-set, All-nil}
 use Rattle.proof_generations.specs.Vocabulary.{Ref, Node, Indirection, node_at, entries_of, bitmap_of, BuildLine, Change, CopyLine, Line, Operation, Read, CleanLine, ClimbLine, RenewLine, State}
-use Rattle.proof_generations.specs.Vocabulary.{flag_in, is_below_root, above, start_of, leaves_single, place_in, line_action}
+use Rattle.proof_generations.specs.Vocabulary.{flag_in, is_below_root, above, start_of, leaves_single, place_in, line_action, ASingle, meets, AllHold, line_wants, change_wants, made_node}
 use Rattle.proof_generations.specs.Beneath.machine_model.specs.declared.actions.Action.TheVariants as act
 use Rattle.proof_generations.specs.Beneath.machine_model.specs.declared.building.BuildLine.TheVariants as build
 use Rattle.proof_generations.specs.Beneath.machine_model.specs.declared.building.Change.TheVariants as change
@@ -15,11 +15,10 @@ use Rattle.proof_generations.specs.Beneath.machine_model.specs.declared.lines.Li
 use Rattle.proof_generations.specs.Beneath.machine_model.specs.declared.repairs.CleanLine.TheVariants as clean
 use Rattle.proof_generations.specs.Beneath.machine_model.specs.declared.repairs.ClimbLine.TheVariants as climb
 use Rattle.proof_generations.specs.Beneath.machine_model.specs.declared.repairs.RenewLine.TheVariants as renew
-use Rattle.proof_generations.specs.Beneath.proof_memory.specs.Wants.{ASingle, meets, AllHold, line_wants, change_wants}
 use Rattle.proof_generations.specs.Beneath.proof_memory.proofs.Claims.Uses.{safe_of, meets_of, entry_of}
 use Rattle.proof_generations.specs.Beneath.proof_memory.proofs.Lines.Next.{pair_no_link, contracted_no_link, changed_no_link}
-use Rattle.proof_generations.specs.Beneath.proof_memory.specs.Making.{made_node}
 use Rattle.proof_generations.specs.Beneath.proof_memory.proofs.Claims.Nodes.{IsNoLink}
+use Rattle.proof_generations.specs.Beneath.proof_memory.proofs.Claims.Named.{main_claim, past_place, single_claim, past_climb}
 use Rattle.proof_generations.proofs.Counter.Made.{root_makes, key_makes, swap_makes, walk_makes, read_makes, complete_makes}
 use Rattle.proof_generations.proofs.Lines.Knows.{Knows, KnowsBuild, KnowsRenew, KnowsClean, KnowsClimb, KnowsCopy, KnowsChange, one_of}
 use Rattle.proof_generations.proofs.Falling.MadeNodes.{pair_entries, contracted_entries, changed_entries, ChangeFits}
@@ -78,18 +77,18 @@ module _ (state : State) (operation : Operation) (start : ℕ) (begun : operatio
   build_node : (l : BuildLine) → KnowsBuild Own Fits Falls Late l → Wants (line.Build l) → (n : Node) → made_node state (line_action state operation (line.Build l)) ≡ Some n → BuildNode l n
   build_node (build.Single path main s former) k w n e = ap (meets ASingle) (sym (same_Some _ _ e))
   build_node (build.Pair path main position single depth) k w n e =
-      let old = entry_of w.1.1.1.0 in
-      let new = w.1.1.1.1.0 in
+      let old = entry_of (past_place w).0 in
+      let new = (past_place w).1.0 in
       subst MainMade (same_Some _ _ e)
       (pair_no_link state.limits.hash depth _ _ _ single, pair_entries Fits state.limits.hash depth _ _ _ single (single_fits _ old.0 old.1) (single_fits single (safe_of new) (meets_of new)))
   build_node (build.Link path main position below depth) k w n e = (below, sym (same_Some _ _ e) ∙ ap (λ g. Indirection g below) starts, k.1)
   build_node (build.Rung path main position below depth) k w n e =
       subst MainMade (same_Some _ _ e) (λ h word is. let wrong : ⊥ = cc is in wrong, All-take Fits 32 (below ∷ []) (one_of Fits below (own_fits below k.1)))
   build_node (build.Main path main c former) k w n e =
-      let at = w.1.1.0 in
+      let at = main_claim w in
       subst MainMade (same_Some _ _ e) (
         changed_no_link (flag_in state operation path) (node_at state.heap main) c (meets_of at),
-        changed_entries Fits (flag_in state operation path) (node_at state.heap main) c (meets_of at) (entries_fit main (safe_of at) k.0.1) (change_fits main _ former c k.1 w.1.1.1),
+        changed_entries Fits (flag_in state operation path) (node_at state.heap main) c (meets_of at) (entries_fit main (safe_of at) k.0.1) (change_fits main _ former c k.1 (past_place w)),
       )
 
   -- ---- RENEW, CLEAN and CLIMB
@@ -116,8 +115,8 @@ module _ (state : State) (operation : Operation) (start : ℕ) (begun : operatio
   climb_node (climb.Read c r) k w n e = absurd (read_makes state r.indirection r.line n e)
   climb_node (climb.Main c main) k w n e = absurd (none-some n e)
   climb_node (climb.Contracted c main) k w n e =
-      let single = w.1.1.0 in
-      let at = w.1.1.1.0 in
+      let single = single_claim w in
+      let at = (past_climb w).0 in
       let es = set (entries_of (node_at state.heap main)) (place_in state operation c main) c.single in
       let all = All-set Fits (entries_of (node_at state.heap main)) (place_in state operation c main) c.single
       (single_fits c.single (safe_of single) (meets_of single)) (entries_fit main (safe_of at) k.1) in

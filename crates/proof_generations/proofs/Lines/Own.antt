@@ -4,7 +4,7 @@ use Rattle.std.specs.List.{All}
 use Rattle.std.proofs.lemmas.List.Elements.{All-append, All-get_or, All-head, All-nil}
 use Rattle.proof_generations.specs.Vocabulary.{Call, Clear, Snapshot, Freeze, Writable, Ref, Node, Indirection, node_at, entry_at, entries_of, next_ref, no_ref, BuildLine, CopyLine, KeyLine, Line}
 use Rattle.proof_generations.specs.Vocabulary.{Purpose, Operation, Gives, Read, Swap, SwapLine, Climb, CleanLine, ClimbLine, RenewLine, Descriptor, State, is_start, passes, read_step, reading}
-use Rattle.proof_generations.specs.Vocabulary.{next_entry, above, higher, line_action, line_after}
+use Rattle.proof_generations.specs.Vocabulary.{next_entry, above, higher, line_action, line_after, WithEntry, Is, Holds, AllHold, line_wants, action_wants, Reads, stage_of}
 use Rattle.proof_generations.specs.Beneath.machine_model.specs.Operations.{from_root}
 use Rattle.proof_generations.specs.Beneath.machine_model.specs.declared.building.BuildLine.TheVariants as build
 use Rattle.proof_generations.specs.Beneath.machine_model.specs.declared.copying.CopyLine.TheVariants as copy
@@ -25,10 +25,8 @@ use Rattle.proof_generations.specs.Beneath.machine_model.specs.Edges.Building.{e
 use Rattle.proof_generations.specs.Beneath.machine_model.specs.Edges.Building.{succeeds, is_undecided}
 use Rattle.proof_generations.specs.Beneath.machine_model.specs.Edges.Lines.{Edge, of_key, of_build, of_swap, of_renew, of_clean, of_climb, of_copy, of_root, of_walk, stays}
 use Rattle.proof_generations.specs.Beneath.machine_model.proofs.Edges.Lines.{edge}
-use Rattle.proof_generations.specs.Beneath.proof_memory.specs.Wants.{WithEntry, Is, Holds, AllHold, line_wants, action_wants}
 use Rattle.proof_generations.specs.Beneath.proof_memory.proofs.Claims.Uses.{safe_of, meets_of}
-use Rattle.proof_commits.specs.Protocol.{Reads}
-use Rattle.proof_commits.specs.Stages.{stage_of}
+use Rattle.proof_generations.specs.Beneath.proof_memory.proofs.Claims.Named.{main_claim, left_claim, past_done}
 use Rattle.proof_generations.proofs.Lines.Copy.{same_offer_after}
 use Rattle.proof_generations.proofs.Lines.Knows.{Knows, IsInner, KnowsKey, KnowsBuild, KnowsRenew, KnowsClean, KnowsClimb, KnowsCopy, KnowsDone, FallsOn, OwnPath, own_current, own_pushed}
 use Rattle.proof_generations.proofs.Lines.Knows.{own_above, one_of}
@@ -174,11 +172,11 @@ module _ (state : State) (operation : Operation) (Own Fits Falls : Ref → Type 
   renew_own : (l : RenewLine) (next : Line) → RenewEdge state operation l next → operation.line ≡ line.Renew l → KnowsRenew Own Fits Falls Was l → Wants (line.Renew l) → Acts (line.Renew l) →
       Makes (line.Renew l) → K next
   renew_own l next (meets_older path main done h word e older) is k w a makes =
-      (k, step.begins (next_entry state main done) h word (safe_of a.0) e (next_fits main done (safe_of w.1.1.0) k.0.1 w.1.1.1.1.0))
+      (k, step.begins (next_entry state main done) h word (safe_of a.0) e (next_fits main done (safe_of (main_claim w)) k.0.1 (left_claim w)))
   renew_own l next (keeps_own path main done h word n e own on) is k w a makes =
-      renew_next_own path main _ next on k.0 (one_more path main done _ k (next_fits main done (safe_of w.1.1.0) k.0.1 w.1.1.1.1.0))
+      renew_next_own path main _ next on k.0 (one_more path main done _ k (next_fits main done (safe_of (main_claim w)) k.0.1 (left_claim w)))
   renew_own l next (RenewEdge.keeps_single path main done old v n e on) is k w a makes =
-      renew_next_own path main _ next on k.0 (one_more path main done _ k (next_fits main done (safe_of w.1.1.0) k.0.1 w.1.1.1.1.0))
+      renew_next_own path main _ next on k.0 (one_more path main done _ k (next_fits main done (safe_of (main_claim w)) k.0.1 (left_claim w)))
   renew_own l next (RenewEdge.reads_on path main done r n e) is k w a makes = (k.0, step.late_goes r n (ap stage_of is) k.1 e)
   renew_own l next (RenewEdge.gives path main done r child e) is k w a makes = (k.0, step.late_gives r child (ap stage_of is) k.1 e)
   renew_own l next (links path main done child made n e on) is k w a makes = renew_next_own path main _ next on k.0.0 (one_more path main done made k.0 (makes made e))
@@ -195,16 +193,16 @@ module _ (state : State) (operation : Operation) (Own Fits Falls : Ref → Type 
   clean_own l next (CleanEdge.gives path r main e) is k w a makes = (k.0, step.own_gives r main (ap stage_of is) k.1 e)
   clean_own l next (CleanEdge.begins path main b es n e on) is k w a makes = clean_next_own path main [] next on k (All-nil Fits)
   clean_own l next (meets_link path main done h word e) is k w a makes =
-      (k, step.begins (next_entry state main done) h word (safe_of a.0) e (next_fits main done (safe_of w.1.1.0) k.0.1 w.1.1.1.1.0))
+      (k, step.begins (next_entry state main done) h word (safe_of a.0) e (next_fits main done (safe_of (main_claim w)) k.0.1 (left_claim w)))
   clean_own l next (CleanEdge.keeps_single path main done old v n e on) is k w a makes =
-      clean_next_own path main _ next on k.0 (one_more path main done _ k (next_fits main done (safe_of w.1.1.0) k.0.1 w.1.1.1.1.0))
+      clean_next_own path main _ next on k.0 (one_more path main done _ k (next_fits main done (safe_of (main_claim w)) k.0.1 (left_claim w)))
   clean_own l next (child_on path main done r n e) is k w a makes = (k.0, step.late_goes r n (ap stage_of is) k.1 e)
   clean_own l next (child_given path main done r child e) is k w a makes = (k.0, step.late_gives r child (ap stage_of is) k.1 e)
   clean_own l next (untombs path main done child single n e on) is k w a makes =
-      let below : All Fits (single ∷ []) = subst (λ x. All Fits (entries_of x)) e (step.entries_fit child (safe_of w.1.1.1.1.1.0) k.1) in
+      let below : All Fits (single ∷ []) = subst (λ x. All Fits (entries_of x)) e (step.entries_fit child (safe_of (past_done w).0) k.1) in
       clean_next_own path main _ next on k.0.0 (one_more path main done single k.0 (All-head Fits single [] below))
   clean_own l next (keeps_link path main done child n on) is k w a makes =
-      clean_next_own path main _ next on k.0.0 (one_more path main done _ k.0 (next_fits main done (safe_of w.1.1.0) k.0.0.1 w.1.1.1.1.0))
+      clean_next_own path main _ next on k.0.0 (one_more path main done _ k.0 (next_fits main done (safe_of (main_claim w)) k.0.0.1 (left_claim w)))
   clean_own l next (CleanEdge.contracts path main done made e) is k w a makes = (own_current Own path k.0.0, makes made e, tt)
   clean_own l next edge is k w a makes = tt
 

@@ -4,13 +4,12 @@ use Rattle.std.proofs.lemmas.Option.{same_Some}
 use Rattle.std.specs.List.{All}
 use Rattle.proof_generations.specs.Vocabulary.{Indirection, entries_of, BuildLine, CopyLine, CleanLine, ClimbLine, RenewLine, line_action, line_after, Writable, Ref, Node, node_at, next_ref, Line}
 use Rattle.proof_generations.specs.Vocabulary.{Operation, Bounds, Outcome, State, reading, action_of, generation_from, operation_after, Moves, GoesOn, IsRun, noted_progress, moment_at, progress_of}
-use Rattle.proof_generations.specs.Vocabulary.{Moment}
+use Rattle.proof_generations.specs.Vocabulary.{Moment, ASingle, meets, AllHold, line_wants, IsInUse, made_node}
 use Rattle.proof_generations.specs.Beneath.machine_model.specs.declared.building.BuildLine.TheVariants as build
 use Rattle.proof_generations.specs.Beneath.machine_model.specs.declared.copying.CopyLine.TheVariants as copy
 use Rattle.proof_generations.specs.Beneath.machine_model.specs.declared.repairs.CleanLine.TheVariants as clean
 use Rattle.proof_generations.specs.Beneath.machine_model.specs.declared.repairs.ClimbLine.TheVariants as climb
 use Rattle.proof_generations.specs.Beneath.machine_model.specs.declared.repairs.RenewLine.TheVariants as renew
-use Rattle.proof_generations.specs.Beneath.proof_memory.specs.Wants.{ASingle, meets, AllHold, line_wants}
 use Rattle.proof_generations.specs.Beneath.proof_memory.proofs.Safety.AtTimes.{line_finds, action_finds}
 use Rattle.proof_generations.proofs.Falling.Nodes.{used_entries, used_single}
 use Rattle.proof_generations.proofs.Lines.Knows.{Knows, knows_still}
@@ -19,10 +18,8 @@ use Rattle.proof_generations.proofs.Lines.Made.{NodeMade, node_made}
 use Rattle.proof_generations.proofs.Falling.Runs.{single_fits, falls_next}
 use Rattle.proof_generations.specs.Beneath.machine_model.specs.declared.lines.Line.TheVariants as line
 use Rattle.proof_generations.specs.Beneath.machine_model.specs.declared.steps.Step.TheVariants as step
-use Rattle.proof_generations.specs.Beneath.proof_memory.specs.Laws.{IsInUse}
 use Rattle.proof_generations.specs.Beneath.proof_memory.proofs.Safety.AtEachTime.{safe_at}
 use Rattle.proof_generations.specs.Beneath.proof_memory.proofs.Safety.Steps.{made_fresh}
-use Rattle.proof_generations.specs.Beneath.proof_memory.specs.Making.{made_node}
 use Rattle.proof_generations.specs.Running.{Runs}
 use Rattle.proof_contents.proofs.Lines.Repair.{read_stays}
 use Rattle.proof_generations.specs.Beneath.proof_memory.proofs.Claims.Nodes.{IsNoLink}

@@ -7,7 +7,7 @@ use Rattle.proof_generations.specs.Vocabulary.{Access, Writable, ReadOnly, Call,
 use Rattle.proof_generations.specs.Vocabulary.{no_ref, has_flag, KeyLine, WhenFound, Answers, Sets, Removes, Line, Operation, After, Gives, Read, RootLine, RootWord, Plain, Offer, WalkLine}
 use Rattle.proof_generations.specs.Vocabulary.{handle_of, needs_writable, when_found, inserts, key_of, State, word_at, root_of, flag_in, is_start, read_step, reading, key_after_read, key_after_main}
 use Rattle.proof_generations.specs.Vocabulary.{after_tomb, key_after_entry, after_listed, absent, absent_beside, found_so, passes, after_root_word, walk_next, walk_after_read, walk_after_entry}
-use Rattle.proof_generations.specs.Vocabulary.{first_of, line_action, line_after, after_root}
+use Rattle.proof_generations.specs.Vocabulary.{first_of, line_action, line_after, after_root, Reads, stage_of, AllHold, line_wants, action_wants}
 use Rattle.proof_generations.specs.Beneath.history.specs.declared.replies.Reply.TheVariants as reply
 use Rattle.proof_generations.specs.Beneath.machine_model.specs.declared.finding.KeyLine.TheVariants as key
 use Rattle.proof_generations.specs.Beneath.machine_model.specs.declared.lines.Line.TheVariants as line
@@ -15,10 +15,8 @@ use Rattle.proof_generations.specs.Beneath.machine_model.specs.declared.reading.
 use Rattle.proof_generations.specs.Beneath.machine_model.specs.declared.roots.RootLine.TheVariants as root
 use Rattle.proof_generations.specs.Beneath.machine_model.specs.declared.walking.WalkLine.TheVariants as walk
 use Rattle.proof_generations.specs.Beneath.machine_model.specs.Operations.{from_root}
-use Rattle.proof_commits.specs.Protocol.{Reads}
-use Rattle.proof_commits.specs.Stages.{stage_of}
-use Rattle.proof_generations.specs.Beneath.proof_memory.specs.Wants.{AllHold, line_wants, action_wants}
 use Rattle.proof_generations.specs.Beneath.proof_memory.proofs.Claims.Uses.{safe_of, meets_of, fact_of}
+use Rattle.proof_generations.specs.Beneath.proof_memory.proofs.Claims.Named.{main_claim, past_place}
 use Rattle.proof_generations.specs.Beneath.machine_model.proofs.Readers.{reader_inserts, reader_answers}
 
 -- Ends is of entries, Shut of main nodes, Late of READs.
@@ -159,8 +157,8 @@ module _ (state : State) (operation : Operation) (Ends Shut : Ref → Type 0) (W
   key_ends (key.Entry path main position) is k w a =
       entry_ends path main position (node_at state.heap (entry_at state.heap main position))
       (λ h word e. step.begins (entry_at state.heap main position) h word (safe_of a.0) e
-      (All-get_or Ends (entries_of (node_at state.heap main)) position no_ref (ltb-true position (length (entries_of (node_at state.heap main))) (meets_of w.1.1.1.0))
-      (step.entries_end main (safe_of w.1.1.0) k)))
+      (All-get_or Ends (entries_of (node_at state.heap main)) position no_ref (ltb-true position (length (entries_of (node_at state.heap main))) (meets_of (past_place w).0))
+      (step.entries_end main (safe_of (main_claim w)) k)))
   key_ends (key.Listed path main position) is k w a = listed_ends path main position (node_at state.heap (entry_at state.heap main position))
   key_ends (key.Sibling path main position former) is k w a = absurd k
 

@@ -3,11 +3,9 @@ use Rattle.std.proofs.Common.{◌≡◌, ℕ, suc, ◌<◌, true, false, Some, i
 use Rattle.std.proofs.lemmas.Bool.{true≢false}
 use Rattle.proof_generations.specs.Vocabulary.{ReadOnly, Ref, Node, Indirection, Branch, Single, Tomb, List as Listed, node_at, Line, Operation, Root, RootWord, Plain, Offer, Bounds, Outcome}
 use Rattle.proof_generations.specs.Vocabulary.{handle_of, State, root_at, root_of, word_of, reading, action_of, line_action, line_after, operation_after, Moves, GoesOn, IsRun, noted_progress}
-use Rattle.proof_generations.specs.Vocabulary.{moment_at, progress_of, Moment, is_actor}
+use Rattle.proof_generations.specs.Vocabulary.{moment_at, progress_of, Moment, is_actor, IsInUse, is_end, AnIndirection, meets, Is, Holds, AllHold, word_wants}
 use Rattle.proof_generations.specs.Beneath.machine_model.specs.declared.lines.Line.TheVariants as line
 use Rattle.proof_generations.specs.Beneath.machine_model.specs.declared.steps.Step.TheVariants as step
-use Rattle.proof_generations.specs.Beneath.proof_memory.specs.Laws.{IsInUse, is_end}
-use Rattle.proof_generations.specs.Beneath.proof_memory.specs.Wants.{AnIndirection, meets, Is, Holds, AllHold, word_wants}
 use Rattle.proof_generations.specs.Beneath.proof_memory.proofs.Safety.AtEachTime.{safe_at}
 use Rattle.proof_generations.specs.Beneath.proof_memory.proofs.Safety.AtTimes.{line_finds, action_finds}
 use Rattle.proof_generations.specs.Beneath.proof_memory.proofs.Claims.Uses.{safe_of, meets_of}

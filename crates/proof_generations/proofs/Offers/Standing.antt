@@ -224,14 +224,15 @@ module _ (state : State) (ids : HasIds state) (own : AllOwn state) (all : Offers
   not_marked (step.GiveUp actor) handle k owner at_k on free e = none-some owner.id e
 
   -- its own step reads on, for the same offer
-  line_kept : (s : Step) (handle k : ℕ) (offer : Descriptor) (owner : Operation) → Runs state k owner → handle_of owner.call ≡ handle → s ≡ step.Go (suc k) → word_at state handle ≡ Offer offer →
-      NotSettled s handle → (c : Complete) → owner.line ≡ line.Copy (copy.Complete c) → c.offer ≡ offer → (l : CompleteLine) → c.line ≡ l →
-      (own_offer (line_after state owner (line.Copy (copy.Complete (record c { line = l })))) ≡ Some offer) × (mark_after owner.is_marked (complete_action (record c { line = l })) ≡ owner.is_marked)
-  line_kept s handle k offer owner at_k on is word free c at_line its (complete.Reading l) e =
-      (reading_kept owner c.offer (read_after state.heap owner.access (word_at state (handle_of owner.call)) c.offer.root l) ∙ ap Some its, read_mark owner.is_marked c.offer.root l)
-  line_kept s handle k offer owner at_k on is word free c at_line its (complete.Swap main) e =
-      absurd (free (suc k) owner offer is at_k
-      (ap (λ x. settles (line_action state owner x)) at_line ∙ ap (λ x. settles (complete_action (record c { line = x }))) e ∙ ap Some its) (sym on)
+  line_kept : (s : Step) (handle : ℕ) (offer : Descriptor) (b : StandsBy state handle offer) → s ≡ step.Go (suc b.k) → word_at state handle ≡ Offer offer →
+      NotSettled s handle → (c : Complete) → b.owner.line ≡ line.Copy (copy.Complete c) → c.offer ≡ offer → (l : CompleteLine) → c.line ≡ l →
+      (own_offer (line_after state b.owner (line.Copy (copy.Complete (record c { line = l })))) ≡ Some offer)
+      × (mark_after b.owner.is_marked (complete_action (record c { line = l })) ≡ b.owner.is_marked)
+  line_kept s handle offer b is word free c at_line its (complete.Reading l) e =
+      (reading_kept b.owner c.offer (read_after state.heap b.owner.access (word_at state (handle_of b.owner.call)) c.offer.root l) ∙ ap Some its, read_mark b.owner.is_marked c.offer.root l)
+  line_kept s handle offer b is word free c at_line its (complete.Swap main) e =
+      absurd (free (suc b.k) b.owner offer is b.runs
+      (ap (λ x. settles (line_action state b.owner x)) at_line ∙ ap (λ x. settles (complete_action (record c { line = x }))) e ∙ ap Some its) (sym b.on_handle)
       (ap (λ w. stands_in w offer) word ∙ try_itself offer))
 
   stays_by : (s : Step) (after : State) (handle : ℕ) (offer : Descriptor) → word_at state handle ≡ Offer offer → NotSettled s handle →
@@ -248,7 +249,7 @@ module _ (state : State) (ids : HasIds state) (own : AllOwn state) (all : Offers
       }
   stays_by s after handle offer word free b (steps is g at_k) =
       let (c, at_line, its) = completes_it b.owner.line offer b.completes in
-      let kept = line_kept s handle b.k offer b.owner b.runs b.on_handle is word free c at_line its c.line refl in
+      let kept = line_kept s handle offer b is word free c at_line its c.line refl in
       record {
         k = b.k;
         owner = mark_one (marks_in state s) (operation_after state b.owner);

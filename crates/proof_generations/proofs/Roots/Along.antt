@@ -13,7 +13,7 @@ use Rattle.proof_generations.proofs.Offers.Same.{HasOffers, has_offers_after, no
 use Rattle.proof_generations.proofs.Handles.Operations.{HasHandles, handles_after, handles_at_first}
 use Rattle.proof_generations.proofs.Counter.Below.{IsBelow, below_after, below_at_first, ClosingsBelow, closings_next}
 use Rattle.proof_generations.proofs.Offers.Swaps.{StepKind, quiet, swaps, step_kind, closing_of, closed_in, closed_kept}
-use Rattle.proof_generations.proofs.Roots.Own.{HasRoots, IsUnused, gen, roots_after, writable_call, its_fresh}
+use Rattle.proof_generations.proofs.Roots.Own.{HasRoots, IsUnused, gen, roots_after, writable_call, its_fresh, to_offer}
 use Rattle.proof_generations.proofs.Roots.Kept.{fresh_of}
 use Rattle.proof_generations.specs.Beneath.machine_model.proofs.Basics.{both_kinds}
 use Rattle.proof_generations.specs.Beneath.machine_model.proofs.Recorded.{along_with, kept_by_notes}
@@ -59,7 +59,7 @@ roots_at_first limits = record {
   is_closed = λ handle root e w. absurd (both_kinds root.access (first_root handle root e).1 w);
   apart = λ handle other a b e f wa wb same. (first_root handle a e).0 ∙ sym (first_root other b f).0;
   fresh = λ k operation x r at_k. absurd (none_found limits.actors k operation at_k);
-  fresh_apart = λ k j a b x y r q at_k. absurd (none_found limits.actors k a at_k);
+  fresh_apart = λ k j x y r q a. absurd (none_found limits.actors k a.operation a.runs);
 }
 
 ordered_at_first : (limits : Bounds) → IsOrdered (first_state limits) (first_record limits)
@@ -151,5 +151,4 @@ pub offered_apart : (state : State) (past : Record) → IsOrdered state past →
     generation_at state.heap r ≡ generation_at state.heap offer.successor → ⊥
 offered_apart state past I handle offer word r e same =
     let b = I.offers.offers handle offer word in
-    false≢true (I.roots.fresh_apart b.k b.k b.owner b.owner false true r offer.successor b.runs b.runs b.unmarked b.unmarked (its_fresh b.owner.line offer false r b.completes e)
-    (its_fresh b.owner.line offer true offer.successor b.completes refl) same).1
+    false≢true (I.roots.fresh_apart b.k b.k false true r offer.successor (to_offer b false r e) (to_offer b true offer.successor refl) same).1

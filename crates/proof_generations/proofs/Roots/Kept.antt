@@ -6,15 +6,16 @@ use Rattle.std.proofs.lemmas.List.Elements.{All-head}
 use Rattle.proof_generations.specs.Vocabulary.{Call, Clear, Snapshot, Freeze, Ref, Heap, node_at, generation_at, next_ref, refs_of_option, CopyLine, Line, Operation, After, Gives, Read, Complete}
 use Rattle.proof_generations.specs.Vocabulary.{CompleteLine, Descriptor, Root, RootLine, RootWord, Plain, Offer, Outcome, Step, handle_of, State, root_at, root_of, word_at, new_try, read_step}
 use Rattle.proof_generations.specs.Vocabulary.{is_plain, complete_after, root_after, copy_after_read, copy_if_made, copy_after_made, after_successor, after_given, after_offer, copy_after_complete}
-use Rattle.proof_generations.specs.Vocabulary.{copied_reply, line_action, line_after, after_root, Moves}
+use Rattle.proof_generations.specs.Vocabulary.{copied_reply, line_action, line_after, after_root, Moves, AnIndirection, AMain, Is, Each, Holds, AllHold, word_wants, line_wants, complete_wants}
+use Rattle.proof_generations.specs.Vocabulary.{offer_wants, read_wants}
 use Rattle.proof_generations.specs.Beneath.machine_model.specs.declared.actions.Action.TheVariants as act
 use Rattle.proof_generations.specs.Beneath.machine_model.specs.declared.copying.CopyLine.TheVariants as copy
 use Rattle.proof_generations.specs.Beneath.machine_model.specs.declared.lines.Line.TheVariants as line
 use Rattle.proof_generations.specs.Beneath.machine_model.specs.declared.reading.After.TheVariants.{Goes as Continues}
 use Rattle.proof_generations.specs.Beneath.machine_model.specs.declared.roots.CompleteLine.TheVariants as complete
 use Rattle.proof_generations.specs.Beneath.machine_model.specs.Operations.{from_root}
-use Rattle.proof_generations.specs.Beneath.proof_memory.specs.Wants.{AnIndirection, AMain, Is, Each, Holds, AllHold, word_wants, line_wants, complete_wants, offer_wants, read_wants}
-use Rattle.proof_generations.specs.Beneath.proof_memory.proofs.Claims.Uses.{Meets, safe_of, all_of, first_hold}
+use Rattle.proof_generations.specs.Beneath.proof_memory.proofs.Claims.Uses.{Meets, safe_of, all_of, from_meets, first_hold}
+use Rattle.proof_generations.specs.Beneath.proof_memory.proofs.Claims.Named.{third_claim, past_third}
 use Rattle.proof_generations.specs.Beneath.proof_memory.proofs.Safety.Guards.{Safe}
 use Rattle.proof_generations.specs.Beneath.proof_memory.proofs.Safety.States.{IsSafe, word_in}
 use Rattle.proof_generations.specs.Beneath.proof_memory.proofs.Safety.Steps.{step_carries}
@@ -57,29 +58,31 @@ abbrev pub fresh_in : Bool → Line → Option Ref
 fresh_in x (line.Copy l) = fresh_copy x l
 fresh_in x l = None
 
--- each is safe
-offer_fresh : (S : Ref → Type 0) (heap : Heap) (offer : Descriptor) → AllHold S heap (offer_wants offer) → (x : Bool) (r : Ref) → fresh_of x offer ≡ Some r → S r
-offer_fresh S heap offer h true r e = subst S (same_Some _ _ e) (safe_of h.1.1.0)
-offer_fresh S heap offer h false r e = by offer.second h.1.1.1.0 e
-  where
-    by : (second : Option Ref) → Holds S heap (Each (refs_of_option second) AnIndirection) → second ≡ Some r → S r
-    by None h e = absurd (none-some r e)
-    by (Some second) h e = subst S (same_Some _ _ e) (All-head (Meets S heap AnIndirection) second [] (all_of h)).0
+-- each is an indirection
+module _ (S : Ref → Type 0) (heap : Heap) where
+  offer_link : (offer : Descriptor) → AllHold S heap (offer_wants offer) → (x : Bool) (r : Ref) → fresh_of x offer ≡ Some r → Holds S heap (Is r AnIndirection)
+  offer_link offer h true r e = subst (λ q. Holds S heap (Is q AnIndirection)) (same_Some _ _ e) (third_claim h)
+  offer_link offer h false r e = by offer.second (past_third h).0 e
+    where
+      by : (second : Option Ref) → Holds S heap (Each (refs_of_option second) AnIndirection) → second ≡ Some r → Holds S heap (Is r AnIndirection)
+      by None h e = absurd (none-some r e)
+      by (Some q) h e = subst (λ p. Holds S heap (Is p AnIndirection)) (same_Some _ _ e) (from_meets q (All-head (Meets S heap AnIndirection) q [] (all_of h)))
 
-complete_offer_wants : (S : Ref → Type 0) (heap : Heap) (c : Complete) → AllHold S heap (complete_wants c.offer c.line) → AllHold S heap (offer_wants c.offer)
-complete_offer_wants S heap c h = by c.line h
-  where
-    by : (l : CompleteLine) → AllHold S heap (complete_wants c.offer l) → AllHold S heap (offer_wants c.offer)
-    by (complete.Reading l) h = first_hold S heap (offer_wants c.offer) (read_wants c.offer.root l) h
-    by (complete.Swap main) h = first_hold S heap (offer_wants c.offer) (Is main AMain ∷ []) h
+  complete_link : (offer : Descriptor) (l : CompleteLine) → AllHold S heap (complete_wants offer l) → (x : Bool) (r : Ref) → fresh_of x offer ≡ Some r → Holds S heap (Is r AnIndirection)
+  complete_link offer (complete.Reading l) h = offer_link offer (first_hold S heap (offer_wants offer) (read_wants offer.root l) h)
+  complete_link offer (complete.Swap main) h = offer_link offer (first_hold S heap (offer_wants offer) (Is main AMain ∷ []) h)
 
 module _ (S : Ref → Type 0) (state : State) (operation : Operation) where
+  pub fresh_link : (l : Line) → AllHold S state.heap (line_wants state.limits.hash operation.call operation.access l) → (x : Bool) (r : Ref) → fresh_in x l ≡ Some r →
+      Holds S state.heap (Is r AnIndirection)
+  fresh_link (line.Copy (copy.Second root main successor)) h true r e = subst (λ q. Holds S state.heap (Is q AnIndirection)) (same_Some _ _ e) (third_claim h)
+  fresh_link (line.Copy (copy.Second root main successor)) h false r e = absurd (none-some r e)
+  fresh_link (line.Copy (copy.Offer offer)) h x r e = offer_link S state.heap offer h x r e
+  fresh_link (line.Copy (copy.Complete c)) h x r e = complete_link S state.heap c.offer c.line h x r e
+  fresh_link l h x r e = absurd (none-some r e)
+
   pub fresh_safe : (l : Line) → AllHold S state.heap (line_wants state.limits.hash operation.call operation.access l) → (x : Bool) (r : Ref) → fresh_in x l ≡ Some r → S r
-  fresh_safe (line.Copy (copy.Second root main successor)) h true r e = subst S (same_Some _ _ e) (safe_of h.1.1.0)
-  fresh_safe (line.Copy (copy.Second root main successor)) h false r e = absurd (none-some r e)
-  fresh_safe (line.Copy (copy.Offer offer)) h x r e = offer_fresh S state.heap offer h x r e
-  fresh_safe (line.Copy (copy.Complete c)) h x r e = offer_fresh S state.heap c.offer (complete_offer_wants S state.heap c h) x r e
-  fresh_safe l h x r e = absurd (none-some r e)
+  fresh_safe l h x r e = safe_of (fresh_link l h x r e)
 
 -- ---- where a line has them from
 

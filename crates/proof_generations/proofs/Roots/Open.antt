@@ -3,11 +3,10 @@ use Rattle.std.proofs.Common.{◌≡◌, ℕ, zero, suc, ◌<◌, ◌≤◌, Boo
 use Rattle.std.proofs.lemmas.Bool.{true≢false, cases_eq}
 use Rattle.std.proofs.lemmas.Option.{none-some, same_Some}
 use Rattle.proof_generations.specs.Vocabulary.{Writable, Ref, generation_at, Operation, Plain, Bounds, Step, handle_of, is_close, State, first_state, root_of, word_of, word_at, operation_of}
-use Rattle.proof_generations.specs.Vocabulary.{operation_after, turns, noted_turn, IsRun, Turn, closed_at, Record}
+use Rattle.proof_generations.specs.Vocabulary.{operation_after, turns, noted_turn, IsRun, Turn, closed_at, Record, is_end}
 use Rattle.proof_generations.specs.Beneath.machine_model.proofs.Actors.{mark_only, marks_in}
 use Rattle.proof_generations.specs.Beneath.machine_model.proofs.Found.{none_found}
 use Rattle.proof_generations.specs.Beneath.machine_model.proofs.Times.{at_each_time, steps_at}
-use Rattle.proof_generations.specs.Beneath.proof_memory.specs.Laws.{is_end}
 use Rattle.proof_generations.specs.Beneath.proof_memory.proofs.Safety.Base.{close_ends, goes_no_end}
 use Rattle.proof_generations.proofs.Handles.Running.{Comes, began, rested, went, comes, place_of_actor, gave}
 use Rattle.proof_generations.specs.Running.{Runs}
@@ -84,14 +83,13 @@ module _ {limits : Bounds} {states : ℕ → State} {last : ℕ} (r : IsRun limi
   ]
 
 -- what an operation on a writable handle finds in its root word with no offer wasn't closed before
-pub open_root : {limits : Bounds} {states : ℕ → State} {last : ℕ} (run : IsRun limits states last) (t : ℕ) → t ≤ last → (actor : ℕ) (operation : Operation) →
-    operation_of (states t) actor ≡ Some operation →
-    is_end operation.line ≡ false → operation.access ≡ Writable → (q : Ref) → word_at (states t) (handle_of operation.call) ≡ Plain q → (c : ℕ) →
-    closed_at (run.records last) (generation_at (states t).heap q) ≡ Some c → t ≤ c
-open_root {limits} {states} {last} run t within actor operation is going w q word c e =
-    let I = ordered_at run t within in
-    let (k, place, at_k) = place_of_actor (states t) actor operation is in
-    let (root, found, access) = I.handles.on_open k operation at_k (no_close_at run t within k operation at_k going) in
-    let its : gen (states t) root ≡ generation_at (states t).heap q = ap (λ x. generation_at (states t).heap (root_of x)) (sym (ap word_of found) ∙ word) in
-    closed_from run t (generation_at (states t).heap q)
-    (ap (closed_at (run.records t)) (sym its) ∙ I.roots.unclosed (handle_of operation.call) root found (access ∙ w)) last c (omega arith) within e
+module _ {limits : Bounds} {states : ℕ → State} {last : ℕ} (run : IsRun limits states last) where
+  pub open_root : (t : ℕ) → t ≤ last → (actor : ℕ) (operation : Operation) → operation_of (states t) actor ≡ Some operation → is_end operation.line ≡ false → operation.access ≡ Writable →
+      (q : Ref) → word_at (states t) (handle_of operation.call) ≡ Plain q → (c : ℕ) → closed_at (run.records last) (generation_at (states t).heap q) ≡ Some c → t ≤ c
+  open_root t within actor operation is going w q word c e =
+      let I = ordered_at run t within in
+      let (k, place, at_k) = place_of_actor (states t) actor operation is in
+      let (root, found, access) = I.handles.on_open k operation at_k (no_close_at run t within k operation at_k going) in
+      let its : gen (states t) root ≡ generation_at (states t).heap q = ap (λ x. generation_at (states t).heap (root_of x)) (sym (ap word_of found) ∙ word) in
+      closed_from run t (generation_at (states t).heap q)
+      (ap (closed_at (run.records t)) (sym its) ∙ I.roots.unclosed (handle_of operation.call) root found (access ∙ w)) last c (omega arith) within e

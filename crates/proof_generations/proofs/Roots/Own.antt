@@ -5,14 +5,13 @@ use Rattle.std.proofs.lemmas.Bool.{true≢false, false≢true}
 use Rattle.std.proofs.lemmas.Option.{none-some, same_Some}
 use Rattle.proof_generations.specs.Vocabulary.{Access, Writable, ReadOnly, Call, Clear, Snapshot, Freeze, Close, Entries, Count, Ref, Indirection, generation_at, generation_of, next_ref, Line}
 use Rattle.proof_generations.specs.Vocabulary.{Operation, Descriptor, Root, Outcome, Step, handle_of, is_close, needs_writable, State, root_at, root_of, word_of, operation_of, action_of, first_line}
-use Rattle.proof_generations.specs.Vocabulary.{opened_root, Begins, Ends, Sweeps, GivesUp, Moves, Record, closed_at, noted, told_in}
+use Rattle.proof_generations.specs.Vocabulary.{opened_root, Begins, Ends, Sweeps, GivesUp, Moves, Record, closed_at, noted, told_in, made_node}
 use Rattle.proof_generations.specs.Beneath.machine_model.specs.declared.actions.Action.TheVariants as act
 use Rattle.proof_generations.specs.Beneath.machine_model.specs.declared.copying.CopyLine.TheVariants as copy
 use Rattle.proof_generations.specs.Beneath.machine_model.specs.declared.lines.Line.TheVariants as line
 use Rattle.proof_generations.specs.Beneath.machine_model.specs.declared.steps.Step.TheVariants as step
 use Rattle.proof_generations.specs.Beneath.machine_model.specs.Moves.{Goes}
 use Rattle.proof_generations.specs.Beneath.machine_model.proofs.Actors.{marks_in, marks_by, marks_of}
-use Rattle.proof_generations.specs.Beneath.proof_memory.specs.Making.{made_node}
 use Rattle.proof_generations.specs.Beneath.proof_memory.proofs.Safety.States.{IsSafe}
 use Rattle.proof_generations.specs.Beneath.proof_memory.proofs.Safety.Steps.{made_fresh}
 use Rattle.proof_generations.proofs.Handles.Running.{comes, one_at}
@@ -37,15 +36,20 @@ pub record IsUnused (state : State) (past : Record) (g : ℕ) : Type 0 where
   pub unclosed : closed_at past g ≡ None
   pub alone : (handle : ℕ) (root : Root) → root_at state handle ≡ Some root → gen state root ≡ g → ⊥
 
+-- an operation that isn't marked is to offer a fresh root
+pub record IsToOffer (state : State) (k : ℕ) (x : Bool) (r : Ref) : Type 0 where
+  pub operation : Operation
+  pub runs : Runs state k operation
+  pub unmarked : operation.is_marked ≡ false
+  pub its : fresh_in x operation.line ≡ Some r
+
 pub record HasRoots (state : State) (past : Record) : Type 0 where
   pub unclosed : (handle : ℕ) (root : Root) → root_at state handle ≡ Some root → root.access ≡ Writable → closed_at past (gen state root) ≡ None
   pub is_closed : (handle : ℕ) (root : Root) → root_at state handle ≡ Some root → root.access ≡ ReadOnly → (c : ℕ) × (closed_at past (gen state root) ≡ Some c)
   pub apart : (handle other : ℕ) (a b : Root) → root_at state handle ≡ Some a → root_at state other ≡ Some b → a.access ≡ Writable → b.access ≡ Writable → gen state a ≡ gen state b → handle ≡ other
   pub fresh : (k : ℕ) (operation : Operation) (x : Bool) (r : Ref) → Runs state k operation → operation.is_marked ≡ false → fresh_in x operation.line ≡ Some r →
       IsUnused state past (generation_at state.heap r)
-  pub fresh_apart : (k j : ℕ) (a b : Operation) (x y : Bool) (r q : Ref) → Runs state k a → Runs state j b → a.is_marked ≡ false → b.is_marked ≡ false →
-      fresh_in x a.line ≡ Some r → fresh_in y b.line ≡ Some q →
-      generation_at state.heap r ≡ generation_at state.heap q → (k ≡ j) × (x ≡ y)
+  pub fresh_apart : (k j : ℕ) (x y : Bool) (r q : Ref) → IsToOffer state k x r → IsToOffer state j y q → generation_at state.heap r ≡ generation_at state.heap q → (k ≡ j) × (x ≡ y)
 
 pub first_none : (call : Call) (x : Bool) (r : Ref) → fresh_in x (first_line call) ≡ Some r → ⊥
 first_none (Entries h) x r e = none-some r e
@@ -57,6 +61,9 @@ first_none call x r e = none-some r e
 pub its_fresh : (l : Line) (offer : Descriptor) (x : Bool) (r : Ref) → own_offer l ≡ Some offer → fresh_of x offer ≡ Some r → fresh_in x l ≡ Some r
 its_fresh (line.Copy (copy.Complete c)) offer x r e f = ap (fresh_of x) (same_Some _ _ e) ∙ f
 its_fresh l offer x r e f = absurd (none-some offer e)
+
+pub to_offer : {state : State} {handle : ℕ} {offer : Descriptor} (b : StandsBy state handle offer) (x : Bool) (r : Ref) → fresh_of x offer ≡ Some r → IsToOffer state b.k x r
+to_offer {offer} b x r e = record { operation = b.owner; runs = b.runs; unmarked = b.unmarked; its = its_fresh b.owner.line offer x r b.completes e }
 
 -- the roots that an offer brings keep their generations over a step
 pub brought_kept : (state : State) → IsSafe state → (s : Step) (o : Outcome) (after : State) → Moves state s o after → (handle : ℕ) (offer : Descriptor) → StandsBy state handle offer →
@@ -209,9 +216,7 @@ module _ (state : State) (S : IsSafe state) (I : HasOffers state) (H : HasHandle
       )
 
       two_fresh : (x y : Bool) (r q : Ref) → fresh_of x offer ≡ Some r → fresh_of y offer ≡ Some q → generation_at state.heap r ≡ generation_at state.heap q → x ≡ y
-      two_fresh x y r q e f same =
-          (R.fresh_apart stands.k stands.k stands.owner stands.owner x y r q stands.runs stands.runs stands.unmarked stands.unmarked (its_fresh stands.owner.line offer x r stands.completes e)
-          (its_fresh stands.owner.line offer y q stands.completes f) same).1
+      two_fresh x y r q e f same = (R.fresh_apart stands.k stands.k x y r q (to_offer stands x r e) (to_offer stands y q f) same).1
 
       apart_by : (h j : ℕ) (a b : Root) → Behind h a → Behind j b → a.access ≡ Writable → b.access ≡ Writable → gen after a ≡ gen after b → h ≡ j
       apart_by h j a b (kept p e pa ps away) (kept q f qa qs away') wa wb same = R.apart h j p q e f (sym pa ∙ wa) (sym qa ∙ wb) (sym ps ∙ same ∙ qs)
@@ -232,7 +237,7 @@ module _ (state : State) (S : IsSafe state) (I : HasOffers state) (H : HasHandle
           generation_at state.heap q ≡ generation_at state.heap r → ⊥
       not_its k found ran unmarked x r e y q f same =
           let place =
-          (R.fresh_apart stands.k k stands.owner ran.was y x q r stands.runs ran.at_k stands.unmarked (ran.unmarked unmarked) (its_fresh stands.owner.line offer y q stands.completes f) e same).0 in
+          (R.fresh_apart stands.k k y x q r (to_offer stands y q f) (record { operation = ran.was; runs = ran.at_k; unmarked = ran.unmarked unmarked; its = e }) same).0 in
           let one = one_at state k stands.owner ran.was (subst (λ i. Runs state i stands.owner) place stands.runs) ran.at_k in
           let mine = own_numbers stands.owner offer (I.own stands.k stands.owner stands.runs) stands.completes in
           ran.not_marked unmarked
@@ -251,26 +256,22 @@ module _ (state : State) (S : IsSafe state) (I : HasOffers state) (H : HasHandle
       by None e = refl
       by (Some c) e = absurd (omega (arith, closed_below state.generations past.closings state.generations c C e))
 
-  fresh_apart_by : (k j : ℕ) (a b : Operation) (x y : Bool) (r q : Ref) → FreshHad k a x r → FreshHad j b y q → a.is_marked ≡ false → b.is_marked ≡ false →
-      generation_at after.heap r ≡ generation_at after.heap q → (k ≡ j) × (x ≡ y)
-  fresh_apart_by k j a b x y r q (old p e) (old t f) ua ub same =
-      R.fresh_apart k j p.was t.was x y r q p.at_k t.at_k (p.unmarked ua) (t.unmarked ub) e f
-      (sym (fresh_kept state S s o after m k p.was x r p.at_k e) ∙ same ∙ fresh_kept state S s o after m j t.was y q t.at_k f)
-  fresh_apart_by k j a b x y r q (old p e) (made was at_j is drawn side) ua ub same =
-      absurd (omega (arith, looked_up_below state B r, fresh_kept state S s o after m k p.was x r p.at_k e, same, drawn))
-  fresh_apart_by k j a b x y r q (made was at_k is drawn side) (old t f) ua ub same =
-      absurd (omega (arith, looked_up_below state B q, fresh_kept state S s o after m j t.was y q t.at_k f, same, drawn))
-  fresh_apart_by k j a b x y r q (made was at_k is drawn side) (made was' at_j is' drawn' side') ua ub same =
-      let both : step.Go (suc k) ≡ step.Go (suc j) = sym is ∙ is' in
-      let sucs : suc k ≡ suc j = cc both in
-      let place : k ≡ j = omega arith in
-      let one = one_at state j was was' (subst (λ i. Runs state i was) place at_k) at_j in
-      (place, side ∙ ap (λ (z : Operation). makes_first z.line) one ∙ sym side')
-
-  fresh_apart_after : (k j : ℕ) (a b : Operation) (x y : Bool) (r q : Ref) → Runs after k a → Runs after j b → a.is_marked ≡ false → b.is_marked ≡ false →
-      fresh_in x a.line ≡ Some r → fresh_in y b.line ≡ Some q →
-      generation_at after.heap r ≡ generation_at after.heap q → (k ≡ j) × (x ≡ y)
-  fresh_apart_after k j a b x y r q at_k at_j ua ub e f same = fresh_apart_by k j a b x y r q (fresh_had k a at_k x r e) (fresh_had j b at_j y q f) ua ub same
+  fresh_apart_after : (k j : ℕ) (x y : Bool) (r q : Ref) → IsToOffer after k x r → IsToOffer after j y q → generation_at after.heap r ≡ generation_at after.heap q → (k ≡ j) × (x ≡ y)
+  fresh_apart_after k j x y r q a b same = by (fresh_had k a.operation a.runs x r a.its) (fresh_had j b.operation b.runs y q b.its)
+    where
+      by : FreshHad k a.operation x r → FreshHad j b.operation y q → (k ≡ j) × (x ≡ y)
+      by (old p e) (old t f) =
+          R.fresh_apart k j x y r q (record { operation = p.was; runs = p.at_k; unmarked = p.unmarked a.unmarked; its = e })
+          (record { operation = t.was; runs = t.at_k; unmarked = t.unmarked b.unmarked; its = f })
+          (sym (fresh_kept state S s o after m k p.was x r p.at_k e) ∙ same ∙ fresh_kept state S s o after m j t.was y q t.at_k f)
+      by (old p e) (made was at_j is drawn side) = absurd (omega (arith, looked_up_below state B r, fresh_kept state S s o after m k p.was x r p.at_k e, same, drawn))
+      by (made was at_k is drawn side) (old t f) = absurd (omega (arith, looked_up_below state B q, fresh_kept state S s o after m j t.was y q t.at_k f, same, drawn))
+      by (made was at_k is drawn side) (made was' at_j is' drawn' side') =
+          let both : step.Go (suc k) ≡ step.Go (suc j) = sym is ∙ is' in
+          let sucs : suc k ≡ suc j = cc both in
+          let place : k ≡ j = omega arith in
+          let one = one_at state j was was' (subst (λ i. Runs state i was) place at_k) at_j in
+          (place, side ∙ ap (λ (z : Operation). makes_first z.line) one ∙ sym side')
 
   -- ---- a step that carries nothing out
 

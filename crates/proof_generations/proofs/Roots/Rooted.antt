@@ -35,19 +35,6 @@ stands : (states : ℕ → State) (t handle generation : ℕ) (root : Root) → 
 stands states t handle generation root is writable its =
     ap (standing_of (states t).heap) is ∙ ap (λ a. Some (a, gen (states t) root)) writable ∙ ap (λ g. Some (Writable, g)) its
 
--- while the handle is open and writable
-rooted_next : (states : ℕ → State) (records : ℕ → Record) (t handle generation : ℕ) (s : Step) (o : Outcome) → IsSafe (states t) → IsOrdered (states t) (records t) →
-    (states t).steps ≡ t → Moves (states t) s o (states (suc t)) → records (suc t) ≡ noted (records t) (states t).steps (told_in (states t) s) → (now : Root) →
-    root_at (states (suc t)) handle ≡ Some now → now.access ≡ Writable → IsRooted states records t handle generation → IsRooted states records (suc t) handle generation
-rooted_next states records t handle generation s o S I count m notes now e w (inl on) =
-    let (root, is_open, writable, its) = standing_root (states t) handle Writable generation on in
-    elim (root_goes_on (states t) S I.offers I.handles I.below (records t) (records (suc t)) I.closings I.roots s o (states (suc t)) m notes handle root now is_open writable e w) [
-      | inl same ↦ inl (stands states (suc t) handle generation now e w (same ∙ its))
-      | inr closed ↦ inr (t, omega arith, ap (closed_at (records (suc t))) (sym its) ∙ closed ∙ ap Some count, on)
-    ]
-rooted_next states records t handle generation s o S I count m notes now e w (inr (c, before, closed, on)) =
-    inr (c, omega (arith, before), closed_stays (states t) I.offers (records t) (records (suc t)) s o (states (suc t)) m notes generation c closed, on)
-
 -- ---- what ROOT gives
 
 -- it gives the plain root of the word
@@ -117,10 +104,22 @@ module _ (states : ℕ → State) (records : ℕ → Record) (t : ℕ) (S : IsSa
       subst (λ c. IsRooted states records t (handle_of c) g) (sym (ap (λ (x : Operation). x.call) it))
       (all k was g at_k (ap (λ (x : Operation). is_close x.call) (sym it) ∙ no_close) (ap (λ (x : Operation). x.access) (sym it) ∙ w) (ap (λ (x : Operation). x.generation) (sym it) ∙ e))
 
+  -- while the handle is open and writable
+  rooted_next : (handle generation : ℕ) (now : Root) → root_at (states (suc t)) handle ≡ Some now → now.access ≡ Writable → IsRooted states records t handle generation →
+      IsRooted states records (suc t) handle generation
+  rooted_next handle generation now e w (inl on) =
+      let (root, is_open, writable, its) = standing_root (states t) handle Writable generation on in
+      elim (root_goes_on (states t) S I.offers I.handles I.below (records t) (records (suc t)) I.closings I.roots s o (states (suc t)) m notes handle root now is_open writable e w) [
+        | inl same ↦ inl (stands states (suc t) handle generation now e w (same ∙ its))
+        | inr closed ↦ inr (t, omega arith, ap (closed_at (records (suc t))) (sym its) ∙ closed ∙ ap Some count, on)
+      ]
+  rooted_next handle generation now e w (inr (c, before, closed, on)) =
+      inr (c, omega (arith, before), closed_stays (states t) I.offers (records t) (records (suc t)) s o (states (suc t)) m notes generation c closed, on)
+
   rooted_after : AllRooted states records (suc t)
   rooted_after k found g at_k no_close w e =
       let (now, is_open, access) = (ordered_after (states t) (records t) S I s o (states (suc t)) m).handles.on_open k found at_k no_close in
-      rooted_next states records t (handle_of found.call) g s o S I count m notes now is_open (access ∙ w) (from_before k found g (comes (states t) s o (states (suc t)) m k found at_k) no_close w e)
+      rooted_next (handle_of found.call) g now is_open (access ∙ w) (from_before k found g (comes (states t) s o (states (suc t)) m k found at_k) no_close w e)
 
 -- a running operation's generation was its handle's root's until it was closed
 pub rooted_at : {limits : Bounds} {states : ℕ → State} {last : ℕ} (r : IsRun limits states last) (t : ℕ) → t ≤ last → AllRooted states r.records t

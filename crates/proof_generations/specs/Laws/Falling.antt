@@ -1,10 +1,8 @@
 -- Laws of generations along paths, for every list of steps.
 use Rattle.std.specs.Prelude.{◌≡◌, ℕ, ◌<◌, ◌≤◌, ◌⊎◌, List, Contains, Some, true}
 use Rattle.proof_generations.specs.Vocabulary.{Writable, Ref, node_at, main_at, generation_at, entries_of, logical_main, Purpose, Operation, Swap, Bounds, Step, State, operation_of, AreBounds, run}
-use Rattle.proof_generations.specs.Vocabulary.{states_of, last_of, closed_at, record_of}
+use Rattle.proof_generations.specs.Vocabulary.{states_of, last_of, closed_at, record_of, HasIndirection, IsGiven, known_after}
 use Rattle.proof_generations.specs.Beneath.machine_model.specs.declared.lines.Line.TheVariants as line
-use Rattle.proof_commits.specs.Runs.{HasIndirection}
-use Rattle.proof_commits.specs.Laws.{IsGiven, known_after}
 use Rattle.proof_generations.specs.Falling.{ReadsClosed, WasOpened}
 use Rattle.proof_generations.specs.Beneath.proof_memory.specs.Wants.{is_indirection}
 

@@ -101,3 +101,7 @@ module _ (S : Ref → Type 0) (heap : Heap) where
   pub at_position : {main : Ref} (wanted : Wanted) (position : ℕ) → All (Meets S heap wanted) (entries_of (node_at heap main)) → Holds S heap (Is main (WithEntry position)) →
       Meets S heap wanted (entry_at heap main position)
   at_position {main} wanted position all h = all position no_ref (ltb-true position (length (entries_of (node_at heap main))) (meets_of h))
+
+  -- an entry of a branch
+  pub entry_met : Heaped S heap → {main : Ref} {position : ℕ} → Holds S heap (Is main ABranch) → Holds S heap (Is main (WithEntry position)) → Meets S heap AnEntry (entry_at heap main position)
+  entry_met H {position} m w = at_position AnEntry position (branch_entries H m) w

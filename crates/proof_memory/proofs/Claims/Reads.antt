@@ -17,6 +17,7 @@ use Rattle.machine_model.specs.declared.walking.WalkLine.TheVariants as walk
 use Rattle.proof_memory.specs.Wants.{AllHold, AnIndirection, Claim, Holds, Is, climb_carries, complete_wants, copy_wants, done_wants, line_wants}
 use Rattle.proof_memory.specs.Wants.{offer_wants, path_wants, purpose_wants, read_wants, root_wants, swap_line_wants, swap_wants, walk_wants}
 use Rattle.proof_memory.proofs.Claims.Uses.{first_hold, last_hold}
+use Rattle.proof_memory.proofs.Claims.Named.{past_third}
 
 -- what is read is an indirection
 pub read_link : (S : Ref → Type 0) (heap : Heap) (i : Ref) (l : ReadLine) → AllHold S heap (read_wants i l) → Holds S heap (Is i AnIndirection)
@@ -57,7 +58,7 @@ module _ (S : Ref → Type 0) (heap : Heap) (r : Read) where
   read_claims kind call access (line.Key (key.Read path q)) is = behind (path_wants path) q is
   read_claims kind call access (line.Key l) is = absurd (grind arith)
   read_claims kind call access (line.Build l) is = absurd (none-some r is)
-  read_claims kind call access (line.Swap why s) is = λ h. swaps s.indirection s.line is (first_hold S heap (swap_wants s) (purpose_wants why) h).1.1.1
+  read_claims kind call access (line.Swap why s) is = λ h. swaps s.indirection s.line is (past_third (first_hold S heap (swap_wants s) (purpose_wants why) h))
   read_claims kind call access (line.Renew (renew.Read path main done q)) is = behind (done_wants path main done) q is
   read_claims kind call access (line.Renew l) is = absurd (grind arith)
   read_claims kind call access (line.Clean (clean.Read path q)) is = behind (path_wants path) q is

@@ -11,6 +11,7 @@ use Rattle.machine_model.proofs.HeapMoves.{aborted_heap, offered_heap, completed
 use Rattle.proof_memory.specs.Wants.{AnIndirection, AMain, meets, is_formed, Claim, Is, So, Holds, so, AllHold, node_wants, prev_wants, action_wants}
 use Rattle.proof_memory.specs.Laws.{SameNode, IsInUse}
 use Rattle.proof_memory.proofs.Claims.Uses.{same_node, safe_of, meets_of}
+use Rattle.proof_memory.proofs.Claims.Named.{third_claim}
 use Rattle.proof_memory.proofs.Heap.Under.{main_here, main_other, prev_here, prev_other, freed_here, freed_other, fresh_slot, taken_all, none_taken, births_taken, main_births}
 use Rattle.machine_model.proofs.Grown.{node_standing}
 
@@ -76,12 +77,13 @@ module _ (S : Ref → Type 0) (heap : Heap) (due : Option Ref) (used : (r : Ref)
       Does (with_prev (with_main heap i fresh) fresh (prev.Pending replaced))
   publishes i replaced fresh e h =
       let (was, found) = used i (safe_of h.0) in
-      let (new, found_fresh) = used fresh (safe_of h.1.1.0) in
-      let other : fresh ≡ i → ⊥ = λ same. apart h.0 h.1.1.0 (sym same) in
+      let (new, found_fresh) = used fresh (safe_of (third_claim h)) in
+      let other : fresh ≡ i → ⊥ = λ same. apart h.0 (third_claim h) (sym same) in
       let between = with_main heap i fresh in
       let fresh_between = main_other heap i fresh was found fresh other ∙ found_fresh in
-      Publishes i replaced fresh was new (births_prev between fresh (prev.Pending replaced) ∙ main_births heap i fresh) h (apart h.0 h.1.1.0) found (main_is i was found ∙ e) found_fresh
-      (prev_other between fresh (prev.Pending replaced) new fresh_between i (apart h.0 h.1.1.0) ∙ main_here heap i fresh was found) (prev_here between fresh (prev.Pending replaced) new fresh_between)
+      Publishes i replaced fresh was new (births_prev between fresh (prev.Pending replaced) ∙ main_births heap i fresh) h (apart h.0 (third_claim h)) found (main_is i was found ∙ e) found_fresh
+      (prev_other between fresh (prev.Pending replaced) new fresh_between i (apart h.0 (third_claim h)) ∙ main_here heap i fresh was found)
+      (prev_here between fresh (prev.Pending replaced) new fresh_between)
       (λ r a b. prev_other between fresh (prev.Pending replaced) new fresh_between r b ∙ main_other heap i fresh was found r a)
 
   pub frees : (q : Ref) → due ≡ Some q → IsInUse heap q → Does (freed heap q)
@@ -111,7 +113,7 @@ module _ (S : Ref → Type 0) (heap : Heap) (due : Option Ref) (used : (r : Ref)
 
     decided_by : (i main previous : Ref) (told : Option ℕ) (v : Verdict) → AllHold S heap (action_wants (act.Decide i main previous told)) → Does (decided heap main previous v)
     decided_by i main previous told Commits h = decides main prev.None (h.1.0, tt)
-    decided_by i main previous told Fails h = decides main (prev.Failed previous) (h.1.0, (h.1.1.0, tt))
+    decided_by i main previous told Fails h = decides main (prev.Failed previous) (h.1.0, (third_claim h, tt))
     decided_by i main previous told (Overtaken licensed) h = same
 
 -- the effect of an action of a state

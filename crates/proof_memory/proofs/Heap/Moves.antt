@@ -17,6 +17,7 @@ use Rattle.machine_model.proofs.Slots.{ripe_in_use}
 use Rattle.proof_memory.specs.Wants.{AllHold, action_wants}
 use Rattle.proof_memory.specs.Laws.{IsInUse}
 use Rattle.proof_memory.proofs.Claims.Uses.{safe_of}
+use Rattle.proof_memory.proofs.Claims.Named.{third_claim}
 use Rattle.proof_memory.proofs.Heap.Under.{main_here, main_other, prev_here, prev_other, freed_here, freed_other, fresh_slot, taken_all, none_taken}
 use Rattle.proof_memory.proofs.Safety.Guards.{Safe}
 use Rattle.proof_memory.proofs.Heap.Effects.{SameSlot, same_slot, slots_joined, apart, main_is}
@@ -80,8 +81,8 @@ module _ (state : State) (I : IsSafe state) (actor k : ℕ) (operation : Operati
   published_by i replaced fresh a h false e = same_heap state.heap refl
   published_by i replaced fresh a h true e =
       let (was, at_i) = used_of state operation.epoch i (safe_of h.0) in
-      let (new, at_fresh) = used_of state operation.epoch fresh (safe_of h.1.1.0) in
-      let differ = apart S state.heap None (used_of state operation.epoch) h.0 h.1.1.0 in
+      let (new, at_fresh) = used_of state operation.epoch fresh (safe_of (third_claim h)) in
+      let differ = apart S state.heap None (used_of state operation.epoch) h.0 (third_claim h) in
       let between = with_main state.heap i fresh in
       let fresh_between = main_other state.heap i fresh was at_i fresh (λ same. differ (sym same)) ∙ at_fresh in
       publishes actor operation i replaced fresh was new (running, a) differ at_i (main_is S state.heap None (used_of state operation.epoch) i was at_i ∙ eqb-true _ _ e) at_fresh

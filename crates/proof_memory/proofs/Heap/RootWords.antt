@@ -9,6 +9,7 @@ use Rattle.machine_model.specs.declared.actions.Action.TheVariants as act
 use Rattle.machine_model.proofs.Found.{found_elsewhere, found_here}
 use Rattle.proof_memory.specs.Wants.{AnIndirection, Each, Holds, AllHold, word_wants, action_wants}
 use Rattle.proof_memory.proofs.Claims.Uses.{Meets, from_meets, all_of}
+use Rattle.proof_memory.proofs.Claims.Named.{third_claim, past_third}
 
 rewritten_word : (word : RootWord) (o : Option Root) (root : Root) → rewritten word o ≡ Some root → word ≡ root.word
 rewritten_word word None root e = absurd (none-some root e)
@@ -86,7 +87,7 @@ module _ (S : Ref → Type 0) (heap : Heap) where
   puts_right : (action : Action) → AllHold S heap (action_wants action) → PutsRight (λ word. AllHold S heap (word_wants word)) action
   puts_right (act.Abort offer) w = (w.0, tt)
   puts_right (act.Offer offer) w = w
-  puts_right (act.Complete offer main) w = ((w.1.0, tt), (w.1.1.1.0, tt), seconds_right offer.second w.1.1.1.1.0)
+  puts_right (act.Complete offer main) w = ((w.1.0, tt), (third_claim w.1, tt), seconds_right offer.second (past_third w.1).0)
   puts_right action w = tt
 
   pub acted_words : (state : State) (at : ℕ) (action : Action) → WordsHold state → AllHold S heap (action_wants action) → WordsHold (acted state at action)

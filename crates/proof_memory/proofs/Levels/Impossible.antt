@@ -17,9 +17,10 @@ use Rattle.machine_model.specs.declared.repairs.RenewLine.TheVariants as renew
 use Rattle.machine_model.specs.declared.repairs.CleanLine.TheVariants as clean
 use Rattle.machine_model.specs.declared.repairs.ClimbLine.TheVariants as climb
 use Rattle.machine_model.specs.declared.walking.WalkLine.TheVariants as walk
-use Rattle.proof_memory.specs.Wants.{AMain, ABranch, AList, TombOrList, AnEntry, ASingle, WithEntry, meets, is_list, Is, Each, Holds, AllHold, listed, line_wants}
+use Rattle.proof_memory.specs.Wants.{AMain, ABranch, AList, TombOrList, AnEntry, ASingle, meets, is_list, Is, Each, Holds, AllHold, listed, line_wants}
 use Rattle.proof_memory.proofs.Claims.Uses.{Meets, meets_of, is_also, all_of, fact_of}
-use Rattle.proof_memory.proofs.Claims.Nodes.{Heaped, branch_entries, listed_entries, at_position}
+use Rattle.proof_memory.proofs.Claims.Nodes.{Heaped, listed_entries, at_position, entry_met}
+use Rattle.proof_memory.proofs.Claims.Named.{main_claim, past_place, left_claim, past_climb}
 use Rattle.proof_memory.proofs.Lines.Key.{Changes, reader_changes, listed_either, changed_list}
 
 abbrev pub IsImpossible : Line → Type 0
@@ -153,10 +154,6 @@ module _ (state : State) (operation : Operation) where
 
   module _ (S : Ref → Type 0) (H : Heaped S state.heap) (fits : operation.access ≡ ReadOnly → needs_writable operation.call ≡ false) where
     -- the entry that is looked at
-    entry_meets : (main : Ref) (position : ℕ) → Holds S state.heap (Is main ABranch) → Holds S state.heap (Is main (WithEntry position)) →
-        meets AnEntry (node_at state.heap (entry_at state.heap main position)) ≡ true
-    entry_meets main position m w = (at_position S state.heap AnEntry position (branch_entries S state.heap H m) w).1
-
     single_never : (path : List Ref) (main : Ref) (position : ℕ) (node : Node) → meets ASingle node ≡ true → Holds S state.heap (Is main (listed operation.access)) →
         IsImpossible (after_listed state operation path main position node) → ⊥
     single_never path main position (Single k v) e m =
@@ -173,18 +170,18 @@ module _ (state : State) (operation : Operation) where
       where
         read_never : IsImpossible (key_after state operation (key.Read path r)) → ⊥
         read_never x = grind arith
-    impossible_strange (line.Key (key.Main path main)) h n i = main_strange path main (node_at state.heap main) refl (meets_of h.1.1.0) i
+    impossible_strange (line.Key (key.Main path main)) h n i = main_strange path main (node_at state.heap main) refl (meets_of (main_claim h)) i
     impossible_strange (line.Key (key.Entry path main position)) h n i =
-        absurd (entry_never path main position (node_at state.heap (entry_at state.heap main position)) (entry_meets main position h.1.1.0 h.1.1.1.0) (meets_of h.1.1.0) i)
+        absurd (entry_never path main position (node_at state.heap (entry_at state.heap main position)) (entry_met S state.heap H (main_claim h) (past_place h).0).1 (meets_of (main_claim h)) i)
     impossible_strange (line.Key (key.Listed path main position)) h n i =
         absurd (single_never path main position (node_at state.heap (entry_at state.heap main position))
-        ((at_position S state.heap ASingle position (listed_entries S state.heap H (is_also TombOrList (listed_either operation.access) h.1.1.0)) h.1.1.1.0).1) h.1.1.0 i)
+        ((at_position S state.heap ASingle position (listed_entries S state.heap H (is_also TombOrList (listed_either operation.access) (main_claim h))) (past_place h).0).1) (main_claim h) i)
     impossible_strange (line.Key (key.Sibling path main position former)) h n i =
-        absurd (sibling_never path main position former _ (node_at state.heap (entry_at state.heap main (1 - position))) (entry_meets main (1 - position) h.1.1.0 h.1.1.1.0) i)
+        absurd (sibling_never path main position former _ (node_at state.heap (entry_at state.heap main (1 - position))) (entry_met S state.heap H (main_claim h) (past_place h).0).1 i)
     impossible_strange (line.Build l) h n i = absurd (build_never state operation l i)
     impossible_strange (line.Swap why s) h n i = absurd (swap_never state operation why s i)
     impossible_strange (line.Renew (renew.Entry path main done)) h n i =
-        absurd (renew_entry_never path main done (next_entry state main done) (node_at state.heap (next_entry state main done)) (entry_meets main (length done) h.1.1.0 h.1.1.1.1.0) i)
+        absurd (renew_entry_never path main done (next_entry state main done) (node_at state.heap (next_entry state main done)) (entry_met S state.heap H (main_claim h) (left_claim h)).1 i)
     impossible_strange (line.Renew (renew.Read path main done r)) h n i = absurd (renew_read_never i)
       where
         renew_read_never : IsImpossible (renew_after state operation (renew.Read path main done r)) → ⊥
@@ -201,7 +198,7 @@ module _ (state : State) (operation : Operation) where
         branch_never (Some made) x = x
     impossible_strange (line.Clean (clean.Main path main)) h n i = absurd (clean_main_never path main (node_at state.heap main) i)
     impossible_strange (line.Clean (clean.Entry path main done)) h n i =
-        absurd (clean_entry_never path main done (next_entry state main done) (node_at state.heap (next_entry state main done)) (entry_meets main (length done) h.1.1.0 h.1.1.1.1.0) i)
+        absurd (clean_entry_never path main done (next_entry state main done) (node_at state.heap (next_entry state main done)) (entry_met S state.heap H (main_claim h) (left_claim h)).1 i)
     impossible_strange (line.Clean (clean.Tomb path main done child)) h n i = absurd (clean_tomb_never path main done (node_at state.heap child) i)
     impossible_strange (line.Clean (clean.Read path r)) h n i = absurd (clean_read_never i)
       where
@@ -215,7 +212,7 @@ module _ (state : State) (operation : Operation) where
       where
         contracted_never : IsImpossible (clean_after state operation (clean.Contracted path main done)) → ⊥
         contracted_never x = grind arith
-    impossible_strange (line.Climb (climb.Main c main)) h n i = climb_strange c main (node_at state.heap main) refl (meets_of h.1.1.1.0) i
+    impossible_strange (line.Climb (climb.Main c main)) h n i = climb_strange c main (node_at state.heap main) refl (meets_of (past_climb h).0) i
     impossible_strange (line.Climb (climb.Read c r)) h n i = absurd (climb_read_never i)
       where
         climb_read_never : IsImpossible (climb_after state operation (climb.Read c r)) → ⊥

@@ -27,13 +27,14 @@ use Rattle.machine_model.specs.declared.walking.WalkLine.TheVariants as walk
 use Rattle.machine_model.specs.declared.lines.Purpose.TheVariants as purpose
 use Rattle.machine_model.specs.declared.lines.Line.TheVariants as line
 use Rattle.machine_model.specs.Swapping.{after_swap}
-use Rattle.proof_memory.specs.Wants.{ABranch, BranchOrList, AnEntry, WithEntry, meets, Is, Holds, AllHold, line_wants, site_wants, change_wants, update_wants, swap_wants}
+use Rattle.proof_memory.specs.Wants.{ABranch, BranchOrList, WithEntry, meets, Is, Holds, AllHold, line_wants, site_wants, change_wants, update_wants, swap_wants}
 use Rattle.proof_memory.specs.Wants.{swap_line_wants, purpose_wants, read_wants}
 use Rattle.proof_memory.proofs.Claims.Uses.{safe_of, meets_of, fact_of, entry_of, from_meets, first_hold, last_hold}
-use Rattle.proof_memory.proofs.Claims.Nodes.{Heaped, branch_entries, at_position}
+use Rattle.proof_memory.proofs.Claims.Nodes.{Heaped, entry_met}
 use Rattle.proof_memory.proofs.Lines.Shared.{above_long}
 use Rattle.proof_memory.specs.Making.{made_node}
 use Rattle.proof_memory.proofs.Claims.Made.{All-inserted, All-removed, by_index_all}
+use Rattle.proof_memory.proofs.Claims.Named.{main_claim, past_place, left_claim, past_done, single_claim, past_climb, past_third}
 use Rattle.proof_memory.specs.Levels.{EntryLevel, InsideLevel, KindLevel, NodeLevel, PrevLevel, WordLevel, ReadLevel, CompleteLevel, RootLevel, PathLevel, PlaceLevel, UpdateLevel}
 use Rattle.proof_memory.specs.Levels.{ChangeLevel, BuildLevel, SwapLineLevel, SwapLevel, DoneLevel, LineLevel, ActionLevel, build_level, made_level}
 use Rattle.proof_memory.proofs.Levels.Paths.{current_level, above_level}
@@ -123,8 +124,8 @@ module _ (lv : Ref → ℕ) (state : State) (operation : Operation) (S : Ref →
   build_made (build.Single path main s former) h e = (tt, refl)
   build_made (build.Pair path main position single depth) h e =
       pair_level state.limits.hash depth _ _ (entry_at state.heap main position) single
-      (single_level lv state operation S N (entry_at state.heap main position) (from_meets (entry_at state.heap main position) (entry_of h.1.1.1.0)))
-      (single_level lv state operation S N single h.1.1.1.1.0)
+      (single_level lv state operation S N (entry_at state.heap main position) (from_meets (entry_at state.heap main position) (entry_of (past_place h).0)))
+      (single_level lv state operation S N single (past_place h).1.0)
   build_made (build.Link path main position below depth) h e = (e.2, omega arith)
   build_made (build.Rung path main position below depth) h e =
       branch_made (depth + 1) (flag_of (hash_in state operation) depth) (below ∷ []) (omega arith)
@@ -133,7 +134,7 @@ module _ (lv : Ref → ℕ) (state : State) (operation : Operation) (S : Ref →
       deeper : lv below ≡ depth + 2 → lv below ≡ depth + 1 + 1
       deeper x = omega arith
   build_made (build.Main path main c former) h e =
-      changed_level path main (flag_in state operation path) former (node_at state.heap main) c (meets_of h.1.1.0) ((N main (safe_of h.1.1.0)).0) e.0.1 e.1 h.1.1.1
+      changed_level path main (flag_in state operation path) former (node_at state.heap main) c (meets_of (main_claim h)) ((N main (safe_of (main_claim h))).0) e.0.1 e.1 (past_place h)
 
   -- ---- actions
 
@@ -192,8 +193,8 @@ module _ (lv : Ref → ℕ) (state : State) (operation : Operation) (S : Ref →
   line_level_acts (line.Climb (climb.Contracted c main)) h e =
       contracted_made (depth_of (above c.path) + 1) (is_below_root (above c.path)) (bitmap_of (node_at state.heap main)) _ (omega arith)
       (All-set (EntryLevel lv (depth_of (above c.path) + 1)) (entries_of (node_at state.heap main)) (place_in state operation c main) c.single
-      (inl (single_level lv state operation S N c.single h.1.1.0))
-      (subst (λ n. All (EntryLevel lv n) (entries_of (node_at state.heap main))) e.1 (branch_level lv state operation S N main h.1.1.1.0)))
+      (inl (single_level lv state operation S N c.single (single_claim h)))
+      (subst (λ n. All (EntryLevel lv n) (entries_of (node_at state.heap main))) e.1 (branch_level lv state operation S N main (past_climb h).0)))
   line_level_acts (line.Climb (climb.Root c l)) h e = root_acts l e.1
   line_level_acts (line.Copy (copy.Read r l)) h e = any_level 1 l.indirection l.line (read_acts l.indirection l.line e.2)
   line_level_acts (line.Copy (copy.Successor r main)) h e = (e.1, omega arith)
@@ -252,14 +253,14 @@ module _ (lv : Ref → ℕ) (state : State) (operation : Operation) (S : Ref →
         one_more = omega arith
 
     build_next : (l : BuildLine) → Wants (line.Build l) → BuildLevel lv l → Made (line.Build l) → L (build_after state operation l)
-    build_next (build.Single path main s former) h e m = build_by (build.Single path main s former) (λ made n. single_next path main former s made h.1.1.1 e) (next_ref state.heap) refl
+    build_next (build.Single path main s former) h e m = build_by (build.Single path main s former) (λ made n. single_next path main former s made (past_place h) e) (next_ref state.heap) refl
     build_next (build.Pair path main position single depth) h e m = build_by (build.Pair path main position single depth) (λ made n. (e.0, e.1, m _ made refl n)) (next_ref state.heap) refl
     build_next (build.Link path main position below depth) h e m =
         build_by (build.Link path main position below depth) (λ made n. link_next path main position depth made e.0 e.1 (m _ made refl n)) (next_ref state.heap) refl
     build_next (build.Rung path main position below depth) h e m = build_by (build.Rung path main position below depth) (λ made n. (e.0, e.1, m _ made refl n)) (next_ref state.heap) refl
     build_next (build.Main path main c former) h e m =
         build_by (build.Main path main c former)
-        (λ made n. (swap_begun path main made e.0.0 (fact_of h.1.0) e.0.1 (safe_of h.1.1.0) (m _ made refl n) n, tt, e.0.0)) (next_ref state.heap) refl
+        (λ made n. (swap_begun path main made e.0.0 (fact_of h.1.0) e.0.1 (safe_of (main_claim h)) (m _ made refl n) n, tt, e.0.0)) (next_ref state.heap) refl
 
     link_by : (path : List Ref) (main : Ref) (done : List Ref) → DoneLevel lv path main done →
         ((made : Ref) → next_ref state.heap ≡ Some made → lv made ≡ depth_of path + 2) → (o : Option Ref) → next_ref state.heap ≡ o →
@@ -319,32 +320,33 @@ module _ (lv : Ref → ℕ) (state : State) (operation : Operation) (S : Ref →
     line_level_next (line.Key (key.Main path main)) h e m = key_main_level lv state operation S N path main (node_at state.heap main) e
     line_level_next (line.Key (key.Entry path main position)) h e m =
         key_entry_level lv state operation S N path main position (node_at state.heap (entry_at state.heap main position)) refl
-        ((at_position S state.heap AnEntry position (branch_entries S state.heap H h.1.1.0) h.1.1.1.0).0) (fact_of h.1.0) e (at_level path main position h.1.1.0 h.1.1.1.0)
+        ((entry_met S state.heap H (main_claim h) (past_place h).0).0) (fact_of h.1.0) e (at_level path main position (main_claim h) (past_place h).0)
     line_level_next (line.Key (key.Listed path main position)) h e m = listed_level lv state operation S N path main position (node_at state.heap (entry_at state.heap main position)) e
     line_level_next (line.Key (key.Sibling path main position former)) h e m =
         sibling_level lv state operation S N path main position former _ (node_at state.heap (entry_at state.heap main (1 - position))) e
     line_level_next (line.Build l) h e m = build_next l h e m
     line_level_next (line.Swap why s) h e m =
         let its = first_hold S state.heap (swap_wants s) (purpose_wants why) h in
-        line_swap_level lv state operation S N why s _ (renews why (last_hold S state.heap (swap_wants s) (purpose_wants why) h)) e.0 (swap_line_next s s.line its.1.1.1 e.0 e.1) e.2
+        line_swap_level lv state operation S N why s _ (renews why (last_hold S state.heap (swap_wants s) (purpose_wants why) h)) e.0 (swap_line_next s s.line (past_third its) e.0 e.1) e.2
     line_level_next (line.Renew (renew.Entry path main done)) h e m =
         renew_entry_level lv state operation S N path main done (next_entry state main done) (node_at state.heap (next_entry state main done)) refl
-        ((at_position S state.heap AnEntry (length done) (branch_entries S state.heap H h.1.1.0) h.1.1.1.1.0).0) e (next_level path main done e h.1.1.0 h.1.1.1.1.0)
-    line_level_next (line.Renew (renew.Read path main done r)) h e m = renew_read_level lv state operation S N path main done r.indirection _ e.0 e.1 (reads r.indirection r.line h.1.1.1.1.1 e.2)
+        ((entry_met S state.heap H (main_claim h) (left_claim h)).0) e (next_level path main done e (main_claim h) (left_claim h))
+    line_level_next (line.Renew (renew.Read path main done r)) h e m = renew_read_level lv state operation S N path main done r.indirection _ e.0 e.1 (reads r.indirection r.line (past_done h) e.2)
     line_level_next (line.Renew (renew.Link path main done child)) h e m = link_by path main done e.0 (λ made n. m _ made refl n) (next_ref state.heap) refl
-    line_level_next (line.Renew (renew.Branch path main done)) h e m = branch_by path main e.0 (fact_of h.1.0) (safe_of h.1.1.0) (λ made n. m _ made refl n) (next_ref state.heap) refl
+    line_level_next (line.Renew (renew.Branch path main done)) h e m = branch_by path main e.0 (fact_of h.1.0) (safe_of (main_claim h)) (λ made n. m _ made refl n) (next_ref state.heap) refl
     line_level_next (line.Clean (clean.Read path r)) h e m = clean_read_level lv state operation S N path r.indirection _ e.0 e.1 (reads r.indirection r.line h.1.1 e.2)
     line_level_next (line.Clean (clean.Main path main)) h e m = clean_main_level lv state operation S N path main (node_at state.heap main) e
     line_level_next (line.Clean (clean.Entry path main done)) h e m =
-        clean_entry_level lv state operation S N path main done (next_entry state main done) (node_at state.heap (next_entry state main done)) e (next_level path main done e h.1.1.0 h.1.1.1.1.0)
-    line_level_next (line.Clean (clean.Child path main done r)) h e m = child_level lv state operation S N path main done r.indirection _ e.0 (reads r.indirection r.line h.1.1.1.1.1 e.1)
+        clean_entry_level lv state operation S N path main done (next_entry state main done) (node_at state.heap (next_entry state main done)) e
+        (next_level path main done e (main_claim h) (left_claim h))
+    line_level_next (line.Clean (clean.Child path main done r)) h e m = child_level lv state operation S N path main done r.indirection _ e.0 (reads r.indirection r.line (past_done h) e.1)
     line_level_next (line.Clean (clean.Tomb path main done child)) h e m =
-        clean_tomb_level lv state operation S N path main done (node_at state.heap child) (H.inside child (safe_of h.1.1.1.1.1.0)) e (next_level path main done e h.1.1.0 h.1.1.1.1.0)
-    line_level_next (line.Clean (clean.Contracted path main done)) h e m = clean_by path main e.0 (fact_of h.1.0) (safe_of h.1.1.0) (λ made n. m _ made refl n) (next_ref state.heap) refl
-    line_level_next (line.Climb (climb.Read c r)) h e m = climb_read_level lv state operation S N c r.indirection _ e.0 e.1 (reads r.indirection r.line h.1.1.1 e.2)
+        clean_tomb_level lv state operation S N path main done (node_at state.heap child) (H.inside child (safe_of (past_done h).0)) e (next_level path main done e (main_claim h) (left_claim h))
+    line_level_next (line.Clean (clean.Contracted path main done)) h e m = clean_by path main e.0 (fact_of h.1.0) (safe_of (main_claim h)) (λ made n. m _ made refl n) (next_ref state.heap) refl
+    line_level_next (line.Climb (climb.Read c r)) h e m = climb_read_level lv state operation S N c r.indirection _ e.0 e.1 (reads r.indirection r.line (past_climb h) e.2)
     line_level_next (line.Climb (climb.Main c main)) h e m = climb_main_level lv state operation S N c main (node_at state.heap main) e.0 e.1
-    line_level_next (line.Climb (climb.Contracted c main)) h e m = climb_by c main e.0 (fact_of h.1.0) e.1 (safe_of h.1.1.1.0) (λ made n. m _ made refl n) (next_ref state.heap) refl
-    line_level_next (line.Climb (climb.Root c l)) h e m = climb_root_level lv state operation S N c _ e.0 (root_next lv state operation S N W l h.1.1.1 e.1)
+    line_level_next (line.Climb (climb.Contracted c main)) h e m = climb_by c main e.0 (fact_of h.1.0) e.1 (safe_of (past_climb h).0) (λ made n. m _ made refl n) (next_ref state.heap) refl
+    line_level_next (line.Climb (climb.Root c l)) h e m = climb_root_level lv state operation S N c _ e.0 (root_next lv state operation S N W l (past_climb h) e.1)
     line_level_next (line.Copy (copy.Read r l)) h e m = copy_read_level lv state operation S N r l.indirection _ e.0 e.1 (reads l.indirection l.line h.1 e.2)
     line_level_next (line.Copy (copy.Successor r main)) h e m =
         copy_by (copy.Successor r main) (λ made n. successor_next operation.call r main made e.0 e.1 (m _ made refl n)) (next_ref state.heap) refl

@@ -24,6 +24,7 @@ use Rattle.machine_model.proofs.Slots.{ripe_in_use}
 use Rattle.proof_memory.specs.Wants.{is_list, is_indirection, AllHold, line_wants}
 use Rattle.proof_memory.specs.Laws.{IsInUse}
 use Rattle.proof_memory.proofs.Claims.Uses.{safe_of, all_of, fact_of}
+use Rattle.proof_memory.proofs.Claims.Named.{main_claim, past_climb}
 use Rattle.proof_memory.proofs.Heap.Under.{fresh_slot, taken_all}
 use Rattle.proof_memory.proofs.Safety.EachStep.{each_after}
 use Rattle.proof_memory.specs.Making.{made_node}
@@ -204,7 +205,7 @@ module _ (lv : Ref → ℕ) (state : State) (I : IsSafe state) (h : HasLevels lv
 
   strange_by : (kind : HashKind) (call : Call) (access : Access) (l : Line) → AllHold (IsInUse state.heap) state.heap (line_wants kind call access l) → LineLevel lv l → IsStrange state l → ⊥
   strange_by kind call access (line.Key (key.Main path main)) c e s =
-      tomb_at_root path (lv main) e.1 s.0 (tomb_two (lv main) (node_at state.heap main) s.1 (shape_under main (safe_of c.1.1.0)))
+      tomb_at_root path (lv main) e.1 s.0 (tomb_two (lv main) (node_at state.heap main) s.1 (shape_under main (safe_of (main_claim c))))
   strange_by kind call access (line.Climb (climb.Main x main)) c e s =
       let long = fact_of c.1.0 in
       let many : 1 < length x.path = ltb-true 1 (length x.path) long in
@@ -212,7 +213,7 @@ module _ (lv : Ref → ℕ) (state : State) (I : IsSafe state) (h : HasLevels lv
       list_as_parent x.path (lv (get_or x.path (length x.path - 1) no_ref)) (lv main) long (above_depth x.path long) (e.0 (length x.path - 1) no_ref (omega arith))
       (indirection_high (lv (get_or x.path (length x.path - 1) no_ref)) (node_at state.heap (get_or x.path (length x.path - 1) no_ref)) last.1
       (shape_under (get_or x.path (length x.path - 1) no_ref) last.0)) e.1
-      (list_deep (lv main) (node_at state.heap main) s (shape_under main (safe_of c.1.1.1.0)))
+      (list_deep (lv main) (node_at state.heap main) s (shape_under main (safe_of (past_climb c).0)))
   strange_by kind call access (line.Key (key.Read path r)) c e s = s
   strange_by kind call access (line.Key (key.Entry path main position)) c e s = s
   strange_by kind call access (line.Key (key.Listed path main position)) c e s = s

@@ -20,6 +20,7 @@ use Rattle.machine_model.specs.declared.walking.WalkLine.TheVariants as walk
 use Rattle.proof_memory.specs.Wants.{ABranch, BranchOrList, meets, Is, Holds, AllHold, line_wants, site_wants}
 use Rattle.proof_memory.proofs.Claims.Uses.{safe_of, meets_of}
 use Rattle.proof_memory.proofs.Claims.Nodes.{Heaped}
+use Rattle.proof_memory.proofs.Claims.Named.{main_claim, past_place, past_climb}
 use Rattle.proof_memory.specs.Levels.{LineLevel, BuildLevel, build_level, made_level}
 use Rattle.machine_model.specs.declared.finding.KeyLine.TheVariants as key
 use Rattle.machine_model.specs.declared.building.BuildLine.TheVariants as build
@@ -198,7 +199,7 @@ module _ (lv : Ref → ℕ) (state : State) (operation : Operation) (S : Ref →
   build_by l f (Some made) = f made
 
   build_shape : (l : BuildLine) → Wants (line.Build l) → BuildLevel lv l → BuildShape deep l → L (build_after state operation l)
-  build_shape (build.Single path main s former) h e g = build_by (build.Single path main s former) (λ made. single_shape path main former s made h.1.1.1 e.1) (next_ref state.heap)
+  build_shape (build.Single path main s former) h e g = build_by (build.Single path main s former) (λ made. single_shape path main former s made (past_place h) e.1) (next_ref state.heap)
   build_shape (build.Pair path main position single depth) h e g = build_by (build.Pair path main position single depth) (λ made. g) (next_ref state.heap)
   build_shape (build.Link path main position below depth) h e g =
       build_by (build.Link path main position below depth) (λ made. cond_both (depth == depth_of path + 1) _ _ L (λ x. tt) (λ x. higher e.1 g)) (next_ref state.heap)
@@ -215,8 +216,8 @@ module _ (lv : Ref → ℕ) (state : State) (operation : Operation) (S : Ref →
   line_shape_next (line.Root l) h e g = shapeless deep _ (root_shapeless state operation l)
   line_shape_next (line.Key (key.Read path r)) h e g = shapeless deep _ (key_read_shapeless state operation path r)
   line_shape_next (line.Key (key.Main path main)) h e g = shapeless deep _ (key_main_shapeless state operation path main (node_at state.heap main))
-  line_shape_next (line.Key (key.Entry path main position)) h e g = entry_shape path main position (node_at state.heap (entry_at state.heap main position)) (safe_of h.1.1.0) e.1
-  line_shape_next (line.Key (key.Listed path main position)) h e g = listed_shape path main position (node_at state.heap (entry_at state.heap main position)) (safe_of h.1.1.0) e.1
+  line_shape_next (line.Key (key.Entry path main position)) h e g = entry_shape path main position (node_at state.heap (entry_at state.heap main position)) (safe_of (main_claim h)) e.1
+  line_shape_next (line.Key (key.Listed path main position)) h e g = listed_shape path main position (node_at state.heap (entry_at state.heap main position)) (safe_of (main_claim h)) e.1
   line_shape_next (line.Key (key.Sibling path main position former)) h e g = sibling_shape path main position former _ (node_at state.heap (entry_at state.heap main (1 - position))) g
   line_shape_next (line.Build l) h e g = build_shape l h e g
   line_shape_next (line.Swap why s) h e g = shapeless deep _ (swap_shapeless state operation why s)
@@ -288,7 +289,7 @@ module _ (lv : Ref → ℕ) (state : State) (operation : Operation) (S : Ref →
   build_makes (build.Link path main position below depth) h e g = omega arith
   build_makes (build.Rung path main position below depth) h e g = g
   build_makes (build.Main path main c former) h e g =
-      changed_shape path main (flag_in state operation path) (node_at state.heap main) c (meets_of h.1.1.0) (G main (safe_of h.1.1.0)) e.0.1 g
+      changed_shape path main (flag_in state operation path) (node_at state.heap main) c (meets_of (main_claim h)) (G main (safe_of (main_claim h))) e.0.1 g
 
   -- a branch at the end of a path
   placed_shape : (path : List Ref) (main : Ref) → Holds S state.heap (Is main ABranch) → lv main ≡ depth_of path + 1 → depth_of path + 1 ≤ deep
@@ -305,18 +306,18 @@ module _ (lv : Ref → ℕ) (state : State) (operation : Operation) (S : Ref →
   line_makes (line.Swap why s) h e g = swap_makes s.indirection s.replaced s.fresh s.line
   line_makes (line.Renew (renew.Entry path main done)) h e g = tt
   line_makes (line.Renew (renew.Read path main done r)) h e g = read_makes 0 r.indirection r.line
-  line_makes (line.Renew (renew.Link path main done child)) h e g = one_more (placed_shape path main h.1.1.0 e.0.0.1)
+  line_makes (line.Renew (renew.Link path main done child)) h e g = one_more (placed_shape path main (main_claim h) e.0.0.1)
     where
       one_more : depth_of path + 1 ≤ deep → depth_of path + 2 ≤ deep + 1
       one_more x = omega arith
-  line_makes (line.Renew (renew.Branch path main done)) h e g = placed_shape path main h.1.1.0 e.0.1
+  line_makes (line.Renew (renew.Branch path main done)) h e g = placed_shape path main (main_claim h) e.0.1
   line_makes (line.Clean (clean.Read path r)) h e g = read_makes 0 r.indirection r.line
   line_makes (line.Clean (clean.Main path main)) h e g = tt
   line_makes (line.Clean (clean.Entry path main done)) h e g = tt
   line_makes (line.Clean (clean.Child path main done r)) h e g = read_makes 0 r.indirection r.line
   line_makes (line.Clean (clean.Tomb path main done child)) h e g = tt
   line_makes (line.Clean (clean.Contracted path main done)) h e g =
-      contracted_shape (depth_of path + 1) (is_below_root path && leaves_single state done) (bitmap_of (node_at state.heap main)) done (placed_shape path main h.1.1.0 e.0.1)
+      contracted_shape (depth_of path + 1) (is_below_root path && leaves_single state done) (bitmap_of (node_at state.heap main)) done (placed_shape path main (main_claim h) e.0.1)
       (λ may. two (below_root path (and_parts (is_below_root path) (leaves_single state done) may).0))
     where
       two : 1 ≤ depth_of path → 2 ≤ depth_of path + 1
@@ -324,7 +325,7 @@ module _ (lv : Ref → ℕ) (state : State) (operation : Operation) (S : Ref →
   line_makes (line.Climb (climb.Read c r)) h e g = read_makes 0 r.indirection r.line
   line_makes (line.Climb (climb.Main c main)) h e g = tt
   line_makes (line.Climb (climb.Contracted c main)) h e g =
-      contracted_shape (depth_of (above c.path) + 1) (is_below_root (above c.path)) (bitmap_of (node_at state.heap main)) _ (placed_shape (above c.path) main h.1.1.1.0 e.1)
+      contracted_shape (depth_of (above c.path) + 1) (is_below_root (above c.path)) (bitmap_of (node_at state.heap main)) _ (placed_shape (above c.path) main (past_climb h).0 e.1)
       (λ may. two (below_root (above c.path) may))
     where
       two : 1 ≤ depth_of (above c.path) → 2 ≤ depth_of (above c.path) + 1

@@ -17,15 +17,16 @@ use Rattle.machine_model.specs.declared.repairs.ClimbLine.TheVariants as climb
 use Rattle.machine_model.specs.declared.copying.CopyLine.TheVariants as copy
 use Rattle.machine_model.specs.declared.walking.WalkLine.TheVariants as walk
 use Rattle.machine_model.specs.declared.lines.Line.TheVariants as line
-use Rattle.proof_memory.specs.Wants.{Wanted, AnIndirection, AMain, ABranch, AnEntry, ASingle, WithEntry, WithFlag, meets, is_formed, Is, Each, Holds, is, so, AllHold, action_wants}
+use Rattle.proof_memory.specs.Wants.{Wanted, AnIndirection, AMain, ABranch, AnEntry, ASingle, WithFlag, meets, is_formed, Is, Each, Holds, is, so, AllHold, action_wants}
 use Rattle.proof_memory.specs.Wants.{line_wants, build_wants, swap_wants, swap_line_wants, purpose_wants, renew_wants, clean_wants, climb_wants, copy_wants, walk_wants}
 use Rattle.proof_memory.proofs.Claims.Uses.{Meets, safe_of, meets_of, all_of, fact_of, entry_of, as_meets, first_hold}
-use Rattle.proof_memory.proofs.Claims.Nodes.{Heaped, branch_entries, at_position, single_entry}
+use Rattle.proof_memory.proofs.Claims.Nodes.{Heaped, branch_entries, single_entry, entry_met}
 use Rattle.proof_memory.proofs.Lines.Read.{read_acts, complete_acts, root_acts}
 use Rattle.proof_memory.proofs.Lines.Shared.{position_within, none_each, first_safe}
 use Rattle.proof_memory.proofs.Lines.Key.{key_acts}
 use Rattle.proof_memory.specs.Beneath.nodes.proofs.Indices.{index_below}
 use Rattle.proof_memory.proofs.Claims.Made.{changed_made, pair_made, rung_made, renewed_made, contracted_made, alone}
+use Rattle.proof_memory.proofs.Claims.Named.{main_claim, past_place, done_claim, left_claim, past_done, single_claim, past_climb, third_claim, past_third}
 
 -- the entry of a flag that a branch has lies within
 placed : (i : ℕ) (node : Node) → is_formed node ≡ true → meets (WithFlag (2 ^ i)) node ≡ true → position_of (2 ^ i) (bitmap_of node) < length (entries_of node)
@@ -45,26 +46,23 @@ module _ (state : State) (operation : Operation) (S : Ref → Type 0) (H : Heape
   looks : (r : Ref) → S r → AllHold S state.heap (action_wants (act.Look r))
   looks r s = (is s refl, tt)
 
-  next_in : (main : Ref) (done : List Ref) → At main ABranch → At main (WithEntry (length done)) → S (next_entry state main done)
-  next_in main done m w = (at_position S state.heap AnEntry (length done) (branch_entries S state.heap H m) w).0
-
   build_acts : (l : BuildLine) → AllHold S state.heap (build_wants state.limits.hash operation.call l) → Acts (line.Build l)
   build_acts (build.Single path main s former) h = (so refl, tt)
   build_acts (build.Pair path main position single depth) h =
       pair_made S state.heap state.limits.hash depth (old_hash state main position) (hash_in state operation) (entry_at state.heap main position) single
-      (entry_of h.1.1.1.0) (as_meets h.1.1.1.1.0)
-  build_acts (build.Link path main position below depth) h = (so refl, (h.1.1.1.0, tt))
-  build_acts (build.Rung path main position below depth) h = rung_made S state.heap (hash_in state operation) depth below (as_meets h.1.1.1.0)
+      (entry_of (past_place h).0) (as_meets (past_place h).1.0)
+  build_acts (build.Link path main position below depth) h = (so refl, ((past_place h).0, tt))
+  build_acts (build.Rung path main position below depth) h = rung_made S state.heap (hash_in state operation) depth below (as_meets (past_place h).0)
   build_acts (build.Main path main c former) h =
       changed_made S state.heap (index_in (hash_in state operation) (depth_of path)) (index_below (hash_in state operation) (depth_of path)) main former (node_at state.heap main) c refl
-      (meets_of h.1.1.0) (H.formed main (safe_of h.1.1.0)) (H.inside main (safe_of h.1.1.0)) h.1.1.1
+      (meets_of (main_claim h)) (H.formed main (safe_of (main_claim h))) (H.inside main (safe_of (main_claim h))) (past_place h)
 
   renew_acts : (l : RenewLine) → AllHold S state.heap (renew_wants l) → Acts (line.Renew l)
-  renew_acts (renew.Entry path main done) h = looks (next_entry state main done) (next_in main done h.1.1.0 h.1.1.1.1.0)
-  renew_acts (renew.Read path main done r) h = read_acts S state.heap r.indirection r.line h.1.1.1.1.1
-  renew_acts (renew.Link path main done child) h = (so refl, (h.1.1.1.1.1.0, tt))
+  renew_acts (renew.Entry path main done) h = looks (next_entry state main done) (entry_met S state.heap H (main_claim h) (left_claim h)).0
+  renew_acts (renew.Read path main done r) h = read_acts S state.heap r.indirection r.line (past_done h)
+  renew_acts (renew.Link path main done child) h = (so refl, ((past_done h).0, tt))
   renew_acts (renew.Branch path main done) h =
-      renewed_made S state.heap (node_at state.heap main) done (meets_of h.1.1.0) (H.formed main (safe_of h.1.1.0)) (leb-true _ _ (meets_of h.1.1.1.1.0)) (all_of h.1.1.1.0)
+      renewed_made S state.heap (node_at state.heap main) done (meets_of (main_claim h)) (H.formed main (safe_of (main_claim h))) (leb-true _ _ (meets_of (left_claim h))) (all_of (done_claim h))
 
   -- one single alone, where that is tested
   single_left : (done : List Ref) (single : Ref) → leaves_single state done ≡ true → Holds S state.heap (Each done AnEntry) → done ≡ single ∷ [] → At single ASingle
@@ -73,14 +71,14 @@ module _ (state : State) (operation : Operation) (S : Ref → Type 0) (H : Heape
 
   clean_acts : (l : CleanLine) → AllHold S state.heap (clean_wants l) → Acts (line.Clean l)
   clean_acts (clean.Read path r) h = read_acts S state.heap r.indirection r.line h.1.1
-  clean_acts (clean.Main path main) h = looks main (safe_of h.1.1.0)
-  clean_acts (clean.Entry path main done) h = looks (next_entry state main done) (next_in main done h.1.1.0 h.1.1.1.1.0)
-  clean_acts (clean.Child path main done r) h = read_acts S state.heap r.indirection r.line h.1.1.1.1.1
-  clean_acts (clean.Tomb path main done child) h = looks child (safe_of h.1.1.1.1.1.0)
+  clean_acts (clean.Main path main) h = looks main (safe_of (main_claim h))
+  clean_acts (clean.Entry path main done) h = looks (next_entry state main done) (entry_met S state.heap H (main_claim h) (left_claim h)).0
+  clean_acts (clean.Child path main done r) h = read_acts S state.heap r.indirection r.line (past_done h)
+  clean_acts (clean.Tomb path main done child) h = looks child (safe_of (past_done h).0)
   clean_acts (clean.Contracted path main done) h =
       contracted_made S state.heap (is_below_root path && leaves_single state done) (bitmap_of (node_at state.heap main)) done
-      (λ may single e. single_left done single (and_parts (is_below_root path) (leaves_single state done) may).1 h.1.1.1.0 e)
-      (renewed_made S state.heap (node_at state.heap main) done (meets_of h.1.1.0) (H.formed main (safe_of h.1.1.0)) (leb-true _ _ (meets_of h.1.1.1.1.0)) (all_of h.1.1.1.0))
+      (λ may single e. single_left done single (and_parts (is_below_root path) (leaves_single state done) may).1 (done_claim h) e)
+      (renewed_made S state.heap (node_at state.heap main) done (meets_of (main_claim h)) (H.formed main (safe_of (main_claim h))) (leb-true _ _ (meets_of (left_claim h))) (all_of (done_claim h)))
 
   contracted_acts : (c : Climb) (main : Ref) → At c.single ASingle → At main ABranch → At main (WithFlag (flag_in state operation (above c.path))) →
       AllHold S state.heap (action_wants (act.Make (climbed_node state operation c main)))
@@ -94,17 +92,17 @@ module _ (state : State) (operation : Operation) (S : Ref → Type 0) (H : Heape
       (All-set (Meets S state.heap AnEntry) entries place c.single (safe_of s, single_entry (node_at state.heap c.single) (meets_of s)) (branch_entries S state.heap H m)))
 
   climb_acts : (l : ClimbLine) → AllHold S state.heap (climb_wants state.limits.hash operation.call l) → Acts (line.Climb l)
-  climb_acts (climb.Read c r) h = read_acts S state.heap r.indirection r.line h.1.1.1
-  climb_acts (climb.Main c main) h = looks main (safe_of h.1.1.1.0)
-  climb_acts (climb.Contracted c main) h = contracted_acts c main h.1.1.0 h.1.1.1.0 h.1.1.1.1.0
-  climb_acts (climb.Root c l) h = root_acts S state.heap l h.1.1.1
+  climb_acts (climb.Read c r) h = read_acts S state.heap r.indirection r.line (past_climb h)
+  climb_acts (climb.Main c main) h = looks main (safe_of (past_climb h).0)
+  climb_acts (climb.Contracted c main) h = contracted_acts c main (single_claim h) (past_climb h).0 (past_climb h).1.0
+  climb_acts (climb.Root c l) h = root_acts S state.heap l (past_climb h)
 
   copy_acts : (l : CopyLine) → AllHold S state.heap (copy_wants l) → Acts (line.Copy l)
   copy_acts (copy.Read r l) h = read_acts S state.heap l.indirection l.line h.1
   copy_acts (copy.Successor r main) h = (h.1.0, tt)
   copy_acts (copy.Second r main successor) h = (h.1.0, tt)
   copy_acts (copy.Empty r main) h = (so (le-leb (count_ones 0) 0 (ones_le_self 0)), (none_each S state.heap, tt))
-  copy_acts (copy.Cleared r main branch) h = (h.1.1.0, tt)
+  copy_acts (copy.Cleared r main branch) h = (third_claim h, tt)
   copy_acts (copy.Offer offer) h = h
   copy_acts (copy.Complete c) h = complete_acts S state.heap c.offer c.line h
 
@@ -126,7 +124,7 @@ module _ (state : State) (operation : Operation) (S : Ref → Type 0) (H : Heape
   line_acts (line.Build l) h = build_acts l h
   line_acts (line.Swap why s) h =
       let its = first_hold S state.heap (swap_wants s) (purpose_wants why) h in
-      swap_acts s s.line its.0 its.1.0 its.1.1.0 its.1.1.1
+      swap_acts s s.line its.0 its.1.0 (third_claim its) (past_third its)
   line_acts (line.Renew l) h = renew_acts l h
   line_acts (line.Clean l) h = clean_acts l h
   line_acts (line.Climb l) h = climb_acts l h

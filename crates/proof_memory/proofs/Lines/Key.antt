@@ -10,7 +10,8 @@ use Rattle.machine_model.specs.declared.finding.KeyLine.TheVariants as key
 use Rattle.proof_memory.specs.Wants.{Wanted, AnIndirection, ABranch, AList, BranchOrList, TombOrList, AnEntry, ASingle, WithEntry, WithFlag, ToSpare, meets, is_formed, Is, Each}
 use Rattle.proof_memory.specs.Wants.{EntryIs, So, Holds, is, entry_is, so, AllHold, word_wants, read_wants, action_wants, listed, key_wants, line_wants}
 use Rattle.proof_memory.proofs.Claims.Uses.{safe_of, meets_of, is_also, from_meets}
-use Rattle.proof_memory.proofs.Claims.Nodes.{Heaped, branch_entries, listed_entries, at_position, branch_both, list_both}
+use Rattle.proof_memory.proofs.Claims.Nodes.{Heaped, listed_entries, at_position, branch_both, list_both, entry_met}
+use Rattle.proof_memory.proofs.Claims.Named.{main_claim, past_place}
 use Rattle.proof_memory.proofs.Lines.Read.{step_wants, read_acts, read_next, indirection_next}
 use Rattle.proof_memory.proofs.Lines.Shared.{position_within, this, current_is, above_each, above_long, pushed_each, pushed_long, none_each, flag_spares, formed_ones, at_most}
 use Rattle.proof_memory.proofs.Lines.Shared.{other_of_two, three, first_of_two}
@@ -246,22 +247,22 @@ module _ (state : State) (operation : Operation) (S : Ref → Type 0) (H : Heape
       pub key_next : (l : KeyLine) → AllHold S state.heap (key_wants state.limits.hash operation.call operation.access l) → Wants (key_after state operation l)
       key_next (key.Read path r) h = key_read_next path (read_step state operation r) (h.0, h.1.0) (step_next r h.1.1)
       key_next (key.Main path main) h =
-          key_main_next path main (node_at state.heap main) refl (H.formed main (safe_of h.1.1.0)) (h.0, h.1.0) (safe_of h.1.1.0)
+          key_main_next path main (node_at state.heap main) refl (H.formed main (safe_of (main_claim h))) (h.0, h.1.0) (safe_of (main_claim h))
       key_next (key.Entry path main position) h =
-          key_entry_next path main position (node_at state.heap (entry_at state.heap main position)) refl (h.0, h.1.0) h.1.1.0 h.1.1.1.0 h.1.1.1.1.0
-          ((at_position S state.heap AnEntry position (branch_entries S state.heap H h.1.1.0) h.1.1.1.0).0)
-      key_next (key.Listed path main position) h = listed_next path main position (node_at state.heap (entry_at state.heap main position)) (h.0, h.1.0) h.1.1.0
+          key_entry_next path main position (node_at state.heap (entry_at state.heap main position)) refl (h.0, h.1.0) (main_claim h) (past_place h).0 (past_place h).1.0
+          ((entry_met S state.heap H (main_claim h) (past_place h).0).0)
+      key_next (key.Listed path main position) h = listed_next path main position (node_at state.heap (entry_at state.heap main position)) (h.0, h.1.0) (main_claim h)
       key_next (key.Sibling path main position former) h =
-          after_sibling_next path main position former (entry_at state.heap main (1 - position)) (node_at state.heap (entry_at state.heap main (1 - position))) refl (h.0, h.1.0) h.1.1.0
-          h.1.1.1.1.0 ((at_position S state.heap AnEntry (1 - position) (branch_entries S state.heap H h.1.1.0) h.1.1.1.0).0)
+          after_sibling_next path main position former (entry_at state.heap main (1 - position)) (node_at state.heap (entry_at state.heap main (1 - position))) refl (h.0, h.1.0) (main_claim h)
+          (past_place h).1.0 ((entry_met S state.heap H (main_claim h) (past_place h).0).0)
 
   -- ---- its steps
 
   pub key_acts : (l : KeyLine) → AllHold S state.heap (key_wants state.limits.hash operation.call operation.access l) → AllHold S state.heap (action_wants (key_action state l))
   key_acts (key.Read path r) h = read_acts S state.heap r.indirection r.line h.1.1
-  key_acts (key.Main path main) h = (is (safe_of h.1.1.0) refl, tt)
-  key_acts (key.Entry path main position) h = (is ((at_position S state.heap AnEntry position (branch_entries S state.heap H h.1.1.0) h.1.1.1.0).0) refl, tt)
+  key_acts (key.Main path main) h = (is (safe_of (main_claim h)) refl, tt)
+  key_acts (key.Entry path main position) h = (is ((entry_met S state.heap H (main_claim h) (past_place h).0).0) refl, tt)
   key_acts (key.Listed path main position) h =
-      (is ((at_position S state.heap ASingle position (listed_entries S state.heap H (is_also TombOrList (listed_either operation.access) h.1.1.0)) h.1.1.1.0).0) refl, tt)
+      (is ((at_position S state.heap ASingle position (listed_entries S state.heap H (is_also TombOrList (listed_either operation.access) (main_claim h))) (past_place h).0).0) refl, tt)
   key_acts (key.Sibling path main position former) h =
-      (is ((at_position S state.heap AnEntry (1 - position) (branch_entries S state.heap H h.1.1.0) h.1.1.1.0).0) refl, tt)
+      (is ((entry_met S state.heap H (main_claim h) (past_place h).0).0) refl, tt)

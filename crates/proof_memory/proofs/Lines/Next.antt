@@ -19,7 +19,8 @@ use Rattle.machine_model.specs.declared.lines.Line.TheVariants as line
 use Rattle.proof_memory.specs.Wants.{Wanted, AnIndirection, AMain, ABranch, BranchOrList, AnEntry, ASingle, WithEntry, AtMost, meets, Claim, Is, Each, So, Holds, is, so, AllHold}
 use Rattle.proof_memory.specs.Wants.{word_wants, line_wants, build_wants, update_wants, renew_wants, clean_wants, climb_wants, climb_carries, copy_wants, walk_wants}
 use Rattle.proof_memory.proofs.Claims.Uses.{safe_of, meets_of, is_also, fact_of, carried, all_carried, Carries}
-use Rattle.proof_memory.proofs.Claims.Nodes.{Heaped, IsNoLink, branch_entries, at_position, branch_main, both_main, branch_both, main_no_link}
+use Rattle.proof_memory.proofs.Claims.Nodes.{Heaped, IsNoLink, branch_main, both_main, branch_both, main_no_link, entry_met}
+use Rattle.proof_memory.proofs.Claims.Named.{main_claim, past_place, done_claim, left_claim, past_done, past_climb, climb_claims, third_claim}
 use Rattle.proof_memory.proofs.Lines.Read.{root_next, complete_next}
 use Rattle.proof_memory.proofs.Lines.Shared.{current_is, above_each, above_long, none_each, pushed_each, at_most}
 use Rattle.proof_memory.proofs.Lines.Key.{step_next, key_next}
@@ -91,9 +92,9 @@ module _ (state : State) (operation : Operation) (S : Ref → Type 0) (H : Heape
 
   single_next : (path : List Ref) (main : Ref) (former : Option ℕ) (s : Site) (made : Ref) → AllHold T after (build_wants state.limits.hash operation.call (build.Single path main s former)) →
       At made ASingle → Wants (after_single state operation path main former s made)
-  single_next path main former site.Absent made h m = (h.0, (h.1.0, (h.1.1.0, (m, tt))))
-  single_next path main former (site.At position) made h m = (h.0, (h.1.0, (h.1.1.0, update_made main made former (fact_of h.1.1.1.0) m)))
-  single_next path main former (site.Beside position) made h m = (h.0, (h.1.0, (h.1.1.1.0, (h.1.1.1.1.0, (m, tt)))))
+  single_next path main former site.Absent made h m = (h.0, (h.1.0, (main_claim h, (m, tt))))
+  single_next path main former (site.At position) made h m = (h.0, (h.1.0, (main_claim h, update_made main made former (fact_of (past_place h).0) m)))
+  single_next path main former (site.Beside position) made h m = (h.0, (h.1.0, ((past_place h).0, ((past_place h).1.0, (m, tt)))))
 
   link_next : (path : List Ref) (main : Ref) (position depth : ℕ) (made : Ref) → Holds T after (Each path AnIndirection) → Holds T after (So (nat_lt 0 (length path))) →
       At main ABranch → At made AnIndirection → Wants (after_link path main position depth made)
@@ -111,22 +112,23 @@ module _ (state : State) (operation : Operation) (S : Ref → Type 0) (H : Heape
   build_next (build.Pair path main position single depth) h fresh =
       let c = carry (build_wants state.limits.hash operation.call (build.Pair path main position single depth)) h in
       build_by (build.Pair path main position single depth)
-      (λ made e. (c.0, (c.1.0, (c.1.1.0, (made_is AMain _ (fresh _ made refl e) (pair_main state.limits.hash depth _ _ (entry_at state.heap main position) single), tt))))) (next_ref state.heap) refl
+      (λ made e. (c.0, (c.1.0, (main_claim c, (made_is AMain _ (fresh _ made refl e) (pair_main state.limits.hash depth _ _ (entry_at state.heap main position) single), tt)))))
+      (next_ref state.heap) refl
   build_next (build.Link path main position below depth) h fresh =
       let c = carry (build_wants state.limits.hash operation.call (build.Link path main position below depth)) h in
-      build_by (build.Link path main position below depth) (λ made e. link_next path main position depth made c.0 c.1.0 c.1.1.0 (made_is AnIndirection _ (fresh _ made refl e) refl))
+      build_by (build.Link path main position below depth) (λ made e. link_next path main position depth made c.0 c.1.0 (main_claim c) (made_is AnIndirection _ (fresh _ made refl e) refl))
       (next_ref state.heap) refl
   build_next (build.Rung path main position below depth) h fresh =
       let c = carry (build_wants state.limits.hash operation.call (build.Rung path main position below depth)) h in
-      build_by (build.Rung path main position below depth) (λ made e. (c.0, (c.1.0, (c.1.1.0, (made_is AMain _ (fresh _ made refl e) refl, tt))))) (next_ref state.heap) refl
+      build_by (build.Rung path main position below depth) (λ made e. (c.0, (c.1.0, (main_claim c, (made_is AMain _ (fresh _ made refl e) refl, tt))))) (next_ref state.heap) refl
   build_next (build.Main path main x former) h fresh =
       let c = carry (build_wants state.limits.hash operation.call (build.Main path main x former)) h in
       build_by (build.Main path main x former)
       (λ made e. (
         swap_begun path c.0 (fact_of c.1.0),
         (
-          is_also AMain both_main c.1.1.0,
-          (made_is AMain _ (fresh _ made refl e) (changed_main (flag_in state operation path) (node_at state.heap main) x (meets_of h.1.1.0)), (c.0, (c.1.0, tt))),
+          is_also AMain both_main (main_claim c),
+          (made_is AMain _ (fresh _ made refl e) (changed_main (flag_in state operation path) (node_at state.heap main) x (meets_of (main_claim h))), (c.0, (c.1.0, tt))),
         ),
       )) (next_ref state.heap) refl
 
@@ -163,7 +165,7 @@ module _ (state : State) (operation : Operation) (S : Ref → Type 0) (H : Heape
       (o : Option Ref) → next_ref state.heap ≡ o → Wants (climb_after_contracted operation c main o)
   climb_by c main p m f None e = tt
   climb_by c main p m f (Some made) e =
-      (swap_begun (above c.path) (above_each T after c.path p.0) (above_long c.path (fact_of p.1.0)), (m, (f made e, (p.0, (p.1.0, (p.1.1.0, tt))))))
+      (swap_begun (above c.path) (above_each T after c.path p.0) (above_long c.path (fact_of p.1.0)), (m, (f made e, climb_claims p)))
 
   -- ---- COPY
 
@@ -183,19 +185,21 @@ module _ (state : State) (operation : Operation) (S : Ref → Type 0) (H : Heape
     renew_line_next : (l : RenewLine) → AllHold S state.heap (renew_wants l) → Fresh (line_action state operation (line.Renew l)) → Wants (renew_after state operation l)
     renew_line_next (renew.Entry path main done) h fresh =
         carry (line_wants state.limits.hash operation.call operation.access (renew_after state operation (renew.Entry path main done)))
-        (renew_entry_next state operation S H path main done (next_entry state main done) (node_at state.heap (next_entry state main done)) refl (h.0, h.1.0) h.1.1.0 h.1.1.1.0 h.1.1.1.1.0
-        ((at_position S state.heap AnEntry (length done) (branch_entries S state.heap H h.1.1.0) h.1.1.1.1.0).0))
+        (renew_entry_next state operation S H path main done (next_entry state main done) (node_at state.heap (next_entry state main done)) refl (h.0, h.1.0) (main_claim h)
+        (done_claim h) (left_claim h)
+        ((entry_met S state.heap H (main_claim h) (left_claim h)).0))
     renew_line_next (renew.Read path main done r) h fresh =
         carry (line_wants state.limits.hash operation.call operation.access (renew_after state operation (renew.Read path main done r)))
-        (renew_read_next state operation S H path main done (read_step state operation r) (h.0, h.1.0) h.1.1.0 h.1.1.1.0 h.1.1.1.1.0 (step_next state operation S H fits W r h.1.1.1.1.1))
+        (renew_read_next state operation S H path main done (read_step state operation r) (h.0, h.1.0) (main_claim h) (done_claim h) (left_claim h)
+        (step_next state operation S H fits W r (past_done h)))
     renew_line_next (renew.Link path main done child) h fresh =
         let c = carry (renew_wants (renew.Link path main done child)) h in
         link_by path main done
-        (λ made e. renewed_next path main (done ++ made ∷ []) (safe_of h.1.1.0) c.0 c.1.0 c.1.1.0
-        (pushed_each T after done made c.1.1.1.0 (made_is AnEntry _ (fresh _ made refl e) refl))) (next_ref state.heap) refl
+        (λ made e. renewed_next path main (done ++ made ∷ []) (safe_of (main_claim h)) c.0 c.1.0 (main_claim c)
+        (pushed_each T after done made (done_claim c) (made_is AnEntry _ (fresh _ made refl e) refl))) (next_ref state.heap) refl
     renew_line_next (renew.Branch path main done) h fresh =
         let c = carry (renew_wants (renew.Branch path main done)) h in
-        branch_by path main c.0 (fact_of c.1.0) (is_also AMain branch_main c.1.1.0) (λ made e. made_is AMain _ (fresh _ made refl e) refl) (next_ref state.heap) refl
+        branch_by path main c.0 (fact_of c.1.0) (is_also AMain branch_main (main_claim c)) (λ made e. made_is AMain _ (fresh _ made refl e) refl) (next_ref state.heap) refl
 
     clean_line_next : (l : CleanLine) → AllHold S state.heap (clean_wants l) → Fresh (line_action state operation (line.Clean l)) → Wants (clean_after state operation l)
     clean_line_next (clean.Read path r) h fresh =
@@ -203,36 +207,37 @@ module _ (state : State) (operation : Operation) (S : Ref → Type 0) (H : Heape
         (clean_read_next state operation S H path (read_step state operation r) (h.0, h.1.0) (step_next state operation S H fits W r h.1.1))
     clean_line_next (clean.Main path main) h fresh =
         carry (line_wants state.limits.hash operation.call operation.access (clean_after state operation (clean.Main path main)))
-        (clean_main_next state operation S H path main (node_at state.heap main) refl (h.0, h.1.0) (safe_of h.1.1.0))
+        (clean_main_next state operation S H path main (node_at state.heap main) refl (h.0, h.1.0) (safe_of (main_claim h)))
     clean_line_next (clean.Entry path main done) h fresh =
         carry (line_wants state.limits.hash operation.call operation.access (clean_after state operation (clean.Entry path main done)))
-        (clean_entry_next state operation S H path main done (next_entry state main done) (node_at state.heap (next_entry state main done)) refl (h.0, h.1.0) h.1.1.0 h.1.1.1.0 h.1.1.1.1.0
-        ((at_position S state.heap AnEntry (length done) (branch_entries S state.heap H h.1.1.0) h.1.1.1.1.0).0))
+        (clean_entry_next state operation S H path main done (next_entry state main done) (node_at state.heap (next_entry state main done)) refl (h.0, h.1.0) (main_claim h)
+        (done_claim h) (left_claim h)
+        ((entry_met S state.heap H (main_claim h) (left_claim h)).0))
     clean_line_next (clean.Child path main done r) h fresh =
         carry (line_wants state.limits.hash operation.call operation.access (clean_after state operation (clean.Child path main done r)))
-        (child_next state operation S H path main done (read_step state operation r) (h.0, h.1.0) h.1.1.0 h.1.1.1.0 h.1.1.1.1.0 (step_next state operation S H fits W r h.1.1.1.1.1))
+        (child_next state operation S H path main done (read_step state operation r) (h.0, h.1.0) (main_claim h) (done_claim h) (left_claim h) (step_next state operation S H fits W r (past_done h)))
     clean_line_next (clean.Tomb path main done child) h fresh =
         carry (line_wants state.limits.hash operation.call operation.access (clean_after state operation (clean.Tomb path main done child)))
-        (clean_tomb_next state operation S H path main done (node_at state.heap child) (H.inside child (safe_of h.1.1.1.1.1.0)) (h.0, h.1.0) h.1.1.0 h.1.1.1.0 h.1.1.1.1.0)
+        (clean_tomb_next state operation S H path main done (node_at state.heap child) (H.inside child (safe_of (past_done h).0)) (h.0, h.1.0) (main_claim h) (done_claim h) (left_claim h))
     clean_line_next (clean.Contracted path main done) h fresh =
         let c = carry (clean_wants (clean.Contracted path main done)) h in
-        contracted_by path main c.0 (fact_of c.1.0) (is_also AMain branch_main c.1.1.0)
+        contracted_by path main c.0 (fact_of c.1.0) (is_also AMain branch_main (main_claim c))
         (λ made e. made_is AMain _ (fresh _ made refl e) (contracted_main _ _ done)) (next_ref state.heap) refl
 
     climb_line_next : (l : ClimbLine) → AllHold S state.heap (climb_wants state.limits.hash operation.call l) → Fresh (line_action state operation (line.Climb l)) →
         Wants (climb_after state operation l)
     climb_line_next (climb.Read c r) h fresh =
         carry (line_wants state.limits.hash operation.call operation.access (climb_after state operation (climb.Read c r)))
-        (climb_read_next state operation S H c (read_step state operation r) (h.0, (h.1.0, (h.1.1.0, tt))) (step_next state operation S H fits W r h.1.1.1))
+        (climb_read_next state operation S H c (read_step state operation r) (climb_claims h) (step_next state operation S H fits W r (past_climb h)))
     climb_line_next (climb.Main c main) h fresh =
         carry (line_wants state.limits.hash operation.call operation.access (climb_after state operation (climb.Main c main)))
-        (climb_main_next state operation S H c main (node_at state.heap main) refl (H.inside main (safe_of h.1.1.1.0)) (h.0, (h.1.0, (h.1.1.0, tt))) (safe_of h.1.1.1.0))
+        (climb_main_next state operation S H c main (node_at state.heap main) refl (H.inside main (safe_of (past_climb h).0)) (climb_claims h) (safe_of (past_climb h).0))
     climb_line_next (climb.Contracted c main) h fresh =
         let x = carry (climb_wants state.limits.hash operation.call (climb.Contracted c main)) h in
-        climb_by c main (x.0, (x.1.0, (x.1.1.0, tt))) (is_also AMain branch_main x.1.1.1.0) (λ made e. made_is AMain _ (fresh _ made refl e) (contracted_main _ _ _)) (next_ref state.heap) refl
+        climb_by c main (climb_claims x) (is_also AMain branch_main (past_climb x).0) (λ made e. made_is AMain _ (fresh _ made refl e) (contracted_main _ _ _)) (next_ref state.heap) refl
     climb_line_next (climb.Root c l) h fresh =
         carry (line_wants state.limits.hash operation.call operation.access (climb_after state operation (climb.Root c l)))
-        (climb_root_next state operation S H c _ (h.0, (h.1.0, (h.1.1.0, tt))) (root_next S state.heap H operation.access (word_at state (handle_of operation.call)) W l h.1.1.1))
+        (climb_root_next state operation S H c _ (climb_claims h) (root_next S state.heap H operation.access (word_at state (handle_of operation.call)) W l (past_climb h)))
 
     copy_line_next : (l : CopyLine) → AllHold S state.heap (copy_wants l) → Fresh (line_action state operation (line.Copy l)) → Wants (copy_after state operation l)
     copy_line_next (copy.Read r l) h fresh =
@@ -244,7 +249,7 @@ module _ (state : State) (operation : Operation) (S : Ref → Type 0) (H : Heape
     copy_line_next (copy.Second r main successor) h fresh =
         let c = carry (copy_wants (copy.Second r main successor)) h in
         copy_by (copy.Second r main successor)
-        (λ made e. (c.0, (c.1.0, (c.1.1.0, (pushed_each T after [] made (none_each T after) (made_is AnIndirection _ (fresh _ made refl e) refl), tt))))) (next_ref state.heap) refl
+        (λ made e. (c.0, (c.1.0, (third_claim c, (pushed_each T after [] made (none_each T after) (made_is AnIndirection _ (fresh _ made refl e) refl), tt))))) (next_ref state.heap) refl
     copy_line_next (copy.Empty r main) h fresh =
         let c = carry (copy_wants (copy.Empty r main)) h in
         copy_by (copy.Empty r main) (λ made e. (c.0, (c.1.0, (made_is AMain _ (fresh _ made refl e) refl, tt)))) (next_ref state.heap) refl

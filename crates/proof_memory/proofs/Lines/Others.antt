@@ -17,6 +17,7 @@ use Rattle.proof_memory.specs.Wants.{Wanted, AnIndirection, AMain, AnEntry, Clai
 use Rattle.proof_memory.specs.Wants.{purpose_wants, climb_carries, line_wants}
 use Rattle.proof_memory.proofs.Claims.Uses.{Meets, safe_of, all_of, fact_of, both_hold, first_hold, last_hold}
 use Rattle.proof_memory.proofs.Claims.Nodes.{Heaped, main_entries}
+use Rattle.proof_memory.proofs.Claims.Named.{single_claim, climb_claims, third_claim, past_third}
 use Rattle.proof_memory.proofs.Lines.Read.{after_read_wants, step_wants, completed_wants, after_root_wants, read_next, offer_begun}
 use Rattle.proof_memory.proofs.Lines.Shared.{this, current_is, none_each, pushed_each, pushed_long}
 use Rattle.proof_memory.proofs.Lines.Repair.{climbing_wants, higher_wants}
@@ -70,7 +71,7 @@ module _ (state : State) (operation : Operation) (S : Ref → Type 0) (H : Heape
   update_next path former node n p = tt
 
   climbed_next : (c : Climb) (node : Node) → AllHold S state.heap (climb_carries c) → Wants (climbed_on operation c node)
-  climbed_next c (Tomb single) p = higher_wants state operation S H c c.single p.0 p.1.1.0
+  climbed_next c (Tomb single) p = higher_wants state operation S H c c.single p.0 (single_claim p)
   climbed_next c node p = tt
 
   swapped_next : (node : Node) (why : Purpose) (done : Bool) → AllHold S state.heap (node_wants node) → AllHold S state.heap (purpose_wants why) → Wants (swapped operation node why done)
@@ -80,7 +81,7 @@ module _ (state : State) (operation : Operation) (S : Ref → Type 0) (H : Heape
   swapped_next node (purpose.Renew path) false n p = tt
   swapped_next node purpose.Clean done n p = tt
   swapped_next node (purpose.Climb c) true n p = climbed_next c node p
-  swapped_next node (purpose.Climb c) false n p = (p.0, (p.1.0, (p.1.1.0, tt)))
+  swapped_next node (purpose.Climb c) false n p = climb_claims p
 
   line_swap_next : (why : Purpose) (s : Swap) (a : After Swap Bool) → AllHold S state.heap (swapped_wants a) → AllHold S state.heap (purpose_wants why) → S s.fresh →
       Wants (line_after_swap state operation why s a)
@@ -92,7 +93,7 @@ module _ (state : State) (operation : Operation) (S : Ref → Type 0) (H : Heape
   swap_next why s h =
       let its = first_hold S state.heap (swap_wants s) (purpose_wants why) h in
       line_swap_next why s (swap_after state.heap operation.access (word_at state (handle_of operation.call)) s)
-      (on_line_next s _ (swap_line_next s s.line its.0 its.1.0 its.1.1.0 its.1.1.1)) (last_hold S state.heap (swap_wants s) (purpose_wants why) h) (safe_of its.1.1.0)
+      (on_line_next s _ (swap_line_next s s.line its.0 its.1.0 (third_claim its) (past_third its))) (last_hold S state.heap (swap_wants s) (purpose_wants why) h) (safe_of (third_claim its))
 
   -- ---- the root
 

@@ -11,6 +11,7 @@ use Rattle.machine_model.specs.declared.roots.RootLine.TheVariants as root
 use Rattle.proof_memory.specs.Wants.{AnIndirection, AMain, Claim, Is, Holds, AllHold, prev_wants, offer_wants, word_wants, action_wants, read_wants, complete_wants, root_wants}
 use Rattle.proof_memory.proofs.Claims.Uses.{safe_of, both_hold, first_hold, last_hold}
 use Rattle.proof_memory.proofs.Claims.Nodes.{Heaped, main_read}
+use Rattle.proof_memory.proofs.Claims.Named.{third_claim, past_third}
 
 -- ---- what is wanted after a step
 
@@ -41,7 +42,7 @@ module _ (S : Ref → Type 0) (heap : Heap) where
   read_acts i read.Main h = h
   read_acts i (read.Prev main) h = h.1
   read_acts i (read.AskRoot main previous) h = tt
-  read_acts i (read.Abort main previous offer) h = h.1.1.1
+  read_acts i (read.Abort main previous offer) h = past_third h
   read_acts i (read.Decide main previous told) h = h
   read_acts i (read.Restore main previous) h = h
 
@@ -109,10 +110,10 @@ module _ (S : Ref → Type 0) (heap : Heap) where
     pub read_next : (i : Ref) (l : ReadLine) → AllHold S heap (read_wants i l) → AllHold S heap (after_read_wants i (read_after heap access word i l))
     read_next i read.Main h = (h.0, (main_read S heap H h.0, tt))
     read_next i (read.Prev main) h = prev_next access i main (prev_at heap main) (H.before main (safe_of h.1.0)) h.0 h.1.0
-    read_next i (read.AskRoot main previous) h = ask_next i main previous word W h.0 h.1.0 h.1.1.0
-    read_next i (read.Abort main previous offer) h = (h.0, (h.1.0, (h.1.1.0, tt)))
+    read_next i (read.AskRoot main previous) h = ask_next i main previous word W h.0 h.1.0 (third_claim h)
+    read_next i (read.Abort main previous offer) h = (h.0, (h.1.0, (third_claim h, tt)))
     read_next i (read.Decide main previous told) h = decide_next i main (verdict heap i main previous told) h.0 h.1.0
-    read_next i (read.Restore main previous) h = restore_next i previous (main_at heap i == main) h.0 h.1.1.0
+    read_next i (read.Restore main previous) h = restore_next i previous (main_at heap i == main) h.0 (third_claim h)
 
     complete_next_at : (offer : Descriptor) (l : CompleteLine) → AllHold S heap (complete_wants offer l) →
         AllHold S heap (after_complete_wants offer (after_complete heap access word offer l))

@@ -8,7 +8,8 @@ use Rattle.std.specs.Cmp.Lexicographic.{pointwise}
 use Rattle.machine_model.specs.declared.reading.After.TheVariants.{Goes}
 use Rattle.proof_memory.specs.Wants.{Wanted, AnIndirection, ABranch, AnEntry, ASingle, WithEntry, WithFlag, Is, Each, So, Holds, is, so, AllHold, node_wants, line_wants, climb_carries}
 use Rattle.proof_memory.proofs.Claims.Uses.{safe_of, is_also, from_meets}
-use Rattle.proof_memory.proofs.Claims.Nodes.{Heaped, branch_entries, at_position, single_entry}
+use Rattle.proof_memory.proofs.Claims.Nodes.{Heaped, single_entry, entry_met}
+use Rattle.proof_memory.proofs.Claims.Named.{single_claim}
 use Rattle.proof_memory.proofs.Lines.Read.{step_wants, after_root_wants}
 use Rattle.proof_memory.proofs.Lines.Shared.{this, current_is, above_each, above_long, pushed_each, none_each, at_most}
 use Rattle.proof_memory.proofs.Lines.Key.{renew_next_wants}
@@ -78,7 +79,7 @@ module _ (state : State) (operation : Operation) (S : Ref → Type 0) (H : Heape
       Wants (clean_next state path main (done ++ next_entry state main done ∷ []))
   kept_next path main done p m d w =
       clean_next_wants path main (done ++ next_entry state main done ∷ []) p m
-      (pushed_each S state.heap done (next_entry state main done) d (from_meets (next_entry state main done) (at_position S state.heap AnEntry (length done) (branch_entries S state.heap H m) w)))
+      (pushed_each S state.heap done (next_entry state main done) d (from_meets (next_entry state main done) (entry_met S state.heap H m w)))
 
   pub clean_tomb_next : (path : List Ref) (main : Ref) (done : List Ref) (node : Node) → AllHold S state.heap (node_wants node) → IsPath path →
       At main ABranch → AllAre done AnEntry → At main (WithEntry (length done)) → Wants (clean_after_tomb state path main done node)
@@ -97,8 +98,8 @@ module _ (state : State) (operation : Operation) (S : Ref → Type 0) (H : Heape
   higher_wants c single p s = climbing_wants (higher c single) (above_each S state.heap c.path p) s
 
   pub climb_read_next : (c : Climb) (a : After Read Ref) → AllHold S state.heap (climb_carries c) → AllHold S state.heap (step_wants a) → Wants (climb_after_read c a)
-  climb_read_next c (Goes r) p h = (p.0, (p.1.0, (p.1.1.0, h)))
-  climb_read_next c (Gives main) p h = (p.0, (p.1.0, (p.1.1.0, h)))
+  climb_read_next c (Goes r) p h = (p.0, (p.1.0, (single_claim p, h)))
+  climb_read_next c (Gives main) p h = (p.0, (p.1.0, (single_claim p, h)))
 
   pub climb_main_next : (c : Climb) (main : Ref) (node : Node) → node_at state.heap main ≡ node → AllHold S state.heap (node_wants node) →
       AllHold S state.heap (climb_carries c) → S main → Wants (climb_after_main state operation c main node)
@@ -110,7 +111,7 @@ module _ (state : State) (operation : Operation) (S : Ref → Type 0) (H : Heape
         (
           p.1.0,
           (
-            p.1.1.0,
+            single_claim p,
             (
               this S state.heap ABranch (Branch bitmap entries) s e refl,
               (this S state.heap (WithFlag (flag_in state operation (above c.path))) (Branch bitmap entries) s e (and_parts (has_flag bitmap (flag_in state operation (above c.path))) _ it).0, tt),
@@ -122,5 +123,5 @@ module _ (state : State) (operation : Operation) (S : Ref → Type 0) (H : Heape
   climb_main_next c main node e n p s = tt
 
   pub climb_root_next : (c : Climb) (a : After RootLine Ref) → AllHold S state.heap (climb_carries c) → AllHold S state.heap (after_root_wants a) → Wants (climb_after_root state operation c a)
-  climb_root_next c (Goes l) p h = (p.0, (p.1.0, (p.1.1.0, h)))
-  climb_root_next c (Gives r) p h = cond_both (is_start operation (generation_at state.heap r)) _ _ Wants (λ own. climbing_wants c p.0 p.1.1.0) (λ other. tt)
+  climb_root_next c (Goes l) p h = (p.0, (p.1.0, (single_claim p, h)))
+  climb_root_next c (Gives r) p h = cond_both (is_start operation (generation_at state.heap r)) _ _ Wants (λ own. climbing_wants c p.0 (single_claim p)) (λ other. tt)

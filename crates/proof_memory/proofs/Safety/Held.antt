@@ -18,6 +18,7 @@ use Rattle.proof_memory.specs.Wants.{Wanted, Is, Each, Holds, AllHold, node_want
 use Rattle.proof_memory.specs.Laws.{IsInUse}
 use Rattle.proof_memory.proofs.Claims.Uses.{Meets, safe_of, all_of}
 use Rattle.proof_memory.proofs.Claims.Nodes.{main_read}
+use Rattle.proof_memory.proofs.Claims.Named.{third_claim, past_third}
 use Rattle.proof_memory.proofs.Safety.Guards.{Safe}
 use Rattle.proof_memory.proofs.Safety.EachStep.{at_place}
 use Rattle.proof_memory.specs.Making.{made_node}
@@ -52,7 +53,7 @@ module _ (S : Ref → Type 0) (heap : Heap) where
   word_refs (Offer offer) h =
       All-cons S offer.root (offer.expected ∷ offer.successor ∷ refs_of_option offer.second) (safe_of h.0)
       (All-cons S offer.expected (offer.successor ∷ refs_of_option offer.second) (safe_of h.1.0)
-      (All-cons S offer.successor (refs_of_option offer.second) (safe_of h.1.1.0) (each_safe (refs_of_option offer.second) h.1.1.1.0)))
+      (All-cons S offer.successor (refs_of_option offer.second) (safe_of (third_claim h)) (each_safe (refs_of_option offer.second) (past_third h).0)))
 
 -- ---- what an operation gets in its step
 

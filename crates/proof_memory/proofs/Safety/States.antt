@@ -14,6 +14,7 @@ use Rattle.proof_memory.specs.Wants.{AMain, is_formed, Claim, Is, So, Holds, All
 use Rattle.proof_memory.specs.Laws.{SameNode, IsInUse}
 use Rattle.proof_memory.proofs.Claims.Uses.{fact_of, safer, both_hold, first_hold, last_hold, Carries}
 use Rattle.proof_memory.proofs.Claims.Nodes.{Heaped}
+use Rattle.proof_memory.proofs.Claims.Named.{third_claim, past_third}
 use Rattle.proof_memory.proofs.Heap.Under.{standing_from}
 use Rattle.proof_memory.proofs.Safety.Guards.{Guarded, Safe, AllZero, guarded_after, guarded_if_counted, counted_in_slot, counted_in_root, counted_in_private}
 use Rattle.proof_memory.proofs.Heap.Effects.{Effect, Keeps, Makes, Publishes, Restores, Decides, Frees, stays}
@@ -62,8 +63,9 @@ module _ (S T : Ref → Type 0) (heap : Heap) where
           safer S T heap _ tt
               (λ r c. f r (Contains-append_right (offer.root ∷ []) (offer.expected ∷ offer.successor ∷ seconds) r (Contains-append_left (offer.expected ∷ []) (offer.successor ∷ seconds) r c))) h.1.0,
           (
-            safer S T heap _ tt (λ r c. f r (Contains-append_right (offer.root ∷ offer.expected ∷ []) (offer.successor ∷ seconds) r (Contains-append_left (offer.successor ∷ []) seconds r c))) h.1.1.0,
-            (safer S T heap _ tt (λ r c. f r (Contains-append_right (offer.root ∷ offer.expected ∷ offer.successor ∷ []) seconds r c)) h.1.1.1.0, tt),
+            safer S T heap _ tt (λ r c. f r (Contains-append_right (offer.root ∷ offer.expected ∷ []) (offer.successor ∷ seconds) r (Contains-append_left (offer.successor ∷ []) seconds r c)))
+                (third_claim h),
+            (safer S T heap _ tt (λ r c. f r (Contains-append_right (offer.root ∷ offer.expected ∷ offer.successor ∷ []) seconds r c)) (past_third h).0, tt),
           ),
         ),
       )
@@ -210,7 +212,7 @@ module _ (S : Ref → Type 0) (heap : Heap) where
       ]
   slots_after f g b c due (Publishes i replaced fresh at_i at_fresh e w differ f_i m f_fresh g_i g_fresh others) old r slot h =
       elim (cases_eq r i) [
-        | inl s ↦ subst (SlotHolds S heap) (same_Some _ _ (sym g_i ∙ ap g (sym s) ∙ h)) (main_slot fresh at_i (old i at_i f_i) w.1.1.0)
+        | inl s ↦ subst (SlotHolds S heap) (same_Some _ _ (sym g_i ∙ ap g (sym s) ∙ h)) (main_slot fresh at_i (old i at_i f_i) (third_claim w))
         | inr other ↦ elim (cases_eq r fresh) [
           | inl s ↦ subst (SlotHolds S heap) (same_Some _ _ (sym g_fresh ∙ ap g (sym s) ∙ h)) (prev_slot (prev.Pending replaced) at_fresh (old fresh at_fresh f_fresh) (w.1.0, tt))
           | inr another ↦ old r slot (sym (others r other another) ∙ h)
@@ -218,7 +220,7 @@ module _ (S : Ref → Type 0) (heap : Heap) where
       ]
   slots_after f g b c due (Restores i main previous at_i e w f_i m g_i others) old r slot h =
       elim (cases_eq r i) [
-        | inl s ↦ subst (SlotHolds S heap) (same_Some _ _ (sym g_i ∙ ap g (sym s) ∙ h)) (main_slot previous at_i (old i at_i f_i) w.1.1.0)
+        | inl s ↦ subst (SlotHolds S heap) (same_Some _ _ (sym g_i ∙ ap g (sym s) ∙ h)) (main_slot previous at_i (old i at_i f_i) (third_claim w))
         | inr other ↦ old r slot (sym (others r other) ∙ h)
       ]
   slots_after f g b c due (Decides main p at_main e w f_main g_main others) old r slot h =

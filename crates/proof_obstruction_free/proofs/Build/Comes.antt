@@ -2,12 +2,11 @@
 -- the main node.
 use Rattle.std.proofs.Common.{◌≡◌, ℕ, zero, suc, ◌+◌, ◌-◌, ◌*◌, ◌==◌, ◌≤◌, Bool, true, false, List, Option, None, if◌then◌else◌, refl, arith}
 use Rattle.std.proofs.lemmas.Bool.{eqb-false}
-use Rattle.proof_obstruction_free.specs.Vocabulary.{Ref, BuildLine, Change, Site, after_single, pair_depth, old_hash, depth_of, hash_in}
+use Rattle.proof_obstruction_free.specs.Vocabulary.{Ref, BuildLine, Change, Site, after_single, pair_depth, old_hash, depth_of, hash_in, build_path, main_of_build}
 use Rattle.proof_obstruction_free.specs.Beneath.machine_model.specs.declared.building.BuildLine.TheVariants as build
 use Rattle.proof_obstruction_free.specs.Beneath.machine_model.specs.declared.building.Change.TheVariants as change
 use Rattle.proof_obstruction_free.specs.Beneath.machine_model.specs.declared.building.Site.TheVariants as site
 use Rattle.proof_obstruction_free.specs.Beneath.machine_model.specs.declared.lines.Line.TheVariants as line
-use Rattle.proof_obstruction_free.specs.Beneath.proof_contents.specs.Lines.Changes.{build_path, main_of_build}
 use Rattle.proof_obstruction_free.specs.Alone.{Lone, Stands, Keeps, WordStays, Within, IsWeight}
 use Rattle.proof_obstruction_free.specs.Keys.{IsBuilt, BuildsOn}
 use Rattle.proof_obstruction_free.specs.Stepping.{Stepping}

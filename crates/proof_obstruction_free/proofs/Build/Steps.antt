@@ -1,20 +1,18 @@
 -- Quiet steps of an actor that is alone, with all that they leave; and the depth of what is built.
 use Rattle.std.proofs.Common.{◌≡◌, ℕ, suc, ◌+◌, ◌≤◌, List, Option, Some, None, refl, subst, ◌∙◌, arith}
 use Rattle.proof_obstruction_free.specs.Vocabulary.{Ref, next_ref, list_depth, BuildLine, Line, Operation, State, build_action, build_after_made, build_if_made, line_action, line_after}
-use Rattle.proof_obstruction_free.specs.Vocabulary.{generation_from, depth_of}
+use Rattle.proof_obstruction_free.specs.Vocabulary.{generation_from, depth_of, AnIndirection, LineLevel, level_until}
 use Rattle.proof_obstruction_free.specs.Beneath.history.specs.declared.replies.Reply.TheVariants as reply
 use Rattle.proof_obstruction_free.specs.Beneath.machine_model.specs.declared.building.BuildLine.TheVariants as build
 use Rattle.proof_obstruction_free.specs.Beneath.machine_model.specs.declared.lines.Line.TheVariants as line
-use Rattle.proof_obstruction_free.specs.Beneath.proof_memory.specs.Wants.{AnIndirection}
 use Rattle.proof_obstruction_free.specs.Beneath.proof_memory.proofs.Safety.AtTimes.{kind_at}
-use Rattle.proof_obstruction_free.specs.Beneath.proof_memory.specs.Levels.{LineLevel}
 use Rattle.proof_obstruction_free.specs.Beneath.proof_contents.proofs.Shapes.Nodes.{list_depth-le}
-use Rattle.proof_obstruction_free.specs.Beneath.proof_shape.specs.Sites.Nodes.{level_until}
 use Rattle.proof_obstruction_free.specs.Beneath.proof_shape.proofs.Sites.At.{lines_have_sites, link_high}
 use Rattle.proof_obstruction_free.specs.Beneath.proof_shape.proofs.Sites.Grown.{grown_sites}
 use Rattle.proof_obstruction_free.specs.Alone.{Lone, Stands, Keeps, WordStays, Within, IsQuiet, IsWeight}
 use Rattle.proof_obstruction_free.specs.Stepping.{Stepping, IsNoEnd, LeavesWords}
 use Rattle.proof_obstruction_free.proofs.Step.Within.{same_stays, step_on, ended, weaken}
+use Rattle.proof_obstruction_free.specs.Beneath.proof_memory.proofs.Claims.Named.{past_place}
 
 -- each line of BUILD makes a node
 build_quiet : (state : State) (operation : Operation) (l : BuildLine) → IsQuiet (build_action state operation l)
@@ -63,7 +61,7 @@ module _ (a : Lone) (weight : ℕ → ℕ) (heavy : IsWeight a weight) (steps : 
   rung_low path main position below depth t g s =
       let level = subst (LineLevel (level_until a.states a.steps a.last)) s.line (lines_have_sites a.steps a.run a.takes a.fit t s.until a.actor s.operation s.runs).0 in
       let wanted = steps.wants t g (line.Build (build.Rung path main position below depth)) s in
-      let (slot, found, is) = kind_at a.states t below AnIndirection wanted.1.1.1.0 in
+      let (slot, found, is) = kind_at a.states t below AnIndirection (past_place wanted).0 in
       let shape = (grown_sites a.steps a.run a.takes a.fit t s.until below slot found).shape in
       let low = link_high (list_depth a.limits.hash) (level_until a.states a.steps a.last below) slot.node is shape in
       (level.1, omega (arith, low, level.2, list_depth-le a.limits.hash))

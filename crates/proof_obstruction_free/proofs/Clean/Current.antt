@@ -1,10 +1,9 @@
 -- CLEAN where the operation's root is the handle's and the key's path ends in a tomb below: the path's end comes one level higher.
 use Rattle.std.proofs.Common.{◌≡◌, ℕ, suc, ◌+◌, ◌*◌, ◌<◌, ◌⊎◌, inl, inr, ◌&&◌, true, List, [], length, slice_index_or, Some, sym, ap, subst, ◌∙◌, arith, refl}
-use Rattle.proof_obstruction_free.specs.Vocabulary.{Ref, Tomb, entries_of, bitmap_of, no_ref, new_try, current, depth_of, is_below_root, reading}
+use Rattle.proof_obstruction_free.specs.Vocabulary.{Ref, Tomb, entries_of, bitmap_of, no_ref, new_try, current, depth_of, is_below_root, reading, is_branch}
 use Rattle.proof_obstruction_free.specs.Beneath.machine_model.specs.declared.lines.Line.TheVariants as line
 use Rattle.proof_obstruction_free.specs.Beneath.machine_model.specs.declared.lines.Purpose.TheVariants as purpose
 use Rattle.proof_obstruction_free.specs.Beneath.machine_model.specs.declared.repairs.CleanLine.TheVariants as clean
-use Rattle.proof_obstruction_free.specs.Beneath.proof_memory.specs.Wants.{is_branch}
 use Rattle.proof_obstruction_free.specs.Alone.{Lone, Stands, Has, Within, IsWeight, IsCurrent, node}
 use Rattle.proof_obstruction_free.specs.Keys.{Chain, Leads, IsOf, IsContracted, IsCleanedUp, IsCleaned, IsNoTomb, CleansCurrent, leaves_single}
 use Rattle.proof_obstruction_free.specs.Machines.{Machines, IsRead, HasSwapped}

@@ -3,9 +3,9 @@ use Rattle.std.proofs.Common.{◌≡◌, ℕ, ◌<◌, ◌≤◌, inl, inr, Bool
 use Rattle.std.proofs.lemmas.Bool.{cases_lt, true≢false}
 use Rattle.std.proofs.lemmas.List.{get_or_past}
 use Rattle.arrayvec.specs.ArrayVec.{ArrayVec}
-use Rattle.proof_obstruction_free.specs.Vocabulary.{position_of, Ref, Indirection, Branch, Single, Tomb, entries_from, entries_of, bitmap_of, no_ref, contracted}
+use Rattle.proof_obstruction_free.specs.Vocabulary.{position_of, Ref, Indirection, Branch, Single, Tomb, entries_from, entries_of, bitmap_of, no_ref, contracted, is_branch}
 use Rattle.proof_obstruction_free.specs.Beneath.slot_arena.proofs.Joining.{whole}
-use Rattle.proof_obstruction_free.specs.Beneath.proof_memory.specs.Wants.{is_branch, is_indirection}
+use Rattle.proof_obstruction_free.specs.Beneath.proof_memory.specs.Wants.{is_indirection}
 use Rattle.proof_obstruction_free.specs.Beneath.proof_generations.proofs.Falling.NoRef.{no_node}
 use Rattle.proof_obstruction_free.specs.Alone.{Lone, Has, node}
 use Rattle.proof_obstruction_free.specs.Keys.{Leads, IsOf, IsEnd, IsCleaned, IsNoTomb, flag_at}

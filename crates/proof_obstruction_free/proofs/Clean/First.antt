@@ -1,10 +1,9 @@
 -- The first lines of CLEAN, where one actor alone takes steps: the current indirection is read, and its main node looked at.
 use Rattle.std.proofs.Common.{◌≡◌, ℕ, suc, ◌<◌, ◌⊎◌, inl, inr, true, List, [], Option, refl, sym, ap, subst, ◌∙◌}
 use Rattle.proof_obstruction_free.specs.Vocabulary.{Ref, Node, Indirection, Branch, Single, Tomb, List as Listed, node_at, entries_of, Line, Operation, ReadLine, clean_after_read, clean_after_main}
-use Rattle.proof_obstruction_free.specs.Vocabulary.{new_try}
+use Rattle.proof_obstruction_free.specs.Vocabulary.{new_try, is_branch}
 use Rattle.proof_obstruction_free.specs.Beneath.machine_model.specs.declared.lines.Line.TheVariants as line
 use Rattle.proof_obstruction_free.specs.Beneath.machine_model.specs.declared.repairs.CleanLine.TheVariants as clean
-use Rattle.proof_obstruction_free.specs.Beneath.proof_memory.specs.Wants.{is_branch}
 use Rattle.proof_obstruction_free.specs.Alone.{Lone, Stands, Within, IsWeight, node}
 use Rattle.proof_obstruction_free.specs.Machines.{HoldsRead}
 use Rattle.proof_obstruction_free.specs.Stepping.{Stepping}
@@ -13,6 +12,7 @@ use Rattle.proof_obstruction_free.proofs.Renew.Nodes.{main_seen}
 use Rattle.proof_obstruction_free.proofs.Renew.Calm.{Calm, calm_step, step_on}
 use Rattle.proof_obstruction_free.proofs.Clean.Lines.{clean_line}
 use Rattle.proof_obstruction_free.proofs.Step.Within.{here, one}
+use Rattle.proof_obstruction_free.specs.Beneath.proof_memory.proofs.Claims.Named.{main_claim}
 
 -- the READ, and the line after it
 abbrev pub current_read : List Ref → Ref → ReadLine → Line
@@ -41,7 +41,7 @@ module _ (a : Lone) (steps : Stepping a) (g : Option ℕ) (path : List Ref) (mai
     next = step_on a steps t g (current_main path main) s more tt refl
 
     found : node_at (a.states t).heap main ≡ node a main
-    found = main_seen a steps t s.until main (steps.wants t g (current_main path main) s).1.1.0
+    found = main_seen a steps t s.until main (main_claim (steps.wants t g (current_main path main) s))
 
     -- of another node it isn't one
     other : (n : Node) → node_at (a.states t).heap main ≡ n → (is_branch n ≡ true → ⊥) → is_branch (node a main) ≡ true → ⊥

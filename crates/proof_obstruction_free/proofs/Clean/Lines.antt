@@ -2,12 +2,11 @@
 use Rattle.std.proofs.Common.{◌≡◌, ℕ, suc, ◌+◌, ◌<◌, ◌⊎◌, inl, inr, false, if◌then◌else◌, nat_lt, nat_eq, List, [], ◌∷◌, ◌++◌, length, slice_index_or, Option, refl, sym, ap, subst, ◌∙◌, arith}
 use Rattle.std.specs.Cmp.Lexicographic.{pointwise}
 use Rattle.proof_obstruction_free.specs.Vocabulary.{Ref, Node, Indirection, Branch, Single, Tomb, List as Listed, node_at, entries_of, no_ref, Line, Operation, ReadLine, clean_next}
-use Rattle.proof_obstruction_free.specs.Vocabulary.{clean_after_entry, clean_after_tomb, after_child, new_try, next_entry}
+use Rattle.proof_obstruction_free.specs.Vocabulary.{clean_after_entry, clean_after_tomb, after_child, new_try, next_entry, AMain, Is, done_wants, IsInUse}
 use Rattle.proof_obstruction_free.specs.Beneath.machine_model.specs.declared.lines.Line.TheVariants as line
 use Rattle.proof_obstruction_free.specs.Beneath.machine_model.specs.declared.reading.ReadLine.TheVariants as read
 use Rattle.proof_obstruction_free.specs.Beneath.machine_model.specs.declared.repairs.CleanLine.TheVariants as clean
-use Rattle.proof_obstruction_free.specs.Beneath.proof_memory.specs.Wants.{is_indirection, AMain, Is, done_wants}
-use Rattle.proof_obstruction_free.specs.Beneath.proof_memory.specs.Laws.{IsInUse}
+use Rattle.proof_obstruction_free.specs.Beneath.proof_memory.specs.Wants.{is_indirection}
 use Rattle.proof_obstruction_free.specs.Beneath.proof_memory.proofs.Claims.Uses.{first_hold, last_hold}
 use Rattle.proof_obstruction_free.specs.Alone.{Lone, Stands, Has, Keeps, Within, IsWeight, node}
 use Rattle.proof_obstruction_free.specs.Machines.{Machines, HoldsRead, IsRead, WasRead}

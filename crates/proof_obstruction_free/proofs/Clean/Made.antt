@@ -4,11 +4,10 @@ use Rattle.std.proofs.lemmas.Bool.{false≢true}
 use Rattle.std.proofs.lemmas.List.Elements.{All-head}
 use Rattle.proof_obstruction_free.specs.Beneath.history.specs.declared.replies.Reply.TheVariants as reply
 use Rattle.proof_obstruction_free.specs.Vocabulary.{Ref, Node, Indirection, Single, node_at, bitmap_of, next_ref, contracted, is_single, cleaned, clean_after_contracted, leaves_single as leaves_in}
-use Rattle.proof_obstruction_free.specs.Vocabulary.{is_below_root}
+use Rattle.proof_obstruction_free.specs.Vocabulary.{is_below_root, AnEntry, meets, IsInUse}
 use Rattle.proof_obstruction_free.specs.Beneath.machine_model.specs.declared.lines.Line.TheVariants as line
 use Rattle.proof_obstruction_free.specs.Beneath.machine_model.specs.declared.repairs.CleanLine.TheVariants as clean
-use Rattle.proof_obstruction_free.specs.Beneath.proof_memory.specs.Wants.{AnEntry, meets, is_indirection}
-use Rattle.proof_obstruction_free.specs.Beneath.proof_memory.specs.Laws.{IsInUse}
+use Rattle.proof_obstruction_free.specs.Beneath.proof_memory.specs.Wants.{is_indirection}
 use Rattle.proof_obstruction_free.specs.Beneath.proof_memory.proofs.Claims.Uses.{Meets}
 use Rattle.proof_obstruction_free.specs.Alone.{Lone, Stands, Within, IsWeight, node}
 use Rattle.proof_obstruction_free.specs.Keys.{IsContracted, leaves_single}

@@ -1,8 +1,8 @@
 -- What CLEAN puts in the place of an entry stays right, where one actor alone takes steps.
 use Rattle.std.proofs.Common.{◌≡◌, ℕ, ◌≤◌, true, false, Option, Some, None, is_some, refl, sym, ap, ◌∙◌, arith}
 use Rattle.std.proofs.lemmas.Bool.{true≢false}
-use Rattle.proof_obstruction_free.specs.Vocabulary.{Ref, Tomb, Slot, node_of, main_of, no_ref, grown}
-use Rattle.proof_obstruction_free.specs.Beneath.proof_memory.specs.Wants.{is_indirection, is_branch}
+use Rattle.proof_obstruction_free.specs.Vocabulary.{Ref, Tomb, Slot, node_of, main_of, no_ref, grown, is_branch}
+use Rattle.proof_obstruction_free.specs.Beneath.proof_memory.specs.Wants.{is_indirection}
 use Rattle.proof_obstruction_free.specs.Beneath.proof_memory.proofs.Claims.Nodes.{no_main}
 use Rattle.proof_obstruction_free.specs.Beneath.proof_shape.proofs.Sites.Grown.{link_same}
 use Rattle.proof_obstruction_free.specs.Beneath.proof_generations.proofs.Falling.NoRef.{no_node}

@@ -1,13 +1,12 @@
 -- CLIMB ends from any of its lines, its SWAP's too: the level under way may have to be climbed once more.
 use Rattle.std.proofs.Common.{◌≡◌, ℕ, suc, ◌+◌, ◌*◌, ◌≤◌, Bool, true, false, nat_eq, length, Option, Some, if◌then◌else◌, refl, sym, subst, ◌∙◌, arith}
 use Rattle.std.specs.Option.{option_eq}
-use Rattle.proof_obstruction_free.specs.Vocabulary.{Ref, Line, Read, Swap, SwapLine, Climb, RootLine, climbing, climbed, higher, swapped, current, above, swapping}
+use Rattle.proof_obstruction_free.specs.Vocabulary.{Ref, Line, Read, Swap, SwapLine, Climb, RootLine, climbing, climbed, higher, swapped, current, above, swapping, way_of}
 use Rattle.proof_obstruction_free.specs.Beneath.machine_model.specs.declared.lines.Line.TheVariants as line
 use Rattle.proof_obstruction_free.specs.Beneath.machine_model.specs.declared.lines.Purpose.TheVariants as purpose
 use Rattle.proof_obstruction_free.specs.Beneath.machine_model.specs.declared.reading.SwapLine.TheVariants as swap
 use Rattle.proof_obstruction_free.specs.Beneath.machine_model.specs.declared.repairs.ClimbLine.TheVariants as climb
 use Rattle.proof_obstruction_free.specs.Beneath.machine_model.specs.declared.roots.RootLine.TheVariants as root
-use Rattle.proof_obstruction_free.specs.Beneath.proof_shape.specs.Sites.At.{way_of}
 use Rattle.proof_obstruction_free.specs.Beneath.proof_shape.proofs.Sites.At.{ways_have_sites}
 use Rattle.proof_obstruction_free.specs.Alone.{Lone, Stands, Within, IsWeight, node, generation}
 use Rattle.proof_obstruction_free.specs.Keys.{ClimbsOn}

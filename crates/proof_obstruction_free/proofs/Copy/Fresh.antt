@@ -2,12 +2,12 @@
 use Rattle.std.proofs.Common.{◌≡◌, ℕ, suc, ◌+◌, ◌<◌, ◌≤◌, ◌==◌, true, Option, None, refl, ap, ◌∙◌, subst, eq-eqb, arith}
 use Rattle.std.proofs.lemmas.Bool.{and_from}
 use Rattle.proof_obstruction_free.specs.Vocabulary.{Ref, Line, After, Gives, ReadLine, Descriptor, Plain, Offer, handle_of, after_offer, copy_after_complete, copied_reply, read_action, read_after}
-use Rattle.proof_obstruction_free.specs.Vocabulary.{after_prev, word_at, is_plain, is_carried_out, stands_in, of_offer}
+use Rattle.proof_obstruction_free.specs.Vocabulary.{after_prev, word_at, is_plain, is_carried_out, stands_in, of_offer, ReadTurn}
 use Rattle.proof_obstruction_free.specs.Beneath.machine_model.specs.declared.copying.CopyLine.TheVariants as copy
 use Rattle.proof_obstruction_free.specs.Beneath.machine_model.specs.declared.lines.Line.TheVariants as line
 use Rattle.proof_obstruction_free.specs.Beneath.machine_model.specs.declared.reading.After.TheVariants.{Goes}
 use Rattle.proof_obstruction_free.specs.Beneath.machine_model.specs.declared.reading.ReadLine.TheVariants as read
-use Rattle.proof_obstruction_free.specs.Beneath.proof_commits.specs.Protocol.{ReadTurn, Leaves}
+use Rattle.proof_obstruction_free.specs.Beneath.proof_commits.specs.Protocol.{Leaves}
 use Rattle.proof_obstruction_free.specs.Beneath.proof_commits.proofs.Words.OfRuns.{leaves_words}
 use Rattle.proof_obstruction_free.specs.Beneath.proof_commits.proofs.Lines.Read.{no_commit}
 use Rattle.proof_obstruction_free.specs.Alone.{Lone, Stands, Has, Keeps, IsPlain, word}

@@ -1,11 +1,11 @@
 -- A READ of the root that stands in the handle's word, on a writable handle: where one actor alone takes steps it gives the decided main node within four.
 use Rattle.std.proofs.Common.{◌≡◌, ℕ, suc, ◌+◌, ◌<◌, ◌≤◌, true, Option, Some, refl, sym, ap, ◌∙◌, subst, eq-eqb, arith}
 use Rattle.proof_obstruction_free.specs.Vocabulary.{Writable, Ref, Prev, prev_at, generation_at, Line, After, Gives, ReadLine, read_after, after_prev, after_ask, after_decide, after_restore}
-use Rattle.proof_obstruction_free.specs.Vocabulary.{verdict_by, is_licensed, is_pending, main_word, prev_word}
+use Rattle.proof_obstruction_free.specs.Vocabulary.{verdict_by, is_licensed, is_pending, main_word, prev_word, ReadTurn}
 use Rattle.proof_obstruction_free.specs.Beneath.slot_arena.specs.declared.nodes.Prev.TheVariants as over
 use Rattle.proof_obstruction_free.specs.Beneath.machine_model.specs.declared.reading.After.TheVariants.{Goes}
 use Rattle.proof_obstruction_free.specs.Beneath.machine_model.specs.declared.reading.ReadLine.TheVariants as read
-use Rattle.proof_obstruction_free.specs.Beneath.proof_commits.specs.Protocol.{ReadTurn, Leaves}
+use Rattle.proof_obstruction_free.specs.Beneath.proof_commits.specs.Protocol.{Leaves}
 use Rattle.proof_obstruction_free.specs.Beneath.proof_commits.proofs.Words.OfRuns.{link_made}
 use Rattle.proof_obstruction_free.specs.Beneath.proof_generations.proofs.Falling.KnownRoots.{reads_on}
 use Rattle.proof_obstruction_free.specs.Alone.{Lone, Stands, Has, Keeps, WordStays, IsPlain, generation, word}

@@ -1,11 +1,10 @@
 -- CLEAN leaves the main nodes of all other indirections.
 use Rattle.std.proofs.Common.{◌≡◌, ℕ, ◌+◌, ◌*◌, ◌⊎◌, inl, inr, true, List, [], length, Option, arith}
 use Rattle.std.proofs.Math.Nat.{mul-le-mul_right}
-use Rattle.proof_obstruction_free.specs.Vocabulary.{Ref, entries_of, new_try, current, reading}
+use Rattle.proof_obstruction_free.specs.Vocabulary.{Ref, entries_of, new_try, current, reading, is_branch}
 use Rattle.proof_obstruction_free.specs.Beneath.machine_model.specs.declared.lines.Line.TheVariants as line
 use Rattle.proof_obstruction_free.specs.Beneath.machine_model.specs.declared.lines.Purpose.TheVariants as purpose
 use Rattle.proof_obstruction_free.specs.Beneath.machine_model.specs.declared.repairs.CleanLine.TheVariants as clean
-use Rattle.proof_obstruction_free.specs.Beneath.proof_memory.specs.Wants.{is_branch}
 use Rattle.proof_obstruction_free.specs.Alone.{IsWeight, KeepsBut, Lone, Stands, Within, WordStays, node}
 use Rattle.proof_obstruction_free.specs.Keys.{IsContracted}
 use Rattle.proof_obstruction_free.specs.Machines.{IsRead, IsSwapped, Machines}

@@ -1,14 +1,12 @@
 -- Where one actor alone takes steps: its operation's path, and a chain from the root, lie on the key's path in the trie of the run.
 use Rattle.std.proofs.Common.{◌≡◌, ℕ, zero, suc, cond, ◌<◌, List, length, get_or, Some, refl, sym, ap, subst, ◌∙◌, arith}
-use Rattle.proof_obstruction_free.specs.Vocabulary.{position_of, Writable, Ref, generation_of, generation_at, logical, no_ref, Plain, handle_of, key_of, root_of, word_of, prev_word}
+use Rattle.proof_obstruction_free.specs.Vocabulary.{position_of, Writable, Ref, generation_of, generation_at, logical, no_ref, Plain, handle_of, key_of, root_of, word_of, prev_word, Absent, Below}
+use Rattle.proof_obstruction_free.specs.Vocabulary.{look_at, look_in, Trie, On, at_below, generation, says, trie_of_run, LiesOn, path_of}
 use Rattle.proof_obstruction_free.specs.Beneath.machine_model.specs.declared.finding.KeyLine.TheVariants as key
 use Rattle.proof_obstruction_free.specs.Beneath.machine_model.specs.declared.lines.Line.TheVariants as line
-use Rattle.proof_obstruction_free.specs.Beneath.proof_contents.specs.Nodes.Looking.{Absent, Below, look_at, look_in}
-use Rattle.proof_obstruction_free.specs.Beneath.proof_contents.specs.Tries.{Trie, On, at_root, at_below, generation, says}
+use Rattle.proof_obstruction_free.specs.Beneath.proof_contents.specs.Tries.{at_root}
 use Rattle.proof_obstruction_free.specs.Beneath.proof_contents.specs.Steps.{IsTrie}
 use Rattle.proof_obstruction_free.specs.Beneath.proof_contents.proofs.Values.Runs.{counting_main-made}
-use Rattle.proof_obstruction_free.specs.Beneath.proof_shape.specs.Shaped.{trie_of_run}
-use Rattle.proof_updates.specs.Paths.{LiesOn, path_of}
 use Rattle.proof_updates.proofs.Tries.OfRuns as whole
 use Rattle.proof_obstruction_free.specs.Alone.{Lone, Stands, Has, IsCurrent}
 use Rattle.proof_obstruction_free.specs.Keys.{Chain, IsOf, Leads, flag_at}

@@ -1,13 +1,12 @@
 -- From each line of KEY and RENEW of a call on one key the operation ends, the RENEWs of both passes counted once.
 use Rattle.std.proofs.Common.{◌≡◌, ℕ, suc, ◌+◌, ◌*◌, ◌≤◌, Bool, true, false, if◌then◌else◌, List, [], ◌∷◌, ◌++◌, length, get_or, Some, refl, sym, ap, subst, ◌∙◌, ltb, arith}
 use Rattle.proof_obstruction_free.specs.Vocabulary.{Writable, Ref, Node, Indirection, Branch, Single, Tomb, List as Listed, entries_of, entry_at, no_ref, node_at, KeyLine, Read, Swap, SwapLine}
-use Rattle.proof_obstruction_free.specs.Vocabulary.{RenewLine, going_down, is_passable, key_after_entry, new_try, swapped, current, reading, renew_next, swapping}
+use Rattle.proof_obstruction_free.specs.Vocabulary.{RenewLine, going_down, is_passable, key_after_entry, new_try, swapped, current, reading, renew_next, swapping, renew_path}
 use Rattle.proof_obstruction_free.specs.Beneath.machine_model.specs.declared.finding.KeyLine.TheVariants as key
 use Rattle.proof_obstruction_free.specs.Beneath.machine_model.specs.declared.lines.Line.TheVariants as line
 use Rattle.proof_obstruction_free.specs.Beneath.machine_model.specs.declared.lines.Purpose.TheVariants as purpose
 use Rattle.proof_obstruction_free.specs.Beneath.machine_model.specs.declared.reading.SwapLine.TheVariants as swap
 use Rattle.proof_obstruction_free.specs.Beneath.machine_model.specs.declared.repairs.RenewLine.TheVariants as renew
-use Rattle.proof_obstruction_free.specs.Beneath.proof_generations.specs.Falling.{renew_path}
 use Rattle.proof_obstruction_free.specs.Alone.{IsWeight, Lone, Stands, Within, node}
 use Rattle.proof_obstruction_free.specs.Bounds.{fresh_most}
 use Rattle.proof_obstruction_free.specs.Keys.{IsOf, WasRenewing}

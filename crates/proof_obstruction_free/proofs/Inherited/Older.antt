@@ -1,9 +1,7 @@
 -- Where an operation's path is linked no level down to there is older: what was once on the key's path is so until it is a tomb.
 use Rattle.std.proofs.Common.{◌≡◌, ℕ, suc, ◌<◌, ◌≤◌, ◌⊎◌, inl, inr, List, get_or, sym, ap, subst, ◌∙◌, arith}
 use Rattle.std.proofs.lemmas.Bool.{cases_lt}
-use Rattle.proof_obstruction_free.specs.Vocabulary.{Ref, Branch, Tomb, no_ref, current, depth_of}
-use Rattle.proof_obstruction_free.specs.Beneath.proof_contents.specs.Nodes.Looking.{Below}
-use Rattle.proof_obstruction_free.specs.Beneath.proof_contents.specs.Tries.{On, IsTombed, generation, says}
+use Rattle.proof_obstruction_free.specs.Vocabulary.{Ref, Branch, Tomb, no_ref, current, depth_of, Below, On, IsTombed, generation, says}
 use Rattle.proof_obstruction_free.specs.Beneath.proof_contents.proofs.Values.Paths.{path_lasts}
 use Rattle.proof_obstruction_free.specs.Alone.{Lone, Keeps}
 use Rattle.proof_obstruction_free.specs.Keys.{IsOf}

@@ -1,9 +1,8 @@
 -- One indirection alone is on a key's path at each depth, and what is on it is reached through all those above.
 use Rattle.std.proofs.Common.{◌≡◌, ℕ, zero, suc, ◌<◌, ◌==◌, Bool, true, false, refl, sym, ap, subst, ◌∙◌, arith, eqb-true}
-use Rattle.proof_obstruction_free.specs.Vocabulary.{Ref}
-use Rattle.proof_obstruction_free.specs.Beneath.proof_contents.specs.Nodes.Looking.{Below}
+use Rattle.proof_obstruction_free.specs.Vocabulary.{Ref, Below, Trie, On, at_below, generation, says}
 use Rattle.proof_obstruction_free.specs.Beneath.proof_contents.proofs.Nodes.Branches.{differ}
-use Rattle.proof_obstruction_free.specs.Beneath.proof_contents.specs.Tries.{Trie, On, at_root, at_below, generation, says}
+use Rattle.proof_obstruction_free.specs.Beneath.proof_contents.specs.Tries.{at_root}
 
 module _ (trie : Trie) (t g q : ℕ) where
   -- how it is on the path

@@ -4,12 +4,11 @@ use Rattle.std.specs.Cmp.Lexicographic.{pointwise, same_text}
 use Rattle.std.proofs.lemmas.Bool.{lt-ltb, le-ltb}
 use Rattle.std.proofs.lemmas.List.{length-append}
 use Rattle.proof_obstruction_free.specs.Beneath.history.specs.declared.replies.Reply.TheVariants as reply
-use Rattle.proof_obstruction_free.specs.Vocabulary.{Ref, Tomb, entries_of, new_try, current, depth_of, reading}
+use Rattle.proof_obstruction_free.specs.Vocabulary.{Ref, Tomb, entries_of, new_try, current, depth_of, reading, is_branch}
 use Rattle.proof_obstruction_free.specs.Beneath.machine_model.specs.declared.lines.Line.TheVariants as line
 use Rattle.proof_obstruction_free.specs.Beneath.machine_model.specs.declared.lines.Purpose.TheVariants as purpose
 use Rattle.proof_obstruction_free.specs.Beneath.machine_model.specs.declared.reading.ReadLine.TheVariants as read
 use Rattle.proof_obstruction_free.specs.Beneath.machine_model.specs.declared.repairs.CleanLine.TheVariants as clean
-use Rattle.proof_obstruction_free.specs.Beneath.proof_memory.specs.Wants.{is_branch}
 use Rattle.proof_obstruction_free.specs.Alone.{Lone, Stands, Has, IsCurrent, node}
 use Rattle.proof_obstruction_free.specs.Keys.{Chain, Leads, IsOf, IsCleanedUp}
 use Rattle.proof_obstruction_free.specs.Machines.{HasSwapped, IsRead, Machines}

@@ -1,10 +1,9 @@
 -- From a new try of a call on one key an operation whose actor alone takes steps makes 558 nodes at most.
 use Rattle.std.proofs.Common.{◌≡◌, ℕ, zero, suc, ◌+◌, ◌≤◌, ◌⊎◌, inl, inr, List, [], ◌∷◌, length, Option, Some, refl, subst, arith}
-use Rattle.proof_obstruction_free.specs.Vocabulary.{Writable, Ref, Tomb, entries_of, BuildLine, new_try, above, current, reading, swapping}
+use Rattle.proof_obstruction_free.specs.Vocabulary.{Writable, Ref, Tomb, entries_of, BuildLine, new_try, above, current, reading, swapping, build_path, main_of_build}
 use Rattle.proof_obstruction_free.specs.Beneath.machine_model.specs.declared.finding.KeyLine.TheVariants as key
 use Rattle.proof_obstruction_free.specs.Beneath.machine_model.specs.declared.lines.Line.TheVariants as line
 use Rattle.proof_obstruction_free.specs.Beneath.machine_model.specs.declared.lines.Purpose.TheVariants as purpose
-use Rattle.proof_obstruction_free.specs.Beneath.proof_contents.specs.Lines.Changes.{build_path, main_of_build}
 use Rattle.proof_obstruction_free.specs.Alone.{IsCurrent, Lone, Stands, Within, generation, node}
 use Rattle.proof_obstruction_free.specs.Keys.{Ended, IsBuilt, IsCleanedUp, IsNoTomb, IsOnKey}
 use Rattle.proof_obstruction_free.specs.Machines.{HasSwapped, IsRooted, Machines}

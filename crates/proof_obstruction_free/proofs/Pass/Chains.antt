@@ -3,11 +3,9 @@ use Rattle.std.proofs.Common.{Some, ◌≡◌, ℕ, suc, ◌+◌, ◌-◌, ◌<�
 use Rattle.std.proofs.lemmas.Bool.{cases_lt, false≢true}
 use Rattle.std.proofs.lemmas.List.{get_or-append_right, get_or_append_left, length-append}
 use Rattle.arrayvec.specs.ArrayVec.{ArrayVec}
-use Rattle.proof_obstruction_free.specs.Vocabulary.{Ref, Node, Indirection, Branch, Single, Tomb, List as Listed, no_ref, has_flag, Line, current, depth_of}
+use Rattle.proof_obstruction_free.specs.Vocabulary.{Ref, Node, Indirection, Branch, Single, Tomb, List as Listed, no_ref, has_flag, Line, current, depth_of, depth_of_run, way_of}
 use Rattle.proof_obstruction_free.specs.Beneath.machine_model.specs.declared.finding.KeyLine.TheVariants as key
 use Rattle.proof_obstruction_free.specs.Beneath.machine_model.specs.declared.lines.Line.TheVariants as line
-use Rattle.proof_obstruction_free.specs.Beneath.proof_shape.specs.Sites.Nodes.{depth_of_run}
-use Rattle.proof_obstruction_free.specs.Beneath.proof_shape.specs.Sites.At.{way_of}
 use Rattle.proof_obstruction_free.specs.Beneath.proof_shape.proofs.Sites.At.{ways_have_sites}
 use Rattle.proof_obstruction_free.specs.Alone.{Has, IsCurrent, Keeps, KeepsBut, Lone, Stands, WordStays, node}
 use Rattle.proof_obstruction_free.specs.Keys.{Chain, Ended, IsEnd, IsOf, Leads, entry_for, flag_at}

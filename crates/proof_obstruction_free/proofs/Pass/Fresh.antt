@@ -1,7 +1,7 @@
 -- From a new try of a call on one key the operation ends.
 use Rattle.std.proofs.Common.{◌≡◌, ℕ, ◌+◌, ◌*◌, ◌≤◌, true, false, List, [], ◌∷◌, length, Option, Some, refl, sym, ap, subst, ◌∙◌}
 use Rattle.std.proofs.lemmas.Bool.{false≢true}
-use Rattle.proof_obstruction_free.specs.Vocabulary.{Ref, Node, Indirection, Branch, Single, Tomb, List as Listed, generation_of, node_at, new_try, reading}
+use Rattle.proof_obstruction_free.specs.Vocabulary.{Ref, Node, Indirection, Branch, Single, Tomb, List as Listed, generation_of, node_at, new_try, reading, IsInUse, Holds, Is, AnIndirection}
 use Rattle.proof_obstruction_free.specs.Beneath.machine_model.specs.declared.finding.KeyLine.TheVariants as key
 use Rattle.proof_obstruction_free.specs.Beneath.machine_model.specs.declared.lines.Line.TheVariants as line
 use Rattle.proof_obstruction_free.specs.Beneath.proof_memory.specs.Wants.{is_indirection}
@@ -21,15 +21,18 @@ module _ (a : Lone) (steps : Stepping a) where
   pub root_link : (t : ℕ) (g : Option ℕ) (r : Ref) → Stands a t g (line.Key (key.Read (r ∷ []) (reading r))) → IsOf a r (generation a r)
   root_link t g r s = by (node_at (a.states t).heap r) refl
     where
+      claim : Holds (IsInUse (a.states t).heap) (a.states t).heap (Is r AnIndirection)
+      claim = let reads = (steps.wants t g (line.Key (key.Read (r ∷ []) (reading r))) s).1.1 in reads.0
+
       link : is_indirection (node_at (a.states t).heap r) ≡ true
-      link = meets_of (steps.wants t g (line.Key (key.Read (r ∷ []) (reading r))) s).1.1.0
+      link = meets_of claim
 
       none : (n : Node) → node_at (a.states t).heap r ≡ n → is_indirection n ≡ false → IsOf a r (generation a r)
       none n e kind = absurd (false≢true (sym kind ∙ ap is_indirection (sym e) ∙ link))
 
       by : (n : Node) → node_at (a.states t).heap r ≡ n → IsOf a r (generation a r)
       by (Indirection h w) e =
-          let (m, is) = steps.link_found t r h w s.until (safe_of (steps.wants t g (line.Key (key.Read (r ∷ []) (reading r))) s).1.1.0) e in
+          let (m, is) = steps.link_found t r h w s.until (safe_of claim) e in
           (m, is ∙ ap (λ k. Indirection k m) (sym (ap generation_of is)))
       by (Branch b es) e = none (Branch b es) e refl
       by (Single k v) e = none (Single k v) e refl

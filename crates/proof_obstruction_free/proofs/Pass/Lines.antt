@@ -4,11 +4,10 @@ use Rattle.std.proofs.Math.Seq.{get_or-append_seam}
 use Rattle.std.proofs.lemmas.Bool.{lt-ltb}
 use Rattle.std.proofs.lemmas.List.{length-append}
 use Rattle.proof_obstruction_free.specs.Vocabulary.{position_of, Writable, Ref, entries_of, no_ref, node_at, has_flag, Line, Operation, ReadLine, absent, going_down, is_passable, key_after_entry}
-use Rattle.proof_obstruction_free.specs.Vocabulary.{key_after_main, key_after_read, line_after, current, depth_of, flag_in, reading, renew_next}
+use Rattle.proof_obstruction_free.specs.Vocabulary.{key_after_main, key_after_read, line_after, current, depth_of, flag_in, reading, renew_next, IsInUse}
 use Rattle.proof_obstruction_free.specs.Beneath.machine_model.specs.declared.finding.KeyLine.TheVariants as key
 use Rattle.proof_obstruction_free.specs.Beneath.machine_model.specs.declared.lines.Line.TheVariants as line
 use Rattle.proof_obstruction_free.specs.Beneath.machine_model.specs.declared.repairs.RenewLine.TheVariants as renew
-use Rattle.proof_obstruction_free.specs.Beneath.proof_memory.specs.Laws.{IsInUse}
 use Rattle.proof_obstruction_free.specs.Alone.{Lone, Stands, node}
 use Rattle.proof_obstruction_free.specs.Keys.{IsOf, Leads, flag_at}
 use Rattle.proof_obstruction_free.specs.Machines.{HoldsRead}

@@ -1,13 +1,13 @@
 -- What the lines of KEY see on the way down, where one actor alone takes steps.
 use Rattle.std.proofs.Common.{◌≡◌, ℕ, ◌<◌, ◌≤◌, false, List, Option, get_or, length, refl, sym, ap, ap₂, subst, ◌∙◌, ltb-true}
 use Rattle.proof_obstruction_free.specs.Vocabulary.{hash_of, Call, Ref, Node, Indirection, Branch, Single, Tomb, List as Listed, entries_of, no_ref, node_at, flag_of, Line, Bounds, key_of, depth_of}
-use Rattle.proof_obstruction_free.specs.Vocabulary.{flag_in}
+use Rattle.proof_obstruction_free.specs.Vocabulary.{flag_in, IsInUse}
 use Rattle.proof_obstruction_free.specs.Beneath.machine_model.specs.declared.finding.KeyLine.TheVariants as key
 use Rattle.proof_obstruction_free.specs.Beneath.machine_model.specs.declared.lines.Line.TheVariants as line
-use Rattle.proof_obstruction_free.specs.Beneath.proof_memory.specs.Laws.{IsInUse}
 use Rattle.proof_obstruction_free.specs.Beneath.proof_memory.specs.Wants.{is_indirection}
 use Rattle.proof_obstruction_free.specs.Beneath.proof_memory.proofs.Safety.AtTimes.{limits_at}
 use Rattle.proof_obstruction_free.specs.Beneath.proof_memory.proofs.Claims.Uses.{meets_of}
+use Rattle.proof_obstruction_free.specs.Beneath.proof_memory.proofs.Claims.Named.{main_claim, past_place}
 use Rattle.proof_obstruction_free.specs.Alone.{Lone, Stands, node}
 use Rattle.proof_obstruction_free.specs.Keys.{IsOf, flag_at}
 use Rattle.proof_obstruction_free.specs.Stepping.{Stepping}
@@ -24,7 +24,7 @@ module _ (a : Lone) where
     -- a main node at which KEY is
     pub main_seen : (t : ℕ) (g : Option ℕ) (path : List Ref) (main : Ref) → Stands a t g (line.Key (key.Main path main)) → node_at (a.states t).heap main ≡ node a main
     main_seen t g path main s =
-        main_there a steps t s.until main (steps.wants t g (line.Key (key.Main path main)) s).1.1.0
+        main_there a steps t s.until main (main_claim (steps.wants t g (line.Key (key.Main path main)) s))
 
     -- the branch and its entry at which KEY is
     pub record SeesEntry (t : ℕ) (main : Ref) (position : ℕ) : Type 0 where
@@ -35,10 +35,10 @@ module _ (a : Lone) where
     pub sees_entry : (t : ℕ) (g : Option ℕ) (path : List Ref) (main : Ref) (position : ℕ) → Stands a t g (line.Key (key.Entry path main position)) → SeesEntry t main position
     sees_entry t g path main position s =
         let claims = steps.wants t g (line.Key (key.Entry path main position)) s in
-        let same = branch_seen a steps t s.until main claims.1.1.0 in
+        let same = branch_seen a steps t s.until main (main_claim claims) in
         record {
           branch = same;
-          within = subst (λ n. position < length (entries_of n)) same (ltb-true position _ (meets_of claims.1.1.1.0));
+          within = subst (λ n. position < length (entries_of n)) same (ltb-true position _ (meets_of (past_place claims).0));
           used = subst (λ n. IsInUse (a.states t).heap (get_or (entries_of n) position no_ref)) same (looks_at a steps t g (line.Key (key.Entry path main position)) s _ refl);
         }
 

@@ -2,7 +2,7 @@
 use Rattle.std.proofs.Common.{◌≡◌, ℕ, ◌≤◌, Option, Some, sym, ap, ◌∙◌, subst}
 use Rattle.std.proofs.lemmas.Option.{none-some, same_Some}
 use Rattle.proof_obstruction_free.specs.Vocabulary.{Writable, Ref, Line, Read, SwapLine, CompleteLine, Descriptor, RootLine, read_of, rooting_read, completing_read, swapping_read, main_word}
-use Rattle.proof_obstruction_free.specs.Vocabulary.{prev_word}
+use Rattle.proof_obstruction_free.specs.Vocabulary.{prev_word, Words, stage_of, stage_of_root, stage_of_complete, stage_of_swap, stage_of_actor}
 use Rattle.proof_obstruction_free.specs.Beneath.slot_arena.specs.declared.nodes.Prev.TheVariants as prev
 use Rattle.proof_obstruction_free.specs.Beneath.machine_model.specs.declared.copying.CopyLine.TheVariants as copy
 use Rattle.proof_obstruction_free.specs.Beneath.machine_model.specs.declared.finding.KeyLine.TheVariants as key
@@ -15,13 +15,11 @@ use Rattle.proof_obstruction_free.specs.Beneath.machine_model.specs.declared.rep
 use Rattle.proof_obstruction_free.specs.Beneath.machine_model.specs.declared.roots.CompleteLine.TheVariants as complete
 use Rattle.proof_obstruction_free.specs.Beneath.machine_model.specs.declared.roots.RootLine.TheVariants as root
 use Rattle.proof_obstruction_free.specs.Beneath.machine_model.specs.declared.walking.WalkLine.TheVariants as walk
-use Rattle.proof_obstruction_free.specs.Beneath.proof_commits.specs.Protocol.{Words}
 use Rattle.proof_obstruction_free.specs.Beneath.proof_commits.proofs.Words.Stood.{Stood}
 use Rattle.proof_obstruction_free.specs.Beneath.proof_commits.proofs.Course.Finals.{pending_stands}
 use Rattle.proof_obstruction_free.specs.Beneath.proof_commits.proofs.Known.Owners.{OnLine, Staged}
 use Rattle.proof_obstruction_free.specs.Beneath.proof_commits.proofs.Words.Along.{remembers_at}
 use Rattle.proof_obstruction_free.specs.Beneath.proof_commits.proofs.Lines.Stages.{Remembers, ReadRemembers, CompleteRemembers, RootRemembers, SwapRemembers}
-use Rattle.proof_obstruction_free.specs.Beneath.proof_commits.specs.Stages.{stage_of, stage_of_root, stage_of_complete, stage_of_swap, stage_of_actor}
 use Rattle.proof_obstruction_free.specs.Alone.{Lone, Stands}
 use Rattle.proof_obstruction_free.proofs.Read.Words.{w, sound}
 use Rattle.proof_obstruction_free.specs.Beneath.proof_commits.proofs.Known.Acts.{known_run}

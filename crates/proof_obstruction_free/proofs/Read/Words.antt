@@ -1,9 +1,8 @@
 -- What is known of main words and prev words of the run, and what the steps of a READ write to them.
 use Rattle.std.proofs.Common.{◌≡◌, ℕ, suc, ◌<◌, ◌≤◌, ◌⊎◌, inl, inr, true, option_map, is_some, sym, ap, ◌∙◌, subst}
 use Rattle.std.proofs.lemmas.Bool.{cases_eq, true≢false}
-use Rattle.proof_obstruction_free.specs.Vocabulary.{Ref, Prev, node_of, main_of, prev_of, main_changed, prev_changed, grown, node_under, main_word, prev_word}
+use Rattle.proof_obstruction_free.specs.Vocabulary.{Ref, Prev, node_of, main_of, prev_of, main_changed, prev_changed, grown, node_under, main_word, prev_word, Words, Protocol, Makes, is_made}
 use Rattle.proof_obstruction_free.specs.Beneath.slot_arena.specs.declared.nodes.Prev.TheVariants as prev
-use Rattle.proof_obstruction_free.specs.Beneath.proof_commits.specs.Protocol.{Words, Protocol, Makes}
 use Rattle.proof_obstruction_free.specs.Beneath.proof_commits.proofs.Words.Stood.{none≢pending, over_failed}
 use Rattle.proof_obstruction_free.specs.Beneath.proof_commits.proofs.Words.Effects.{Effect, Nothing, Made, SwappedIn, PutBack, Committed, Failed, made_later}
 use Rattle.proof_obstruction_free.specs.Beneath.proof_commits.proofs.Known.Owners.{IsSound}
@@ -13,7 +12,6 @@ use Rattle.proof_obstruction_free.specs.Beneath.proof_commits.proofs.Words.OfRun
 use Rattle.proof_obstruction_free.specs.Beneath.proof_commits.proofs.Known.Given.{GrownStays, GrownChanges}
 use Rattle.proof_obstruction_free.specs.Beneath.proof_memory.specs.Wants.{is_indirection}
 use Rattle.proof_obstruction_free.specs.Beneath.proof_commits.proofs.Words.Along.{protocol}
-use Rattle.proof_obstruction_free.specs.Beneath.proof_contents.specs.Runs.{is_made}
 use Rattle.proof_obstruction_free.specs.Alone.{Lone, Has, Keeps}
 use Rattle.proof_obstruction_free.specs.Weighing.{Sees}
 use Rattle.proof_obstruction_free.specs.Beneath.proof_commits.proofs.Known.Acts.{known_run}

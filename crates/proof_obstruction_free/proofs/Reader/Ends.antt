@@ -3,20 +3,20 @@ use Rattle.std.proofs.Common.{◌≡◌, ℕ, zero, suc, ◌+◌, ◌-◌, ◌*�
 use Rattle.std.proofs.lemmas.Bool.{false≢true}
 use Rattle.std.proofs.lemmas.List.{length-append}
 use Rattle.proof_obstruction_free.specs.Vocabulary.{ReadOnly, Ref, Node, Indirection, Branch, Single, Tomb, List as Listed, Slot, node_at, node_of, entry_at, entries_of, KeyLine, Line, ReadLine}
-use Rattle.proof_obstruction_free.specs.Vocabulary.{Complete, handle_of, going_down, root_of, word_of, grown, moment_at}
+use Rattle.proof_obstruction_free.specs.Vocabulary.{Complete, handle_of, going_down, root_of, word_of, grown, moment_at, TombOrList, AMain, listed, meets, sites_of, trie_at}
 use Rattle.proof_obstruction_free.specs.Beneath.machine_model.specs.declared.finding.KeyLine.TheVariants as key
 use Rattle.proof_obstruction_free.specs.Beneath.machine_model.specs.declared.lines.Line.TheVariants as line
 use Rattle.proof_obstruction_free.specs.Beneath.machine_model.specs.declared.reading.ReadLine.TheVariants as read
 use Rattle.proof_obstruction_free.specs.Beneath.machine_model.specs.declared.roots.RootLine.TheVariants as root
-use Rattle.proof_obstruction_free.specs.Beneath.proof_memory.specs.Wants.{TombOrList, AMain, listed, meets, is_indirection}
+use Rattle.proof_obstruction_free.specs.Beneath.proof_memory.specs.Wants.{is_indirection}
 use Rattle.proof_obstruction_free.specs.Beneath.proof_memory.proofs.Safety.AtEachTime.{safe_at}
 use Rattle.proof_obstruction_free.specs.Beneath.proof_memory.proofs.Claims.Uses.{safe_of, meets_of, fact_of}
+use Rattle.proof_obstruction_free.specs.Beneath.proof_memory.proofs.Claims.Named.{main_claim}
 use Rattle.proof_obstruction_free.specs.Beneath.proof_generations.proofs.Roots.Along.{ordered_at, read_only_plain}
 use Rattle.proof_obstruction_free.specs.Beneath.proof_generations.proofs.Falling.OwnSwaps.{knows_at}
 use Rattle.proof_obstruction_free.specs.Beneath.proof_generations.proofs.Lines.Reader.{KnowsReader}
 use Rattle.proof_obstruction_free.specs.Beneath.proof_generations.proofs.Falling.Runs.{Ends, Shut, LateEnd}
 use Rattle.proof_obstruction_free.specs.Beneath.proof_contents.proofs.Shapes.Nodes.{list_shape}
-use Rattle.proof_obstruction_free.specs.Beneath.proof_shape.specs.Sites.Lines.{sites_of, trie_at}
 use Rattle.proof_obstruction_free.specs.Beneath.proof_shape.proofs.Sites.Grown.{made_shaped}
 use Rattle.proof_obstruction_free.specs.Alone.{Lone, Stands, IsPlain, Within, node, word}
 use Rattle.proof_obstruction_free.specs.Keys.{IsOnKey}
@@ -72,7 +72,7 @@ module _ (a : Lone) (read_only : a.own.access ≡ ReadOnly) (on_key : IsOnKey a.
 
   few_listed : (t : ℕ) (g : Option ℕ) (path : List Ref) (m : Ref) (p : ℕ) → Stands a t g (line.Key (key.Listed path m p)) → length (entries_of (node_at (a.states t).heap m)) ≤ 32
   few_listed t g path m p s =
-      let claim = (steps.wants t g (line.Key (key.Listed path m p)) s).1.1.0 in
+      let claim = main_claim (steps.wants t g (line.Key (key.Listed path m p)) s) in
       let kind : meets TombOrList (node_at (a.states t).heap m) ≡ true = ap (λ x. meets (listed x) (node_at (a.states t).heap m)) (sym read_only) ∙ meets_of claim in
       few_by m (node_at (a.states t).heap m) (sym (steps.node_found t m s.until (safe_of claim) (list_plain _ kind))) kind
 

@@ -2,11 +2,10 @@
 use Rattle.std.proofs.Common.{◌≡◌, ℕ, zero, suc, ◌+◌, ◌*◌, ◌<◌, ◌≤◌, ◌⊎◌, inl, inr, cond, List, [], ◌∷◌, ◌++◌, length, slice_index_or, Option, Some, None, refl, sym, ap, subst, ◌∙◌, arith}
 use Rattle.std.proofs.lemmas.Bool.{cases_lt, lt-ltb, le-ltb}
 use Rattle.std.proofs.lemmas.List.{length-append, get_or_append_left, get_or_push}
-use Rattle.proof_obstruction_free.specs.Vocabulary.{hash_of, Ref, entries_of, bitmap_of, next_ref, no_ref, renewed, key_of, branch_of, renew_after_branch}
+use Rattle.proof_obstruction_free.specs.Vocabulary.{hash_of, Ref, entries_of, bitmap_of, next_ref, no_ref, renewed, key_of, branch_of, renew_after_branch, LineSite, sites_of}
 use Rattle.proof_obstruction_free.specs.Beneath.history.specs.declared.replies.Reply.TheVariants as reply
 use Rattle.proof_obstruction_free.specs.Beneath.machine_model.specs.declared.lines.Line.TheVariants as line
 use Rattle.proof_obstruction_free.specs.Beneath.machine_model.specs.declared.repairs.RenewLine.TheVariants as renew
-use Rattle.proof_obstruction_free.specs.Beneath.proof_shape.specs.Sites.Lines.{LineSite, sites_of}
 use Rattle.proof_obstruction_free.specs.Beneath.proof_shape.proofs.Sites.At.{lines_have_sites}
 use Rattle.proof_obstruction_free.specs.Alone.{Lone, Stands, Within, IsWeight, node}
 use Rattle.proof_obstruction_free.specs.Keys.{IsRenewed, IsRenewing, RenewsFrom, RenewsBranch}

@@ -4,12 +4,11 @@ use Rattle.std.proofs.Common.{subst, ◌∙◌, eqb-true, arith}
 use Rattle.std.specs.Option.{option_eq}
 use Rattle.std.proofs.lemmas.Bool.{cond_both}
 use Rattle.proof_obstruction_free.specs.Vocabulary.{Reply, Ref, Node, Indirection, Branch, Single, Tomb, List as Listed, node_at, entries_of, next_ref, Line, Operation, ReadLine, is_start}
-use Rattle.proof_obstruction_free.specs.Vocabulary.{next_entry, renew_next, renew_after_entry, renew_after_read, renew_after_link}
+use Rattle.proof_obstruction_free.specs.Vocabulary.{next_entry, renew_next, renew_after_entry, renew_after_read, renew_after_link, AMain, Is, done_wants, IsInUse}
 use Rattle.proof_obstruction_free.specs.Beneath.machine_model.specs.declared.lines.Line.TheVariants as line
 use Rattle.proof_obstruction_free.specs.Beneath.machine_model.specs.declared.reading.ReadLine.TheVariants as read
 use Rattle.proof_obstruction_free.specs.Beneath.machine_model.specs.declared.repairs.RenewLine.TheVariants as renew
-use Rattle.proof_obstruction_free.specs.Beneath.proof_memory.specs.Wants.{is_indirection, AMain, Is, done_wants}
-use Rattle.proof_obstruction_free.specs.Beneath.proof_memory.specs.Laws.{IsInUse}
+use Rattle.proof_obstruction_free.specs.Beneath.proof_memory.specs.Wants.{is_indirection}
 use Rattle.proof_obstruction_free.specs.Beneath.proof_memory.proofs.Claims.Uses.{first_hold}
 use Rattle.proof_obstruction_free.specs.Alone.{Lone, Stands, Within, IsWeight, node}
 use Rattle.proof_obstruction_free.specs.Keys.{IsOf, IsRenewed}

@@ -2,16 +2,16 @@
 use Rattle.std.proofs.Common.{◌≡◌, ℕ, ◌<◌, ◌≤◌, true, false, List, All, length, Option, Some, None, refl, sym, ap, subst, ◌∙◌, ltb-true, leb-true, arith}
 use Rattle.std.proofs.lemmas.Bool.{false≢true}
 use Rattle.arrayvec.specs.ArrayVec.{ArrayVec}
-use Rattle.proof_obstruction_free.specs.Vocabulary.{Ref, Node, Branch, Single, Tomb, Slot, node_at, node_of, entries_of, Line, line_action, grown}
+use Rattle.proof_obstruction_free.specs.Vocabulary.{Ref, Node, Branch, Single, Tomb, Slot, node_at, node_of, entries_of, Line, line_action, grown, AMain, ABranch, AnEntry, meets, is_branch, Is}
+use Rattle.proof_obstruction_free.specs.Vocabulary.{Holds, AllHold, action_wants, done_wants, all_done_wants, IsInUse, sites_of, trie_at}
 use Rattle.proof_obstruction_free.specs.Beneath.proof_contents.proofs.Nodes.Branches.{standing-le}
 use Rattle.proof_obstruction_free.specs.Beneath.machine_model.specs.declared.actions.Action.TheVariants as act
-use Rattle.proof_obstruction_free.specs.Beneath.proof_memory.specs.Wants.{AMain, ABranch, AnEntry, meets, is_indirection, is_branch, Is, Holds, AllHold, action_wants, done_wants, all_done_wants}
-use Rattle.proof_obstruction_free.specs.Beneath.proof_memory.specs.Laws.{IsInUse}
+use Rattle.proof_obstruction_free.specs.Beneath.proof_memory.specs.Wants.{is_indirection}
 use Rattle.proof_obstruction_free.specs.Beneath.proof_memory.proofs.Safety.AtTimes.{action_at}
 use Rattle.proof_obstruction_free.specs.Beneath.proof_memory.proofs.Claims.Uses.{Meets, safe_of, meets_of, all_of}
 use Rattle.proof_obstruction_free.specs.Beneath.proof_contents.proofs.Shapes.Nodes.{branch_shape, tomb_shape}
 use Rattle.proof_obstruction_free.specs.Beneath.proof_memory.proofs.Claims.Nodes.{main_plain}
-use Rattle.proof_obstruction_free.specs.Beneath.proof_shape.specs.Sites.Lines.{sites_of, trie_at}
+use Rattle.proof_obstruction_free.specs.Beneath.proof_memory.proofs.Claims.Named.{main_claim, done_claim, left_claim}
 use Rattle.proof_obstruction_free.specs.Beneath.proof_shape.proofs.Sites.Grown.{made_shaped}
 use Rattle.proof_obstruction_free.specs.Beneath.proof_shape.proofs.Shaped.Places.{bare_single}
 use Rattle.proof_obstruction_free.specs.Alone.{Lone, Stands, node}
@@ -73,12 +73,12 @@ module _ (a : Lone) where
 
     pub sees_more : (t : ℕ) → t ≤ a.last → (path : List Ref) (main : Ref) (done : List Ref) → AllHold (IsInUse (a.states t).heap) (a.states t).heap (done_wants path main done) → SeesMore t main done
     sees_more t within path main done h =
-        let same = branch_seen t within main h.1.1.0 in
-        let more : length done < length (entries_of (node_at (a.states t).heap main)) = ltb-true (length done) _ (meets_of h.1.1.1.1.0) in
+        let same = branch_seen t within main (main_claim h) in
+        let more : length done < length (entries_of (node_at (a.states t).heap main)) = ltb-true (length done) _ (meets_of (left_claim h)) in
         record {
           branch = same;
           more = subst (λ n. length done < length (entries_of n)) same more;
-          few = few_by main (node a main) refl (subst (λ n. meets ABranch n ≡ true) same (meets_of h.1.1.0));
+          few = few_by main (node a main) refl (subst (λ n. meets ABranch n ≡ true) same (meets_of (main_claim h)));
         }
 
     -- where all are done
@@ -89,9 +89,9 @@ module _ (a : Lone) where
 
     pub sees_all : (t : ℕ) → t ≤ a.last → (path : List Ref) (main : Ref) (done : List Ref) → AllHold (IsInUse (a.states t).heap) (a.states t).heap (all_done_wants path main done) → SeesAll t main done
     sees_all t within path main done h =
-        let same = branch_seen t within main h.1.1.0 in
-        let all : length (entries_of (node_at (a.states t).heap main)) ≤ length done = leb-true _ (length done) (meets_of h.1.1.1.1.0) in
-        record { branch = same; all = subst (λ n. length (entries_of n) ≤ length done) same all; entries = all_of h.1.1.1.0 }
+        let same = branch_seen t within main (main_claim h) in
+        let all : length (entries_of (node_at (a.states t).heap main)) ≤ length done = leb-true _ (length done) (meets_of (left_claim h)) in
+        record { branch = same; all = subst (λ n. length (entries_of n) ≤ length done) same all; entries = all_of (done_claim h) }
 
     -- what a line looks at is there
     pub looks_at : (t : ℕ) (g : Option ℕ) (l : Line) (s : Stands a t g l) (r : Ref) → line_action (a.states t) s.operation l ≡ act.Look r → IsInUse (a.states t).heap r

@@ -1,10 +1,10 @@
 -- A ROOT comes to its first line where no offer stands, where one actor alone takes steps: it completes the one offer that may stand.
 use Rattle.std.proofs.Common.{◌≡◌, ℕ, suc, ◌+◌, ◌*◌, ◌<◌, ◌≤◌, Option, refl, sym, ap, ◌∙◌, subst, arith}
 use Rattle.proof_obstruction_free.specs.Vocabulary.{Ref, Line, Operation, CompleteLine, Descriptor, RootLine, RootWord, Plain, Offer, handle_of, State, word_at, root_action, after_root_word}
+use Rattle.proof_obstruction_free.specs.Vocabulary.{settles}
 use Rattle.proof_obstruction_free.specs.Beneath.machine_model.specs.declared.reading.ReadLine.TheVariants as read
 use Rattle.proof_obstruction_free.specs.Beneath.machine_model.specs.declared.roots.CompleteLine.TheVariants as complete
 use Rattle.proof_obstruction_free.specs.Beneath.machine_model.specs.declared.roots.RootLine.TheVariants as root
-use Rattle.proof_obstruction_free.specs.Beneath.proof_generations.specs.Laws.Roots.{settles}
 use Rattle.proof_obstruction_free.specs.Alone.{Lone, Stands, Keeps, WordStays, IsPlain, IsQuiet, IsStill, IsStillWeight, Within, word}
 use Rattle.proof_obstruction_free.specs.Machines.{IsRead, WasRead, ReadsFirst, ReadsOn}
 use Rattle.proof_obstruction_free.specs.Stepping.{Stepping}

@@ -2,12 +2,11 @@
 use Rattle.std.proofs.Common.{◌≡◌, ℕ, suc, ◌<◌, ◌≤◌, ◌==◌, ◌⊎◌, true, cond, inl, inr, Option, Some, None, refl, sym, ap, ◌∙◌, subst, eq-eqb, arith}
 use Rattle.std.proofs.lemmas.Option.{none-some}
 use Rattle.proof_obstruction_free.specs.Vocabulary.{Ref, Action, Line, Operation, Descriptor, RootWord, Plain, Offer, handle_of, State, root_at, word_of, word_at, rewritten, with_operation}
-use Rattle.proof_obstruction_free.specs.Vocabulary.{with_word, acted, carried_out, new_root_taken, if_changed, operation_after, action_of, line_action, is_plain, stands_in, Root}
+use Rattle.proof_obstruction_free.specs.Vocabulary.{with_word, acted, carried_out, new_root_taken, if_changed, operation_after, action_of, line_action, is_plain, stands_in, Root, settles}
 use Rattle.proof_obstruction_free.specs.Beneath.machine_model.specs.declared.actions.Action.TheVariants as act
 use Rattle.proof_obstruction_free.specs.Beneath.machine_model.proofs.Found.{found_within}
 use Rattle.std.proofs.lemmas.List.{get_or-set_same}
 use Rattle.proof_obstruction_free.specs.Beneath.proof_commits.proofs.Course.Finals.{from_time}
-use Rattle.proof_obstruction_free.specs.Beneath.proof_generations.specs.Laws.Roots.{settles}
 use Rattle.proof_obstruction_free.specs.Beneath.proof_generations.proofs.Lines.Copy.{IsOwn, LineFits}
 use Rattle.proof_obstruction_free.specs.Beneath.proof_generations.proofs.Handles.Ids.{one_of_id}
 use Rattle.proof_obstruction_free.specs.Beneath.proof_generations.proofs.Offers.Standing.{OfferFrom, stood, put, offer_from, own_offer, own_numbers, offer_line, try_itself}

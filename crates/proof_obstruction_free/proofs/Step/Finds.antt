@@ -1,10 +1,9 @@
 -- What an operation that is alone finds under its references, and that what it makes is there.
 use Rattle.std.proofs.Common.{◌≡◌, ℕ, suc, ◌<◌, ◌≤◌, false, Option, Some, refl, sym, ap, ◌∙◌, subst, arith}
 use Rattle.std.proofs.lemmas.Bool.{true≢false}
-use Rattle.proof_obstruction_free.specs.Vocabulary.{Ref, Node, Indirection, node_at, next_ref, Line, line_action}
+use Rattle.proof_obstruction_free.specs.Vocabulary.{Ref, Node, Indirection, node_at, next_ref, Line, line_action, IsInUse, AllHold, line_wants}
 use Rattle.proof_obstruction_free.specs.Beneath.machine_model.specs.declared.actions.Action.TheVariants as act
-use Rattle.proof_obstruction_free.specs.Beneath.proof_memory.specs.Laws.{IsInUse}
-use Rattle.proof_obstruction_free.specs.Beneath.proof_memory.specs.Wants.{AllHold, is_indirection, line_wants}
+use Rattle.proof_obstruction_free.specs.Beneath.proof_memory.specs.Wants.{is_indirection}
 use Rattle.proof_obstruction_free.specs.Beneath.proof_memory.proofs.Safety.AtTimes.{line_at}
 use Rattle.proof_obstruction_free.specs.Beneath.proof_contents.proofs.Values.Started.{node_stays, indirection_stays}
 use Rattle.proof_obstruction_free.specs.Beneath.proof_commits.proofs.Known.Given.{ActsOn, Taken, GrownTakes}

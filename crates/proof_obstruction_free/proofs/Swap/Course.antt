@@ -1,13 +1,13 @@
 -- A SWAP's fresh node while it is decided, where one actor alone takes steps: what each step leaves.
 use Rattle.std.proofs.Common.{◌≡◌, ℕ, suc, true, Option, ap, ◌∙◌}
-use Rattle.proof_obstruction_free.specs.Vocabulary.{Ref, Prev, After, Gives, ReadLine, Descriptor, main_word, prev_word}
+use Rattle.proof_obstruction_free.specs.Vocabulary.{Ref, Prev, After, Gives, ReadLine, Descriptor, main_word, prev_word, is_made, ReadTurn, Kept, Written, MakesNothing, CommitsNode, FailsNode}
+use Rattle.proof_obstruction_free.specs.Vocabulary.{PutsBack, ReadsMain, FindsDecided, FindsFailed, FindsPending, DecidesAtOnce, FindsOffer, Aborts, Restores}
 use Rattle.proof_obstruction_free.specs.Beneath.slot_arena.specs.declared.nodes.Prev.TheVariants as over
 use Rattle.proof_obstruction_free.specs.Beneath.machine_model.specs.declared.reading.After.TheVariants.{Goes}
 use Rattle.proof_obstruction_free.specs.Beneath.machine_model.specs.declared.reading.ReadLine.TheVariants as read
-use Rattle.proof_obstruction_free.specs.Beneath.proof_contents.specs.Runs.{is_made}
-use Rattle.proof_obstruction_free.specs.Beneath.proof_commits.specs.Protocol.{ReadTurn, Leaves, Kept, Written, MakesNothing, CommitsNode, FailsNode, PutsBack, ReadsMain}
-use Rattle.proof_obstruction_free.specs.Beneath.proof_commits.specs.Protocol.{FindsDecided, FindsFailed, FindsPending, DecidesAtOnce, Asks, FindsOffer, Aborts, Commits, Fails}
-use Rattle.proof_obstruction_free.specs.Beneath.proof_commits.specs.Protocol.{Overtaken, Restores}
+use Rattle.proof_obstruction_free.specs.Beneath.proof_commits.specs.Protocol.{Leaves}
+use Rattle.proof_obstruction_free.specs.Beneath.proof_commits.specs.Protocol.{Asks, Commits, Fails}
+use Rattle.proof_obstruction_free.specs.Beneath.proof_commits.specs.Protocol.{Overtaken}
 use Rattle.proof_obstruction_free.specs.Beneath.proof_commits.proofs.Words.Stood.{none≢pending}
 use Rattle.proof_obstruction_free.specs.Alone.{Lone, Has, KeepsBut, WordStays}
 use Rattle.proof_obstruction_free.proofs.Swap.Steps.{w, keeps_left}

@@ -3,12 +3,12 @@ use Rattle.std.proofs.Common.{◌≡◌, ℕ, suc, ◌<◌, Bool, true, false, O
 use Rattle.std.specs.Option.{option_eq}
 use Rattle.std.proofs.lemmas.Bool.{eq-eqb, ne_eqb}
 use Rattle.proof_obstruction_free.specs.Vocabulary.{Writable, Ref, Prev, prev_at, generation_at, Purpose, Descriptor, Offer, After, Gives, ReadLine, SwapLine, read_action, read_after, after_prev}
-use Rattle.proof_obstruction_free.specs.Vocabulary.{after_ask, after_decide, after_restore, verdict_by, is_licensed, is_pending, prev_word}
+use Rattle.proof_obstruction_free.specs.Vocabulary.{after_ask, after_decide, after_restore, verdict_by, is_licensed, is_pending, prev_word, ReadTurn, PutsBack}
 use Rattle.proof_obstruction_free.specs.Beneath.slot_arena.specs.declared.nodes.Prev.TheVariants as over
 use Rattle.proof_obstruction_free.specs.Beneath.machine_model.specs.declared.reading.After.TheVariants.{Goes}
 use Rattle.proof_obstruction_free.specs.Beneath.machine_model.specs.declared.reading.ReadLine.TheVariants as read
 use Rattle.proof_obstruction_free.specs.Beneath.machine_model.specs.declared.reading.SwapLine.TheVariants as swap
-use Rattle.proof_obstruction_free.specs.Beneath.proof_commits.specs.Protocol.{ReadTurn, Leaves, PutsBack}
+use Rattle.proof_obstruction_free.specs.Beneath.proof_commits.specs.Protocol.{Leaves}
 use Rattle.proof_obstruction_free.specs.Weighing.{Sees}
 use Rattle.proof_obstruction_free.specs.Alone.{Lone, Stands, WordStays, IsPlain, generation, word}
 use Rattle.proof_obstruction_free.specs.Machines.{lead}

@@ -2,11 +2,10 @@
 use Rattle.std.proofs.Common.{◌≡◌, ℕ, ◌≤◌, Bool, true, false, Option, Some, is_some, refl, sym, ap, ◌∙◌, subst, arith}
 use Rattle.std.proofs.lemmas.Bool.{true≢false}
 use Rattle.proof_obstruction_free.specs.Vocabulary.{Writable, Ref, Node, no_ref, node_of, generation_at, generation_of, Line, Purpose, SwapLine, Root, Plain, handle_of, root_at, word_of, ReadLine}
-use Rattle.proof_obstruction_free.specs.Vocabulary.{grown, node_under, prev_word}
+use Rattle.proof_obstruction_free.specs.Vocabulary.{grown, node_under, prev_word, AnIndirection, word_wants, meets, Is, Holds, AllHold, IsInUse, is_end, stage_of, stage_of_actor}
 use Rattle.proof_obstruction_free.specs.Beneath.machine_model.specs.declared.reading.SwapLine.TheVariants as swap
 use Rattle.proof_obstruction_free.specs.Beneath.slot_arena.specs.declared.nodes.Prev.TheVariants as over
-use Rattle.proof_obstruction_free.specs.Beneath.proof_memory.specs.Wants.{AnIndirection, word_wants, meets, Is, Holds, AllHold, is_indirection}
-use Rattle.proof_obstruction_free.specs.Beneath.proof_memory.specs.Laws.{IsInUse, is_end}
+use Rattle.proof_obstruction_free.specs.Beneath.proof_memory.specs.Wants.{is_indirection}
 use Rattle.proof_obstruction_free.specs.Beneath.proof_memory.proofs.Safety.AtEachTime.{safe_at}
 use Rattle.proof_obstruction_free.specs.Beneath.proof_memory.proofs.Safety.AtTimes.{kind_at, generation_found}
 use Rattle.proof_obstruction_free.specs.Beneath.proof_memory.proofs.Claims.Uses.{safe_of}
@@ -16,7 +15,6 @@ use Rattle.proof_obstruction_free.specs.Beneath.proof_commits.proofs.Known.Owner
 use Rattle.proof_obstruction_free.specs.Beneath.proof_commits.proofs.Lines.Read.{generation_stays}
 use Rattle.proof_obstruction_free.specs.Beneath.proof_commits.proofs.Words.Along.{protocol}
 use Rattle.proof_obstruction_free.specs.Beneath.proof_commits.proofs.Known.Sounds.{sound_at}
-use Rattle.proof_obstruction_free.specs.Beneath.proof_commits.specs.Stages.{stage_of, stage_of_actor}
 use Rattle.proof_obstruction_free.specs.Beneath.proof_commits.proofs.Words.Stood.{Private, stands_now}
 use Rattle.proof_obstruction_free.specs.Beneath.proof_generations.proofs.Handles.Operations.{has_handles_at}
 use Rattle.proof_obstruction_free.specs.Beneath.proof_generations.proofs.Roots.Open.{no_close_at}

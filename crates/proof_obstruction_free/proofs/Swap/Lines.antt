@@ -2,7 +2,7 @@
 use Rattle.std.proofs.Common.{◌≡◌, ℕ, suc, ◌<◌, ◌==◌, Bool, true, false, cond, Option, None, refl, sym, ap, ◌∙◌, subst, eqb-true}
 use Rattle.proof_obstruction_free.specs.Vocabulary.{Ref, Node, Indirection, Branch, Single, Tomb, List as Listed, Prev, node_at, main_at, Line, Purpose, Operation, After, Gives, ReadLine, SwapLine}
 use Rattle.proof_obstruction_free.specs.Vocabulary.{Climb, handle_of, changed_reply, climbing, climbed, swapped, is_below_root, current, above, reading, read_after, State, word_at, after_publish}
-use Rattle.proof_obstruction_free.specs.Vocabulary.{after_deciding, after_check, on_line}
+use Rattle.proof_obstruction_free.specs.Vocabulary.{after_deciding, after_check, on_line, SwapsIn}
 use Rattle.proof_obstruction_free.specs.Beneath.slot_arena.specs.declared.nodes.Prev.TheVariants as over
 use Rattle.proof_obstruction_free.specs.Beneath.machine_model.specs.declared.lines.Line.TheVariants as line
 use Rattle.proof_obstruction_free.specs.Beneath.machine_model.specs.declared.lines.Purpose.TheVariants as purpose
@@ -13,7 +13,8 @@ use Rattle.proof_obstruction_free.specs.Beneath.machine_model.specs.declared.rep
 use Rattle.proof_obstruction_free.specs.Beneath.machine_model.specs.Operations.{after_swap}
 use Rattle.proof_obstruction_free.specs.Beneath.proof_memory.proofs.Claims.Uses.{safe_of, meets_of}
 use Rattle.proof_obstruction_free.specs.Beneath.proof_memory.proofs.Claims.Nodes.{main_plain}
-use Rattle.proof_obstruction_free.specs.Beneath.proof_commits.specs.Protocol.{Leaves, SwapsIn}
+use Rattle.proof_obstruction_free.specs.Beneath.proof_memory.proofs.Claims.Named.{third_claim}
+use Rattle.proof_obstruction_free.specs.Beneath.proof_commits.specs.Protocol.{Leaves}
 use Rattle.proof_obstruction_free.specs.Beneath.proof_commits.proofs.Words.OfRuns.{leaves_words, swaps_words}
 use Rattle.proof_obstruction_free.specs.Beneath.proof_commits.proofs.Known.Given.{Either, GrownSwaps, GrownStays}
 use Rattle.proof_obstruction_free.specs.Beneath.proof_commits.proofs.Lines.Read.{no_commit}
@@ -91,7 +92,7 @@ module _ (a : Lone) (why : Purpose) (i replaced fresh : Ref) where
   module _ (steps : Stepping a) where
     -- the fresh node is what it was made as
     pub fresh_found : (t : ℕ) (g : Option ℕ) (x : SwapLine) → Stands a t g (swap_line x) → node_at (a.states t).heap fresh ≡ node a fresh
-    fresh_found t g x s = let claim = (steps.wants t g (swap_line x) s).1.1.0 in steps.node_found t fresh s.until (safe_of claim) (main_plain _ (meets_of claim))
+    fresh_found t g x s = let claim = third_claim (steps.wants t g (swap_line x) s) in steps.node_found t fresh s.until (safe_of claim) (main_plain _ (meets_of claim))
 
     -- it ends so
     ends_so : (t : ℕ) (g : Option ℕ) (x : SwapLine) (s : Stands a t g (swap_line x)) (done : Bool) →

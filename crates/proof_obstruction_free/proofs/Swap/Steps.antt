@@ -1,11 +1,10 @@
 -- What a step of an actor that is alone finds and does, where it is one of a READ.
 use Rattle.std.proofs.Common.{◌≡◌, ℕ, suc, ◌<◌, ◌≤◌, Option, Some, None, sym, ap, ◌∙◌, subst}
 use Rattle.std.proofs.lemmas.Option.{none-some}
-use Rattle.proof_obstruction_free.specs.Vocabulary.{Ref, Line, Read, ReadLine, Outcome, line_action, read_of, read_action, read_after, Moves, commits_after, committed_in}
+use Rattle.proof_obstruction_free.specs.Vocabulary.{Ref, Line, Read, ReadLine, Outcome, line_action, read_of, read_action, read_after, Moves, commits_after, committed_in, Words, ReadTurn, words_of}
 use Rattle.proof_obstruction_free.specs.Beneath.machine_model.specs.declared.lines.Line.TheVariants as line
 use Rattle.proof_obstruction_free.specs.Beneath.machine_model.specs.declared.steps.Step.TheVariants as step
-use Rattle.proof_obstruction_free.specs.Beneath.proof_commits.specs.Protocol.{Words, ReadTurn, Leaves}
-use Rattle.proof_obstruction_free.specs.Beneath.proof_commits.specs.Words.{words_of}
+use Rattle.proof_obstruction_free.specs.Beneath.proof_commits.specs.Protocol.{Leaves}
 use Rattle.proof_obstruction_free.specs.Beneath.proof_commits.proofs.Known.Given.{Known, ActsOn}
 use Rattle.proof_obstruction_free.specs.Beneath.proof_commits.proofs.Lines.Turns.{LineFacts}
 use Rattle.proof_obstruction_free.specs.Beneath.proof_commits.proofs.Known.Acts.{known_run}

@@ -1,13 +1,14 @@
 -- A failed main node that still stands in a main word has an owner: the actor that swapped it in is still in that SWAP.
 use Rattle.std.proofs.Common.{◌≡◌, ℕ, zero, suc, ◌≤◌, ◌⊎◌, true, inl, inr, sym, ◌∙◌, ap, subst, arith}
 use Rattle.std.proofs.lemmas.Bool.{cases_eq}
-use Rattle.proof_obstruction_free.specs.Vocabulary.{Ref, After, Gives, ReadLine}
+use Rattle.proof_obstruction_free.specs.Vocabulary.{Ref, After, Gives, ReadLine, Words, Decides, ReadTurn, ReadsMain, FindsDecided, FindsFailed, FindsPending, DecidesAtOnce, FindsOffer, Aborts}
+use Rattle.proof_obstruction_free.specs.Vocabulary.{Restores, FindsAnother, Protocol}
 use Rattle.proof_obstruction_free.specs.Beneath.slot_arena.specs.declared.nodes.Prev.TheVariants as over
 use Rattle.proof_obstruction_free.specs.Beneath.machine_model.specs.declared.reading.After.TheVariants.{Goes}
 use Rattle.proof_obstruction_free.specs.Beneath.machine_model.specs.declared.reading.ReadLine.TheVariants as read
-use Rattle.proof_obstruction_free.specs.Beneath.proof_commits.specs.Protocol.{Words, Decides, ReadTurn, ReadsMain, FindsDecided, FindsFailed, FindsPending, DecidesAtOnce, Asks}
-use Rattle.proof_obstruction_free.specs.Beneath.proof_commits.specs.Protocol.{FindsOffer, Aborts, Commits, Fails, Overtaken, Restores, FindsAnother, after_deciding, Moves, Turn}
-use Rattle.proof_obstruction_free.specs.Beneath.proof_commits.specs.Protocol.{Acts, Passes, Protocol}
+use Rattle.proof_obstruction_free.specs.Beneath.proof_commits.specs.Protocol.{Asks}
+use Rattle.proof_obstruction_free.specs.Beneath.proof_commits.specs.Protocol.{Commits, Fails, Overtaken, after_deciding, Moves, Turn}
+use Rattle.proof_obstruction_free.specs.Beneath.proof_commits.specs.Protocol.{Acts, Passes}
 use Rattle.proof_obstruction_free.specs.Beneath.proof_commits.proofs.Words.Stood.{AreSound, stands_now, none≢pending, pending≢failed, over_failed}
 use Rattle.proof_obstruction_free.specs.Beneath.proof_commits.proofs.Words.Effects.{Effect, Nothing, Made, SwappedIn, PutBack, Committed, Failed, Becomes, Same, GoesIn, IsCommitted, IsFailed, becomes}
 use Rattle.proof_obstruction_free.specs.Beneath.proof_commits.proofs.Known.Owners.{OnLine, Staged, IsDeciding, IsSound}
@@ -49,16 +50,15 @@ FailedOwned w t = (i m q : Ref) → w.link t i ≡ true → w.prev t m ≡ over.
 
 -- ---- what stands failed afterwards stood there before
 
--- by whether the step writes that word
-put_by : (w : Words) (t : ℕ) (i j m x p q : Ref) → AreSound w t → Effect w t → w.prev t x ≡ over.Failed p → w.prev (suc t) p ≡ w.prev t p → w.main (suc t) j ≡ p →
-    w.prev (suc t) m ≡ over.Failed q → w.main (suc t) i ≡ m → i ≡ j → ⊥
-put_by w t i j m x p q h e failed keeps here now stands same =
-    let one : p ≡ m = sym here ∙ ap (w.main (suc t)) (sym same) ∙ stands in
-    none≢failed (keeps ∙ (h.over x p (over_failed failed)).none) (ap (w.prev (suc t)) one ∙ now)
-
 module _ (w : Words) (t : ℕ) (h : AreSound w t) (i m q : Ref) (link : w.link (suc t) i ≡ true) (failed : w.prev (suc t) m ≡ over.Failed q) (stands : w.main (suc t) i ≡ m) where
   abbrev Before : Type 0
   Before = (w.link t i ≡ true) × (w.main t i ≡ m)
+
+  -- by whether the step writes that word
+  put_by : (j x p : Ref) → w.prev t x ≡ over.Failed p → w.prev (suc t) p ≡ w.prev t p → w.main (suc t) j ≡ p → i ≡ j → ⊥
+  put_by j x p was keeps here same =
+      let one : p ≡ m = sym here ∙ ap (w.main (suc t)) (sym same) ∙ stands in
+      none≢failed (keeps ∙ (h.over x p (over_failed was)).none) (ap (w.prev (suc t)) one ∙ failed)
 
   pub stood_before : Effect w t → Before
   stood_before (Nothing e) = (sym (e.makes.link i) ∙ link, sym (e.main i) ∙ stands)
@@ -76,34 +76,34 @@ module _ (w : Words) (t : ℕ) (h : AreSound w t) (i m q : Ref) (link : w.link (
     | inr apart ↦ (sym (e.makes.link i) ∙ link, sym (e.main.elsewhere i apart) ∙ stands)
   ]
   stood_before (PutBack j x p l e was st) =
-      let apart = put_by w t i j m x p q h (PutBack j x p l e was st) was (e.prev p) e.main.here failed stands in
+      let apart = put_by j x p was (e.prev p) e.main.here in
       (sym (e.makes.link i) ∙ link, sym (e.main.elsewhere i apart) ∙ stands)
   stood_before (Committed x p e) = (sym (e.makes.link i) ∙ link, sym (e.main i) ∙ stands)
   stood_before (Failed x p e) = (sym (e.makes.link i) ∙ link, sym (e.main i) ∙ stands)
 
 -- ---- the owner's READ goes on about it
 
-names_on : (w : Words) (t : ℕ) → AreSound w t → (i m q : Ref) (l : ReadLine) (out : After ReadLine Ref) → OnLine w t i l → ReadTurn w t i l out → Names l m →
-    (w.prev t m ≡ over.None → ⊥) → w.prev (suc t) m ≡ over.Failed q → w.main t i ≡ m → w.main (suc t) i ≡ m → NamesOn out m
-names_on w t h i m q l out on (ReadsMain e k) names undecided failed stood stands = stood
-names_on w t h i m q l out on (FindsDecided e n) names undecided failed stood stands = undecided (ap (w.prev t) (sym names) ∙ n)
-names_on w t h i m q l out on (FindsFailed e n) names undecided failed stood stands = names
-names_on w t h i m q l out on (FindsPending e n) names undecided failed stood stands = names
-names_on w t h i m q l out on (DecidesAtOnce e n) names undecided failed stood stands = names
-names_on w t h i m q l out on (Asks g e c) names undecided failed stood stands = names
-names_on w t h i m q l out on (FindsOffer offer e) names undecided failed stood stands = names
-names_on w t h i m q l out on (Aborts e) names undecided failed stood stands = names
-names_on w t h i m q l out on (Commits licence e) names undecided failed stood stands = none≢failed e.prev.here (ap (w.prev (suc t)) names ∙ failed)
-names_on w t h i m q l out on (Fails e) names undecided failed stood stands = tt
-names_on w t h i m q l out on (Overtaken {m = x} next e n which) names undecided failed stood stands = by which
-  where
-    by : (next ≡ read.Prev x) ⊎ (next ≡ read.Main) → Names next m
-    by (inl is) = subst (λ y. Names y m) (sym is) names
-    by (inr is) = subst (λ y. Names y m) (sym is) tt
-names_on w t h i m q l out on (Restores {m = x} {p} e) names undecided failed stood stands =
-    let put : p ≡ m = sym e.main.here ∙ stands in
-    undecided (ap (w.prev t) (sym put) ∙ (h.over x p (over_failed on.1)).none)
-names_on w t h i m q l out on (FindsAnother e) names undecided failed stood stands = tt
+module _ (w : Words) (t : ℕ) (h : AreSound w t) (i m q : Ref) (failed : w.prev (suc t) m ≡ over.Failed q) (stood : w.main t i ≡ m) (stands : w.main (suc t) i ≡ m) where
+  names_on : (l : ReadLine) (out : After ReadLine Ref) → OnLine w t i l → ReadTurn w t i l out → Names l m → (w.prev t m ≡ over.None → ⊥) → NamesOn out m
+  names_on l out on (ReadsMain e k) names undecided = stood
+  names_on l out on (FindsDecided e n) names undecided = undecided (ap (w.prev t) (sym names) ∙ n)
+  names_on l out on (FindsFailed e n) names undecided = names
+  names_on l out on (FindsPending e n) names undecided = names
+  names_on l out on (DecidesAtOnce e n) names undecided = names
+  names_on l out on (Asks g e c) names undecided = names
+  names_on l out on (FindsOffer offer e) names undecided = names
+  names_on l out on (Aborts e) names undecided = names
+  names_on l out on (Commits licence e) names undecided = none≢failed e.prev.here (ap (w.prev (suc t)) names ∙ failed)
+  names_on l out on (Fails e) names undecided = tt
+  names_on l out on (Overtaken {m = x} next e n which) names undecided = by which
+    where
+      by : (next ≡ read.Prev x) ⊎ (next ≡ read.Main) → Names next m
+      by (inl is) = subst (λ y. Names y m) (sym is) names
+      by (inr is) = subst (λ y. Names y m) (sym is) tt
+  names_on l out on (Restores {m = x} {p} e) names undecided =
+      let put : p ≡ m = sym e.main.here ∙ stands in
+      undecided (ap (w.prev t) (sym put) ∙ (h.over x p (over_failed on.1)).none)
+  names_on l out on (FindsAnother e) names undecided = tt
 
 owner_by : (w : Words) (t k : ℕ) (i m below : Ref) (out : After ReadLine Ref) → NamesOn out m → w.stage (suc t) k ≡ after_deciding i below m out → FailedOwner w (suc t) i m
 owner_by w t k i m below (Goes l) names stage = record { actor = k; below = below; line = l; stage = stage; names = names }
@@ -120,7 +120,7 @@ module _ (w : Words) (t k : ℕ) (h : IsSound w t) (moves : Moves w t k (w.stage
       let here : w.stage t k ≡ Decides i below m l = ap (w.stage t) (sym own) ∙ stage in
       let turn = deciding_turn w t k i below m l (w.stage (suc t) k) (subst (λ s. Moves w t k s (w.stage (suc t) k)) here moves) in
       let on = subst (λ s. Staged w t k s) here (h.staged k) in
-      owner_by w t k i m below turn.out (names_on w t h.words i m q l turn.out on.0 turn.turn names undecided failed stood stands) turn.is
+      owner_by w t k i m below turn.out (names_on w t h.words i m q failed stood stands l turn.out on.0 turn.turn names undecided) turn.is
 
   owned_by : (w.link t i ≡ true) → FailedOwned w t → Becomes w t m → FailedOwner w (suc t) i m
   owned_by link all (Same keeps) =

@@ -1,11 +1,10 @@
 -- A main node that stands undecided weighs: who swapped it in has it.
 use Rattle.std.proofs.Common.{◌≡◌, ℕ, ◌≤◌, ◌==◌, Bool, true, false, refl, sym, ap, ◌∙◌, eq-eqb, arith}
-use Rattle.proof_obstruction_free.specs.Vocabulary.{Ref, Prev, no_ref, prev_of, node_under, main_word, prev_word, ReadLine}
+use Rattle.proof_obstruction_free.specs.Vocabulary.{Ref, Prev, no_ref, prev_of, node_under, main_word, prev_word, ReadLine, Decides}
 use Rattle.proof_obstruction_free.specs.Beneath.slot_arena.specs.declared.nodes.Prev.TheVariants as prev
 use Rattle.proof_obstruction_free.specs.Beneath.proof_memory.specs.Wants.{is_indirection}
 use Rattle.proof_obstruction_free.specs.Beneath.proof_memory.proofs.Claims.Nodes.{no_main}
 use Rattle.proof_obstruction_free.specs.Beneath.proof_memory.proofs.Heap.NoRef.{nothing_stands}
-use Rattle.proof_obstruction_free.specs.Beneath.proof_commits.specs.Protocol.{Decides}
 use Rattle.proof_obstruction_free.specs.Beneath.proof_commits.proofs.Known.Owners.{Owner}
 use Rattle.proof_obstruction_free.specs.Alone.{Lone}
 use Rattle.proof_obstruction_free.specs.Weighing.{Sees}

@@ -2,14 +2,12 @@
 use Rattle.std.proofs.Common.{◌≡◌, ℕ, zero, suc, ◌<◌, ◌≤◌, length, Option, Some, None, refl, sym, ap, ◌∙◌, subst, arith}
 use native.Mathlib.Decide.{ℕ_discrete}
 use Rattle.std.proofs.lemmas.List.{length-replicate}
-use Rattle.proof_obstruction_free.specs.Vocabulary.{Ref, Line, Operation, State, first_state, operation_of, action_of, line_action, line_after}
+use Rattle.proof_obstruction_free.specs.Vocabulary.{Ref, Line, Operation, State, first_state, operation_of, action_of, line_action, line_after, Rests, Decides, stage_of, stage_of_actor}
 use Rattle.proof_obstruction_free.specs.Beneath.machine_model.proofs.Actors.{marks_by}
 use Rattle.proof_obstruction_free.specs.Beneath.machine_model.proofs.Found.{found_within}
 use Rattle.proof_obstruction_free.specs.Beneath.machine_model.proofs.Times.{at_each_time}
-use Rattle.proof_obstruction_free.specs.Beneath.proof_commits.specs.Protocol.{Rests, Decides}
 use Rattle.proof_obstruction_free.specs.Beneath.proof_commits.specs.Protocol as Word
 use Rattle.proof_obstruction_free.specs.Beneath.proof_commits.proofs.Course.Finals.{effect}
-use Rattle.proof_obstruction_free.specs.Beneath.proof_commits.specs.Stages.{stage_of, stage_of_actor}
 use Rattle.proof_obstruction_free.specs.Beneath.proof_commits.proofs.Known.StepsAt.{mark_stage, go_others, actor_counts}
 use Rattle.proof_obstruction_free.specs.Beneath.proof_commits.proofs.Lines.Turns.{line_turn}
 use Rattle.proof_obstruction_free.specs.Beneath.proof_commits.proofs.Words.Along.{line_facts, remembers_at}

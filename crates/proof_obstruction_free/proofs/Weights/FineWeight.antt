@@ -1,11 +1,12 @@
 -- The fine weight: an offer in the root word weighs 2, each actor whose SWAP's fresh node is pending 5, and 1 where that node has failed and still stands
 -- in the SWAP's main word. A step that makes no node pending adds nothing to what the actors weigh.
 use Rattle.std.proofs.Common.{◌≡◌, ℕ, suc, ◌≤◌, ◌==◌, Bool, true, false, refl, sym, ap, subst, eqb-true, eq-eqb, arith}
-use Rattle.proof_obstruction_free.specs.Vocabulary.{Ref, Prev, After, Gives, ReadLine}
+use Rattle.proof_obstruction_free.specs.Vocabulary.{Ref, Prev, After, Gives, ReadLine, Words, Stage, Rests, Reads, Builds, Publishes, Decides, Checks, Idles, SwapsNode, DecidesOn, MayHave}
+use Rattle.proof_obstruction_free.specs.Vocabulary.{after_read}
 use Rattle.proof_obstruction_free.specs.Beneath.slot_arena.specs.declared.nodes.Prev.TheVariants as prev
 use Rattle.proof_obstruction_free.specs.Beneath.machine_model.specs.declared.reading.After.TheVariants.{Goes}
-use Rattle.proof_obstruction_free.specs.Beneath.proof_commits.specs.Protocol.{Words, Stage, Rests, Reads, Builds, Publishes, Decides, Checks, Moves, Idles, MakesNode, SwapsNode}
-use Rattle.proof_obstruction_free.specs.Beneath.proof_commits.specs.Protocol.{ReadsOn, DecidesOn, IsAtRest, MayHave, after_read, after_deciding}
+use Rattle.proof_obstruction_free.specs.Beneath.proof_commits.specs.Protocol.{Moves, MakesNode}
+use Rattle.proof_obstruction_free.specs.Beneath.proof_commits.specs.Protocol.{ReadsOn, IsAtRest, after_deciding}
 use Rattle.proof_obstruction_free.specs.Beneath.proof_commits.proofs.Words.Stood.{Stood}
 use Rattle.proof_obstruction_free.specs.Beneath.proof_commits.proofs.Words.Effects.{Effect, Becomes, Same, GoesIn, IsCommitted, IsFailed, becomes, link_later}
 use Rattle.proof_obstruction_free.specs.Beneath.proof_commits.proofs.Known.Owners.{IsSound, Staged}

@@ -1,9 +1,8 @@
 -- An offer in the root word weighs two steps: no quiet step adds weight, and to take the offer back takes it off.
 use Rattle.std.proofs.Common.{◌≡◌, ℕ, suc, ◌<◌, ◌≤◌, Option, refl, sym, ap, ◌∙◌, subst, arith, inl, inr}
 use Rattle.std.proofs.lemmas.Option.{same_Some}
-use Rattle.proof_obstruction_free.specs.Vocabulary.{Ref, Line, Descriptor, RootWord, Plain, Offer, action_of, line_action}
+use Rattle.proof_obstruction_free.specs.Vocabulary.{Ref, Line, Descriptor, RootWord, Plain, Offer, action_of, line_action, settles}
 use Rattle.proof_obstruction_free.specs.Beneath.machine_model.specs.declared.actions.Action.TheVariants as act
-use Rattle.proof_obstruction_free.specs.Beneath.proof_generations.specs.Laws.Roots.{settles}
 use Rattle.proof_obstruction_free.specs.Alone.{Lone, Stands, IsQuiet, IsWeight, WordStays, word, offer_weight}
 use Rattle.proof_obstruction_free.specs.Stepping.{IsNoEnd}
 use Rattle.proof_obstruction_free.proofs.Ends.StandsAt.{stands_at, goes_on}

@@ -11,7 +11,8 @@ use Rattle.proof_order.specs.Beneath.machine_model.proofs.Actors.{mark_one, mark
 use Rattle.proof_generations.proofs.Offers.Marks.{marks_mark}
 use Rattle.proof_generations.proofs.Offers.Standing.{offer_line}
 use Rattle.proof_generations.proofs.Handles.Running.{place_of_actor, one_at, at_place}
-use Rattle.proof_order.specs.Facts.{Runs, IsReply, CarriesOut, Notes}
+use Rattle.proof_order.specs.Facts.{Runs, IsReply, CarriesOut}
+use Rattle.proof_order.specs.Openings.{IsSwap}
 use Rattle.proof_order.proofs.History.Books.{one_by_id}
 use Rattle.proof_order.proofs.History.Growing.{ended_before, events_grow, holds_later}
 use Rattle.proof_order.proofs.History.Recalling.{begun_more_or_same}
@@ -204,13 +205,12 @@ module _ {limits : Bounds} {states : ℕ → State} {last : ℕ} (r : IsRun limi
   phased_at t le = at_each_record r Phased (first_phased limits) phased_kept t le
 
   -- the operation whose offer is carried out answers so
-  pub carried_reply : (t : ℕ) (s : Step) (o : Outcome) → t < last → Moves (states t) s o (states (suc t)) → Notes states r.records t s → (handle : ℕ) (offer : Descriptor) →
-      CarriesOut (states t) s handle offer →
-      (k : ℕ) (offerer : Operation) → Runs (states t) k offerer → offerer.id ≡ offer.operation → IsReply (r.records last).events offer.operation (copied_reply offerer.call offerer.opens)
-  carried_reply t s o lt m notes handle offer carries k offerer runs id other ended =
+  pub carried_reply : (t handle : ℕ) (offer : Descriptor) → IsSwap states r.records last t handle offer → (k : ℕ) (offerer : Operation) → Runs (states t) k offerer →
+      offerer.id ≡ offer.operation → IsReply (r.records last).events offer.operation (copied_reply offerer.call offerer.opens)
+  carried_reply t handle offer swap k offerer runs id other ended =
       let now =
-      subst (λ x. Settled offer.operation offerer.call offerer.opens (states (suc t)) x) (sym notes)
-      (settled_now (states t) (r.records t) s o (states (suc t)) m (phased_at t (omega arith)) handle offer carries k offerer runs id) in
-      let then_on = holds_later r (Settled offer.operation offerer.call offerer.opens) (settled_kept offer.operation offerer.call offerer.opens) (suc t) last lt
+      subst (λ x. Settled offer.operation offerer.call offerer.opens (states (suc t)) x) (sym swap.notes)
+      (settled_now (states t) (r.records t) swap.step swap.outcome (states (suc t)) swap.moves (phased_at t (omega (arith, swap.taken))) handle offer swap.carries k offerer runs id) in
+      let then_on = holds_later r (Settled offer.operation offerer.call offerer.opens) (settled_kept offer.operation offerer.call offerer.opens) (suc t) last swap.taken
       (omega arith) now in
       sym (then_on.answered other ended)

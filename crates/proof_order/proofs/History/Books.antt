@@ -32,8 +32,8 @@ id_below history place id told well at =
 pub ended_below : (history : List Event) (place id : ℕ) (answer : Reply) → IsWellFormed history → EndsAt history place id answer → id < begun history
 ended_below history place id answer well at =
     let follows : MayFollow (take place history) (End id answer) = well place (End id answer) at in
-    let told : Told = follows.1.0.1 in
-    id_below history follows.1.0.0 id told well (at_take history place follows.1.0.0 _ follows.1.0.2).1
+    let ((q, told, at, owner), unended) = follows.1 in
+    id_below history q id told well (at_take history place q _ at).1
 
 -- a begin is no end
 begin_not_end : (id other actor : ℕ) (call : Call) (opens : Option ℕ) (answer : Reply) → Begin id actor call opens ≡ End other answer → ⊥

@@ -1,5 +1,5 @@
 -- A close is answered with Closed, if it ends.
-use Rattle.std.proofs.Common.{◌≡◌, ℕ, suc, ◌≤◌, inl, inr, Option, Some, slice_get, sym, ap, ◌∙◌, subst, arith}
+use Rattle.std.proofs.Common.{◌≡◌, ℕ, suc, ◌≤◌, inl, inr, Option, Some, slice_get, sym, ap, ◌∙◌, subst, arith, List}
 use Rattle.std.proofs.lemmas.Option.{none-some}
 use Rattle.proof_order.specs.Vocabulary.{Call, Close, Reply, Event, End, HasEnded, Operation, Action, Bounds, Outcome, Step, State, first_state, action_of, line_action, first_line, operation_after}
 use Rattle.proof_order.specs.Vocabulary.{Begins, Ends, Sweeps, GivesUp, Moves, GoesOn, begun_operation, IsRun, Record, first_record, noted, told_in, given_up}
@@ -57,33 +57,43 @@ closed_by state s o after (Sweeps spent) k found at_k h (yes own) = absurd own
 
 -- ---- so it is answered with that
 
+-- the operation of this number is a close
+pub record IsClose (events : List Event) (id : ℕ) : Type 0 where
+  pub place : ℕ
+  pub actor : ℕ
+  pub handle : ℕ
+  pub opens : Option ℕ
+  pub at : slice_get events place ≡ Some (Begin id actor (Close handle) opens)
+
 record Closing (state : State) (past : Record) : Type 0 where
   books : Books state past
   ends : (k : ℕ) (operation : Operation) → Runs state k operation → EndsClosed operation
-  answers : (place id actor handle : ℕ) (opens : Option ℕ) (answer : Reply) → slice_get past.events place ≡ Some (Begin id actor (Close handle) opens) →
-      HasEnded past.events id answer → answer ≡ reply.Closed
+  answers : (id : ℕ) → IsClose past.events id → (answer : Reply) → HasEnded past.events id answer → answer ≡ reply.Closed
 
 ended_closed : (state : State) (past : Record) (k : ℕ) (operation : Operation) (told : Reply) → Closing state past → Runs state k operation → action_of state operation ≡ act.End told →
-    (place actor handle : ℕ) (opens : Option ℕ) → slice_get past.events place ≡ Some (Begin operation.id actor (Close handle) opens) → told ≡ reply.Closed
-ended_closed state past k operation told c runs a place actor handle opens at =
+    IsClose past.events operation.id → told ≡ reply.Closed
+ended_closed state past k operation told c runs a close =
     let its = c.books.told k operation runs in
     let x : Told = record { actor = suc k; call = operation.call; opens = operation.opens } in
-    let y : Told = record { actor = actor; call = Close handle; opens = opens } in
-    let here : its.place ≡ place = begins_once past.events its.place place operation.id x y c.books.well_formed its.begins at in
-    let events : Some (Begin operation.id (suc k) operation.call operation.opens) ≡ Some (Begin operation.id actor (Close handle) opens) = sym its.begins ∙ ap (slice_get past.events) here ∙ at in
-    let calls : operation.call ≡ Close handle = cc events in
-    let replies : act.End told ≡ act.End reply.Closed = sym a ∙ ap (line_action state operation) (c.ends k operation runs handle calls) in
+    let y : Told = record { actor = close.actor; call = Close close.handle; opens = close.opens } in
+    let here : its.place ≡ close.place = begins_once past.events its.place close.place operation.id x y c.books.well_formed its.begins close.at in
+    let events : Some (Begin operation.id (suc k) operation.call operation.opens) ≡ Some (Begin operation.id close.actor (Close close.handle) close.opens) =
+    sym its.begins ∙ ap (slice_get past.events) here ∙ close.at in
+    let calls : operation.call ≡ Close close.handle = cc events in
+    let replies : act.End told ≡ act.End reply.Closed = sym a ∙ ap (line_action state operation) (c.ends k operation runs close.handle calls) in
     cc replies
 
+-- the same begin, where it stands before
+its_begin : {before events : List Event} {id : ℕ} (close : IsClose events id) → slice_get before close.place ≡ Some (Begin id close.actor (Close close.handle) close.opens) → IsClose before id
+its_begin close at = record { place = close.place; actor = close.actor; handle = close.handle; opens = close.opens; at = at }
+
 answers_kept : (state : State) (past : Record) (s : Step) (o : Outcome) (after : State) → Moves state s o after → Closing state past →
-    (place id actor handle : ℕ) (opens : Option ℕ) (answer : Reply) →
-    slice_get (noted past state.steps (told_in state s)).events place ≡ Some (Begin id actor (Close handle) opens) →
-    HasEnded (noted past state.steps (told_in state s)).events id answer → answer ≡ reply.Closed
-answers_kept state past s o after (Begins {actor = a} {call} {number} d) c place id actor handle opens answer at ended =
+    (id : ℕ) → IsClose (noted past state.steps (told_in state s)).events id → (answer : Reply) → HasEnded (noted past state.steps (told_in state s)).events id answer → answer ≡ reply.Closed
+answers_kept state past s o after (Begins {actor = a} {call} {number} d) c id close answer ended =
     let (end, at_end) = ended in
     elim (at_cases past.events _ end _ at_end) [
-      | inl old_end ↦ elim (at_cases past.events _ place _ at) [
-        | inl old ↦ c.answers place id actor handle opens answer old (end, old_end)
+      | inl old_end ↦ elim (at_cases past.events _ close.place _ close.at) [
+        | inl old ↦ c.answers id (its_begin close old) answer (end, old_end)
         | inr new ↦
             let same : state.begun ≡ id = let event = new.1 in cc event in
             let count = c.books.alike.begun_are in
@@ -92,27 +102,27 @@ answers_kept state past s o after (Begins {actor = a} {call} {number} d) c place
       ]
       | inr new_end ↦ let event = new_end.1 in let wrong : ⊥ = cc event in absurd wrong
     ]
-answers_kept state past s o after (Goes {actor = a} {operation} {action} d is b g) c place id actor handle opens answer at ended =
+answers_kept state past s o after (Goes {actor = a} {operation} {action} d is b g) c id close answer ended =
     let e = ap (λ (r : Record). r.events) (noted_going state past a operation action is b g) in
-    c.answers place id actor handle opens answer (subst (λ l. slice_get l place ≡ Some (Begin id actor (Close handle) opens)) e at) (subst (λ l. HasEnded l id answer) e ended)
-answers_kept state past s o after (Ends {actor = a} {operation} {answer = told} d is b) c place id actor handle opens answer at ended =
+    c.answers id (subst (λ l. IsClose l id) e close) answer (subst (λ l. HasEnded l id answer) e ended)
+answers_kept state past s o after (Ends {actor = a} {operation} {answer = told} d is b) c id close answer ended =
     let e = ap (λ (r : Record). r.events) (noted_ending state past a operation told is b) in
     let (end, at_end) = subst (λ l. HasEnded l id answer) e ended in
-    elim (at_cases past.events (End operation.id told) place _ (subst (λ l. slice_get l place ≡ Some (Begin id actor (Close handle) opens)) e at)) [
+    let later = subst (λ l. IsClose l id) e close in
+    elim (at_cases past.events (End operation.id told) later.place _ later.at) [
       | inl old ↦ elim (at_cases past.events (End operation.id told) end _ at_end) [
-        | inl old_end ↦ c.answers place id actor handle opens answer old (end, old_end)
+        | inl old_end ↦ c.answers id (its_begin later old) answer (end, old_end)
         | inr new_end ↦
             let event = new_end.1 in
             let same_id : operation.id ≡ id = cc event in
             let same_reply : told ≡ answer = cc event in
             let (k, own, runs) = place_of_actor state a operation is in
-            sym same_reply ∙ ended_closed state past k operation told c runs b place actor handle opens
-            (subst (λ i. slice_get past.events place ≡ Some (Begin i actor (Close handle) opens)) (sym same_id) old)
+            sym same_reply ∙ ended_closed state past k operation told c runs b (subst (λ i. IsClose past.events i) (sym same_id) (its_begin later old))
       ]
       | inr new ↦ let event = new.1 in let wrong : ⊥ = cc event in absurd wrong
     ]
-answers_kept state past s o after (GivesUp d is b) c place id actor handle opens answer at ended = c.answers place id actor handle opens answer at ended
-answers_kept state past s o after (Sweeps spent) c place id actor handle opens answer at ended = c.answers place id actor handle opens answer at ended
+answers_kept state past s o after (GivesUp d is b) c id close answer ended = c.answers id close answer ended
+answers_kept state past s o after (Sweeps spent) c id close answer ended = c.answers id close answer ended
 
 closing_kept : KeptByNotes Closing
 closing_kept state past s o after m c = record {
@@ -132,10 +142,10 @@ first_closing : (limits : Bounds) → Closing (first_state limits) (first_record
 first_closing limits = record {
   books = first_books limits;
   ends = none_closes limits;
-  answers = λ place id actor handle opens answer at ended. absurd (nothing_told limits place _ at);
+  answers = λ id close answer ended. absurd (nothing_told limits close.place _ close.at);
 }
 
 -- at each time of a run
-pub closed_reply : {limits : Bounds} {states : ℕ → State} {last : ℕ} (r : IsRun limits states last) (t : ℕ) → t ≤ last → (place id actor handle : ℕ) (opens : Option ℕ) (answer : Reply) →
-    slice_get (r.records t).events place ≡ Some (Begin id actor (Close handle) opens) → HasEnded (r.records t).events id answer → answer ≡ reply.Closed
+pub closed_reply : {limits : Bounds} {states : ℕ → State} {last : ℕ} (r : IsRun limits states last) (t : ℕ) → t ≤ last → (id : ℕ) → IsClose (r.records t).events id → (answer : Reply) →
+    HasEnded (r.records t).events id answer → answer ≡ reply.Closed
 closed_reply {limits} {states} {last} r t le = (at_each_record r Closing (first_closing limits) closing_kept t le).answers

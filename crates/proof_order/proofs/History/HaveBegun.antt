@@ -7,14 +7,13 @@ use Rattle.proof_order.specs.Vocabulary.{Call, Close, Reply, Event, HasBegun, be
 use Rattle.proof_order.specs.Vocabulary.{State, first_state, word_at, operation_of, action_of, stands_in, is_carried_out, run, Begins, Ends, Sweeps, GivesUp, Moves, begun_operation, IsRun, place_of}
 use Rattle.proof_order.specs.Vocabulary.{is_placed, closing_for, order_of, entered, entered_by, entered_at_end, Record, entered_at_begin, first_record, record_of, changer_of, noted, placed_by}
 use Rattle.proof_order.specs.Vocabulary.{moment_at, carried_by, told_in, progress_of, published_by, entrant_of, published_at, changer_for, Publication, Carried, Entrant, Progress, Line}
-use Rattle.proof_order.specs.Vocabulary.{generation_at, Purpose, SwapLine}
+use Rattle.proof_order.specs.Vocabulary.{generation_at, Purpose, SwapLine, settles}
 use Rattle.proof_order.specs.Beneath.history.specs.declared.replies.Reply.TheVariants as reply
 use Rattle.proof_order.specs.Beneath.history.specs.declared.events.Event.TheVariants.{Begin}
 use Rattle.proof_order.specs.Beneath.history.specs.Histories.{Operation as Told}
 use Rattle.proof_order.specs.Beneath.history.proofs.Places.{at_push}
 use Rattle.proof_order.specs.Beneath.machine_model.specs.declared.actions.Action.TheVariants as act
 use Rattle.proof_order.specs.Beneath.machine_model.specs.Moves.{Goes}
-use Rattle.proof_generations.specs.Laws.Roots.{settles}
 use Rattle.proof_generations.proofs.Offers.Same.{same_offer}
 use Rattle.proof_generations.proofs.Handles.Running.{place_of_actor}
 use Rattle.proof_order.specs.Facts.{Runs}

@@ -1,8 +1,9 @@
 -- An offer that is carried out, with the operation that made it and what the facts say of it.
-use Rattle.std.proofs.Common.{◌≡◌, ℕ, suc, ◌<◌, false, ◌∙◌, Some, None, arith}
-use Rattle.proof_order.specs.Vocabulary.{KeyMap, generation_at, Operation, Descriptor, Outcome, Step, Bounds, State, root_at, Moves, copied_reply, IsRun, is_placed, Record}
+use Rattle.std.proofs.Common.{◌≡◌, ℕ, false, ◌∙◌, Some, None, arith}
+use Rattle.proof_order.specs.Vocabulary.{KeyMap, generation_at, Operation, Descriptor, Bounds, State, root_at, copied_reply, IsRun, is_placed, Record}
 use Rattle.proof_generations.proofs.Handles.Operations.{has_handles_at}
-use Rattle.proof_order.specs.Facts.{IsReply, Runs, On, IsFresh, Opens, CarriesOut, Facts, Notes}
+use Rattle.proof_order.specs.Facts.{IsReply, Runs, On, IsFresh, Opens, Facts}
+use Rattle.proof_order.specs.Openings.{IsSwap}
 use Rattle.proof_order.proofs.History.Answering.{carried_reply}
 use Rattle.proof_order.proofs.Offers.Honest.{offerer_of}
 use Rattle.proof_order.proofs.Offers.Known.{Offers}
@@ -24,23 +25,21 @@ pub record Carried (states : ℕ → State) (records : ℕ → Record) (last : �
   pub opens : Opens states records last V t handle (generation_at (states t).heap offer.root) offer offerer.call
 
 -- the facts, of the operation that made it
-pub carried : {limits : Bounds} {states : ℕ → State} {last : ℕ} (r : IsRun limits states last) (V : ℕ → ℕ → KeyMap) → Facts limits states r.records last V →
-    (t : ℕ) (s : Step) (o : Outcome) → t < last →
-    Moves (states t) s o (states (suc t)) → Notes states r.records t s → (handle : ℕ) (offer : Descriptor) → CarriesOut (states t) s handle offer →
-    Offers (states t) (r.records t) → Carried states r.records last V t handle offer
-carried {limits} {states} {last} r V facts t s o lt m notes handle offer carries offers =
-    let st = offerer_of (states t) offers s handle offer carries in
-    let facts_of = facts.swaps t s o lt m notes handle offer carries st.k st.operation st.runs st.id in
-    record {
-      k = st.k;
-      offerer = st.operation;
-      runs = st.runs;
-      is_its = st.id;
-      number = st.opens;
-      free = λ n e. (has_handles_at r t (omega arith)).1.unopened st.k n st.operation st.runs st.unmarked (st.opens ∙ e);
-      agrees = carried_reply r t s o lt m notes handle offer carries st.k st.operation st.runs st.id;
-      unplaced = facts_of.unplaced;
-      stands = facts_of.stands;
-      is_fresh = facts_of.is_fresh;
-      opens = facts_of.opens;
-    }
+module _ {limits : Bounds} {states : ℕ → State} {last : ℕ} (r : IsRun limits states last) (V : ℕ → ℕ → KeyMap) (facts : Facts limits states r.records last V) where
+  pub carried : (t handle : ℕ) (offer : Descriptor) → IsSwap states r.records last t handle offer → Offers (states t) (r.records t) → Carried states r.records last V t handle offer
+  carried t handle offer swap offers =
+      let st = offerer_of (states t) offers swap.step handle offer swap.carries in
+      let facts_of = facts.swaps t swap.step swap.outcome swap.taken swap.moves swap.notes handle offer swap.carries st.k st.operation st.runs st.id in
+      record {
+        k = st.k;
+        offerer = st.operation;
+        runs = st.runs;
+        is_its = st.id;
+        number = st.opens;
+        free = λ n e. (has_handles_at r t (omega (arith, swap.taken))).1.unopened st.k n st.operation st.runs st.unmarked (st.opens ∙ e);
+        agrees = carried_reply r t handle offer swap st.k st.operation st.runs st.id;
+        unplaced = facts_of.unplaced;
+        stands = facts_of.stands;
+        is_fresh = facts_of.is_fresh;
+        opens = facts_of.opens;
+      }

@@ -1,8 +1,7 @@
 -- Offers are found as they were made, by the operation that is completing them.
 use Rattle.std.proofs.Common.{◌≡◌, ℕ, true, sym, ap, ◌∙◌, subst}
 use Rattle.std.proofs.lemmas.Bool.{and_parts}
-use Rattle.proof_order.specs.Vocabulary.{Descriptor, Step, handle_of, State, word_at, stands_in, Record}
-use Rattle.proof_generations.specs.Laws.Roots.{settles}
+use Rattle.proof_order.specs.Vocabulary.{Descriptor, Step, handle_of, State, word_at, stands_in, Record, settles}
 use Rattle.proof_generations.proofs.Offers.Same.{same_offer}
 use Rattle.proof_order.specs.Facts.{CarriesOut}
 use Rattle.proof_order.proofs.Views.EachStep.{HonestIn}

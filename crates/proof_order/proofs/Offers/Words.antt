@@ -2,12 +2,11 @@
 use Rattle.std.proofs.Common.{◌≡◌, ℕ, suc, true, set, get_or, Option, Some, None, refl, sym, ap, ◌∙◌, subst}
 use Rattle.std.proofs.lemmas.Option.{none-some, same_Some}
 use Rattle.proof_order.specs.Vocabulary.{Call, Close, Operation, Root, Offer, Descriptor, Outcome, Step, handle_of, State, word_at, word_of, operation_of, action_of, is_plain, stands_in, with_begin}
-use Rattle.proof_order.specs.Vocabulary.{Begins, Ends, Sweeps, GivesUp, Moves, begun_operation}
+use Rattle.proof_order.specs.Vocabulary.{Begins, Ends, Sweeps, GivesUp, Moves, begun_operation, settles}
 use Rattle.proof_order.specs.Beneath.machine_model.specs.declared.actions.Action.TheVariants as act
 use Rattle.proof_order.specs.Beneath.machine_model.specs.declared.steps.Step.TheVariants as step
 use Rattle.proof_order.specs.Beneath.machine_model.proofs.Found.{found_here, found_elsewhere}
 use Rattle.proof_order.specs.Beneath.machine_model.specs.Moves.{Goes}
-use Rattle.proof_generations.specs.Laws.Roots.{settles}
 use Rattle.proof_generations.proofs.Offers.Standing.{OfferFrom, offer_from, stood as stays, put as puts}
 use Rattle.proof_generations.proofs.Handles.Running.{place_of_actor}
 use Rattle.proof_order.specs.Facts.{Runs}

@@ -2,14 +2,13 @@
 use Rattle.std.proofs.Common.{◌≡◌, ℕ, suc, ◌<◌, ◌≤◌, false, inl, inr, Option, Some, None, refl, sym, ap, subst, arith}
 use Rattle.std.proofs.lemmas.Bool.{false≢true}
 use Rattle.proof_order.specs.Vocabulary.{Call, Ref, empty_branch, next_ref, CopyLine, Line, Operation, After, Gives, RootLine, Bounds, Outcome, Step, handle_of, State, word_at, copy_if_made}
-use Rattle.proof_order.specs.Vocabulary.{after_successor, root_after, line_action, line_after, first_line, after_root, node_under, Moves, IsRun}
+use Rattle.proof_order.specs.Vocabulary.{after_successor, root_after, line_action, line_after, first_line, after_root, node_under, Moves, IsRun, made_node}
 use Rattle.proof_order.specs.Beneath.machine_model.specs.declared.copying.CopyLine.TheVariants as copy
 use Rattle.proof_order.specs.Beneath.machine_model.specs.declared.lines.Line.TheVariants as line
 use Rattle.proof_order.specs.Beneath.machine_model.specs.declared.reading.After.TheVariants.{Goes as Continues}
 use Rattle.proof_order.specs.Beneath.machine_model.specs.declared.steps.Step.TheVariants as step
 use Rattle.proof_order.specs.Beneath.machine_model.specs.Operations.{from_root}
 use Rattle.proof_order.specs.Beneath.proof_memory.proofs.Safety.AtEachTime.{safe_at}
-use Rattle.proof_order.specs.Beneath.proof_memory.specs.Making.{made_node}
 use Rattle.proof_generations.proofs.Handles.Running.{comes}
 use Rattle.proof_generations.specs.Running.{Runs}
 use Rattle.proof_generations.proofs.Lines.Copy.{is_copy, no_copy_after}

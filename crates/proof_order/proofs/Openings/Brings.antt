@@ -2,7 +2,7 @@
 use Rattle.std.proofs.Common.{◌≡◌, ℕ, suc, ◌≤◌, Bool, true, false, cond, Option, Some, None, is_some, refl, sym, ap, ◌∙◌, subst, arith}
 use Rattle.std.proofs.lemmas.Bool.{false≢true}
 use Rattle.proof_order.specs.Vocabulary.{Call, Clear, Snapshot, Freeze, Ref, generation_at, Operation, Descriptor, Bounds, Step, handle_of, opens_handle, State, first_state, operation_of}
-use Rattle.proof_order.specs.Vocabulary.{operation_after, number_for, run, IsRun, is_clear}
+use Rattle.proof_order.specs.Vocabulary.{operation_after, number_for, run, IsRun, is_clear, counting_main}
 use Rattle.proof_order.specs.Beneath.machine_model.proofs.Actors.{mark_only, marks_in}
 use Rattle.proof_order.specs.Beneath.machine_model.proofs.Found.{none_found}
 use Rattle.proof_order.specs.Beneath.machine_model.proofs.Times.{at_each_time}
@@ -13,7 +13,6 @@ use Rattle.proof_generations.proofs.Lines.Copy.{second_fits}
 use Rattle.proof_generations.proofs.Offers.Standing.{StandsBy, completes_it}
 use Rattle.proof_generations.proofs.Roots.Own.{its_fresh}
 use Rattle.proof_generations.proofs.Roots.Kept.{fresh_of}
-use Rattle.proof_order.specs.Beneath.proof_contents.specs.Runs.{counting_main}
 use Rattle.proof_order.specs.Openings.{IsSwap, IsRootOf, IsNewRoot, Brings, clears, snapshots, freezes, SwapsBring}
 use Rattle.proof_order.proofs.Openings.Carried.{ordered}
 use Rattle.proof_order.proofs.Openings.NeverStood.{IsNew, new_at}

@@ -1,16 +1,14 @@
 -- After the generation of a root was closed no main node of that root is replaced; and roots of one generation are one.
 use Rattle.std.proofs.Common.{◌≡◌, ℕ, ◌≤◌, true, Some, is_some, refl, sym, ap, ◌∙◌, arith}
-use Rattle.proof_order.specs.Vocabulary.{Ref, node_at, node_of, logical_main, Root, RootWord, Plain, Offer, Bounds, State, root_at, root_of, node_under, IsRun}
-use Rattle.proof_order.specs.Beneath.proof_memory.specs.Laws.{IsInUse}
-use Rattle.proof_order.specs.Beneath.proof_memory.specs.Wants.{AnIndirection, AllHold, meets, word_wants, is_indirection}
+use Rattle.proof_order.specs.Vocabulary.{Ref, node_at, node_of, logical_main, Root, RootWord, Plain, Offer, Bounds, State, root_at, root_of, node_under, IsRun, IsInUse, AnIndirection, AllHold}
+use Rattle.proof_order.specs.Vocabulary.{meets, word_wants, root_generation, counting_main}
+use Rattle.proof_order.specs.Beneath.proof_memory.specs.Wants.{is_indirection}
 use Rattle.proof_order.specs.Beneath.proof_memory.proofs.Safety.AtEachTime.{safe_at}
 use Rattle.proof_order.specs.Beneath.proof_memory.proofs.Safety.AtTimes.{node_found}
 use Rattle.proof_order.specs.Beneath.proof_memory.proofs.Claims.Uses.{meets_of}
 use Rattle.proof_order.specs.Beneath.proof_commits.proofs.Course.Finals.{link_stays}
 use Rattle.proof_order.specs.Beneath.proof_commits.proofs.Words.Along.{protocol}
-use Rattle.proof_generations.specs.Laws.Roots.{root_generation}
 use Rattle.proof_order.specs.Beneath.proof_contents.specs.Runs as trie
-use Rattle.proof_order.specs.Beneath.proof_contents.specs.Runs.{counting_main}
 use Rattle.proof_order.specs.Beneath.proof_contents.proofs.Values.Runs.{counting_main-made}
 use Rattle.proof_order.specs.Beneath.proof_commits.proofs.Words.OfRuns.{link_kept}
 use Rattle.proof_order.specs.Openings.{IsRootOf}

@@ -3,7 +3,7 @@ use Rattle.std.proofs.Common.{◌≡◌, ℕ, suc, ◌<◌, ◌≤◌, ◌⊎◌
 use Rattle.std.proofs.lemmas.Option.{none-some, same_Some}
 use Rattle.proof_order.specs.Vocabulary.{Call, Ref, Line, Operation, After, Gives, ReadLine, Complete, CompleteLine, Descriptor, Bounds, Outcome, Step, handle_of, State, word_at, operation_of}
 use Rattle.proof_order.specs.Vocabulary.{read_after, complete_after, after_reading, of_offer, action_of, first_line, gone, operation_after, settled, Begins, Ends, Sweeps, GivesUp, Moves, GoesOn}
-use Rattle.proof_order.specs.Vocabulary.{IsRun, Moment, moment_at, noted_progress, noted, progress_of, told_in, Runs}
+use Rattle.proof_order.specs.Vocabulary.{IsRun, Moment, moment_at, noted_progress, noted, progress_of, told_in, Runs, Words, counts_at, Reads, stage_of, stage_of_complete, IsMoment, words_of}
 use Rattle.proof_order.specs.Beneath.machine_model.specs.declared.copying.CopyLine.TheVariants as copy
 use Rattle.proof_order.specs.Beneath.machine_model.specs.declared.lines.Line.TheVariants as line
 use Rattle.proof_order.specs.Beneath.machine_model.specs.declared.reading.After.TheVariants.{Goes as Continues}
@@ -14,10 +14,6 @@ use Rattle.proof_order.specs.Beneath.machine_model.specs.declared.roots.RootLine
 use Rattle.proof_order.specs.Beneath.machine_model.specs.declared.steps.Step.TheVariants as step
 use Rattle.proof_order.specs.Beneath.machine_model.specs.Moves.{Goes}
 use Rattle.proof_order.specs.Beneath.machine_model.proofs.Actors.{mark_only, marks_in}
-use Rattle.proof_order.specs.Beneath.proof_commits.specs.Protocol.{Words, counts_at, Reads}
-use Rattle.proof_order.specs.Beneath.proof_commits.specs.Stages.{stage_of, stage_of_complete}
-use Rattle.proof_order.specs.Beneath.proof_commits.specs.Moments.{IsMoment}
-use Rattle.proof_order.specs.Beneath.proof_commits.specs.Words.{words_of}
 use Rattle.proof_order.specs.Beneath.proof_commits.proofs.Course.Moments.{found, counted, moment_noted}
 use Rattle.proof_order.specs.Beneath.proof_commits.proofs.Known.Acts.{known_run}
 use Rattle.proof_generations.proofs.Handles.Running.{Comes, began, rested, went, comes, gave}

@@ -4,13 +4,12 @@ use Rattle.std.proofs.lemmas.Bool.{false≢true}
 use Rattle.std.proofs.lemmas.Option.{none-some}
 use Rattle.proof_order.specs.Vocabulary.{Call, Clear, Snapshot, Ref, next_ref, no_ref, CopyLine, Line, Operation, After, Gives, Complete, Descriptor, CompleteLine, handle_of, opens_handle, State}
 use Rattle.proof_order.specs.Vocabulary.{word_at, new_try, complete_after, is_plain, copy_after_complete, copy_after_made, copy_if_made, copied_reply, after_offer, after_successor, line_action}
-use Rattle.proof_order.specs.Vocabulary.{line_after, is_clear, is_snapshot}
+use Rattle.proof_order.specs.Vocabulary.{line_after, is_clear, is_snapshot, AllHold, line_wants, copy_wants, complete_wants}
 use Rattle.proof_order.specs.Beneath.machine_model.specs.declared.actions.Action.TheVariants as act
 use Rattle.proof_order.specs.Beneath.machine_model.specs.declared.copying.CopyLine.TheVariants as copy
 use Rattle.proof_order.specs.Beneath.machine_model.specs.declared.lines.Line.TheVariants as line
 use Rattle.proof_order.specs.Beneath.machine_model.specs.declared.reading.After.TheVariants.{Goes as Continues}
 use Rattle.proof_order.specs.Beneath.machine_model.specs.declared.roots.CompleteLine.TheVariants as complete
-use Rattle.proof_order.specs.Beneath.proof_memory.specs.Wants.{AllHold, line_wants, copy_wants, complete_wants}
 use Rattle.proof_order.specs.Beneath.proof_memory.proofs.Claims.Uses.{safe_of}
 use Rattle.proof_generations.proofs.Lines.Copy.{HasOwn, same_offer_after}
 use Rattle.proof_generations.proofs.Roots.Kept.{fresh_in}

@@ -2,12 +2,10 @@
 use Rattle.std.proofs.Common.{◌≡◌, ℕ, suc, Bool, inl, inr, Some, sym, ap, ◌∙◌}
 use Rattle.std.proofs.lemmas.Option.{none-some, same_Some}
 use Rattle.proof_order.specs.Vocabulary.{Ref, Node, Indirection, node_at, generation_at, next_ref, Operation, Outcome, Step, State, operation_of, action_of, line_after, Begins, Ends, Sweeps}
-use Rattle.proof_order.specs.Vocabulary.{GivesUp, Moves, Record}
+use Rattle.proof_order.specs.Vocabulary.{GivesUp, Moves, Record, made_node, IsInUse}
 use Rattle.proof_order.specs.Beneath.machine_model.specs.declared.actions.Action.TheVariants as act
 use Rattle.proof_order.specs.Beneath.machine_model.specs.declared.steps.Step.TheVariants as step
 use Rattle.proof_order.specs.Beneath.machine_model.specs.Moves.{Goes}
-use Rattle.proof_order.specs.Beneath.proof_memory.specs.Making.{made_node}
-use Rattle.proof_order.specs.Beneath.proof_memory.specs.Laws.{IsInUse}
 use Rattle.proof_order.specs.Beneath.proof_memory.proofs.Safety.States.{IsSafe, used_of}
 use Rattle.proof_order.specs.Beneath.proof_memory.proofs.Safety.Steps.{made_fresh}
 use Rattle.proof_generations.proofs.Handles.Running.{comes}

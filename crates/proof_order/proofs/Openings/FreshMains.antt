@@ -3,27 +3,23 @@ use Rattle.std.proofs.Common.{◌≡◌, ℕ, suc, ◌<◌, ◌≤◌, Bool, tru
 use Rattle.std.proofs.lemmas.Bool.{true≢false}
 use Rattle.std.proofs.lemmas.Option.{none-some}
 use Rattle.proof_order.specs.Vocabulary.{Writable, Ref, Indirection, generation_at, generation_of, node_of, prev_of, main_of, logical, empty_branch, next_ref, Line, Operation, Bounds, Outcome, Step}
-use Rattle.proof_order.specs.Vocabulary.{State, action_of, grown, node_under, prev_word, Moves, IsRun, Runs, is_clear}
+use Rattle.proof_order.specs.Vocabulary.{State, action_of, grown, node_under, prev_word, Moves, IsRun, Runs, is_clear, IsInUse, Given, stage_of, stage_of_actor, counting_main}
 use Rattle.proof_order.specs.Beneath.slot_arena.specs.declared.nodes.Prev.TheVariants as over
 use Rattle.proof_order.specs.Beneath.machine_model.specs.declared.actions.Action.TheVariants as act
 use Rattle.proof_order.specs.Beneath.machine_model.specs.declared.steps.Step.TheVariants as step
-use Rattle.proof_order.specs.Beneath.proof_memory.specs.Laws.{IsInUse}
 use Rattle.proof_order.specs.Beneath.proof_memory.proofs.Safety.AtEachTime.{safe_at}
 use Rattle.proof_order.specs.Beneath.proof_memory.proofs.Safety.AtTimes.{line_finds, generation_found}
 use Rattle.proof_order.specs.Beneath.proof_memory.proofs.Safety.States.{IsSafe}
-use Rattle.proof_order.specs.Beneath.proof_commits.specs.Protocol.{Given}
 use Rattle.proof_order.specs.Beneath.proof_commits.proofs.Known.Owners.{IsSound, Staged}
 use Rattle.proof_order.specs.Beneath.proof_commits.proofs.Known.Sounds.{sound_at}
 use Rattle.proof_order.specs.Beneath.proof_commits.proofs.Course.Finals.{link_stays}
 use Rattle.proof_order.specs.Beneath.proof_commits.proofs.Known.Given.{ActsOn, Taken, GrownTakes}
 use Rattle.proof_order.specs.Beneath.proof_commits.proofs.Words.Along.{protocol, remembers_at}
 use Rattle.proof_order.specs.Beneath.proof_commits.proofs.Lines.Stages.{Remembers}
-use Rattle.proof_order.specs.Beneath.proof_commits.specs.Stages.{stage_of, stage_of_actor}
 use Rattle.proof_generations.proofs.Counter.Drawn.{generation_stays}
 use Rattle.proof_generations.proofs.Roots.Own.{IsUnused}
 use Rattle.proof_generations.proofs.Roots.Kept.{fresh_in, fresh_safe}
 use Rattle.proof_generations.proofs.Roots.Along.{IsOrdered, ordered_at}
-use Rattle.proof_order.specs.Beneath.proof_contents.specs.Runs.{counting_main}
 use Rattle.proof_order.specs.Beneath.proof_contents.proofs.Values.Runs.{counting_main-made, counting_main-stays}
 use Rattle.proof_order.proofs.Openings.AlongMoves.{along_moves}
 use Rattle.proof_order.proofs.Openings.Fresh.{FreshBehind, stays, made, fresh_behind}

@@ -1,10 +1,8 @@
 -- What the laws of memory give to the laws of contents: what stands under a reference stays, and what handles reach is in use.
 use Rattle.std.proofs.Common.{◌≡◌, ℕ, ◌≤◌, sym, ◌∙◌}
-use Rattle.proof_order.specs.Vocabulary.{Ref, Node, Indirection, node_at, Bounds, State, node_under, IsRun}
-use Rattle.proof_order.specs.Beneath.proof_memory.specs.Laws.{IsInUse}
+use Rattle.proof_order.specs.Vocabulary.{Ref, Node, Indirection, node_at, Bounds, State, node_under, IsRun, IsInUse, ReachesInUse}
 use Rattle.proof_order.specs.Beneath.proof_memory.proofs.Safety.AtEachTime.{safe_at}
 use Rattle.proof_order.specs.Beneath.proof_memory.proofs.Limbo.Ranks.{reached_in_use}
-use Rattle.proof_order.specs.Beneath.proof_contents.specs.InUse.{ReachesInUse}
 use Rattle.proof_order.specs.Beneath.proof_contents.proofs.Values.Started.{node_stays}
 use Rattle.proof_order.specs.Beneath.machine_model.proofs.Grown.{grown_in_use, node_standing}
 use Rattle.proof_generations.proofs.Falling.Nodes.{nodes_stay}

@@ -1,8 +1,7 @@
 -- A main node changes by the commit of an operation that stands in a SWAP there; so none does in a generation that no handle has had, and that isn't closed.
 use Rattle.std.proofs.Common.{◌≡◌, ℕ, suc, ◌<◌, ◌≤◌, true, false, ◌⊎◌, inl, inr, Some, ap, ◌∙◌, arith}
-use Rattle.proof_order.specs.Vocabulary.{Ref, generation_of, Purpose, Operation, Swap, Bounds, handle_of, State, operation_of, node_under, main_before, IsRun}
+use Rattle.proof_order.specs.Vocabulary.{Ref, generation_of, Purpose, Operation, Swap, Bounds, handle_of, State, operation_of, node_under, main_before, IsRun, is_end}
 use Rattle.proof_order.specs.Beneath.machine_model.specs.declared.lines.Line.TheVariants as line
-use Rattle.proof_order.specs.Beneath.proof_memory.specs.Laws.{is_end}
 use Rattle.proof_order.specs.Beneath.proof_commits.proofs.Words.Stood.{none≢pending, stands_now}
 use Rattle.proof_order.specs.Beneath.proof_commits.proofs.Known.Owners.{IsSound}
 use Rattle.proof_order.specs.Beneath.proof_commits.proofs.Known.Sounds.{sound_at}

@@ -3,16 +3,13 @@ use Rattle.std.proofs.Common.{◌≡◌, ℕ, zero, suc, ◌-◌, ◌<◌, ◌�
 use Rattle.std.proofs.lemmas.Bool.{and_parts, cases_lt}
 use Rattle.std.proofs.lemmas.Option.{none-some, same_Some}
 use Rattle.proof_order.specs.Vocabulary.{Writable, Ref, generation_at, generation_of, Line, Operation, Complete, Descriptor, Root, Plain, Offer, Bounds, handle_of, State, root_at, root_of, word_of}
-use Rattle.proof_order.specs.Vocabulary.{word_at, stands_in, line_action, read_of, node_under, main_before, IsRun, closed_at, moment_at, Moment}
+use Rattle.proof_order.specs.Vocabulary.{word_at, stands_in, line_action, read_of, node_under, main_before, IsRun, closed_at, moment_at, Moment, is_end, IsMoment, words_of, counting_main, is_made}
 use Rattle.proof_order.specs.Beneath.machine_model.specs.declared.actions.Action.TheVariants as act
 use Rattle.proof_order.specs.Beneath.machine_model.specs.declared.lines.Line.TheVariants as line
 use Rattle.proof_order.specs.Beneath.machine_model.specs.declared.roots.CompleteLine.TheVariants as complete
-use Rattle.proof_order.specs.Beneath.proof_memory.specs.Laws.{is_end}
 use Rattle.proof_order.specs.Beneath.proof_memory.proofs.Safety.AtEachTime.{safe_at}
 use Rattle.proof_order.specs.Beneath.proof_commits.proofs.Course.Readings.{given_for_good}
-use Rattle.proof_order.specs.Beneath.proof_commits.specs.Moments.{IsMoment}
 use Rattle.proof_order.specs.Beneath.proof_commits.proofs.Known.Given.{Known}
-use Rattle.proof_order.specs.Beneath.proof_commits.specs.Words.{words_of}
 use Rattle.proof_order.specs.Beneath.proof_commits.proofs.Known.Acts.{known_by}
 use Rattle.proof_order.specs.Beneath.proof_commits.proofs.Known.Given.{RootsAreOpen}
 use Rattle.proof_order.specs.Beneath.proof_commits.proofs.Words.Along.{protocol}
@@ -21,7 +18,6 @@ use Rattle.proof_generations.proofs.Lines.Offers.{completing_of}
 use Rattle.proof_generations.proofs.Roots.Open.{no_close_at, open_root}
 use Rattle.proof_generations.proofs.Roots.Own.{gen}
 use Rattle.proof_generations.proofs.Roots.Along.{IsOrdered, ordered_at}
-use Rattle.proof_order.specs.Beneath.proof_contents.specs.Runs.{counting_main, is_made}
 use Rattle.proof_order.specs.Beneath.proof_contents.proofs.Values.Runs.{counting_main-made, made_next}
 use Rattle.proof_order.specs.Openings.{IsSwap, IsRootOf, NoLateCommit}
 use Rattle.proof_order.proofs.Openings.Carried.{Carried, mover, word, IsOffered, offered_root}
@@ -178,8 +174,8 @@ module _ {limits : Bounds} {states : ℕ → State} {last : ℕ} (run : IsRun li
   stays_expected u after within =
       let counts = complete_since.counts in
       let final : main_before states u offer.root ≡ carried.main =
-      given_for_good (protocol limits states last known_so) offer.root carried.main its_moment.read_at its_moment.moment counts.1.0 (since - 1)
-      (omega (arith, counts.1.1, swap.taken)) moment its_closing (omega (arith, counts.0, began)) u (omega (arith, moment.past, counts.1.1)) within in
+      given_for_good (protocol limits states last known_so) offer.root carried.main its_moment.read_at its_moment.moment counts.1.0 (since - 1) moment its_closing
+      (omega (arith, counts.0, began)) (omega (arith, counts.1.1, swap.taken)) u (omega (arith, moment.past, counts.1.1)) within in
       let used = root_in_use run t handle offer.root g (omega (arith, swap.taken)) (old_stands run t handle offer swap) in
       counting_main-made states last u offer.root (made_later states t u offer.root after (ap is_some (grown_in_use states t offer.root used.0 used.1))) ∙ final ∙ given
 

@@ -1,6 +1,5 @@
 -- The laws for every list of steps, from those over runs.
 use Rattle.proof_order.specs.Beneath.machine_model.proofs.Times.{run_is}
-use Rattle.proof_order.specs.Vocabulary.{states_of, last_of}
 use Rattle.proof_order.specs.Laws.Openings.{NewRootsFollow, OneRoot, HandlesRise, ClosedRootsStay, ClosingsDiffer, RootsSwappedAsExpected}
 use Rattle.proof_order.proofs.Openings.ClosedRoots as over
 use Rattle.proof_order.proofs.Openings.Closings as closings

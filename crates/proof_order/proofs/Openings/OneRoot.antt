@@ -10,7 +10,7 @@ use Rattle.proof_order.specs.Beneath.proof_memory.proofs.Safety.States.{IsSafe}
 use Rattle.proof_generations.proofs.Offers.Standing.{StandsBy}
 use Rattle.proof_generations.proofs.Handles.Footings.{ActionCarriesOut, RootFrom, stood, swapped, newly, one_carried}
 use Rattle.proof_generations.proofs.Offers.Marks.{carried_stands}
-use Rattle.proof_generations.proofs.Roots.Own.{gen, its_fresh, brought_kept}
+use Rattle.proof_generations.proofs.Roots.Own.{gen, its_fresh, to_offer, brought_kept}
 use Rattle.proof_generations.proofs.Roots.Kept.{fresh_of, root_kept}
 use Rattle.proof_generations.proofs.Roots.Along.{IsOrdered, ordered_at}
 use Rattle.proof_generations.proofs.Offers.Swaps.{StepKind, quiet, swaps, step_kind, Kept}
@@ -143,8 +143,7 @@ module _ {limits : Bounds} {states : ℕ → State} {last : ℕ} (run : IsRun li
 
       both_brought : (x y : Bool) (r q : Ref) → fresh_of x offer ≡ Some r → fresh_of y offer ≡ Some q → generation_at (states t).heap r ≡ generation_at (states t).heap q → r ≡ q
       both_brought x y r q e f same =
-          let side = ((ordered t (omega arith)).roots.fresh_apart by.k by.k by.owner by.owner x y r q by.runs by.runs by.unmarked by.unmarked (its_fresh by.owner.line offer x r by.completes e)
-          (its_fresh by.owner.line offer y q by.completes f) same).1 in
+          let side = ((ordered t (omega arith)).roots.fresh_apart by.k by.k x y r q (to_offer by x r e) (to_offer by y q f) same).1 in
           same_Some _ _ (sym e ∙ ap (λ z. fresh_of z offer) side ∙ f)
 
       one_by : (r q : Ref) (g : ℕ) → B r g → B q g → r ≡ q

@@ -1,13 +1,12 @@
 -- What a call opens by a root swap, as the contents of generations go: a clear an empty map, a snapshot and a freeze the old root's content, as it is in the end.
-use Rattle.std.proofs.Common.{◌≡◌, ℕ, suc, ◌<◌, false, sym, ap, ◌∙◌, arith}
-use Rattle.proof_order.specs.Vocabulary.{Call, Ref, generation_at, generation_of, Operation, Descriptor, Bounds, Outcome, Step, Moves, State, node_under, IsRun, is_placed}
-use Rattle.proof_order.specs.Beneath.proof_contents.specs.Runs.{counting_main, root_of_generation, trie_of}
+use Rattle.std.proofs.Common.{◌≡◌, ℕ, suc, false, sym, ap, ◌∙◌, arith}
+use Rattle.proof_order.specs.Vocabulary.{Call, Ref, generation_at, generation_of, Operation, Descriptor, Bounds, State, node_under, IsRun, is_placed, counting_main}
+use Rattle.proof_order.specs.Vocabulary.{root_of_generation, trie_of, Trie, content}
 use Rattle.proof_order.specs.Beneath.proof_contents.specs.Steps as steps
 use Rattle.proof_order.specs.Beneath.proof_contents.specs.Steps.{IsTrie}
-use Rattle.proof_order.specs.Beneath.proof_contents.specs.Tries.{Trie, content}
 use Rattle.proof_order.specs.Beneath.proof_contents.proofs.Changes.Openings.{copy_opens, empty_opens}
 use Rattle.proof_order.specs.Facts as facts
-use Rattle.proof_order.specs.Facts.{Opens, CarriesOut, Runs, Notes}
+use Rattle.proof_order.specs.Facts.{Opens, Runs}
 use Rattle.proof_order.specs.Openings.{IsSwap, IsNewRoot, Brings, clears, snapshots, freezes, SwapsOpen}
 use Rattle.proof_order.proofs.Openings.Carried.{swap_stands, swap_is_fresh, second_is_fresh, second_differs}
 use Rattle.proof_order.proofs.Openings.RootOf.{roots_are_one}
@@ -57,15 +56,13 @@ swaps_open {limits} {states} {last} run depth path ok t handle offer swap actor 
     opens_by run depth path t handle offer swap ok offerer.call (swaps_bring run t handle offer swap actor offerer is id)
 
 -- a step that carries an offer out is a swap as the order takes it, where the operation that offered has no place yet
-pub swap_so : {limits : Bounds} {states : ℕ → State} {last : ℕ} (run : IsRun limits states last) → (depth path : Ref → ℕ) → IsTrie (trie_of limits states last depth path) →
-    (t : ℕ) (s : Step) (o : Outcome) → t < last → Moves (states t) s o (states (suc t)) → Notes states run.records t s → (handle : ℕ) (offer : Descriptor) → CarriesOut (states t) s handle offer →
-    (k : ℕ) (offerer : Operation) → Runs (states t) k offerer → offerer.id ≡ offer.operation → is_placed (run.records t) offer.operation ≡ false →
-    facts.Swap states run.records last (content (trie_of limits states last depth path)) t handle offer offerer.call
-swap_so {limits} {states} {last} run depth path ok t s o within m notes handle offer carries k offerer runs id unplaced =
-    let swap : IsSwap states run.records last t handle offer = record { taken = within; step = s; outcome = o; moves = m; notes = notes; carries = carries } in
-    record {
-      unplaced = unplaced;
-      stands = swap_stands run t handle offer swap;
-      is_fresh = swap_is_fresh run t handle offer swap;
-      opens = swaps_open run depth path ok t handle offer swap (suc k) offerer runs id;
-    }
+module _ {limits : Bounds} {states : ℕ → State} {last : ℕ} (run : IsRun limits states last) (depth path : Ref → ℕ) (ok : IsTrie (trie_of limits states last depth path)) where
+  pub swap_so : (t handle : ℕ) (offer : Descriptor) → IsSwap states run.records last t handle offer → (k : ℕ) (offerer : Operation) → Runs (states t) k offerer → offerer.id ≡ offer.operation →
+      is_placed (run.records t) offer.operation ≡ false → facts.Swap states run.records last (content (trie_of limits states last depth path)) t handle offer offerer.call
+  swap_so t handle offer swap k offerer runs id unplaced =
+      record {
+        unplaced = unplaced;
+        stands = swap_stands run t handle offer swap;
+        is_fresh = swap_is_fresh run t handle offer swap;
+        opens = swaps_open run depth path ok t handle offer swap (suc k) offerer runs id;
+      }

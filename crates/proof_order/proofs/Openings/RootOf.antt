@@ -3,14 +3,12 @@ use Rattle.std.proofs.Common.{◌≡◌, ℕ, zero, suc, ◌≤◌, ◌==◌, Bo
 use Rattle.std.proofs.Common.{arith, eqb-true, eq-eqb, []}
 use Rattle.std.proofs.lemmas.Bool.{cases_eq}
 use Rattle.std.proofs.lemmas.Option.{none-some, same_Some}
-use Rattle.proof_order.specs.Vocabulary.{Ref, Heap, generation_at, generation_of, Root, RootWord, Plain, Offer, Bounds, State, root_of, node_under, IsRun}
-use Rattle.proof_order.specs.Beneath.proof_memory.specs.Laws.{IsInUse}
-use Rattle.proof_order.specs.Beneath.proof_memory.specs.Wants.{AllHold, word_wants}
+use Rattle.proof_order.specs.Vocabulary.{Ref, Heap, generation_at, generation_of, Root, RootWord, Plain, Offer, Bounds, State, root_of, node_under, IsRun, IsInUse, AllHold, word_wants, or_other}
+use Rattle.proof_order.specs.Vocabulary.{root_if, root_among, root_until, root_of_generation}
 use Rattle.proof_order.specs.Beneath.proof_memory.proofs.Claims.Uses.{safe_of}
 use Rattle.proof_order.specs.Beneath.proof_memory.proofs.Safety.AtEachTime.{safe_at}
 use Rattle.proof_order.specs.Beneath.proof_memory.proofs.Safety.AtTimes.{generation_found}
 use Rattle.proof_generations.proofs.Counter.Drawn.{generation_stays}
-use Rattle.proof_order.specs.Beneath.proof_contents.specs.Runs.{or_other, root_if, root_among, root_until, root_of_generation}
 use Rattle.proof_order.specs.Openings.{IsRootOf, RootsAreOne}
 use Rattle.proof_order.proofs.Openings.OneRoot.{one_at}
 use Rattle.proof_order.specs.Beneath.machine_model.proofs.Grown.{grown_in_use}

@@ -2,10 +2,9 @@
 use Rattle.std.proofs.Common.{◌≡◌, ℕ, suc, ◌≤◌, true, refl, sym, ap, ◌∙◌, subst, arith}
 use Rattle.std.proofs.lemmas.Bool.{true≢false}
 use Rattle.proof_order.specs.Vocabulary.{Call, Ref, Node, Indirection, Branch, Single, Tomb, List as Listed, Prev, node_at, node_of, main_of, main_at, prev_at, logical, logical_main, generation_at}
-use Rattle.proof_order.specs.Vocabulary.{empty_branch, with_main_word, Descriptor, Bounds, State, node_under, IsRun}
+use Rattle.proof_order.specs.Vocabulary.{empty_branch, with_main_word, Descriptor, Bounds, State, node_under, IsRun, IsInUse, AllHold, node_wants, prev_wants}
 use Rattle.proof_order.specs.Beneath.slot_arena.specs.declared.nodes.Prev.TheVariants as over
-use Rattle.proof_order.specs.Beneath.proof_memory.specs.Laws.{IsInUse}
-use Rattle.proof_order.specs.Beneath.proof_memory.specs.Wants.{AllHold, node_wants, prev_wants, is_indirection}
+use Rattle.proof_order.specs.Beneath.proof_memory.specs.Wants.{is_indirection}
 use Rattle.proof_order.specs.Beneath.proof_memory.proofs.Safety.AtEachTime.{safe_at}
 use Rattle.proof_order.specs.Beneath.proof_memory.proofs.Claims.Uses.{safe_of, first_hold, last_hold}
 use Rattle.proof_order.specs.Beneath.proof_memory.proofs.Safety.States.{IsSafe}

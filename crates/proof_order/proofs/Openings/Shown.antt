@@ -1,15 +1,11 @@
 -- What handles show: at the end each open one the content of its root's generation, and at first the first generation nothing.
 use Rattle.std.proofs.Common.{◌≡◌, ℕ, true, refl, sym, ◌∙◌, arith}
 use Rattle.std.specs.FinMap as map
-use Rattle.proof_order.specs.Vocabulary.{Ref, node_at, generation_at, RootWord, Plain, Offer, Bounds, State, root_of, IsRun}
-use Rattle.proof_order.specs.Beneath.proof_memory.specs.Laws.{IsInUse}
-use Rattle.proof_order.specs.Beneath.proof_memory.specs.Wants.{AnIndirection, AllHold, meets, word_wants}
+use Rattle.proof_order.specs.Vocabulary.{Ref, node_at, generation_at, RootWord, Plain, Offer, Bounds, State, root_of, IsRun, IsInUse, AnIndirection, AllHold, meets, word_wants, trie_of, content}
 use Rattle.proof_order.specs.Beneath.proof_memory.proofs.Safety.AtEachTime.{safe_at}
 use Rattle.proof_order.specs.Beneath.proof_memory.proofs.Safety.AtTimes.{node_found}
 use Rattle.proof_order.specs.Beneath.proof_memory.proofs.Claims.Uses.{meets_of}
-use Rattle.proof_order.specs.Beneath.proof_contents.specs.Runs.{trie_of}
 use Rattle.proof_order.specs.Beneath.proof_contents.specs.Steps.{IsTrie}
-use Rattle.proof_order.specs.Beneath.proof_contents.specs.Tries.{content}
 use Rattle.proof_order.specs.Beneath.proof_contents.proofs.Pairs.Heap.{content_is}
 use Rattle.proof_order.specs.Beneath.proof_contents.proofs.Values.Started.{starts_empty}
 use Rattle.proof_generations.proofs.Lines.ReaderKnows.{indirection_is}

@@ -2,7 +2,7 @@
 use Rattle.std.proofs.Common.{◌≡◌, ℕ, suc, ◌<◌, ◌≤◌, true, false, Option, Some, None, refl, sym, ap, ◌∙◌, subst, arith, inl, inr}
 use Rattle.std.proofs.lemmas.Option.{none-some}
 use Rattle.proof_order.specs.Vocabulary.{Close, Place, Ref, Operation, Descriptor, Bounds, Outcome, Step, State, operation_of, action_of, line_after, first_line, read_of, operation_after, Moves}
-use Rattle.proof_order.specs.Vocabulary.{GoesOn, prev_word, IsRun, closing_for, moment_at, changer_of, entered, entered_by, committed_now, committed_in, changer_for, Purpose, SwapLine}
+use Rattle.proof_order.specs.Vocabulary.{GoesOn, prev_word, IsRun, closing_for, moment_at, changer_of, entered, entered_by, committed_now, committed_in, changer_for, Purpose}
 use Rattle.proof_order.specs.Beneath.history.specs.declared.replies.Reply.TheVariants as reply
 use Rattle.proof_order.specs.Beneath.slot_arena.specs.declared.nodes.Prev.TheVariants as prev
 use Rattle.proof_order.specs.Beneath.machine_model.specs.declared.actions.Action.TheVariants as act
@@ -31,7 +31,7 @@ use Rattle.proof_order.proofs.Phases.Published.{Committed, committed_so, pending
 use Rattle.proof_order.specs.Beneath.history.proofs.Among.{Among}
 use Rattle.proof_order.proofs.Phases.Formers.{update_tells}
 use Rattle.proof_order.specs.Beneath.proof_commits.proofs.Known.Sounds.{sound_at}
-use Rattle.proof_order.specs.Beneath.proof_commits.proofs.Course.Changers.{changers_known}
+use Rattle.proof_order.specs.Beneath.proof_commits.proofs.Course.Changers.{changers_known, Deciding, in_swap}
 use Rattle.proof_order.specs.Beneath.proof_commits.proofs.Known.Acts.{known_run}
 use Rattle.proof_order.specs.Beneath.proof_commits.proofs.Lines.Swap.{runs_deciding}
 
@@ -75,23 +75,26 @@ module _ {limits : Bounds} {states : ℕ → State} {last : ℕ} (r : IsRun limi
       committed_so r t it.actor it.operation o main lt (subst (λ x. Moves (states t) x o (states (suc t))) it.go m) it.runs it.now
 
   -- whose change of its key it is enters
-  places_of : (k actor : ℕ) (owner : Operation) (main : Ref) (why : Purpose) (i a : Ref) (l : SwapLine) → actor ≡ suc k → Runs (states t) k owner →
-      owner.line ≡ line.Swap why (record { indirection = i; replaced = a; fresh = main; line = l }) → changer_of (r.records t) main ≡ changer_for owner why →
-      committed_by_step (states t) s ≡ Some main → (p : Place) → Among p (entered_by (r.records t) (states t).steps (changer_for owner why)) → Owns (states t) (r.records t) s p
-  places_of k actor owner main (purpose.Update path former) i a l place runs at changer says p (inl is) = record {
-    main = main;
-    commits = says;
-    k = k;
-    owner = owner;
-    runs = runs;
-    swaps = record { path = path; former = former; its = record { indirection = i; replaced = a; fresh = main; line = l }; at = at; fresh = refl };
-    changer = changer;
-    is_it = is;
-  }
-  places_of k actor owner main (purpose.Update path former) i a l place runs at changer says p (inr none) = absurd none
-  places_of k actor owner main (purpose.Renew path) i a l place runs at changer says p none = absurd none
-  places_of k actor owner main purpose.Clean i a l place runs at changer says p none = absurd none
-  places_of k actor owner main (purpose.Climb c) i a l place runs at changer says p none = absurd none
+  places_of : (k : ℕ) (owner : Operation) → Runs (states t) k owner → (d : Deciding owner) → changer_of (r.records t) d.fresh ≡ changer_for owner d.why →
+      committed_by_step (states t) s ≡ Some d.fresh → (p : Place) → Among p (entered_by (r.records t) (states t).steps (changer_for owner d.why)) → Owns (states t) (r.records t) s p
+  places_of k owner runs d changer says p = by d.why d.is changer
+    where
+      by : (why : Purpose) → owner.line ≡ line.Swap why (in_swap d.indirection d.replaced d.fresh d.at) → changer_of (r.records t) d.fresh ≡ changer_for owner why →
+          Among p (entered_by (r.records t) (states t).steps (changer_for owner why)) → Owns (states t) (r.records t) s p
+      by (purpose.Update path former) at changer (inl is) = record {
+        main = d.fresh;
+        commits = says;
+        k = k;
+        owner = owner;
+        runs = runs;
+        swaps = record { path = path; former = former; its = in_swap d.indirection d.replaced d.fresh d.at; at = at; fresh = refl };
+        changer = changer;
+        is_it = is;
+      }
+      by (purpose.Update path former) at changer (inr none) = absurd none
+      by (purpose.Renew path) at changer none = absurd none
+      by purpose.Clean at changer none = absurd none
+      by (purpose.Climb c) at changer none = absurd none
 
   -- whose places a commit brings
   pub owns : (p : Place) → Among p (entered_by_step (r.records t) (states t) s) → Owns (states t) (r.records t) s p
@@ -103,10 +106,10 @@ module _ {limits : Bounds} {states : ℕ → State} {last : ℕ} (r : IsRun limi
           let c = committed main is in
           let o = (sound_at (run_words r) t within).owned main c.previous c.was in
           let it = runs_deciding (operation_of (states t) o.actor) o.link c.previous main o.line o.stage in
-          let known = changers_known limits states last (known_run r) t within o.actor it.operation it.is it.swaps.0 o.link c.previous main o.line it.swaps.1 in
+          let d : Deciding it.operation = record { why = it.swaps.0; indirection = o.link; replaced = c.previous; fresh = main; at = o.line; is = it.swaps.1 } in
+          let known = changers_known limits states last (known_run r) t within o.actor it.operation it.is d in
           let (k, actors, runs) = place_of_actor (states t) o.actor it.operation it.is in
-          places_of k o.actor it.operation main it.swaps.0 o.link c.previous (swap.Deciding o.line) actors runs it.swaps.1 known is p
-          (subst (λ x. Among p (entered_by (r.records t) (states t).steps x)) known a)
+          places_of k it.operation runs d known is p (subst (λ x. Among p (entered_by (r.records t) (states t).steps x)) known a)
 
   -- the owner, swapped in
   module _ (own : Place) (it : Owns (states t) (r.records t) s own) where

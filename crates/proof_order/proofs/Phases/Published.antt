@@ -3,17 +3,15 @@ use Rattle.std.proofs.Common.{◌≡◌, ℕ, suc, ◌<◌, ◌≤◌, inl, inr,
 use Rattle.std.proofs.lemmas.Bool.{cases_eq}
 use Rattle.proof_order.specs.Beneath.slot_arena.specs.declared.nodes.Prev.TheVariants as prev
 use Rattle.proof_order.specs.Vocabulary.{Ref, prev_at, prev_of, Purpose, Operation, Swap, SwapLine, Bounds, Outcome, State, operation_of, action_of, line_action, Moves, grown, prev_word, IsRun}
-use Rattle.proof_order.specs.Vocabulary.{committed_now}
+use Rattle.proof_order.specs.Vocabulary.{committed_now, Protocol, stage_of, stage_of_actor, stage_of_swap}
 use Rattle.proof_order.specs.Beneath.machine_model.specs.declared.actions.Action.TheVariants as act
 use Rattle.proof_order.specs.Beneath.machine_model.specs.declared.lines.Line.TheVariants as line
 use Rattle.proof_order.specs.Beneath.machine_model.specs.declared.reading.SwapLine.TheVariants as swap
 use Rattle.proof_order.specs.Beneath.machine_model.specs.declared.steps.Step.TheVariants as step
 use Rattle.proof_order.specs.Beneath.proof_memory.proofs.Safety.AtTimes.{prev_found}
-use Rattle.proof_order.specs.Beneath.proof_commits.specs.Protocol.{Protocol}
 use Rattle.proof_order.specs.Beneath.proof_commits.proofs.Words.Stood.{Stood}
 use Rattle.proof_order.specs.Beneath.proof_commits.proofs.Known.Owners.{Staged, HasFresh}
 use Rattle.proof_order.specs.Beneath.proof_commits.proofs.Known.Sounds.{sound_at}
-use Rattle.proof_order.specs.Beneath.proof_commits.specs.Stages.{stage_of, stage_of_actor, stage_of_swap}
 use Rattle.proof_order.specs.Beneath.proof_commits.proofs.Course.Finals.{none_final}
 use Rattle.proof_order.specs.Beneath.proof_commits.proofs.Known.Given.{Known, Decided, ActsOn}
 use Rattle.proof_order.specs.Beneath.proof_commits.proofs.Known.Acts.{known_run}

@@ -1,11 +1,10 @@
 -- Where an operation has its root from: it keeps it in a step, or its step gives it that of its handle.
 use Rattle.std.proofs.Common.{◌≡◌, false, ◌⊎◌, inl, inr, Some, refl, ap}
 use Rattle.proof_order.specs.Vocabulary.{Ref, generation_at, Line, Operation, After, Gives, RootLine, Plain, handle_of, State, word_at, root_after, generation_from, given_root, line_after}
-use Rattle.proof_order.specs.Vocabulary.{after_root}
+use Rattle.proof_order.specs.Vocabulary.{after_root, is_end}
 use Rattle.proof_order.specs.Beneath.machine_model.specs.declared.lines.Line.TheVariants as line
 use Rattle.proof_order.specs.Beneath.machine_model.specs.declared.reading.After.TheVariants.{Goes as Continues}
 use Rattle.proof_order.specs.Beneath.machine_model.specs.Operations.{from_root}
-use Rattle.proof_order.specs.Beneath.proof_memory.specs.Laws.{is_end}
 use Rattle.proof_generations.proofs.Roots.Rooted.{root_given}
 
 -- the step gives the operation the root of its handle, and leads below it

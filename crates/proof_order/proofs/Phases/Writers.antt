@@ -1,11 +1,10 @@
 -- An operation that is in a SWAP runs on a writable handle, and has the root of its generation.
 use Rattle.std.proofs.Common.{◌≡◌, ℕ, suc, ◌≤◌, Some, refl, sym, ap, ◌∙◌, subst, arith}
-use Rattle.proof_order.specs.Vocabulary.{Access, Writable, ReadOnly, Purpose, Operation, Swap, Bounds, Step, State, operation_after, turns, IsRun, Turn}
+use Rattle.proof_order.specs.Vocabulary.{Access, Writable, ReadOnly, Purpose, Operation, Swap, Bounds, Step, State, operation_after, turns, IsRun, Turn, is_past_root}
 use Rattle.proof_order.specs.Beneath.machine_model.specs.declared.lines.Line.TheVariants as line
 use Rattle.proof_order.specs.Beneath.machine_model.proofs.Actors.{mark_only, marks_in}
 use Rattle.proof_order.specs.Beneath.machine_model.proofs.Readers.{IsReaders, first_readers, readers}
 use Rattle.proof_order.specs.Beneath.machine_model.proofs.Times.{along_run}
-use Rattle.proof_order.specs.Beneath.proof_memory.specs.Laws.{is_past_root}
 use Rattle.proof_order.specs.Beneath.proof_memory.proofs.Safety.AtEachTime.{safe_at}
 use Rattle.proof_order.specs.Beneath.proof_memory.proofs.Safety.States.{IsSafe}
 use Rattle.proof_generations.proofs.Handles.Running.{Comes, began, rested, went, comes, gave}

@@ -5,11 +5,10 @@ use Rattle.std.proofs.lemmas.Bool.{cases_lt, true≢false, false≢true}
 use Rattle.std.proofs.lemmas.List.{get_or_past, get_or-set_same, length-set}
 use Rattle.proof_order.specs.Vocabulary.{Access, Writable, ref_to, Reply, Ref, Operation, Action, Line, Root, RootWord, Plain, Offer, Descriptor, State, root_at, word_of, word_at, root_of}
 use Rattle.proof_order.specs.Vocabulary.{rewritten, with_word, line_action, read_of, stands_in, is_plain, is_carried_out, if_changed, acted, completed, carried_out, opened, opened_root}
-use Rattle.proof_order.specs.Vocabulary.{new_root_taken, committed_in, carried_by, generation_at}
+use Rattle.proof_order.specs.Vocabulary.{new_root_taken, committed_in, carried_by, generation_at, settles}
 use Rattle.proof_order.specs.Beneath.machine_model.specs.declared.actions.Action.TheVariants as act
 use Rattle.proof_order.specs.Beneath.machine_model.specs.declared.lines.Line.TheVariants as line
 use Rattle.proof_order.specs.Beneath.machine_model.proofs.Found.{found_elsewhere}
-use Rattle.proof_generations.specs.Laws.Roots.{settles}
 use Rattle.proof_generations.proofs.Handles.Footings.{plain_root}
 
 -- ---- the roots of handles

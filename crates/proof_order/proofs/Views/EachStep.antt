@@ -4,13 +4,12 @@ use Rattle.std.proofs.lemmas.List.{get_or-set_same}
 use Rattle.proof_order.specs.Vocabulary.{Call, Close, Reply, Ref, generation_at, on_time, Operation, Action, Root, Offer, Descriptor, Outcome, Step, handle_of, State, root_at, word_at}
 use Rattle.proof_order.specs.Vocabulary.{with_operation, operation_of, action_of, stands_in, is_carried_out, acted, carried_out, gone, operation_after, settled, begin_denial, with_begin, Begins}
 use Rattle.proof_order.specs.Vocabulary.{Ends, Sweeps, GivesUp, Moves, begun_operation, committed_now, entrant_of, told_in, progress_of, carried_by, entered, entered_at_end, Record, noted}
-use Rattle.proof_order.specs.Vocabulary.{noted_progress, moment_at, placed_by, closed_by}
+use Rattle.proof_order.specs.Vocabulary.{noted_progress, moment_at, placed_by, closed_by, settles}
 use Rattle.proof_order.specs.Beneath.machine_model.specs.declared.actions.Action.TheVariants as act
 use Rattle.proof_order.specs.Beneath.machine_model.specs.declared.steps.Step.TheVariants as step
 use Rattle.proof_order.specs.Beneath.machine_model.specs.Moves.{Goes}
 use Rattle.proof_order.specs.Beneath.machine_model.proofs.Found.{found_within, found_elsewhere}
 use Rattle.proof_order.specs.Facts.{committed_of, committed_by_step, entered_by_step, CarriesOut}
-use Rattle.proof_generations.specs.Laws.Roots.{settles}
 use Rattle.proof_order.proofs.Views.Changes.{footing_of, footing, carries, acted_footing, completed_is, roots_swapped}
 use Rattle.proof_order.proofs.Views.Changes.{carried_roots, same_swapped, complete_commits, end_commits, carries_none, carries_some}
 use Rattle.proof_order.specs.Beneath.machine_model.proofs.Notes.{noted_going, noted_ending}

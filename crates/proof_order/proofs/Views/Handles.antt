@@ -2,9 +2,8 @@
 use Rattle.std.proofs.Common.{◌≡◌, ℕ, suc, ◌<◌, ◌≤◌, length, replicate, Option, Some, None, refl, sym, ap, ◌∙◌, subst}
 use Rattle.std.proofs.Common.{length-set, arith}
 use Rattle.std.proofs.lemmas.List.{length-replicate}
-use Rattle.std.proofs.lemmas.Option.{none-some, same_Some}
-use Rattle.proof_order.specs.Vocabulary.{Writable, Call, Close, Ref, Operation, Action, Root, Plain, ref_to, Descriptor, Bounds, Outcome, Step, handle_of, opens_handle, State, first_state}
-use Rattle.proof_order.specs.Vocabulary.{handle_limit, action_of, acted, aborted, offered, completed, opened, new_root_taken, begin_denial, with_begin, operation_after, Begins, Ends, Sweeps}
+use Rattle.proof_order.specs.Vocabulary.{Writable, Call, Close, Ref, Operation, Action, Root, Plain, ref_to, Descriptor, Bounds, Outcome, Step, handle_of, State, first_state}
+use Rattle.proof_order.specs.Vocabulary.{handle_limit, action_of, acted, aborted, offered, completed, opened, new_root_taken, with_begin, operation_after, Begins, Ends, Sweeps}
 use Rattle.proof_order.specs.Vocabulary.{GivesUp, Moves, begun_operation, IsRun}
 use Rattle.proof_order.specs.Beneath.machine_model.specs.declared.actions.Action.TheVariants as act
 use Rattle.proof_order.specs.Beneath.machine_model.specs.Moves.{Goes}

@@ -12,7 +12,8 @@ use Rattle.proof_order.specs.Beneath.machine_model.specs.declared.actions.Action
 use Rattle.proof_order.specs.Beneath.machine_model.specs.declared.steps.Step.TheVariants as step
 use Rattle.proof_order.specs.Beneath.machine_model.proofs.Times.{steps_at}
 use Rattle.proof_generations.proofs.Handles.Running.{place_of_actor}
-use Rattle.proof_order.specs.Facts.{standing_of, standing, HasStood, Runs, IsReply, entered_by_step, CarriesOut, Facts, Update, Replied, Notes}
+use Rattle.proof_order.specs.Facts.{standing_of, standing, HasStood, Runs, IsReply, entered_by_step, Facts, Update, Replied, Notes}
+use Rattle.proof_order.specs.Openings.{IsSwap}
 use Rattle.proof_order.proofs.Offers.Carried.{Carried, carried}
 use Rattle.proof_order.proofs.Offers.Standing.{offers_at}
 use Rattle.proof_order.proofs.Views.Changes.{footing, roots_swapped}
@@ -131,7 +132,7 @@ module _ {limits : Bounds} {states : ℕ → State} {last : ℕ} (r : IsRun limi
       let says : Told = record { actor = actor; call = Close handle; opens = None } in
       let begins : BeginsAt (r.records last).events (length history) id says = at_end in
       let reply_is : IsReply (r.records last).events id reply.Closed =
-      λ other ends. sym (closed_reply r last (omega arith) (length history) id actor handle None other at_end ends) in
+      λ other ends. sym (closed_reply r last (omega arith) id (record { place = length history; actor = actor; handle = handle; opens = None; at = at_end }) other ends) in
       closes handle stood
       (places ∙ ap (λ n. (r.records t).places ++ on_time n false (states t).begun ∷ []) (number_at t lt) ∙ ap (λ n. (r.records t).places ++ on_time t false n ∷ []) count)
       ((length history, says, begins, refl, refl), reply_is)
@@ -141,16 +142,15 @@ module _ {limits : Bounds} {states : ℕ → State} {last : ℕ} (r : IsRun limi
       closings (facts.still t s o lt m notes none)
 
   -- where an offer is carried out
-  swap_kind : (t : ℕ) (lt : t < last) (s : Step) (o : Outcome) (handle : ℕ) (offer : Descriptor) → Moves (states t) s o (states (suc t)) → Notes states r.records t s →
-      CarriesOut (states t) s handle offer →
-      entered_by_step (r.records t) (states t) s ≡ [] → Enters limits states r.records last V t (on_time (states t).steps false offer.operation) →
+  swap_kind : (t handle : ℕ) (offer : Descriptor) (swap : IsSwap states r.records last t handle offer) → entered_by_step (r.records t) (states t) swap.step ≡ [] →
+      Enters limits states r.records last V t (on_time (states t).steps false offer.operation) →
       (r.records (suc t)).closings ≡ (r.records t).closings ++ record { generation = generation_at (states t).heap offer.root; step = (states t).steps } ∷ [] →
       (states (suc t)).roots ≡ roots_swapped (states t) handle offer offer.opens → (states (suc t)).heap ≡ (states t).heap → Kind limits states r.records last V t
-  swap_kind t lt s o handle offer m notes carries none places closings roots heap =
-      swaps handle offer (carried r V facts t s o lt m notes handle offer carries (offers_at r t (omega arith)))
-      (places ∙ ap (λ n. (r.records t).places ++ on_time n false offer.operation ∷ []) (number_at t lt))
-      (closings ∙ ap (λ n. (r.records t).closings ++ record { generation = generation_at (states t).heap offer.root; step = n } ∷ []) (number_at t lt))
-      roots heap (facts.still t s o lt m notes none)
+  swap_kind t handle offer swap none places closings roots heap =
+      swaps handle offer (carried r V facts t handle offer swap (offers_at r t (omega (arith, swap.taken))))
+      (places ∙ ap (λ n. (r.records t).places ++ on_time n false offer.operation ∷ []) (number_at t swap.taken))
+      (closings ∙ ap (λ n. (r.records t).closings ++ record { generation = generation_at (states t).heap offer.root; step = n } ∷ []) (number_at t swap.taken))
+      roots heap (facts.still t swap.step swap.outcome swap.taken swap.moves swap.notes none)
 
   by_change : (t : ℕ) (lt : t < last) (s : Step) (o : Outcome) → Moves (states t) s o (states (suc t)) → Notes states r.records t s →
       Changes (states t) (r.records t) s (states (suc t)) (r.records (suc t)) → Kind limits states r.records last V t
@@ -160,7 +160,8 @@ module _ {limits : Bounds} {states : ℕ → State} {last : ℕ} (r : IsRun limi
       (subst (λ x. Notes states r.records t x) e notes) is does refl places closings (kept_all t lt same) (facts.still t s o lt m notes none)
   by_change t lt s o m notes (each.closes actor handle number root e is none places closings gone others) =
       close_kind t lt s o actor handle number _ m notes e none places closings (ap (standing_of (states t).heap) is) gone others
-  by_change t lt s o m notes (each.swaps handle offer carries none places closings roots heap) = swap_kind t lt s o handle offer m notes carries none places closings roots heap
+  by_change t lt s o m notes (each.swaps handle offer carries none places closings roots heap) =
+      swap_kind t handle offer (record { taken = lt; step = s; outcome = o; moves = m; notes = notes; carries = carries }) none places closings roots heap
 
   -- the kind of each step
   pub kind_at : (t : ℕ) → t < last → Kind limits states r.records last V t

@@ -1,9 +1,7 @@
 -- Laws of root swaps, for every list of steps.
 use Rattle.std.specs.Prelude.{◌≡◌, ℕ, suc, ◌<◌, ◌≤◌, ◌⊎◌, List, Some, None, slice_get}
 use Rattle.proof_order.specs.Vocabulary.{Writable, Call, Clear, Snapshot, Freeze, Ref, node_at, logical_main, empty_branch, Closing, Operation, Descriptor, Root, Bounds, Step, State, root_at}
-use Rattle.proof_order.specs.Vocabulary.{root_of, operation_of, AreBounds, states_of, last_of, records_of, Record, record_of, closed_at}
-use Rattle.proof_order.specs.Beneath.proof_memory.specs.Laws.{IsInUse}
-use Rattle.proof_generations.specs.Laws.Roots.{root_generation}
+use Rattle.proof_order.specs.Vocabulary.{root_of, operation_of, AreBounds, states_of, last_of, records_of, Record, record_of, closed_at, IsInUse, root_generation}
 use Rattle.proof_order.specs.Openings.{IsSwap}
 
 -- ---- of the states of a run, each before the step of its number

@@ -8,7 +8,7 @@ use Rattle.std.proofs.lemmas.Option.{none-some, same_Some}
 use Rattle.proof_runs.specs.Vocabulary.{begun, Slot, Ref, Heap, generation_at, generation_of, stored, birth_of, slot_of, Action, Line, Purpose, Operation, SwapLine, Carried, Entrant, Publication}
 use Rattle.proof_runs.specs.Vocabulary.{Descriptor, RootWord, Plain, Offer, Bounds, Outcome, Step, operation_after, handle_of, of_birth, AreBounds, is_actor, run, Begins, Ends, Moves, Sweeps}
 use Rattle.proof_runs.specs.Vocabulary.{GivesUp, action_of, State, first_state, operation_of, with_operation, word_at, is_carried_out, carried_by, changer_for, committed_now, given_now}
-use Rattle.proof_runs.specs.Vocabulary.{published_at, published_by, progress_of}
+use Rattle.proof_runs.specs.Vocabulary.{published_at, published_by, progress_of, IsInUse, AllHold, action_wants}
 use Rattle.proof_runs.specs.Beneath.machine_model.specs.declared.actions.Action.TheVariants as act
 use Rattle.proof_runs.specs.Beneath.machine_model.specs.declared.lines.Line.TheVariants as line
 use Rattle.proof_runs.specs.Beneath.machine_model.specs.declared.lines.Purpose.TheVariants as purpose
@@ -20,8 +20,6 @@ use Rattle.proof_runs.specs.Beneath.machine_model.proofs.Found.{found_within}
 use Rattle.proof_runs.specs.Beneath.machine_model.proofs.Frames.{acted_framed, limits_kept, steps_counted}
 use Rattle.proof_runs.specs.Beneath.machine_model.proofs.Grown.{node_standing}
 use Rattle.proof_runs.specs.Beneath.machine_model.proofs.Slots.{sound_along}
-use Rattle.proof_memory.specs.Laws.{IsInUse}
-use Rattle.proof_memory.specs.Wants.{AllHold, action_wants}
 use Rattle.proof_memory.proofs.Claims.Uses.{safe_of}
 use Rattle.proof_memory.proofs.Safety.AtEachTime.{safe_along}
 use Rattle.proof_memory.proofs.Safety.AtTimes.{action_finds}

@@ -5,7 +5,7 @@ use Rattle.std.proofs.lemmas.Option.{none-some}
 use Rattle.std.proofs.lemmas.List.Elements.{All-cons, All-nil, All-push, All-weaker}
 use Rattle.proof_runs.specs.Vocabulary.{Ref, slot_of, birth_of, Heap, Line, Operation, SwapLine, Commit, Entrant, Publication, Bounds, Outcome, Step, State, first_state, operation_of, action_at}
 use Rattle.proof_runs.specs.Vocabulary.{action_of, line_action, AreBounds, run, Moves, Begins, Ends, Sweeps, GivesUp, Record, commits_after, noted, record_of, changer_for, committed_now}
-use Rattle.proof_runs.specs.Vocabulary.{published_at, published_by, told_in, Action}
+use Rattle.proof_runs.specs.Vocabulary.{published_at, published_by, told_in, Action, IsInUse, AllHold, action_wants}
 use Rattle.proof_runs.specs.Beneath.slot_arena.proofs.Births.{rise_with_births}
 use Rattle.proof_runs.specs.Beneath.slot_arena.proofs.Live.{one_live}
 use Rattle.proof_runs.specs.Beneath.slot_arena.proofs.Reading.{live_seen}
@@ -14,9 +14,8 @@ use Rattle.proof_runs.specs.Beneath.machine_model.specs.declared.reading.SwapLin
 use Rattle.proof_runs.specs.Beneath.machine_model.specs.Moves.{Goes}
 use Rattle.proof_runs.specs.Beneath.machine_model.proofs.Notes.{noted_ending, noted_going}
 use Rattle.proof_runs.specs.Beneath.machine_model.proofs.Recorded.{along_with}
-use Rattle.proof_memory.specs.Laws.{IsInUse}
-use Rattle.proof_memory.specs.Wants.{AllHold, action_wants}
 use Rattle.proof_memory.proofs.Claims.Uses.{safe_of}
+use Rattle.proof_runs.specs.Beneath.proof_memory.proofs.Claims.Named.{third_claim}
 use Rattle.proof_memory.proofs.Holding.Lives.{in_use_lives}
 use Rattle.proof_memory.proofs.Safety.States.{IsSafe, births_grow, stood_or_made}
 use Rattle.proof_memory.proofs.Safety.Steps.{step_effect}
@@ -122,7 +121,7 @@ publishes_at : (state : State) (changer : Option Entrant) (indirection replaced 
     AllHold (IsInUse state.heap) state.heap (action_wants (action_at indirection replaced fresh l)) → IsInUse state.heap p.main
 publishes_at state changer indirection replaced fresh swap.Publish p is wants =
     let main : fresh ≡ p.main = cc in
-    subst (IsInUse state.heap) main (safe_of wants.1.1.0)
+    subst (IsInUse state.heap) main (safe_of (third_claim wants))
 publishes_at state changer indirection replaced fresh (swap.Deciding l) p is wants = absurd (none-some p is)
 publishes_at state changer indirection replaced fresh swap.Check p is wants = absurd (none-some p is)
 

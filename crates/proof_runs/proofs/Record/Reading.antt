@@ -4,7 +4,7 @@ use Rattle.std.proofs.lemmas.Option.{none-some, same_Some}
 use Rattle.proof_runs.specs.Vocabulary.{Access, Writable, ReadOnly, Prev, Ref, Heap, main_at, prev_at, Line, Operation, After, Gives, Read, ReadLine, SwapLine, CompleteLine, Descriptor, RootLine}
 use Rattle.proof_runs.specs.Vocabulary.{RootWord, Plain, Offer, handle_of, State, word_at, Verdict, Commits, Fails, Overtaken, after_ask, after_decide, after_prev, after_restore, at_indirection}
 use Rattle.proof_runs.specs.Vocabulary.{read_action, read_after, verdict, complete_action_at, root_action, action_at, action_of, line_action, read_of, completing_read, rooting_read, swapping_read}
-use Rattle.proof_runs.specs.Vocabulary.{given_by, given_in, given_now}
+use Rattle.proof_runs.specs.Vocabulary.{given_by, given_in, given_now, IsInUse, AllHold, action_wants}
 use Rattle.proof_runs.specs.Beneath.slot_arena.specs.declared.nodes.Prev.TheVariants as prev
 use Rattle.proof_runs.specs.Beneath.machine_model.specs.declared.copying.CopyLine.TheVariants as copy
 use Rattle.proof_runs.specs.Beneath.machine_model.specs.declared.finding.KeyLine.TheVariants as key
@@ -18,9 +18,8 @@ use Rattle.proof_runs.specs.Beneath.machine_model.specs.declared.repairs.RenewLi
 use Rattle.proof_runs.specs.Beneath.machine_model.specs.declared.roots.CompleteLine.TheVariants as complete
 use Rattle.proof_runs.specs.Beneath.machine_model.specs.declared.roots.RootLine.TheVariants as root
 use Rattle.proof_runs.specs.Beneath.machine_model.specs.declared.walking.WalkLine.TheVariants as walk
-use Rattle.proof_memory.specs.Laws.{IsInUse}
-use Rattle.proof_memory.specs.Wants.{AllHold, action_wants}
 use Rattle.proof_memory.proofs.Claims.Uses.{safe_of}
+use Rattle.proof_runs.specs.Beneath.proof_memory.proofs.Claims.Named.{third_claim}
 
 -- ---- a step of a READ
 
@@ -102,7 +101,7 @@ module _ (S : Ref → Type 0) (heap : Heap) (main : Ref) where
   read_gives access word indirection (read.AskRoot m p) e h = absurd (ask_gives m p word e)
   read_gives access word indirection (read.Abort m p offer) e h = absurd (none-some main e)
   read_gives access word indirection (read.Decide m p told) e h = decide_gives m (verdict heap indirection m p told) e (safe_of h.1.0)
-  read_gives access word indirection (read.Restore m p) e h = restore_gives p (main_at heap indirection == m) e (safe_of h.1.1.0)
+  read_gives access word indirection (read.Restore m p) e h = restore_gives p (main_at heap indirection == m) e (safe_of (third_claim h))
 
 -- a main node that an operation's READ gives by its step is in use
 pub given_used : (state : State) (operation : Operation) (main : Ref) → given_now state operation ≡ Some main →

@@ -1,6 +1,6 @@
 -- Each step leaves all main nodes and commits nothing, or it commits one fresh node, whose owner knows what it made.
 use Rattle.proof_shape.specs.Vocabulary.{GivesUp, Access, Writable, ReadOnly, Ref, Purpose, Operation, ReadLine, Swap, Reply, Bounds, Outcome, Step, State, operation_of, action_of, run as run_steps}
-use Rattle.proof_shape.specs.Vocabulary.{node_under, Begins, Ends, Sweeps, Moves, GoesOn, IsRun, committed_now, told_in, Record, commits_after, noted}
+use Rattle.proof_shape.specs.Vocabulary.{node_under, Begins, Ends, Sweeps, Moves, GoesOn, IsRun, committed_now, told_in, Record, commits_after, noted, CommitsNode, Protocol, KnowsLine, KnowsRepair}
 use Rattle.std.proofs.Common.{◌≡◌, ℕ, suc, ◌<◌, ◌≤◌, List, Option, Some, None, refl, sym, ◌∙◌, ap, subst, arith}
 use Rattle.proof_shape.specs.Beneath.machine_model.specs.declared.actions.Action.TheVariants as act
 use Rattle.proof_shape.specs.Beneath.machine_model.specs.declared.lines.Line.TheVariants as line
@@ -12,12 +12,9 @@ use Rattle.proof_shape.specs.Beneath.machine_model.specs.declared.steps.Step.The
 use Rattle.proof_shape.specs.Beneath.machine_model.proofs.EachOperation.{of_running}
 use Rattle.proof_shape.specs.Beneath.machine_model.specs.Moves.{Goes}
 use Rattle.proof_shape.specs.Beneath.machine_model.proofs.Readers.{IsReaders, ReadsIfReadOnly, each_reads}
-use Rattle.proof_shape.specs.Beneath.proof_commits.specs.Protocol.{CommitsNode, Protocol}
 use Rattle.proof_shape.specs.Beneath.proof_commits.proofs.Course.Changers.{changers_known}
 use Rattle.proof_shape.specs.Beneath.machine_model.proofs.Notes.{noted_ending, noted_going}
 use Rattle.proof_shape.specs.Beneath.proof_commits.proofs.Words.Along.{protocol}
-use Rattle.proof_shape.specs.Beneath.proof_contents.specs.Lines.Changes.{KnowsLine}
-use Rattle.proof_shape.specs.Beneath.proof_contents.specs.Lines.Repairs.{KnowsRepair}
 use Rattle.proof_shape.specs.Lines.Given.{GaveBelow, Was}
 use Rattle.proof_shape.specs.Lines.Climbing.{KnowsClimbing}
 use Rattle.proof_shape.specs.Lines.Knowing.{known_with, first_main, IsPlaced}
@@ -93,7 +90,8 @@ module _ {limits : Bounds} {states : ℕ → State} {last : ℕ} (run : IsRun li
       knows = fresh_known t h owner.actor runs.operation runs.swaps.0 owner.link d.previous x owner.line placed.0.0 runs.is runs.swaps.1 placed.0.1
           (commits_then run t h actor operation go x d);
       enters = enters_owner (run.records t) runs.operation t x runs.swaps.0
-          (changers_known limits states last (known_run run) t (omega arith) owner.actor runs.operation runs.is runs.swaps.0 owner.link d.previous x owner.line runs.swaps.1);
+          (changers_known limits states last (known_run run) t (omega arith) owner.actor runs.operation runs.is
+          (record { why = runs.swaps.0; indirection = owner.link; replaced = d.previous; fresh = x; at = owner.line; is = runs.swaps.1 }));
     }
       where
         d : DecidesNode (states t) operation x

@@ -2,15 +2,13 @@
 use Rattle.std.proofs.Common.{◌≡◌, ◌≢◌, ℕ, suc, ◌<◌, ◌⊎◌, ◌==◌, Bool, true, false, Option, Some, None, is_some, option_map, find, inl, inr, refl, sym, ◌∙◌, ap, arith}
 use Rattle.std.proofs.lemmas.Bool.{cases_eq, true≢false}
 use Rattle.std.proofs.lemmas.Option.{none-some}
-use Rattle.proof_shape.specs.Vocabulary.{Ref, Slot, node_of, Commit, Bounds, State, grown, node_under, main_before, IsRun}
+use Rattle.proof_shape.specs.Vocabulary.{Ref, Slot, node_of, Commit, Bounds, State, grown, node_under, main_before, IsRun, CommitsNode, Protocol, is_made, counting_main}
 use Rattle.proof_shape.specs.Beneath.proof_memory.proofs.Heap.Moves.{grown_stays}
-use Rattle.proof_shape.specs.Beneath.proof_commits.specs.Protocol.{CommitsNode, Protocol}
 use Rattle.proof_shape.specs.Beneath.proof_commits.proofs.Words.Stood.{stands_now, none≢pending}
 use Rattle.proof_shape.specs.Beneath.proof_commits.proofs.Known.Sounds.{sound_at}
 use Rattle.proof_shape.specs.Beneath.proof_commits.proofs.Course.Finals.{first_commit, commits_at}
 use Rattle.proof_shape.specs.Beneath.proof_commits.proofs.Course.Mains.{MainStep, MainStays, MainChanges, main_step}
 use Rattle.proof_shape.specs.Beneath.proof_commits.proofs.Words.Along.{protocol}
-use Rattle.proof_shape.specs.Beneath.proof_contents.specs.Runs.{is_made, counting_main}
 use Rattle.proof_shape.specs.Beneath.proof_contents.proofs.Values.Runs.{counting_main-stays}
 use Rattle.proof_shape.specs.Beneath.proof_memory.specs.Wants.{is_indirection}
 use Rattle.proof_shape.specs.Beneath.proof_commits.proofs.Words.OfRuns.{link_kept}
@@ -28,8 +26,8 @@ module _ {limits : Bounds} {states : ℕ → State} {last : ℕ} (run : IsRun li
       by_slot : (o : Option Slot) → grown states t i ≡ o → is_some o ≡ true → is_indirection (node_under states (suc t) i) ≡ is_indirection (node_under states t i)
       by_slot None e made = absurd (true≢false (sym made))
       by_slot (Some slot) e made =
-          let now = grown_stays run t (suc t) (omega arith) h i slot e in
-          ap (λ o. is_indirection (node_of o)) now.1 ∙ ap is_indirection now.2.0.1 ∙ link_kept now.2.0.0 slot.node ∙ sym (ap (λ o. is_indirection (node_of o)) e)
+          let (later, now, same) = grown_stays run t (suc t) (omega arith) h i slot e in
+          ap (λ o. is_indirection (node_of o)) now ∙ ap is_indirection same.0.1 ∙ link_kept same.0.0 slot.node ∙ sym (ap (λ o. is_indirection (node_of o)) e)
 
   -- the main node of any reference, by that of indirections
   pub mains_by : (t : ℕ) → t < last → (i : Ref) → (is_indirection (node_under states t i) ≡ true → main_before states (suc t) i ≡ main_before states t i) →

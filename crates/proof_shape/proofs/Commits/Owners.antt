@@ -1,22 +1,19 @@
 -- The owner of a node that a step commits: who swapped it in, and is about to see how it is decided.
 use Rattle.std.proofs.Common.{◌≡◌, ◌≢◌, ℕ, suc, ◌<◌, ◌⊎◌, Option, Some, None, option_map, inl, inr, refl, sym, ◌∙◌, ap, subst, arith}
 use Rattle.std.proofs.lemmas.Bool.{cases_eq, true≢false}
-use Rattle.proof_shape.specs.Vocabulary.{Ref, Slot, node_of, prev_of, main_of, logical, prev_changed, Operation, SwapLine, Bounds, State, operation_of, grown, node_under, prev_word, IsRun}
+use Rattle.proof_shape.specs.Vocabulary.{Ref, Slot, node_of, prev_of, main_of, logical, prev_changed, Operation, SwapLine, Bounds, State, operation_of, grown, node_under, prev_word, IsRun, IsInSwap}
+use Rattle.proof_shape.specs.Vocabulary.{CommitsNode, Protocol, stage_of_actor, counting_main}
 use Rattle.proof_shape.specs.Beneath.slot_arena.specs.declared.nodes.Prev.TheVariants as over
 use Rattle.proof_shape.specs.Beneath.machine_model.specs.declared.actions.Action.TheVariants as act
 use Rattle.proof_shape.specs.Beneath.machine_model.specs.declared.reading.SwapLine.TheVariants as swap
-use Rattle.proof_shape.specs.Beneath.proof_commits.specs.Laws.{IsInSwap}
-use Rattle.proof_shape.specs.Beneath.proof_commits.specs.Protocol.{Words, CommitsNode, Protocol}
 use Rattle.proof_shape.specs.Beneath.proof_commits.specs.Protocol as Words
 use Rattle.proof_shape.specs.Beneath.proof_commits.proofs.Words.Stood.{over_pending, same_pending, none≢pending}
 use Rattle.proof_shape.specs.Beneath.proof_commits.proofs.Known.Owners.{Owner, HasFresh}
 use Rattle.proof_shape.specs.Beneath.proof_commits.proofs.Known.Sounds.{sound_at}
 use Rattle.proof_shape.specs.Beneath.proof_commits.proofs.Course.Mains.{MainStep, MainStays, MainChanges, main_step}
-use Rattle.proof_shape.specs.Beneath.proof_commits.specs.Stages.{stage_of_actor}
 use Rattle.proof_shape.specs.Beneath.proof_commits.proofs.Known.Given.{ActsOn, Decided, GrownChanges}
 use Rattle.proof_shape.specs.Beneath.proof_commits.proofs.Lines.Swap.{RunsSwap, runs_deciding, in_swap_fresh}
 use Rattle.proof_shape.specs.Beneath.proof_commits.proofs.Words.Along.{protocol}
-use Rattle.proof_shape.specs.Beneath.proof_contents.specs.Runs.{counting_main}
 use Rattle.proof_shape.proofs.Runs.EachAt.{GoesAt}
 use Rattle.proof_shape.proofs.Commits.Deciders.{DecidesNode}
 use Rattle.proof_shape.proofs.Commits.Was.{main_linked, commit_is}

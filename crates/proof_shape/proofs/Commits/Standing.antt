@@ -1,8 +1,8 @@
 -- How a node comes to stand in a word: it was given, or it is one that was made and stood nowhere.
 use Rattle.std.proofs.Common.{◌≡◌, ℕ, suc, ◌<◌, ◌⊎◌, true, inl, inr, sym, ◌∙◌, ap, subst, arith}
 use Rattle.std.proofs.lemmas.Bool.{cases_eq}
-use Rattle.proof_shape.specs.Vocabulary.{Ref, After, ReadLine}
-use Rattle.proof_shape.specs.Beneath.proof_commits.specs.Protocol.{Words, Stage, Builds, ReadTurn, Given, MayName, Moves, Idles, MakesNode, SwapsNode, ReadsOn, DecidesOn, Turn, Acts, Passes, Protocol}
+use Rattle.proof_shape.specs.Vocabulary.{Ref, After, ReadLine, Words, Stage, Builds, ReadTurn, Given, MayName, Idles, SwapsNode, DecidesOn, Protocol}
+use Rattle.proof_shape.specs.Beneath.proof_commits.specs.Protocol.{Moves, MakesNode, ReadsOn, Turn, Acts, Passes}
 use Rattle.proof_shape.specs.Beneath.proof_commits.proofs.Words.Stood.{Stood, Private, AreSound, stood_cases, stands_now}
 use Rattle.proof_shape.specs.Beneath.proof_commits.proofs.Words.Effects.{Brings, comes}
 use Rattle.proof_shape.specs.Beneath.proof_commits.proofs.Known.Owners.{OnLine, Staged, IsSound, read_effect, read_brings}

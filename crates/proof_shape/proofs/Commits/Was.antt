@@ -1,27 +1,42 @@
--- What a READ gave, and what a SWAP was seen to commit, was once the main node.
+-- What a READ gave, and what a SWAP was seen to commit, was once the main node; what a repair's READ gave of an older generation is it for good.
 use Rattle.std.proofs.Common.{◌≡◌, ℕ, suc, ◌<◌, ◌≤◌, true, refl, sym, ◌∙◌, ap, subst, arith}
 use Rattle.std.proofs.lemmas.Bool.{true≢false}
-use Rattle.proof_shape.specs.Vocabulary.{Ref, Node, Indirection, Branch, Single, Tomb, List as Listed, logical, ReadLine, Bounds, State, grown, node_under, prev_word, main_before, IsRun}
+use Rattle.proof_shape.specs.Vocabulary.{Ref, Node, Indirection, Branch, Single, Tomb, List as Listed, logical, ReadLine, Bounds, State, grown, node_under, prev_word, main_before, IsRun, Decides}
+use Rattle.proof_shape.specs.Vocabulary.{Line, Checks, Given, CommitsNode, counts_at, Protocol, later_of, words_of, counting_main}
+use Rattle.proof_shape.specs.Beneath.proof_commits.specs.Laws.{IsNoSwap}
 use Rattle.proof_shape.specs.Beneath.slot_arena.specs.declared.nodes.Prev.TheVariants as over
-use Rattle.proof_shape.specs.Beneath.proof_commits.specs.Protocol.{Decides, Checks, Given, CommitsNode, counts_at, Protocol}
+use Rattle.proof_shape.specs.Beneath.machine_model.specs.declared.lines.Line.TheVariants as line
 use Rattle.proof_shape.specs.Beneath.proof_commits.proofs.Words.Stood.{Stood}
 use Rattle.proof_shape.specs.Beneath.proof_commits.proofs.Known.Owners.{Staged}
 use Rattle.proof_shape.specs.Beneath.proof_commits.proofs.Known.Sounds.{sound_at}
 use Rattle.proof_shape.specs.Beneath.proof_commits.proofs.Course.Finals.{link_stays, pending_stands}
 use Rattle.proof_shape.specs.Beneath.proof_commits.proofs.Course.Swaps.{succeeded}
 use Rattle.proof_shape.specs.Beneath.proof_commits.proofs.Course.Readings.{gives_moment}
-use Rattle.proof_shape.specs.Beneath.proof_commits.specs.Moments.{later_of}
 use Rattle.proof_shape.specs.Beneath.proof_commits.proofs.Words.OfRuns.{link_made}
-use Rattle.proof_shape.specs.Beneath.proof_commits.specs.Words.{words_of}
 use Rattle.proof_shape.specs.Beneath.proof_commits.proofs.Words.Along.{protocol}
-use Rattle.proof_shape.specs.Beneath.proof_contents.specs.Runs.{counting_main}
+use Rattle.proof_shape.specs.Beneath.proof_contents.specs.Lines.Repairs.{ReadsBelow}
 use Rattle.proof_shape.specs.Beneath.proof_contents.proofs.Values.Runs.{counting_main-made}
-use Rattle.proof_shape.specs.Lines.Given.{Was}
+use Rattle.proof_generations.specs.Falling.{WasGiven}
+use Rattle.proof_generations.proofs.Falling.Final.{repairs_are_given}
+use Rattle.proof_shape.specs.Lines.Given.{GaveBelow, Was}
 use Rattle.proof_shape.specs.Beneath.proof_memory.specs.Wants.{is_indirection}
 use Rattle.proof_shape.specs.Beneath.proof_commits.proofs.Known.Acts.{known_run}
 
 pub was_later : (states : ℕ → State) (last t : ℕ) (i m : Ref) → Was states last t i m → Was states last (suc t) i m
 was_later states last t i m (u, le, is) = (u, omega (arith, le), is)
+
+below_no_swap : (l : Line) → ReadsBelow l → IsNoSwap l
+below_no_swap (line.Swap why s) b = absurd b
+below_no_swap (line.Root l) b = tt
+below_no_swap (line.Key l) b = tt
+below_no_swap (line.Build l) b = tt
+below_no_swap (line.Climb l) b = tt
+below_no_swap (line.Copy l) b = tt
+below_no_swap (line.Walk l) b = tt
+below_no_swap (line.End answer) b = tt
+below_no_swap (line.Renew l) b = tt
+below_no_swap (line.Clean l) b = tt
+below_no_swap line.Impossible b = tt
 
 module _ {limits : Bounds} {states : ℕ → State} {last : ℕ} (run : IsRun limits states last) where
   abbrev p : Protocol
@@ -71,3 +86,19 @@ module _ {limits : Bounds} {states : ℕ → State} {last : ℕ} (run : IsRun li
   was_committed t h k i a f stage none =
       let c = succeeded p t h k i a f stage none in
       (suc c.at, c.past, commit_is c.at (omega (arith, c.past)) k i a f c.line c.stage a c.commits)
+
+  -- what a repair's READ gave was given
+  pub given_below : (t actor id start : ℕ) (i m : Ref) → t ≤ last → GaveBelow states run.records last t actor id start i m → WasGiven states last start t i m
+  given_below t actor id start i m within g =
+      let given = repairs_are_given run g.at (omega (arith, g.past, within)) actor g.operation start i m (record {
+        outcome = g.outcome;
+        moves = g.moves;
+        runs = g.runs;
+        no_swap = below_no_swap g.operation.line g.below;
+        read = g.read;
+        reads = g.reads;
+        of = g.of;
+        gives = g.gives;
+        notes = g.notes;
+      }) g.its g.below in
+      ((given.0.0, omega (arith, given.0.1, g.past), given.0.2), given.1)

@@ -1,7 +1,8 @@
 -- What any line makes below the root is full.
 use Rattle.std.proofs.Common.{◌≡◌, ℕ, ◌+◌, ◌≤◌, true, List, length, set, ap, subst, length-set, lt-ltb, leb-true, arith}
 use Rattle.proof_shape.specs.Vocabulary.{Ref, node_at, entries_of, bitmap_of, Operation, ReadLine, SwapLine, CompleteLine, Descriptor, RootLine, Line, State, above, depth_of, flag_in, hash_in}
-use Rattle.proof_shape.specs.Vocabulary.{is_below_root, read_action, action_at, complete_action_at, root_action, old_hash, place_in, line_action}
+use Rattle.proof_shape.specs.Vocabulary.{is_below_root, read_action, action_at, complete_action_at, root_action, old_hash, place_in, line_action, AllHold, line_wants, ABranch, meets, LineLevel}
+use Rattle.proof_shape.specs.Vocabulary.{made_level, Known, KnowsLine}
 use Rattle.proof_shape.specs.Beneath.machine_model.specs.declared.reading.ReadLine.TheVariants as read
 use Rattle.proof_shape.specs.Beneath.machine_model.specs.declared.reading.SwapLine.TheVariants as swap
 use Rattle.proof_shape.specs.Beneath.machine_model.specs.declared.roots.CompleteLine.TheVariants as complete
@@ -14,10 +15,9 @@ use Rattle.proof_shape.specs.Beneath.machine_model.specs.declared.repairs.ClimbL
 use Rattle.proof_shape.specs.Beneath.machine_model.specs.declared.copying.CopyLine.TheVariants as copy
 use Rattle.proof_shape.specs.Beneath.machine_model.specs.declared.walking.WalkLine.TheVariants as walk
 use Rattle.proof_shape.specs.Beneath.machine_model.specs.declared.lines.Line.TheVariants as line
-use Rattle.proof_shape.specs.Beneath.proof_memory.specs.Wants.{AllHold, line_wants, is_indirection, ABranch, meets}
+use Rattle.proof_shape.specs.Beneath.proof_memory.specs.Wants.{is_indirection}
 use Rattle.proof_shape.specs.Beneath.proof_memory.proofs.Claims.Uses.{safe_of, meets_of, all_of}
-use Rattle.proof_shape.specs.Beneath.proof_memory.specs.Levels.{LineLevel, made_level}
-use Rattle.proof_shape.specs.Beneath.proof_contents.specs.Lines.Changes.{Known, KnowsLine}
+use Rattle.proof_shape.specs.Beneath.proof_memory.proofs.Claims.Named.{main_claim, done_claim, left_claim, past_climb}
 use Rattle.proof_shape.specs.Sites.Lines.{Sites, bare, LineSite, DoneSite}
 use Rattle.proof_shape.proofs.Shaped.Places.{entries_alike}
 use Rattle.proof_shape.proofs.Full.Lines.{FullLine}
@@ -83,15 +83,15 @@ module _ (s : Sites) where
     acts_full (line.Build (build.Link path main position under depth)) h e p knows f = tt
     acts_full (line.Build (build.Rung path main position under depth)) h e p (inserts, (beside, single, new, leads, less, alike)) f = λ deep. alone s.node under (ap is_indirection leads.0.2)
     acts_full (line.Build (build.Main path main c former)) h e p knows f =
-        change_full s state.limits.hash first operation.call path main former c (flag_in state operation path) (node_at state.heap main) (same main (safe_of h.1.1.0)) knows
-        (λ position is. subst (λ x. FullLine s (line.Build (build.Main path main x former))) is f) (old_at (depth_of path + 1) main (safe_of h.1.1.0) e.0.1)
+        change_full s state.limits.hash first operation.call path main former c (flag_in state operation path) (node_at state.heap main) (same main (safe_of (main_claim h))) knows
+        (λ position is. subst (λ x. FullLine s (line.Build (build.Main path main x former))) is f) (old_at (depth_of path + 1) main (safe_of (main_claim h)) e.0.1)
     acts_full (line.Swap why w) h e p knows f = swap_full 0 w.indirection w.replaced w.fresh w.line
     acts_full (line.Renew (renew.Entry path main done)) h e p knows f = tt
     acts_full (line.Renew (renew.Read path main done r)) h e p knows f = read_full 0 r.indirection r.line
     acts_full (line.Renew (renew.Link path main done child)) h e p knows f = tt
     acts_full (line.Renew (renew.Branch path main done)) h e p knows f =
-        renewed_full s (depth_of path + 1) (bitmap_of (node_at state.heap main)) main done (old_entries (depth_of path + 1) main (safe_of h.1.1.0) (meets_of h.1.1.0) e.0.1)
-        (all_done path main done (safe_of h.1.1.0) (leb-true _ (length done) (meets_of h.1.1.1.1.0)) p) f
+        renewed_full s (depth_of path + 1) (bitmap_of (node_at state.heap main)) main done (old_entries (depth_of path + 1) main (safe_of (main_claim h)) (meets_of (main_claim h)) e.0.1)
+        (all_done path main done (safe_of (main_claim h)) (leb-true _ (length done) (meets_of (left_claim h))) p) f
     acts_full (line.Clean (clean.Read path r)) h e p knows f = read_full 0 r.indirection r.line
     acts_full (line.Clean (clean.Main path main)) h e p knows f = tt
     acts_full (line.Clean (clean.Entry path main done)) h e p knows f = tt
@@ -99,16 +99,16 @@ module _ (s : Sites) where
     acts_full (line.Clean (clean.Tomb path main done child)) h e p knows f = tt
     acts_full (line.Clean (clean.Contracted path main done)) h e p knows f =
         cleaned_full s state S same (depth_of path + 1) path main done (below path)
-        (λ deep. let some = old_entries (depth_of path + 1) main (safe_of h.1.1.0) (meets_of h.1.1.0) e.0.1 deep in
-        let count = all_done path main done (safe_of h.1.1.0) (leb-true _ (length done) (meets_of h.1.1.1.1.0)) p in omega (arith, some.0, count)) (all_of h.1.1.1.0)
+        (λ deep. let some = old_entries (depth_of path + 1) main (safe_of (main_claim h)) (meets_of (main_claim h)) e.0.1 deep in
+        let count = all_done path main done (safe_of (main_claim h)) (leb-true _ (length done) (meets_of (left_claim h))) p in omega (arith, some.0, count)) (all_of (done_claim h))
     acts_full (line.Climb (climb.Read c r)) h e p knows f = read_full 0 r.indirection r.line
     acts_full (line.Climb (climb.Main c main)) h e p knows f = tt
     acts_full (line.Climb (climb.Contracted c main)) h e p knows f =
         climbed_full s state S same (depth_of (above c.path) + 1) (bitmap_of (node_at state.heap main)) (is_below_root (above c.path))
         (set (entries_of (node_at state.heap main)) (place_in state operation c main) c.single)
         (below (above c.path))
-        (λ deep. let some = old_entries (depth_of (above c.path) + 1) main (safe_of h.1.1.1.0) (meets_of h.1.1.1.0) e.1 deep in
-        let alike = entries_alike (s.node main) (node_at state.heap main) (same main (safe_of h.1.1.1.0)) in
+        (λ deep. let some = old_entries (depth_of (above c.path) + 1) main (safe_of (past_climb h).0) (meets_of (past_climb h).0) e.1 deep in
+        let alike = entries_alike (s.node main) (node_at state.heap main) (same main (safe_of (past_climb h).0)) in
         omega (arith, some.0, ap length alike, length-set (entries_of (node_at state.heap main)) (place_in state operation c main) c.single))
     acts_full (line.Climb (climb.Root c l)) h e p knows f = root_full 0 l
     acts_full (line.Copy (copy.Read q l)) h e p knows f = read_full 1 l.indirection l.line

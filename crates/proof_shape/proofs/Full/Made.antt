@@ -4,12 +4,13 @@ use Rattle.std.proofs.lemmas.Bool.{false≢true, cond_both}
 use Rattle.std.proofs.lemmas.List.Elements.{All-head}
 use Rattle.arrayvec.specs.ArrayVec.{ArrayVec}
 use Rattle.proof_shape.specs.Vocabulary.{HashKind, Call, Ref, Node, Indirection, Branch, Single, Tomb, List as Listed, node_at, entries_of, bitmap_of, no_ref, list_depth, index_in, pair, contracted}
-use Rattle.proof_shape.specs.Vocabulary.{renewed, Action, Change, key_of, State, depth_of, is_below_root, changed, is_single, leaves_single, cleaned}
+use Rattle.proof_shape.specs.Vocabulary.{renewed, Action, Change, key_of, State, depth_of, is_below_root, changed, is_single, leaves_single, cleaned, ABranch, AnEntry, meets, Presence, in_list}
+use Rattle.proof_shape.specs.Vocabulary.{KnowsChange}
 use Rattle.proof_shape.specs.Beneath.machine_model.specs.declared.actions.Action.TheVariants as act
 use Rattle.proof_shape.specs.Beneath.machine_model.specs.declared.building.Change.TheVariants as change
-use Rattle.proof_shape.specs.Beneath.proof_memory.specs.Wants.{ABranch, AnEntry, meets, is_indirection}
+use Rattle.proof_shape.specs.Beneath.proof_memory.specs.Wants.{is_indirection}
 use Rattle.proof_shape.specs.Beneath.proof_memory.proofs.Claims.Uses.{Meets}
-use Rattle.proof_shape.specs.Beneath.proof_contents.specs.Lines.Changes.{Presence, in_branch, in_list, KnowsChange}
+use Rattle.proof_shape.specs.Beneath.proof_contents.specs.Lines.Changes.{in_branch}
 use Rattle.proof_shape.specs.Sites.Lines.{Sites, bare}
 use Rattle.proof_shape.proofs.Shaped.Places.{bare_branch, bare_link}
 use Rattle.proof_shape.proofs.Full.Lines.{SparesLink, KeepsLinks}

@@ -1,26 +1,24 @@
 -- At each time no branch below the root is empty or has one single alone.
-use Rattle.std.proofs.Common.{◌≡◌, ℕ, zero, suc, ◌-◌, ◌<◌, ◌≤◌, true, Option, Some, None, refl, sym, ap, subst, ◌∙◌, arith}
+use Rattle.std.proofs.Common.{◌≡◌, ℕ, zero, suc, ◌<◌, ◌≤◌, true, Option, Some, None, refl, sym, ap, subst, ◌∙◌, arith}
 use Rattle.std.proofs.lemmas.Option.{none-some, same_Some}
 use Rattle.proof_shape.specs.Vocabulary.{hash_of, Ref, Node, Indirection, Branch, Single, Tomb, List as Listed, Slot, node_at, next_ref, with_main_word, Action, Operation, Line, Bounds, Step}
 use Rattle.proof_shape.specs.Vocabulary.{handle_of, key_of, State, first_state, operation_of, start_of, read_step, action_of, line_action, line_after, IsRun, grown, standing, or_before}
+use Rattle.proof_shape.specs.Vocabulary.{AllHold, line_wants, IsInUse, made_node, made_level, KnowsLine}
 use Rattle.proof_shape.specs.Beneath.machine_model.specs.declared.actions.Action.TheVariants as act
 use Rattle.proof_shape.specs.Beneath.machine_model.specs.declared.finding.KeyLine.TheVariants as key
 use Rattle.proof_shape.specs.Beneath.machine_model.specs.declared.repairs.RenewLine.TheVariants as renew
 use Rattle.proof_shape.specs.Beneath.machine_model.specs.declared.lines.Line.TheVariants as line
-use Rattle.proof_shape.specs.Beneath.proof_memory.specs.Wants.{AnEntry, AllHold, line_wants, is_indirection}
-use Rattle.proof_shape.specs.Beneath.proof_memory.specs.Laws.{IsInUse}
+use Rattle.proof_shape.specs.Beneath.proof_memory.specs.Wants.{is_indirection}
 use Rattle.proof_shape.specs.Beneath.proof_memory.proofs.Claims.Uses.{safe_of}
-use Rattle.proof_shape.specs.Beneath.proof_memory.proofs.Claims.Nodes.{branch_entries, at_position}
-use Rattle.proof_shape.specs.Beneath.proof_memory.specs.Making.{made_node}
+use Rattle.proof_shape.specs.Beneath.proof_memory.proofs.Claims.Nodes.{entry_met}
+use Rattle.proof_shape.specs.Beneath.proof_memory.proofs.Claims.Named.{main_claim, past_place}
 use Rattle.proof_shape.specs.Beneath.proof_memory.proofs.Heap.Under.{fresh_slot, taken_all}
 use Rattle.proof_shape.specs.Beneath.proof_memory.proofs.Safety.Steps.{made_heap}
 use Rattle.proof_shape.specs.Beneath.proof_memory.proofs.Safety.AtEachTime.{safe_at}
 use Rattle.proof_shape.specs.Beneath.proof_memory.proofs.Safety.AtTimes.{line_at, limits_at}
 use Rattle.proof_shape.specs.Beneath.proof_memory.proofs.Safety.First.{first_stands}
 use Rattle.proof_shape.specs.Beneath.proof_memory.proofs.Heap.Moves.{grown_stays}
-use Rattle.proof_shape.specs.Beneath.proof_memory.specs.Levels.{made_level}
 use Rattle.proof_shape.specs.Beneath.proof_memory.proofs.Levels.States.{heaped_in_use}
-use Rattle.proof_shape.specs.Beneath.proof_contents.specs.Lines.Changes.{KnowsLine}
 use Rattle.proof_shape.specs.Lines.Knowing.{OfEachAt, first_main}
 use Rattle.proof_shape.proofs.Lines.Knows.{knows_at}
 use Rattle.proof_shape.proofs.Runs.EachAt.{GoesAt, each_at}
@@ -68,17 +66,16 @@ module _ {limits : Bounds} {states : ℕ → State} (steps : ℕ → Step) {last
       action_of (states t) operation ≡ line_action (states t) operation l → Wants t operation l →
       FullLine s l → FullLine s (line_after (states t) operation l)
   line_next t h actor operation go (line.Key (key.Entry path main position)) a w f =
-      entry_full s (states t) operation (S t) (same t (omega arith)) path main position _ (key_edge (states t) operation (key.Entry path main position)) (safe_of w.1.1.0)
+      entry_full s (states t) operation (S t) (same t (omega arith)) path main position _ (key_edge (states t) operation (key.Entry path main position)) (safe_of (main_claim w))
   line_next t h actor operation go (line.Key (key.Listed path main position)) a w f =
-      listed_full s (states t) operation (S t) (same t (omega arith)) path main position _ (key_edge (states t) operation (key.Listed path main position)) (safe_of w.1.1.0)
+      listed_full s (states t) operation (S t) (same t (omega arith)) path main position _ (key_edge (states t) operation (key.Listed path main position)) (safe_of (main_claim w))
   line_next t h actor operation go (line.Key (key.Sibling path main position former)) a w f =
-      sibling_full s (states t) operation (S t) (same t (omega arith)) path main position former _ (key_edge (states t) operation (key.Sibling path main position former)) (safe_of w.1.1.0)
-      (at_position (S t) (states t).heap AnEntry (1 - position) (branch_entries (S t) (states t).heap
-      (heaped_in_use (states t) (safe_at run t (omega arith))) w.1.1.0) w.1.1.1.0).0
+      sibling_full s (states t) operation (S t) (same t (omega arith)) path main position former _ (key_edge (states t) operation (key.Sibling path main position former)) (safe_of (main_claim w))
+      (entry_met (S t) (states t).heap (heaped_in_use (states t) (safe_at run t (omega arith))) (main_claim w) (past_place w).0).0
   line_next t h actor operation go (line.Key (key.Read path r)) a w f = free_full s _ (key_read_leads (states t) operation path r).2
   line_next t h actor operation go (line.Key (key.Main path main)) a w f = free_full s _ (key_main_leads (states t) operation path main (node_at (states t).heap main)).2
   line_next t h actor operation go (line.Renew (renew.Entry path main done)) a w f =
-      renew_entry_full s (states t) operation (S t) (same t (omega arith)) path main done _ (renew_edge (states t) operation (renew.Entry path main done)) (safe_of w.1.1.0) f
+      renew_entry_full s (states t) operation (S t) (same t (omega arith)) path main done _ (renew_edge (states t) operation (renew.Entry path main done)) (safe_of (main_claim w)) f
   line_next t h actor operation go (line.Renew (renew.Read path main done r)) a w f =
       renew_read_full s (states t) operation (S t) (same t (omega arith)) path main done (read_step (states t) operation r) f
   line_next t h actor operation go (line.Renew (renew.Link path main done child)) a w f =

@@ -3,15 +3,12 @@ use Rattle.std.proofs.Common.{◌≡◌, ℕ, suc, ◌<◌, ◌≤◌, ◌⊎◌
 use Rattle.std.proofs.lemmas.Bool.{cases_eq, true≢false}
 use Rattle.std.proofs.lemmas.Option.{same_Some}
 use Rattle.proof_shape.specs.Vocabulary.{Ref, Node, Indirection, Heap, node_of, entries_of, main_of, next_ref, Operation, Bounds, State, start_of, action_of, line_after, operation_after, node_under}
-use Rattle.proof_shape.specs.Vocabulary.{IsRun}
+use Rattle.proof_shape.specs.Vocabulary.{IsRun, LineLevel, Protocol, is_made}
 use Rattle.proof_shape.specs.Beneath.machine_model.specs.declared.actions.Action.TheVariants as act
-use Rattle.proof_shape.specs.Beneath.proof_memory.specs.Levels.{LineLevel}
 use Rattle.proof_shape.specs.Beneath.proof_memory.proofs.Safety.Steps.{of_actor}
-use Rattle.proof_shape.specs.Beneath.proof_commits.specs.Protocol.{Protocol}
 use Rattle.proof_shape.specs.Beneath.proof_commits.proofs.Words.Stood.{Stood, Private, stood_cases, stands_now}
 use Rattle.proof_shape.specs.Beneath.proof_commits.proofs.Known.Given.{GrownTakes}
 use Rattle.proof_shape.specs.Beneath.proof_commits.proofs.Words.Along.{protocol}
-use Rattle.proof_shape.specs.Beneath.proof_contents.specs.Runs.{is_made}
 use Rattle.proof_shape.specs.Beneath.proof_contents.proofs.Values.Runs.{made_next}
 use Rattle.proof_shape.proofs.Runs.EachAt.{GoesAt}
 use Rattle.proof_shape.proofs.Runs.Nodes.{takes, made_link}

@@ -1,25 +1,22 @@
 -- What a step of BUILD makes of the indirections that its line holds: the chain beside another key's single grows.
 use Rattle.std.proofs.Common.{◌≡◌, ℕ, suc, ◌+◌, ◌-◌, ◌<◌, ◌==◌, Bool, true, false, cond, List, Contains, Option, Some, None, refl, sym, ◌∙◌, ap, ap₂, subst, arith}
 use Rattle.proof_shape.specs.Vocabulary.{Ref, Node, Indirection, Heap, node_at, entry_at, entries_of, next_ref, hash_of, flag_of, rung, BuildLine, Change, Line, Operation, Bounds, State, key_of}
-use Rattle.proof_shape.specs.Vocabulary.{depth_of, start_of, flag_in, hash_in, changed, old_hash, build_after, build_if_made, line_action, action_of, line_after, node_under, IsRun}
+use Rattle.proof_shape.specs.Vocabulary.{depth_of, start_of, flag_in, hash_in, changed, old_hash, build_after, build_if_made, line_action, action_of, line_after, node_under, IsRun, BranchOrList}
+use Rattle.proof_shape.specs.Vocabulary.{LineLevel, Protocol, stage_of, stage_of_actor, Known, KnowsLine, KnowsBuild, LeadsBelow, by_pair, by_link, Neighbour}
 use Rattle.proof_shape.specs.Beneath.proof_memory.proofs.Safety.AtTimes.{limits_at}
 use Rattle.proof_shape.specs.Beneath.machine_model.specs.declared.actions.Action.TheVariants as act
 use Rattle.proof_shape.specs.Beneath.machine_model.specs.declared.building.BuildLine.TheVariants as build
 use Rattle.proof_shape.specs.Beneath.machine_model.specs.declared.building.Change.TheVariants as change
 use Rattle.proof_shape.specs.Beneath.machine_model.specs.declared.building.Site.TheVariants as site
 use Rattle.proof_shape.specs.Beneath.machine_model.specs.declared.lines.Line.TheVariants as line
-use Rattle.proof_shape.specs.Beneath.proof_memory.specs.Wants.{BranchOrList}
 use Rattle.proof_shape.specs.Beneath.proof_memory.proofs.Claims.Uses.{meets_of}
-use Rattle.proof_shape.specs.Beneath.proof_memory.specs.Levels.{LineLevel}
-use Rattle.proof_shape.specs.Beneath.proof_commits.specs.Protocol.{Protocol}
 use Rattle.proof_shape.specs.Beneath.proof_commits.proofs.Words.Stood.{Private}
 use Rattle.proof_shape.specs.Beneath.proof_commits.proofs.Known.Owners.{Staged}
 use Rattle.proof_shape.specs.Beneath.proof_commits.proofs.Known.Sounds.{sound_at}
-use Rattle.proof_shape.specs.Beneath.proof_commits.specs.Stages.{stage_of, stage_of_actor}
 use Rattle.proof_shape.specs.Beneath.proof_commits.proofs.Words.Along.{protocol}
-use Rattle.proof_shape.specs.Beneath.proof_contents.specs.Lines.Changes.{Known, KnowsLine, KnowsBuild, LeadsBelow, by_pair, by_link, Neighbour}
 use Rattle.proof_shape.specs.Beneath.proof_contents.specs.Lines.Changes as Knowing
 use Rattle.proof_shape.specs.Beneath.proof_memory.proofs.Claims.Nodes.{main_no_link, both_main}
+use Rattle.proof_shape.specs.Beneath.proof_memory.proofs.Claims.Named.{main_claim}
 use Rattle.proof_shape.specs.Beneath.proof_memory.proofs.Lines.Next.{pair_no_link, changed_main}
 use Rattle.proof_shape.specs.Lines.Knowing.{known_with, first_main}
 use Rattle.proof_shape.proofs.Runs.EachAt.{GoesAt}
@@ -140,7 +137,7 @@ module _ {limits : Bounds} {states : ℕ → State} {last : ℕ} (run : IsRun li
 
         made_is : node_under states last made ≡ changed (Knowing.flag_in K (depth_of path) (key_of operation.call)) (node_under states last main) c
         made_is =
-            let claim = (claims run t h actor operation go _ e).1.1.0 in
+            let claim = main_claim (claims run t h actor operation go _ e) in
             made_node run t h actor operation go n (acts _ e) made next
             (main_no_link n (changed_main (flag_in (states t) operation path) (node_at heap main) c (meets_of claim)))
             ∙ ap₂ (λ (x : Bounds) (m : Node). changed (flag_of (hash_of x.hash (key_of operation.call)) (depth_of path)) m c) (limits_at run t (omega arith))

@@ -2,17 +2,15 @@
 use Rattle.std.proofs.Common.{◌≡◌, ℕ, zero, suc, ◌-◌, ◌<◌, ◌≤◌, cond, List, slice_index_or, Contains, Option, None, inl, inr, refl, sym, ◌∙◌, ap, subst, arith, eq-eqb}
 use Rattle.arrayvec.specs.ArrayVec.{ArrayVec}
 use Rattle.proof_shape.specs.Vocabulary.{HashKind, Call, Ref, Node, Indirection, entries_of, generation_of, no_ref, Change, Purpose, Bounds, key_of, State, depth_of, changed, node_under, IsRun}
-use Rattle.proof_shape.specs.Beneath.proof_contents.specs.Nodes.Chains.{LeadsToPair, at_pair, by_rung}
+use Rattle.proof_shape.specs.Vocabulary.{LeadsToPair, at_pair, by_rung, Known, IsFlagged, Absence, no_flag, not_listed, Presence, in_list, Neighbour, IsOther, of_branch, of_list, KnowsChange}
+use Rattle.proof_shape.specs.Vocabulary.{KnowsSwap, IsDone, keeps, renews, cleans, IsRepaired, counting_main}
 use Rattle.proof_shape.specs.Beneath.machine_model.specs.declared.building.Change.TheVariants as change
 use Rattle.proof_shape.specs.Beneath.machine_model.specs.declared.lines.Line.TheVariants as line
 use Rattle.proof_shape.specs.Beneath.machine_model.specs.declared.lines.Purpose.TheVariants as purpose
 use Rattle.proof_shape.specs.Beneath.machine_model.specs.declared.reading.SwapLine.TheVariants as swap
 use Rattle.proof_shape.specs.Beneath.proof_commits.proofs.Words.Stood.{none≢pending}
 use Rattle.proof_shape.specs.Beneath.proof_commits.proofs.Course.Finals.{from_time}
-use Rattle.proof_shape.specs.Beneath.proof_contents.specs.Lines.Changes.{Known, flag_in, IsFlagged, Absence, no_flag, not_listed, Presence, in_branch, in_list, Neighbour, IsOther}
-use Rattle.proof_shape.specs.Beneath.proof_contents.specs.Lines.Changes.{of_branch, of_list, KnowsChange, KnowsSwap}
-use Rattle.proof_shape.specs.Beneath.proof_contents.specs.Lines.Repairs.{IsDone, keeps, renews, cleans, IsRepaired}
-use Rattle.proof_shape.specs.Beneath.proof_contents.specs.Runs.{counting_main}
+use Rattle.proof_shape.specs.Beneath.proof_contents.specs.Lines.Changes.{flag_in, in_branch}
 use Rattle.proof_shape.specs.Lines.Given.{GaveBelow, Was}
 use Rattle.proof_shape.specs.Lines.Climbing.{KnowsClimbing}
 use Rattle.proof_shape.specs.Lines.Knowing.{known_with, first_main}

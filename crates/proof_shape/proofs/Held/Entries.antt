@@ -7,13 +7,10 @@ use Rattle.std.proofs.Math.Seq.{get_or-append_seam}
 use lib.Pointwise.{pointwise}
 use Rattle.arrayvec.specs.ArrayVec.{ArrayVec}
 use Rattle.proof_shape.specs.Vocabulary.{Ref, Node, Indirection, Branch, Single, Heap, node_at, entries_of, next_ref, no_ref, contracted, Line, Operation, Bounds, State, new_try, next_entry}
-use Rattle.proof_shape.specs.Vocabulary.{renew_next, clean_next, line_action, action_of, node_under, IsRun}
+use Rattle.proof_shape.specs.Vocabulary.{renew_next, clean_next, line_action, action_of, node_under, IsRun, IsInUse, ABranch, Holds, Is, IsDone, keeps, renews, cleans, AllDone, KnowsRepair}
 use Rattle.proof_shape.specs.Beneath.machine_model.specs.declared.actions.Action.TheVariants as act
 use Rattle.proof_shape.specs.Beneath.machine_model.specs.declared.lines.Line.TheVariants as line
 use Rattle.proof_shape.specs.Beneath.machine_model.specs.declared.repairs.CleanLine.TheVariants as clean
-use Rattle.proof_shape.specs.Beneath.proof_memory.specs.Laws.{IsInUse}
-use Rattle.proof_shape.specs.Beneath.proof_memory.specs.Wants.{ABranch, Holds, Is}
-use Rattle.proof_shape.specs.Beneath.proof_contents.specs.Lines.Repairs.{IsDone, keeps, renews, cleans, AllDone, KnowsRepair}
 use Rattle.proof_shape.specs.Beneath.proof_memory.proofs.Claims.Nodes.{branch_main}
 use Rattle.proof_shape.specs.Lines.Given.{GaveBelow}
 use Rattle.proof_shape.specs.Lines.Knowing.{first_main}

@@ -2,16 +2,12 @@
 use Rattle.std.proofs.Common.{◌≡◌, ℕ, suc, ◌<◌, ◌≤◌, ◌⊎◌, Bool, true, false, Contains, Option, Some, None, is_some, inl, inr, refl, sym, ◌∙◌, ap, subst, arith}
 use Rattle.std.proofs.lemmas.Bool.{true≢false}
 use Rattle.proof_shape.specs.Vocabulary.{Ref, Indirection, entries_of, no_ref, rung, Root, RootWord, Plain, Offer, Bounds, State, root_at, word_at, word_of, root_of, grown, node_under, prev_word}
-use Rattle.proof_shape.specs.Vocabulary.{IsRun}
+use Rattle.proof_shape.specs.Vocabulary.{IsRun, WordLevel, Words, Given, Protocol, words_of, is_made}
 use Rattle.proof_shape.specs.Beneath.slot_arena.specs.declared.nodes.Prev.TheVariants as over
-use Rattle.proof_shape.specs.Beneath.proof_memory.specs.Levels.{WordLevel}
-use Rattle.proof_shape.specs.Beneath.proof_commits.specs.Protocol.{Words, Given, Protocol}
 use Rattle.proof_shape.specs.Beneath.proof_commits.proofs.Words.Stood.{Stood, stood_later}
 use Rattle.proof_shape.specs.Beneath.proof_commits.proofs.Known.Sounds.{sound_at}
 use Rattle.proof_shape.specs.Beneath.proof_commits.proofs.Course.Finals.{from_time, none_final}
-use Rattle.proof_shape.specs.Beneath.proof_commits.specs.Words.{words_of}
 use Rattle.proof_shape.specs.Beneath.proof_commits.proofs.Words.Along.{protocol}
-use Rattle.proof_shape.specs.Beneath.proof_contents.specs.Runs.{is_made}
 use Rattle.proof_shape.specs.Beneath.proof_contents.proofs.Values.Runs.{made_next}
 use Rattle.proof_shape.specs.Beneath.proof_memory.proofs.Heap.NoRef.{nothing_stands}
 use Rattle.proof_shape.specs.Lines.Knowing.{first_main}

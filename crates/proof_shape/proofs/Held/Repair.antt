@@ -6,13 +6,13 @@ use Rattle.proof_shape.specs.Vocabulary.{Ref, Node, Indirection, Branch, Single,
 use Rattle.proof_shape.specs.Vocabulary.{Line, Operation, After, Gives, Read, CleanLine, Bounds, State, is_below_root, depth_of, is_start, start_of, read_step, reading, next_entry, renew_next}
 use Rattle.proof_shape.specs.Vocabulary.{branch_of, renew_after, renew_after_entry, renew_after_read, renew_after_link, renew_after_branch, cleaned, leaves_single, clean_after, clean_next}
 use Rattle.proof_shape.specs.Vocabulary.{clean_after_read, clean_after_main, clean_after_entry, after_child, clean_after_tomb, clean_after_contracted, line_action, action_of, line_after, node_under}
-use Rattle.proof_shape.specs.Vocabulary.{IsRun, RenewLine, operation_after, Slot}
+use Rattle.proof_shape.specs.Vocabulary.{IsRun, RenewLine, operation_after, Slot, IsInUse, ASingle, meets, AllHold, node_wants, AnEntry, Holds, Each, line_wants, LineLevel, DoneLevel, EntryLevel}
+use Rattle.proof_shape.specs.Vocabulary.{KindLevel}
 use Rattle.proof_shape.specs.Beneath.machine_model.specs.declared.lines.Line.TheVariants as line
 use Rattle.proof_shape.specs.Beneath.machine_model.specs.declared.reading.After.TheVariants.{Goes}
 use Rattle.proof_shape.specs.Beneath.machine_model.specs.declared.repairs.CleanLine.TheVariants as clean
-use Rattle.proof_shape.specs.Beneath.proof_memory.specs.Laws.{IsInUse}
-use Rattle.proof_shape.specs.Beneath.proof_memory.specs.Wants.{ASingle, meets, AllHold, node_wants, AnEntry, Holds, Each, line_wants}
 use Rattle.proof_shape.specs.Beneath.proof_memory.proofs.Claims.Uses.{safe_of, meets_of, all_of}
+use Rattle.proof_shape.specs.Beneath.proof_memory.proofs.Claims.Named.{main_claim, done_claim, past_done}
 use Rattle.proof_shape.specs.Beneath.proof_memory.proofs.Levels.States.{heaped_in_use}
 use Rattle.proof_shape.specs.Beneath.proof_memory.proofs.Safety.AtEachTime.{safe_at}
 use Rattle.proof_shape.specs.Beneath.proof_memory.proofs.Lines.Next.{contracted_no_link}
@@ -28,7 +28,6 @@ use Rattle.proof_shape.proofs.Held.Entries.{AreCome, none_came, one_more, with_n
 use Rattle.std.proofs.Math.Seq.{get_or-append_seam}
 use Rattle.proof_shape.specs.Beneath.machine_model.specs.declared.actions.Action.TheVariants as act
 use Rattle.proof_shape.specs.Beneath.machine_model.specs.declared.repairs.RenewLine.TheVariants as renew
-use Rattle.proof_shape.specs.Beneath.proof_memory.specs.Levels.{LineLevel, DoneLevel, EntryLevel, KindLevel}
 use Rattle.proof_shape.proofs.Runs.Began.{RunsAfter, runs_after}
 use Rattle.proof_shape.specs.Beneath.proof_memory.proofs.Safety.AtTimes.{line_at}
 use Rattle.std.proofs.lemmas.Option.{same_Some}
@@ -74,7 +73,7 @@ module _ {limits : Bounds} {states : ℕ → State} {last : ℕ} (run : IsRun li
       HeldIn run (suc t) actor operation.id start operation.call (renew_after (states t) operation l)
   renew_holds (renew.Entry path main done) e x =
       renew_entry_holds path main done
-      (branch_there run t h actor operation go takes_it new start begun main (claims run t h actor operation go _ e).1.1.0)
+      (branch_there run t h actor operation go takes_it new start begun main (main_claim (claims run t h actor operation go _ e)))
       (quiet_all run t h actor operation go takes_it new start begun _ e refl main done x) (node_at heap (next_entry (states t) main done))
   renew_holds (renew.Read path main done r) e x =
       renew_read_holds path main done
@@ -112,8 +111,8 @@ module _ {limits : Bounds} {states : ℕ → State} {last : ℕ} (run : IsRun li
               (line_wants limits.hash own.operation.call own.operation.access
               (cond b (line.Renew (renew.Entry path main (done ++ made ∷ []))) (line.Renew (renew.Branch path main (done ++ made ∷ []))))) →
               Holds (IsInUse (states (suc t)).heap) (states (suc t)).heap (Each (done ++ made ∷ []) AnEntry)
-          wants true c = c.1.1.1.0
-          wants false c = c.1.1.1.0
+          wants true c = done_claim c
+          wants false c = done_claim c
 
           used : IsInUse (states (suc t)).heap made
           used =
@@ -152,7 +151,7 @@ module _ {limits : Bounds} {states : ℕ → State} {last : ℕ} (run : IsRun li
       by_made : (o : Option Ref) → next_ref heap ≡ o → Next (renew_after_branch path main o)
       by_made None next = tt
       by_made (Some made) next =
-          let claim = (claims run t h actor operation go _ e).1.1.0 in
+          let claim = main_claim (claims run t h actor operation go _ e) in
           let a = ap (line_action (states t) operation) e in
           fresh_repair run t h actor operation go takes_it new start begun main made done _ a next x false
           (λ bitmap entries is. made_node run t h actor operation go (branch_of (states t) main done) a made next (renewed_no_link (bitmap_of (node_at heap main)) done)
@@ -223,21 +222,21 @@ module _ {limits : Bounds} {states : ℕ → State} {last : ℕ} (run : IsRun li
   clean_holds (clean.Main path main) e x = clean_main_holds path main (node_at heap main)
   clean_holds (clean.Entry path main done) e x =
       clean_entry_holds path main done
-      (branch_there run t h actor operation go takes_it new start begun main (claims run t h actor operation go _ e).1.1.0)
+      (branch_there run t h actor operation go takes_it new start begun main (main_claim (claims run t h actor operation go _ e)))
       (quiet_all run t h actor operation go takes_it new start begun _ e refl main done x) (node_at heap (next_entry (states t) main done))
   clean_holds (clean.Child path main done r) e x =
       child_holds path main done (quiet_all run t h actor operation go takes_it new start begun _ e (read_quiet r.indirection r.line) main done x)
       (read_step (states t) operation r)
   clean_holds (clean.Tomb path main done child) e x =
       let all = claims run t h actor operation go _ e in
-      clean_tomb_holds path main done child (branch_there run t h actor operation go takes_it new start begun main all.1.1.0)
-      (safe_of all.1.1.1.1.1.0) (quiet_all run t h actor operation go takes_it new start begun _ e refl main done x) (node_at heap child) refl
+      clean_tomb_holds path main done child (branch_there run t h actor operation go takes_it new start begun main (main_claim all))
+      (safe_of (past_done all).0) (quiet_all run t h actor operation go takes_it new start begun _ e refl main done x) (node_at heap child) refl
   clean_holds (clean.Contracted path main done) e x = by_made (next_ref heap) refl
     where
       by_made : (o : Option Ref) → next_ref heap ≡ o → Next (clean_after_contracted path main o)
       by_made None next = tt
       by_made (Some made) next =
-          let claim = (claims run t h actor operation go _ e).1.1.0 in
+          let claim = main_claim (claims run t h actor operation go _ e) in
           let a = ap (line_action (states t) operation) e in
           let b = is_below_root path && leaves_single (states t) done in
           fresh_repair run t h actor operation go takes_it new start begun main made done _ a next x b

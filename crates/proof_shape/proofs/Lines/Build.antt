@@ -4,26 +4,22 @@ use Rattle.std.specs.Prelude.{All}
 use Rattle.std.proofs.lemmas.List.{get_or_past}
 use Rattle.proof_shape.specs.Vocabulary.{Ref, Node, Indirection, Single, Heap, node_at, node_of, entry_at, entries_of, next_ref, no_ref, list_depth, rung, BuildLine, Operation, Bounds, State}
 use Rattle.proof_shape.specs.Vocabulary.{key_of, value_of, depth_of, flag_in, hash_in, start_of, changed, old_hash, build_action, build_after, build_if_made, build_after_made, action_of}
-use Rattle.proof_shape.specs.Vocabulary.{line_action, grown, node_under, prev_word, IsRun}
+use Rattle.proof_shape.specs.Vocabulary.{line_action, grown, node_under, prev_word, IsRun, IsInUse, ABranch, BranchOrList, AnEntry, Holds, Is, LineLevel, Builds, stage_of, stage_of_actor, Known}
+use Rattle.proof_shape.specs.Vocabulary.{KnowsBuild, KnowsLine, main_of_build, build_path}
 use Rattle.proof_shape.specs.Beneath.slot_arena.specs.declared.nodes.Prev.TheVariants as over
 use Rattle.proof_shape.specs.Beneath.machine_model.specs.declared.actions.Action.TheVariants as act
 use Rattle.proof_shape.specs.Beneath.machine_model.specs.declared.building.BuildLine.TheVariants as build
 use Rattle.proof_shape.specs.Beneath.machine_model.specs.declared.building.Site.TheVariants as site
 use Rattle.proof_shape.specs.Beneath.machine_model.specs.declared.lines.Line.TheVariants as line
-use Rattle.proof_shape.specs.Beneath.proof_memory.specs.Laws.{IsInUse}
-use Rattle.proof_shape.specs.Beneath.proof_memory.specs.Wants.{ABranch, BranchOrList, AnEntry, Holds, Is}
 use Rattle.proof_shape.specs.Beneath.proof_memory.proofs.Claims.Uses.{Meets, safe_of, meets_of}
 use Rattle.proof_shape.specs.Beneath.proof_memory.proofs.Claims.Nodes.{all_in, IsNoLink, main_no_link, branch_main, both_main}
+use Rattle.proof_shape.specs.Beneath.proof_memory.proofs.Claims.Named.{main_claim, past_place}
 use Rattle.proof_shape.specs.Beneath.proof_memory.proofs.Safety.Steps.{of_actor}
 use Rattle.proof_shape.specs.Beneath.proof_memory.proofs.Levels.States.{heaped_in_use}
 use Rattle.proof_shape.specs.Beneath.proof_memory.proofs.Safety.AtEachTime.{safe_at}
-use Rattle.proof_shape.specs.Beneath.proof_memory.specs.Levels.{LineLevel}
-use Rattle.proof_shape.specs.Beneath.proof_commits.specs.Protocol.{Builds}
 use Rattle.proof_shape.specs.Beneath.proof_commits.proofs.Known.Owners.{Staged}
 use Rattle.proof_shape.specs.Beneath.proof_commits.proofs.Known.Sounds.{sound_at}
-use Rattle.proof_shape.specs.Beneath.proof_commits.specs.Stages.{stage_of, stage_of_actor}
 use Rattle.proof_shape.specs.Beneath.proof_commits.proofs.Words.Along.{protocol}
-use Rattle.proof_shape.specs.Beneath.proof_contents.specs.Lines.Changes.{Known, KnowsBuild, KnowsLine, main_of_build, build_path}
 use Rattle.proof_shape.specs.Beneath.proof_contents.proofs.Lines.Key.Knows.{known, Sees}
 use Rattle.proof_shape.specs.Beneath.proof_contents.proofs.Lines.Build.{IsMade, a_link, another, made_by, build_knows}
 use Rattle.proof_shape.specs.Beneath.proof_memory.proofs.Lines.Next.{pair_no_link, changed_main}
@@ -125,17 +121,17 @@ module _ {limits : Bounds} {states : ℕ → State} {last : ℕ} (run : IsRun li
     made_step (build.Single path main site.Absent former) e (ins, absence) = (ins, absence, new_single _ e refl)
     made_step (build.Single path main (site.At position) former) e (value, had, sets, presence) = inl (value, had, sets, presence, new_single _ e refl)
     made_step (build.Single path main (site.Beside position) former) e knows =
-        let claim = (claims run t h actor operation go _ e).1.1.1.0 in
+        let claim = (past_place (claims run t h actor operation go _ e)).0 in
         over_branch (build.Single path main (site.Beside position) former) e main path claim
         (branch_shallow (states t) sites path main (level_at _ e) (safe_of claim) (meets_of claim))
         (is_another _ (acts _ e) (λ g w bad. let wrong : Single (key_of operation.call) (value_of operation.call) ≡ Indirection g w = bad in cc)) refl refl knows
     made_step (build.Pair path main position single depth) e knows =
-        let claim = (claims run t h actor operation go _ e).1.1.0 in
+        let claim = main_claim (claims run t h actor operation go _ e) in
         over_branch (build.Pair path main position single depth) e main path claim
         (branch_shallow (states t) sites path main (level_at _ e).0 (safe_of claim) (meets_of claim))
         (is_another _ (acts _ e) (pair_no_link (states t).limits.hash depth (old_hash (states t) main position) (hash_in (states t) operation) (entry_at heap main position) single)) refl refl knows
     made_step (build.Link path main position below depth) e knows =
-        let claim = (claims run t h actor operation go _ e).1.1.0 in
+        let claim = main_claim (claims run t h actor operation go _ e) in
         let link = made_link run t h actor operation go _ (acts _ e) made next (start_of operation) below refl in
         over_branch (build.Link path main position below depth) e main path claim
         (branch_shallow (states t) sites path main (level_at _ e).0 (safe_of claim) (meets_of claim))
@@ -143,12 +139,12 @@ module _ {limits : Bounds} {states : ℕ → State} {last : ℕ} (run : IsRun li
         (first_is run t h actor operation go _ (acts _ e) made next (start_of operation) below refl
         (prev_still run t h actor operation go _ (acts _ e) made next below (held_none path main position below depth e)))) refl refl knows
     made_step (build.Rung path main position below depth) e knows =
-        let claim = (claims run t h actor operation go _ e).1.1.0 in
+        let claim = main_claim (claims run t h actor operation go _ e) in
         over_branch (build.Rung path main position below depth) e main path claim
         (branch_shallow (states t) sites path main (level_at _ e).0 (safe_of claim) (meets_of claim))
         (is_another _ (acts _ e) (λ g w bad. let wrong : rung (hash_in (states t) operation) depth below ≡ Indirection g w = bad in cc)) refl refl knows
     made_step (build.Main path main c former) e knows =
-        let claim = (claims run t h actor operation go _ e).1.1.0 in
+        let claim = main_claim (claims run t h actor operation go _ e) in
         let there = (sees run t (omega arith) operation main BranchOrList both_main claim).main_is in
         let n = changed (flag_in (states t) operation path) (node_at heap main) c in (
           c,

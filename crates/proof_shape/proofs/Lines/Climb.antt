@@ -6,19 +6,16 @@ use Rattle.std.proofs.lemmas.List.{get_or_past}
 use Rattle.proof_shape.specs.Vocabulary.{position_of, Writable, Ref, Node, Indirection, Branch, Single, Tomb, List as Listed, Heap, node_at, node_of, entries_of, bitmap_of, generation_at, next_ref}
 use Rattle.proof_shape.specs.Vocabulary.{no_ref, has_flag, contracted, Line, Operation, After, Gives, Read, Climb, ClimbLine, RootLine, Bounds, handle_of, State, word_at, current, above}
 use Rattle.proof_shape.specs.Vocabulary.{is_below_root, flag_in, is_start, read_step, reading, root_after, climbing, climbed, higher, place_in, climbed_node, holds_it, climb_after, climb_after_read}
-use Rattle.proof_shape.specs.Vocabulary.{climb_after_main, climb_after_contracted, climb_after_root, line_action, grown, node_under, IsRun}
+use Rattle.proof_shape.specs.Vocabulary.{climb_after_main, climb_after_contracted, climb_after_root, line_action, grown, node_under, IsRun, AMain, ABranch, Given, words_of, Known}
 use Rattle.proof_shape.specs.Beneath.machine_model.specs.declared.lines.Line.TheVariants as line
 use Rattle.proof_shape.specs.Beneath.machine_model.specs.declared.reading.After.TheVariants.{Goes}
 use Rattle.proof_shape.specs.Beneath.machine_model.specs.declared.repairs.ClimbLine.TheVariants as climb
-use Rattle.proof_shape.specs.Beneath.proof_memory.specs.Wants.{AMain, ABranch}
 use Rattle.proof_shape.specs.Beneath.proof_commits.proofs.Words.Along.{remembers_at}
 use Rattle.proof_shape.specs.Beneath.proof_commits.proofs.Lines.Stages.{Remembers}
-use Rattle.proof_shape.specs.Beneath.proof_commits.specs.Protocol.{Given}
-use Rattle.proof_shape.specs.Beneath.proof_commits.specs.Words.{words_of}
-use Rattle.proof_shape.specs.Beneath.proof_contents.specs.Lines.Changes.{Known}
 use Rattle.proof_shape.specs.Beneath.proof_contents.proofs.Lines.Key.Knows.{known}
 use Rattle.proof_shape.specs.Beneath.proof_memory.proofs.Lines.Next.{contracted_no_link}
 use Rattle.proof_shape.specs.Beneath.proof_memory.proofs.Claims.Nodes.{branch_main}
+use Rattle.proof_shape.specs.Beneath.proof_memory.proofs.Claims.Named.{past_climb}
 use Rattle.proof_shape.specs.Beneath.proof_memory.proofs.Heap.NoRef.{nothing_stands}
 use Rattle.proof_shape.specs.Lines.Given.{Was}
 use Rattle.proof_shape.specs.Lines.Climbing.{WasTombed, HoldsIt, KnowsClimb, KnowsClimbing}
@@ -105,7 +102,7 @@ module _ {limits : Bounds} {states : ℕ → State} {last : ℕ} (run : IsRun li
       (o : Option Ref) → next_ref heap ≡ o → KnowsClimbing K W operation.call (climb_after_contracted operation c main o)
   contracted_knows c main e tombed holds None next = tt
   contracted_knows c main e tombed holds (Some made) next =
-      let claim = (claims run t h actor operation go _ e).1.1.1.0 in
+      let claim = (past_climb (claims run t h actor operation go _ e)).0 in
       let there : node_at heap main ≡ Branch holds.bitmap holds.entries = main_seen run t (omega arith) main ABranch branch_main claim ∙ holds.branch.is in
       let place : place_in (states t) operation c main ≡ holds.position = ap (λ n. position_of (flag_in (states t) operation (above c.path)) (bitmap_of n)) there ∙ sym holds.branch.at in
       let b = is_below_root (above c.path) in
@@ -153,6 +150,6 @@ module _ {limits : Bounds} {states : ℕ → State} {last : ℕ} (run : IsRun li
   climb_knows (climb.Read c read) e tombed = read_knows c (tombed_later _ _ tombed) (read_step (states t) operation read)
   climb_knows (climb.Main c main) e tombed =
       main_knows c main _ e (tombed_later _ _ tombed) (λ single is. tombed_given (current (above c.path)) main single (remembered _ e) is) (node_at heap main) refl
-      (main_seen run t (omega arith) main AMain (λ n x. x) (claims run t h actor operation go _ e).1.1.1.0)
+      (main_seen run t (omega arith) main AMain (λ n x. x) (past_climb (claims run t h actor operation go _ e)).0)
   climb_knows (climb.Contracted c main) e (tombed, holds) = contracted_knows c main e (tombed_later _ _ tombed) holds (next_ref heap) refl
   climb_knows (climb.Root c l) e tombed = root_knows c (tombed_later _ _ tombed) (root_after heap operation.access (word_at (states t) (handle_of operation.call)) l)

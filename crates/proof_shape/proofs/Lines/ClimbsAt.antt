@@ -2,23 +2,20 @@
 use Rattle.std.proofs.Common.{◌≡◌, ℕ, suc, ◌<◌, ◌==◌, Bool, true, false, refl, sym, ◌∙◌, ap, subst, arith}
 use Rattle.proof_shape.specs.Vocabulary.{Call, Ref, Node, Indirection, Branch, Single, Tomb, List as Listed, Prev, Heap, node_at, main_at, prev_at, Line, Purpose, Operation, After, Gives, ReadLine}
 use Rattle.proof_shape.specs.Vocabulary.{Swap, SwapLine, Bounds, handle_of, State, word_at, current, read_after, on_line, after_publish, after_deciding, after_check, higher, swapped, line_after}
-use Rattle.proof_shape.specs.Vocabulary.{operation_after, node_under, IsRun}
+use Rattle.proof_shape.specs.Vocabulary.{operation_after, node_under, IsRun, AMain, Checks, Protocol, stage_of, stage_of_actor, Known}
 use Rattle.proof_shape.specs.Beneath.slot_arena.specs.declared.nodes.Prev.TheVariants as over
 use Rattle.proof_shape.specs.Beneath.machine_model.specs.declared.lines.Line.TheVariants as line
 use Rattle.proof_shape.specs.Beneath.machine_model.specs.declared.lines.Purpose.TheVariants as purpose
 use Rattle.proof_shape.specs.Beneath.machine_model.specs.declared.reading.After.TheVariants.{Goes}
 use Rattle.proof_shape.specs.Beneath.machine_model.specs.declared.reading.SwapLine.TheVariants as swap
 use Rattle.proof_shape.specs.Beneath.machine_model.specs.Operations.{after_swap}
-use Rattle.proof_shape.specs.Beneath.proof_memory.specs.Wants.{AMain}
 use Rattle.proof_shape.specs.Beneath.proof_memory.proofs.Claims.Uses.{safe_of}
+use Rattle.proof_shape.specs.Beneath.proof_memory.proofs.Claims.Named.{third_claim}
 use Rattle.proof_shape.specs.Beneath.proof_memory.proofs.Safety.AtTimes.{prev_found}
-use Rattle.proof_shape.specs.Beneath.proof_commits.specs.Protocol.{Checks, Protocol}
 use Rattle.proof_shape.specs.Beneath.proof_commits.proofs.Words.Stood.{Stood}
 use Rattle.proof_shape.specs.Beneath.proof_commits.proofs.Known.Owners.{Staged}
 use Rattle.proof_shape.specs.Beneath.proof_commits.proofs.Known.Sounds.{sound_at}
-use Rattle.proof_shape.specs.Beneath.proof_commits.specs.Stages.{stage_of, stage_of_actor}
 use Rattle.proof_shape.specs.Beneath.proof_commits.proofs.Words.Along.{protocol}
-use Rattle.proof_shape.specs.Beneath.proof_contents.specs.Lines.Changes.{Known}
 use Rattle.proof_shape.specs.Beneath.proof_contents.proofs.Lines.Key.Knows.{known}
 use Rattle.proof_shape.specs.Lines.Given.{Was}
 use Rattle.proof_shape.specs.Lines.Climbing.{WasTombed, KnowsClimbing}
@@ -80,7 +77,7 @@ module _ {limits : Bounds} {states : ℕ → State} {last : ℕ} (run : IsRun li
       -- a fresh tomb stands
       tomb_stands : (single : Ref) → node_at heap f ≡ Tomb single → WasTombed K W i single
       tomb_stands single is =
-          let claim = (claims run t h actor operation go _ e).1.1.0 in
+          let claim = third_claim (claims run t h actor operation go _ e) in
           let link = link_in_end run stood.at i (omega (arith, stood.past)) stood.link in
           let was = was_committed run t (omega arith) actor i a f stage (sym (prev_found states t f (safe_of claim)) ∙ none) in
           record {
@@ -111,7 +108,7 @@ module _ {limits : Bounds} {states : ℕ → State} {last : ℕ} (run : IsRun li
           let within = position_within run (current c.path) knows.tombed.generation knows.tombed.word knows.tombed.link parent.position parent.entries.items parent.holds in
           let same : single ≡ c.single =
           contracted_single knows.may_entomb parent.bitmap parent.position parent.entries.items c.single single within
-          (sym knows.made ∙ sym (main_seen run t (omega arith) f AMain (λ n x. x) (claims run t h actor operation go _ e).1.1.0) ∙ is) in
+          (sym knows.made ∙ sym (main_seen run t (omega arith) f AMain (λ n x. x) (third_claim (claims run t h actor operation go _ e))) ∙ is) in
           climbing_knows K W operation (higher c c.single) (subst (λ j. WasTombed K W j c.single) at (subst (λ x. WasTombed K W i x) same tombed))
       succeeds_by (purpose.Climb c) at knows (Indirection g w) is = tt
       succeeds_by (purpose.Climb c) at knows (Branch b es) is = tt

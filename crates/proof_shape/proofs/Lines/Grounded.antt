@@ -1,11 +1,10 @@
 -- Lines that climb from nothing; and what is known of a tomb stays known.
 use Rattle.std.proofs.Common.{◌≡◌, ℕ, suc, true, sym}
 use Rattle.std.proofs.lemmas.Bool.{true≢false}
-use Rattle.proof_shape.specs.Vocabulary.{Call, Ref, Line, ClimbLine, State, current}
+use Rattle.proof_shape.specs.Vocabulary.{Call, Ref, Line, ClimbLine, State, current, Known}
 use Rattle.proof_shape.specs.Beneath.machine_model.specs.declared.lines.Line.TheVariants as line
 use Rattle.proof_shape.specs.Beneath.machine_model.specs.declared.lines.Purpose.TheVariants as purpose
 use Rattle.proof_shape.specs.Beneath.machine_model.specs.declared.repairs.ClimbLine.TheVariants as climb
-use Rattle.proof_shape.specs.Beneath.proof_contents.specs.Lines.Changes.{Known}
 use Rattle.proof_shape.specs.Lines.Given.{Was}
 use Rattle.proof_shape.specs.Lines.Climbing.{WasTombed, KnowsClimb, KnowsClimbing}
 use Rattle.proof_shape.proofs.Commits.Was.{was_later}

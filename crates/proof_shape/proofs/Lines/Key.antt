@@ -1,16 +1,15 @@
 -- A step of KEY hands on what its line knows.
 use Rattle.std.proofs.Common.{◌≡◌, ℕ, ◌-◌, ◌<◌, Some, refl, sym, ◌∙◌, ap, subst, arith}
 use Rattle.std.proofs.lemmas.Option.{same_Some}
-use Rattle.proof_shape.specs.Vocabulary.{Ref, Node, Heap, entry_at, KeyLine, Line, Operation, Bounds, State, key_after, line_action, node_under, IsRun}
+use Rattle.proof_shape.specs.Vocabulary.{Ref, Node, Heap, entry_at, KeyLine, Line, Operation, Bounds, State, key_after, line_action, node_under, IsRun, IsInUse, AMain, ABranch, listed, AllHold}
+use Rattle.proof_shape.specs.Vocabulary.{line_wants, Known, KnowsKey, KnowsLine, main_of_key}
 use Rattle.proof_shape.specs.Beneath.machine_model.specs.declared.actions.Action.TheVariants as act
 use Rattle.proof_shape.specs.Beneath.machine_model.specs.declared.finding.KeyLine.TheVariants as key
 use Rattle.proof_shape.specs.Beneath.machine_model.specs.declared.lines.Line.TheVariants as line
-use Rattle.proof_shape.specs.Beneath.proof_memory.specs.Laws.{IsInUse}
-use Rattle.proof_shape.specs.Beneath.proof_memory.specs.Wants.{AMain, ABranch, listed, AllHold, line_wants}
 use Rattle.proof_shape.specs.Beneath.proof_memory.proofs.Safety.AtTimes.{line_at, limits_at}
-use Rattle.proof_shape.specs.Beneath.proof_contents.specs.Lines.Changes.{Known, KnowsKey, KnowsLine, main_of_key}
 use Rattle.proof_shape.specs.Beneath.proof_contents.proofs.Lines.Key.Knows.{known, Sees, SeesSingle, OnlyGets, position_in, key_knows}
 use Rattle.proof_shape.specs.Beneath.proof_memory.proofs.Claims.Nodes.{branch_main}
+use Rattle.proof_shape.specs.Beneath.proof_memory.proofs.Claims.Named.{main_claim}
 use Rattle.proof_shape.specs.Lines.Knowing.{known_with, first_main}
 use Rattle.proof_shape.proofs.Runs.EachAt.{GoesAt}
 use Rattle.proof_shape.proofs.Lines.Places.{settled_at, FitsCall}
@@ -46,14 +45,14 @@ module _ {limits : Bounds} {states : ℕ → State} {last : ℕ} (run : IsRun li
     sees_by : (x : KeyLine) → operation.line ≡ line.Key x → (main : Ref) → main_of_key x ≡ Some main → Sees (states t) operation node first main
     sees_by (key.Read p read) e main is = let wrong : ⊥ = cc in absurd wrong
     sees_by (key.Main p m) e main is =
-        subst (λ r. Sees (states t) operation node first r) (same_Some _ _ is) (sees run t (omega arith) operation m AMain (λ n x. x) (claims _ e).1.1.0)
+        subst (λ r. Sees (states t) operation node first r) (same_Some _ _ is) (sees run t (omega arith) operation m AMain (λ n x. x) (main_claim (claims _ e)))
     sees_by (key.Entry p m position) e main is =
-        subst (λ r. Sees (states t) operation node first r) (same_Some _ _ is) (sees run t (omega arith) operation m ABranch branch_main (claims _ e).1.1.0)
+        subst (λ r. Sees (states t) operation node first r) (same_Some _ _ is) (sees run t (omega arith) operation m ABranch branch_main (main_claim (claims _ e)))
     sees_by (key.Listed p m position) e main is =
         subst (λ r. Sees (states t) operation node first r) (same_Some _ _ is)
-        (sees run t (omega arith) operation m (listed operation.access) (listed_main operation.access) (claims _ e).1.1.0)
+        (sees run t (omega arith) operation m (listed operation.access) (listed_main operation.access) (main_claim (claims _ e)))
     sees_by (key.Sibling p m position former) e main is =
-        subst (λ r. Sees (states t) operation node first r) (same_Some _ _ is) (sees run t (omega arith) operation m ABranch branch_main (claims _ e).1.1.0)
+        subst (λ r. Sees (states t) operation node first r) (same_Some _ _ is) (sees run t (omega arith) operation m ABranch branch_main (main_claim (claims _ e)))
 
     single_by : (x : KeyLine) → operation.line ≡ line.Key x → (main : Ref) (position : ℕ) → position_in (states t) operation node first x ≡ Some (main, position) →
         SeesSingle (states t) operation node first main position

@@ -2,13 +2,12 @@
 use Rattle.std.proofs.Common.{◌≡◌, ℕ, ◌<◌, Bool, true, false, refl, sym, arith}
 use Rattle.std.proofs.lemmas.Bool.{true≢false}
 use Rattle.proof_shape.specs.Vocabulary.{Call, Node, node_at, CopyLine, Line, Purpose, Operation, After, Gives, Swap, SwapLine, CleanLine, ClimbLine, RenewLine, RootLine, Bounds, WalkLine, State}
-use Rattle.proof_shape.specs.Vocabulary.{on_line, renew_after, clean_after, climb_after, copy_after, walk_after, first_line, swapped, line_after, IsRun}
+use Rattle.proof_shape.specs.Vocabulary.{on_line, renew_after, clean_after, climb_after, copy_after, walk_after, first_line, swapped, line_after, IsRun, Known, KnowsLine}
 use Rattle.proof_shape.specs.Beneath.machine_model.specs.declared.finding.KeyLine.TheVariants as key
 use Rattle.proof_shape.specs.Beneath.machine_model.specs.declared.lines.Line.TheVariants as line
 use Rattle.proof_shape.specs.Beneath.machine_model.specs.declared.lines.Purpose.TheVariants as purpose
 use Rattle.proof_shape.specs.Beneath.machine_model.specs.declared.reading.After.TheVariants.{Goes}
 use Rattle.proof_shape.specs.Beneath.machine_model.specs.Operations.{after_swap}
-use Rattle.proof_shape.specs.Beneath.proof_contents.specs.Lines.Changes.{Known, KnowsLine}
 use Rattle.proof_shape.specs.Lines.Knowing.{known_with, first_main, KnowsAt}
 use Rattle.proof_shape.proofs.Runs.EachAt.{GoesAt, each_at}
 use Rattle.proof_shape.proofs.Lines.Key.{key_step}

@@ -3,7 +3,8 @@ use Rattle.std.proofs.Common.{◌≡◌, ℕ, suc, ◌-◌, ◌<◌, ◌&&◌, B
 use Rattle.proof_shape.specs.Vocabulary.{Ref, Node, Indirection, Branch, Single, Tomb, List as Listed, Heap, node_at, entry_at, bitmap_of, next_ref, renewed, KeyLine, Line, Operation, After, Gives}
 use Rattle.proof_shape.specs.Vocabulary.{Read, CleanLine, RenewLine, Bounds, handle_of, State, word_at, start_of, is_below_root, read_after, read_step, going_down, is_passable, key_after}
 use Rattle.proof_shape.specs.Vocabulary.{key_after_main, key_after_entry, after_listed, after_sibling, next_entry, renew_next, branch_of, renew_after, renew_after_link, renew_after_branch, cleaned}
-use Rattle.proof_shape.specs.Vocabulary.{leaves_single, clean_after, clean_after_read, clean_after_contracted, line_action, read_of, action_of, node_under, prev_word, IsRun}
+use Rattle.proof_shape.specs.Vocabulary.{leaves_single, clean_after, clean_after_read, clean_after_contracted, line_action, read_of, action_of, node_under, prev_word, IsRun, IsInUse, AMain, ABranch}
+use Rattle.proof_shape.specs.Vocabulary.{Holds, Is, Reads, stage_of, KnowsKey, KnowsRenew, KnowsClean, KnowsRepair, ReadsBelow}
 use Rattle.proof_shape.specs.Beneath.slot_arena.specs.declared.nodes.Prev.TheVariants as over
 use Rattle.proof_shape.specs.Beneath.machine_model.specs.declared.actions.Action.TheVariants as act
 use Rattle.proof_shape.specs.Beneath.machine_model.specs.declared.finding.KeyLine.TheVariants as key
@@ -11,17 +12,12 @@ use Rattle.proof_shape.specs.Beneath.machine_model.specs.declared.lines.Line.The
 use Rattle.proof_shape.specs.Beneath.machine_model.specs.declared.reading.After.TheVariants.{Goes}
 use Rattle.proof_shape.specs.Beneath.machine_model.specs.declared.repairs.CleanLine.TheVariants as clean
 use Rattle.proof_shape.specs.Beneath.machine_model.specs.declared.repairs.RenewLine.TheVariants as renew
-use Rattle.proof_shape.specs.Beneath.proof_memory.specs.Laws.{IsInUse}
-use Rattle.proof_shape.specs.Beneath.proof_memory.specs.Wants.{AMain, ABranch, Holds, Is}
-use Rattle.proof_shape.specs.Beneath.proof_commits.specs.Protocol.{Reads}
 use Rattle.proof_shape.specs.Beneath.proof_commits.proofs.Course.Finals.{none_final}
-use Rattle.proof_shape.specs.Beneath.proof_commits.specs.Stages.{stage_of}
 use Rattle.proof_shape.specs.Beneath.proof_commits.proofs.Words.Along.{protocol}
-use Rattle.proof_shape.specs.Beneath.proof_contents.specs.Lines.Changes.{KnowsKey}
-use Rattle.proof_shape.specs.Beneath.proof_contents.specs.Lines.Repairs.{KnowsRenew, KnowsClean, KnowsRepair, ReadsBelow}
 use Rattle.proof_shape.specs.Beneath.proof_contents.proofs.Lines.Repair.{renew_starts, clean_starts, renew_entry_knows, renew_read_knows, renew_link_knows, renew_branch_knows}
 use Rattle.proof_shape.specs.Beneath.proof_contents.proofs.Lines.Repair.{clean_entry_knows, clean_child_knows, clean_tomb_knows, clean_contracted_knows, read_stays}
 use Rattle.proof_shape.specs.Beneath.proof_memory.proofs.Claims.Nodes.{IsNoLink, branch_main}
+use Rattle.proof_shape.specs.Beneath.proof_memory.proofs.Claims.Named.{main_claim, past_done}
 use Rattle.proof_shape.specs.Beneath.proof_memory.proofs.Lines.Next.{contracted_no_link}
 use Rattle.proof_shape.specs.Beneath.proof_commits.proofs.Course.OfLists.{given_read}
 use Rattle.proof_shape.specs.Lines.Given.{GaveBelow}
@@ -109,7 +105,7 @@ module _ {limits : Bounds} {states : ℕ → State} {last : ℕ} (run : IsRun li
     key_repairs (key.Entry path main position) e (bitmap, entries, flagged) = by_node (node_at heap (entry_at heap main position))
       where
         there : node_at heap main ≡ node main
-        there = main_seen run t (omega arith) main ABranch branch_main (claims run t h actor operation go _ e).1.1.0
+        there = main_seen run t (omega arith) main ABranch branch_main (main_claim (claims run t h actor operation go _ e))
 
         by_test : (b : Bool) → Repairs (cond b (going_down path (entry_at heap main position)) (renew_next (states t) path main []))
         by_test true = tt
@@ -142,11 +138,11 @@ module _ {limits : Bounds} {states : ℕ → State} {last : ℕ} (run : IsRun li
         KnowsRenew (node_under states last) (first_main states last) (GaveBelow states run.records last (suc t) actor operation.id start) start l →
         KnowsRepair (node_under states last) (first_main states last) (GaveBelow states run.records last (suc t) actor operation.id start) start (renew_after (states t) operation l)
     renew_repairs (renew.Entry path main done) e knows =
-        let claim = (claims run t h actor operation go _ e).1.1.0 in
+        let claim = main_claim (claims run t h actor operation go _ e) in
         renew_entry_knows (states t) operation node first G start main (branch_there main _ e claim) path done knows begun
         (λ g w is. link_at _ e (next_entry (states t) main done) refl g w is) (node_at heap (next_entry (states t) main done)) refl
     renew_repairs (renew.Read path main done read) e knows =
-        let claim = (claims run t h actor operation go _ e).1.1.0 in
+        let claim = main_claim (claims run t h actor operation go _ e) in
         renew_read_knows (states t) operation node first G start main (branch_there main _ e claim) path done read knows (read_step (states t) operation read)
         (λ r is. read_stays (states t) operation read r is) (λ child is. gives_now _ e read refl refl tt child is)
     renew_repairs (renew.Link path main done child) e knows = by_made (next_ref heap) refl
@@ -154,7 +150,7 @@ module _ {limits : Bounds} {states : ℕ → State} {last : ℕ} (run : IsRun li
         by_made : (o : Option Ref) → next_ref heap ≡ o → Repairs (renew_after_link (states t) path main done o)
         by_made None next = tt
         by_made (Some made) next =
-            let claim = (claims run t h actor operation go _ e).1.1.0 in
+            let claim = main_claim (claims run t h actor operation go _ e) in
             let a = ap (line_action (states t) operation) e in
             let link = made_link run t h actor operation go (Indirection (start_of operation) child) a made next (start_of operation) child refl in
             let is : start_of operation ≡ start = ap (λ o. unwrap_or o 0) begun in
@@ -165,7 +161,7 @@ module _ {limits : Bounds} {states : ℕ → State} {last : ℕ} (run : IsRun li
         by_made : (o : Option Ref) → next_ref heap ≡ o → Repairs (renew_after_branch path main o)
         by_made None next = tt
         by_made (Some made) next =
-            let claim = (claims run t h actor operation go _ e).1.1.0 in
+            let claim = main_claim (claims run t h actor operation go _ e) in
             renew_branch_knows (states t) operation node first G start main (branch_there main _ e claim) path done made knows
             (made_node run t h actor operation go (branch_of (states t) main done) (ap (line_action (states t) operation) e) made next
             (renewed_no_link (bitmap_of (node_at heap main)) done))
@@ -181,26 +177,26 @@ module _ {limits : Bounds} {states : ℕ → State} {last : ℕ} (run : IsRun li
         by_out (Goes r) = tt
         by_out (Gives main) = tt
     clean_repairs (clean.Main path main) e knows =
-        let there = main_seen run t (omega arith) main AMain (λ n x. x) (claims run t h actor operation go _ e).1.1.0 in
+        let there = main_seen run t (omega arith) main AMain (λ n x. x) (main_claim (claims run t h actor operation go _ e)) in
         clean_starts (states t) operation node first G start main there path (node_at heap main) (sym there)
     clean_repairs (clean.Entry path main done) e knows =
-        let claim = (claims run t h actor operation go _ e).1.1.0 in
+        let claim = main_claim (claims run t h actor operation go _ e) in
         clean_entry_knows (states t) operation node first G start main (branch_there main _ e claim) path done knows
         (λ g w is. link_at _ e (next_entry (states t) main done) refl g w is) (node_at heap (next_entry (states t) main done)) refl
     clean_repairs (clean.Child path main done read) e knows =
-        let claim = (claims run t h actor operation go _ e).1.1.0 in
+        let claim = main_claim (claims run t h actor operation go _ e) in
         clean_child_knows (states t) operation node first G start main (branch_there main _ e claim) path done read knows (read_step (states t) operation read)
         (λ r is. read_stays (states t) operation read r is) (λ child is. gives_now _ e read refl refl tt child is)
     clean_repairs (clean.Tomb path main done child) e knows =
         let all = claims run t h actor operation go _ e in
-        clean_tomb_knows (states t) operation node first G start main (branch_there main _ e all.1.1.0) path done child knows (node_at heap child)
-        (sym (main_seen run t (omega arith) child AMain (λ n x. x) all.1.1.1.1.1.0))
+        clean_tomb_knows (states t) operation node first G start main (branch_there main _ e (main_claim all)) path done child knows (node_at heap child)
+        (sym (main_seen run t (omega arith) child AMain (λ n x. x) (past_done all).0))
     clean_repairs (clean.Contracted path main done) e knows = by_made (next_ref heap) refl
       where
         by_made : (o : Option Ref) → next_ref heap ≡ o → Repairs (clean_after_contracted path main o)
         by_made None next = tt
         by_made (Some made) next =
-            let claim = (claims run t h actor operation go _ e).1.1.0 in
+            let claim = main_claim (claims run t h actor operation go _ e) in
             clean_contracted_knows (states t) operation node first G start main (branch_there main _ e claim) path done made knows
             (made_node run t h actor operation go (cleaned (states t) path main done) (ap (line_action (states t) operation) e) made next
             (contracted_no_link (is_below_root path && leaves_single (states t) done) (bitmap_of (node_at heap main)) done))

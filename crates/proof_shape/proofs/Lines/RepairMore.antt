@@ -2,12 +2,12 @@
 use Rattle.std.proofs.Common.{◌≡◌, ℕ, Bool, true, false, List, length, slice_index_or, sym}
 use Rattle.std.proofs.lemmas.Bool.{true≢false}
 use Rattle.arrayvec.specs.ArrayVec.{ArrayVec}
-use Rattle.proof_shape.specs.Vocabulary.{Ref, Node, no_ref, Line, CleanLine, RenewLine}
+use Rattle.proof_shape.specs.Vocabulary.{Ref, Node, no_ref, Line, CleanLine, RenewLine, IsDone, keeps, renews, cleans, AreDone, AllDone, SomeDone, IsLink, IsOlder, KnowsRenew, KnowsClean}
+use Rattle.proof_shape.specs.Vocabulary.{IsRepaired, KnowsRepair}
 use Rattle.proof_shape.specs.Beneath.machine_model.specs.declared.lines.Line.TheVariants as line
 use Rattle.proof_shape.specs.Beneath.machine_model.specs.declared.lines.Purpose.TheVariants as purpose
 use Rattle.proof_shape.specs.Beneath.machine_model.specs.declared.repairs.CleanLine.TheVariants as clean
 use Rattle.proof_shape.specs.Beneath.machine_model.specs.declared.repairs.RenewLine.TheVariants as renew
-use Rattle.proof_shape.specs.Beneath.proof_contents.specs.Lines.Repairs.{IsDone, keeps, renews, cleans, AreDone, AllDone, SomeDone, IsLink, IsOlder, KnowsRenew, KnowsClean, IsRepaired, KnowsRepair}
 
 module _ (node : Ref → Node) (first : Ref → Ref) (G H : Ref → Ref → Type 0) (more : (i m : Ref) → G i m → H i m) (start : ℕ) where
   done_more : (entry other : Ref) → IsDone node first G start entry other → IsDone node first H start entry other

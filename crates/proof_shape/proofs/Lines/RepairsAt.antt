@@ -1,13 +1,11 @@
 -- At each time of a run each line knows of the entries of its repair that are done.
 use Rattle.std.proofs.Common.{◌≡◌, ℕ, suc, ◌<◌, Bool, true, Some, refl, subst, arith}
 use Rattle.proof_shape.specs.Vocabulary.{Call, Ref, Node, node_at, BuildLine, CopyLine, Line, Purpose, Operation, After, Gives, Swap, SwapLine, ClimbLine, RootLine, Bounds, WalkLine, State, on_line}
-use Rattle.proof_shape.specs.Vocabulary.{build_after, climb_after, copy_after, walk_after, first_line, swapped, line_after, generation_from, node_under, IsRun, Record}
+use Rattle.proof_shape.specs.Vocabulary.{build_after, climb_after, copy_after, walk_after, first_line, swapped, line_after, generation_from, node_under, IsRun, Record, KnowsLine, KnowsRepair}
 use Rattle.proof_shape.specs.Beneath.machine_model.specs.declared.lines.Line.TheVariants as line
 use Rattle.proof_shape.specs.Beneath.machine_model.specs.declared.lines.Purpose.TheVariants as purpose
 use Rattle.proof_shape.specs.Beneath.machine_model.specs.declared.reading.After.TheVariants.{Goes}
 use Rattle.proof_shape.specs.Beneath.machine_model.specs.Operations.{after_swap}
-use Rattle.proof_shape.specs.Beneath.proof_contents.specs.Lines.Changes.{KnowsLine}
-use Rattle.proof_shape.specs.Beneath.proof_contents.specs.Lines.Repairs.{KnowsRepair}
 use Rattle.proof_shape.specs.Lines.Given.{Gave, GaveBelow}
 use Rattle.proof_shape.specs.Lines.Knowing.{known_with, first_main, RepairsAt}
 use Rattle.proof_shape.proofs.Runs.EachAt.{GoesAt, each_at}

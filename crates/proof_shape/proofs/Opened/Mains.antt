@@ -4,7 +4,7 @@ use Rattle.std.proofs.lemmas.Bool.{cases_eq}
 use Rattle.std.proofs.lemmas.List.Elements.{Contains-get_or}
 use Rattle.proof_shape.specs.Vocabulary.{Writable, Call, Ref, Node, Indirection, Branch, Single, Tomb, List as Listed, node_at, entry_at, entries_of, no_ref, Line, Operation, ReadLine, SwapLine}
 use Rattle.proof_shape.specs.Vocabulary.{CompleteLine, Descriptor, Bounds, handle_of, State, operation_of, word_at, root_of, first_line, operation_after, node_under, Step, turns, noted_turn, IsRun}
-use Rattle.proof_shape.specs.Vocabulary.{Turn}
+use Rattle.proof_shape.specs.Vocabulary.{Turn, IsInUse, Words, Stage, Reads, Given, Protocol, stage_of, stage_of_actor, stage_of_complete, stage_of_swap, words_of, counting_main}
 use Rattle.proof_shape.specs.Beneath.machine_model.specs.declared.copying.CopyLine.TheVariants as copy
 use Rattle.proof_shape.specs.Beneath.machine_model.specs.declared.finding.KeyLine.TheVariants as key
 use Rattle.proof_shape.specs.Beneath.machine_model.specs.declared.building.BuildLine.TheVariants as build
@@ -16,15 +16,10 @@ use Rattle.proof_shape.specs.Beneath.machine_model.specs.declared.repairs.RenewL
 use Rattle.proof_shape.specs.Beneath.machine_model.specs.declared.roots.CompleteLine.TheVariants as complete
 use Rattle.proof_shape.specs.Beneath.machine_model.specs.declared.roots.RootLine.TheVariants as root
 use Rattle.proof_shape.specs.Beneath.machine_model.specs.declared.walking.WalkLine.TheVariants as walk
-use Rattle.proof_shape.specs.Beneath.proof_memory.specs.Laws.{IsInUse}
 use Rattle.proof_shape.specs.Beneath.proof_memory.proofs.Safety.AtTimes.{line_at}
-use Rattle.proof_shape.specs.Beneath.proof_commits.specs.Protocol.{Words, Stage, Reads, Given, Protocol}
 use Rattle.proof_shape.specs.Beneath.proof_commits.proofs.Lines.Stages.{Remembers}
-use Rattle.proof_shape.specs.Beneath.proof_commits.specs.Stages.{stage_of, stage_of_actor, stage_of_complete, stage_of_swap}
-use Rattle.proof_shape.specs.Beneath.proof_commits.specs.Words.{words_of}
 use Rattle.proof_shape.specs.Beneath.proof_commits.proofs.Known.Owners.{given_later}
 use Rattle.proof_shape.specs.Beneath.proof_commits.proofs.Words.Along.{protocol, remembers_at}
-use Rattle.proof_shape.specs.Beneath.proof_contents.specs.Runs.{counting_main}
 use Rattle.proof_shape.specs.Lines.Knowing.{OfEachAt}
 use Rattle.proof_shape.specs.Lines.Commits.{MainStep, stays, changes, made_with}
 use Rattle.proof_shape.proofs.Runs.EachAt.{GoesAt, each_at}

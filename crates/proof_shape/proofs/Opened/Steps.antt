@@ -6,7 +6,8 @@ use Rattle.std.proofs.lemmas.List.{get_or_default}
 use Rattle.std.proofs.lemmas.List.Elements.{All-nil, All-cons, All-tail, All-append, All-push}
 use Rattle.proof_shape.specs.Vocabulary.{HashKind, Writable, Ref, Node, Heap, node_at, entry_at, entries_of, no_ref, BuildLine, CopyLine, KeyLine, Line, Purpose, Operation, After, Gives, Read, Swap}
 use Rattle.proof_shape.specs.Vocabulary.{SwapLine, Climb, CleanLine, ClimbLine, RenewLine, Complete, CompleteLine, Descriptor, RootLine, RootWord, Plain, Offer, WalkLine, handle_of, current, State}
-use Rattle.proof_shape.specs.Vocabulary.{word_at, root_of, read_step, completing, of_offer, after_complete, after_root_word, after_completing, first_of, rest_of, higher, line_after}
+use Rattle.proof_shape.specs.Vocabulary.{word_at, root_of, read_step, completing, of_offer, after_complete, after_root_word, after_completing, first_of, rest_of, higher, line_after, IsInUse}
+use Rattle.proof_shape.specs.Vocabulary.{AllHold, line_wants, swap_wants, path_wants}
 use Rattle.proof_shape.specs.Beneath.machine_model.specs.declared.lines.Line.TheVariants as line
 use Rattle.proof_shape.specs.Beneath.machine_model.specs.declared.reading.After.TheVariants.{Goes}
 use Rattle.proof_shape.specs.Beneath.machine_model.specs.declared.roots.RootLine.TheVariants as root
@@ -19,9 +20,8 @@ use Rattle.proof_shape.specs.Beneath.machine_model.specs.Edges.Building.{BuildEd
 use Rattle.proof_shape.specs.Beneath.machine_model.specs.Edges.Walking.{WalkNext, walked, walks, WalkEdge, opens, takes}
 use Rattle.proof_shape.specs.Beneath.machine_model.specs.Edges.Lines.{Edge, of_root, of_key, of_build, of_swap, of_renew, of_clean, of_climb, of_copy, of_walk, stays}
 use Rattle.proof_shape.specs.Beneath.machine_model.proofs.Edges.Lines.{edge}
-use Rattle.proof_shape.specs.Beneath.proof_memory.specs.Laws.{IsInUse}
-use Rattle.proof_shape.specs.Beneath.proof_memory.specs.Wants.{AllHold, line_wants, swap_wants, path_wants}
 use Rattle.proof_shape.specs.Beneath.proof_memory.proofs.Claims.Uses.{safe_of, meets_of, fact_of, last_hold}
+use Rattle.proof_shape.specs.Beneath.proof_memory.proofs.Claims.Named.{main_claim, past_place, left_claim}
 use Rattle.proof_shape.specs.Beneath.proof_commits.proofs.Lines.Stages.{Remembers}
 use Rattle.proof_shape.specs.Beneath.proof_contents.proofs.Lines.Repair.{read_stays}
 use Rattle.proof_generations.proofs.Lines.Copy.{same_offer_after}
@@ -99,7 +99,8 @@ module _ (kind : HashKind) (state : State) (operation : Operation) (O : Ref → 
   key_opens l next (misses_absent path main b es e none out) c g o = tt
   key_opens l next (cleans path main single e w below) c g o = (above_opens O path o, above_current O path below o)
   key_opens l next (goes_down path main position h w e pass) c g o =
-      let entry = entry_opens (current path) main g (safe_of c.1.1.0) position (ltb-true position _ (meets_of c.1.1.1.0)) in (All-push O path (entry_at heap main position) o entry, entry)
+      let entry = entry_opens (current path) main g (safe_of (main_claim c)) position (ltb-true position _ (meets_of (past_place c).0)) in
+      (All-push O path (entry_at heap main position) o entry, entry)
   key_opens l next (finds path main position k v n e same found) c g o = found_opens path main position v next found o
   key_opens l next (misses_beside path main position k v e apart out) c g o = tt
   key_opens l next (finds_listed path main position k v n e same found) c g o = found_opens path main position v next found o
@@ -155,7 +156,7 @@ module _ (kind : HashKind) (state : State) (operation : Operation) (O : Ref → 
 
   renew_opens : (l : RenewLine) (next : Line) → RenewEdge state operation l next → Claims (line.Renew l) → Kept (line.Renew l) → RenewOpens O l → Opens O next
   renew_opens l next (meets_older path main done h w e older) c g o =
-      (o, entry_opens (current path) main g (safe_of c.1.1.0) (length done) (ltb-true (length done) _ (meets_of c.1.1.1.1.0)))
+      (o, entry_opens (current path) main g (safe_of (main_claim c)) (length done) (ltb-true (length done) _ (meets_of (left_claim c))))
   renew_opens l next (keeps_own path main done h w n e own on) c g o = renew_next_opens path main _ next on o
   renew_opens l next (RenewEdge.keeps_single path main done k v n e on) c g o = renew_next_opens path main _ next on o
   renew_opens l next (RenewEdge.reads_on path main done r n e) c g o = (o.0, reads r n e o.1)
@@ -174,7 +175,7 @@ module _ (kind : HashKind) (state : State) (operation : Operation) (O : Ref → 
   clean_opens l next (CleanEdge.gives path r main e) c g o = o.0
   clean_opens l next (CleanEdge.begins path main b es n e on) c g o = clean_next_opens path main [] next on o
   clean_opens l next (meets_link path main done h w e) c g o =
-      (o, entry_opens (current path) main g (safe_of c.1.1.0) (length done) (ltb-true (length done) _ (meets_of c.1.1.1.1.0)))
+      (o, entry_opens (current path) main g (safe_of (main_claim c)) (length done) (ltb-true (length done) _ (meets_of (left_claim c))))
   clean_opens l next (CleanEdge.keeps_single path main done k v n e on) c g o = clean_next_opens path main _ next on o
   clean_opens l next (child_on path main done r n e) c g o = (o.0, reads r n e o.1)
   clean_opens l next (child_given path main done r child e) c g o = o.0

@@ -1,17 +1,14 @@
 -- When a READ began, and that what it gives counts from then on.
 use Rattle.std.proofs.Common.{◌≡◌, ℕ, suc, ◌<◌, ◌≤◌, ◌==◌, Bool, true, false, cond, Option, Some, None, refl, sym, ◌∙◌, ap, subst, arith}
 use Rattle.proof_shape.specs.Vocabulary.{Ref, Operation, Gives, ReadLine, Bounds, handle_of, State, operation_of, word_at, read_after, line_after, operation_after, grown, node_under, IsRun, Record}
-use Rattle.proof_shape.specs.Vocabulary.{moment_at, Moment}
+use Rattle.proof_shape.specs.Vocabulary.{moment_at, Moment, Words, Stage, Rests, Reads, MayHave, Idles, SwapsNode, DecidesOn, counts_at, IsMoment, stage_of, words_of}
 use Rattle.proof_shape.specs.Beneath.machine_model.specs.declared.reading.After.TheVariants.{Goes}
 use Rattle.proof_shape.specs.Beneath.machine_model.specs.declared.reading.ReadLine.TheVariants as read
 use Rattle.proof_shape.specs.Beneath.machine_model.proofs.Actors.{marks_by}
-use Rattle.proof_shape.specs.Beneath.proof_commits.specs.Protocol.{Words, Stage, Rests, Reads, IsAtRest, MayHave, Moves, Idles, MakesNode, SwapsNode, ReadsOn, DecidesOn, counts_at}
+use Rattle.proof_shape.specs.Beneath.proof_commits.specs.Protocol.{IsAtRest, Moves, MakesNode, ReadsOn}
 use Rattle.proof_shape.specs.Beneath.proof_commits.proofs.Course.Finals.{link_stays}
-use Rattle.proof_shape.specs.Beneath.proof_commits.specs.Moments.{IsMoment}
-use Rattle.proof_shape.specs.Beneath.proof_commits.specs.Stages.{stage_of}
 use Rattle.proof_shape.specs.Beneath.proof_commits.proofs.Known.Given.{Known}
 use Rattle.proof_shape.specs.Beneath.proof_commits.proofs.Words.OfRuns.{link_made}
-use Rattle.proof_shape.specs.Beneath.proof_commits.specs.Words.{words_of}
 use Rattle.proof_shape.specs.Beneath.proof_commits.proofs.Known.StepsAt.{after_mark, go_own}
 use Rattle.proof_shape.specs.Beneath.proof_commits.proofs.Lines.Turns.{line_turn}
 use Rattle.proof_shape.specs.Beneath.proof_commits.proofs.Words.Along.{line_facts, remembers_at, protocol}

@@ -3,11 +3,9 @@ use Rattle.std.proofs.Common.{◌≡◌, ℕ, zero, suc, ◌<◌, ◌≤◌, ◌
 use Rattle.std.proofs.lemmas.Bool.{cases_eq, true≢false}
 use Rattle.std.specs.List.{All}
 use Rattle.proof_shape.specs.Vocabulary.{Ref, Node, Indirection, Branch, Single, Tomb, List as Listed, Slot, entries_of, main_at, next_ref, Action, Operation, Bounds, State, Verdict, Commits, Fails}
-use Rattle.proof_shape.specs.Vocabulary.{Overtaken, verdict, action_of, standing, grown, node_under, IsRun}
+use Rattle.proof_shape.specs.Vocabulary.{Overtaken, verdict, action_of, standing, grown, node_under, IsRun, IsInUse, AnEntry, AllHold, node_wants, prev_wants, action_wants, is_made}
 use Rattle.proof_shape.specs.Beneath.machine_model.specs.declared.actions.Action.TheVariants as act
 use Rattle.proof_shape.specs.Beneath.machine_model.specs.declared.steps.Step.TheVariants as step
-use Rattle.proof_shape.specs.Beneath.proof_memory.specs.Laws.{IsInUse}
-use Rattle.proof_shape.specs.Beneath.proof_memory.specs.Wants.{AnEntry, AllHold, node_wants, prev_wants, action_wants}
 use Rattle.proof_shape.specs.Beneath.proof_memory.proofs.Claims.Uses.{Meets, first_hold}
 use Rattle.proof_shape.specs.Beneath.proof_memory.proofs.Claims.Nodes.{all_in}
 use Rattle.proof_shape.specs.Beneath.proof_memory.proofs.Safety.AtEachTime.{safe_at}
@@ -15,7 +13,6 @@ use Rattle.proof_shape.specs.Beneath.proof_memory.proofs.Safety.AtTimes.{action_
 use Rattle.proof_shape.specs.Beneath.proof_commits.proofs.Course.Finals.{from_time}
 use Rattle.proof_shape.specs.Beneath.proof_commits.proofs.Known.Given.{ActsOn, Either, Taken, GrownTakes, GrownStays, GrownChanges, GrownSwaps, Decided}
 use Rattle.proof_shape.specs.Beneath.proof_commits.proofs.Known.StepsAt.{NotedAt, NotesBegin, NotesGo, NotesEnd, NotesSweep, NotesGivingUp}
-use Rattle.proof_shape.specs.Beneath.proof_contents.specs.Runs.{is_made}
 use Rattle.proof_shape.specs.Beneath.proof_contents.proofs.Values.Runs.{made_next}
 use Rattle.proof_shape.specs.Beneath.proof_contents.proofs.Values.Started.{node_stays, indirection_stays}
 use Rattle.proof_shape.proofs.Runs.EachAt.{GoesAt}

@@ -6,7 +6,7 @@ use Rattle.std.proofs.lemmas.List.Elements.{Contains-get_or}
 use Rattle.proof_shape.specs.Vocabulary.{Ref, Node, Indirection, Branch, Single, Tomb, List as Listed, Heap, node_at, entry_at, entries_of, bitmap_of, empty_branch, no_ref, rung, BuildLine, Change}
 use Rattle.proof_shape.specs.Vocabulary.{CopyLine, KeyLine, Line, Operation, ReadLine, Swap, CleanLine, ClimbLine, RenewLine, Purpose, Climb, Complete, RootLine, Bounds, WalkLine, key_of, value_of}
 use Rattle.proof_shape.specs.Vocabulary.{State, current, above, flag_in, hash_in, is_below_root, start_of, read_action, old_hash, branch_of, cleaned, leaves_single, climbed_node, place_in}
-use Rattle.proof_shape.specs.Vocabulary.{line_action, node_under, IsRun}
+use Rattle.proof_shape.specs.Vocabulary.{line_action, node_under, IsRun, IsInUse, Wanted, AMain, ABranch, BranchOrList, ASingle, meets, Holds, Is, Given, words_of, is_made}
 use Rattle.proof_shape.specs.Beneath.machine_model.specs.declared.actions.Action.TheVariants as act
 use Rattle.proof_shape.specs.Beneath.machine_model.specs.declared.building.BuildLine.TheVariants as build
 use Rattle.proof_shape.specs.Beneath.machine_model.specs.declared.building.Change.TheVariants as change
@@ -15,13 +15,9 @@ use Rattle.proof_shape.specs.Beneath.machine_model.specs.declared.lines.Line.The
 use Rattle.proof_shape.specs.Beneath.machine_model.specs.declared.repairs.CleanLine.TheVariants as clean
 use Rattle.proof_shape.specs.Beneath.machine_model.specs.declared.repairs.ClimbLine.TheVariants as climb
 use Rattle.proof_shape.specs.Beneath.machine_model.specs.declared.repairs.RenewLine.TheVariants as renew
-use Rattle.proof_shape.specs.Beneath.proof_memory.specs.Laws.{IsInUse}
-use Rattle.proof_shape.specs.Beneath.proof_memory.specs.Wants.{Wanted, AMain, ABranch, BranchOrList, ASingle, meets, Holds, Is}
 use Rattle.proof_shape.specs.Beneath.proof_memory.proofs.Claims.Uses.{Meets, entry_of, as_meets}
-use Rattle.proof_shape.specs.Beneath.proof_commits.specs.Protocol.{Given}
-use Rattle.proof_shape.specs.Beneath.proof_commits.specs.Words.{words_of}
-use Rattle.proof_shape.specs.Beneath.proof_contents.specs.Runs.{is_made}
 use Rattle.proof_shape.specs.Beneath.proof_memory.proofs.Claims.Nodes.{branch_main, both_main}
+use Rattle.proof_shape.specs.Beneath.proof_memory.proofs.Claims.Named.{main_claim, past_place, single_claim, past_climb}
 use Rattle.proof_shape.proofs.Runs.EachAt.{GoesAt}
 use Rattle.proof_shape.proofs.Runs.Seen.{main_seen, single_seen}
 use Rattle.proof_shape.proofs.Lines.Key.{claims}
@@ -117,9 +113,9 @@ module _ {limits : Bounds} {states : ℕ → State} {last : ℕ} (run : IsRun li
       where
         by_side : (r ≡ entry_at heap main position) ⊎ (r ≡ s) → NamesWell r
         by_side (inl it) =
-            absurd (single_not_link (entry_at heap main position) (entry_of (claims run t h actor operation go _ e).1.1.1.0) g y (ap (node_under states last) (sym it) ∙ is))
+            absurd (single_not_link (entry_at heap main position) (entry_of (past_place (claims run t h actor operation go _ e)).0) g y (ap (node_under states last) (sym it) ∙ is))
         by_side (inr it) =
-            absurd (single_not_link s (as_meets (claims run t h actor operation go _ e).1.1.1.1.0) g y (ap (node_under states last) (sym it) ∙ is))
+            absurd (single_not_link s (as_meets (past_place (claims run t h actor operation go _ e)).1.0) g y (ap (node_under states last) (sym it) ∙ is))
     build_names (build.Link path main position below depth) e x = absurd (no_entry r (entries_new _ e (Indirection (start_of operation) below) refl))
     build_names (build.Rung path main position below depth) e x =
         inr (start, subst (IsHeld run t actor start) (sym (one_entry below r (entries_new _ e (rung (hash_in (states t) operation) depth below) refl))) x.0)
@@ -128,15 +124,15 @@ module _ {limits : Bounds} {states : ℕ → State} {last : ℕ} (run : IsRun li
         by_change : (c : Change) (former : Option ℕ) → operation.line ≡ line.Build (build.Main path main c former) → HeldChange run t actor start former c →
             Contains (entries_of (node_at heap main)) r ⊎ IsBrought c r → NamesWell r
         by_change c former e x (inl old) =
-            by_main (current path) main (remembered run t h actor operation go _ e) BranchOrList both_main (claims run t h actor operation go _ e).1.1.0 old
+            by_main (current path) main (remembered run t h actor operation go _ e) BranchOrList both_main (main_claim (claims run t h actor operation go _ e)) old
         by_change (change.Insert s) former e x (inr it) =
-            absurd (single_not_link s (as_meets (claims run t h actor operation go _ e).1.1.1.0) g y (ap (node_under states last) (sym it) ∙ is))
+            absurd (single_not_link s (as_meets (past_place (claims run t h actor operation go _ e)).0) g y (ap (node_under states last) (sym it) ∙ is))
         by_change (change.Update position entry) None e x (inr it) = inr (start, subst (IsHeld run t actor start) (sym it) (x refl).0)
         by_change (change.Update position entry) (Some v) e x (inr it) =
-            absurd (single_not_link entry (as_meets (claims run t h actor operation go _ e).1.1.1.0) g y (ap (node_under states last) (sym it) ∙ is))
+            absurd (single_not_link entry (as_meets (past_place (claims run t h actor operation go _ e)).0) g y (ap (node_under states last) (sym it) ∙ is))
         by_change (change.Remove position) former e x (inr none) = absurd none
         by_change (change.Entomb s) former e x (inr it) =
-            absurd (single_not_link s (as_meets (claims run t h actor operation go _ e).1.1.1.0) g y (ap (node_under states last) (sym it) ∙ is))
+            absurd (single_not_link s (as_meets (past_place (claims run t h actor operation go _ e)).0) g y (ap (node_under states last) (sym it) ∙ is))
 
     renew_names : (l : RenewLine) → operation.line ≡ line.Renew l → HeldRenew run t actor start l → NamesWell r
     renew_names (renew.Branch path main done) e x =
@@ -164,8 +160,8 @@ module _ {limits : Bounds} {states : ℕ → State} {last : ℕ} (run : IsRun li
         by_set : Contains (entries_of (node_at heap main)) r ⊎ (r ≡ c.single) → NamesWell r
         by_set (inl old) =
             by_main (current (above c.path)) main (remembered run t h actor operation go _ e) ABranch branch_main
-            (claims run t h actor operation go _ e).1.1.1.0 old
-        by_set (inr it) = absurd (single_not_link c.single (as_meets (claims run t h actor operation go _ e).1.1.0) g y (ap (node_under states last) (sym it) ∙ is))
+            (past_climb (claims run t h actor operation go _ e)).0 old
+        by_set (inr it) = absurd (single_not_link c.single (as_meets (single_claim (claims run t h actor operation go _ e))) g y (ap (node_under states last) (sym it) ∙ is))
     climb_names (climb.Read c q) e = quiet _ e (read_quiet q.indirection q.line)
     climb_names (climb.Main c main) e = quiet _ e refl
     climb_names (climb.Root c l) e = quiet _ e (climb_root_quiet (states t) operation c l)

@@ -3,15 +3,13 @@ use Rattle.std.proofs.Common.{◌≡◌, ℕ, zero, suc, ◌<◌, ◌≤◌, ◌
 use Rattle.std.proofs.lemmas.Bool.{cases_eq}
 use Rattle.std.proofs.lemmas.Option.{none-some}
 use Rattle.proof_shape.specs.Vocabulary.{Ref, Node, Indirection, Branch, Single, Tomb, List as Listed, Slot, node_at, node_of, prev_of, main_of, next_ref, logical, Operation, Bounds, State}
-use Rattle.proof_shape.specs.Vocabulary.{action_of, grown, node_under, main_word, prev_word, IsRun}
+use Rattle.proof_shape.specs.Vocabulary.{action_of, grown, node_under, main_word, prev_word, IsRun, IsInUse, is_made, counting_main}
 use Rattle.proof_shape.specs.Beneath.slot_arena.specs.declared.nodes.Prev.TheVariants as over
 use Rattle.proof_shape.specs.Beneath.machine_model.specs.declared.actions.Action.TheVariants as act
-use Rattle.proof_shape.specs.Beneath.proof_memory.specs.Laws.{IsInUse}
 use Rattle.proof_shape.specs.Beneath.proof_memory.proofs.Heap.Moves.{grown_stays}
 use Rattle.proof_shape.specs.Beneath.proof_commits.proofs.Course.Finals.{from_time}
 use Rattle.proof_shape.specs.Beneath.proof_commits.proofs.Known.Given.{ActsOn, Taken, GrownTakes}
 use Rattle.proof_shape.specs.Beneath.proof_commits.proofs.Known.Acts.{known_run}
-use Rattle.proof_shape.specs.Beneath.proof_contents.specs.Runs.{is_made, counting_main}
 use Rattle.proof_shape.specs.Beneath.proof_contents.proofs.Values.Runs.{counting_main-made, counting_main-unmade}
 use Rattle.proof_shape.specs.Beneath.proof_contents.proofs.Values.Started.{node_stays, indirection_stays}
 use Rattle.proof_shape.specs.Beneath.proof_memory.proofs.Claims.Nodes.{IsNoLink}

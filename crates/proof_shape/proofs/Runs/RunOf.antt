@@ -1,16 +1,13 @@
 -- The states of a run are those after lists of steps: so what holds after each list of steps holds at each time.
 use Rattle.proof_shape.specs.Vocabulary.{GivesUp, Ref, node_at, list_depth, Action, Operation, Bounds, Outcome, kind_of, settled, gone, Node, Indirection, Branch, Single, Tomb, List as Listed, Step}
 use Rattle.proof_shape.specs.Vocabulary.{State, first_state, operation_of, begin_unless, go_unless, go_on, step_by, settled_after, swept, run_from, run, next, next_state, state_after, depth_of}
-use Rattle.proof_shape.specs.Vocabulary.{Begins, Ends, Sweeps, Moves, GoesOn, turns, IsRun, Turn, give_up_unless, give_up_on, give_up_by}
+use Rattle.proof_shape.specs.Vocabulary.{Begins, Ends, Sweeps, Moves, GoesOn, turns, IsRun, Turn, give_up_unless, give_up_on, give_up_by, IsInUse, meets, ABranch, PlaceLevel}
 use Rattle.std.proofs.lemmas.Bool.{true≢false}
 use Rattle.std.proofs.Common.{◌≡◌, ℕ, suc, ◌<◌, ◌≤◌, true, cond, List, [], ◌∷◌, ◌++◌, Some, Ok, Err, refl, sym, ◌∙◌, ap, subst, arith}
 use Rattle.proof_shape.specs.Beneath.machine_model.specs.declared.actions.Action.TheVariants as act
 use Rattle.proof_shape.specs.Beneath.machine_model.specs.declared.lines.Line.TheVariants as line
 use Rattle.proof_shape.specs.Beneath.machine_model.specs.declared.steps.Outcome.TheVariants as outcome
 use Rattle.proof_shape.specs.Beneath.ctrie_base.specs.declared.refusals.Refusal.TheVariants as refuse
-use Rattle.proof_shape.specs.Beneath.proof_memory.specs.Laws.{IsInUse}
-use Rattle.proof_shape.specs.Beneath.proof_memory.specs.Wants.{meets, ABranch}
-use Rattle.proof_shape.specs.Beneath.proof_memory.specs.Levels.{PlaceLevel}
 use Rattle.proof_shape.specs.Beneath.proof_memory.proofs.Levels.States.{HasLevels}
 use Rattle.proof_shape.specs.Beneath.proof_memory.proofs.Levels.Runs.{levels_of}
 use Rattle.proof_shape.specs.Beneath.proof_memory.proofs.Levels.Shapes.{ShapeAt}

@@ -2,17 +2,15 @@
 use Rattle.std.proofs.Common.{◌≡◌, ℕ, ◌<◌, ◌≤◌, true, false, length, Some, sym, ◌∙◌, ap, subst, arith, leb-true}
 use Rattle.std.proofs.lemmas.Bool.{true≢false}
 use Rattle.proof_shape.specs.Vocabulary.{Access, Call, Get, Put, PutIfAbsent, Replace, ReplaceIf, Remove, RemoveIf, Clear, Snapshot, Freeze, Close, Entries, Count, Ref, Node, Indirection, Single}
-use Rattle.proof_shape.specs.Vocabulary.{List as Listed, Heap, node_at, Operation, Bounds, needs_writable, State, operation_of, action_of, node_under, IsRun}
+use Rattle.proof_shape.specs.Vocabulary.{List as Listed, Heap, node_at, Operation, Bounds, needs_writable, State, operation_of, action_of, node_under, IsRun, IsInUse, Wanted, AMain, meets}
+use Rattle.proof_shape.specs.Vocabulary.{is_formed, listed, Holds, Is, AllHold, action_wants, IsGet}
 use Rattle.arrayvec.specs.ArrayVec.{ArrayVec}
 use Rattle.proof_shape.specs.Beneath.machine_model.specs.declared.actions.Action.TheVariants as act
-use Rattle.proof_shape.specs.Beneath.proof_memory.specs.Laws.{IsInUse}
-use Rattle.proof_shape.specs.Beneath.proof_memory.specs.Wants.{Wanted, AMain, meets, is_formed, listed, Holds, Is, AllHold, action_wants}
 use Rattle.proof_shape.specs.Beneath.proof_memory.proofs.Claims.Uses.{safe_of, meets_of}
 use Rattle.proof_shape.specs.Beneath.proof_memory.proofs.Safety.Steps.{of_actor}
 use Rattle.proof_shape.specs.Beneath.proof_memory.proofs.Safety.Base.{Fits}
 use Rattle.proof_shape.specs.Beneath.proof_memory.proofs.Safety.AtEachTime.{safe_at}
 use Rattle.proof_shape.specs.Beneath.proof_memory.proofs.Safety.AtTimes.{action_at}
-use Rattle.proof_shape.specs.Beneath.proof_contents.specs.Lines.Changes.{IsGet}
 use Rattle.proof_shape.specs.Beneath.proof_contents.proofs.Lines.Key.Knows.{Sees}
 use Rattle.proof_shape.specs.Beneath.proof_memory.proofs.Claims.Nodes.{main_no_link}
 use Rattle.proof_shape.specs.Lines.Knowing.{first_main}

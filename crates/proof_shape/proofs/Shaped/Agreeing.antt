@@ -3,10 +3,9 @@ use Rattle.std.proofs.Common.{suc, sym, ◌∙◌, arith}
 use Rattle.std.specs.Cmp.{nat_cmp_total}
 use Rattle.std.specs.FinMap as map
 use Rattle.std.specs.FinMap.{get-from_entries}
-use Rattle.proof_shape.specs.Vocabulary.{Ref, Node}
+use Rattle.proof_shape.specs.Vocabulary.{Ref, Node, IsShaped, Trie, branch, list, tomb}
 use Rattle.proof_shape.specs.Beneath.proof_contents.specs.Pairs.{pairs_from}
 use Rattle.proof_shape.specs.Beneath.proof_contents.specs.Steps.{IsTrie}
-use Rattle.proof_shape.specs.Beneath.proof_contents.specs.Tries.{IsShaped, Trie, branch, list, tomb}
 use Rattle.proof_shape.specs.Beneath.proof_contents.proofs.Pairs.Lists.{Pairs, entries_are}
 use Rattle.proof_shape.specs.Beneath.proof_contents.proofs.Pairs.Shown.{Shows, shows}
 use Rattle.proof_shape.specs.Beneath.proof_contents.proofs.Values.Found.{found_below}

@@ -1,14 +1,11 @@
 -- A main node with a change of one key has its shape.
 use Rattle.std.proofs.Common.{◌≡◌, ℕ, zero, suc, ◌-◌, ◌*◌, ◌^◌, ◌<◌, List, [], ◌∷◌, length, slice_index_or, Option, Some, None, inl, inr, refl, sym, ap, subst, ◌∙◌, arith, mod-eq_of_lt}
 use Rattle.proof_shape.specs.Vocabulary.{hash_of, HashKind, Low, Fold, Wide, Block, Call, Ref, Node, Indirection, Branch, Single, Tomb, List as Listed, no_ref, flag_of, index_in, list_depth}
-use Rattle.proof_shape.specs.Vocabulary.{updated, removed, Change, key_of, value_of, changed}
+use Rattle.proof_shape.specs.Vocabulary.{updated, removed, Change, key_of, value_of, changed, look_at, look_among, or_else, AreSingles, IsChild, IsShaped, LeadsTo, Known, Absence, no_flag}
+use Rattle.proof_shape.specs.Vocabulary.{not_listed, Presence, in_list, Neighbour, IsOther, of_branch, of_list, KnowsChange}
 use Rattle.proof_shape.specs.Beneath.ctrie_base.proofs.Fits.{low_hash-lt, fold_hash-lt, block_hash-lt}
-use Rattle.proof_shape.specs.Beneath.proof_contents.specs.Nodes.Looking.{look_at, look_among, or_else}
-use Rattle.proof_shape.specs.Beneath.proof_contents.specs.Nodes.Lists.{AreSingles}
 use Rattle.proof_shape.specs.Beneath.machine_model.specs.declared.building.Change.TheVariants as change
-use Rattle.proof_shape.specs.Beneath.proof_contents.specs.Tries.{IsChild, IsShaped}
-use Rattle.proof_shape.specs.Beneath.proof_contents.specs.Shapes.{LeadsTo}
-use Rattle.proof_shape.specs.Beneath.proof_contents.specs.Lines.Changes.{Known, Absence, no_flag, not_listed, Presence, in_branch, in_list, Neighbour, IsOther, of_branch, of_list, KnowsChange}
+use Rattle.proof_shape.specs.Beneath.proof_contents.specs.Lines.Changes.{in_branch}
 use Rattle.proof_shape.specs.Beneath.proof_contents.proofs.Shapes.Nodes.{list_shape}
 use Rattle.proof_shape.specs.Beneath.proof_contents.proofs.Shapes.Builders.{inserted_shaped, updated_shaped, linked_shaped, removed_shaped, entombed_shaped}
 use Rattle.proof_shape.specs.Beneath.proof_contents.proofs.Shapes.Lists.{list_inserted_shaped, list_updated_shaped, list_removed_shaped, list_entombed_shaped}

@@ -4,19 +4,16 @@ use Rattle.std.specs.FinMap.{entries, entries_sorted}
 use Rattle.std.specs.FinMap.Entries.{is_sorted}
 use Rattle.std.specs.Ordering.{nat_cmp}
 use Rattle.proof_shape.specs.Vocabulary.{Ref, Node, Indirection, Branch, Single, Tomb, List as Listed, node_of, entries_of, no_ref, Root, Bounds, Step, State, root_of, root_at as handle_at, word_of}
-use Rattle.proof_shape.specs.Vocabulary.{from_slot, content_at, pairs_below, most_levels, refs_of_root, by_key, IsRun, node_under}
+use Rattle.proof_shape.specs.Vocabulary.{from_slot, content_at, pairs_below, most_levels, refs_of_root, by_key, IsRun, node_under, AnIndirection, IsInUse, Trie, content, IsShaped, branch, list}
+use Rattle.proof_shape.specs.Vocabulary.{tomb, counting_main, pairs_of, ReachesInUse}
 use Rattle.proof_shape.specs.Beneath.machine_model.specs.Contents.{from_root}
-use Rattle.proof_shape.specs.Beneath.proof_memory.specs.Wants.{AnIndirection, is_indirection}
-use Rattle.proof_shape.specs.Beneath.proof_memory.specs.Laws.{IsInUse}
+use Rattle.proof_shape.specs.Beneath.proof_memory.specs.Wants.{is_indirection}
 use Rattle.proof_shape.specs.Beneath.proof_memory.proofs.Safety.AtEachTime.{safe_at}
 use Rattle.proof_shape.specs.Beneath.proof_memory.proofs.Safety.AtTimes.{kind_at}
 use Rattle.proof_shape.specs.Beneath.proof_memory.proofs.Safety.States.{IsSafe}
 use Rattle.proof_shape.specs.Beneath.proof_memory.proofs.Safety.Standing.{in_root, in_any_slot}
-use Rattle.proof_shape.specs.Beneath.proof_contents.specs.Tries.{Trie, content, IsShaped, branch, list, tomb}
 use Rattle.proof_shape.specs.Beneath.proof_contents.specs.Steps.{IsTrie}
-use Rattle.proof_shape.specs.Beneath.proof_contents.specs.Runs.{counting_main}
-use Rattle.proof_shape.specs.Beneath.proof_contents.specs.Pairs.{pairs_of, pairs_from}
-use Rattle.proof_shape.specs.Beneath.proof_contents.specs.InUse.{ReachesInUse}
+use Rattle.proof_shape.specs.Beneath.proof_contents.specs.Pairs.{pairs_from}
 use Rattle.proof_shape.specs.Beneath.proof_contents.proofs.Pairs.Heap.{pairs_are, flat_map-same, word_root as names_root}
 use Rattle.proof_shape.specs.Beneath.proof_contents.proofs.Pairs.Shown.{reached_entries}
 use Rattle.proof_shape.specs.Sites.Nodes.{depth_at, level_until, path_until}

@@ -2,19 +2,16 @@
 use Rattle.std.proofs.Common.{◌≡◌, ℕ, zero, suc, ◌==◌, Bool, true, false, cond, List, [], ◌∷◌, Contains, Option, Some, None, refl, sym, ap, ◌∙◌, subst, arith}
 use Rattle.std.proofs.lemmas.Option.{none-some, same_Some}
 use Rattle.proof_shape.specs.Vocabulary.{hash_of, flag_of, index_in, Ref, Node, Indirection, Branch, Single, Tomb, List as Listed, Heap, entries_of, logical_main, no_ref, node_at, Root, Bounds}
-use Rattle.proof_shape.specs.Vocabulary.{Step, refs_of_root, IsReached, content_at, most_levels, pairs_below, node_under, by_key, State, root_of, word_of, root_at as handle_at, IsRun, last_of}
-use Rattle.proof_shape.specs.Vocabulary.{states_of}
+use Rattle.proof_shape.specs.Vocabulary.{Step, refs_of_root, IsReached, content_at, most_levels, pairs_below, node_under, by_key, State, root_of, word_of, root_at as handle_at, IsRun}
+use Rattle.proof_shape.specs.Vocabulary.{at_place, AreSingles, Absent, Has, find_at, look_among, look_at, look_in, or_else, value_by, ReachesInUse, counting_main, IsShaped, Trie, branch}
+use Rattle.proof_shape.specs.Vocabulary.{list, tomb}
 use Rattle.proof_shape.specs.Beneath.machine_model.specs.Contents.{from_root}
 use Rattle.proof_shape.specs.Beneath.machine_model.proofs.Times.{run_ends, run_is}
-use Rattle.proof_shape.specs.Beneath.proof_contents.specs.Nodes.Branches.{at_place, standing}
-use Rattle.proof_shape.specs.Beneath.proof_contents.specs.Nodes.Lists.{AreSingles}
-use Rattle.proof_shape.specs.Beneath.proof_contents.specs.Nodes.Looking.{Absent, Found, Has, find_at, look_among, look_at, look_in, or_else, value_by}
-use Rattle.proof_shape.specs.Beneath.proof_contents.specs.InUse.{ReachesInUse}
+use Rattle.proof_shape.specs.Beneath.proof_contents.specs.Nodes.Branches.{standing}
+use Rattle.proof_shape.specs.Beneath.proof_contents.specs.Nodes.Looking.{Found}
 use Rattle.proof_shape.specs.Beneath.proof_contents.specs.Pairs.{pairs_from}
 use Rattle.proof_shape.specs.Beneath.proof_memory.specs.Wants.{is_indirection}
-use Rattle.proof_shape.specs.Beneath.proof_contents.specs.Runs.{counting_main}
 use Rattle.proof_shape.specs.Beneath.proof_contents.specs.Steps.{IsTrie}
-use Rattle.proof_shape.specs.Beneath.proof_contents.specs.Tries.{IsShaped, Trie, branch, list, tomb}
 use Rattle.proof_shape.specs.Beneath.proof_contents.proofs.Nodes.Changes.{look_branch, look_place}
 use Rattle.proof_shape.specs.Beneath.proof_contents.proofs.Pairs.Heap as pairs
 use Rattle.proof_shape.specs.Beneath.proof_contents.proofs.Pairs.Lists.{by_key_found, found_in}

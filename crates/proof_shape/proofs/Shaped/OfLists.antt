@@ -6,15 +6,12 @@ use Rattle.std.specs.FinMap.Entries.{is_sorted}
 use Rattle.std.specs.Ordering.{nat_cmp}
 use Rattle.arrayvec.specs.ArrayVec.{ArrayVec}
 use Rattle.proof_shape.specs.Vocabulary.{hash_of, Ref, Node, Indirection, Branch, Single, Tomb, List as Listed, Slot, Heap, node_at, no_ref, list_depth, Bounds, Step, State, root_at, root_of}
-use Rattle.proof_shape.specs.Vocabulary.{AreBounds, run, content_at, pairs_below, most_levels, states_of, last_of, standing, KeysFit}
-use Rattle.proof_shape.specs.Beneath.proof_contents.specs.Nodes.Branches.{HasPlaces, at_place}
-use Rattle.proof_shape.specs.Beneath.proof_contents.specs.Nodes.Lists.{AreSingles}
-use Rattle.proof_shape.specs.Beneath.proof_contents.specs.Nodes.Looking.{Has, look_at, look_among, or_else}
+use Rattle.proof_shape.specs.Vocabulary.{AreBounds, run, content_at, pairs_below, most_levels, states_of, last_of, standing, KeysFit, HasPlaces, at_place, AreSingles, Has, look_at, look_among}
+use Rattle.proof_shape.specs.Vocabulary.{or_else, AnEntry, ASingle, meets, AllHold, node_wants, is_formed, IsInUse}
 use Rattle.proof_shape.specs.Beneath.proof_contents.proofs.Nodes.Branches.{before, standing_at}
 use Rattle.proof_shape.specs.Beneath.proof_contents.proofs.Nodes.Tombs.{before-lt}
 use Rattle.proof_shape.specs.Beneath.machine_model.proofs.Times.{run_is, run_ends}
-use Rattle.proof_shape.specs.Beneath.proof_memory.specs.Wants.{AnEntry, is_indirection, ASingle, meets, AllHold, node_wants, is_formed}
-use Rattle.proof_shape.specs.Beneath.proof_memory.specs.Laws.{IsInUse}
+use Rattle.proof_shape.specs.Beneath.proof_memory.specs.Wants.{is_indirection}
 use Rattle.proof_shape.specs.Beneath.proof_memory.proofs.Claims.Uses.{Meets, all_of}
 use Rattle.proof_shape.specs.Beneath.proof_memory.proofs.Safety.AtEachTime.{safe_along}
 use Rattle.proof_shape.specs.Beneath.proof_memory.proofs.Levels.States.{heaped_in_use}

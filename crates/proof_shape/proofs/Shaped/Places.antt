@@ -2,11 +2,10 @@
 use Rattle.std.proofs.Common.{◌≡◌, ℕ, suc, ◌*◌, ◌^◌, ◌<◌, true, length, slice_index_or, Some, refl, sym, ap, ◌∙◌, arith}
 use Rattle.arrayvec.specs.ArrayVec.{ArrayVec}
 use Rattle.proof_shape.specs.Vocabulary.{hash_of, position_of, HashKind, Ref, Node, Indirection, Branch, Single, Tomb, List as Listed, no_ref, entries_of, bitmap_of, generation_of, flag_of}
-use Rattle.proof_shape.specs.Vocabulary.{has_flag, index_in}
+use Rattle.proof_shape.specs.Vocabulary.{has_flag, index_in, Trie, IsChild, IsShaped, generation}
 use Rattle.proof_shape.specs.Beneath.proof_contents.proofs.Nodes.Branches.{flagged}
 use Rattle.proof_shape.specs.Beneath.proof_contents.proofs.Nodes.Tombs.{place_of}
 use Rattle.proof_shape.specs.Beneath.proof_memory.specs.Wants.{is_indirection}
-use Rattle.proof_shape.specs.Beneath.proof_contents.specs.Tries.{Trie, IsChild, IsShaped, generation}
 use Rattle.proof_shape.specs.Beneath.proof_contents.proofs.Shapes.Nodes.{IsBranch, branch_shape}
 use Rattle.proof_shape.specs.Beneath.proof_contents.proofs.Values.Parting.{leads_down}
 use Rattle.proof_generations.proofs.Lines.ReaderKnows.{indirection_is}

@@ -3,8 +3,7 @@ use Rattle.std.proofs.Common.{◌≡◌, ℕ, ◌+◌, ◌*◌, ◌^◌, ◌<◌
 use Rattle.std.proofs.lemmas.Bool.{cases_lt}
 use Rattle.std.proofs.lemmas.List.{get_or_append_left, get_or_push, length-append}
 use Rattle.arrayvec.specs.ArrayVec.{ArrayVec}
-use Rattle.proof_shape.specs.Vocabulary.{HashKind, Ref, Branch, Single, Tomb, no_ref, entries_of, contracted}
-use Rattle.proof_shape.specs.Beneath.proof_contents.specs.Tries.{Trie, IsShaped}
+use Rattle.proof_shape.specs.Vocabulary.{HashKind, Ref, Branch, Single, Tomb, no_ref, entries_of, contracted, Trie, IsShaped}
 use Rattle.proof_shape.specs.Beneath.proof_contents.specs.Shapes.{Fits}
 use Rattle.proof_shape.specs.Beneath.proof_contents.proofs.Shapes.Builders.{refilled_shaped, contracted_shaped}
 use Rattle.proof_shape.specs.Sites.Lines.{Sites, trie_at, DoneSite, entry_in}

@@ -2,14 +2,12 @@
 use Rattle.std.proofs.Common.{◌≡◌, ℕ, ◌≤◌, true, Some, refl, sym, subst, ◌∙◌, arith}
 use Rattle.std.proofs.lemmas.Bool.{false≢true}
 use Rattle.proof_shape.specs.Vocabulary.{Ref, Node, Indirection, Branch, Single, Tomb, List as Listed, Prev, Heap, node_at, prev_at, main_of, logical, logical_main, list_depth, Root, RootWord}
-use Rattle.proof_shape.specs.Vocabulary.{Plain, Offer, State, root_at, root_of, run}
+use Rattle.proof_shape.specs.Vocabulary.{Plain, Offer, State, root_at, root_of, run, AMain, AnIndirection, meets, is_branch, Is, Holds, AllHold, node_wants, prev_wants, word_wants, IsInUse}
+use Rattle.proof_shape.specs.Vocabulary.{NodeLevel, PrevLevel}
 use Rattle.proof_shape.specs.Beneath.slot_arena.specs.declared.nodes.Prev.TheVariants as prev
-use Rattle.proof_shape.specs.Beneath.proof_memory.specs.Wants.{AMain, AnIndirection, meets, is_branch, Is, Holds, AllHold, node_wants, prev_wants, word_wants}
-use Rattle.proof_shape.specs.Beneath.proof_memory.specs.Laws.{IsInUse}
 use Rattle.proof_shape.specs.Beneath.proof_memory.proofs.Claims.Uses.{safe_of, meets_of}
 use Rattle.proof_shape.specs.Beneath.proof_memory.proofs.Safety.States.{IsSafe}
 use Rattle.proof_shape.specs.Beneath.proof_memory.proofs.Safety.AtEachTime.{safe_along}
-use Rattle.proof_shape.specs.Beneath.proof_memory.specs.Levels.{NodeLevel, PrevLevel}
 use Rattle.proof_shape.specs.Beneath.proof_memory.proofs.Levels.States.{HasLevels, heaped_in_use, level_under}
 use Rattle.proof_shape.specs.Beneath.proof_memory.proofs.Levels.Runs.{levels_of}
 use Rattle.proof_shape.specs.Beneath.proof_memory.proofs.Levels.Shapes.{ShapeAt, deep_low}

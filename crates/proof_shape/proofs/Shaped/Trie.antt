@@ -3,16 +3,12 @@ use Rattle.std.proofs.Common.{◌≡◌, ℕ, zero, suc, ◌+◌, ◌-◌, ◌*�
 use Rattle.std.proofs.Common.{inr, refl, sym, ap, ap₂, subst, ◌∙◌, arith, []}
 use Rattle.std.proofs.lemmas.Bool.{false≢true, cond_both}
 use Rattle.proof_shape.specs.Vocabulary.{hash_of, Ref, Node, Indirection, Branch, Single, Slot, node_of, prev_of, logical, entries_of, no_ref, empty_branch, entries_from, index_in, list_depth}
-use Rattle.proof_shape.specs.Vocabulary.{Bounds, Step, State, IsRun, grown, node_under, main_before}
-use Rattle.proof_shape.specs.Beneath.proof_contents.specs.Nodes.Looking.{look_at, look_among, or_else}
-use Rattle.proof_shape.specs.Beneath.proof_contents.specs.Nodes.Lists.{AreSingles}
-use Rattle.proof_shape.specs.Beneath.proof_contents.specs.Nodes.Branches.{at_place}
+use Rattle.proof_shape.specs.Vocabulary.{Bounds, Step, State, IsRun, grown, node_under, main_before, look_at, look_among, or_else, AreSingles, at_place, Trie, generation, IsChild, IsShaped, branch}
+use Rattle.proof_shape.specs.Vocabulary.{list, tomb, node_in, is_made, main_within, counting_main, root_until}
 use Rattle.proof_shape.specs.Beneath.proof_contents.proofs.Nodes.Branches.{before, standing_at}
 use Rattle.proof_shape.specs.Beneath.proof_contents.proofs.Nodes.Tombs.{before-lt}
 use Rattle.proof_shape.specs.Beneath.proof_memory.specs.Wants.{is_indirection}
 use Rattle.proof_shape.specs.Beneath.proof_memory.proofs.Levels.Shapes.{deep_low}
-use Rattle.proof_shape.specs.Beneath.proof_contents.specs.Tries.{Trie, generation, IsChild, IsShaped, branch, list, tomb, node_in}
-use Rattle.proof_shape.specs.Beneath.proof_contents.specs.Runs.{is_made, main_within, counting_main, root_until}
 use Rattle.proof_shape.specs.Beneath.proof_contents.proofs.Values.Runs.{key_until}
 use Rattle.proof_shape.specs.Beneath.proof_contents.proofs.Shapes.Builders.{empty_shaped}
 use Rattle.proof_shape.specs.Beneath.proof_contents.proofs.Shapes.Lists.{shape_moves}

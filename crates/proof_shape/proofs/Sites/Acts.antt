@@ -2,7 +2,8 @@
 use Rattle.std.proofs.Common.{◌≡◌, ℕ, ◌-◌, ◌*◌, ◌^◌, ◌<◌, ◌&&◌, true, false, nat_lt, length, refl, sym, ap, subst, ◌∙◌, ltb-true, lt-ltb, leb-true, arith}
 use Rattle.std.proofs.lemmas.Bool.{false≢true}
 use Rattle.proof_shape.specs.Vocabulary.{HashKind, Ref, Node as SlotNode, Branch, node_at, bitmap_of, no_ref, has_flag, list_depth, Operation, ReadLine, SwapLine, CompleteLine, Descriptor, RootLine}
-use Rattle.proof_shape.specs.Vocabulary.{Line, key_of, State, current, above, depth_of, hash_in, is_below_root, action_at, complete_action_at, root_action, leaves_single, line_action}
+use Rattle.proof_shape.specs.Vocabulary.{Line, key_of, State, current, above, depth_of, hash_in, is_below_root, action_at, complete_action_at, root_action, leaves_single, line_action, AllHold}
+use Rattle.proof_shape.specs.Vocabulary.{line_wants, flags, ReadLevel, CompleteLevel, RootLevel, LineLevel, Known, KnowsLine}
 use Rattle.proof_shape.specs.Beneath.machine_model.specs.declared.reading.ReadLine.TheVariants as read
 use Rattle.proof_shape.specs.Beneath.machine_model.specs.declared.reading.SwapLine.TheVariants as swap
 use Rattle.proof_shape.specs.Beneath.machine_model.specs.declared.roots.CompleteLine.TheVariants as complete
@@ -14,12 +15,10 @@ use Rattle.proof_shape.specs.Beneath.machine_model.specs.declared.repairs.ClimbL
 use Rattle.proof_shape.specs.Beneath.machine_model.specs.declared.copying.CopyLine.TheVariants as copy
 use Rattle.proof_shape.specs.Beneath.machine_model.specs.declared.walking.WalkLine.TheVariants as walk
 use Rattle.proof_shape.specs.Beneath.machine_model.specs.declared.lines.Line.TheVariants as line
-use Rattle.proof_shape.specs.Beneath.proof_memory.specs.Wants.{AllHold, line_wants, flags}
 use Rattle.proof_shape.specs.Beneath.proof_memory.proofs.Claims.Uses.{safe_of, meets_of, fact_of, all_of}
-use Rattle.proof_shape.specs.Beneath.proof_memory.specs.Levels.{ReadLevel, CompleteLevel, RootLevel, LineLevel}
+use Rattle.proof_shape.specs.Beneath.proof_memory.proofs.Claims.Named.{main_claim, done_claim, left_claim, single_claim, past_climb}
 use Rattle.proof_shape.specs.Beneath.proof_memory.proofs.Levels.Paths.{current_level}
 use Rattle.proof_shape.specs.Beneath.proof_memory.proofs.Levels.Shapes.{LineShape, deep_low}
-use Rattle.proof_shape.specs.Beneath.proof_contents.specs.Lines.Changes.{Known, KnowsLine}
 use Rattle.proof_shape.specs.Beneath.proof_contents.proofs.Shapes.Builders.{empty_shaped}
 use Rattle.proof_shape.specs.Sites.Nodes.{depth_at}
 use Rattle.proof_shape.specs.Sites.Lines.{Sites, trie_at, ReadSite, SwapSite, SwapLineSite, LineSite}
@@ -95,12 +94,12 @@ module _ (s : Sites) (fits : (i : Ref) → s.path i < 2 ^ (5 * depth_at (s.level
     line_acts (line.Renew (renew.Entry path main done)) h e g p knows = tt
     line_acts (line.Renew (renew.Read path main done x)) h e g p knows = read_acts kind s _ x.indirection x.line p.2
     line_acts (line.Renew (renew.Link path main done child)) h e g p knows = λ r at.
-        let stands = link_stands s fits state operation S N path main done r (safe_of h.1.1.0) (meets_of h.1.1.0)
-        (more_left s fits state operation S N main done (safe_of h.1.1.0) (meets_of h.1.1.1.1.0)) p.1.1 e.0.0.1 at.0 at.1 in
+        let stands = link_stands s fits state operation S N path main done r (safe_of (main_claim h)) (meets_of (main_claim h))
+        (more_left s fits state operation S N main done (safe_of (main_claim h)) (meets_of (left_claim h))) p.1.1 e.0.0.1 at.0 at.1 in
         p.2 ∙ sym stands.led
     line_acts (line.Renew (renew.Branch path main done)) h e g p knows = λ r at.
-        repair_makes s fits state operation S N false path main done r (safe_of h.1.1.0) (meets_of h.1.1.0)
-        (leb-true _ (length done) (meets_of h.1.1.1.1.0)) p e.0.1 at.0 (on_way s kind hash (depth_of path) r at.1)
+        repair_makes s fits state operation S N false path main done r (main_claim h)
+        (leb-true _ (length done) (meets_of (left_claim h))) p e.0.1 at.0 (on_way s kind hash (depth_of path) r at.1)
         (λ single bad. absurd (false≢true bad))
     line_acts (line.Clean (clean.Read path x)) h e g p knows = read_acts kind s _ x.indirection x.line p.2
     line_acts (line.Clean (clean.Main path main)) h e g p knows = tt
@@ -109,9 +108,9 @@ module _ (s : Sites) (fits : (i : Ref) → s.path i < 2 ^ (5 * depth_at (s.level
     line_acts (line.Clean (clean.Tomb path main done child)) h e g p knows = tt
     line_acts (line.Clean (clean.Contracted path main done)) h e g p knows = λ r at.
         shaped_inside kind s r _
-        (repair_makes s fits state operation S N (is_below_root path && leaves_single state done) path main done r (safe_of h.1.1.0) (meets_of h.1.1.0)
-        (leb-true _ (length done) (meets_of h.1.1.1.1.0)) p e.0.1 at.0
-        (on_way s kind hash (depth_of path) r at.1) (left_alone s fits state operation S N path done (all_of h.1.1.1.0)))
+        (repair_makes s fits state operation S N (is_below_root path && leaves_single state done) path main done r (main_claim h)
+        (leb-true _ (length done) (meets_of (left_claim h))) p e.0.1 at.0
+        (on_way s kind hash (depth_of path) r at.1) (left_alone s fits state operation S N path done (all_of (done_claim h))))
     line_acts (line.Climb (climb.Read c x)) h e g p knows = read_acts kind s _ x.indirection x.line p.2
     line_acts (line.Climb (climb.Main c main)) h e g p knows = tt
     line_acts (line.Climb (climb.Contracted c main)) h e g p knows = λ r at.
@@ -119,9 +118,9 @@ module _ (s : Sites) (fits : (i : Ref) → s.path i < 2 ^ (5 * depth_at (s.level
         let some : nat_lt 0 (length c.path) ≡ true = lt-ltb 0 (length c.path) (let two : 1 < length c.path = ltb-true 1 (length c.path) long in omega arith) in
         let last = all_of h.0 (length c.path - 1) no_ref (let pos : 0 < length c.path = ltb-true 0 (length c.path) some in omega arith) in
         shaped_inside kind s r _
-        (climb_makes s fits state operation S N c main r (safe_of h.1.1.1.0) (meets_of h.1.1.1.0) (flags_bitmap _ (node_at state.heap main) (meets_of h.1.1.1.1.0)) long (safe_of h.1.1.0)
-        (single_is s fits state operation S N c.single (node_at state.heap c.single) refl (safe_of h.1.1.0) (meets_of h.1.1.0))
-        (link_seen s state S N (current c.path) last.0 ∙ last.1) (current_level s.level c.path e.0 some) e.1 p.0 p.1 p.2
+        (climb_makes s fits state operation S N c main r h (flags_bitmap _ (node_at state.heap main) (meets_of (past_climb h).1.0))
+        (single_is s fits state operation S N c.single (node_at state.heap c.single) refl (safe_of (single_claim h)) (meets_of (single_claim h)))
+        (link_seen s state S N (current c.path) last.0 ∙ last.1) (current_level s.level c.path e.0 some) e.1 p
         at.0 (on_way s kind hash (depth_of (above c.path)) r at.1))
     line_acts (line.Climb (climb.Root c l)) h e g p knows = root_acts kind _ l e.1
     line_acts (line.Copy (copy.Read q l)) h e g p knows = read_acts kind s _ l.indirection l.line (root_read kind l.indirection l.line e.1 e.2)

@@ -1,10 +1,10 @@
 -- Main nodes, lines and the paths of operations stand at their sites at each time of a run.
 use Rattle.std.proofs.Common.{◌≡◌, ℕ, ◌+◌, ◌<◌, ◌≤◌, true, cond, length, get_or, slice_index_or, Some, None, inl, inr, sym, ap, subst, ◌∙◌, ltb-true, arith}
 use Rattle.std.proofs.lemmas.Bool.{cases_lt, false≢true}
-use Rattle.proof_shape.specs.Vocabulary.{hash_of, Ref, Node, Indirection, no_ref, list_depth, Operation, Bounds, Step, key_of, depth_of, State, operation_of, IsRun, node_under}
+use Rattle.proof_shape.specs.Vocabulary.{hash_of, Ref, Node, Indirection, no_ref, list_depth, Operation, Bounds, Step, key_of, depth_of, State, operation_of, IsRun, node_under, AnIndirection}
+use Rattle.proof_shape.specs.Vocabulary.{AllHold, line_wants, swap_wants, purpose_wants, IsInUse}
 use Rattle.proof_shape.specs.Beneath.machine_model.specs.declared.lines.Purpose.TheVariants as purpose
-use Rattle.proof_shape.specs.Beneath.proof_memory.specs.Wants.{AnIndirection, is_indirection, AllHold, line_wants, swap_wants, purpose_wants}
-use Rattle.proof_shape.specs.Beneath.proof_memory.specs.Laws.{IsInUse}
+use Rattle.proof_shape.specs.Beneath.proof_memory.specs.Wants.{is_indirection}
 use Rattle.proof_shape.specs.Beneath.proof_memory.proofs.Claims.Uses.{Meets, fact_of, last_hold}
 use Rattle.proof_shape.specs.Beneath.proof_memory.proofs.Safety.Steps.{of_actor}
 use Rattle.proof_shape.specs.Beneath.proof_memory.proofs.Safety.AtTimes.{limits_at, line_at}

@@ -1,6 +1,6 @@
 -- What stands after a step and didn't before was made in it.
 use Rattle.proof_shape.specs.Vocabulary.{GivesUp, Ref, Node, Slot, next_ref, ripe, Operation, Outcome, Step, handle_of, State, operation_of, action_of, gone, settled, pin_of, Begins, Ends, Sweeps}
-use Rattle.proof_shape.specs.Vocabulary.{Moves, begun_operation, standing}
+use Rattle.proof_shape.specs.Vocabulary.{Moves, begun_operation, standing, made_node}
 use Rattle.std.proofs.Common.{◌≡◌, ℕ, ◌+◌, map, get_or, Option, Some, None, refl, sym, ap, ◌∙◌, ◌⊎◌, inl, inr, arith}
 use Rattle.std.proofs.lemmas.Bool.{cases_eq}
 use Rattle.std.proofs.lemmas.Option.{none-some, same_Some}
@@ -10,7 +10,6 @@ use Rattle.proof_shape.specs.Beneath.machine_model.proofs.InUse.{InUse}
 use Rattle.proof_shape.specs.Beneath.machine_model.proofs.Slots.{ripe_in_use}
 use Rattle.proof_shape.specs.Beneath.machine_model.specs.Moves.{Goes}
 use Rattle.proof_shape.specs.Beneath.proof_memory.proofs.Heap.Under.{fresh_slot, taken_all}
-use Rattle.proof_shape.specs.Beneath.proof_memory.specs.Making.{made_node}
 use Rattle.proof_shape.specs.Beneath.proof_memory.proofs.Safety.States.{IsSafe, stood_or_made, stands_in_use}
 use Rattle.proof_shape.specs.Beneath.proof_memory.proofs.Safety.Steps.{of_actor, gone_effect, made_heap}
 use Rattle.proof_shape.specs.Beneath.proof_memory.proofs.Heap.Moves.{WordMove, keeps, makes, publishes, restores, commits, fails, standing_move, sweep_goes}

@@ -1,23 +1,20 @@
 -- Sites in BUILD: what it makes has its shape, and what comes after.
 use Rattle.std.proofs.Common.{◌≡◌, ℕ, suc, ◌+◌, ◌-◌, ◌*◌, ◌^◌, ◌<◌, ◌≤◌, ◌==◌, true, slice_index_or, List, Option, Some, None, is_some, refl, sym, ap, subst, ◌∙◌, eqb-true, arith}
 use Rattle.std.proofs.lemmas.Bool.{false≢true, cond_both}
-use Rattle.proof_shape.specs.Vocabulary.{hash_of, HashKind, Ref, Node, Branch, Single, node_at, entry_at, entries_of, next_ref, no_ref, list_depth, index_in, flag_of, parting, pair, rung, Operation}
+use Rattle.proof_shape.specs.Vocabulary.{hash_of, HashKind, Ref, Branch, Single, node_at, entry_at, entries_of, next_ref, no_ref, list_depth, index_in, flag_of, parting, pair, rung, Operation}
 use Rattle.proof_shape.specs.Vocabulary.{Site, Change, BuildLine, Line, key_of, value_of, State, depth_of, hash_in, flag_in, build_action, build_after, build_if_made, build_after_made, after_single}
-use Rattle.proof_shape.specs.Vocabulary.{after_link, changed, old_hash, key_in}
-use Rattle.proof_shape.specs.Beneath.proof_contents.specs.Nodes.Branches.{at_place}
-use Rattle.proof_shape.specs.Beneath.proof_contents.specs.Nodes.Chains.{Parts}
+use Rattle.proof_shape.specs.Vocabulary.{after_link, changed, old_hash, key_in, at_place, Parts, AllHold, line_wants, site_wants, UpdateLevel, ChangeLevel, BuildLevel, IsShaped, Known, Neighbour}
+use Rattle.proof_shape.specs.Vocabulary.{KnowsChange, KnowsBuild}
+use Rattle.proof_shape.specs.Vocabulary.{Holds, Is, BranchOrList}
 use Rattle.proof_shape.specs.Beneath.proof_contents.proofs.Nodes.Branches.{flagged}
 use Rattle.proof_shape.specs.Beneath.proof_contents.proofs.Nodes.Partings.{IsParting, parting_is, pair_parts}
 use Rattle.proof_shape.specs.Beneath.machine_model.specs.declared.building.Site.TheVariants as site
 use Rattle.proof_shape.specs.Beneath.machine_model.specs.declared.building.Change.TheVariants as change
 use Rattle.proof_shape.specs.Beneath.machine_model.specs.declared.building.BuildLine.TheVariants as build
 use Rattle.proof_shape.specs.Beneath.machine_model.specs.declared.lines.Line.TheVariants as line
-use Rattle.proof_shape.specs.Beneath.proof_memory.specs.Wants.{AllHold, line_wants, site_wants}
 use Rattle.proof_shape.specs.Beneath.proof_memory.proofs.Claims.Uses.{safe_of, meets_of, fact_of, entry_of}
-use Rattle.proof_shape.specs.Beneath.proof_memory.specs.Levels.{UpdateLevel, ChangeLevel, BuildLevel}
+use Rattle.proof_shape.specs.Beneath.proof_memory.proofs.Claims.Named.{main_claim, past_place}
 use Rattle.proof_shape.specs.Beneath.proof_memory.proofs.Levels.Shapes.{LineShape}
-use Rattle.proof_shape.specs.Beneath.proof_contents.specs.Tries.{IsShaped}
-use Rattle.proof_shape.specs.Beneath.proof_contents.specs.Lines.Changes.{Known, Neighbour, KnowsChange, KnowsBuild}
 use Rattle.proof_shape.specs.Beneath.proof_contents.proofs.Shapes.Nodes.{IsBranch, branch_shape}
 use Rattle.proof_shape.specs.Beneath.proof_contents.proofs.Shapes.Builders.{pair_shaped, rung_shaped}
 use Rattle.proof_shape.specs.Beneath.proof_contents.proofs.Shapes.Lists.{shape_moves}
@@ -126,29 +123,31 @@ module _ (s : Sites) (fits : (i : Ref) → s.path i < 2 ^ (5 * depth_at (s.level
         let is = bare_single (node_at state.heap entry) k v (sym (N.same entry u) ∙ ap bare e) in
         (is, subst (InsideSite kind s entry) is (N.inside entry u))
 
-    main_made : (path : List Ref) (main : Ref) (former : Option ℕ) (c : Change) (r : Ref) (n : Node) → node_at state.heap main ≡ n → (s.node main ≡ n) × IsShaped (trie_at kind s) main n →
-        s.level main ≡ depth_of path + 1 → PlaceSite kind s hash path main → ChangeLevel s.level path former c → ChangeSite kind s hash path former c →
-        KnowsChange K operation.call (depth_of path) main former c →
-        s.level r ≡ depth_of path + 1 → IsOnWay kind s hash (depth_of path) r → IsShaped (trie_at kind s) r (changed (flag_in state operation path) n c)
-    main_made path main former c r n is both level p cl cs knows level_r on =
+    main_made : (path : List Ref) (main : Ref) (former : Option ℕ) (c : Change) (r : Ref) → Holds S state.heap (Is main BranchOrList) → BuildLevel s.level (build.Main path main c former) →
+        BuildSite kind s hash (build.Main path main c former) → KnowsChange K operation.call (depth_of path) main former c → s.level r ≡ depth_of path + 1 → IsOnWay kind s hash (depth_of path) r →
+        IsShaped (trie_at kind s) r (changed (flag_in state operation path) (node_at state.heap main) c)
+    main_made path main former c r at e p knows level_r on =
+        let n = node_at state.heap main in
+        let both = main_same s state S N main (safe_of at) n refl (meets_of at) in
         let here : depth_at (s.level r) ≡ depth_of path = omega (arith, level_r) in
         let led : path_to hash (depth_at (s.level r)) ≡ s.path r = ap (path_to hash) here ∙ sym on in
         subst (λ d. IsShaped (trie_at kind s) r (changed (flag_of hash d) n c)) here
-        (change_shaped kind s fits first operation.call r key_fits led main former c n both.0 (shape_moves (trie_at kind s) main r n (stands kind s main r (level_r ∙ sym level) (on ∙ sym p.1)) both.1)
-        (subst (λ d. KnowsChange K operation.call d main former c) (sym here) knows) (link_child path former c r level_r on cl cs led))
+        (change_shaped kind s fits first operation.call r key_fits led main former c n both.0
+        (shape_moves (trie_at kind s) main r n (stands kind s main r (level_r ∙ sym e.0.1) (on ∙ sym p.0.1)) both.1)
+        (subst (λ d. KnowsChange K operation.call d main former c) (sym here) knows) (link_child path former c r level_r on e.1 p.1 led))
 
     pub build_makes : (l : BuildLine) → Wants (line.Build l) → BuildLevel s.level l → LineShape (list_depth kind) (line.Build l) → BuildSite kind s hash l → KnowsBuild K operation.call l →
         ActionSite kind s (AtSite s state operation (line.Build l)) (build_action state operation l)
     build_makes (build.Single path main where_ former) h e g p knows = λ r at. key_fits
     build_makes (build.Pair path main position single depth) h e g p (inserts, (beside, new, is_depth)) = λ r at.
         let entry_is : entry_at state.heap main position ≡ slice_index_or beside.entries.items position no_ref =
-        ap (λ es. slice_index_or es position no_ref) (entries_seen s state S N main (safe_of h.1.1.0) ∙ ap entries_of beside.branch.is) in
-        let other = single_fits (entry_at state.heap main position) beside.other beside.own (entry_of h.1.1.1.0).0 (ap s.node entry_is ∙ beside.is) in
+        ap (λ es. slice_index_or es position no_ref) (entries_seen s state S N main (safe_of (main_claim h)) ∙ ap entries_of beside.branch.is) in
+        let other = single_fits (entry_at state.heap main position) beside.other beside.own (entry_of (past_place h).0).0 (ap s.node entry_is ∙ beside.is) in
         let here : depth_at (depth + 1) ≡ depth = omega arith in
         shaped_inside kind s r _
         (subst (λ x. IsShaped (trie_at kind s) r (pair kind depth (old_hash state main position) hash x single)) (sym entry_is)
         (subst (λ x. IsShaped (trie_at kind s) r (pair kind depth x hash (slice_index_or beside.entries.items position no_ref) single)) (sym (ap (λ n. hash_of kind (key_in n)) other.0))
-        (pair_made path main position (safe_of h.1.1.0) e.0.1 p beside single depth r new is_depth g other.1 at.0 (at.1 ∙ ap (path_to hash) here))))
+        (pair_made path main position (safe_of (main_claim h)) e.0.1 p beside single depth r new is_depth g other.1 at.0 (at.1 ∙ ap (path_to hash) here))))
     build_makes (build.Link path main position below depth) h e g p knows = λ r at.
         let here : depth_at (depth + 1) ≡ depth = omega arith in
         p.1 ∙ sym (at.1 ∙ ap (path_to hash) here)
@@ -161,8 +160,7 @@ module _ (s : Sites) (fits : (i : Ref) → s.path i < 2 ^ (5 * depth_at (s.level
     build_makes (build.Main path main c former) h e g p knows = λ r at.
         let here : depth_at (depth_of path + 1) ≡ depth_of path = omega arith in
         shaped_inside kind s r _
-        (main_made path main former c r (node_at state.heap main) refl (main_same s state S N main (safe_of h.1.1.0) (node_at state.heap main) refl (meets_of h.1.1.0)) e.0.1 p.0 e.1 p.1 knows at.0
-        (at.1 ∙ ap (path_to hash) here))
+        (main_made path main former c r (main_claim h) e p knows at.0 (at.1 ∙ ap (path_to hash) here))
 
   -- ---- what comes after
 
@@ -192,7 +190,7 @@ module _ (s : Sites) (fits : (i : Ref) → s.path i < 2 ^ (5 * depth_at (s.level
 
   pub build_next : (l : BuildLine) → Wants (line.Build l) → BuildLevel s.level l → BuildSite kind s hash l → Made (line.Build l) → LineSite kind s hash (build_after state operation l)
   build_next (build.Single path main where_ former) h e p m =
-      build_by (build.Single path main where_ former) (λ made n. single_next path main former where_ made h.1.1.1 p) (next_ref state.heap) refl
+      build_by (build.Single path main where_ former) (λ made n. single_next path main former where_ made (past_place h) p) (next_ref state.heap) refl
   build_next (build.Pair path main position single depth) h e p m =
       build_by (build.Pair path main position single depth) (λ made n. (p, on_way s kind hash depth made (m made n).1)) (next_ref state.heap) refl
   build_next (build.Link path main position below depth) h e p m =

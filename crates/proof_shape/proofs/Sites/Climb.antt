@@ -7,17 +7,20 @@ use Rattle.arrayvec.specs.ArrayVec.{ArrayVec}
 use Rattle.proof_shape.specs.Vocabulary.{hash_of, position_of, HashKind, Ref, Node, Branch, Single, Tomb, Prev, node_at, entries_of, bitmap_of, next_ref, no_ref, has_flag, index_in, contracted}
 use Rattle.proof_shape.specs.Vocabulary.{Operation, After, Gives, ReadLine, Swap, SwapLine, RootLine, Climb, Purpose, State, current, above, depth_of, hash_in, flag_in, is_start, is_below_root}
 use Rattle.proof_shape.specs.Vocabulary.{at_indirection, after_publish, after_deciding, after_check, on_line, climbing, higher, place_in, climbed_node, climb_after_read, holds_it, climb_after_main}
-use Rattle.proof_shape.specs.Vocabulary.{climb_after_contracted, climb_after_root, after_update, climbed_on, swapped}
+use Rattle.proof_shape.specs.Vocabulary.{climb_after_contracted, climb_after_root, after_update, climbed_on, swapped, IsShaped, unchanged, becomes_single, AllHold, line_wants}
 use Rattle.proof_shape.specs.Beneath.slot_arena.specs.declared.nodes.Prev.TheVariants as prev
 use Rattle.proof_shape.specs.Beneath.proof_contents.proofs.Nodes.Branches.{flagged, position-before}
 use Rattle.proof_shape.specs.Beneath.proof_contents.proofs.Nodes.Tombs.{before-lt}
 use Rattle.proof_shape.specs.Beneath.machine_model.specs.declared.reading.After.TheVariants.{Goes}
 use Rattle.proof_shape.specs.Beneath.machine_model.specs.declared.lines.Purpose.TheVariants as purpose
+use Rattle.proof_shape.specs.Beneath.machine_model.specs.declared.repairs.ClimbLine.TheVariants as climb
+use Rattle.proof_shape.specs.Beneath.machine_model.specs.declared.lines.Line.TheVariants as line
 use Rattle.proof_shape.specs.Beneath.machine_model.specs.Operations.{after_swap as line_after_swap}
-use Rattle.proof_shape.specs.Beneath.proof_memory.specs.Wants.{meets, is_indirection, ABranch}
+use Rattle.proof_shape.specs.Beneath.proof_memory.specs.Wants.{is_indirection}
+use Rattle.proof_shape.specs.Beneath.proof_memory.proofs.Claims.Uses.{safe_of, meets_of, fact_of}
+use Rattle.proof_shape.specs.Beneath.proof_memory.proofs.Claims.Named.{single_claim, past_climb}
 use Rattle.proof_shape.specs.Beneath.proof_memory.proofs.Lines.Shared.{above_long}
-use Rattle.proof_shape.specs.Beneath.proof_contents.specs.Tries.{IsShaped}
-use Rattle.proof_shape.specs.Beneath.proof_contents.specs.Shapes.{Fits, unchanged, becomes_single}
+use Rattle.proof_shape.specs.Beneath.proof_contents.specs.Shapes.{Fits}
 use Rattle.proof_shape.specs.Beneath.proof_contents.proofs.Shapes.Nodes.{IsBranch, branch_shape, tomb_shape}
 use Rattle.proof_shape.specs.Beneath.proof_contents.proofs.Shapes.Lists.{shape_moves}
 use Rattle.proof_shape.specs.Sites.Nodes.{path_to, depth_at}
@@ -89,13 +92,22 @@ module _ (s : Sites) (fits : (i : Ref) → s.path i < 2 ^ (5 * depth_at (s.level
 
   -- ---- what CLIMB makes
 
-  pub climb_makes : (c : Climb) (main r : Ref) → S main → meets ABranch (node_at state.heap main) ≡ true →
+  pub climb_makes : (c : Climb) (main r : Ref) → AllHold S state.heap (line_wants kind operation.call operation.access (line.Climb (climb.Contracted c main))) →
       has_flag (bitmap_of (node_at state.heap main)) (flag_in state operation (above c.path)) ≡ true →
-      nat_lt 1 (length c.path) ≡ true → S c.single → IsSingle (trie_at kind s) c.single → is_indirection (s.node (current c.path)) ≡ true → s.level (current c.path) ≡ depth_of c.path + 1 →
-      s.level main ≡ depth_of (above c.path) + 1 → CarriesSite kind s hash c → IsOnWay kind s hash (depth_of (above c.path)) main → HoldsTombed kind s hash c main →
+      IsSingle (trie_at kind s) c.single → is_indirection (s.node (current c.path)) ≡ true → s.level (current c.path) ≡ depth_of c.path + 1 →
+      s.level main ≡ depth_of (above c.path) + 1 → LineSite kind s hash (line.Climb (climb.Contracted c main)) →
       s.level r ≡ depth_of (above c.path) + 1 → IsOnWay kind s hash (depth_of (above c.path)) r → IsShaped (trie_at kind s) r (climbed_node state operation c main)
-  climb_makes c main r u is flag long v single link level_current level p on held level_r on_r = by_branch (branch_there s fits state operation S N main u is)
+  climb_makes c main r h flag single link level_current level (p, on, held) level_r on_r = by_branch (branch_there s fits state operation S N main u (meets_of (past_climb h).0))
     where
+      u : S main
+      u = safe_of (past_climb h).0
+
+      v : S c.single
+      v = safe_of (single_claim h)
+
+      long : nat_lt 1 (length c.path) ≡ true
+      long = fact_of h.1.0
+
       place : ℕ
       place = place_in state operation c main
 

@@ -3,12 +3,11 @@ use Rattle.std.proofs.Common.{◌≡◌, ℕ, zero, suc, ◌<◌, ◌≤◌, Boo
 use Rattle.std.proofs.lemmas.List.{get_or_append_left, length-append}
 use Rattle.std.proofs.lemmas.List.Elements.{All-nil, All-cons, All-head, All-tail}
 use Rattle.proof_shape.specs.Vocabulary.{Ref, Line, Operation, Bounds, Step, State, first_state, operation_of, next_entry, run, run_from, next, next_state, is_number, is_taken_step, taken_from}
-use Rattle.proof_shape.specs.Vocabulary.{taken_steps, states_from, states_of, last_of, grown, standing, FitsKey, KeysFit}
+use Rattle.proof_shape.specs.Vocabulary.{taken_steps, states_from, states_of, last_of, grown, standing, FitsKey, KeysFit, made_now, level_now}
 use Rattle.proof_shape.specs.Beneath.machine_model.specs.declared.lines.Line.TheVariants as line
 use Rattle.proof_shape.specs.Beneath.machine_model.specs.declared.repairs.RenewLine.TheVariants as renew
 use Rattle.proof_shape.specs.Beneath.machine_model.specs.declared.steps.Step.TheVariants as step
 use Rattle.proof_shape.specs.Beneath.machine_model.proofs.Times.{run_is, run_ends, states_from-zero}
-use Rattle.proof_shape.specs.Beneath.proof_memory.specs.Making.{made_now, level_now}
 use Rattle.proof_shape.specs.Sites.Nodes.{path_to, depth_at, leads_by, leads_of, leads_now, level_until, path_until, steps_of}
 use Rattle.proof_shape.specs.Sites.At.{StepsFit}
 use Rattle.proof_shape.specs.Laws.{SitesAreFixed}

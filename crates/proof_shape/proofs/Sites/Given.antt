@@ -1,6 +1,6 @@
 -- What a step makes is given its level and its path there, and keeps them; so nodes stand at their levels at each time.
 use Rattle.proof_shape.specs.Vocabulary.{GivesUp, ref_to, Ref, Node, Slot, next_ref, list_depth, Bounds, Outcome, Step, handle_of, State, first_state, action_of, is_number, IsRun, grown, standing}
-use Rattle.proof_shape.specs.Vocabulary.{Begins, Ends, Sweeps, Moves}
+use Rattle.proof_shape.specs.Vocabulary.{Begins, Ends, Sweeps, Moves, made_node, AllHold, node_wants, prev_wants, IsInUse, WordLevel, EntryLevel, if_made, made_by, made_now, level_now, level_by}
 use Rattle.std.proofs.Common.{◌≡◌, ℕ, zero, suc, ◌+◌, ◌<◌, ◌≤◌, cond, Option, Some, None, refl, sym, ap, ◌∙◌, subst, inl, inr, ◌++◌, eq-eqb, arith}
 use Rattle.std.proofs.lemmas.Bool.{cases_eq, cond_both}
 use Rattle.std.proofs.lemmas.Option.{none-some}
@@ -9,19 +9,14 @@ use Rattle.proof_shape.specs.Beneath.machine_model.specs.declared.steps.Step.The
 use Rattle.proof_shape.specs.Beneath.machine_model.proofs.Found.{none_found}
 use Rattle.proof_shape.specs.Beneath.machine_model.specs.Moves.{Goes}
 use Rattle.proof_shape.specs.Beneath.proof_memory.proofs.Heap.Under.{fresh_slot, taken_all}
-use Rattle.proof_shape.specs.Beneath.proof_memory.specs.Making.{made_node}
 use Rattle.proof_shape.specs.Beneath.proof_memory.proofs.Safety.States.{IsSafe}
 use Rattle.proof_shape.specs.Beneath.proof_memory.proofs.Safety.Steps.{made_heap}
 use Rattle.proof_shape.specs.Beneath.proof_memory.proofs.Safety.AtEachTime.{safe_at}
-use Rattle.proof_shape.specs.Beneath.proof_memory.specs.Wants.{AllHold, node_wants, prev_wants}
-use Rattle.proof_shape.specs.Beneath.proof_memory.specs.Laws.{IsInUse}
 use Rattle.proof_shape.specs.Beneath.proof_memory.proofs.Claims.Uses.{safe_of}
 use Rattle.proof_shape.specs.Beneath.proof_memory.proofs.Safety.First.{first_words, first_stands, safe_at_first}
 use Rattle.proof_shape.specs.Beneath.proof_memory.proofs.Heap.Moves.{grown_stays, not_yet_drawn}
-use Rattle.proof_shape.specs.Beneath.proof_memory.specs.Levels.{WordLevel, EntryLevel}
 use Rattle.proof_shape.specs.Beneath.proof_memory.proofs.Levels.States.{HasLevels, GivesLevel, SlotLevel, levels_after}
 use Rattle.proof_shape.specs.Beneath.proof_memory.proofs.Levels.Runs.{made_next, number_is}
-use Rattle.proof_shape.specs.Beneath.proof_memory.specs.Making.{if_made, made_by, made_now, level_now, level_by}
 use Rattle.proof_shape.specs.Beneath.proof_memory.proofs.Levels.Shapes.{ShapeAt, deep_low}
 use Rattle.proof_shape.specs.Beneath.proof_memory.proofs.Levels.ShapeStates.{HasShapes, shapes_after}
 use Rattle.proof_shape.specs.Sites.Nodes.{path_to, depth_at, leads_now, level_until, path_until}

@@ -2,18 +2,15 @@
 use Rattle.std.proofs.Common.{◌≡◌, ◌≢◌, ℕ, zero, suc, ◌<◌, ◌≤◌, true, Option, Some, None, refl, sym, ap, subst, ◌∙◌, arith}
 use Rattle.std.proofs.lemmas.Bool.{false≢true}
 use Rattle.proof_shape.specs.Vocabulary.{Ref, Node, Indirection, Branch, Single, Tomb, List as Listed, Prev, Slot, node_of, main_of, prev_of, logical, list_depth, Bounds, Step, State, IsRun, grown}
-use Rattle.proof_shape.specs.Vocabulary.{standing, or_before, node_under, main_before}
+use Rattle.proof_shape.specs.Vocabulary.{standing, or_before, node_under, main_before, AMain, AnIndirection, meets, AllHold, node_wants, prev_wants, IsInUse, NodeLevel, PrevLevel, IsShaped}
+use Rattle.proof_shape.specs.Vocabulary.{NodesStay}
 use Rattle.proof_shape.specs.Beneath.slot_arena.specs.declared.nodes.Prev.TheVariants as prev
-use Rattle.proof_shape.specs.Beneath.proof_memory.specs.Wants.{AMain, AnIndirection, meets, is_indirection, AllHold, node_wants, prev_wants}
-use Rattle.proof_shape.specs.Beneath.proof_memory.specs.Laws.{IsInUse}
+use Rattle.proof_shape.specs.Beneath.proof_memory.specs.Wants.{is_indirection}
 use Rattle.proof_shape.specs.Beneath.proof_memory.proofs.Claims.Uses.{meets_same, first_hold, last_hold}
 use Rattle.proof_shape.specs.Beneath.proof_memory.proofs.Safety.AtEachTime.{safe_at}
 use Rattle.proof_shape.specs.Beneath.proof_memory.proofs.Safety.AtTimes.{kind_at, limits_at}
 use Rattle.proof_shape.specs.Beneath.proof_memory.proofs.Heap.Moves.{grown_stays}
-use Rattle.proof_shape.specs.Beneath.proof_memory.specs.Levels.{NodeLevel, PrevLevel}
 use Rattle.proof_shape.specs.Beneath.proof_memory.proofs.Levels.Shapes.{ShapeAt}
-use Rattle.proof_shape.specs.Beneath.proof_contents.specs.Tries.{IsShaped}
-use Rattle.proof_shape.specs.Beneath.proof_contents.specs.Grows.{NodesStay}
 use Rattle.proof_shape.specs.Beneath.proof_contents.proofs.Values.Started.{node_stays}
 use Rattle.proof_shape.specs.Sites.Lines.{Sites, sites_of, trie_at, InsideSite, PrevSite}
 use Rattle.proof_shape.specs.Sites.At.{TakesSteps, StepsFit}

@@ -3,11 +3,10 @@ use Rattle.std.proofs.Common.{◌≡◌, ℕ, suc, ◌+◌, ◌*◌, ◌^◌, �
 use Rattle.std.proofs.lemmas.Bool.{cond_both}
 use Rattle.arrayvec.specs.ArrayVec.{ArrayVec}
 use Rattle.proof_shape.specs.Vocabulary.{HashKind, position_of, Ref, node_at, entry_at, entries_of, no_ref, has_flag, flag_of, Operation, After, Gives, ReadLine, State, above, depth_of, hash_in}
-use Rattle.proof_shape.specs.Vocabulary.{at_indirection, renew_next, key_of, key_after_read, Line}
+use Rattle.proof_shape.specs.Vocabulary.{at_indirection, renew_next, key_of, key_after_read, Line, IsFlagged}
 use Rattle.proof_shape.specs.Beneath.machine_model.specs.declared.reading.After.TheVariants.{Goes}
 use Rattle.proof_shape.specs.Beneath.proof_memory.specs.Wants.{is_indirection}
 use Rattle.proof_shape.specs.Beneath.proof_memory.proofs.Lines.Shared.{above_long, pushed_depth}
-use Rattle.proof_shape.specs.Beneath.proof_contents.specs.Lines.Changes.{IsFlagged}
 use Rattle.proof_shape.specs.Sites.Nodes.{path_to, depth_at}
 use Rattle.proof_shape.specs.Sites.Lines.{Sites, IsOnWay, PathSite, PlaceSite, DoneSite, LineSite}
 use Rattle.proof_shape.proofs.Sites.Seen.{Sees, AfterSite, branch_seen, entries_seen, link_seen, current_site, above_site, pushed_site}
@@ -72,22 +71,22 @@ module _ (s : Sites) (fits : (i : Ref) → s.path i < 2 ^ (5 * depth_at (s.level
           ap (λ es. slice_index_or es position no_ref) (entries_seen s state S N main u ∙ ap entries_of f.is)
           ∙ ap (λ n. slice_index_or entries.items n no_ref) (f.at ∙ ap (λ d. position_of (flag_of hash d) bitmap) (sym deep))
 
-  pub key_entry_site : (first : Ref → Ref) (path : List Ref) (main : Ref) (position bitmap : ℕ) (entries : ArrayVec Ref) (next : Line) →
+  pub key_entry_site : (first : Ref → Ref) (path : List Ref) (main : Ref) (position : ℕ) (next : Line) →
       S main → S (entry_at state.heap main position) → nat_lt 0 (length path) ≡ true → s.level main ≡ depth_of path + 1 → PlaceSite kind s hash path main →
-      IsFlagged (record { kind = kind; node = s.node; first = first }) (depth_of path) (key_of operation.call) main position bitmap entries →
+      (bitmap : ℕ) × (entries : ArrayVec Ref) × IsFlagged (record { kind = kind; node = s.node; first = first }) (depth_of path) (key_of operation.call) main position bitmap entries →
       KeyEdge state operation (key.Entry path main position) next → LineSite kind s hash next
-  key_entry_site first path main position bitmap entries next u v long level p f (goes_down route m q g w e pass) =
+  key_entry_site first path main position next u v long level p (bitmap, entries, f) (goes_down route m q g w e pass) =
       let link = link_seen s state S N (entry_at state.heap main position) v ∙ ap is_indirection e in
       let on = down first path main position bitmap entries u level p f link in
       let some : 0 < length path = ltb-true 0 (length path) long in
       let size : depth_of path + 1 ≡ length path = omega arith in
       let on_way : IsOnWay kind s hash (length path) (entry_at state.heap main position) = on ∙ ap (path_to hash) size in
       (pushed_site kind s hash path (entry_at state.heap main position) p.0 on_way, on_way ∙ ap (path_to hash) (pushed_depth path (entry_at state.heap main position)), tt)
-  key_entry_site first path main position bitmap entries next u v long level p f (renews route m q g w e pass some) = none_done path main p
-  key_entry_site first path main position bitmap entries next u v long level p f (renews_none route m q g w e pass none) = none_done path main p
-  key_entry_site first path main position bitmap entries next u v long level p f (finds route m q k w n e same found) = found_site path main position w next p found
-  key_entry_site first path main position bitmap entries next u v long level p f (puts_beside route m q k w e other i) = p
-  key_entry_site first path main position bitmap entries next u v long level p f edge = tt
+  key_entry_site first path main position next u v long level p f (renews route m q g w e pass some) = none_done path main p
+  key_entry_site first path main position next u v long level p f (renews_none route m q g w e pass none) = none_done path main p
+  key_entry_site first path main position next u v long level p f (finds route m q k w n e same found) = found_site path main position w next p found
+  key_entry_site first path main position next u v long level p f (puts_beside route m q k w e other i) = p
+  key_entry_site first path main position next u v long level p f edge = tt
 
   pub listed_site : (path : List Ref) (main : Ref) (position : ℕ) (next : Line) → PlaceSite kind s hash path main → KeyEdge state operation (key.Listed path main position) next →
       LineSite kind s hash next

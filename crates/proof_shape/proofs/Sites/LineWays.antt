@@ -1,7 +1,8 @@
 -- The path of a line: at its levels, on the way to the key, and of indirections.
 use Rattle.std.proofs.Common.{ℕ, List, [], All, arith}
 use Rattle.std.proofs.lemmas.List.Elements.{All-nil}
-use Rattle.proof_shape.specs.Vocabulary.{HashKind, Ref, Heap, Access, Call, Line, Purpose}
+use Rattle.proof_shape.specs.Vocabulary.{HashKind, Ref, Heap, Access, Call, Line, Purpose, AnIndirection, AllHold, line_wants, swap_wants, purpose_wants, PathLevel, LineLevel, PurposeLevel}
+use Rattle.proof_shape.specs.Vocabulary.{purpose_path}
 use Rattle.proof_shape.specs.Beneath.machine_model.specs.declared.building.BuildLine.TheVariants as build
 use Rattle.proof_shape.specs.Beneath.machine_model.specs.declared.finding.KeyLine.TheVariants as key
 use Rattle.proof_shape.specs.Beneath.machine_model.specs.declared.lines.Line.TheVariants as line
@@ -9,12 +10,9 @@ use Rattle.proof_shape.specs.Beneath.machine_model.specs.declared.lines.Purpose.
 use Rattle.proof_shape.specs.Beneath.machine_model.specs.declared.repairs.CleanLine.TheVariants as clean
 use Rattle.proof_shape.specs.Beneath.machine_model.specs.declared.repairs.ClimbLine.TheVariants as climb
 use Rattle.proof_shape.specs.Beneath.machine_model.specs.declared.repairs.RenewLine.TheVariants as renew
-use Rattle.proof_shape.specs.Beneath.proof_memory.specs.Wants.{AnIndirection, AllHold, line_wants, swap_wants, purpose_wants}
 use Rattle.proof_shape.specs.Beneath.proof_memory.proofs.Claims.Uses.{Meets, all_of, last_hold}
-use Rattle.proof_shape.specs.Beneath.proof_memory.specs.Levels.{PathLevel, LineLevel, PurposeLevel}
 use Rattle.proof_shape.specs.Sites.Lines.{Sites, PathSite, PurposeSite, LineSite}
 use Rattle.proof_shape.specs.Sites.At.{way_of}
-use Rattle.proof_generations.specs.Falling.{purpose_path}
 
 module _ (s : Sites) (S : Ref → Type 0) (heap : Heap) (kind : HashKind) (hash : ℕ) where
   -- the path is at its levels, on the way to the hash, and of indirections
@@ -43,14 +41,14 @@ module _ (s : Sites) (S : Ref → Type 0) (heap : Heap) (kind : HashKind) (hash 
   line_way call access (line.Build (build.Main path main c former)) e a h = (e.0.0, a.0.0, all_of h.0)
   line_way call access (line.Swap why w) e a h = purpose_way w.indirection why e.2 a.2 (last_hold S heap (swap_wants w) (purpose_wants why) h)
   line_way call access (line.Renew (renew.Entry path main done)) e a h = (e.0.0, a.0.0, all_of h.0)
-  line_way call access (line.Renew (renew.Read path main done r)) e a h = (e.0.0.0, a.0.0.0, all_of h.0)
-  line_way call access (line.Renew (renew.Link path main done child)) e a h = (e.0.0.0, a.0.0.0, all_of h.0)
+  line_way call access (line.Renew (renew.Read path main done r)) (e, _, _) (a, _, _) h = (e.0.0, a.0.0, all_of h.0)
+  line_way call access (line.Renew (renew.Link path main done child)) (e, _) (a, _, _) h = (e.0.0, a.0.0, all_of h.0)
   line_way call access (line.Renew (renew.Branch path main done)) e a h = (e.0.0, a.0.0, all_of h.0)
   line_way call access (line.Clean (clean.Read path r)) e a h = (e.0, a.0, all_of h.0)
   line_way call access (line.Clean (clean.Main path main)) e a h = (e.0, a.0, all_of h.0)
   line_way call access (line.Clean (clean.Entry path main done)) e a h = (e.0.0, a.0.0, all_of h.0)
-  line_way call access (line.Clean (clean.Child path main done r)) e a h = (e.0.0.0, a.0.0.0, all_of h.0)
-  line_way call access (line.Clean (clean.Tomb path main done child)) e a h = (e.0.0, a.0.0.0, all_of h.0)
+  line_way call access (line.Clean (clean.Child path main done r)) (e, _) (a, _, _) h = (e.0.0, a.0.0, all_of h.0)
+  line_way call access (line.Clean (clean.Tomb path main done child)) e (a, _, _, _) h = (e.0.0, a.0.0, all_of h.0)
   line_way call access (line.Clean (clean.Contracted path main done)) e a h = (e.0.0, a.0.0, all_of h.0)
   line_way call access (line.Climb (climb.Read c r)) e a h = (e.0, a.0.0, all_of h.0)
   line_way call access (line.Climb (climb.Main c main)) e a h = (e.0, a.0.0, all_of h.0)

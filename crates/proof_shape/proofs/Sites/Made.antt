@@ -2,12 +2,9 @@
 use Rattle.std.proofs.Common.{◌≡◌, ℕ, suc, ◌+◌, ◌*◌, ◌^◌, true, sym, ap, subst, ◌∙◌, add_comm, arith}
 use Rattle.std.proofs.lemmas.Bool.{false≢true}
 use Rattle.proof_shape.specs.Vocabulary.{HashKind, Ref, Node, Indirection, Branch, Single, Tomb, List as Listed, node_at, index_in, Action, Operation, Line, ReadLine, State, read_action}
+use Rattle.proof_shape.specs.Vocabulary.{is_branch_or_list, made_level, IsChild, IsShaped, branch, list, tomb, StandsFor}
 use Rattle.proof_shape.specs.Beneath.machine_model.specs.declared.actions.Action.TheVariants as act
 use Rattle.proof_shape.specs.Beneath.machine_model.specs.declared.reading.ReadLine.TheVariants as read
-use Rattle.proof_shape.specs.Beneath.proof_memory.specs.Wants.{is_branch_or_list}
-use Rattle.proof_shape.specs.Beneath.proof_memory.specs.Levels.{made_level}
-use Rattle.proof_shape.specs.Beneath.proof_contents.specs.Tries.{IsChild, IsShaped, branch, list, tomb}
-use Rattle.proof_shape.specs.Beneath.proof_contents.specs.Shapes.{StandsFor}
 use Rattle.proof_shape.specs.Sites.Nodes.{path_to, depth_at, leads_by}
 use Rattle.proof_shape.specs.Sites.Lines.{Sites, bare, trie_at, InsideSite, SwapSite, IsOnWay, ReadSite}
 use Rattle.proof_shape.proofs.Sites.Ways.{path_parts}

@@ -1,10 +1,9 @@
 -- The laws of sites of main nodes, roots and paths.
 use Rattle.std.proofs.Common.{◌≡◌, ℕ, suc, ◌+◌, ◌≤◌, Some, sym, ap, subst, ◌∙◌, arith}
 use Rattle.proof_shape.specs.Vocabulary.{Ref, Indirection, Slot, node_at, prev_at, main_of, logical, logical_main, Root, Bounds, Step, State, root_at, root_of, operation_of, IsRun, states_of}
-use Rattle.proof_shape.specs.Vocabulary.{last_of, standing}
+use Rattle.proof_shape.specs.Vocabulary.{last_of, standing, AllHold, node_wants, AMain, Is, Holds, IsInUse}
 use Rattle.proof_shape.specs.Beneath.machine_model.proofs.Times.{run_is, run_ends}
-use Rattle.proof_shape.specs.Beneath.proof_memory.specs.Wants.{is_indirection, AllHold, node_wants, AMain, Is, Holds}
-use Rattle.proof_shape.specs.Beneath.proof_memory.specs.Laws.{IsInUse}
+use Rattle.proof_shape.specs.Beneath.proof_memory.specs.Wants.{is_indirection}
 use Rattle.proof_shape.specs.Beneath.proof_memory.proofs.Claims.Uses.{safe_of}
 use Rattle.proof_shape.specs.Beneath.proof_memory.proofs.Safety.AtEachTime.{safe_at}
 use Rattle.proof_shape.specs.Beneath.proof_memory.proofs.Safety.AtTimes.{kind_at}

@@ -1,8 +1,9 @@
 -- Sites after any line's step.
-use Rattle.std.proofs.Common.{◌≡◌, ℕ, ◌*◌, ◌^◌, ◌<◌, List, [], ◌∷◌, ◌++◌, length, Some, refl, sym, ◌∙◌, arith}
+use Rattle.std.proofs.Common.{◌≡◌, ℕ, ◌*◌, ◌^◌, ◌<◌, List, [], ◌∷◌, ◌++◌, Some, refl, sym, ◌∙◌, arith}
 use Rattle.proof_shape.specs.Vocabulary.{HashKind, Call, Clear, Snapshot, Freeze, Ref, Node as SlotNode, Indirection, Single, node_at, prev_at, entries_of, next_ref, Operation, After, Gives}
 use Rattle.proof_shape.specs.Vocabulary.{ReadLine, Swap, SwapLine, RootLine, BuildLine, CopyLine, Purpose, Line, handle_of, State, word_at, above, depth_of, hash_in, at_indirection, read_after}
-use Rattle.proof_shape.specs.Vocabulary.{walk_next, walk_after_read, walk_after_entry, first_of, rest_of, line_action, line_after, after_root}
+use Rattle.proof_shape.specs.Vocabulary.{walk_next, walk_after_read, walk_after_entry, first_of, rest_of, line_action, line_after, after_root, AllHold, line_wants, swap_wants}
+use Rattle.proof_shape.specs.Vocabulary.{swap_line_wants, purpose_wants, read_wants, made_node, WordLevel, LineLevel, PurposeLevel, Known, KnowsLine}
 use Rattle.proof_shape.specs.Beneath.machine_model.specs.declared.reading.After.TheVariants.{Goes}
 use Rattle.proof_shape.specs.Beneath.machine_model.specs.declared.reading.SwapLine.TheVariants as swap
 use Rattle.proof_shape.specs.Beneath.machine_model.specs.declared.building.BuildLine.TheVariants as build
@@ -15,16 +16,13 @@ use Rattle.proof_shape.specs.Beneath.machine_model.specs.declared.lines.Purpose.
 use Rattle.proof_shape.specs.Beneath.machine_model.specs.declared.lines.Line.TheVariants as line
 use Rattle.proof_shape.specs.Beneath.machine_model.specs.Swapping.{after_swap}
 use Rattle.proof_shape.specs.Beneath.machine_model.specs.Operations.{from_root}
-use Rattle.proof_shape.specs.Beneath.proof_memory.specs.Wants.{AllHold, AnEntry, line_wants, swap_wants, swap_line_wants, purpose_wants, read_wants}
 use Rattle.proof_shape.specs.Beneath.proof_memory.proofs.Claims.Uses.{safe_of, meets_of, fact_of, first_hold, last_hold}
-use Rattle.proof_shape.specs.Beneath.proof_memory.proofs.Claims.Nodes.{Heaped, branch_entries, at_position}
-use Rattle.proof_shape.specs.Beneath.proof_memory.specs.Making.{made_node}
-use Rattle.proof_shape.specs.Beneath.proof_memory.specs.Levels.{WordLevel, LineLevel, PurposeLevel}
+use Rattle.proof_shape.specs.Beneath.proof_memory.proofs.Claims.Nodes.{Heaped, entry_met}
+use Rattle.proof_shape.specs.Beneath.proof_memory.proofs.Claims.Named.{main_claim, past_place, left_claim, past_done, past_climb, third_claim, past_third}
 use Rattle.proof_shape.specs.Beneath.proof_memory.proofs.Levels.Paths.{current_level}
 use Rattle.proof_shape.specs.Beneath.proof_memory.proofs.Levels.Steps.{AfterLevel, RootedLevel}
 use Rattle.proof_shape.specs.Beneath.proof_memory.proofs.Levels.Steps.{read_next as level_read_next}
 use Rattle.proof_shape.specs.Beneath.proof_memory.proofs.Levels.Steps.{root_next as level_root_next}
-use Rattle.proof_shape.specs.Beneath.proof_contents.specs.Lines.Changes.{Known, KnowsLine}
 use Rattle.proof_shape.specs.Sites.Nodes.{path_to, depth_at}
 use Rattle.proof_shape.specs.Sites.Lines.{Sites, bare, ReadSite, SwapSite, SwapLineSite, LineSite, IsOnWay}
 use Rattle.proof_shape.proofs.Sites.Ways.{on_way, path_fits}
@@ -132,44 +130,45 @@ module _ (s : Sites) (fits : (i : Ref) → s.path i < 2 ^ (5 * depth_at (s.level
     line_next (line.Root l) h e p knows m = root_line_site _ (level_root_next s.level state operation S N.levels W l h e)
     line_next (line.Key (key.Read path r)) h e p knows m = key_read_site s fits state operation S N path r.indirection _ p.0 p.1 (reads r.indirection r.line h.1.1 p.2)
     line_next (line.Key (key.Main path main)) h e p knows m = key_main_site s fits state operation S N path main _ p (key_edge state operation (key.Main path main))
-    line_next (line.Key (key.Entry path main position)) h e p (b, es, f) m =
-        key_entry_site s fits state operation S N first path main position b es _ (safe_of h.1.1.0)
-        ((at_position S state.heap AnEntry position (branch_entries S state.heap H h.1.1.0) h.1.1.1.0).0) (fact_of h.1.0) e.1 p f (key_edge state operation (key.Entry path main position))
+    line_next (line.Key (key.Entry path main position)) h e p knows m =
+        key_entry_site s fits state operation S N first path main position _ (safe_of (main_claim h))
+        ((entry_met S state.heap H (main_claim h) (past_place h).0).0) (fact_of h.1.0) e.1 p knows (key_edge state operation (key.Entry path main position))
     line_next (line.Key (key.Listed path main position)) h e p knows m = listed_site s fits state operation S N path main position _ p (key_edge state operation (key.Listed path main position))
     line_next (line.Key (key.Sibling path main position former)) h e p knows m =
         sibling_site s fits state operation S N path main position former _ p (key_edge state operation (key.Sibling path main position former))
     line_next (line.Build l) h e p knows m = build_next s fits state operation S N l h e p (build_at l m)
     line_next (line.Swap why w) h e p knows m =
         let its = first_hold S state.heap (swap_wants w) (purpose_wants why) h in
-        line_swap_site s fits state operation S N why w _ (safe_of its.1.1.0) e.0.1
-        (purpose_path why (last_hold S state.heap (swap_wants w) (purpose_wants why) h) e.2) p.0 (swap_next w w.line its.1.1.1 p.0 p.1) p.2
+        line_swap_site s fits state operation S N why w _ (safe_of (third_claim its)) e.0.1
+        (purpose_path why (last_hold S state.heap (swap_wants w) (purpose_wants why) h) e.2) p.0 (swap_next w w.line (past_third its) p.0 p.1) p.2
     line_next (line.Renew (renew.Entry path main done)) h e p knows m =
-        renew_entry_site s fits state operation S N path main done (node_at state.heap _) refl (safe_of h.1.1.0)
-        ((at_position S state.heap AnEntry (length done) (branch_entries S state.heap H h.1.1.0) h.1.1.1.1.0).0)
-        (more_left s fits state operation S N main done (safe_of h.1.1.0) (meets_of h.1.1.1.1.0)) p
-    line_next (line.Renew (renew.Read path main done r)) h e p knows m = renew_read_site s fits state operation S N path main done r.indirection _ p.0 p.1 (reads r.indirection r.line h.1.1.1.1.1 p.2)
+        renew_entry_site s fits state operation S N path main done (node_at state.heap _) refl (safe_of (main_claim h))
+        ((entry_met S state.heap H (main_claim h) (left_claim h)).0)
+        (more_left s fits state operation S N main done (safe_of (main_claim h)) (meets_of (left_claim h))) p
+    line_next (line.Renew (renew.Read path main done r)) h e p knows m =
+        renew_read_site s fits state operation S N path main done r.indirection _ p.0 p.1 (reads r.indirection r.line (past_done h) p.2)
     line_next (line.Renew (renew.Link path main done child)) h e p knows m =
-        link_by s fits state operation S N path main done (safe_of h.1.1.0) (meets_of h.1.1.0)
-        (more_left s fits state operation S N main done (safe_of h.1.1.0) (meets_of h.1.1.1.1.0)) p.0 p.1.1 e.0.0.1
+        link_by s fits state operation S N path main done (safe_of (main_claim h)) (meets_of (main_claim h))
+        (more_left s fits state operation S N main done (safe_of (main_claim h)) (meets_of (left_claim h))) p.0 p.1.1 e.0.0.1
         (λ made n. let its = m _ made refl n in (its.0.0, its.0.1, its.1)) (next_ref state.heap) refl
     line_next (line.Renew (renew.Branch path main done)) h e p knows m =
         renewed_by s fits state operation S N path main p.0 (fact_of h.1.0) (λ made n. on_way s kind hash (depth_of path) made (m _ made refl n).0.1) (next_ref state.heap) refl
     line_next (line.Clean (clean.Read path r)) h e p knows m = clean_read_site s fits state operation S N path r.indirection _ p.0 p.1 (reads r.indirection r.line h.1.1 p.2)
     line_next (line.Clean (clean.Main path main)) h e p knows m = clean_main_site s fits state operation S N path main (node_at state.heap main) p
     line_next (line.Clean (clean.Entry path main done)) h e p knows m =
-        clean_entry_site s fits state operation S N path main done (node_at state.heap _) refl (safe_of h.1.1.0)
-        ((at_position S state.heap AnEntry (length done) (branch_entries S state.heap H h.1.1.0) h.1.1.1.1.0).0)
-        (more_left s fits state operation S N main done (safe_of h.1.1.0) (meets_of h.1.1.1.1.0)) p
+        clean_entry_site s fits state operation S N path main done (node_at state.heap _) refl (safe_of (main_claim h))
+        ((entry_met S state.heap H (main_claim h) (left_claim h)).0)
+        (more_left s fits state operation S N main done (safe_of (main_claim h)) (meets_of (left_claim h))) p
     line_next (line.Clean (clean.Child path main done r)) h e p knows m =
-        child_site s fits state operation S N path main done r.indirection _ p.0 p.1 (reads r.indirection r.line h.1.1.1.1.1 p.2)
-        (child_level r.indirection _ (level_read_next s.level state operation S N.levels W r.indirection r.line h.1.1.1.1.1 e.1))
+        child_site s fits state operation S N path main done r.indirection _ p.0 p.1 (reads r.indirection r.line (past_done h) p.2)
+        (child_level r.indirection _ (level_read_next s.level state operation S N.levels W r.indirection r.line (past_done h) e.1))
     line_next (line.Clean (clean.Tomb path main done child)) h e p knows m =
-        clean_tomb_site s fits state operation S N path main done child (node_at state.heap child) refl (safe_of h.1.1.0) (safe_of h.1.1.1.1.1.0)
-        (more_left s fits state operation S N main done (safe_of h.1.1.0) (meets_of h.1.1.1.1.0)) p
+        clean_tomb_site s fits state operation S N path main done child (node_at state.heap child) refl (safe_of (main_claim h)) (safe_of (past_done h).0)
+        (more_left s fits state operation S N main done (safe_of (main_claim h)) (meets_of (left_claim h))) p
     line_next (line.Clean (clean.Contracted path main done)) h e p knows m =
         cleaned_by s fits state operation S N path main p.0 (fact_of h.1.0) (λ made n. on_way s kind hash (depth_of path) made (m _ made refl n).0.1) (next_ref state.heap) refl
-    line_next (line.Climb (climb.Read c r)) h e p knows m = climb_read_site s fits state operation S N c r.indirection _ p.0 p.1 (reads r.indirection r.line h.1.1.1 p.2)
-    line_next (line.Climb (climb.Main c main)) h e p knows m = climb_main_site s fits state operation S N c main (node_at state.heap main) refl (safe_of h.1.1.1.0) e.1 p.0 p.1
+    line_next (line.Climb (climb.Read c r)) h e p knows m = climb_read_site s fits state operation S N c r.indirection _ p.0 p.1 (reads r.indirection r.line (past_climb h) p.2)
+    line_next (line.Climb (climb.Main c main)) h e p knows m = climb_main_site s fits state operation S N c main (node_at state.heap main) refl (safe_of (past_climb h).0) e.1 p.0 p.1
     line_next (line.Climb (climb.Contracted c main)) h e p knows m =
         climbed_by s fits state operation S N c main p.0 (fact_of h.1.0) p.1 (λ made n. on_way s kind hash (depth_of (above c.path)) made (m _ made refl n).0.1) (next_ref state.heap) refl
     line_next (line.Climb (climb.Root c l)) h e p knows m = climb_root_site s fits state operation S N c _ p

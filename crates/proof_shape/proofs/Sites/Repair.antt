@@ -8,14 +8,14 @@ use Rattle.arrayvec.specs.ArrayVec.{ArrayVec}
 use Rattle.proof_shape.specs.Vocabulary.{hash_of, HashKind, Ref, Node, Indirection, Branch, Single, Tomb, node_at, entries_of, bitmap_of, next_ref, no_ref, contracted, Operation, After, Gives}
 use Rattle.proof_shape.specs.Vocabulary.{ReadLine, State, depth_of, hash_in, is_start, is_below_root, at_indirection, next_entry, renew_after_entry, renew_after_read, renew_after_link}
 use Rattle.proof_shape.specs.Vocabulary.{renew_after_branch, clean_next, is_single, leaves_single, clean_after_read, clean_after_main, clean_after_entry, after_child, clean_after_tomb}
-use Rattle.proof_shape.specs.Vocabulary.{clean_after_contracted}
+use Rattle.proof_shape.specs.Vocabulary.{clean_after_contracted, ABranch, AnEntry, meets, is_branch, IsShaped, StandsFor, unchanged, stands_for, becomes_single}
+use Rattle.proof_shape.specs.Vocabulary.{Holds, Is}
 use Rattle.proof_shape.specs.Beneath.machine_model.specs.declared.reading.After.TheVariants.{Goes}
 use Rattle.proof_shape.specs.Beneath.machine_model.specs.declared.repairs.CleanLine.TheVariants as clean
 use Rattle.proof_shape.specs.Beneath.machine_model.specs.declared.lines.Line.TheVariants as line
-use Rattle.proof_shape.specs.Beneath.proof_memory.specs.Wants.{ABranch, AnEntry, meets, is_indirection, is_branch}
-use Rattle.proof_shape.specs.Beneath.proof_memory.proofs.Claims.Uses.{Meets}
-use Rattle.proof_shape.specs.Beneath.proof_contents.specs.Tries.{IsShaped}
-use Rattle.proof_shape.specs.Beneath.proof_contents.specs.Shapes.{Fits, StandsFor, unchanged, stands_for, becomes_single}
+use Rattle.proof_shape.specs.Beneath.proof_memory.specs.Wants.{is_indirection}
+use Rattle.proof_shape.specs.Beneath.proof_memory.proofs.Claims.Uses.{Meets, safe_of, meets_of}
+use Rattle.proof_shape.specs.Beneath.proof_contents.specs.Shapes.{Fits}
 use Rattle.proof_shape.specs.Beneath.proof_contents.proofs.Shapes.Nodes.{tomb_shape}
 use Rattle.proof_shape.specs.Beneath.proof_contents.proofs.Shapes.Lists.{shape_moves}
 use Rattle.proof_shape.specs.Sites.Nodes.{path_to, depth_at}
@@ -110,11 +110,14 @@ module _ (s : Sites) (fits : (i : Ref) → s.path i < 2 ^ (5 * depth_at (s.level
 
   -- ---- what is made of the entries
 
-  pub repair_makes : (may : Bool) (path : List Ref) (main : Ref) (done : List Ref) (r : Ref) → S main → meets ABranch (node_at state.heap main) ≡ true →
+  pub repair_makes : (may : Bool) (path : List Ref) (main : Ref) (done : List Ref) (r : Ref) → Holds S state.heap (Is main ABranch) →
       length (entries_of (node_at state.heap main)) ≤ length done → Done path main done → s.level main ≡ depth_of path + 1 → s.level r ≡ depth_of path + 1 → IsOnWay kind s hash (depth_of path) r →
       ((single : Ref) → may ≡ true → done ≡ single ∷ [] → IsSingle (trie_at kind s) single) → IsShaped (trie_at kind s) r (contracted may (bitmap_of (node_at state.heap main)) done)
-  repair_makes may path main done r u is all d level level_r on alone = by_branch (branch_there main u is)
+  repair_makes may path main done r m all d level level_r on alone = by_branch (branch_there main u (meets_of m))
     where
+      u : S main
+      u = safe_of m
+
       by_branch : (b : ℕ) × (es : ArrayVec Ref) × (s.node main ≡ Branch b es) → IsShaped (trie_at kind s) r (contracted may (bitmap_of (node_at state.heap main)) done)
       by_branch (b, es, node_is) =
           let items : entries_of (s.node main) ≡ es.items = ap entries_of node_is in

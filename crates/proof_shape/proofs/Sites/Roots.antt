@@ -1,9 +1,7 @@
 -- Roots that were found in handles' words have a root's level.
 use Rattle.std.proofs.Common.{◌≡◌, ℕ, zero, suc, ◌≤◌, ◌==◌, Bool, true, false, cond, List, [], ◌∷◌, get_or, Option, Some, None, refl, sym, ap, ◌∙◌, arith}
 use Rattle.std.proofs.lemmas.Option.{none-some, same_Some}
-use Rattle.proof_shape.specs.Vocabulary.{Ref, Heap, generation_at, Root, RootWord, Plain, Offer, Bounds, Step, State, root_of, IsRun}
-use Rattle.proof_shape.specs.Beneath.proof_memory.specs.Levels.{WordLevel}
-use Rattle.proof_shape.specs.Beneath.proof_contents.specs.Runs.{root_among, root_until, or_other}
+use Rattle.proof_shape.specs.Vocabulary.{Ref, Heap, generation_at, Root, RootWord, Plain, Offer, Bounds, Step, State, root_of, IsRun, WordLevel, root_among, root_until, or_other}
 use Rattle.proof_shape.specs.Sites.Lines.{Sites, sites_of}
 use Rattle.proof_shape.specs.Sites.At.{TakesSteps}
 use Rattle.proof_shape.proofs.Sites.Given.{levels_there}

@@ -1,22 +1,18 @@
 -- Nodes, and those of lines, stand at their sites at each time of a run.
-use Rattle.std.proofs.Common.{◌≡◌, ℕ, zero, suc, ◌*◌, ◌^◌, ◌<◌, ◌≤◌, Bool, true, false, cond, ap₂, length, refl, sym, ap, subst, ◌∙◌, arith}
+use Rattle.std.proofs.Common.{◌≡◌, ℕ, zero, suc, ◌*◌, ◌^◌, ◌<◌, ◌≤◌, Bool, true, false, cond, ap₂, refl, sym, ap, subst, ◌∙◌, arith}
 use Rattle.proof_shape.specs.Vocabulary.{ref_to, Ref, Node, Indirection, Branch, Single, Tomb, List as Listed, next_ref, node_of, with_main_word, Operation, Line, Bounds, Step, State, first_state}
-use Rattle.proof_shape.specs.Vocabulary.{is_number, next_entry, IsRun}
+use Rattle.proof_shape.specs.Vocabulary.{is_number, next_entry, IsRun, AllHold, line_wants, IsInUse, made_level, made_by, made_now, level_now, level_by, if_made, KnowsLine}
 use Rattle.proof_shape.specs.Beneath.machine_model.specs.declared.repairs.RenewLine.TheVariants as renew
 use Rattle.proof_shape.specs.Beneath.machine_model.specs.declared.lines.Line.TheVariants as line
 use Rattle.proof_shape.specs.Beneath.machine_model.proofs.Found.{none_found}
-use Rattle.proof_shape.specs.Beneath.proof_memory.specs.Wants.{AnEntry, AllHold, line_wants}
-use Rattle.proof_shape.specs.Beneath.proof_memory.specs.Laws.{IsInUse}
-use Rattle.proof_shape.specs.Beneath.proof_memory.proofs.Claims.Nodes.{branch_entries, at_position}
+use Rattle.proof_shape.specs.Beneath.proof_memory.proofs.Claims.Nodes.{entry_met}
+use Rattle.proof_shape.specs.Beneath.proof_memory.proofs.Claims.Named.{main_claim, left_claim}
 use Rattle.proof_shape.specs.Beneath.proof_memory.proofs.Safety.AtEachTime.{safe_at}
 use Rattle.proof_shape.specs.Beneath.proof_memory.proofs.Safety.AtTimes.{line_finds, limits_at}
 use Rattle.proof_shape.specs.Beneath.proof_memory.proofs.Safety.First.{first_stands}
 use Rattle.proof_shape.specs.Beneath.proof_memory.proofs.Heap.Moves.{grown_stays}
-use Rattle.proof_shape.specs.Beneath.proof_memory.specs.Levels.{made_level}
 use Rattle.proof_shape.specs.Beneath.proof_memory.proofs.Levels.States.{heaped_in_use}
-use Rattle.proof_shape.specs.Beneath.proof_memory.specs.Making.{made_by, made_now, level_now, level_by, if_made}
 use Rattle.proof_shape.specs.Beneath.proof_memory.proofs.Levels.Shapes.{deep_low}
-use Rattle.proof_shape.specs.Beneath.proof_contents.specs.Lines.Changes.{KnowsLine}
 use Rattle.proof_shape.specs.Beneath.proof_contents.proofs.Shapes.Builders.{empty_shaped}
 use Rattle.proof_shape.specs.Lines.Knowing.{first_main}
 use Rattle.proof_shape.proofs.Lines.Knows.{knows_at}
@@ -61,8 +57,7 @@ module _ {limits : Bounds} {states : ℕ → State} (steps : ℕ → Step) {last
   same_leads : (t : ℕ) → t ≤ last → (operation : Operation) (l : Line) → AllHold (IsInUse (states t).heap) (states t).heap (line_wants (states t).limits.hash operation.call operation.access l) →
       leads_by (states t) operation (path_until states steps t) l ≡ leads_by (states t) operation s.path l
   same_leads t h operation (line.Renew (renew.Link path main done child)) w =
-      let used = (at_position (IsInUse (states t).heap) (states t).heap AnEntry (length done)
-      (branch_entries (IsInUse (states t).heap) (states t).heap (heaped_in_use (states t) (safe_at run t h)) w.1.1.0) w.1.1.1.1.0).0 in
+      let used = (entry_met (IsInUse (states t).heap) (states t).heap (heaped_in_use (states t) (safe_at run t h)) (main_claim w) (left_claim w)).0 in
       sym (path_stays steps run takes t last h (omega arith) (next_entry (states t) main done) used.0 (grown_in_use states t (next_entry (states t) main done) used.0 used.1))
   same_leads t h operation (line.Renew (renew.Entry path main done)) w = refl
   same_leads t h operation (line.Renew (renew.Read path main done r)) w = refl

@@ -3,16 +3,14 @@ use Rattle.std.proofs.Common.{◌≡◌, ℕ, ◌+◌, ◌-◌, ◌<◌, ◌==�
 use Rattle.std.proofs.lemmas.Bool.{cases_lt, false≢true}
 use Rattle.std.proofs.lemmas.List.{get_or-take, get_or_append_left, get_or_push, length-take-le, length-append}
 use Rattle.arrayvec.specs.ArrayVec.{ArrayVec}
-use Rattle.proof_shape.specs.Beneath.proof_contents.specs.Tries.{IsShaped}
-use Rattle.proof_shape.specs.Vocabulary.{HashKind, Access, Writable, ReadOnly, Ref, Node, Indirection, Branch, Prev, node_at, prev_at, main_at, main_of, entries_of, bitmap_of, no_ref, After, Gives}
-use Rattle.proof_shape.specs.Vocabulary.{ReadLine, RootWord, Plain, Offer, current, above, depth_of, is_below_root, State, Verdict, Commits, Fails, Overtaken, read_after, after_prev, after_ask}
-use Rattle.proof_shape.specs.Vocabulary.{after_decide, after_restore, verdict}
+use Rattle.proof_shape.specs.Vocabulary.{IsShaped, HashKind, Access, Writable, ReadOnly, Ref, Node, Indirection, Branch, Prev, node_at, prev_at, main_at, main_of, entries_of, bitmap_of, no_ref}
+use Rattle.proof_shape.specs.Vocabulary.{After, Gives, ReadLine, RootWord, Plain, Offer, current, above, depth_of, is_below_root, State, Verdict, Commits, Fails, Overtaken, read_after, after_prev}
+use Rattle.proof_shape.specs.Vocabulary.{after_ask, after_decide, after_restore, verdict, AnIndirection, meets, Is, Holds, AllHold, read_wants, NodeLevel, PrevLevel}
 use Rattle.proof_shape.specs.Beneath.slot_arena.specs.declared.nodes.Prev.TheVariants as prev
 use Rattle.proof_shape.specs.Beneath.machine_model.specs.declared.reading.After.TheVariants.{Goes}
 use Rattle.proof_shape.specs.Beneath.machine_model.specs.declared.reading.ReadLine.TheVariants as read
-use Rattle.proof_shape.specs.Beneath.proof_memory.specs.Wants.{AnIndirection, meets, is_indirection, Is, Holds, AllHold, read_wants}
+use Rattle.proof_shape.specs.Beneath.proof_memory.specs.Wants.{is_indirection}
 use Rattle.proof_shape.specs.Beneath.proof_memory.proofs.Claims.Uses.{safe_of, meets_of}
-use Rattle.proof_shape.specs.Beneath.proof_memory.specs.Levels.{NodeLevel, PrevLevel}
 use Rattle.proof_shape.specs.Sites.Lines.{Sites, bare, trie_at, InsideSite, PrevSite, ReadSite, IsOnWay, PathSite}
 use Rattle.proof_shape.specs.Sites.Nodes.{path_to}
 use Rattle.proof_shape.proofs.Shaped.Places.{bare_bitmap, bare_branch, entries_alike, link_alike}

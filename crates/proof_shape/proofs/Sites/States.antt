@@ -1,7 +1,8 @@
 -- Sites after each step.
 use Rattle.proof_shape.specs.Vocabulary.{GivesUp, hash_of, HashKind, Call, Close, Entries, Ref, Node, Indirection, Branch, Single, Tomb, List as Listed, Slot, with_main_word, main_changed}
 use Rattle.proof_shape.specs.Vocabulary.{prev_changed, next_ref, Action, Operation, Root, Outcome, Step, handle_of, key_of, State, root_at, word_of, operation_of, action_of, first_line}
-use Rattle.proof_shape.specs.Vocabulary.{operation_after, gone, settled, Begins, Ends, Sweeps, Moves, GoesOn, begun_operation, standing, FitsKey}
+use Rattle.proof_shape.specs.Vocabulary.{operation_after, gone, settled, Begins, Ends, Sweeps, Moves, GoesOn, begun_operation, standing, FitsKey, IsInUse, made_node, WordLevel, made_level}
+use Rattle.proof_shape.specs.Vocabulary.{KnowsLine}
 use Rattle.std.proofs.Common.{◌≡◌, ℕ, suc, ◌*◌, ◌^◌, ◌<◌, true, is_some, get_or, Option, Some, None, refl, sym, ap, ◌∙◌, subst, ◌⊎◌, inl, inr}
 use Rattle.std.proofs.lemmas.Bool.{cases_eq, or_cases, false≢true}
 use Rattle.std.proofs.lemmas.Option.{none-some, same_Some}
@@ -10,19 +11,15 @@ use Rattle.proof_shape.specs.Beneath.machine_model.specs.declared.actions.Action
 use Rattle.proof_shape.specs.Beneath.machine_model.specs.declared.steps.Step.TheVariants as step
 use Rattle.proof_shape.specs.Beneath.machine_model.specs.Moves.{Goes}
 use Rattle.proof_shape.specs.Beneath.machine_model.proofs.Actors.{IsOf, is_of, mark_one, mark_only, marks_in, marks_by, of_others, of_itself, of_begin, of_end, of_giving_up}
-use Rattle.proof_shape.specs.Beneath.proof_memory.specs.Laws.{IsInUse}
 use Rattle.proof_shape.specs.Beneath.proof_memory.proofs.Heap.Under.{fresh_slot, taken_all}
 use Rattle.proof_shape.specs.Beneath.proof_memory.proofs.Safety.EachStep.{at_place}
 use Rattle.proof_shape.specs.Beneath.proof_memory.proofs.Safety.Base.{goes_no_end}
-use Rattle.proof_shape.specs.Beneath.proof_memory.specs.Making.{made_node}
 use Rattle.proof_shape.specs.Beneath.proof_memory.proofs.Safety.States.{IsSafe}
 use Rattle.proof_shape.specs.Beneath.proof_memory.proofs.Safety.Steps.{of_actor, made_heap}
 use Rattle.proof_shape.specs.Beneath.proof_memory.proofs.Safety.AtTimes.{line_finds}
 use Rattle.proof_shape.specs.Beneath.proof_memory.proofs.Heap.Moves.{WordMove, keeps, makes, publishes, restores, commits, fails, standing_move}
-use Rattle.proof_shape.specs.Beneath.proof_memory.specs.Levels.{WordLevel, made_level}
 use Rattle.proof_shape.specs.Beneath.proof_memory.proofs.Levels.States.{HasLevels, GivesLevel, heaped_in_use, level_under}
 use Rattle.proof_shape.specs.Beneath.proof_memory.proofs.Levels.ShapeStates.{HasShapes}
-use Rattle.proof_shape.specs.Beneath.proof_contents.specs.Lines.Changes.{KnowsLine}
 use Rattle.proof_shape.specs.Sites.Nodes.{path_to, depth_at, leads_by}
 use Rattle.proof_shape.specs.Sites.Lines.{Sites, bare, InsideSite, PrevSite, LineSite}
 use Rattle.proof_shape.proofs.Sites.Seen.{Sees}

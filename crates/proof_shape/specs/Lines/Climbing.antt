@@ -1,11 +1,10 @@
 -- What an operation's line knows of the tomb that it climbs from.
 use Rattle.std.specs.Prelude.{◌≡◌, ℕ, Bool, slice_index_or, slice_set}
 use Rattle.arrayvec.specs.ArrayVec.{ArrayVec}
-use Rattle.proof_shape.specs.Vocabulary.{Call, Ref, Indirection, Tomb, no_ref, contracted, Climb, ClimbLine, Line, key_of, current, above, depth_of}
+use Rattle.proof_shape.specs.Vocabulary.{Call, Ref, Indirection, Tomb, no_ref, contracted, Climb, ClimbLine, Line, key_of, current, above, depth_of, Known, IsFlagged}
 use Rattle.proof_shape.specs.Beneath.machine_model.specs.declared.repairs.ClimbLine.TheVariants as climb
 use Rattle.proof_shape.specs.Beneath.machine_model.specs.declared.lines.Line.TheVariants as line
 use Rattle.proof_shape.specs.Beneath.machine_model.specs.declared.lines.Purpose.TheVariants as purpose
-use Rattle.proof_shape.specs.Beneath.proof_contents.specs.Lines.Changes.{Known, IsFlagged}
 
 -- Was says that a main node was once that of an indirection.
 

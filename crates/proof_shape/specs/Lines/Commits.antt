@@ -1,14 +1,10 @@
 -- Which steps change a main node, whose fresh node it is, and what its owner knows.
 use Rattle.std.specs.Prelude.{Option, ◌≡◌, ◌≢◌, ℕ, suc, ◌==◌, ◌<◌, false, List, ◌∷◌, Some, None, if◌then◌else◌, []}
 use Rattle.proof_shape.specs.Vocabulary.{Writable, Call, Place, Ref, generation_of, Purpose, Operation, ReadLine, SwapLine, Deciding, Bounds, Outcome, Step, depth_of, State, operation_of, Moves}
-use Rattle.proof_shape.specs.Vocabulary.{node_under, committed_now, entrant_of, told_in, Record, place_of, entered, noted}
+use Rattle.proof_shape.specs.Vocabulary.{node_under, committed_now, entrant_of, told_in, Record, place_of, entered, noted, IsInSwap, KnowsSwap, IsRepaired, counting_main}
 use Rattle.proof_shape.specs.Beneath.machine_model.specs.declared.lines.Purpose.TheVariants as purpose
 use Rattle.proof_shape.specs.Beneath.machine_model.specs.declared.lines.Line.TheVariants as line
 use Rattle.proof_shape.specs.Beneath.machine_model.specs.declared.steps.Step.TheVariants as step
-use Rattle.proof_shape.specs.Beneath.proof_commits.specs.Laws.{IsInSwap}
-use Rattle.proof_shape.specs.Beneath.proof_contents.specs.Lines.Changes.{KnowsSwap}
-use Rattle.proof_shape.specs.Beneath.proof_contents.specs.Lines.Repairs.{IsRepaired}
-use Rattle.proof_shape.specs.Beneath.proof_contents.specs.Runs.{counting_main}
 use Rattle.proof_shape.specs.Lines.Given.{GaveBelow, Was}
 use Rattle.proof_shape.specs.Lines.Climbing.{IsClimbed}
 use Rattle.proof_shape.specs.Lines.Knowing.{known_with, first_main, SwapsAt}

@@ -1,13 +1,8 @@
 -- What a READ of an operation gave of an indirection, when the READ began, and from when on that was so.
 use Rattle.std.specs.Prelude.{◌≡◌, ℕ, suc, ◌≤◌, ◌<◌, Some, None}
 use Rattle.proof_shape.specs.Vocabulary.{Ref, Operation, Read, Outcome, Go, Gives, ReadLine, handle_of, State, operation_of, word_at, read_after, read_step, read_of, Moves, Record, noted, told_in}
+use Rattle.proof_shape.specs.Vocabulary.{Reads, stage_of, words_of, IsMoment, counting_main, ReadsBelow}
 use Rattle.proof_shape.specs.Beneath.machine_model.specs.declared.reading.ReadLine.TheVariants as read
-use Rattle.proof_shape.specs.Beneath.proof_commits.specs.Protocol.{Reads}
-use Rattle.proof_shape.specs.Beneath.proof_commits.specs.Stages.{stage_of}
-use Rattle.proof_shape.specs.Beneath.proof_commits.specs.Words.{words_of}
-use Rattle.proof_shape.specs.Beneath.proof_commits.specs.Moments.{IsMoment}
-use Rattle.proof_shape.specs.Beneath.proof_contents.specs.Runs.{counting_main}
-use Rattle.proof_shape.specs.Beneath.proof_contents.specs.Lines.Repairs.{ReadsBelow}
 
 -- the actor's operation of this id stands on this line of a READ of the indirection
 pub record IsReading (state : State) (actor id : ℕ) (i : Ref) (line : ReadLine) : Type 0 where

@@ -1,11 +1,8 @@
 -- What the line of each running operation knows, at each time of a run.
 use Rattle.std.specs.Prelude.{◌≡◌, ℕ, ◌≤◌, Option, Some}
-use Rattle.proof_shape.specs.Vocabulary.{Ref, Line, Purpose, Operation, Bounds, State, operation_of, current, above, node_under, Record}
+use Rattle.proof_shape.specs.Vocabulary.{Ref, Line, Purpose, Operation, Bounds, State, operation_of, current, above, node_under, Record, Known, KnowsLine, KnowsRepair, counting_main}
 use Rattle.proof_shape.specs.Beneath.machine_model.specs.declared.lines.Line.TheVariants as line
 use Rattle.proof_shape.specs.Beneath.machine_model.specs.declared.lines.Purpose.TheVariants as purpose
-use Rattle.proof_shape.specs.Beneath.proof_contents.specs.Lines.Changes.{Known, KnowsLine}
-use Rattle.proof_shape.specs.Beneath.proof_contents.specs.Lines.Repairs.{KnowsRepair}
-use Rattle.proof_shape.specs.Beneath.proof_contents.specs.Runs.{counting_main}
 use Rattle.proof_shape.specs.Lines.Given.{GaveBelow, Was}
 use Rattle.proof_shape.specs.Lines.Climbing.{KnowsClimbing}
 

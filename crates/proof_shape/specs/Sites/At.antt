@@ -1,18 +1,15 @@
 -- What is asked of a run, and where nodes and paths of operations stand at each time of it.
 use Rattle.std.specs.Prelude.{◌≡◌, ℕ, suc, ◌^◌, ◌<◌, ◌≤◌, true, List, length, slice_index_or, Option, Some, []}
 use Rattle.proof_shape.specs.Vocabulary.{hash_of, Ref, no_ref, KeyLine, Line, Operation, CleanLine, ClimbLine, Bounds, Outcome, Step, Swap, key_of, current, depth_of, State, operation_of}
-use Rattle.proof_shape.specs.Vocabulary.{node_under, Moves, FitsKey}
+use Rattle.proof_shape.specs.Vocabulary.{node_under, Moves, FitsKey, LineLevel, renew_path, purpose_path, build_path}
 use Rattle.proof_shape.specs.Beneath.machine_model.specs.declared.finding.KeyLine.TheVariants as key
 use Rattle.proof_shape.specs.Beneath.machine_model.specs.declared.lines.Line.TheVariants as line
 use Rattle.proof_shape.specs.Beneath.machine_model.specs.declared.lines.Purpose.TheVariants as purpose
 use Rattle.proof_shape.specs.Beneath.machine_model.specs.declared.repairs.CleanLine.TheVariants as clean
 use Rattle.proof_shape.specs.Beneath.machine_model.specs.declared.repairs.ClimbLine.TheVariants as climb
 use Rattle.proof_shape.specs.Beneath.proof_memory.specs.Wants.{is_indirection}
-use Rattle.proof_shape.specs.Beneath.proof_memory.specs.Levels.{LineLevel}
-use Rattle.proof_generations.specs.Falling.{renew_path, purpose_path}
 use Rattle.proof_shape.specs.Sites.Nodes.{path_to, level_until, depth_of_run, path_of_run}
 use Rattle.proof_shape.specs.Sites.Lines.{LineSite, sites_of}
-use Rattle.proof_shape.specs.Beneath.proof_contents.specs.Lines.Changes.{build_path}
 
 -- ---- what is given
 

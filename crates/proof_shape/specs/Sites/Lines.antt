@@ -2,7 +2,7 @@
 -- have that of its hash.
 use Rattle.std.specs.Prelude.{◌≡◌, ℕ, ◌+◌, ◌^◌, ◌<◌, ◌≤◌, true, List, [], length, slice_index_or, Option, Some, None}
 use Rattle.proof_shape.specs.Vocabulary.{hash_of, position_of, HashKind, Ref, Node, Indirection, Single, Prev, no_ref, entries_of, bitmap_of, flag_of, ReadLine, SwapLine, KeyLine, BuildLine, Change}
-use Rattle.proof_shape.specs.Vocabulary.{RenewLine, CleanLine, Climb, ClimbLine, WalkLine, Purpose, Line, Step, current, above, depth_of, State, node_under}
+use Rattle.proof_shape.specs.Vocabulary.{RenewLine, CleanLine, Climb, ClimbLine, WalkLine, Purpose, Line, Step, current, above, depth_of, State, node_under, Trie, IsShaped}
 use Rattle.proof_shape.specs.Beneath.slot_arena.specs.declared.nodes.Prev.TheVariants as prev
 use Rattle.proof_shape.specs.Beneath.machine_model.specs.declared.reading.ReadLine.TheVariants as read
 use Rattle.proof_shape.specs.Beneath.machine_model.specs.declared.reading.SwapLine.TheVariants as swap
@@ -16,7 +16,6 @@ use Rattle.proof_shape.specs.Beneath.machine_model.specs.declared.walking.WalkLi
 use Rattle.proof_shape.specs.Beneath.machine_model.specs.declared.lines.Purpose.TheVariants as purpose
 use Rattle.proof_shape.specs.Beneath.machine_model.specs.declared.lines.Line.TheVariants as line
 use Rattle.proof_shape.specs.Beneath.proof_memory.specs.Wants.{is_indirection}
-use Rattle.proof_shape.specs.Beneath.proof_contents.specs.Tries.{Trie, IsShaped}
 use Rattle.proof_shape.specs.Beneath.proof_contents.specs.Shapes.{Fits}
 use Rattle.proof_shape.specs.Sites.Nodes.{depth_at, path_to, level_until, path_until}
 

@@ -1,11 +1,10 @@
 -- The site of each node of a run: its level and the part of a hash that leads to it, both given in the step that makes it and fixed for life.
 use Rattle.std.specs.Prelude.{ℕ, zero, suc, ◌-◌, ◌*◌, ◌%◌, ◌^◌, List, slice_index_or, Option, Some, None, if◌then◌else◌}
-use Rattle.proof_shape.specs.Vocabulary.{Ref, Operation, Line, Step, hash_in, State, operation_of, Bounds, is_number, taken_steps, states_of, last_of, next_entry, node_under}
+use Rattle.proof_shape.specs.Vocabulary.{Ref, Operation, Line, Step, hash_in, State, operation_of, Bounds, is_number, taken_steps, states_of, last_of, next_entry, node_under, made_now, level_now}
 use Rattle.proof_shape.specs.Beneath.machine_model.specs.declared.repairs.RenewLine.TheVariants as renew
 use Rattle.proof_shape.specs.Beneath.machine_model.specs.declared.lines.Line.TheVariants as line
 use Rattle.proof_shape.specs.Beneath.machine_model.specs.declared.steps.Step.TheVariants as step
 use Rattle.proof_shape.specs.Beneath.proof_memory.specs.Wants.{is_indirection}
-use Rattle.proof_shape.specs.Beneath.proof_memory.specs.Making.{made_now, level_now}
 
 -- a node of this level stands so many levels below the root
 abbrev pub depth_at : ℕ → ℕ

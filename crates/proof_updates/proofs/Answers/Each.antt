@@ -3,22 +3,19 @@ use Rattle.std.proofs.Common.{◌≡◌, ℕ, suc, ◌<◌, ◌≤◌, ◌^◌, 
 use Rattle.std.proofs.lemmas.Option.{same_Some}
 use Rattle.proof_updates.specs.Vocabulary.{Access, Writable, ReadOnly, Call, Reply, Ref, generation_at, KeyLine, WalkLine, Line, Operation, After, Gives, Read, RootLine, Swap, Purpose, Bounds}
 use Rattle.proof_updates.specs.Vocabulary.{key_of, handle_of, is_close, needs_read_only, State, root_of, word_of, word_at, read_step, root_after, key_after_read, key_after, walk_after, line_action}
-use Rattle.proof_updates.specs.Vocabulary.{line_after, generation_from, generation_after, given_root, read_of, operation_after, GoesOn, IsRun, node_under, is_placed, Record, moment_at}
+use Rattle.proof_updates.specs.Vocabulary.{line_after, generation_from, generation_after, given_root, read_of, operation_after, GoesOn, IsRun, node_under, is_placed, Record, moment_at, is_end, Trie}
+use Rattle.proof_updates.specs.Vocabulary.{trie_of, KnowsLine, IsGet, known_with, first_main}
 use Rattle.proof_updates.specs.Beneath.machine_model.specs.declared.finding.KeyLine.TheVariants as key
 use Rattle.proof_updates.specs.Beneath.machine_model.specs.declared.lines.Line.TheVariants as line
 use Rattle.proof_updates.specs.Beneath.machine_model.specs.declared.reading.After.TheVariants.{Goes}
 use Rattle.proof_updates.specs.Beneath.machine_model.specs.declared.lines.Purpose.TheVariants as purpose
 use Rattle.proof_updates.specs.Beneath.machine_model.specs.declared.steps.Step.TheVariants as step
-use Rattle.proof_updates.specs.Beneath.proof_memory.specs.Laws.{is_end}
-use Rattle.proof_updates.specs.Beneath.proof_contents.specs.Tries.{Trie}
 use Rattle.proof_updates.specs.Beneath.proof_contents.specs.Steps.{IsTrie}
-use Rattle.proof_updates.specs.Beneath.proof_contents.specs.Runs.{trie_of}
-use Rattle.proof_updates.specs.Beneath.proof_contents.specs.Lines.Changes.{KnowsLine, IsGet}
 use Rattle.proof_updates.specs.Beneath.proof_contents.proofs.Lines.Key.Ends.{EndsRight}
 use Rattle.proof_updates.specs.Beneath.proof_generations.proofs.Roots.Open.{no_close_at}
 use Rattle.proof_updates.specs.Beneath.proof_generations.proofs.Roots.Rooted.{root_given}
 use Rattle.proof_order.specs.Facts.{Runs, standing}
-use Rattle.proof_shape.specs.Lines.Knowing.{known_with, first_main, IsPlaced}
+use Rattle.proof_shape.specs.Lines.Knowing.{IsPlaced}
 use Rattle.proof_shape.proofs.Lines.Leads.{is_walking, walk_leads}
 use Rattle.proof_shape.proofs.Lines.Placed.{is_keyed}
 use Rattle.proof_shape.proofs.Lines.Knows.{knows_at}

@@ -1,22 +1,18 @@
 -- What a step of an operation's own READ gives, in the words of the trie: just behind the operation's moment it was the main node.
 use Rattle.std.proofs.Common.{◌≡◌, ℕ, suc, ◌<◌, ◌≤◌, true, is_some, ◌∙◌, arith, None, ap, sym, subst}
 use Rattle.proof_updates.specs.Vocabulary.{Ref, Operation, Gives, ReadLine, Bounds, handle_of, State, word_at, read_after, gone, settled, IsRun, grown, read_at_after, moment_after, Record}
-use Rattle.proof_updates.specs.Vocabulary.{moment_at, moment_given, Moment, read_of, action_of, progress_of, counts_from, committed_now, given_in}
-use Rattle.proof_updates.specs.Beneath.proof_commits.specs.Protocol.{Reads, counts_at}
+use Rattle.proof_updates.specs.Vocabulary.{moment_at, moment_given, Moment, read_of, action_of, progress_of, counts_from, committed_now, given_in, Reads, counts_at, stage_of, counting_main}
+use Rattle.proof_updates.specs.Vocabulary.{IsMoment, words_of}
 use Rattle.proof_updates.specs.Beneath.proof_commits.proofs.Course.Finals.{link_stays}
-use Rattle.proof_updates.specs.Beneath.proof_commits.specs.Stages.{stage_of}
 use Rattle.proof_updates.specs.Beneath.proof_commits.proofs.Known.Given.{Known}
 use Rattle.proof_updates.specs.Beneath.proof_commits.proofs.Known.Acts.{known_run}
 use Rattle.proof_updates.specs.Beneath.proof_commits.proofs.Words.Along.{protocol}
 use Rattle.proof_updates.specs.Beneath.proof_commits.proofs.Course.Moments.{counted, moment_noted}
-use Rattle.proof_updates.specs.Beneath.proof_contents.specs.Runs.{counting_main}
 use Rattle.proof_updates.specs.Beneath.proof_contents.proofs.Values.Runs.{counting_main-made}
 use Rattle.proof_updates.proofs.Tries.EachOperation.{OwnStep}
 use Rattle.proof_updates.specs.Beneath.proof_commits.proofs.Words.OfRuns.{link_made}
 use Rattle.proof_updates.specs.Beneath.proof_generations.proofs.Falling.ReadsGive.{gone_is}
 use Rattle.proof_updates.specs.Beneath.machine_model.proofs.Alike.{moment_goes, alike, go_actor, not_denied}
-use Rattle.proof_updates.specs.Beneath.proof_commits.specs.Moments.{IsMoment}
-use Rattle.proof_updates.specs.Beneath.proof_commits.specs.Words.{words_of}
 
 pub own_after : (states : ℕ → State) (records : ℕ → Record) (t k : ℕ) (operation : Operation) → OwnStep states records t k operation →
     states (suc t) ≡ settled (states t) (gone (states t) (suc k) operation)

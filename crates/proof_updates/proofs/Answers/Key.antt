@@ -2,19 +2,14 @@
 use Rattle.std.proofs.Common.{◌≡◌, ◌≢◌, ℕ, suc, ◌-◌, ◌<◌, ◌≤◌, ◌^◌, true, true≢false, List, length, Some, inl, inr, refl, sym, ap, subst, ◌∙◌, arith}
 use Rattle.proof_updates.specs.Vocabulary.{hash_of, Access, Writable, ReadOnly, Call, Get, Put, PutIfAbsent, Replace, ReplaceIf, Remove, RemoveIf, Clear, Snapshot, Freeze, Close, Entries, Count}
 use Rattle.proof_updates.specs.Vocabulary.{Reply, Ref, Node, Branch, Tomb, List as Listed, node_at, entry_at, KeyLine, Line, Operation, Bounds, key_of, current, depth_of, key_after, State, IsRun}
-use Rattle.proof_updates.specs.Vocabulary.{node_under, moment_at}
+use Rattle.proof_updates.specs.Vocabulary.{node_under, moment_at, IsInUse, ABranch, AList, AMain, Is, Holds, meets, listed, Below, Trie, node_in, says, content, root_is, below_is, Known, KnowsKey}
+use Rattle.proof_updates.specs.Vocabulary.{IsFlagged, GoesThrough, IsGet, trie_of, known_with, first_main}
 use Rattle.proof_updates.specs.Beneath.machine_model.specs.declared.finding.KeyLine.TheVariants as key
 use Rattle.proof_updates.specs.Beneath.machine_model.specs.declared.lines.Line.TheVariants as line
-use Rattle.proof_updates.specs.Beneath.proof_memory.specs.Laws.{IsInUse}
-use Rattle.proof_updates.specs.Beneath.proof_memory.specs.Wants.{ABranch, AList, AMain, Is, Holds, meets, listed}
 use Rattle.proof_updates.specs.Beneath.proof_memory.proofs.Claims.Uses.{meets_of}
 use Rattle.proof_updates.specs.Beneath.proof_memory.proofs.Safety.AtTimes.{limits_at}
-use Rattle.proof_updates.specs.Beneath.proof_contents.specs.Nodes.Looking.{Below}
-use Rattle.proof_updates.specs.Beneath.proof_contents.specs.Tries.{Trie, node_in, says, content}
-use Rattle.proof_updates.specs.Beneath.proof_contents.specs.Steps.{IsTrie, IsReached, root_is, below_is}
+use Rattle.proof_updates.specs.Beneath.proof_contents.specs.Steps.{IsTrie, IsReached}
 use Rattle.proof_updates.specs.Beneath.proof_contents.specs.Effects.{act_in, IsKeyed}
-use Rattle.proof_updates.specs.Beneath.proof_contents.specs.Lines.Changes.{Known, KnowsKey, IsFlagged, GoesThrough, IsGet}
-use Rattle.proof_updates.specs.Beneath.proof_contents.specs.Runs.{trie_of}
 use Rattle.proof_updates.specs.Beneath.proof_contents.proofs.Values.Paths.{on-depth}
 use Rattle.proof_updates.specs.Beneath.proof_contents.proofs.Shapes.Nodes.{leads_below}
 use Rattle.proof_updates.specs.Beneath.proof_contents.proofs.Lines.Key.Knows.{Sees, SeesSingle}
@@ -23,7 +18,7 @@ use Rattle.proof_updates.specs.Beneath.machine_model.proofs.Edges.Key.{key_edge}
 use Rattle.proof_updates.specs.Beneath.proof_contents.proofs.Lines.Key.Ends.{EndsRight, Answering, main_ends, entry_ends, listed_ends, tomb_ends}
 use Rattle.proof_updates.specs.Beneath.proof_contents.proofs.Lines.Answers.{writable_answers, read_only_answers}
 use Rattle.proof_updates.specs.Beneath.proof_memory.proofs.Claims.Nodes.{branch_main}
-use Rattle.proof_shape.specs.Lines.Knowing.{known_with, first_main}
+use Rattle.proof_updates.specs.Beneath.proof_memory.proofs.Claims.Named.{main_claim}
 use Rattle.proof_shape.proofs.Runs.EachAt.{GoesAt}
 use Rattle.proof_shape.proofs.Lines.Placed.{is_keyed}
 use Rattle.proof_shape.proofs.Runs.Seen.{listed_main, sees, single_seen}
@@ -114,7 +109,7 @@ module _ (limits : Bounds) (states : ℕ → State) (last : ℕ) (depth path : R
   main_right : (p : List Ref) (main : Ref) → operation.line ≡ line.Key (key.Main p main) → IsAt trie operation.access g (key_of operation.call) t moment p main → (next : Line) →
       KeyEdge (states t) operation (key.Main p main) next → Ends next
   main_right p main e at next (misses_absent route m b es is f none) =
-      let seen = sees run t (omega arith) operation main AMain (λ n x. x) (claims run t lt actor operation go _ e).1.1.0 in
+      let seen = sees run t (omega arith) operation main AMain (λ n x. x) (main_claim (claims run t lt actor operation go _ e)) in
       let stands = no_tomb main (Branch b es) (sym seen.main_is ∙ is) (λ single bad. let wrong : Branch b es ≡ Tomb single = bad in cc) in
       main_ends (states t) operation node first Right main seen p (rights p main at stands) next (misses_absent route m b es is f none)
   main_right p main e at next edge = tt
@@ -123,7 +118,7 @@ module _ (limits : Bounds) (states : ℕ → State) (last : ℕ) (depth path : R
       KnowsKey (known_with limits states last (first_main states last)) operation.call (key.Entry p main position) → (next : Line) →
       KeyEdge (states t) operation (key.Entry p main position) next → Ends next
   entry_right p main position e at (b, es, f) next edge =
-      let seen = sees run t (omega arith) operation main ABranch branch_main (claims run t lt actor operation go _ e).1.1.0 in
+      let seen = sees run t (omega arith) operation main ABranch branch_main (main_claim (claims run t lt actor operation go _ e)) in
       let stands = no_tomb main (Branch b es) f.is (λ single bad. let wrong : Branch b es ≡ Tomb single = bad in cc) in
       entry_ends (states t) operation node first Right main seen p (rights p main at stands) position b es
       (λ k v is. single_seen run t (omega arith) (entry_at (states t).heap main position)
@@ -136,7 +131,7 @@ module _ (limits : Bounds) (states : ℕ → State) (last : ℕ) (depth path : R
   listed_right p main position e at = by_known
     where
       claim : Holds (IsInUse (states t).heap) (states t).heap (Is main (listed operation.access))
-      claim = (claims run t lt actor operation go _ e).1.1.0
+      claim = main_claim (claims run t lt actor operation go _ e)
 
       seen : Sees (states t) operation node first main
       seen = sees run t (omega arith) operation main (listed operation.access) (listed_main operation.access) claim

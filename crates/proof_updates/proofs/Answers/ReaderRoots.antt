@@ -2,15 +2,13 @@
 use Rattle.std.proofs.Common.{◌≡◌, ℕ, suc, ◌<◌, ◌≤◌, true, false, true≢false, Option, Some, None, refl, sym, ap, subst, ◌∙◌, arith}
 use Rattle.std.proofs.lemmas.Option.{none-some, same_Some}
 use Rattle.proof_updates.specs.Vocabulary.{Access, ReadOnly, Ref, Node, Indirection, Branch, Single, Tomb, List as Listed, node_at, generation_at, Operation, Root, Plain, Bounds, handle_of}
-use Rattle.proof_updates.specs.Vocabulary.{is_close, State, root_at, root_of, word_of, word_at, turns, noted_turn, IsRun, Turn, node_under}
-use Rattle.proof_updates.specs.Beneath.proof_memory.specs.Laws.{IsInUse}
-use Rattle.proof_updates.specs.Beneath.proof_memory.specs.Wants.{Is, Holds, AnIndirection, meets, AllHold, word_wants}
+use Rattle.proof_updates.specs.Vocabulary.{is_close, State, root_at, root_of, word_of, word_at, turns, noted_turn, IsRun, Turn, node_under, IsInUse, Is, Holds, AnIndirection, meets, AllHold}
+use Rattle.proof_updates.specs.Vocabulary.{word_wants, standing_of, root_of_generation}
 use Rattle.proof_updates.specs.Beneath.proof_memory.proofs.Claims.Uses.{safe_of, meets_of}
 use Rattle.proof_updates.specs.Beneath.proof_memory.proofs.Safety.AtEachTime.{safe_at}
 use Rattle.proof_updates.specs.Beneath.proof_generations.proofs.Roots.Along.{ordered_at, read_only_plain}
-use Rattle.proof_order.specs.Facts.{Runs, standing, standing_of}
+use Rattle.proof_order.specs.Facts.{Runs, standing}
 use Rattle.proof_order.proofs.Phases.Standing.{read_only_stays}
-use Rattle.proof_updates.specs.Beneath.proof_contents.specs.Runs.{root_of_generation}
 use Rattle.proof_shape.proofs.Runs.Nodes.{link_known}
 use Rattle.proof_order.proofs.Openings.ClosedRoots.{root_is}
 

@@ -3,18 +3,15 @@ use Rattle.std.proofs.Common.{Option, ◌≡◌, ◌≢◌, ℕ, suc, ◌<◌, �
 use Rattle.std.proofs.lemmas.Option.{none-some}
 use Rattle.proof_updates.specs.Vocabulary.{Access, Writable, ReadOnly, Call, Close, Entries, Count, Reply, Ref, on_time, Line, Operation, Bounds, Outcome, Step, key_of, is_close, needs_read_only}
 use Rattle.proof_updates.specs.Vocabulary.{State, first_line, begin_denial, Moves, begun_operation, turns, noted_turn, IsRun, Turn, is_placed, Record, noted, moment_at, told_in, Moment, given_up}
-use Rattle.proof_updates.specs.Vocabulary.{gave_up}
+use Rattle.proof_updates.specs.Vocabulary.{gave_up, Trie, content, trie_of, Replied, on_writable, on_read_only, Since, IsWithin, has_read, Notes}
 use Rattle.proof_updates.specs.Beneath.history.specs.declared.replies.Reply.TheVariants as reply
 use Rattle.proof_updates.specs.Beneath.machine_model.specs.declared.lines.Purpose.TheVariants as purpose
 use Rattle.proof_updates.specs.Beneath.machine_model.specs.declared.lines.Line.TheVariants as line
 use Rattle.proof_updates.specs.Beneath.machine_model.specs.declared.steps.Step.TheVariants as step
-use Rattle.proof_updates.specs.Beneath.proof_contents.specs.Tries.{Trie, content}
 use Rattle.proof_updates.specs.Beneath.proof_contents.specs.Steps.{IsTrie}
-use Rattle.proof_updates.specs.Beneath.proof_contents.specs.Runs.{trie_of}
-use Rattle.proof_order.specs.Facts.{Runs, Replied, on_writable, on_read_only}
+use Rattle.proof_order.specs.Facts.{Runs}
 use Rattle.proof_updates.specs.Beneath.history.proofs.Among.{among_right}
 use Rattle.proof_updates.specs.Beneath.proof_generations.proofs.Handles.Running.{place_of_actor}
-use Rattle.proof_order.specs.Times.{Since, IsWithin, has_read}
 use Rattle.proof_order.proofs.Phases.Steps.{is_placed_so}
 use Rattle.proof_order.proofs.Phases.Since.{run_since}
 use Rattle.proof_order.proofs.Phases.Standing.{rooted_at_moments, read_only_stands}
@@ -26,7 +23,6 @@ use Rattle.proof_updates.proofs.Tries.EachOperation.{each_operation}
 use Rattle.proof_updates.proofs.Answers.ReaderRoots.{stood_before}
 use Rattle.proof_updates.proofs.Placed.Swap.{none_next}
 use Rattle.proof_updates.specs.Beneath.proof_commits.proofs.Lines.Reads.{only_end}
-use Rattle.proof_updates.specs.Beneath.proof_order.specs.Facts.{Notes}
 use Rattle.proof_updates.proofs.Answers.Given.{moment_of}
 use Rattle.proof_order.proofs.Phases.LineTimes.{answered_unless}
 

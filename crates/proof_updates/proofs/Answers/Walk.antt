@@ -2,18 +2,12 @@
 use Rattle.std.proofs.Common.{◌≡◌, ℕ, suc, ◌<◌, true, true≢false, List, ◌++◌, flat_map, Some, inl, refl, sym, ap, subst, ◌∙◌, arith, append-nil}
 use Rattle.proof_updates.specs.Vocabulary.{ReadOnly, Reply, Ref, Node, Indirection, Branch, Single, Tomb, List as Listed, node_at, Operation, Gives, Read, WalkLine, Line, Bounds, handle_of}
 use Rattle.proof_updates.specs.Vocabulary.{needs_read_only, State, word_at, root_of, read_of, read_step, read_after, walk_after, walk_after_entry, walked_reply, first_of, rest_of, IsRun, node_under}
-use Rattle.proof_updates.specs.Vocabulary.{Record}
+use Rattle.proof_updates.specs.Vocabulary.{Record, IsInUse, AMain, Is, Holds, AnIndirection, meets, IsNoSwap, stage_of, Trie, trie_of, GivesAt}
 use Rattle.proof_updates.specs.Beneath.machine_model.specs.declared.walking.WalkLine.TheVariants as walk
 use Rattle.proof_updates.specs.Beneath.machine_model.specs.declared.lines.Line.TheVariants as line
-use Rattle.proof_updates.specs.Beneath.proof_memory.specs.Laws.{IsInUse}
-use Rattle.proof_updates.specs.Beneath.proof_memory.specs.Wants.{AMain, Is, Holds, AnIndirection, meets}
 use Rattle.proof_updates.specs.Beneath.proof_memory.proofs.Claims.Reads.{read_link}
 use Rattle.proof_updates.specs.Beneath.proof_memory.proofs.Claims.Uses.{safe_of, meets_of}
-use Rattle.proof_updates.specs.Beneath.proof_commits.specs.Laws.{IsNoSwap}
-use Rattle.proof_updates.specs.Beneath.proof_commits.specs.Stages.{stage_of}
-use Rattle.proof_updates.specs.Beneath.proof_contents.specs.Tries.{Trie}
 use Rattle.proof_updates.specs.Beneath.proof_contents.specs.Steps.{IsTrie}
-use Rattle.proof_updates.specs.Beneath.proof_contents.specs.Runs.{trie_of}
 use Rattle.proof_updates.specs.Beneath.proof_contents.proofs.Pairs.Lists.{Pairs}
 use Rattle.proof_updates.specs.Beneath.proof_contents.proofs.Lines.Repair.{read_stays}
 use Rattle.proof_updates.specs.Beneath.proof_contents.proofs.Lines.Walk.{WalksRight, walk_read_knows, walk_main_knows, walk_entry_knows}
@@ -23,7 +17,6 @@ use Rattle.proof_order.specs.Facts.{standing}
 use Rattle.proof_shape.proofs.Runs.EachAt.{GoesAt}
 use Rattle.proof_shape.proofs.Runs.Seen.{main_seen, single_seen}
 use Rattle.proof_shape.proofs.Lines.Key.{claims, looks}
-use Rattle.proof_updates.specs.Beneath.proof_generations.specs.Falling.{GivesAt}
 use Rattle.proof_updates.proofs.Tries.EachOperation.{OwnStep, own_notes}
 use Rattle.proof_updates.proofs.Answers.Given.{given_at, own_after}
 use Rattle.proof_updates.proofs.Answers.Key.{AnswersSo}

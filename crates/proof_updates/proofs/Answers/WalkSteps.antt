@@ -1,8 +1,8 @@
 -- A walk takes all pairs of its root's content as it is in the end.
 use Rattle.std.proofs.Common.{◌≡◌, ℕ, true, true≢false, List, [], ◌∷◌, ◌++◌, flat_map, sym, ap, ◌∙◌, arith}
-use Rattle.proof_updates.specs.Vocabulary.{ReadOnly, Call, Entries, Count, Ref, Indirection, entries_of, WalkLine, needs_read_only, walked_reply}
+use Rattle.proof_updates.specs.Vocabulary.{ReadOnly, Call, Entries, Count, Ref, Indirection, entries_of, WalkLine, needs_read_only, walked_reply, Trie, IsShaped, branch, list, tomb, node_in}
 use Rattle.proof_updates.specs.Beneath.machine_model.specs.declared.walking.WalkLine.TheVariants as walk
-use Rattle.proof_updates.specs.Beneath.proof_contents.specs.Tries.{Trie, IsShaped, branch, list, tomb, node_in, most_levels}
+use Rattle.proof_updates.specs.Beneath.proof_contents.specs.Tries.{most_levels}
 use Rattle.proof_updates.specs.Beneath.proof_contents.specs.Steps.{IsTrie}
 use Rattle.proof_updates.specs.Beneath.proof_contents.specs.Pairs.{pairs_from}
 use Rattle.proof_updates.specs.Beneath.proof_contents.proofs.Pairs.Lists.{Pairs}

@@ -1,13 +1,13 @@
 -- Whose node a step commits: the same operation in the words of the laws and in those of the layers below.
 use Rattle.std.proofs.Common.{◌≡◌, ℕ, List, Option, Some, None, refl, sym, ap, ◌∙◌}
 use Rattle.std.proofs.lemmas.Option.{none-some, same_Some}
-use Rattle.proof_updates.specs.Vocabulary.{Call, Ref, Operation, Swap, Deciding, Descriptor, Bounds, Step, State, operation_of, Record}
+use Rattle.proof_updates.specs.Vocabulary.{Call, Ref, Operation, Swap, Deciding, Descriptor, Bounds, Step, State, operation_of, Record, CarriesOut, committed_of, committed_by_step, OwnCommit}
+use Rattle.proof_updates.specs.Vocabulary.{CommitsNone, begins, goes, assigned_at, gives_up}
 use Rattle.proof_updates.specs.Beneath.machine_model.specs.declared.lines.Line.TheVariants as line
 use Rattle.proof_updates.specs.Beneath.machine_model.specs.declared.lines.Purpose.TheVariants as purpose
 use Rattle.proof_updates.specs.Beneath.machine_model.specs.declared.steps.Step.TheVariants as step
-use Rattle.proof_order.specs.Facts.{CarriesOut, committed_of, committed_by_step}
 use Rattle.proof_order.proofs.Views.Changes.{complete_commits}
-use Rattle.proof_shape.specs.Lines.Commits.{OwnCommit, CommitsNone, begins, goes, sweeps, assigned_at, gives_up}
+use Rattle.proof_shape.specs.Lines.Commits.{sweeps}
 use Rattle.proof_updates.specs.Touching.{CommitsUpdate, CommitsRepair}
 
 module _ (limits : Bounds) (states : ℕ → State) (records : ℕ → Record) (last : ℕ) (t : ℕ) (s : Step) where

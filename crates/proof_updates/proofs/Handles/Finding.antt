@@ -1,9 +1,7 @@
 -- How keys are found by other main nodes and nodes that say the same.
 use Rattle.std.proofs.Common.{◌≡◌, ℕ, zero, suc, cond, slice_index_or, refl, ap, ◌∙◌}
-use Rattle.proof_updates.specs.Vocabulary.{position_of, Ref, Node, Indirection, Branch, Single, Tomb, List as Listed, no_ref, flag_of, has_flag}
-use Rattle.proof_updates.specs.Beneath.proof_contents.specs.Nodes.Looking.{Absent, look_in, value_by, find_at, value_in}
+use Rattle.proof_updates.specs.Vocabulary.{position_of, Ref, Node, Indirection, Branch, Single, Tomb, List as Listed, no_ref, flag_of, has_flag, Absent, look_in, value_by, find_at, value_in, bare}
 use Rattle.proof_updates.specs.Beneath.proof_contents.proofs.Values.Found.{value_by-same}
-use Rattle.proof_shape.specs.Sites.Lines.{bare}
 use Rattle.proof_shape.proofs.Shaped.Changed.{bare_look, bare_among}
 
 module _ (node : Ref → Node) (hash : ℕ → ℕ) (key : ℕ) where

@@ -2,17 +2,14 @@
 -- reached.
 use Rattle.std.proofs.Common.{◌≡◌, ℕ, suc, List, Option, Some, ◌⊎◌, inl, inr, refl, sym, ap, ◌∙◌, arith}
 use Rattle.std.specs.FinMap.{entries}
-use Rattle.proof_updates.specs.Vocabulary.{Ref, Root, Bounds, Outcome, Step, content_at, State, root_at, root_of, node_under, Moves, IsRun}
+use Rattle.proof_updates.specs.Vocabulary.{Ref, Root, Bounds, Outcome, Step, content_at, State, root_at, root_of, node_under, Moves, IsRun, IsRepair, Trie, generation, node_in, OwnCommit, CommitsAt}
+use Rattle.proof_updates.specs.Vocabulary.{MainStep, stays, changes, assigned_at, HasShape, trie_of_run, depth_of_run, path_of_run, TakesSteps, StepsFit, Notes}
 use Rattle.proof_updates.specs.Beneath.machine_model.specs.declared.lines.Purpose.TheVariants as purpose
-use Rattle.proof_updates.specs.Beneath.proof_contents.specs.Steps.{IsTrie, IsRepair}
-use Rattle.proof_updates.specs.Beneath.proof_contents.specs.Tries.{Trie, generation, node_in, most_levels}
+use Rattle.proof_updates.specs.Beneath.proof_contents.specs.Steps.{IsTrie}
+use Rattle.proof_updates.specs.Beneath.proof_contents.specs.Tries.{most_levels}
 use Rattle.proof_updates.specs.Beneath.proof_contents.proofs.Values.Contents.{map_of-same}
-use Rattle.proof_shape.specs.Lines.Commits.{OwnCommit, CommitsAt, MainStep, stays, changes, assigned_at}
 use Rattle.proof_shape.proofs.Held.Commits.{fresh_commits_at}
 use Rattle.proof_updates.specs.Beneath.proof_generations.proofs.Lines.ReaderKnows.{indirection_is}
-use Rattle.proof_shape.specs.Shaped.{HasShape, trie_of_run}
-use Rattle.proof_shape.specs.Sites.Nodes.{depth_of_run, path_of_run}
-use Rattle.proof_shape.specs.Sites.At.{TakesSteps, StepsFit}
 use Rattle.proof_shape.proofs.Shaped.Trie.{runs_have_shape}
 use Rattle.proof_updates.proofs.Tries.Does.{own_does}
 use Rattle.proof_updates.proofs.Tries.Commits.{sites_of_updates}
@@ -22,7 +19,6 @@ use Rattle.proof_updates.proofs.Handles.Reaching.{reach_from}
 use Rattle.proof_updates.proofs.Handles.Showing.{root_deep, root_link, content_shown}
 use Rattle.proof_updates.proofs.Handles.Values.{value_below, nothing_below, repair_below}
 use Rattle.proof_updates.proofs.Handles.Ways.{itself, missed_below}
-use Rattle.proof_updates.specs.Beneath.proof_order.specs.Facts.{Notes}
 
 module _ (limits : Bounds) (states : ℕ → State) (steps : ℕ → Step) (t : ℕ) (run : IsRun limits states (suc t)) (takes : TakesSteps states steps (suc t)) (keys : StepsFit steps (suc t))
     (s : Step) (o : Outcome) (m : Moves (states t) s o (states (suc t))) (notes : Notes states run.records t s) where

@@ -2,12 +2,11 @@
 use Rattle.std.proofs.Common.{refl, ◌≡◌, ℕ, suc, cond, List, ◌∷◌, ◌++◌, length, Ok, sym, ap, subst, ◌∙◌, arith, [], ◌<◌, slice_get, Some}
 use Rattle.std.proofs.lemmas.List.{length-append}
 use Rattle.proof_updates.specs.Vocabulary.{Bounds, Outcome, Step, KeysFit, AreBounds, next, state_after, run, taken_from, taken_steps, is_taken_step, State, first_state, Moves, IsRun, states_from}
-use Rattle.proof_updates.specs.Vocabulary.{states_of, last_of}
+use Rattle.proof_updates.specs.Vocabulary.{states_of, last_of, TakesSteps, StepsFit}
 use Rattle.proof_updates.specs.Beneath.machine_model.proofs.Along.{run_push}
 use Rattle.proof_updates.specs.Beneath.machine_model.proofs.Moves.{moved}
 use Rattle.proof_updates.specs.Beneath.machine_model.proofs.Times.{run_is, run_ends}
 use Rattle.proof_shape.specs.Sites.Nodes.{steps_of}
-use Rattle.proof_shape.specs.Sites.At.{TakesSteps, StepsFit}
 use Rattle.proof_shape.proofs.Sites.Fixed.{keys_fit, states_from-append, taken-append}
 use Rattle.proof_shape.proofs.Sites.Stepped.{takes_steps}
 use Rattle.proof_updates.specs.Laws.Handles.{OfEachStep, UntouchedStay, UpdatesChange, RepairsStay, ClearsEmpty, ClosesTake, OpenedCopy}

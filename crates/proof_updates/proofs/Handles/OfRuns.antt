@@ -1,12 +1,8 @@
 -- The laws, of the last step of each run.
 use Rattle.std.proofs.Common.{◌≡◌, ℕ, suc, ◌⊎◌, inl, inr, List, Option, Some, refl, sym, ap, subst, ◌∙◌, arith}
-use Rattle.proof_updates.specs.Vocabulary.{Access, Writable, ReadOnly, Call, Clear, Snapshot, Freeze, Close, Ref, Bounds, Outcome, Step, content_at, State, Moves, IsRun}
-use Rattle.proof_shape.specs.Lines.Commits.{OwnCommit, MainStep, assigned_at}
-use Rattle.proof_shape.specs.Lines.Commits.{stays as stays_all, changes as changes_one}
-use Rattle.proof_order.specs.Openings.{Brings}
+use Rattle.proof_updates.specs.Vocabulary.{Access, Writable, ReadOnly, Call, Clear, Snapshot, Freeze, Close, Ref, Bounds, Outcome, Step, content_at, State, Moves, IsRun, OwnCommit, MainStep}
+use Rattle.proof_updates.specs.Vocabulary.{assigned_at, stays as stays_all, changes as changes_one, Brings, trie_of_run, TakesSteps, StepsFit, Notes}
 use Rattle.proof_order.proofs.Openings.Brings.{swaps_bring}
-use Rattle.proof_shape.specs.Shaped.{trie_of_run}
-use Rattle.proof_shape.specs.Sites.At.{TakesSteps, StepsFit}
 use Rattle.proof_updates.specs.Laws.Handles.{HandleHolds, UntouchedStay, UpdatesChange, RepairsStay, ClearsEmpty, ClosesTake, OpenedCopy}
 use Rattle.proof_updates.specs.Touching.{CarriesOutCall, CommitsUpdate, Touches, updates, clears, closes}
 use Rattle.proof_updates.proofs.Handles.Committing.{commits_own, no_update, owned, no_owner, no_repair, begins_none, carries_nothing}
@@ -16,7 +12,6 @@ use Rattle.proof_updates.proofs.Handles.Showing.{content_shown}
 use Rattle.proof_updates.proofs.Handles.Swapping.{its_call, carries_call, brings, copies, copied_root, cleared, Copied, by_snapshot, by_freeze, copied}
 use Rattle.proof_updates.proofs.Handles.Updating.{update_changes}
 use Rattle.proof_updates.proofs.Handles.Values.{value_below}
-use Rattle.proof_updates.specs.Beneath.proof_order.specs.Facts.{Notes}
 
 -- a law of the last step of each run
 abbrev pub OfLastSteps : (Bounds → State → Step → State → Type 0) → Type 0

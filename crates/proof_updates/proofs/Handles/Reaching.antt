@@ -1,12 +1,9 @@
 -- What a handle reaches in the machine's heap is what its root reaches in the trie of the run, and the other way round.
 use Rattle.std.proofs.Common.{◌≡◌, ℕ, ◌≤◌, true, Contains, Some, sym, ap, subst, ◌∙◌}
 use Rattle.std.proofs.lemmas.Option.{same_Some}
-use Rattle.proof_updates.specs.Vocabulary.{Ref, node_at, logical_main, Root, Bounds, Step, State, root_at, root_of, node_under, IsRun}
-use Rattle.proof_updates.specs.Beneath.proof_memory.specs.Laws.{IsInUse}
+use Rattle.proof_updates.specs.Vocabulary.{Ref, node_at, logical_main, Root, Bounds, Step, State, root_at, root_of, node_under, IsRun, IsInUse, trie_of_run, TakesSteps, StepsFit}
 use Rattle.proof_updates.specs.Beneath.proof_memory.specs.Wants.{is_indirection}
 use Rattle.proof_updates.specs.Beneath.proof_generations.proofs.Lines.ReaderKnows.{indirection_is}
-use Rattle.proof_shape.specs.Shaped.{trie_of_run}
-use Rattle.proof_shape.specs.Sites.At.{TakesSteps, StepsFit}
 use Rattle.proof_updates.specs.Touching.{Reaches, its_root, entry_below}
 use Rattle.proof_updates.proofs.Handles.Showing.{link_same, main_used, entries_same, entry_used, root_used}
 use Rattle.proof_updates.proofs.Handles.Ways.{From, itself, through}

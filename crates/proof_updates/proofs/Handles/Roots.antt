@@ -5,20 +5,17 @@ use Rattle.std.proofs.lemmas.Bool.{cases_lt}
 use Rattle.std.proofs.lemmas.List.{get_or_past, get_or-set_same, length-set}
 use Rattle.std.proofs.lemmas.Option.{none-some, same_Some, some_pair_parts}
 use Rattle.proof_updates.specs.Vocabulary.{Access, Writable, Close, Ref, Root, Plain, Descriptor, Bounds, Outcome, Step, opened_root, settled, with_begin, State, root_at, root_of, rewritten, Begins}
-use Rattle.proof_updates.specs.Vocabulary.{Ends, Sweeps, GivesUp, Moves, begun_operation, IsRun, noted, told_in}
+use Rattle.proof_updates.specs.Vocabulary.{Ends, Sweeps, GivesUp, Moves, begun_operation, IsRun, noted, told_in, CarriesOut, IsSwap, Notes}
 use Rattle.proof_updates.specs.Beneath.machine_model.specs.declared.steps.Step.TheVariants as step
 use Rattle.proof_updates.specs.Beneath.machine_model.proofs.Found.{found_within, found_elsewhere}
 use Rattle.proof_updates.specs.Beneath.machine_model.specs.Moves.{Goes}
-use Rattle.proof_order.specs.Facts.{CarriesOut}
 use Rattle.proof_order.proofs.Views.Changes.{footing_of, footing, roots_swapped}
 use Rattle.proof_order.proofs.Views.EachStep.{Changes, quiet, ends, closes, swaps, changes}
 use Rattle.proof_order.proofs.Views.Handles.{opens_in_range}
 use Rattle.proof_order.proofs.Offers.Honest.{honest}
 use Rattle.proof_order.proofs.Offers.Standing.{offers_at}
-use Rattle.proof_order.specs.Openings.{IsSwap}
 use Rattle.proof_order.proofs.Openings.Carried as Carried
 use Rattle.proof_order.proofs.Openings.SwapState.{swapped, unopened, offerer, offers}
-use Rattle.proof_updates.specs.Beneath.proof_order.specs.Facts.{Notes}
 
 -- the handle is open over this root, and of this kind
 pub record StandsOver (state : State) (handle : ℕ) (access : Access) (r : Ref) : Type 0 where

@@ -3,17 +3,16 @@ use Rattle.std.proofs.Common.{◌≡◌, ℕ, suc, zero, ◌≤◌, true, cond, 
 use Rattle.std.proofs.lemmas.List.Elements.{Contains-append_left}
 use Rattle.std.specs.FinMap.{entries}
 use Rattle.proof_updates.specs.Vocabulary.{Ref, Node, Indirection, Branch, Single, Tomb, List as Listed, Heap, node_at, node_of, logical_main, entries_of, refs_of_node, refs_of_prev, refs_of_slot}
-use Rattle.proof_updates.specs.Vocabulary.{Root, Bounds, Step, content_at, pairs_at, pairs_below, by_key, State, root_at, root_of, word_of, node_under, IsRun}
-use Rattle.proof_updates.specs.Beneath.proof_memory.specs.Laws.{IsInUse}
+use Rattle.proof_updates.specs.Vocabulary.{Root, Bounds, Step, content_at, pairs_at, pairs_below, by_key, State, root_at, root_of, word_of, node_under, IsRun, IsInUse, pairs_of, counting_main, Trie}
+use Rattle.proof_updates.specs.Vocabulary.{content, bare, sites_of, HasShape, trie_of_run, depth_at, level_until, path_until, TakesSteps, StepsFit}
 use Rattle.proof_updates.specs.Beneath.proof_memory.specs.Wants.{is_indirection}
 use Rattle.proof_updates.specs.Beneath.proof_memory.proofs.Safety.AtEachTime.{safe_at}
 use Rattle.proof_updates.specs.Beneath.proof_memory.proofs.Claims.Uses.{safe_of, meets_of}
 use Rattle.proof_updates.specs.Beneath.proof_memory.proofs.Safety.States.{IsSafe}
 use Rattle.proof_updates.specs.Beneath.proof_memory.proofs.Safety.Standing.{in_any_slot}
-use Rattle.proof_updates.specs.Beneath.proof_contents.specs.Pairs.{pairs_of, pairs_from}
-use Rattle.proof_updates.specs.Beneath.proof_contents.specs.Runs.{counting_main}
+use Rattle.proof_updates.specs.Beneath.proof_contents.specs.Pairs.{pairs_from}
 use Rattle.proof_updates.specs.Beneath.proof_contents.specs.Steps.{IsTrie}
-use Rattle.proof_updates.specs.Beneath.proof_contents.specs.Tries.{Trie, content, map_of, most_levels}
+use Rattle.proof_updates.specs.Beneath.proof_contents.specs.Tries.{map_of, most_levels}
 use Rattle.proof_updates.specs.Beneath.proof_contents.proofs.Pairs.Heap.{flat_map-same, entry_refs}
 use Rattle.proof_updates.specs.Beneath.proof_contents.proofs.Pairs.Shown.{reached_entries}
 use Rattle.proof_updates.specs.Beneath.proof_contents.proofs.Values.Found.{assigned-last}
@@ -21,10 +20,6 @@ use Rattle.proof_updates.specs.Beneath.proof_contents.proofs.Values.Contents.{ma
 use Rattle.proof_updates.specs.Beneath.proof_generations.proofs.Lines.ReaderKnows.{indirection_is}
 use Rattle.proof_order.proofs.Openings.ClosedRoots.{main_there}
 use Rattle.proof_order.proofs.Openings.RootsFollow.{logical_in_use}
-use Rattle.proof_shape.specs.Sites.Lines.{bare, sites_of}
-use Rattle.proof_shape.specs.Shaped.{HasShape, trie_of_run}
-use Rattle.proof_shape.specs.Sites.Nodes.{depth_at, level_until, path_until}
-use Rattle.proof_shape.specs.Sites.At.{TakesSteps, StepsFit}
 use Rattle.proof_shape.proofs.Sites.Roots.{word_root}
 use Rattle.proof_shape.proofs.Sites.Given.{levels_there}
 use Rattle.proof_shape.proofs.Shaped.KeysOnce.{same_shape}

@@ -3,19 +3,16 @@ use Rattle.std.proofs.Common.{◌≡◌, ℕ, suc, List, [], ◌∷◌, length, 
 use Rattle.std.proofs.lemmas.Option.{none-some}
 use Rattle.std.specs.FinMap as map
 use Rattle.proof_updates.specs.Vocabulary.{hash_of, Writable, ReadOnly, Call, Clear, Snapshot, Freeze, Ref, Descriptor, Root, Bounds, Outcome, Step, opened_root, content_at, State, root_at, root_of}
-use Rattle.proof_updates.specs.Vocabulary.{Moves, IsRun, flag_of}
-use Rattle.proof_updates.specs.Beneath.proof_contents.specs.Nodes.Looking.{value_by, value_in, find_at}
-use Rattle.proof_updates.specs.Beneath.proof_contents.specs.Runs.{counting_main}
-use Rattle.proof_updates.specs.Beneath.proof_contents.specs.Tries.{Trie, map_of, put_value}
+use Rattle.proof_updates.specs.Vocabulary.{Moves, IsRun, flag_of, value_by, value_in, find_at, counting_main, Trie, put_value, CarriesOut, IsSwap, Brings, snapshots, freezes, TakesSteps, StepsFit}
+use Rattle.proof_updates.specs.Vocabulary.{Notes}
+use Rattle.proof_updates.specs.Beneath.proof_contents.specs.Tries.{map_of}
 use Rattle.proof_updates.specs.Beneath.proof_contents.proofs.Changes.Openings.{empty_says}
 use Rattle.proof_updates.specs.Beneath.proof_contents.proofs.Values.Found.{found_below}
-use Rattle.proof_order.specs.Facts.{CarriesOut}
-use Rattle.proof_order.specs.Openings.{IsSwap, Brings, clears, snapshots, freezes}
+use Rattle.proof_order.specs.Openings.{clears}
 use Rattle.proof_order.proofs.Openings.Brings.{swaps_bring}
 use Rattle.proof_order.proofs.Openings.Carried as Carried
 use Rattle.proof_order.proofs.Openings.NoLateCommit.{no_late_commit}
 use Rattle.proof_order.proofs.Openings.SwapState.{offerer, offers}
-use Rattle.proof_shape.specs.Sites.At.{TakesSteps, StepsFit}
 use Rattle.proof_updates.specs.Laws.Handles.{HandleHolds}
 use Rattle.proof_updates.specs.Touching.{CarriesOutCall}
 use Rattle.proof_updates.proofs.Handles.Committing.{carries_nothing}
@@ -23,7 +20,6 @@ use Rattle.proof_updates.proofs.Handles.Kept.{trie, values_stay, content_later}
 use Rattle.proof_updates.proofs.Handles.Roots.{swap_of, new_root}
 use Rattle.proof_updates.proofs.Handles.Showing.{content_shown}
 use Rattle.proof_updates.proofs.Handles.Values.{value_below}
-use Rattle.proof_updates.specs.Beneath.proof_order.specs.Facts.{Notes}
 
 nothing_listed : (pairs : List (ℕ × ℕ)) → length pairs ≡ 0 → pairs ≡ []
 nothing_listed [] e = refl

@@ -1,19 +1,16 @@
 -- An own update, seen from any root that leads to its indirection: a trie of the two states before and after it, without generations, in which this root is that
 -- of the only generation.
 use Rattle.std.proofs.Common.{◌≡◌, ℕ, zero, suc, ◌<◌, ◌==◌, Bool, true, false, cond, Contains, Option, Some, refl, sym, ap, subst, ◌∙◌, arith}
-use Rattle.proof_updates.specs.Vocabulary.{hash_of, HashKind, Writable, Call, Ref, Node, Indirection, no_ref, pair, key_of, changed_reply}
-use Rattle.proof_updates.specs.Beneath.proof_contents.specs.Nodes.Chains.{LeadsToPair, at_pair, by_rung}
-use Rattle.proof_updates.specs.Beneath.proof_contents.specs.Nodes.Looking.{find_at}
+use Rattle.proof_updates.specs.Vocabulary.{hash_of, HashKind, Writable, Call, Ref, Node, Indirection, no_ref, pair, key_of, changed_reply, LeadsToPair, at_pair, by_rung, find_at, Trie, generation}
+use Rattle.proof_updates.specs.Vocabulary.{node_in, assigned, value_at, content, IsShaped, Updates, an_update, IsOwnUpdate, branch_inserts, branch_updates, branch_removes, branch_entombs}
+use Rattle.proof_updates.specs.Vocabulary.{goes_beside, list_inserts, list_updates, list_removes, list_entombs, bare, HasShape}
 use Rattle.proof_updates.specs.Beneath.proof_contents.specs.Effects.{act_in}
-use Rattle.proof_updates.specs.Beneath.proof_contents.specs.Tries.{Trie, generation, node_in, assigned, value_at, content, map_of, IsShaped, most_levels}
-use Rattle.proof_updates.specs.Beneath.proof_contents.specs.Steps.{IsTrie, Updates, Does, an_update, IsOwnUpdate, branch_inserts, branch_updates, branch_removes, branch_entombs}
-use Rattle.proof_updates.specs.Beneath.proof_contents.specs.Steps.{goes_beside, list_inserts, list_updates, list_removes, list_entombs}
+use Rattle.proof_updates.specs.Beneath.proof_contents.specs.Tries.{map_of, most_levels}
+use Rattle.proof_updates.specs.Beneath.proof_contents.specs.Steps.{IsTrie, Does}
 use Rattle.proof_updates.specs.Beneath.proof_contents.proofs.Changes.Generations.{update_acts}
 use Rattle.proof_updates.specs.Beneath.proof_contents.proofs.Values.Paths.{on-path}
 use Rattle.proof_updates.specs.Beneath.proof_contents.proofs.Values.Found.{assigned-own, assigned-last}
 use Rattle.proof_updates.specs.Beneath.proof_contents.proofs.Values.Contents.{map_of-same}
-use Rattle.proof_shape.specs.Sites.Lines.{bare}
-use Rattle.proof_shape.specs.Shaped.{HasShape}
 use Rattle.proof_shape.proofs.Shaped.Changed.{bare_among}
 use Rattle.proof_shape.proofs.Shaped.KeysOnce.{same_shape}
 use Rattle.proof_shape.proofs.Shaped.Places.{bare_entries, bare_generation}

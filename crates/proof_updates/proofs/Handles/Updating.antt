@@ -3,16 +3,15 @@ use Rattle.std.proofs.Common.{◌≡◌, ℕ, suc, true, List, Option, Some, ref
 use native.Mathlib.Decide.{ℕ_discrete}
 use Rattle.std.specs.FinMap.{entries}
 use Rattle.proof_updates.specs.Vocabulary.{hash_of, Writable, Call, Get, change_in, KeyMap, Ref, Root, Bounds, Outcome, Step, changed_reply, State, root_at, root_of, node_under, Moves, IsRun}
-use Rattle.proof_updates.specs.Beneath.proof_memory.specs.Laws.{IsInUse}
-use Rattle.proof_updates.specs.Beneath.proof_memory.specs.Wants.{AnIndirection, Is, Holds as Claims, AllHold, is_indirection, line_wants}
+use Rattle.proof_updates.specs.Vocabulary.{IsInUse, AnIndirection, Is, Holds as Claims, AllHold, line_wants, Updates, to_insert, to_set, to_remove, Trie, MainStep, stays, changes, assigned_at}
+use Rattle.proof_updates.specs.Vocabulary.{TakesSteps, StepsFit, Notes}
+use Rattle.proof_updates.specs.Beneath.proof_memory.specs.Wants.{is_indirection}
 use Rattle.proof_updates.specs.Beneath.proof_memory.proofs.Safety.AtTimes.{line_at}
 use Rattle.proof_updates.specs.Beneath.proof_memory.proofs.Claims.Uses.{safe_of, meets_of}
 use Rattle.proof_updates.specs.Beneath.proof_contents.specs.Effects.{act_in}
-use Rattle.proof_updates.specs.Beneath.proof_contents.specs.Steps.{Updates, Asks, to_insert, to_set, to_remove}
-use Rattle.proof_updates.specs.Beneath.proof_contents.specs.Tries.{Trie, map_of}
-use Rattle.proof_shape.specs.Lines.Commits.{MainStep, stays, changes, assigned_at}
+use Rattle.proof_updates.specs.Beneath.proof_contents.specs.Steps.{Asks}
+use Rattle.proof_updates.specs.Beneath.proof_contents.specs.Tries.{map_of}
 use Rattle.proof_updates.specs.Beneath.proof_generations.proofs.Lines.ReaderKnows.{indirection_is}
-use Rattle.proof_shape.specs.Sites.At.{TakesSteps, StepsFit}
 use Rattle.proof_shape.proofs.Shaped.Trie.{bare_runs_have_shape}
 use Rattle.proof_updates.proofs.Tries.OfRuns as whole
 use Rattle.proof_updates.specs.Laws.Handles.{HandleHolds, Turns}
@@ -25,7 +24,6 @@ use Rattle.proof_updates.proofs.Handles.Showing.{root_deep, root_led, link_same,
 use Rattle.proof_updates.proofs.Handles.Updated.{update_below}
 use Rattle.proof_updates.proofs.Handles.Values.{value_below}
 use Rattle.proof_updates.proofs.Handles.Ways.{From}
-use Rattle.proof_updates.specs.Beneath.proof_order.specs.Facts.{Notes}
 
 gets_ask_nothing : (h k : ℕ) (former now : Option ℕ) → Asks (Get h k) former now → ⊥
 gets_ask_nothing h k former now (to_insert e) = let wrong : ⊥ = cc e in wrong

@@ -1,10 +1,9 @@
 -- The values of keys below a root, before the last step of a trie and after it.
 use Rattle.std.proofs.Common.{◌≡◌, ℕ, suc, ◌<◌, ◌==◌, Bool, true, false, cond, Option, refl, sym, ap, ◌∙◌, arith}
-use Rattle.proof_updates.specs.Vocabulary.{hash_of, Ref}
-use Rattle.proof_updates.specs.Beneath.proof_contents.specs.Nodes.Looking.{find_at}
+use Rattle.proof_updates.specs.Vocabulary.{hash_of, Ref, find_at, Trie, generation, node_in, assigned, IsRepair, LeavesOthers}
 use Rattle.proof_updates.specs.Beneath.proof_contents.proofs.Nodes.Branches.{differ}
-use Rattle.proof_updates.specs.Beneath.proof_contents.specs.Tries.{Trie, generation, node_in, assigned, most_levels}
-use Rattle.proof_updates.specs.Beneath.proof_contents.specs.Steps.{IsTrie, IsRepair, LeavesOthers}
+use Rattle.proof_updates.specs.Beneath.proof_contents.specs.Tries.{most_levels}
+use Rattle.proof_updates.specs.Beneath.proof_contents.specs.Steps.{IsTrie}
 use Rattle.proof_updates.specs.Beneath.proof_contents.proofs.Values.Found.{agrees}
 use Rattle.proof_updates.specs.Beneath.proof_contents.proofs.Changes.Repairs.{repair_stays}
 use Rattle.proof_updates.proofs.Handles.Finding.{found_alike}

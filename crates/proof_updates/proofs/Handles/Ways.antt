@@ -1,15 +1,12 @@
 -- The ways from a root down through the main nodes before a step: which keys they lead to, and what is found where they miss the indirection that is changed.
 use Rattle.std.proofs.Common.{◌≡◌, ℕ, zero, suc, ◌*◌, ◌%◌, ◌^◌, List, [], ◌∷◌, Contains, ◌<◌, Option, Some, None, refl, sym, ap, subst, ◌∙◌, arith}
-use Rattle.proof_updates.specs.Vocabulary.{hash_of, Ref, Node, Indirection, Single, entries_of, index_in}
-use Rattle.proof_updates.specs.Beneath.proof_contents.specs.Nodes.Branches.{standing, at_place}
-use Rattle.proof_updates.specs.Beneath.proof_contents.specs.Nodes.Lists.{AreSingles}
-use Rattle.proof_updates.specs.Beneath.proof_contents.specs.Nodes.Looking.{Absent, Below, find_at, value_in}
-use Rattle.proof_updates.specs.Beneath.proof_contents.specs.Nodes.Changing.{look}
+use Rattle.proof_updates.specs.Vocabulary.{hash_of, Ref, Node, Indirection, Single, entries_of, index_in, at_place, AreSingles, Absent, Below, find_at, value_in, look, Trie, generation, node_in}
+use Rattle.proof_updates.specs.Vocabulary.{says, On, at_below, IsShaped, branch, list, tomb, LeavesOthers}
+use Rattle.proof_updates.specs.Beneath.proof_contents.specs.Nodes.Branches.{standing}
 use Rattle.proof_updates.specs.Beneath.proof_contents.proofs.Nodes.Branches.{before, standing_at}
 use Rattle.proof_updates.specs.Beneath.proof_contents.proofs.Nodes.Changes.{look_place, look_branch}
 use Rattle.proof_updates.specs.Beneath.proof_contents.proofs.Nodes.Tombs.{before-lt, place_of}
-use Rattle.proof_updates.specs.Beneath.proof_contents.specs.Tries.{Trie, generation, node_in, says, On, at_root, at_below, IsShaped, branch, list, tomb}
-use Rattle.proof_updates.specs.Beneath.proof_contents.specs.Steps.{LeavesOthers}
+use Rattle.proof_updates.specs.Beneath.proof_contents.specs.Tries.{at_root}
 use Rattle.proof_updates.specs.Beneath.proof_contents.proofs.Values.Found.{value_by-same, found_below, found_nothing}
 use Rattle.proof_updates.specs.Beneath.proof_contents.proofs.Shapes.Nodes.{below_is, single_ends, singles_end, leads, leads_below}
 use Rattle.proof_updates.specs.Beneath.proof_contents.proofs.Values.Parting.{parted}

@@ -5,6 +5,7 @@ use Rattle.proof_updates.specs.Vocabulary.{Reply, Ref, Node, node_at, entry_at, 
 use Rattle.proof_updates.specs.Vocabulary.{RootLine, Line, Operation, State, word_at, handle_of, read_step, root_after, build_after, clean_after, climb_after_read, climb_after_main}
 use Rattle.proof_updates.specs.Vocabulary.{climb_after_contracted, climb_after_root, climb_after, copy_after, key_after_read, key_after_main, key_after_entry, after_listed, after_sibling, key_after}
 use Rattle.proof_updates.specs.Vocabulary.{renew_after, line_after, after_update, swapped, prev_word, is_placed, Record, given_up, swap_given_up, unless_effect, tells_effect, Purpose, Call}
+use Rattle.proof_updates.specs.Vocabulary.{IsPublished}
 use Rattle.proof_updates.specs.Beneath.history.specs.declared.replies.Reply.TheVariants as reply
 use Rattle.proof_updates.specs.Beneath.slot_arena.specs.declared.nodes.Prev.TheVariants as prev
 use Rattle.proof_updates.specs.Beneath.machine_model.specs.declared.finding.KeyLine.TheVariants as key
@@ -13,7 +14,6 @@ use Rattle.proof_updates.specs.Beneath.machine_model.specs.declared.reading.Swap
 use Rattle.proof_updates.specs.Beneath.machine_model.specs.declared.copying.CopyLine.TheVariants as copy
 use Rattle.proof_updates.specs.Beneath.machine_model.specs.declared.lines.Purpose.TheVariants as purpose
 use Rattle.proof_updates.specs.Beneath.machine_model.specs.declared.lines.Line.TheVariants as line
-use Rattle.proof_order.specs.Phases.{IsPublished}
 use Rattle.std.proofs.lemmas.Option.{none-some, same_Some}
 
 -- ---- what an answer may be

@@ -1,33 +1,29 @@
 -- Behind the commit of its own change of its key an operation has its place.
 use Rattle.std.proofs.Common.{◌≡◌, ℕ, suc, ◌<◌, ◌==◌, Bool, true, false, [], ◌∷◌, ◌++◌, inl, refl, sym, ap, subst, ◌∙◌, arith, eqb-true}
 use Rattle.std.proofs.lemmas.Option.{same_Some}
-use Rattle.proof_updates.specs.Vocabulary.{Ref, Operation, ReadLine, Bounds, Outcome, Step, State, operation_of, Moves, IsRun, is_placed, place_of, closing_for, noted, entrant_of, told_in}
+use Rattle.proof_updates.specs.Vocabulary.{Ref, Operation, ReadLine, Bounds, Outcome, Step, State, operation_of, Moves, IsRun, is_placed, place_of, closing_for, noted, entrant_of, told_in, Decides}
+use Rattle.proof_updates.specs.Vocabulary.{CommitsNode, Protocol, stage_of, stage_of_actor, counting_main, entered_by_step, MainStep, stays, changes as changes_main, assigned_at, places_for, Notes}
 use Rattle.proof_updates.specs.Beneath.proof_contents.proofs.Nodes.Branches.{differ}
 use Rattle.proof_updates.specs.Beneath.machine_model.specs.declared.lines.Purpose.TheVariants as purpose
 use Rattle.proof_updates.specs.Beneath.machine_model.specs.declared.lines.Line.TheVariants as line
 use Rattle.proof_updates.specs.Beneath.machine_model.specs.declared.reading.SwapLine.TheVariants as swap
-use Rattle.proof_updates.specs.Beneath.proof_commits.specs.Protocol.{Decides, CommitsNode, Protocol}
 use Rattle.proof_updates.specs.Beneath.proof_commits.proofs.Words.Stood.{none≢pending}
 use Rattle.proof_updates.specs.Beneath.proof_commits.proofs.Known.Owners.{Staged}
 use Rattle.proof_updates.specs.Beneath.proof_commits.proofs.Known.Sounds.{sound_at}
 use Rattle.proof_updates.specs.Beneath.proof_commits.proofs.Course.Finals.{link_stays}
 use Rattle.proof_updates.specs.Beneath.proof_commits.proofs.Course.Mains.{main_decided}
-use Rattle.proof_updates.specs.Beneath.proof_commits.specs.Stages.{stage_of, stage_of_actor}
 use Rattle.proof_updates.specs.Beneath.proof_commits.proofs.Words.Along.{protocol}
-use Rattle.proof_updates.specs.Beneath.proof_contents.specs.Runs.{counting_main}
-use Rattle.proof_order.specs.Facts.{Runs, entered_by_step}
+use Rattle.proof_order.specs.Facts.{Runs}
 use Rattle.proof_updates.specs.Beneath.history.proofs.Among.{Among, among_right}
 use Rattle.proof_order.proofs.Places.Origins.{place_says}
 use Rattle.proof_order.proofs.Views.EachStep.{Changes, quiet, ends, closes, swaps, changes}
 use Rattle.proof_order.proofs.Offers.Honest.{honest}
 use Rattle.proof_order.proofs.Offers.Standing.{offers_at}
 use Rattle.proof_order.proofs.Phases.Steps.{is_placed_so}
-use Rattle.proof_shape.specs.Lines.Commits.{MainStep, stays, changes as changes_main, assigned_at, places_for}
 use Rattle.proof_shape.proofs.Commits.Was.{main_linked, commit_is}
 use Rattle.proof_updates.proofs.Tries.Facts.{own_enters}
 use Rattle.proof_updates.specs.Beneath.proof_commits.proofs.Known.Acts.{known_run}
 use Rattle.proof_shape.proofs.Held.Commits.{fresh_commits_at}
-use Rattle.proof_updates.specs.Beneath.proof_order.specs.Facts.{Notes}
 
 -- whom a step enters among others has a place behind it
 entered_placed : {limits : Bounds} {states : ℕ → State} {last : ℕ} (run : IsRun limits states last) → (t : ℕ) → t < last → (s : Step) (o : Outcome) →

@@ -2,7 +2,7 @@
 use Rattle.std.proofs.Common.{◌≡◌, ℕ, suc, ◌≤◌, true, false, ◌∷◌, ◌++◌, ◌⊎◌, inl, inr, Some, refl, sym, ap, subst, ◌∙◌, []}
 use Rattle.std.proofs.lemmas.Bool.{false≢true}
 use Rattle.proof_updates.specs.Vocabulary.{Ref, on_time, Operation, Descriptor, Bounds, Outcome, Step, handle_of, State, word_at, is_carried_out, action_of, Moves, GoesOn, turns, noted_turn, IsRun}
-use Rattle.proof_updates.specs.Vocabulary.{Turn, is_placed, Record, noted, noted_progress, placed_by, entered, committed_now, told_in, progress_of, carried_by, generation_at, operation_after}
+use Rattle.proof_updates.specs.Vocabulary.{Turn, is_placed, Record, noted, noted_progress, placed_by, entered, committed_now, told_in, progress_of, carried_by, generation_at, operation_after, Notes}
 use Rattle.proof_updates.specs.Beneath.machine_model.specs.declared.actions.Action.TheVariants as act
 use Rattle.proof_updates.specs.Beneath.machine_model.proofs.Actors.{mark_only, marks_in, marks_by}
 use Rattle.proof_updates.specs.Beneath.machine_model.proofs.Times.{along_run}
@@ -14,7 +14,6 @@ use Rattle.proof_order.proofs.History.OneStep.{From, began, kept, stepped, from,
 use Rattle.proof_order.proofs.History.Copies.{own_marks, marked_or, marked_before}
 use Rattle.proof_order.proofs.Phases.Steps.{is_placed_so}
 use Rattle.proof_order.proofs.Phases.Closers.{still_placed}
-use Rattle.proof_updates.specs.Beneath.proof_order.specs.Facts.{Notes}
 use Rattle.proof_updates.specs.Beneath.machine_model.proofs.Notes.{noted_going}
 
 -- ---- a place stays

@@ -2,7 +2,7 @@
 use Rattle.std.proofs.Common.{◌≡◌, ℕ, suc, ◌<◌, ◌==◌, Bool, true, false, List, Option, refl, sym, ap, subst, ◌∙◌, arith}
 use Rattle.proof_updates.specs.Vocabulary.{Reply, Ref, Prev, node_at, main_at, prev_at, prev_of, WalkLine, Purpose, Line, Operation, After, Gives, ReadLine, Swap, SwapLine, Bounds, Outcome, Step}
 use Rattle.proof_updates.specs.Vocabulary.{handle_of, State, word_at, read_after, swap_after, after_publish, after_deciding, after_check, on_line, action_of, line_action, Moves, IsRun, grown}
-use Rattle.proof_updates.specs.Vocabulary.{prev_word, is_placed}
+use Rattle.proof_updates.specs.Vocabulary.{prev_word, is_placed, Protocol, stage_of, stage_of_actor, IsPublished, Notes}
 use Rattle.proof_updates.specs.Beneath.slot_arena.specs.declared.nodes.Prev.TheVariants as prev
 use Rattle.proof_updates.specs.Beneath.machine_model.specs.declared.actions.Action.TheVariants as act
 use Rattle.proof_updates.specs.Beneath.machine_model.specs.declared.lines.Purpose.TheVariants as purpose
@@ -12,19 +12,16 @@ use Rattle.proof_updates.specs.Beneath.machine_model.specs.declared.reading.Swap
 use Rattle.proof_updates.specs.Beneath.machine_model.specs.declared.steps.Step.TheVariants as step
 use Rattle.proof_updates.specs.Beneath.machine_model.specs.Swapping.{after_swap as swap_on}
 use Rattle.proof_updates.specs.Beneath.machine_model.specs.Operations.{after_swap}
-use Rattle.proof_updates.specs.Beneath.proof_commits.specs.Protocol.{Protocol}
 use Rattle.proof_updates.specs.Beneath.proof_commits.proofs.Words.Stood.{none≢pending}
 use Rattle.proof_updates.specs.Beneath.proof_commits.proofs.Words.Effects.{GoesOn, StaysPending, GetsCommitted, GetsFailed, goes_on}
 use Rattle.proof_updates.specs.Beneath.proof_commits.proofs.Course.Swaps.{checked}
 use Rattle.proof_updates.specs.Beneath.proof_commits.proofs.Known.Sounds.{sound_at}
 use Rattle.proof_updates.specs.Beneath.proof_commits.proofs.Course.Finals.{effect, failed_final}
-use Rattle.proof_updates.specs.Beneath.proof_commits.specs.Stages.{stage_of, stage_of_actor}
 use Rattle.proof_updates.specs.Beneath.proof_commits.proofs.Known.Given.{ActsOn, Either, GrownSwaps, GrownStays}
 use Rattle.proof_updates.specs.Beneath.proof_commits.proofs.Known.Acts.{acts_at}
 use Rattle.proof_updates.specs.Beneath.proof_commits.proofs.Words.Along.{protocol}
 use Rattle.proof_updates.specs.Beneath.proof_commits.proofs.Words.OfRuns.{slot_prev}
 use Rattle.proof_order.specs.Facts.{Runs}
-use Rattle.proof_order.specs.Phases.{IsPublished}
 use Rattle.proof_order.proofs.Phases.Published.{seen}
 use Rattle.proof_updates.proofs.Placed.Behind.{Behind, climbing_behind, update_climbs, climbed_climbs}
 use Rattle.proof_updates.proofs.Tries.EachOperation.{OwnStep, own_notes}
@@ -32,7 +29,6 @@ use Rattle.proof_updates.proofs.Placed.Own.{commit_places}
 use Rattle.proof_updates.specs.Beneath.proof_commits.proofs.Known.Acts.{known_run}
 use Rattle.proof_updates.specs.Beneath.machine_model.proofs.Basics.{none≢failed}
 use Rattle.proof_updates.proofs.Placed.Placing.{still}
-use Rattle.proof_updates.specs.Beneath.proof_order.specs.Facts.{Notes}
 
 module _ {limits : Bounds} {states : ℕ → State} {last : ℕ} (run : IsRun limits states last) where
   abbrev p : Protocol

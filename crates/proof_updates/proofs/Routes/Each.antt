@@ -5,38 +5,29 @@ use Rattle.std.proofs.lemmas.Option.{none-some, same_Some}
 use Rattle.proof_updates.specs.Vocabulary.{hash_of, position_of, Access, Writable, ReadOnly, Call, Clear, Snapshot, Freeze, Ref, Indirection, Branch, Single, Tomb, List as Listed, node_at, entry_at}
 use Rattle.proof_updates.specs.Vocabulary.{entries_of, no_ref, generation_of, generation_at, Node, flag_of, Line, Operation, After, Gives, Read, Bounds, key_of, handle_of, State, word_at, root_at}
 use Rattle.proof_updates.specs.Vocabulary.{root_of, word_of, current, is_start, read_after, read_step, passes as passes_by, is_passable, key_after_read, key_after, line_action, read_of, line_after}
-use Rattle.proof_updates.specs.Vocabulary.{after_root, generation_from, given_root, IsRun, KeyLine, Purpose, Swap, Root, RootLine, Plain, root_after, swap_after, Moment, Runs}
+use Rattle.proof_updates.specs.Vocabulary.{after_root, generation_from, given_root, IsRun, KeyLine, Purpose, Swap, Root, RootLine, Plain, root_after, swap_after, Moment, Runs, IsInUse, is_end, Is}
+use Rattle.proof_updates.specs.Vocabulary.{Holds, ABranch, AllHold, line_wants, action_wants, AnIndirection, meets, word_wants, IsNoSwap, counts_at, stage_of, Absent, Below, look_at, look, Trie}
+use Rattle.proof_updates.specs.Vocabulary.{generation, trie_of, KnowsKey, KnowsLine, GivesAt, known_with, first_main}
 use Rattle.proof_updates.specs.Beneath.machine_model.specs.declared.finding.KeyLine.TheVariants as key
 use Rattle.proof_updates.specs.Beneath.machine_model.specs.declared.lines.Line.TheVariants as line
 use Rattle.proof_updates.specs.Beneath.machine_model.specs.declared.reading.After.TheVariants.{Goes}
 use Rattle.proof_updates.specs.Beneath.machine_model.specs.Operations.{from_root}
 use Rattle.proof_updates.specs.Beneath.machine_model.proofs.Times.{steps_at}
 use Rattle.proof_updates.specs.Beneath.machine_model.specs.declared.lines.Purpose.TheVariants as purpose
-use Rattle.proof_updates.specs.Beneath.proof_memory.specs.Laws.{IsInUse, is_end}
-use Rattle.proof_updates.specs.Beneath.proof_memory.specs.Wants.{Is, Holds, ABranch, AllHold, line_wants, action_wants, AnIndirection, meets, word_wants}
 use Rattle.proof_updates.specs.Beneath.proof_memory.proofs.Claims.Uses.{safe_of, meets_of}
 use Rattle.proof_updates.specs.Beneath.proof_memory.proofs.Safety.AtTimes.{line_at, action_at}
 use Rattle.proof_updates.specs.Beneath.proof_memory.proofs.Claims.Nodes.{branch_main, main_no_link}
+use Rattle.proof_updates.specs.Beneath.proof_memory.proofs.Claims.Named.{main_claim}
 use Rattle.proof_updates.specs.Beneath.proof_memory.proofs.Safety.AtEachTime.{safe_at}
-use Rattle.proof_updates.specs.Beneath.proof_commits.specs.Laws.{IsNoSwap}
-use Rattle.proof_updates.specs.Beneath.proof_commits.specs.Protocol.{counts_at}
-use Rattle.proof_updates.specs.Beneath.proof_commits.specs.Stages.{stage_of}
 use Rattle.proof_updates.specs.Beneath.proof_commits.proofs.Course.OfLists.{given_read}
-use Rattle.proof_updates.specs.Beneath.proof_contents.specs.Nodes.Looking.{Absent, Below, look_at}
-use Rattle.proof_updates.specs.Beneath.proof_contents.specs.Nodes.Changing.{look}
-use Rattle.proof_updates.specs.Beneath.proof_contents.specs.Tries.{Trie, generation}
 use Rattle.proof_updates.specs.Beneath.proof_contents.specs.Steps.{IsTrie}
-use Rattle.proof_updates.specs.Beneath.proof_contents.specs.Runs.{trie_of}
-use Rattle.proof_updates.specs.Beneath.proof_contents.specs.Lines.Changes.{KnowsKey, KnowsLine}
 use Rattle.proof_updates.specs.Beneath.proof_contents.proofs.Shapes.Nodes.{leads}
 use Rattle.proof_updates.specs.Beneath.proof_contents.proofs.Lines.Repair.{read_stays}
-use Rattle.proof_updates.specs.Beneath.proof_generations.specs.Falling.{GivesAt}
 use Rattle.proof_updates.specs.Beneath.proof_generations.proofs.Falling.Final.{given_for_ever}
 use Rattle.proof_updates.specs.Beneath.proof_generations.proofs.Roots.Along.{ordered_at}
 use Rattle.proof_updates.specs.Beneath.proof_generations.proofs.Roots.Open.{no_close_at}
 use Rattle.proof_updates.specs.Beneath.proof_generations.proofs.Roots.Rooted.{root_given}
 use Rattle.proof_order.proofs.History.Past.{past_at}
-use Rattle.proof_shape.specs.Lines.Knowing.{known_with, first_main}
 use Rattle.proof_shape.proofs.Lines.Knows.{knows_at}
 use Rattle.proof_shape.proofs.Runs.Nodes.{link_known, node_known}
 use Rattle.proof_order.proofs.Openings.ClosedRoots.{root_is}
@@ -151,7 +142,7 @@ module _ (limits : Bounds) (states : ℕ → State) (last : ℕ) (depth path : R
       main_used =
           let wants = subst (λ l. AllHold (IsInUse state.heap) state.heap (line_wants limits.hash operation.call operation.access l)) e
           (line_at run t within (suc k) operation own.runs) in
-          wants.1.1.0
+          main_claim wants
 
       main_is : trie.node main ≡ node_at state.heap main
       main_is = node_known run t within main (safe_of main_used) (main_no_link (node_at state.heap main) (branch_main (node_at state.heap main) (meets_of main_used)))

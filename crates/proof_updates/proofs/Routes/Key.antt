@@ -1,10 +1,7 @@
 -- Each line of KEY keeps to the key's path.
 use Rattle.std.proofs.Common.{◌≡◌, ℕ, suc, ◌-◌, ◌<◌, true, List, [], ◌∷◌, ◌++◌, length, sym, arith}
-use Rattle.proof_updates.specs.Vocabulary.{hash_of, Access, Ref, Indirection, node_at, entry_at, Operation, Line, key_of, State, found, is_passable}
+use Rattle.proof_updates.specs.Vocabulary.{hash_of, Access, Ref, Indirection, node_at, entry_at, Operation, Line, key_of, State, found, is_passable, Below, look, Trie}
 use Rattle.proof_updates.specs.Beneath.machine_model.specs.declared.finding.KeyLine.TheVariants as key
-use Rattle.proof_updates.specs.Beneath.proof_contents.specs.Nodes.Looking.{Below}
-use Rattle.proof_updates.specs.Beneath.proof_contents.specs.Nodes.Changing.{look}
-use Rattle.proof_updates.specs.Beneath.proof_contents.specs.Tries.{Trie}
 use Rattle.proof_updates.specs.Beneath.proof_contents.specs.Steps.{IsTrie}
 use Rattle.proof_updates.proofs.Routes.Known.{Route, IsAt, IsOf, LineRoute, route_later, route_down, current-append}
 use Rattle.proof_updates.specs.Beneath.machine_model.specs.Edges.Key.{FoundEdge, KeyEdge, answers, asks_sibling, puts_absent, misses_absent, cleans, goes_down, renews, renews_none, finds, puts_beside}

@@ -3,20 +3,17 @@
 use Rattle.std.proofs.Common.{◌≡◌, ℕ, zero, suc, ◌-◌, ◌<◌, ◌≤◌, ◌==◌, Bool, true, false, List, [], ◌∷◌, ◌++◌, length, slice_index_or, refl, sym, ap, subst, ◌∙◌, arith, eqb-true, length-append}
 use Rattle.std.proofs.lemmas.List.{get_or_append_left}
 use Rattle.std.proofs.Math.Seq.{get_or-append_seam}
-use Rattle.proof_updates.specs.Vocabulary.{hash_of, Access, Writable, ReadOnly, Ref, no_ref, KeyLine, Line, ReadLine, current}
+use Rattle.proof_updates.specs.Vocabulary.{hash_of, Access, Writable, ReadOnly, Ref, no_ref, KeyLine, Line, ReadLine, current, Below, look, Trie, generation, On, Looks, root_is, below_is}
+use Rattle.proof_updates.specs.Vocabulary.{build_path, renew_path}
 use Rattle.proof_updates.specs.Beneath.machine_model.specs.declared.finding.KeyLine.TheVariants as key
 use Rattle.proof_updates.specs.Beneath.machine_model.specs.declared.lines.Purpose.TheVariants as purpose
 use Rattle.proof_updates.specs.Beneath.machine_model.specs.declared.lines.Line.TheVariants as line
 use Rattle.proof_updates.specs.Beneath.machine_model.specs.declared.reading.ReadLine.TheVariants as read
 use Rattle.proof_updates.specs.Beneath.proof_contents.proofs.Nodes.Branches.{differ}
-use Rattle.proof_updates.specs.Beneath.proof_contents.specs.Nodes.Looking.{Below}
-use Rattle.proof_updates.specs.Beneath.proof_contents.specs.Nodes.Changing.{look}
-use Rattle.proof_updates.specs.Beneath.proof_contents.specs.Tries.{Trie, generation, On, at_root}
-use Rattle.proof_updates.specs.Beneath.proof_contents.specs.Steps.{IsTrie, Looks, IsReached, root_is, below_is}
+use Rattle.proof_updates.specs.Beneath.proof_contents.specs.Tries.{at_root}
+use Rattle.proof_updates.specs.Beneath.proof_contents.specs.Steps.{IsTrie, IsReached}
 use Rattle.proof_updates.specs.Beneath.proof_contents.proofs.Values.Paths.{on-depth}
 use Rattle.proof_updates.specs.Beneath.proof_contents.proofs.Lines.Readers.{step_down}
-use Rattle.proof_updates.specs.Beneath.proof_contents.specs.Lines.Changes.{build_path}
-use Rattle.proof_updates.specs.Beneath.proof_generations.specs.Falling.{renew_path}
 
 -- ---- of one indirection, as far as it is known up to time b
 

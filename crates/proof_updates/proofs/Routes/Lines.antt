@@ -2,7 +2,7 @@
 use Rattle.std.proofs.Common.{◌≡◌, ℕ, suc, Bool, true, false, List, Option, None, refl, sym, arith}
 use Rattle.std.proofs.lemmas.Option.{none-some}
 use Rattle.proof_updates.specs.Vocabulary.{Access, Ref, Node, node_at, Operation, BuildLine, CleanLine, Climb, ClimbLine, RenewLine, CopyLine, WalkLine, After, Gives, Swap, Purpose, Line, State}
-use Rattle.proof_updates.specs.Vocabulary.{renew_after, build_after, clean_after, climb_after, copy_after, walk_after, after_update, climbed_on, swapped}
+use Rattle.proof_updates.specs.Vocabulary.{renew_after, build_after, clean_after, climb_after, copy_after, walk_after, after_update, climbed_on, swapped, Trie, build_path, renew_path}
 use Rattle.proof_updates.specs.Beneath.machine_model.specs.declared.reading.After.TheVariants.{Goes}
 use Rattle.proof_updates.specs.Beneath.machine_model.specs.declared.lines.Purpose.TheVariants as purpose
 use Rattle.proof_updates.specs.Beneath.machine_model.specs.declared.lines.Line.TheVariants as line
@@ -11,11 +11,8 @@ use Rattle.proof_updates.specs.Beneath.machine_model.specs.Edges.Building.{Build
 use Rattle.proof_updates.specs.Beneath.machine_model.specs.Edges.Repairs.{RenewNext, RenewEdge, keeps_own, links}
 use Rattle.proof_updates.specs.Beneath.machine_model.proofs.Edges.Building.{build_edge}
 use Rattle.proof_updates.specs.Beneath.machine_model.proofs.Edges.Repairs.{renew_edge}
-use Rattle.proof_updates.specs.Beneath.proof_contents.specs.Tries.{Trie}
-use Rattle.proof_updates.specs.Beneath.proof_contents.specs.Lines.Changes.{build_path}
 use Rattle.proof_updates.specs.Paths.{path_of}
 use Rattle.proof_updates.proofs.Routes.Known.{Route, LineRoute, route_later}
-use Rattle.proof_updates.specs.Beneath.proof_generations.specs.Falling.{renew_path}
 
 clean_none : (state : State) (operation : Operation) (l : CleanLine) → path_of (clean_after state operation l) ≡ None
 clean_none state operation l = grind arith

@@ -1,19 +1,16 @@
 -- Paths of operations on writable handles lie on their keys' paths, and KEY looks at their ends.
 use Rattle.std.proofs.Common.{◌≡◌, ℕ, suc, ◌<◌, ◌≤◌, true, List, Some, refl, sym, ap, subst, ◌∙◌, arith}
 use Rattle.std.proofs.lemmas.Option.{none-some, same_Some}
-use Rattle.proof_updates.specs.Vocabulary.{Writable, Ref, KeyLine, Line, Operation, ReadLine, Bounds, key_of, current, State, IsRun, moment_at}
+use Rattle.proof_updates.specs.Vocabulary.{Writable, Ref, KeyLine, Line, Operation, ReadLine, Bounds, key_of, current, State, IsRun, moment_at, counts, read_counts, Trie, Looks, trie_of}
+use Rattle.proof_updates.specs.Vocabulary.{main_of_key}
 use Rattle.proof_updates.specs.Beneath.machine_model.specs.declared.finding.KeyLine.TheVariants as key
 use Rattle.proof_updates.specs.Beneath.machine_model.specs.declared.lines.Purpose.TheVariants as purpose
 use Rattle.proof_updates.specs.Beneath.machine_model.specs.declared.lines.Line.TheVariants as line
 use Rattle.proof_updates.specs.Beneath.machine_model.specs.declared.reading.ReadLine.TheVariants as read
 use Rattle.proof_updates.specs.Beneath.proof_generations.proofs.Handles.Running.{place_of_actor}
 use Rattle.proof_updates.specs.Beneath.proof_generations.specs.Running.{Runs}
-use Rattle.proof_order.specs.Times.{counts, read_counts}
 use Rattle.proof_order.proofs.Phases.Since.{run_since}
-use Rattle.proof_updates.specs.Beneath.proof_contents.specs.Tries.{Trie}
-use Rattle.proof_updates.specs.Beneath.proof_contents.specs.Steps.{IsTrie, Looks}
-use Rattle.proof_updates.specs.Beneath.proof_contents.specs.Runs.{trie_of}
-use Rattle.proof_updates.specs.Beneath.proof_contents.specs.Lines.Changes.{main_of_key}
+use Rattle.proof_updates.specs.Beneath.proof_contents.specs.Steps.{IsTrie}
 use Rattle.proof_updates.specs.Updates.{PathsLie, KeysLook}
 use Rattle.proof_updates.specs.Paths.{LiesOn, path_of}
 use Rattle.proof_updates.proofs.Routes.Known.{Route, IsAt, KeyRoute, LineRoute, since, route_later, looks_at}

@@ -1,12 +1,10 @@
 -- From when on a READ counts for a path, and that what a line knows of its path stays while others move.
 use Rattle.std.proofs.Common.{ℕ, suc, ◌≤◌, arith}
-use Rattle.proof_updates.specs.Vocabulary.{Access, Line, ReadLine}
+use Rattle.proof_updates.specs.Vocabulary.{Access, Line, ReadLine, counts_at, Trie}
 use Rattle.proof_updates.specs.Beneath.machine_model.specs.declared.finding.KeyLine.TheVariants as key
 use Rattle.proof_updates.specs.Beneath.machine_model.specs.declared.lines.Purpose.TheVariants as purpose
 use Rattle.proof_updates.specs.Beneath.machine_model.specs.declared.lines.Line.TheVariants as line
 use Rattle.proof_updates.specs.Beneath.machine_model.specs.declared.reading.ReadLine.TheVariants as read
-use Rattle.proof_updates.specs.Beneath.proof_commits.specs.Protocol.{counts_at}
-use Rattle.proof_updates.specs.Beneath.proof_contents.specs.Tries.{Trie}
 use Rattle.proof_updates.proofs.Routes.Known.{since, LineRoute, route_later}
 
 -- ---- from when on a READ counts

@@ -1,60 +1,25 @@
 -- What is known of a node that its owner commits: what a repair was given, at which depth a change is swapped in; and that keys have 64 bits.
 use Rattle.std.specs.Prelude.{ℕ, suc, ◌<◌, ◌≤◌, ◌^◌}
 use Rattle.std.proofs.Common.{ap, arith, ◌∙◌}
-use Rattle.proof_updates.specs.Vocabulary.{Ref, Line, Purpose, Operation, Deciding, Bounds, Step, key_of, State, node_under, IsRun}
+use Rattle.proof_updates.specs.Vocabulary.{Ref, Line, Purpose, Operation, Deciding, Bounds, Step, key_of, State, node_under, IsRun, IsNoSwap, IsRepaired, ReadsBelow, GaveBelow, KnowsFresh}
+use Rattle.proof_updates.specs.Vocabulary.{assigned_at, WasGiven, depth_of_run, TakesSteps, StepsFit}
 use Rattle.proof_updates.specs.Beneath.machine_model.specs.declared.lines.Line.TheVariants as line
 use Rattle.proof_updates.specs.Beneath.machine_model.specs.declared.lines.Purpose.TheVariants as purpose
 use Rattle.proof_updates.specs.Beneath.machine_model.specs.declared.reading.SwapLine.TheVariants as swap
-use Rattle.proof_updates.specs.Beneath.proof_commits.specs.Laws.{IsNoSwap}
-use Rattle.proof_updates.specs.Beneath.proof_contents.specs.Lines.Repairs.{IsRepaired, ReadsBelow}
 use Rattle.proof_order.specs.Facts.{Runs}
-use Rattle.proof_shape.specs.Lines.Given.{GaveBelow}
-use Rattle.proof_shape.specs.Lines.Commits.{KnowsFresh, assigned_at}
 use Rattle.proof_shape.proofs.Lines.RepairMore.{repair_more}
-use Rattle.proof_updates.specs.Beneath.proof_generations.specs.Falling.{WasGiven}
-use Rattle.proof_updates.specs.Beneath.proof_generations.proofs.Falling.Final.{repairs_are_given}
-use Rattle.proof_shape.specs.Sites.Nodes.{depth_of_run}
-use Rattle.proof_shape.specs.Sites.At.{TakesSteps, StepsFit}
+use Rattle.proof_shape.proofs.Commits.Was.{given_below}
 use Rattle.proof_shape.proofs.Sites.At.{lines_have_sites, updates_have_sites}
 use Rattle.proof_updates.specs.Commits.{IsRepairing, RepairsAreKnown, SitesOfUpdates}
 
 -- ---- repairs
 
-below_no_swap : (l : Line) → ReadsBelow l → IsNoSwap l
-below_no_swap (line.Swap why s) b = absurd b
-below_no_swap (line.Root l) b = tt
-below_no_swap (line.Key l) b = tt
-below_no_swap (line.Build l) b = tt
-below_no_swap (line.Climb l) b = tt
-below_no_swap (line.Copy l) b = tt
-below_no_swap (line.Walk l) b = tt
-below_no_swap (line.End answer) b = tt
-below_no_swap (line.Renew l) b = tt
-below_no_swap (line.Clean l) b = tt
-below_no_swap line.Impossible b = tt
-
 module _ {limits : Bounds} {states : ℕ → State} {last : ℕ} (run : IsRun limits states last) where
-  -- what a repair's READ gave was given
-  was_given : (t actor id start : ℕ) (i m : Ref) → t ≤ last → GaveBelow states run.records last t actor id start i m → WasGiven states last start t i m
-  was_given t actor id start i m within g =
-      let given = repairs_are_given run g.at (omega (arith, g.past, within)) actor g.operation start i m (record {
-        outcome = g.outcome;
-        moves = g.moves;
-        runs = g.runs;
-        no_swap = below_no_swap g.operation.line g.below;
-        read = g.read;
-        reads = g.reads;
-        of = g.of;
-        gives = g.gives;
-        notes = g.notes;
-      }) g.its g.below in
-      ((given.0.0, omega (arith, given.0.1, g.past), given.0.2), given.1)
-
   pub repairs_are_known : RepairsAreKnown limits states run.records last
   repairs_are_known t s within own repairing = by own.why repairing own.knows
     where
       more : (i m : Ref) → GaveBelow states run.records last t own.actor own.owner.id own.start i m → WasGiven states last own.start t i m
-      more i m g = was_given t own.actor own.owner.id own.start i m (omega (arith, within)) g
+      more i m g = given_below run t own.actor own.owner.id own.start i m (omega (arith, within)) g
 
       by : (why : Purpose) → IsRepairing why → KnowsFresh limits states run.records last (assigned_at states last) t own.actor own.start own.owner own.replaced own.fresh why →
           IsRepaired (node_under states last) (assigned_at states last own.start t) (WasGiven states last own.start t) own.start own.replaced own.fresh

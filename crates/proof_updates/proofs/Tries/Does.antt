@@ -3,25 +3,19 @@ use Rattle.std.proofs.Common.{◌≡◌, ◌≢◌, ℕ, zero, suc, ◌<◌, ◌
 use Rattle.std.proofs.lemmas.Option.{same_Some}
 use Rattle.arrayvec.specs.ArrayVec.{ArrayVec}
 use Rattle.proof_updates.specs.Vocabulary.{Call, Ref, Indirection, Branch, Tomb, List as Listed, generation_of, Change, Purpose, Climb, Bounds, Outcome, Step, key_of, current, depth_of, State}
-use Rattle.proof_updates.specs.Vocabulary.{node_under, Moves, turns, noted_turn, IsRun, Turn}
+use Rattle.proof_updates.specs.Vocabulary.{node_under, Moves, turns, noted_turn, IsRun, Turn, Trie, generation, node_in, assigned, IsRepair, nothing, a_repair, an_update, counting_main, trie_of}
+use Rattle.proof_updates.specs.Vocabulary.{Known, Absence, no_flag, not_listed, Presence, in_list, IsOther, of_branch, of_list, KnowsChange, KnowsSwap, IsRepaired, Was, known_with, first_main}
+use Rattle.proof_updates.specs.Vocabulary.{IsClimbed, Stays, OwnCommit, MainStep, stays, changes, KnowsFresh, assigned_at, WasGiven}
 use Rattle.proof_updates.specs.Beneath.proof_contents.proofs.Nodes.Branches.{differ}
 use Rattle.proof_updates.specs.Beneath.machine_model.specs.declared.building.Change.TheVariants as change
 use Rattle.proof_updates.specs.Beneath.machine_model.specs.declared.lines.Purpose.TheVariants as purpose
-use Rattle.proof_updates.specs.Beneath.proof_contents.specs.Tries.{Trie, generation, node_in, assigned}
-use Rattle.proof_updates.specs.Beneath.proof_contents.specs.Steps.{IsRepair, Does, nothing, a_repair, an_update}
-use Rattle.proof_updates.specs.Beneath.proof_contents.specs.Runs.{counting_main, trie_of}
-use Rattle.proof_updates.specs.Beneath.proof_contents.specs.Lines.Changes.{Known, Absence, no_flag, not_listed, Presence, in_branch, in_list, IsOther, of_branch, of_list, KnowsChange, KnowsSwap}
-use Rattle.proof_updates.specs.Beneath.proof_contents.specs.Lines.Repairs.{IsRepaired}
+use Rattle.proof_updates.specs.Beneath.proof_contents.specs.Steps.{Does}
+use Rattle.proof_updates.specs.Beneath.proof_contents.specs.Lines.Changes.{in_branch}
 use Rattle.proof_updates.specs.Beneath.proof_contents.proofs.Lines.Updates.{MakesUpdate, makes_update, known_in}
 use Rattle.proof_updates.specs.Beneath.proof_contents.proofs.Lines.Repair.{StaysGiven}
-use Rattle.proof_shape.specs.Lines.Given.{Was}
-use Rattle.proof_shape.specs.Lines.Knowing.{known_with, first_main}
-use Rattle.proof_shape.specs.Lines.Climbing.{IsClimbed}
-use Rattle.proof_shape.specs.Lines.Commits.{OwnCommit, MainStep, stays, changes, KnowsFresh, assigned_at}
-use Rattle.proof_updates.specs.Beneath.proof_generations.specs.Falling.{WasGiven}
 use Rattle.proof_updates.specs.Commits.{IsRepairing, SitesOfUpdates}
 use Rattle.proof_updates.specs.Updates.{StepsDo}
-use Rattle.proof_updates.proofs.Tries.Repairing.{TombsLast, repairs, climbs}
+use Rattle.proof_updates.proofs.Tries.Repairing.{TombsLast, cleaned_entry, repairs, climbs}
 use Rattle.proof_shape.proofs.Held.Commits.{fresh_commits_at}
 use Rattle.proof_updates.specs.Beneath.proof_generations.proofs.Falling.OwnSwaps.{swaps_in_own_generation}
 use Rattle.proof_updates.proofs.Tries.Commits.{repairs_are_known}
@@ -154,8 +148,9 @@ module _ (limits : Bounds) (states : ℕ → State) (last : ℕ) (depth path : R
       climbed : (c : Climb) → IsClimbed (known_with limits states last (first_main states last)) (Was states last t) own.owner.call c own.replaced own.fresh → Repaired
       climbed c k =
           let at = k.tombed.was in
-          repaired (climbs trie (tombs_last) own.start t (omega arith) k.may_entomb k.parent.bitmap k.parent.position k.tombed.generation at.0 k.parent.entries (current c.path) c.single
-          k.tombed.tomb k.tombed.word (trie.node own.replaced) (trie.node own.fresh) k.parent.branch.is k.parent.holds k.tombed.link at.1 at.2 k.tombed.is k.made)
+          let stay = cleaned_entry trie (tombs_last) own.start t (omega arith) (current c.path) c.single k.tombed.tomb k.tombed.word k.tombed.generation at.0 k.tombed.link at.1 at.2 k.tombed.is in
+          repaired (climbs trie (tombs_last) own.start t (omega arith) k.may_entomb k.parent.bitmap k.parent.position k.parent.entries c.single (trie.node own.replaced) (trie.node own.fresh)
+          k.parent.branch.is (subst (λ e. Stays trie own.start t e c.single) (sym k.parent.holds) stay) k.made)
 
       -- a change of a key, whose indirection has this depth
       pub made : (p : List Ref) (former : Option ℕ) → own.why ≡ purpose.Update p former →

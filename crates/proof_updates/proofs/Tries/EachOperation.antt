@@ -1,14 +1,13 @@
 -- What holds of each running operation, along a run: with the move by which it goes on.
 use Rattle.std.proofs.Common.{◌≡◌, ℕ, zero, suc, ◌<◌, ◌≤◌, Bool, Option, None, Some, get_or, sym, subst, ap, ◌∙◌, refl}
 use Rattle.proof_updates.specs.Vocabulary.{Call, Operation, Bounds, Outcome, Step, State, first_state, action_of, operation_after, begin_denial, Moves, GoesOn, begun_operation, turns, noted_turn}
-use Rattle.proof_updates.specs.Vocabulary.{IsRun, Turn, Record, moment_at, noted_progress, noted, progress_of, told_in, given_up, gave_up, Reply}
+use Rattle.proof_updates.specs.Vocabulary.{IsRun, Turn, Record, moment_at, noted_progress, noted, progress_of, told_in, given_up, gave_up, Reply, Notes}
 use Rattle.proof_updates.specs.Beneath.machine_model.specs.declared.steps.Step.TheVariants as step
 use Rattle.proof_updates.specs.Beneath.machine_model.proofs.Actors.{mark_one, mark_only, marks_in}
 use Rattle.proof_updates.specs.Beneath.machine_model.proofs.Found.{none_found}
 use Rattle.proof_updates.specs.Beneath.machine_model.proofs.Times.{along_run}
 use Rattle.proof_updates.specs.Beneath.proof_generations.proofs.Handles.Running.{Comes, began, rested, went, comes, gave}
 use Rattle.proof_updates.specs.Beneath.proof_generations.specs.Running.{Runs}
-use Rattle.proof_updates.specs.Beneath.proof_order.specs.Facts.{Notes}
 use Rattle.proof_updates.specs.Beneath.machine_model.proofs.Alike.{moment_rests}
 use Rattle.proof_updates.specs.Beneath.machine_model.proofs.Notes.{noted_going}
 

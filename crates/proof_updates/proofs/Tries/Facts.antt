@@ -1,20 +1,18 @@
 -- What the order takes of contents: a step that commits no own update leaves them all, and one that does leads one of them on.
 use Rattle.std.proofs.Common.{◌≡◌, ◌≢◌, ℕ, suc, ◌<◌, ◌≤◌, ◌^◌, ◌⊎◌, inl, inr, List, ◌∷◌, Option, Some, refl, sym, ap, subst₂, ◌∙◌, [], arith}
 use Rattle.std.proofs.lemmas.Option.{same_Some}
-use Rattle.proof_updates.specs.Vocabulary.{hash_of, Writable, Ref, Place, Operation, Bounds, Step, key_of, changed_reply, State, operation_of, IsRun, entered}
+use Rattle.proof_updates.specs.Vocabulary.{hash_of, Writable, Ref, Place, Operation, Bounds, Step, key_of, changed_reply, State, operation_of, IsRun, entered, Trie, generation, node_in, content}
+use Rattle.proof_updates.specs.Vocabulary.{IsRepair, trie_of, committed_of, entered_by_step, OwnCommit, MainStep, stays, changes, CommitsNone, begins, goes, assigned_at, places_for, gives_up}
+use Rattle.proof_updates.specs.Vocabulary.{OwnUpdate, HasShape}
 use Rattle.proof_updates.specs.Beneath.machine_model.specs.declared.lines.Purpose.TheVariants as purpose
 use Rattle.proof_updates.specs.Beneath.machine_model.specs.declared.lines.Line.TheVariants as line
 use Rattle.proof_updates.specs.Beneath.machine_model.specs.declared.reading.SwapLine.TheVariants as swap
 use Rattle.proof_updates.specs.Beneath.proof_generations.specs.Running.{Runs}
-use Rattle.proof_updates.specs.Beneath.proof_contents.specs.Tries.{Trie, generation, node_in, content}
-use Rattle.proof_updates.specs.Beneath.proof_contents.specs.Steps.{IsRepair, IsTrie}
-use Rattle.proof_updates.specs.Beneath.proof_contents.specs.Runs.{trie_of}
+use Rattle.proof_updates.specs.Beneath.proof_contents.specs.Steps.{IsTrie}
 use Rattle.proof_updates.specs.Beneath.proof_contents.proofs.Changes.Generations.{nothing_still, repair_still}
-use Rattle.proof_order.specs.Facts.{act_in, Update, committed_of, entered_by_step}
-use Rattle.proof_shape.specs.Lines.Commits.{OwnCommit, MainStep, stays, changes, CommitsNone, begins, goes, sweeps, assigned_at, places_for, gives_up}
-use Rattle.proof_order.specs.Phases.{OwnUpdate}
+use Rattle.proof_order.specs.Facts.{act_in, Update}
+use Rattle.proof_shape.specs.Lines.Commits.{sweeps}
 use Rattle.proof_order.proofs.Phases.OwnUpdates.{own_updates_enter}
-use Rattle.proof_shape.specs.Shaped.{HasShape}
 use Rattle.proof_updates.specs.Commits.{SitesOfUpdates}
 use Rattle.proof_updates.specs.Updates.{StepsKeep, UpdatesFollow}
 use Rattle.proof_updates.proofs.Tries.Does.{own_does}

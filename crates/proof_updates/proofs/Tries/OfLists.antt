@@ -1,11 +1,8 @@
 -- The laws of contents, from what holds over a run.
 use Rattle.std.specs.Prelude.{ℕ}
-use Rattle.proof_updates.specs.Vocabulary.{Bounds, Step, State, IsRun, states_of, last_of, Record}
+use Rattle.proof_updates.specs.Vocabulary.{Bounds, Step, State, IsRun, states_of, last_of, Record, Trie, trie_of_run, TakesSteps, StepsFit}
 use Rattle.proof_updates.specs.Beneath.machine_model.proofs.Times.{run_is}
-use Rattle.proof_updates.specs.Beneath.proof_contents.specs.Tries.{Trie}
-use Rattle.proof_shape.specs.Shaped.{trie_of_run}
 use Rattle.proof_shape.specs.Sites.Nodes.{steps_of}
-use Rattle.proof_shape.specs.Sites.At.{TakesSteps, StepsFit}
 use Rattle.proof_shape.proofs.Sites.Fixed.{keys_fit}
 use Rattle.proof_shape.proofs.Sites.Stepped.{takes_steps}
 use Rattle.proof_updates.specs.Updates.{StepsDo, PathsLie, KeysLook, StepsKeep, UpdatesFollow, RepliesRight}

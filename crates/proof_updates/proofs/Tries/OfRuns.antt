@@ -1,11 +1,8 @@
 -- The laws of contents over a run whose keys have 64 bits.
 use Rattle.std.specs.Prelude.{ℕ, ◌<◌, ◌≤◌, ◌^◌}
-use Rattle.proof_updates.specs.Vocabulary.{Ref, Operation, Bounds, Step, key_of, State, IsRun}
+use Rattle.proof_updates.specs.Vocabulary.{Ref, Operation, Bounds, Step, key_of, State, IsRun, depth_of_run, path_of_run, TakesSteps, StepsFit, HasShape, trie_of_run}
 use Rattle.proof_updates.specs.Beneath.proof_contents.specs.Steps.{IsTrie}
 use Rattle.proof_updates.specs.Beneath.proof_generations.specs.Running.{Runs}
-use Rattle.proof_shape.specs.Sites.Nodes.{depth_of_run, path_of_run}
-use Rattle.proof_shape.specs.Sites.At.{TakesSteps, StepsFit}
-use Rattle.proof_shape.specs.Shaped.{HasShape, trie_of_run}
 use Rattle.proof_shape.proofs.Shaped.Trie.{runs_have_shape}
 use Rattle.proof_updates.specs.Commits.{SitesOfUpdates}
 use Rattle.proof_updates.specs.Updates as law

@@ -1,13 +1,11 @@
 -- A main node that RENEW, CLEAN or CLIMB made repairs the one that it replaces. Of the trie this takes only that tombs last, so that
 -- it serves to show that each step does what is assumed of it.
-use Rattle.std.proofs.Common.{◌≡◌, ℕ, ◌<◌, ◌≤◌, ◌==◌, Bool, true, false, cond, List, [], ◌∷◌, length, set, slice_index_or, slice_set, refl, sym, ap, subst, subst₂, ◌∙◌, arith, length-set, eqb-true}
+use Rattle.std.proofs.Common.{◌≡◌, ℕ, ◌<◌, ◌≤◌, ◌==◌, Bool, true, false, cond, List, [], ◌∷◌, length, set, slice_index_or, slice_set, refl, sym, ap, subst₂, ◌∙◌, arith, length-set, eqb-true}
 use Rattle.std.proofs.lemmas.List.{get_or-set_same, get_or-set_other}
 use Rattle.arrayvec.specs.ArrayVec.{ArrayVec}
-use Rattle.proof_updates.specs.Vocabulary.{Ref, Node, Indirection, Branch, Tomb, no_ref, contracted}
+use Rattle.proof_updates.specs.Vocabulary.{Ref, Node, Indirection, Branch, Tomb, no_ref, contracted, Trie, generation, node_in, Stays, kept, renewed_by, untombed, IsRepair, refills, entombs, IsDone}
+use Rattle.proof_updates.specs.Vocabulary.{keeps, renews, cleans, IsRepaired}
 use Rattle.proof_updates.specs.Beneath.proof_contents.proofs.Nodes.Branches.{differ}
-use Rattle.proof_updates.specs.Beneath.proof_contents.specs.Tries.{Trie, generation, node_in}
-use Rattle.proof_updates.specs.Beneath.proof_contents.specs.Steps.{Stays, kept, renewed_by, untombed, IsRepair, refills, entombs}
-use Rattle.proof_updates.specs.Beneath.proof_contents.specs.Lines.Repairs.{IsDone, keeps, renews, cleans, IsRepaired}
 use Rattle.proof_updates.specs.Beneath.proof_contents.proofs.Lines.Repair.{StaysGiven, HasFresh}
 
 -- where an indirection's main node is a tomb it stays so
@@ -16,7 +14,7 @@ TombsLast trie = (t u : ℕ) (i single : Ref) → t ≤ u → u ≤ trie.last �
 
 module _ (trie : Trie) (lasts : TombsLast trie) (g t : ℕ) (within : t ≤ trie.last) where
   -- an entry whose main node was once a tomb gives way to the tomb's single
-  cleaned_entry : (entry single main word : Ref) (h u : ℕ) → trie.node entry ≡ Indirection h word → u ≤ t → trie.main u entry ≡ main → trie.node main ≡ Tomb single →
+  pub cleaned_entry : (entry single main word : Ref) (h u : ℕ) → trie.node entry ≡ Indirection h word → u ≤ t → trie.main u entry ≡ main → trie.node main ≡ Tomb single →
       Stays trie g t entry single
   cleaned_entry entry single main word h u is le given tomb = untombed h word is (by_test (generation trie entry == g))
     where
@@ -59,15 +57,11 @@ module _ (trie : Trie) (lasts : TombsLast trie) (g t : ℕ) (within : t ≤ trie
           cleaned_entry entry other child word h at.0 is at.1 at.2 tomb
 
   -- CLIMB: the entry whose main node was once a tomb gives way to the tomb's single
-  pub climbs : (b : Bool) (bitmap p h u : ℕ) (entries : ArrayVec Ref) (below single main word : Ref) (old new : Node) → old ≡ Branch bitmap entries →
-      slice_index_or entries.items p no_ref ≡ below → trie.node below ≡ Indirection h word → u ≤ t → trie.main u below ≡ main → trie.node main ≡ Tomb single →
+  pub climbs : (b : Bool) (bitmap p : ℕ) (entries : ArrayVec Ref) (single : Ref) (old new : Node) → old ≡ Branch bitmap entries → Stays trie g t (slice_index_or entries.items p no_ref) single →
       new ≡ contracted b bitmap (slice_set entries.items p single) → IsRepair trie g t old new
-  climbs b bitmap p h u entries below single main word old new o at is le given tomb n =
+  climbs b bitmap p entries single old new o stay n =
       stays_repair b bitmap entries (set entries.items p single) old new o n (length-set entries.items p single) (λ m lt. by_place m lt (m == p) refl)
     where
-      stay : Stays trie g t (slice_index_or entries.items p no_ref) single
-      stay = subst (λ e. Stays trie g t e single) (sym at) (cleaned_entry below single main word h u is le given tomb)
-
       by_place : (m : ℕ) → m < length entries.items → (c : Bool) → (m == p) ≡ c → Stays trie g t (slice_index_or entries.items m no_ref) (slice_index_or (set entries.items p single) m no_ref)
       by_place m lt true same =
           let there = eqb-true m p same in

@@ -1,19 +1,15 @@
 -- What is committed for an operation is its own update of its key, and leads its generation's content on.
 use Rattle.std.proofs.Common.{◌≡◌, ℕ, suc, ◌-◌, ◌<◌, ◌≤◌, ◌^◌, List, length, Option, sym, subst, arith}
-use Rattle.proof_updates.specs.Vocabulary.{Writable, Ref, Operation, Swap, Bounds, Step, key_of, current, State, IsRun}
+use Rattle.proof_updates.specs.Vocabulary.{Writable, Ref, Operation, Swap, Bounds, Step, key_of, current, State, IsRun, Trie, node_in, On, IsOwnUpdate, Updates, trie_of, SwapsAt, OwnCommit}
+use Rattle.proof_updates.specs.Vocabulary.{KnowsFresh, assigned_at, HasShape}
 use Rattle.proof_updates.specs.Beneath.machine_model.specs.declared.lines.Purpose.TheVariants as purpose
 use Rattle.proof_updates.specs.Beneath.machine_model.specs.declared.lines.Line.TheVariants as line
 use Rattle.proof_updates.specs.Beneath.machine_model.specs.declared.reading.SwapLine.TheVariants as swap
 use Rattle.proof_updates.specs.Beneath.proof_generations.proofs.Handles.Running.{place_of_actor}
 use Rattle.proof_updates.specs.Beneath.proof_generations.specs.Running.{Runs}
-use Rattle.proof_updates.specs.Beneath.proof_contents.specs.Tries.{Trie, node_in, On}
-use Rattle.proof_updates.specs.Beneath.proof_contents.specs.Steps.{IsOwnUpdate, IsTrie, Updates}
-use Rattle.proof_updates.specs.Beneath.proof_contents.specs.Runs.{trie_of}
+use Rattle.proof_updates.specs.Beneath.proof_contents.specs.Steps.{IsTrie}
 use Rattle.proof_updates.specs.Beneath.proof_contents.proofs.Values.Paths.{on-depth}
 use Rattle.proof_updates.specs.Beneath.proof_contents.proofs.Changes.Generations.{update_acts, update_still}
-use Rattle.proof_shape.specs.Lines.Knowing.{SwapsAt}
-use Rattle.proof_shape.specs.Lines.Commits.{OwnCommit, KnowsFresh, assigned_at}
-use Rattle.proof_shape.specs.Shaped.{HasShape}
 use Rattle.proof_updates.specs.Commits.{SitesOfUpdates}
 use Rattle.proof_updates.specs.Updates.{UpdatesAt, UpdatesAct}
 use Rattle.proof_updates.proofs.Tries.Does.{start_is, made, steps_do}

@@ -1,8 +1,6 @@
 -- Laws of contents, for every list of steps whose keys have 64 bits.
 use Rattle.std.specs.Prelude.{ℕ, List}
-use Rattle.proof_updates.specs.Vocabulary.{Bounds, Step, State, AreBounds, states_of, last_of, records_of, KeysFit, Record}
-use Rattle.proof_updates.specs.Beneath.proof_contents.specs.Tries.{Trie}
-use Rattle.proof_shape.specs.Shaped.{trie_of_run}
+use Rattle.proof_updates.specs.Vocabulary.{Bounds, Step, State, AreBounds, states_of, last_of, records_of, KeysFit, Record, Trie, trie_of_run}
 use Rattle.proof_shape.specs.Sites.Nodes.{steps_of}
 use Rattle.proof_updates.specs.Updates.{StepsDo, PathsLie, KeysLook, StepsKeep, UpdatesFollow, RepliesRight}
 

@@ -1,6 +1,6 @@
 use Rattle.std.proofs.Common.{sym, ap, ◌∙◌}
 use Rattle.std.specs.Prelude.{option_and_then}
-use Rattle.machine_core.specs.Beneath.operate.specs.Places.{answer_of}
+use Rattle.machine_core.specs.Vocabulary.{answer_of}
 use Rattle.machine_core.specs.Seen.{operation_seen}
 use Rattle.machine_core.proofs.Kept.{found_operation}
 use Rattle.machine_core.proofs.actors.copied_reply.Goals as goal

@@ -3,11 +3,10 @@ use Rattle.std.proofs.lemmas.List.{length-map}
 use Rattle.std.specs.Prelude.{slice_get, slice_set}
 use Rattle.std.specs.Vec.{with_item}
 use Rattle.handle_table.specs.Numbers.{Numbers, running_on}
-use Rattle.machine_core.specs.Vocabulary.{Access, handle_of}
+use Rattle.machine_core.specs.Vocabulary.{Access, handle_of, begun_on}
 use Rattle.machine_core.specs.Beneath.rdcss_root.proofs.Rewriting.{ready_less}
 use Rattle.machine_core.specs.declared.parts.Parts.{Parts}
 use Rattle.machine_core.specs.Beginnings.{Begins}
-use Rattle.proof_core.specs.Numbering.{begun_on}
 use Rattle.machine_core.specs.Seen.{operation_seen, seen}
 use Rattle.machine_core.proofs.Begins.{BeginsAt, kept_begun, seen_begun}
 use Rattle.proof_core.proofs.Bounded.{bounded}

@@ -1,7 +1,5 @@
 use Rattle.std.proofs.Common.{◌∷◌, [], ◌∙◌, ◌≡◌, ap, sym}
-use Rattle.machine_core.specs.Vocabulary.{node_at, Single, changed}
-use Rattle.machine_core.specs.Beneath.proof_straight.specs.Changes.{with_single}
-use Rattle.machine_core.specs.Beneath.proof_straight.specs.Drafts.{first_draft, next_made}
+use Rattle.machine_core.specs.Vocabulary.{node_at, Single, changed, with_single, first_draft, next_made}
 use Rattle.machine_core.specs.Changing.{putting}
 use Rattle.machine_core.proofs.Changes.{changed_is_main, changed_live, main_changed, puts_live, puts_no_tomb, single_made}
 use Rattle.proof_core.proofs.Drafts.{can_then, node_then}

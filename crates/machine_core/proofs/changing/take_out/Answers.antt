@@ -1,7 +1,6 @@
 use Rattle.std.proofs.Common.{refl}
-use Rattle.machine_core.specs.Vocabulary.{node_at, changed}
+use Rattle.machine_core.specs.Vocabulary.{node_at, changed, first_draft}
 use Rattle.machine_model.specs.declared.building.Change.TheVariants as change
-use Rattle.machine_core.specs.Beneath.proof_straight.specs.Drafts.{first_draft}
 use Rattle.machine_core.proofs.Changes.{changed_is_main, changed_live, main_changed}
 use Rattle.machine_core.proofs.changing.take_out.Goals as goal
 

@@ -1,9 +1,8 @@
 use Rattle.std.proofs.Common.{ℕ, ◌-◌, List, ◌++◌, Option, sym, subst, ◌∙◌, arith}
 use Rattle.std.specs.List.{flat_map}
 use Rattle.std.proofs.lemmas.Result.{on_ok_weaker}
-use Rattle.machine_core.specs.Vocabulary.{Ref, pairs_below}
-use Rattle.proof_core.specs.Comparing.{Adds, entries_below, main_below, pairs_from}
-use Rattle.proof_core.specs.Reading.{Covers}
+use Rattle.machine_core.specs.Vocabulary.{Ref, pairs_below, Adds, entries_below, main_below, Covers}
+use Rattle.proof_core.specs.Comparing.{pairs_from}
 use Rattle.proof_core.proofs.Compared.{compared, compared_nothing, covers_both, covers_more, covers_nothing, grows_none, grows_on, taken_off}
 use Rattle.machine_core.proofs.comparing.+comparing.Goals as goal
 

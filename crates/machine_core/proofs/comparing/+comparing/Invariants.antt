@@ -1,8 +1,6 @@
 use Rattle.std.proofs.Common.{ℕ, List, ◌+◌, ◌*◌, length}
 use Rattle.std.specs.List.{flat_map}
-use Rattle.machine_core.specs.Vocabulary.{pairs_below}
-use Rattle.proof_core.specs.Comparing.{Grows, entries_below}
-use Rattle.proof_core.specs.Reading.{Covers}
+use Rattle.machine_core.specs.Vocabulary.{pairs_below, Grows, entries_below, Covers}
 use Rattle.machine_core.proofs.comparing.+comparing.Given as goal
 
 abbrev pub decreases-compare : goal.decreases-compare

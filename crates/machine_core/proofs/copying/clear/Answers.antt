@@ -1,12 +1,10 @@
 use Rattle.std.proofs.Common.{arith, ◌≡◌, ◌+◌, ◌∷◌, [], refl, ap, sym, subst, ◌∙◌, None}
 use Rattle.history.specs.declared.calls.Call.TheVariants as call
 use Rattle.history.specs.declared.replies.Reply.TheVariants as reply
-use Rattle.machine_core.specs.Vocabulary.{Branch, empty_branch, main_of, main_at, times, Descriptor, Plain}
+use Rattle.machine_core.specs.Vocabulary.{Branch, empty_branch, main_of, main_at, times, Descriptor, Plain, Course, offer_of, with_new_root, with_offer, first_draft, next_made, IsDraft}
 use Rattle.slot_arena.proofs.Times.{times-cons}
-use Rattle.machine_core.specs.Beneath.proof_straight.specs.Copies.{Course, offer_of, with_new_root, with_offer}
-use Rattle.machine_core.specs.Beneath.proof_straight.specs.Drafts.{first_draft, next_made, with_made}
+use Rattle.machine_core.specs.Beneath.proof_straight.specs.Drafts.{with_made}
 use Rattle.machine_core.specs.declared.parts.Parts.{Parts}
-use Rattle.proof_core.specs.Drafting.{IsDraft}
 use Rattle.machine_core.specs.Rooting.{HoldsBeside, IsCourse}
 use Rattle.machine_core.proofs.Carried.{first_drafted}
 use Rattle.machine_core.specs.Seen.{seen}

@@ -1,10 +1,7 @@
 use Rattle.std.proofs.Common.{arith, ◌≡◌, [], refl, ap, sym, ◌∙◌, ◌+◌, None}
 use Rattle.history.specs.declared.calls.Call.TheVariants as call
 use Rattle.history.specs.declared.replies.Reply.TheVariants as reply
-use Rattle.machine_core.specs.Vocabulary.{with_root}
-use Rattle.machine_core.specs.Beneath.proof_straight.specs.Copies.{closed}
-use Rattle.machine_core.specs.Beneath.proof_straight.specs.Drafts.{first_draft}
-use Rattle.machine_core.specs.Beneath.rdcss_root.specs.Tables.{Table, with_root_in}
+use Rattle.machine_core.specs.Vocabulary.{with_root, closed, first_draft, Table, with_root_in}
 use Rattle.machine_core.specs.declared.parts.Parts.{Parts}
 use Rattle.machine_core.specs.Seen.{seen}
 use Rattle.proof_core.proofs.Bounded.{bounded}

@@ -1,10 +1,8 @@
 use Rattle.std.proofs.Common.{arith, ◌≡◌, ◌+◌, ◌∷◌, [], refl, ap, sym, subst, ◌∙◌, Some}
 use Rattle.history.specs.declared.calls.Call.TheVariants as call
 use Rattle.history.specs.declared.replies.Reply.TheVariants as reply
-use Rattle.machine_core.specs.Vocabulary.{Indirection, main_of, main_at, times, Descriptor, Plain, least_free}
+use Rattle.machine_core.specs.Vocabulary.{Indirection, main_of, main_at, times, Descriptor, Plain, least_free, first_course, offer_of, with_new_root, with_offer, next_made}
 use Rattle.slot_arena.proofs.Times.{times-cons}
-use Rattle.machine_core.specs.Beneath.proof_straight.specs.Copies.{first_course, offer_of, with_new_root, with_offer}
-use Rattle.machine_core.specs.Beneath.proof_straight.specs.Drafts.{next_made}
 use Rattle.machine_core.specs.declared.parts.Parts.{Parts}
 use Rattle.machine_core.specs.Rooting.{HoldsBeside, IsCourse}
 use Rattle.machine_core.specs.Straight.{CarriesBy}

@@ -1,11 +1,10 @@
 use Rattle.std.proofs.Common.{◌++◌, append-nil, sym, ap, subst, ◌∙◌}
 use Rattle.std.specs.List.Sorted.{IsStrictlySortedBy}
 use Rattle.std.specs.Ordering.{nat_cmp}
-use Rattle.machine_core.specs.Vocabulary.{content_at}
+use Rattle.machine_core.specs.Vocabulary.{content_at, Covers}
 use Rattle.machine_core.specs.Beneath.proof_contents.proofs.Values.Crowds.{sorted_distinct}
 use Rattle.machine_core.specs.Comparing.{AreDifferences, difference_of}
 use Rattle.machine_core.specs.Finding.{found_along}
-use Rattle.proof_core.specs.Reading.{Covers}
 use Rattle.machine_core.specs.Seen.{seen}
 use Rattle.machine_core.proofs.Differences.{add_none, are_differences, covered}
 use Rattle.machine_core.proofs.Found.{found_along_is}

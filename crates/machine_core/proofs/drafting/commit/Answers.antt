@@ -1,7 +1,6 @@
 use Rattle.std.proofs.Common.{[], true, cond, ap, ◌∙◌, sym, ◌≡◌, List}
-use Rattle.machine_core.specs.Vocabulary.{Ref, with_prev, times}
+use Rattle.machine_core.specs.Vocabulary.{Ref, with_prev, times, held_with}
 use Rattle.slot_arena.specs.declared.nodes.Prev.TheVariants as prev
-use Rattle.machine_core.specs.Beneath.proof_straight.specs.Drafts.{held_with}
 use Rattle.proof_core.proofs.Drafts.{settled_draft}
 use Rattle.machine_core.proofs.drafting.commit.Goals as goal
 

@@ -1,7 +1,6 @@
 use Rattle.std.proofs.Common.{◌++◌, ◌∷◌, [], ap, ◌∙◌, ◌≡◌}
 use Rattle.std.specs.Prelude.{unwrap_or}
-use Rattle.machine_core.specs.Vocabulary.{no_ref, taken, times}
-use Rattle.machine_core.specs.Beneath.proof_straight.specs.Drafts.{held_with, next_made}
+use Rattle.machine_core.specs.Vocabulary.{no_ref, taken, times, held_with, next_made}
 use Rattle.proof_core.proofs.Drafts.{one_held, settled_draft}
 use Rattle.machine_core.proofs.drafting.make.Goals as goal
 

@@ -1,6 +1,6 @@
 use Rattle.std.proofs.Common.{[], ◌∷◌, ◌++◌, ap, sym, ◌∙◌, ◌≡◌, ◌≤◌, List, refl, subst}
-use Rattle.machine_core.specs.Vocabulary.{is_main_node, node_at, changed, Ref, times}
-use Rattle.machine_core.specs.Beneath.proof_straight.specs.Drafts.{next_made, with_made, with_published}
+use Rattle.machine_core.specs.Vocabulary.{is_main_node, node_at, changed, Ref, times, next_made, with_published}
+use Rattle.machine_core.specs.Beneath.proof_straight.specs.Drafts.{with_made}
 use Rattle.proof_core.proofs.Drafts.{can_then, held_more, made_then}
 use Rattle.machine_core.proofs.drafting.swap_changed.Goals as goal
 

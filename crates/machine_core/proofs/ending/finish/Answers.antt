@@ -3,12 +3,9 @@ use Rattle.std.specs.Vec.{with_item}
 use Rattle.std.proofs.lemmas.Bool.{false≢true}
 use Rattle.std.proofs.lemmas.Option.{same_Some, slice_get_within}
 use Rattle.epochs.specs.Memories.{Memory}
-use Rattle.machine_core.specs.Beneath.operate.specs.Places.{answer_of}
-use Rattle.running.specs.Places.{line_for}
-use Rattle.machine_core.specs.Vocabulary.{entrant_of}
+use Rattle.machine_core.specs.Vocabulary.{answer_of, line_for, entrant_of, ended_on}
 use Rattle.machine_core.specs.declared.parts.Actor.{Actor}
 use Rattle.machine_core.specs.declared.parts.Parts.{Parts}
-use Rattle.proof_core.specs.Numbering.{ended_on}
 use Rattle.machine_core.specs.Seen.{operation_at, seen}
 use Rattle.machine_core.proofs.Kept.{at_index, operation_there, seat_of}
 use Rattle.machine_core.proofs.Left.{EndsAt, held_there, kept_ended, seen_ended}

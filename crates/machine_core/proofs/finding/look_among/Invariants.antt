@@ -1,6 +1,5 @@
 use Rattle.std.proofs.Common.{◌≡◌, drop}
-use Rattle.machine_core.specs.Vocabulary.{node_at}
-use Rattle.machine_core.specs.Beneath.proof_contents.specs.Nodes.Looking.{look_among}
+use Rattle.machine_core.specs.Vocabulary.{node_at, look_among}
 use Rattle.machine_core.proofs.finding.look_among.Given as goal
 
 -- those before say nothing of the key

@@ -1,6 +1,5 @@
 use Rattle.std.proofs.Common.{sym, ◌∙◌, arith}
-use Rattle.machine_core.specs.Vocabulary.{hash_of, node_at, logical_main, most_levels}
-use Rattle.machine_core.specs.Beneath.proof_contents.specs.Nodes.Looking.{Absent, Has, Below}
+use Rattle.machine_core.specs.Vocabulary.{hash_of, node_at, logical_main, most_levels, Absent, Has, Below}
 use Rattle.proof_core.proofs.Levels.{decides, nothing_left}
 use Rattle.machine_core.proofs.finding.value_along.Goals as goal
 

@@ -1,6 +1,5 @@
 use Rattle.std.proofs.Common.{◌≡◌, ◌-◌}
-use Rattle.machine_core.specs.Vocabulary.{hash_of, node_at, logical_main, most_levels}
-use Rattle.machine_core.specs.Beneath.proof_contents.specs.Nodes.Looking.{find_at}
+use Rattle.machine_core.specs.Vocabulary.{hash_of, node_at, logical_main, most_levels, find_at}
 use Rattle.machine_core.specs.Seen.{seen}
 use Rattle.machine_core.proofs.finding.value_along.Given as goal
 

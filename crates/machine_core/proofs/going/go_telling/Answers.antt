@@ -1,12 +1,11 @@
 use Rattle.std.proofs.Common.{sym, ap, ◌∙◌, ◌+◌, subst}
 use Rattle.machine_model.specs.declared.steps.Outcome.TheVariants as outcome
 use Rattle.machine_core.specs.declared.parts.Parts.{Parts}
-use Rattle.machine_core.specs.Vocabulary.{Kind}
+use Rattle.machine_core.specs.Vocabulary.{Kind, NotesUpTo, held_by}
 use Rattle.machine_core.specs.Going.{CarriesUnless}
 use Rattle.machine_core.specs.Keeping.{IsKept}
 use Rattle.machine_core.specs.Seen.{seen}
 use Rattle.machine_core.specs.Told.{published_of}
-use Rattle.proof_core.specs.Work.{NotesUpTo, held_by}
 use Rattle.machine_core.proofs.Took.{actor_there, took}
 use Rattle.machine_core.proofs.Underway.{at_work, tells_none}
 use Rattle.machine_core.proofs.Whole.{carries_nothing, goes, kept_gone, tells}

@@ -1,6 +1,5 @@
 use Rattle.std.proofs.Common.{ap, ◌∙◌}
-use Rattle.machine_core.specs.Vocabulary.{content_at, most_levels, pairs_below, by_key, root_of}
-use Rattle.proof_core.specs.Reading.{next_of}
+use Rattle.machine_core.specs.Vocabulary.{content_at, most_levels, pairs_below, by_key, root_of, next_of}
 use Rattle.machine_core.specs.Seen.{seen}
 use Rattle.machine_core.proofs.Selections.{selects_next}
 use Rattle.machine_core.proofs.listing.next_of.Goals as goal

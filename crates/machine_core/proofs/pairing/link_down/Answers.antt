@@ -1,5 +1,5 @@
 use Rattle.std.proofs.Common.{arith, ◌≡◌, ◌+◌, ◌-◌, ◌*◌, suc, refl, subst}
-use Rattle.machine_core.specs.Beneath.proof_straight.specs.Changes.{with_links}
+use Rattle.machine_core.specs.Vocabulary.{with_links}
 use Rattle.machine_core.specs.Beneath.proof_straight.specs.Drafts.{with_made}
 use Rattle.machine_core.specs.Pairing.{IsMade, Makes}
 use Rattle.machine_core.proofs.Paired.{can_fewer, links_first, links_last, links_next, makes_on, rung_lives}

@@ -1,8 +1,7 @@
 use Rattle.std.proofs.Common.{arith, ◌≡◌, ◌+◌, ◌-◌, ◌*◌, refl, sym, ap, ◌∙◌, subst}
-use Rattle.machine_core.specs.Vocabulary.{IsLive, entry_at, main_at, no_ref, node_at, times, pair, parting, changed, old_hash, key_of, key_hash}
+use Rattle.machine_core.specs.Vocabulary.{IsLive, entry_at, main_at, no_ref, node_at, times, pair, parting, changed, old_hash, key_of, key_hash, with_pair, with_single, first_draft}
 use Rattle.machine_model.specs.declared.building.Change.TheVariants as change
-use Rattle.machine_core.specs.Beneath.proof_straight.specs.Changes.{with_pair, with_single}
-use Rattle.machine_core.specs.Beneath.proof_straight.specs.Drafts.{first_draft, with_made}
+use Rattle.machine_core.specs.Beneath.proof_straight.specs.Drafts.{with_made}
 use Rattle.machine_core.specs.Pairing.{IsMade}
 use Rattle.machine_core.proofs.Changes.{changed_live, main_changed}
 use Rattle.machine_core.proofs.Paired.{can_begin, can_swap_still, depth_within, finds_other, makes_on, pair_lives, pair_second, single_first}

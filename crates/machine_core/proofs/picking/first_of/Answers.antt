@@ -1,6 +1,6 @@
 use Rattle.std.proofs.Common.{sym, ap, subst, ◌∙◌}
-use Rattle.machine_core.specs.Vocabulary.{content_at, most_levels, pairs_below, root_of, word_at}
-use Rattle.proof_core.specs.Reading.{IsOneOf, first_of}
+use Rattle.machine_core.specs.Vocabulary.{content_at, most_levels, pairs_below, root_of, word_at, IsOneOf}
+use Rattle.proof_core.specs.Reading.{first_of}
 use Rattle.machine_core.specs.Seen.{seen}
 use Rattle.proof_core.proofs.Picked.{one_of}
 use Rattle.machine_core.proofs.picking.first_of.Goals as goal

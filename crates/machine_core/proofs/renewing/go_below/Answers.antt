@@ -1,6 +1,5 @@
 use Rattle.std.proofs.Common.{ap, sym, subst, ◌∙◌}
-use Rattle.machine_core.specs.Vocabulary.{entry_at, node_at}
-use Rattle.proof_core.specs.Drafting.{CanSwap}
+use Rattle.machine_core.specs.Vocabulary.{entry_at, node_at, CanSwap}
 use Rattle.machine_core.specs.Renewing.{AreOverLive, IsBranch}
 use Rattle.machine_core.specs.Seen.{seen}
 use Rattle.machine_core.proofs.Carried.{drafted_first}

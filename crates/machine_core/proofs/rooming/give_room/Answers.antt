@@ -1,10 +1,8 @@
 use Rattle.std.proofs.Common.{refl, sym, subst, ◌-◌, arith}
 use Rattle.std.specs.Prelude.{slice_set}
 use Rattle.std.specs.Vec.{with_item}
-use Rattle.machine_core.specs.Vocabulary.{operation_of}
+use Rattle.machine_core.specs.Vocabulary.{operation_of, Walks, IsOfRun}
 use Rattle.machine_core.specs.declared.parts.Parts.{Parts}
-use Rattle.proof_core.specs.Bounds.{Walks}
-use Rattle.machine_core.specs.Beneath.proof_straight.specs.Resting.{IsOfRun}
 use Rattle.machine_core.specs.Keeping.{Replaces}
 use Rattle.machine_core.specs.Rooming.{GivesRoom, HasRoomToStep, IsWalking}
 use Rattle.machine_core.specs.Seen.{seen}

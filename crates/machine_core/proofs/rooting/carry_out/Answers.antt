@@ -1,9 +1,5 @@
 use Rattle.std.proofs.Common.{arith, ◌≡◌, [], refl, ap, set, sym, subst, ◌∙◌}
-use Rattle.machine_core.specs.Vocabulary.{AreLive, refs_of_option, times, refs_of_root, Plain, opened, with_root}
-use Rattle.machine_core.specs.Beneath.proof_straight.specs.Drafts.{redrafted}
-use Rattle.machine_core.specs.Beneath.rdcss_root.specs.Holding.{root_refs}
-use Rattle.machine_core.specs.Beneath.rdcss_root.specs.Tables.{Table, opened_in, with_root_in}
-use Rattle.proof_core.specs.Drafting.{IsDraft}
+use Rattle.machine_core.specs.Vocabulary.{AreLive, refs_of_option, times, refs_of_root, Plain, opened, with_root, redrafted, root_refs, Table, opened_in, with_root_in, IsDraft}
 use Rattle.machine_core.specs.Rooting.{writable}
 use Rattle.proof_core.proofs.Drafts.{settled_over}
 use Rattle.machine_core.proofs.Rooted.{held_moved, opened_is, opened_roots, successor_lives}

@@ -1,7 +1,6 @@
 use Rattle.std.proofs.Common.{◌+◌, ap, sym, subst}
-use Rattle.machine_core.specs.Vocabulary.{Indirection}
+use Rattle.machine_core.specs.Vocabulary.{Indirection, IsDraft}
 use Rattle.machine_core.specs.Beneath.proof_straight.specs.Drafts.{with_made}
-use Rattle.proof_core.specs.Drafting.{IsDraft}
 use Rattle.machine_core.proofs.Rooted.{draft_rebased}
 use Rattle.machine_core.proofs.rooting.make_root.Goals as goal
 

@@ -1,7 +1,5 @@
 use Rattle.std.proofs.Common.{◌≡◌, [], refl, ap, set, sym, ◌∙◌}
-use Rattle.machine_core.specs.Vocabulary.{Offer, with_root}
-use Rattle.machine_core.specs.Beneath.proof_straight.specs.Drafts.{redrafted}
-use Rattle.machine_core.specs.Beneath.rdcss_root.specs.Tables.{Table}
+use Rattle.machine_core.specs.Vocabulary.{Offer, with_root, redrafted, Table}
 use Rattle.machine_core.specs.Rooting.{writable}
 use Rattle.machine_core.proofs.Rooted.{swapped_draft, swapped_generations, swapped_roots}
 use Rattle.machine_core.proofs.rooting.swap_root.Goals as goal

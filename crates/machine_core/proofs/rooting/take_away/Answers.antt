@@ -1,7 +1,5 @@
 use Rattle.std.proofs.Common.{arith, [], refl, ap, set, ◌∙◌, None}
-use Rattle.machine_core.specs.Vocabulary.{times, with_root}
-use Rattle.machine_core.specs.Beneath.rdcss_root.specs.Holding.{root_refs}
-use Rattle.machine_core.specs.Beneath.rdcss_root.specs.Tables.{Table}
+use Rattle.machine_core.specs.Vocabulary.{times, with_root, root_refs, Table}
 use Rattle.proof_core.proofs.Drafts.{settled_over}
 use Rattle.machine_core.proofs.Rooted.{held_moved}
 use Rattle.machine_core.proofs.rooting.take_away.Goals as goal

@@ -1,7 +1,6 @@
 use Rattle.std.proofs.Common.{◌≡◌, ◌+◌, ◌-◌, ◌++◌, true, length, Some, arith, sym, ap, ap₂, subst, ◌∙◌}
 use Rattle.std.specs.List.{flat_map}
-use Rattle.machine_core.specs.Vocabulary.{hash_of, position_of, bitmap_of, entries_of, entry_at, no_ref, node_at, viewed, flag_of, has_flag, pairs_below, by_key}
-use Rattle.proof_core.specs.Reading.{next_of}
+use Rattle.machine_core.specs.Vocabulary.{hash_of, position_of, bitmap_of, entries_of, entry_at, no_ref, node_at, viewed, flag_of, has_flag, pairs_below, by_key, next_of}
 use Rattle.machine_core.specs.Scanning.{IsMainOnWay, IsOnWay}
 use Rattle.machine_core.proofs.Scans.{flagged_on_way, listed_next}
 use Rattle.machine_core.proofs.scanning.+scanning.Goals as goal

@@ -1,6 +1,6 @@
 use Rattle.std.proofs.Common.{◌≡◌, ◌+◌, ◌*◌, drop, None}
 use Rattle.std.specs.List.{flat_map}
-use Rattle.proof_core.specs.Scanning.{walked}
+use Rattle.machine_core.specs.Vocabulary.{walked}
 use Rattle.machine_core.specs.Scanning.{with_next}
 use Rattle.machine_core.proofs.scanning.+scanning.Given as goal
 

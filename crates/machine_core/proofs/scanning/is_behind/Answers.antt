@@ -1,6 +1,5 @@
 use Rattle.std.proofs.Common.{◌≡◌, ◌-◌, nat_lt, arith, sym, ap, ap₂, ◌∙◌}
-use Rattle.machine_core.specs.Vocabulary.{hash_of, index_in, list_depth, parting}
-use Rattle.proof_core.specs.Scanning.{is_behind}
+use Rattle.machine_core.specs.Vocabulary.{hash_of, index_in, list_depth, parting, is_behind}
 use Rattle.proof_core.proofs.Scanned.{alike_below, apart_below}
 use Rattle.machine_core.proofs.scanning.is_behind.Goals as goal
 

@@ -1,7 +1,6 @@
 use Rattle.std.proofs.Common.{ap, ◌∙◌}
 use Rattle.std.specs.List.{flat_map}
-use Rattle.machine_core.specs.Vocabulary.{entries_of, node_at, pairs_below, by_key}
-use Rattle.proof_core.specs.Reading.{next_of}
+use Rattle.machine_core.specs.Vocabulary.{entries_of, node_at, pairs_below, by_key, next_of}
 use Rattle.machine_core.proofs.Selections.{selects_next}
 use Rattle.machine_core.proofs.scanning.next_listed.Goals as goal
 

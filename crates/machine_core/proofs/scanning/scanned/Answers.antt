@@ -1,6 +1,5 @@
 use Rattle.std.proofs.Common.{[], sym, ap, subst, ◌∙◌}
-use Rattle.machine_core.specs.Vocabulary.{most_levels, root_of}
-use Rattle.proof_core.specs.Scanning.{walked}
+use Rattle.machine_core.specs.Vocabulary.{most_levels, root_of, walked}
 use Rattle.machine_core.specs.Scanning.{IsOnWay, with_next}
 use Rattle.machine_core.specs.Seen.{seen}
 use Rattle.machine_core.proofs.Scans.{all_scanned, root_on_way}

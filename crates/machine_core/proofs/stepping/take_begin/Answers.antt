@@ -2,7 +2,7 @@ use Rattle.std.proofs.Common.{None, refl, arith}
 use Rattle.machine_model.specs.declared.steps.Outcome.TheVariants as outcome
 use Rattle.machine_model.specs.declared.steps.Step.TheVariants as steps
 use Rattle.machine_core.specs.Seen.{seen}
-use Rattle.proof_core.specs.Work.{ticks_of_a_step}
+use Rattle.machine_core.specs.Vocabulary.{ticks_of_a_step}
 use Rattle.proof_core.proofs.Bounded.{bounded, taken_run}
 use Rattle.machine_core.proofs.Steps.{begin_leads, begun_id, leads_taken}
 use Rattle.machine_core.proofs.Working.{settled_little, weaker}

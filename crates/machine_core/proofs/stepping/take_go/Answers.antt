@@ -1,10 +1,9 @@
 use Rattle.std.proofs.Common.{◌≡◌, None, sym, ap, subst, ◌∙◌, arith}
 use Rattle.epochs.specs.Memories.{Memory}
 use Rattle.machine_model.specs.declared.steps.Step.TheVariants as steps
-use Rattle.machine_core.specs.Vocabulary.{go_denial, next, State}
+use Rattle.machine_core.specs.Vocabulary.{go_denial, next, State, WorksUpTo, ticks_of_a_step}
 use Rattle.machine_core.specs.Seen.{seen}
 use Rattle.machine_core.specs.Told.{published_in}
-use Rattle.proof_core.specs.Work.{WorksUpTo, ticks_of_a_step}
 use Rattle.proof_core.proofs.Bounded.{bounded, taken_run}
 use Rattle.machine_core.proofs.Steps.{go_leads, leads_taken}
 use Rattle.machine_core.proofs.Working.{operation_little}

@@ -1,7 +1,7 @@
-use Rattle.std.proofs.Common.{arith, refl, sym, ap, ◌∙◌}
+use Rattle.std.proofs.Common.{◌<◌, ◌^◌, arith, refl, sym, ap, ◌∙◌, subst}
 use Rattle.machine_core.specs.Vocabulary.{key_hash, flag_of}
 use Rattle.machine_core.specs.Seen.{seen}
-use Rattle.machine_core.proofs.Carried.{can_swap_at, drafted_first, other_lives, part_done}
+use Rattle.machine_core.proofs.Carried.{Prepared, can_swap_at, drafted_first, other_lives, part_done}
 use Rattle.machine_core.proofs.straight.part.Goals as goal
 
 pub put_beside-levels-requires-clause-can : goal.put_beside-levels-requires-clause-can
@@ -30,9 +30,20 @@ count_call-requires-clause-steps c =
 pub returns : goal.returns
 returns c start leads =
     let before = c.args.parts.now in
-    part_done start before c.count_call.new.parts c.put_beside-levels.new.heap c.args._actor c.args.call c.args.root c.args.place c.key_of-key.result c.put_beside-levels.result
-    c.changed_reply.result c.requires.fit leads c.requires.keyed c.requires.ends c.requires.other c.requires.puts c.key_of-key.ensures
-    c.key_of-key.type_inv
+    let p : Prepared = record {
+      start = start;
+      before = before;
+      actor = c.args._actor;
+      call = c.args.call;
+      root = c.args.root;
+      place = c.args.place;
+      fit = c.requires.fit;
+      leads = leads;
+      keyed = c.requires.keyed;
+      ends = c.requires.ends;
+      fits = subst (λ k. k < 2 ^ 64) c.key_of-key.ensures c.key_of-key.type_inv;
+    } in
+    part_done p c.count_call.new.parts c.put_beside-levels.new.heap c.put_beside-levels.result c.changed_reply.result c.requires.other c.requires.puts
     (c.put_beside-levels.ensures.drafts (seen before) c.args.call c.args.root (drafted_first before c.requires.fit.kept c.requires.fit.settled) (sym c.key_of-key.ensures) (sym c.value_of.ensures)
     (c.requires.ends.flag ∙ ap (λ k. flag_of (key_hash (seen before) k) c.args.place.depth) (sym c.key_of-key.ensures)) refl (sym c.generation_at-generation.ensures))
     c.put_beside-levels.ensures.records c.count_call.ensures c.changed_reply.ensures

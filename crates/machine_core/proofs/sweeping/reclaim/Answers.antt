@@ -1,7 +1,6 @@
 use Rattle.std.proofs.Common.{◌≡◌, Ok, ap, subst}
 use Rattle.machine_model.specs.declared.steps.Outcome.TheVariants as outcome
-use Rattle.machine_core.specs.Vocabulary.{Sweep, next, State}
-use Rattle.proof_core.specs.Work.{Worked}
+use Rattle.machine_core.specs.Vocabulary.{Sweep, next, State, Worked}
 use Rattle.machine_core.specs.declared.parts.Parts.{Parts}
 use Rattle.machine_core.specs.Seen.{seen}
 use Rattle.machine_core.specs.Work.{SweepsLittle, worked}

@@ -1,15 +1,15 @@
 -- Where the operation's root is the handle's and its path ends in no tomb, the operation ends: its SWAP succeeds.
 use Rattle.std.proofs.Common.{◌≡◌, ℕ, suc, ◌+◌, ◌*◌, ◌≤◌, Bool, true, false, List, length, slice_index_or, Option, Some, if◌then◌else◌, refl, sym, subst, ap, ◌∙◌, arith}
 use Rattle.proof_obstruction_free.specs.Vocabulary.{hash_of, position_of, Ref, Node, Indirection, Branch, Single, Tomb, List as Listed, node_at, entries_of, no_ref, has_flag, flag_of, BuildLine}
-use Rattle.proof_obstruction_free.specs.Vocabulary.{Bounds, key_of, absent, key_after_main, current, depth_of, flag_in, swapping}
+use Rattle.proof_obstruction_free.specs.Vocabulary.{Bounds, key_of, absent, key_after_main, current, depth_of, flag_in, swapping, build_path, main_of_build}
 use Rattle.arrayvec.specs.ArrayVec.{ArrayVec}
 use Rattle.proof_obstruction_free.specs.Beneath.machine_model.specs.declared.finding.KeyLine.TheVariants as key
 use Rattle.proof_obstruction_free.specs.Beneath.machine_model.specs.declared.lines.Line.TheVariants as line
 use Rattle.proof_obstruction_free.specs.Beneath.machine_model.specs.declared.lines.Purpose.TheVariants as purpose
-use Rattle.proof_obstruction_free.specs.Beneath.proof_contents.specs.Lines.Changes.{build_path, main_of_build}
 use Rattle.proof_obstruction_free.specs.Beneath.proof_memory.proofs.Safety.AtTimes.{limits_at}
 use Rattle.proof_obstruction_free.specs.Beneath.proof_memory.proofs.Claims.Uses.{safe_of, meets_of}
 use Rattle.proof_obstruction_free.specs.Beneath.proof_memory.proofs.Claims.Nodes.{main_plain}
+use Rattle.proof_obstruction_free.specs.Beneath.proof_memory.proofs.Claims.Named.{main_claim}
 use Rattle.proof_obstruction_free.specs.Alone.{Lone, Stands, Has, Keeps, WordStays, IsCurrent, Within, IsWeight, node}
 use Rattle.proof_obstruction_free.specs.Keys.{IsBuilt, BottomEnds, IsEnd, IsNoTomb, flag_at}
 use Rattle.proof_obstruction_free.specs.Machines.{Machines, HasSwapped}
@@ -70,7 +70,7 @@ module _
         main_found : node_at (a.states t).heap main ≡ node a main
         main_found =
             let wanted = steps.wants t (Some g) (line.Key (key.Main path main)) now in
-            steps.node_found t main now.until (safe_of wanted.1.1.0) (main_plain (node_at (a.states t).heap main) (meets_of wanted.1.1.0))
+            steps.node_found t main now.until (safe_of (main_claim wanted)) (main_plain (node_at (a.states t).heap main) (meets_of (main_claim wanted)))
 
         -- the flag is that of the call's key
         flag_is : flag_in (a.states t) now.operation path ≡ flag_at a (depth_of path)

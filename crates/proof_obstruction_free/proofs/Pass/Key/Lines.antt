@@ -3,19 +3,18 @@ use Rattle.std.proofs.Common.{◌≡◌, ℕ, zero, suc, ◌+◌, ◌-◌, ◌==
 use Rattle.std.proofs.Common.{subst, ap, ◌∙◌, ltb-true, arith}
 use Rattle.proof_obstruction_free.specs.Vocabulary.{Access, Writable, ReadOnly, Reply, Ref, Node, Indirection, Branch, Single, Tomb, List as Listed, node_at, node_of, entry_at, entries_of}
 use Rattle.proof_obstruction_free.specs.Vocabulary.{BuildLine, WhenFound, Answers, Sets, Removes, Operation, when_found, inserts, absent_reply, key_of, absent, absent_beside, absent_listed}
-use Rattle.proof_obstruction_free.specs.Vocabulary.{removing, found_so, found, after_listed, after_sibling, key_after_entry, is_below_root, State}
+use Rattle.proof_obstruction_free.specs.Vocabulary.{removing, found_so, found, after_listed, after_sibling, key_after_entry, is_below_root, State, listed, meets, build_path, main_of_build, Sites}
+use Rattle.proof_obstruction_free.specs.Vocabulary.{sites_of, trie_at, InsideSite}
 use Rattle.proof_obstruction_free.specs.Beneath.history.specs.declared.replies.Reply.TheVariants as reply
 use Rattle.proof_obstruction_free.specs.Beneath.machine_model.specs.declared.building.BuildLine.TheVariants as build
 use Rattle.proof_obstruction_free.specs.Beneath.machine_model.specs.declared.building.Change.TheVariants as change
 use Rattle.proof_obstruction_free.specs.Beneath.machine_model.specs.declared.building.Site.TheVariants as site
 use Rattle.proof_obstruction_free.specs.Beneath.machine_model.specs.declared.finding.KeyLine.TheVariants as key
 use Rattle.proof_obstruction_free.specs.Beneath.machine_model.specs.declared.lines.Line.TheVariants as line
-use Rattle.proof_obstruction_free.specs.Beneath.proof_memory.specs.Wants.{listed, meets}
 use Rattle.proof_obstruction_free.specs.Beneath.proof_memory.proofs.Claims.Uses.{safe_of, meets_of}
+use Rattle.proof_obstruction_free.specs.Beneath.proof_memory.proofs.Claims.Named.{main_claim, past_place}
 use Rattle.proof_obstruction_free.specs.Beneath.proof_memory.proofs.Safety.AtTimes.{kind_at, node_found}
 use Rattle.proof_obstruction_free.specs.Beneath.proof_contents.proofs.Shapes.Nodes.{list_shape}
-use Rattle.proof_obstruction_free.specs.Beneath.proof_contents.specs.Lines.Changes.{build_path, main_of_build}
-use Rattle.proof_obstruction_free.specs.Beneath.proof_shape.specs.Sites.Lines.{Sites, sites_of, trie_at, InsideSite}
 use Rattle.proof_obstruction_free.specs.Beneath.proof_shape.proofs.Sites.Grown.{grown_sites}
 use Rattle.proof_obstruction_free.specs.Alone.{Lone, Stands, Keeps, WordStays, Within, IsWeight}
 use Rattle.proof_obstruction_free.specs.Stepping.{Stepping}
@@ -44,10 +43,10 @@ module _ (a : Lone) where
       (position < length (entries_of (node_at (a.states t).heap main))) × (length (entries_of (node_at (a.states t).heap main)) ≤ 32)
   few_singles t g path main position steps s_ =
       let wanted = steps.wants t g (line.Key (key.Listed path main position)) s_ in
-      let (slot, grown_is, is) = kind_at a.states t main (listed a.own.access) wanted.1.1.0 in
+      let (slot, grown_is, is) = kind_at a.states t main (listed a.own.access) (main_claim wanted) in
       let inside = (grown_sites a.steps a.run a.takes a.fit t s_.until main slot grown_is).inside in
-      let same : node_at (a.states t).heap main ≡ slot.node = node_found a.states t main (safe_of wanted.1.1.0) ∙ ap node_of grown_is in (
-        ltb-true position (length (entries_of (node_at (a.states t).heap main))) (meets_of wanted.1.1.1.0),
+      let same : node_at (a.states t).heap main ≡ slot.node = node_found a.states t main (safe_of (main_claim wanted)) ∙ ap node_of grown_is in (
+        ltb-true position (length (entries_of (node_at (a.states t).heap main))) (meets_of (past_place wanted).0),
         subst (λ n. length (entries_of n) ≤ 32) (sym same) (few main slot.node a.own.access is inside),
       )
 

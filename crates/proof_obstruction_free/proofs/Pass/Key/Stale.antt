@@ -1,16 +1,15 @@
 -- From where a stale pass of a change has found its place: it comes to a new try, or the operation ends.
 use Rattle.std.proofs.Common.{◌≡◌, ℕ, suc, ◌+◌, ◌*◌, ◌≤◌, Bool, true, false, List, length, slice_index_or, Option, refl, sym, subst, ap, ◌∙◌, arith}
 use Rattle.proof_obstruction_free.specs.Vocabulary.{Ref, Node, Indirection, Branch, Single, Tomb, List as Listed, node_at, entry_at, entries_of, no_ref, BuildLine, SwapLine, line_action, swapped}
-use Rattle.proof_obstruction_free.specs.Vocabulary.{after_update, current, swapping}
+use Rattle.proof_obstruction_free.specs.Vocabulary.{after_update, current, swapping, build_path, main_of_build, action_wants, AllHold, is_branch, IsInUse}
 use Rattle.proof_obstruction_free.specs.Beneath.machine_model.specs.declared.finding.KeyLine.TheVariants as key
 use Rattle.proof_obstruction_free.specs.Beneath.machine_model.specs.declared.lines.Line.TheVariants as line
 use Rattle.proof_obstruction_free.specs.Beneath.machine_model.specs.declared.lines.Purpose.TheVariants as purpose
 use Rattle.proof_obstruction_free.specs.Beneath.machine_model.specs.declared.reading.SwapLine.TheVariants as swap
-use Rattle.proof_obstruction_free.specs.Beneath.proof_contents.specs.Lines.Changes.{build_path, main_of_build}
-use Rattle.proof_obstruction_free.specs.Beneath.proof_memory.specs.Wants.{action_wants, AllHold, is_indirection, is_branch}
-use Rattle.proof_obstruction_free.specs.Beneath.proof_memory.specs.Laws.{IsInUse}
+use Rattle.proof_obstruction_free.specs.Beneath.proof_memory.specs.Wants.{is_indirection}
 use Rattle.proof_obstruction_free.specs.Beneath.proof_memory.proofs.Safety.AtTimes.{action_at}
 use Rattle.proof_obstruction_free.specs.Beneath.proof_memory.proofs.Claims.Uses.{safe_of, meets_of}
+use Rattle.proof_obstruction_free.specs.Beneath.proof_memory.proofs.Claims.Named.{main_claim}
 use Rattle.proof_obstruction_free.specs.Alone.{Lone, Stands, Keeps, WordStays, Within, IsWeight, node}
 use Rattle.proof_obstruction_free.specs.Keys.{IsBuilt}
 use Rattle.proof_obstruction_free.specs.Machines.{Machines, IsSwapped, WasSwapped}
@@ -37,7 +36,7 @@ module _ (a : Lone) (steps : Stepping a) (path : List Ref) (main : Ref) (positio
   branch_found : node_at (a.states t).heap main ≡ node a main
   branch_found =
       let wanted = steps.wants t g (line.Key (key.Entry path main position)) now in
-      steps.node_found t main now.until (safe_of wanted.1.1.0) (branch_no_link (node_at (a.states t).heap main) (meets_of wanted.1.1.0))
+      steps.node_found t main now.until (safe_of (main_claim wanted)) (branch_no_link (node_at (a.states t).heap main) (meets_of (main_claim wanted)))
 
   -- and that entry
   entry_used : IsInUse (a.states t).heap (entry_at (a.states t).heap main position)

@@ -2,12 +2,10 @@ use Rattle.std.specs.Prelude.{[], None, refl}
 use Rattle.std.proofs.Common.{ap, ◌∙◌}
 use Rattle.contract.specs.Beneath.machine_model.specs.declared.lines.Line.TheVariants as line
 use Rattle.contract.specs.Beneath.machine_model.specs.declared.repairs.CleanLine.TheVariants as clean
-use Rattle.contract.specs.Beneath.machine_model.specs.Cleaning.{clean_next, clean_after_main}
-use Rattle.trie_parts.specs.Here.{at_heap}
+use Rattle.contract.specs.Vocabulary.{clean_next, clean_after_main, at_heap, viewed}
 use Rattle.contract.specs.Cleaning.{clean_line}
 use Rattle.contract.proofs.Looks.{looked}
 use Rattle.contract.proofs.clean.Clean.look.Goals as goal
-use Rattle.contract.specs.Beneath.slot_arena.specs.Views.{viewed}
 
 pub returns-in-Some-Branch-clause-follows : goal.returns-in-Some-Branch-clause-follows
 returns-in-Some-Branch-clause-follows c =

@@ -1,8 +1,7 @@
 use Rattle.std.specs.Prelude.{◌∷◌, ◌++◌, [], None, refl}
 use Rattle.contract.specs.Beneath.machine_model.specs.declared.lines.Line.TheVariants as line
 use Rattle.contract.specs.Beneath.machine_model.specs.declared.repairs.CleanLine.TheVariants as clean
-use Rattle.contract.specs.Beneath.machine_model.specs.Cleaning.{clean_next}
-use Rattle.trie_parts.specs.Here.{at_heap}
+use Rattle.contract.specs.Vocabulary.{clean_next, at_heap}
 use Rattle.contract.specs.Cleaning.{clean_line}
 use Rattle.contract.proofs.Looks.{looked}
 use Rattle.contract.proofs.clean.Clean.look_at_child.Goals as goal

@@ -1,11 +1,8 @@
 use Rattle.std.specs.Prelude.{◌≡◌, ◌∷◌, ◌++◌, [], length, None, refl}
-use Rattle.contract.specs.Beneath.slot_arena.specs.Views.{viewed}
+use Rattle.contract.specs.Vocabulary.{viewed, entry_at, clean_next, at_heap}
 use Rattle.std.proofs.Common.{ap, ◌∙◌}
-use Rattle.contract.specs.Beneath.slot_arena.specs.Heaps.{entry_at}
 use Rattle.contract.specs.Beneath.machine_model.specs.declared.lines.Line.TheVariants as line
 use Rattle.contract.specs.Beneath.machine_model.specs.declared.repairs.CleanLine.TheVariants as clean
-use Rattle.contract.specs.Beneath.machine_model.specs.Cleaning.{clean_next}
-use Rattle.trie_parts.specs.Here.{at_heap}
 use Rattle.contract.specs.Cleaning.{clean_line}
 use Rattle.contract.proofs.Looks.{looked, single_kept}
 use Rattle.contract.proofs.clean.Clean.look_at_entry.Goals as goal

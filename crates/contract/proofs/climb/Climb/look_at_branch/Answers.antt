@@ -1,6 +1,5 @@
 use Rattle.std.specs.Prelude.{refl}
-use Rattle.contract.specs.Beneath.slot_arena.specs.Heaps.{node_at}
-use Rattle.trie_parts.specs.Here.{at_heap}
+use Rattle.contract.specs.Vocabulary.{node_at, at_heap}
 use Rattle.trie_parts.specs.Tasks.{for_task}
 use Rattle.contract.specs.Climbing.{climb_of}
 use Rattle.contract.proofs.Climbs.{held, missed}

@@ -1,9 +1,8 @@
 use Rattle.std.proofs.Common.{Err, sym, subst}
 use Rattle.machine_model.specs.declared.steps.Step.TheVariants as steps
-use Rattle.machine_core.specs.Vocabulary.{next}
+use Rattle.machine_core.specs.Vocabulary.{next, Worked}
 use Rattle.proof_core.specs.Bounds.{Answers}
 use Rattle.machine_core.specs.Seen.{seen}
-use Rattle.proof_core.specs.Work.{Worked}
 use Rattle.machine_core.proofs.Steps.{refused}
 use Rattle.machine_core.proofs.machine.Core.end.Goals as goal
 

@@ -1,11 +1,9 @@
 use Rattle.std.proofs.Common.{◌≡◌, Err, sym, ap, ◌∙◌, subst}
 use Rattle.machine_model.specs.declared.steps.Step.TheVariants as steps
-use Rattle.machine_core.specs.Vocabulary.{next}
-use Rattle.proof_core.specs.Bounds.{Applies}
+use Rattle.machine_core.specs.Vocabulary.{next, Applies, Worked}
 use Rattle.machine_core.specs.Seen.{seen}
 use Rattle.machine_core.specs.Told.{published_in, stepped}
 use Rattle.machine_core.specs.Work.{worked}
-use Rattle.proof_core.specs.Work.{Worked}
 use Rattle.machine_core.proofs.Roomed.{on_err}
 use Rattle.machine_core.proofs.Steps.{applies_stepped, refused_so}
 use Rattle.machine_core.proofs.machine.Core.go_publishing.Goals as goal

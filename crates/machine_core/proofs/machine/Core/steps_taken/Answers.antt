@@ -1,7 +1,7 @@
 use Rattle.std.proofs.Common.{◌≤◌, subst}
 use Rattle.machine_core.specs.Seen.{seen}
 use Rattle.proof_core.proofs.Bounded.{steps_within}
-use Rattle.proof_core.specs.Work.{Worked}
+use Rattle.machine_core.specs.Vocabulary.{Worked}
 use Rattle.machine_core.proofs.machine.Core.steps_taken.Goals as goal
 
 pub returns-clause-most : goal.returns-clause-most

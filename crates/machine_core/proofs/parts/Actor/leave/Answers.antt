@@ -1,6 +1,5 @@
 use Rattle.std.proofs.Common.{[], length, refl, ap, ◌∙◌, subst, arith}
-use Rattle.machine_core.specs.Beneath.trie_parts.specs.Holding.{KeepsOthers}
-use Rattle.running.specs.declared.programs.Programs.{Programs}
+use Rattle.machine_core.specs.Vocabulary.{KeepsOthers, Programs}
 use Rattle.machine_core.proofs.Left.{held_still}
 use Rattle.machine_core.proofs.parts.Actor.leave.Goals as goal
 

@@ -1,4 +1,4 @@
-use Rattle.operate.specs.Beneath.trie_parts.specs.Here.{at_heap}
+use Rattle.operate.specs.Vocabulary.{at_heap}
 use Rattle.operate.specs.Places.{former_of}
 use Rattle.operate.specs.Steps.{operation_for}
 use Rattle.std.proofs.Common.{◌∙◌, sym}

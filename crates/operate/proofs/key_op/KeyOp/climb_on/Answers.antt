@@ -1,6 +1,6 @@
 use Rattle.operate.proofs.Anew.{begins}
 use Rattle.std.specs.Prelude.{◌≡◌, false}
-use Rattle.operate.specs.Beneath.machine_model.specs.Paths.{is_below_root}
+use Rattle.operate.specs.Vocabulary.{is_below_root}
 use Rattle.operate.proofs.key_op.KeyOp.climb_on.Goals as goal
 
 pub returns-else-is_below_root-clause-line : goal.returns-else-is_below_root-clause-line

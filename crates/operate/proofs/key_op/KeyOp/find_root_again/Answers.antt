@@ -1,14 +1,8 @@
 use Rattle.std.specs.Prelude.{◌≡◌, refl}
 use Rattle.std.proofs.Common.{◌∙◌, ap, sym}
-use Rattle.operate.specs.Beneath.slot_arena.specs.Heaps.{generation_at}
-use Rattle.operate.specs.Beneath.machine_model.specs.declared.reading.After.TheVariants.{Gives}
-use Rattle.operate.specs.Beneath.machine_model.specs.declared.repairs.Climb.{Climb}
-use Rattle.operate.specs.Beneath.machine_model.specs.Climbing.{climb_after_root}
-use Rattle.operate.specs.Beneath.trie_parts.specs.Here.{at_heap}
+use Rattle.operate.specs.Vocabulary.{generation_at, Gives, Climb, climb_after_root, at_heap, word_in, climb_of}
 use Rattle.operate.specs.Beneath.trie_parts.specs.Tasks.{for_task}
 use Rattle.operate.specs.Beneath.rdcss_root.specs.Programs.{root_of}
-use Rattle.operate.specs.Beneath.rdcss_root.specs.Tables.{word_in}
-use Rattle.contract.specs.Climbing.{climb_of}
 use Rattle.operate.proofs.Rooting.{came, unread}
 use Rattle.operate.proofs.key_op.KeyOp.find_root_again.Goals as goal
 

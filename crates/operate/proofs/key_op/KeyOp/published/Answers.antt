@@ -1,6 +1,5 @@
 use Rattle.std.specs.Prelude.{ℕ}
-use Rattle.operate.specs.Beneath.machine_model.specs.declared.operations.Operation.{Operation}
-use Rattle.operate.specs.Beneath.machine_model.specs.Paths.{above}
+use Rattle.operate.specs.Vocabulary.{Operation, above}
 use Rattle.operate.specs.declared.key_op.KeyOp.{KeyOp}
 use Rattle.operate.proofs.key_op.KeyOp.published.Goals as goal
 

@@ -1,5 +1,4 @@
-use Rattle.operate.specs.Beneath.machine_model.specs.Paths.{above}
-use Rattle.contract.specs.Climbing.{climb_of}
+use Rattle.operate.specs.Vocabulary.{above, climb_of}
 use Rattle.operate.proofs.Going.{changes, renews, cleans, climbs}
 use Rattle.operate.proofs.key_op.KeyOp.reply.Goals as goal
 

@@ -1,7 +1,5 @@
 use Rattle.std.specs.Prelude.{◌≡◌, None}
-use Rattle.running.specs.Beneath.trie_parts.specs.Here.{no_state, no_operation}
-use Rattle.running.specs.Beneath.trie_parts.specs.Steps.{IsAskingLine}
-use Rattle.snapshot.specs.Copies.{copy_line}
+use Rattle.running.specs.Vocabulary.{no_state, no_operation, IsAskingLine, copy_line}
 use Rattle.running.specs.declared.programs.ProgramAt.TheVariants.{Runs, Swapped}
 use Rattle.running.proofs.Going.{copies}
 use Rattle.running.proofs.Lasting.{copy_untold}

@@ -1,12 +1,7 @@
 use Rattle.std.specs.Prelude.{◌≡◌, ℕ, Option, None, refl}
 use Rattle.std.proofs.Common.{sym, subst}
 use Rattle.running.specs.Beneath.epochs.specs.Memories.{Memory}
-use Rattle.running.specs.Beneath.rdcss_root.specs.Tables.{Table, word_in}
-use Rattle.running.specs.Beneath.trie_parts.specs.declared.calls.KeyCall.{KeyCall}
-use Rattle.running.specs.Beneath.trie_parts.specs.Here.{no_operation}
-use Rattle.running.specs.Beneath.trie_parts.specs.Steps.{IsAskingLine}
-use Rattle.operate.specs.declared.key_op.KeyOp.{KeyOp}
-use Rattle.operate.specs.Places.{key_line}
+use Rattle.running.specs.Vocabulary.{Table, word_in, KeyCall, no_operation, IsAskingLine, KeyOp, key_line}
 use Rattle.operate.proofs.Wherever.{untold}
 use Rattle.running.specs.declared.job.Job.{Job}
 use Rattle.running.specs.declared.job.Program.TheVariants.{Key}

@@ -1,9 +1,8 @@
 use Rattle.std.specs.Prelude.{◌≡◌, None}
 use Rattle.std.proofs.Common.{ap, ◌∙◌}
 use Rattle.running.specs.Beneath.machine_model.specs.declared.lines.Line.TheVariants as line
-use Rattle.running.specs.Beneath.trie_parts.specs.Here.{no_state, no_operation}
-use Rattle.running.specs.Beneath.trie_parts.specs.Steps.{IsAskingLine}
-use Rattle.snapshot.specs.Walks.{walk_line, call_of}
+use Rattle.running.specs.Vocabulary.{no_state, no_operation, IsAskingLine, walk_line}
+use Rattle.snapshot.specs.Walks.{call_of}
 use Rattle.running.specs.declared.job.Program.TheVariants.{Walk}
 use Rattle.running.specs.declared.programs.ProgramAt.TheVariants.{Runs, Walked, Impossible}
 use Rattle.running.proofs.Asks.{handle_named}

@@ -2,7 +2,7 @@ use Rattle.std.specs.Prelude.{◌≡◌, Some}
 use Rattle.std.proofs.Common.{sym, ap, subst}
 use Rattle.running.specs.declared.programs.ProgramAt.{ProgramAt}
 use Rattle.running.specs.declared.programs.ProgramAt.TheVariants.{Runs, Walked}
-use Rattle.operate.specs.Places.{answer_of}
+use Rattle.running.specs.Vocabulary.{answer_of}
 use Rattle.running.specs.Places.{asking_line}
 use Rattle.running.proofs.Answering.{ends}
 use Rattle.running.proofs.programs.Programs.take_reply.Goals as goal
