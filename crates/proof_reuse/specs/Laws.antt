@@ -1,14 +1,22 @@
 -- When a slot may be used again, for every list of steps.
-use Rattle.std.specs.Prelude.{◌≡◌, ℕ, ◌+◌, ◌≤◌, List, ◌++◌, Contains, Some}
+use Rattle.std.specs.Prelude.{◌≡◌, ℕ, suc, ◌+◌, ◌<◌, ◌≤◌, List, [], ◌∷◌, ◌++◌, Contains, Some, Ok}
 use Rattle.proof_reuse.specs.Beneath.slot_arena.specs.declared.refs.Ref.{Ref}
+use Rattle.proof_reuse.specs.Beneath.slot_arena.specs.Heaps.{logical_main, main_at}
+use Rattle.proof_reuse.specs.Beneath.machine_model.specs.declared.lines.Line.TheVariants as line
+use Rattle.proof_reuse.specs.Beneath.machine_model.specs.declared.lines.Purpose.{Purpose}
+use Rattle.proof_reuse.specs.Beneath.machine_model.specs.declared.steps.Outcome.{Outcome}
+use Rattle.proof_reuse.specs.Beneath.machine_model.specs.declared.steps.Step.TheVariants.{Go}
+use Rattle.proof_reuse.specs.Beneath.machine_model.specs.Swapping.{swapping}
 use Rattle.proof_reuse.specs.Beneath.machine_model.specs.declared.operations.Operation.{Operation}
 use Rattle.proof_reuse.specs.Beneath.machine_model.specs.declared.steps.Bounds.{Bounds}
 use Rattle.proof_reuse.specs.Beneath.machine_model.specs.declared.steps.Step.{Step}
-use Rattle.proof_reuse.specs.Beneath.machine_model.specs.Machine.{AreBounds, run}
+use Rattle.proof_reuse.specs.Beneath.machine_model.specs.Machine.{AreBounds, next, run}
 use Rattle.proof_reuse.specs.Beneath.machine_model.specs.Operations.{action_of}
 use Rattle.proof_reuse.specs.Beneath.machine_model.specs.States.{State, operation_of}
 use Rattle.proof_reuse.specs.Beneath.machine_model.specs.Times.{states_of, last_of}
 use Rattle.proof_reuse.specs.Beneath.proof_memory.specs.Laws.{IsInUse}
+use Rattle.proof_reuse.specs.Beneath.proof_commits.specs.Runs.{HasIndirection}
+use Rattle.proof_reuse.specs.Beneath.proof_garbage.specs.Grace.{HaveEnded, IsKnownSince}
 use Rattle.proof_reuse.specs.Beneath.proof_garbage.specs.Live.{refs_of_claims}
 use Rattle.proof_fresh.specs.Grace.{IsPrivateToNone}
 use Rattle.proof_followed.specs.Followed.{IsFollowedByRoots, IsFollowedByAny, followed_action_wants}
@@ -40,6 +48,66 @@ GarbageIsDeadAfterTwoEpochs =
     (¬ IsFollowedByAny (run limits (before ++ since)) r)
     × ((actor : ℕ) (operation : Operation) → operation_of (run limits (before ++ since)) actor ≡ Some operation →
     ¬ Contains (refs_of_claims (followed_action_wants (action_of (run limits (before ++ since)) operation))) r)
+
+-- Once all who ran then have ended, roots don't lead to it, with all that offers name which stand there, and nobody has it at hand who begins from then on, as long as it is in use.
+abbrev pub GarbageIsUnknownAfterGrace : Type 0
+GarbageIsUnknownAfterGrace =
+    (limits : Bounds) (first middle last : List Step) (r : Ref) → AreBounds limits → IsGarbage (run limits first) r → IsInUse (run limits (first ++ middle)).heap r →
+    HaveEnded (run limits first) (run limits (first ++ middle)) → ¬ IsKnownSince (run limits (first ++ middle)) (run limits ((first ++ middle) ++ last)) r
+
+-- ---- by beginnings of the list
+
+-- one of the steps swapped the main node in there
+pub record WasSwappedIn (limits : Bounds) (steps : List Step) (i m : Ref) : Type 0 where
+  pub before : List Step
+  pub actor : ℕ
+  pub more : List Step
+  pub goes_on : steps ≡ (before ++ Go actor ∷ []) ++ more
+  pub operation : Operation
+  pub runs : operation_of (run limits before) actor ≡ Some operation
+  pub why : Purpose
+  pub over : Ref
+  pub line : operation.line ≡ line.Swap why (swapping i over m)
+  pub outcome : Outcome
+  pub after : State
+  pub taken : next (run limits before) (Go actor) ≡ Ok (outcome, after)
+  pub has : HasIndirection (run limits (before ++ Go actor ∷ [])) i
+  pub stands : main_at (run limits (before ++ Go actor ∷ [])).heap i ≡ m
+
+-- the main node counted there after some of the steps, and after more of them another one did
+pub record WasReplaced (limits : Bounds) (steps : List Step) (i m : Ref) : Type 0 where
+  pub before : List Step
+  pub middle : List Step
+  pub more : List Step
+  pub goes_on : steps ≡ (before ++ middle) ++ more
+  pub had : HasIndirection (run limits before) i
+  pub was : logical_main (run limits before).heap i ≡ m
+  pub has : HasIndirection (run limits (before ++ middle)) i
+  pub is : ¬ (logical_main (run limits (before ++ middle)).heap i ≡ m)
+
+-- so it is garbage, as long as it is in use
+abbrev pub SwappedInIsGarbage : Type 0
+SwappedInIsGarbage =
+    (limits : Bounds) (steps : List Step) (i m : Ref) → AreBounds limits → WasSwappedIn limits steps i m → WasReplaced limits steps i m → IsInUse (run limits steps).heap m →
+    IsGarbage (run limits steps) m
+
+-- ---- who retires it
+
+-- by one step another main node took the place of the one that counted for the indirection
+pub record IsReplacedBy (limits : Bounds) (steps : List Step) (i m f : Ref) : Type 0 where
+  pub at : ℕ
+  pub within : at < last_of limits steps
+  pub had : HasIndirection (states_of limits steps at) i
+  pub has : HasIndirection (states_of limits steps (suc at)) i
+  pub was : logical_main (states_of limits steps at).heap i ≡ m
+  pub is : logical_main (states_of limits steps (suc at)).heap i ≡ f
+  pub apart : ¬ (m ≡ f)
+
+-- it is one indirection's own, and one node took its place there: so who swapped that one in may retire it, and nobody else does
+abbrev pub OneTakesItsPlace : Type 0
+OneTakesItsPlace =
+    (limits : Bounds) (steps : List Step) (i j m f g : Ref) → AreBounds limits → IsOwn (states_of limits steps) (last_of limits steps) i m →
+    IsOwn (states_of limits steps) (last_of limits steps) j m → IsReplacedBy limits steps i m f → IsReplacedBy limits steps j m g → (i ≡ j) × (f ≡ g)
 
 -- ---- what is garbage
 

@@ -4,6 +4,7 @@
 mod laws;
 
 pub use laws::{
-    failed_own_is_garbage, garbage_dies, garbage_is_dead_after_two_epochs, replaced_own_is_garbage,
-    swap_ins_bring_nothing_back, unlinked_is_garbage,
+    failed_own_is_garbage, garbage_dies, garbage_is_dead_after_two_epochs,
+    garbage_is_unknown_after_grace, one_takes_its_place, replaced_own_is_garbage,
+    swap_ins_bring_nothing_back, swapped_in_is_garbage, unlinked_is_garbage,
 };
