@@ -22,7 +22,7 @@ pub enum KeyReply {
 
 /// What a call does where its key has a value.
 #[derive(Clone, Copy)]
-pub(crate) enum Todo {
+pub enum Todo {
     /// It answers this, and changes nothing.
     Answer(KeyReply),
     /// It sets another value.
@@ -32,7 +32,7 @@ pub(crate) enum Todo {
 }
 
 /// Whether the call gives an absent key a value.
-pub(crate) fn inserts(call: KeyCall) -> bool
+pub fn inserts(call: KeyCall) -> bool
     ensures { (handle : ℕ) → result ≡ inserts (call_of handle call) }
 {
     match call {
@@ -46,7 +46,7 @@ pub(crate) fn inserts(call: KeyCall) -> bool
 }
 
 /// The reply where the key is absent and stays so.
-pub(crate) fn absent_reply(call: KeyCall) -> KeyReply
+pub fn absent_reply(call: KeyCall) -> KeyReply
     ensures { (handle : ℕ) → reply_of result ≡ absent_reply (call_of handle call) }
 {
     match call {
@@ -74,7 +74,7 @@ pub fn changed_reply(call: KeyCall, before: Option<u64>) -> KeyReply
 }
 
 /// What the call does where its key has this value.
-pub(crate) fn when_found(call: KeyCall, value: u64) -> Todo
+pub fn when_found(call: KeyCall, value: u64) -> Todo
     ensures { (handle : ℕ) → todo_of result ≡ when_found (call_of handle call) value }
 {
     match call {

@@ -14,7 +14,7 @@ mod calls;
 mod found;
 mod looks;
 
-pub use calls::{KeyReply, changed_reply};
+pub use calls::{KeyReply, Todo, absent_reply, changed_reply, inserts, when_found};
 pub use found::{Entered, Found};
 pub use key_change::{Change, ChangeAt, Tried};
 pub use looks::{after_entry, after_listed, after_main};

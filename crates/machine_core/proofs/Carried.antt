@@ -1,5 +1,5 @@
 -- A call that is carried out at once comes to what its steps come to.
-use Rattle.std.proofs.Common.{arith, ◌≡◌, ℕ, ◌+◌, ◌*◌, ◌<◌, ◌≤◌, ◌^◌, true, List, [], Some, None, Ok, refl, sym, ap, ◌∙◌, subst}
+use Rattle.std.proofs.Common.{arith, ◌≡◌, ℕ, ◌+◌, ◌*◌, ◌≤◌, true, List, [], Some, None, Ok, refl, sym, ap, ◌∙◌, subst}
 use Rattle.machine_core.specs.Vocabulary.{Call, Reply, Ref, IsLive, entry_at, main_at, node_at, Writable, times, changed_reply, inserts, key_of, when_found, Removes, outside, FitsKey, Ended}
 use Rattle.machine_core.specs.Vocabulary.{first_record, State, key_hash, flag_of, parts_at, with_change, with_pair, with_single, Draft, after_call, first_draft, held_with, Finds, Misses}
 use Rattle.machine_core.specs.Vocabulary.{beside_other, no_entry, steps_down, IsOfRun, Comes, starts, walks, CanSwap, IsDraft, KeepsRecords}
@@ -24,7 +24,7 @@ use Rattle.machine_core.specs.Descending.{EndsAt, IsHere}
 use Rattle.machine_core.specs.Keeping.{IsCore, IsKept}
 use Rattle.machine_core.specs.Pairing.{IsPaired}
 use Rattle.machine_core.specs.Seen.{seen}
-use Rattle.machine_core.specs.Straight.{CanGo, CarriesFrom, CarriesOut, IsFit, LeadsTo}
+use Rattle.machine_core.specs.Straight.{CanGo, CarriesFrom, CarriesOut, HasArrived, LeadsTo}
 use Rattle.proof_core.proofs.Tries.{can_swap_there, entry_lives}
 use Rattle.proof_core.proofs.Bounded.{taken_run}
 use Rattle.machine_core.proofs.Ends.{alike}
@@ -106,22 +106,18 @@ pub record Prepared : Type 0 where
   pub call : Call
   pub root : Ref
   pub place : Place
-  pub fit : IsFit before actor call root 0
-  pub leads : LeadsTo start (seen before) actor call place.depth
-  pub keyed : IsKeyed call
-  pub ends : EndsAt (seen before).heap root (key_hash (seen before) (key_of call)) (key_of call) place
-  pub fits : key_of call < 2 ^ 64
+  pub arrived : HasArrived start before actor call root place
 
 -- it is carried out, in so many steps between its begin and its end, and leaves a core
 pub carried : (p : Prepared) (after : Parts) (memory : Memory) (draft : Draft) (n all : ℕ) (reply : Reply) → ComesAsFar p.before memory draft → after ≡ counted p.before memory all → all ≡ n + 2 →
     4 * p.place.depth + 3 ≤ n → Comes (seen p.before) p.actor p.call n reply (after_call (seen p.before) draft (n + 2)) → CarriesFrom p.start p.actor p.call reply after
 carried p after memory draft n all reply to is many long comes =
-    let (m, so) = comes_from p.start (seen p.before) p.actor p.call p.place.depth n reply (after_call (seen p.before) draft (n + 2)) p.leads long comes in
+    let (m, so) = comes_from p.start (seen p.before) p.actor p.call p.place.depth n reply (after_call (seen p.before) draft (n + 2)) p.arrived.leads long comes in
     let counts : after ≡ counted p.before memory (n + 2) = is ∙ ap (counted p.before memory) many in (
       (m, subst (Comes p.start p.actor p.call m reply) (sym (ap seen counts ∙ seen_then p.before memory draft (n + 2) to)) so),
       subst IsCore (sym counts) (record {
-        run = subst IsOfRun (sym (seen_then p.before memory draft (n + 2) to)) (comes_run p.start p.actor p.call m reply _ p.leads.run p.fits so);
-        kept = kept_over p.before memory draft (p.before.begun + 1) (p.before.steps + (n + 2)) p.fit.kept to;
+        run = subst IsOfRun (sym (seen_then p.before memory draft (n + 2) to)) (comes_run p.start p.actor p.call m reply _ p.arrived.leads.run p.arrived.fits so);
+        kept = kept_over p.before memory draft (p.before.begun + 1) (p.before.steps + (n + 2)) p.arrived.fit.kept to;
         settled = to.draft_is.settled;
       }),
     )
@@ -239,51 +235,48 @@ module _ (state : State) (actor : ℕ) (call : Call) (root : Ref) (can : CanGo s
       can.ready (first_is_record state) keyed (misses_other place ends is) never (omega (arith, can.steps, ends.deep))))
 
 -- a call that put its key's single is carried out
-pub put_done : (p : Prepared) (after : Parts) (memory : Memory) (looks : ℕ) (reply : Reply) → IsPut p.call p.place.entry →
+pub put_done : (p : Prepared) (after : Parts) (memory : Memory) (looks : ℕ) → IsPut p.call p.place.entry →
     ComesAsFar p.before memory
     (with_change (seen p.before) p.call p.place.depth p.place.indirection (with_single (seen p.before) p.call) (putting p.place.entry p.place.position (with_single (seen p.before) p.call).newest)) →
-    looks ≡ looks_at p.place.entry → after ≡ counted p.before memory (4 * p.place.depth + looks + 13) → reply ≡ changed_reply p.call (value_in p.place.entry) →
-    CarriesFrom p.start p.actor p.call reply after
-put_done p after memory looks reply puts to many counts replies =
+    looks ≡ looks_at p.place.entry → after ≡ counted p.before memory (4 * p.place.depth + looks + 13) →
+    CarriesFrom p.start p.actor p.call (changed_reply p.call (value_in p.place.entry)) after
+put_done p after memory looks puts to many counts =
     let state = seen p.before in
     let draft = with_change state p.call p.place.depth p.place.indirection (with_single state p.call) (putting p.place.entry p.place.position (with_single state p.call).newest) in
-    let comes = puts_straight state p.actor p.call p.root p.fit.can p.keyed p.place p.place.entry p.ends refl puts in
+    let comes = puts_straight state p.actor p.call p.root p.arrived.fit.can p.arrived.keyed p.place p.place.entry p.arrived.ends refl puts in
     let steps : 4 * p.place.depth + looks + 13 ≡ steps_down p.place.depth (looks_at p.place.entry) + 7 + 2 = omega (arith, many) in
-    subst (λ r. CarriesFrom p.start p.actor p.call r after) (sym replies)
-    (carried p after memory draft (steps_down p.place.depth (looks_at p.place.entry) + 7) (4 * p.place.depth + looks + 13) (changed_reply p.call (value_in p.place.entry)) to counts steps
-    (omega arith) comes)
+    carried p after memory draft (steps_down p.place.depth (looks_at p.place.entry) + 7) (4 * p.place.depth + looks + 13) (changed_reply p.call (value_in p.place.entry)) to counts steps
+    (omega arith) comes
 
 -- a call that put its key's single beside another is carried out
-pub part_done : (p : Prepared) (after : Parts) (memory : Memory) (levels : ℕ) (reply : Reply) → p.place.entry ≡ Other → inserts p.call ≡ true →
+pub part_done : (p : Prepared) (after : Parts) (memory : Memory) (levels : ℕ) → p.place.entry ≡ Other → inserts p.call ≡ true →
     IsPaired (seen p.before) p.call p.root p.place.depth p.place.indirection p.place.position levels memory → KeepsRecords p.before.heap memory →
-    after ≡ counted p.before memory (4 * p.place.depth + 2 * levels + 16) → reply ≡ changed_reply p.call None → CarriesFrom p.start p.actor p.call reply after
-part_done p after memory levels reply other puts paired records counts replies =
+    after ≡ counted p.before memory (4 * p.place.depth + 2 * levels + 16) → CarriesFrom p.start p.actor p.call (changed_reply p.call None) after
+part_done p after memory levels other puts paired records counts =
     let state = seen p.before in
     let pair = with_pair state p.call p.root p.place.depth p.place.indirection p.place.position levels in
     let draft = with_change state p.call p.place.depth p.place.indirection pair (change.Update p.place.position pair.newest) in
     let to : ComesAsFar p.before memory draft = record { draft_is = paired.draft; private = refl; records = records } in
-    let comes = parts_beside state p.actor p.call p.root p.fit.can p.keyed p.place levels p.ends other puts paired.parts paired.few in
+    let comes = parts_beside state p.actor p.call p.root p.arrived.fit.can p.arrived.keyed p.place levels p.arrived.ends other puts paired.parts paired.few in
     let steps : 4 * p.place.depth + 2 * levels + 16 ≡ steps_down p.place.depth 1 + 2 * levels + 9 + 2 = omega arith in
-    subst (λ r. CarriesFrom p.start p.actor p.call r after) (sym replies)
-    (carried p after memory draft (steps_down p.place.depth 1 + 2 * levels + 9) (4 * p.place.depth + 2 * levels + 16) (changed_reply p.call None) to counts steps (omega arith) comes)
+    carried p after memory draft (steps_down p.place.depth 1 + 2 * levels + 9) (4 * p.place.depth + 2 * levels + 16) (changed_reply p.call None) to counts steps (omega arith) comes
 
 -- a call that took its key out is carried out
-pub remove_done : (p : Prepared) (after : Parts) (memory : Memory) (more : ℕ) (reply : Reply) → IsRemoval p.call p.place.entry → more ≤ 1 →
+pub remove_done : (p : Prepared) (after : Parts) (memory : Memory) (more : ℕ) → IsRemoval p.call p.place.entry → more ≤ 1 →
     Leaves (seen p.before).heap p.place.depth p.place.indirection p.place.position more →
     ComesAsFar p.before memory (with_change (seen p.before) p.call p.place.depth p.place.indirection (first_draft (seen p.before)) (change.Remove p.place.position)) →
-    after ≡ counted p.before memory (4 * p.place.depth + more + 13) → reply ≡ changed_reply p.call (value_in p.place.entry) → CarriesFrom p.start p.actor p.call reply after
-remove_done p after memory more reply removes few leaves to counts replies = by p.place.entry refl removes
+    after ≡ counted p.before memory (4 * p.place.depth + more + 13) → CarriesFrom p.start p.actor p.call (changed_reply p.call (value_in p.place.entry)) after
+remove_done p after memory more removes few leaves to counts = by p.place.entry refl removes
   where
-    by : (entry : Entry) → p.place.entry ≡ entry → IsRemoval p.call entry → CarriesFrom p.start p.actor p.call reply after
+    by : (entry : Entry) → p.place.entry ≡ entry → IsRemoval p.call entry → CarriesFrom p.start p.actor p.call (changed_reply p.call (value_in p.place.entry)) after
     by Vacant same removes = absurd removes
     by Other same removes = absurd removes
     by (Own value) same removes =
         let state = seen p.before in
         let draft = with_change state p.call p.place.depth p.place.indirection (first_draft state) (change.Remove p.place.position) in
-        let comes = removes_at state p.actor p.call p.root p.fit.can p.keyed p.place value more p.ends same removes leaves few in
-        let answers : reply ≡ changed_reply p.call (Some value) = replies ∙ ap (λ e. changed_reply p.call (value_in e)) same in
+        let comes = removes_at state p.actor p.call p.root p.arrived.fit.can p.arrived.keyed p.place value more p.arrived.ends same removes leaves few in
         let steps : 4 * p.place.depth + more + 13 ≡ steps_down p.place.depth (1 + more) + 6 + 2 = omega arith in
-        subst (λ r. CarriesFrom p.start p.actor p.call r after) (sym answers)
+        subst (λ e. CarriesFrom p.start p.actor p.call (changed_reply p.call (value_in e)) after) (sym same)
         (carried p after memory draft (steps_down p.place.depth (1 + more) + 6) (4 * p.place.depth + more + 13) (changed_reply p.call (Some value)) to counts steps (omega arith) comes)
 
 -- a call that changed nothing is carried out
@@ -291,7 +284,7 @@ pub leave_done : (p : Prepared) (after : Parts) (looks : ℕ) (answer : Reply) �
     after ≡ counted p.before p.before.heap (4 * p.place.depth + looks + 6) → CarriesFrom p.start p.actor p.call answer after
 leave_done p after looks answer answers many counts =
     let state = seen p.before in
-    let to : ComesAsFar p.before p.before.heap (first_draft state) = record { draft_is = drafted_first p.before p.fit.kept p.fit.settled; private = refl; records = (refl, refl) } in
-    let comes = answers_at state p.actor p.call p.root p.fit.can p.keyed p.place p.place.entry answer p.ends refl answers in
+    let to : ComesAsFar p.before p.before.heap (first_draft state) = record { draft_is = drafted_first p.before p.arrived.fit.kept p.arrived.fit.settled; private = refl; records = (refl, refl) } in
+    let comes = answers_at state p.actor p.call p.root p.arrived.fit.can p.arrived.keyed p.place p.place.entry answer p.arrived.ends refl answers in
     let steps : 4 * p.place.depth + looks + 6 ≡ steps_down p.place.depth (looks_at p.place.entry) + 2 = omega (arith, many) in
     carried p after p.before.heap (first_draft state) (steps_down p.place.depth (looks_at p.place.entry)) (4 * p.place.depth + looks + 6) answer to counts steps (omega arith) comes

@@ -143,21 +143,21 @@ copy_done before after actor call handle root offer generations draft n all repl
 -- ---- what the calls come to
 
 module _ (state : State) (actor handle : ℕ) (run : IsOfRun state) (rest : is_busy state ≡ false) where
-  pub freeze_comes : (root : Ref) → begin_denial state actor (call.Freeze handle) None ≡ None → IsClear state (call.Freeze handle) root → IsSettled state.heap root →
+  pub freeze_comes : (root : Ref) → begin_denial state actor (call.Freeze handle) None ≡ None → IsClear state handle root → IsSettled state.heap root →
       Comes state actor (call.Freeze handle) 8 (reply.Opened (least_free state)) (after_call (frozen state handle root).base (frozen state handle root).draft 10)
   freeze_comes root allowed clear settled =
       comes_without_record state (first_record state.limits) actor (call.Freeze handle) 8 _ _ _
       (freezes_straight state (first_record state.limits) actor handle root (ready_at state actor (call.Freeze handle) root run rest allowed clear.word) (first_is_record state) settled
       (omega (arith, clear.slots)) (omega (arith, clear.steps)))
 
-  pub snapshot_comes : (root : Ref) → begin_denial state actor (call.Snapshot handle) None ≡ None → IsClear state (call.Snapshot handle) root → IsSettled state.heap root →
+  pub snapshot_comes : (root : Ref) → begin_denial state actor (call.Snapshot handle) None ≡ None → IsClear state handle root → IsSettled state.heap root →
       Comes state actor (call.Snapshot handle) 9 (reply.Opened (least_free state)) (after_call (snapshotted state handle root).base (snapshotted state handle root).draft 11)
   snapshot_comes root allowed clear settled =
       comes_without_record state (first_record state.limits) actor (call.Snapshot handle) 9 _ _ _
       (snapshots_straight state (first_record state.limits) actor handle root (ready_at state actor (call.Snapshot handle) root run rest allowed clear.word) (first_is_record state) settled
       (omega (arith, clear.slots)) (omega (arith, clear.steps)))
 
-  pub clear_comes : (root : Ref) → begin_denial state actor (call.Clear handle) None ≡ None → IsClear state (call.Clear handle) root → IsSettled state.heap root →
+  pub clear_comes : (root : Ref) → begin_denial state actor (call.Clear handle) None ≡ None → IsClear state handle root → IsSettled state.heap root →
       Comes state actor (call.Clear handle) 9 reply.Cleared (after_call (cleared state handle root).base (cleared state handle root).draft 11)
   clear_comes root allowed clear settled =
       comes_without_record state (first_record state.limits) actor (call.Clear handle) 9 _ _ _

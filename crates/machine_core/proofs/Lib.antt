@@ -33,6 +33,7 @@ pub mod Descent
 pub mod Rooted
 pub mod Changes
 pub mod Paired
+pub mod Keyed
 pub mod AtRest
 pub mod Carried
 pub mod Renewed

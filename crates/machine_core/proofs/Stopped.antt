@@ -1,8 +1,8 @@
 -- An operation's giving up is denied as the definition says. No program asks for it; what is said of each step is said of this one too.
-use Rattle.std.proofs.Common.{option_and_then, true≢false, ◌≡◌, ◌⊎◌, ℕ, inl, inr, true, false, not, List, [], ◌∷◌, Option, Some, None, Ok, Err, refl, sym, ap, ◌∙◌, Bool, is_some}
+use Rattle.std.proofs.Common.{option_and_then, true≢false, ◌≡◌, ◌⊎◌, ℕ, inl, inr, true, false, not, [], ◌∷◌, Option, Some, None, Err, refl, sym, ap, ◌∙◌, Bool, is_some}
 use Rattle.std.proofs.lemmas.Bool.{false≢true}
 use Rattle.std.proofs.lemmas.Option.{none-some, same_Some}
-use Rattle.machine_core.specs.Vocabulary.{Refusal, Reply, Operation, State, operation_of, given_up, next, go_denial, give_up_denial, give_up_unless, give_up_on, give_up_by, answer_given_up}
+use Rattle.machine_core.specs.Vocabulary.{Refusal, Reply, Operation, State, operation_of, given_up, next, give_up_denial, give_up_unless, give_up_on, give_up_by, answer_given_up}
 use Rattle.machine_core.specs.Vocabulary.{first_reason, is_actor, is_running, is_spent, is_taken_step}
 use Rattle.ctrie_base.specs.declared.refusals.Refusal.TheVariants as refuse
 use Rattle.machine_model.specs.declared.steps.Step.TheVariants as step

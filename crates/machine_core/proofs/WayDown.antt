@@ -1,8 +1,8 @@
 -- One level further down on the parts of a core, and both ends of the way.
 use Rattle.std.proofs.Common.{arith, ◌≡◌, ℕ, ◌+◌, ◌*◌, ◌<◌, ◌≤◌, ◌==◌, true, false, not, length, None, refl, sym, ap, ◌∙◌, subst}
 use Rattle.std.proofs.lemmas.Bool.{false≢true}
-use Rattle.machine_core.specs.Vocabulary.{position_of, Writable, Call, Node, Indirection, Ref, is_indirection, Heap, bitmap_of, entries_of, entry_at, generation_at, main_at, node_at, key_of}
-use Rattle.machine_core.specs.Vocabulary.{needs_writable, FitsKey, begin_denial, is_busy, State, key_hash, flag_of, not_two, to_root, is_of_other, with_renewal, KeepsRecords}
+use Rattle.machine_core.specs.Vocabulary.{position_of, Writable, Call, Node, Indirection, Ref, is_indirection, Heap, bitmap_of, entries_of, entry_at, generation_at, handle_of}
+use Rattle.machine_core.specs.Vocabulary.{main_at, node_at, key_of, needs_writable, FitsKey, begin_denial, is_busy, State, key_hash, flag_of, not_two, to_root, is_of_other, with_renewal, KeepsRecords}
 use Rattle.epochs.specs.Memories.{Memory}
 use Rattle.machine_model.specs.declared.steps.Step.TheVariants as step
 use Rattle.machine_core.specs.Beneath.proof_straight.specs.Places.{Leads, Leaves}
@@ -13,7 +13,7 @@ use Rattle.machine_core.specs.Descending.{EndsAt}
 use Rattle.machine_core.specs.Renewing.{EndsPast, IsOn, Renews}
 use Rattle.machine_core.specs.Keeping.{IsCore}
 use Rattle.machine_core.specs.Seen.{seen}
-use Rattle.machine_core.specs.Straight.{IsClear, IsFit, LeadsTo}
+use Rattle.machine_core.specs.Straight.{HasArrived, IsClear, IsFit, LeadsTo}
 use Rattle.machine_core.proofs.AtRest.{fit_at, leads_first}
 use Rattle.machine_core.proofs.Carried.{ComesAsFar, kept_over}
 use Rattle.machine_core.proofs.Passed.{ends_here}
@@ -59,8 +59,8 @@ on_kept start parts actor call root place node depth indirection on less generat
 -- ---- at its beginning and its end
 
 pub on_started : (parts : Parts) (actor : ℕ) (call : Call) (root : Ref) (place : Place) (key hash : ℕ) → IsCore parts → is_busy (seen parts) ≡ false →
-    begin_denial (seen parts) actor call None ≡ None → IsClear (seen parts) call root → IsKeyed call → needs_writable call ≡ true → FitsKey (step.Begin actor call None) → key ≡ key_of call →
-    hash ≡ key_hash (seen parts) key → EndsPast parts.heap.heap root hash key place → 33 * place.depth + 32 ≤ length parts.heap.heap.free →
+    begin_denial (seen parts) actor call None ≡ None → IsClear (seen parts) (handle_of call) root → IsKeyed call → needs_writable call ≡ true → FitsKey (step.Begin actor call None) →
+    key ≡ key_of call → hash ≡ key_hash (seen parts) key → EndsPast parts.heap.heap root hash key place → 33 * place.depth + 32 ≤ length parts.heap.heap.free →
     IsOn (seen parts) parts actor call root place (node_at parts.heap.heap place.main) 0 root
 on_started parts actor call root place key hash core rest allowed clear keyed writes fits own hashed ends free =
     let fit = fit_at parts actor call root place.depth core rest allowed clear ends.deep free in
@@ -90,7 +90,7 @@ on_started parts actor call root place key hash core rest allowed clear keyed wr
     root_leads heap hash root node is e = absurd (false≢true e)
 
 -- the call can be carried out at the place
-pub fit_there : (start : State) (parts : Parts) (actor : ℕ) (call : Call) (root : Ref) (place : Place) (node : Node) (depth : ℕ) (indirection : Ref) →
+fit_there : (start : State) (parts : Parts) (actor : ℕ) (call : Call) (root : Ref) (place : Place) (node : Node) (depth : ℕ) (indirection : Ref) →
     IsOn start parts actor call root place node depth indirection → IsFit parts actor call root 0
 fit_there start parts actor call root place node depth indirection on =
     let can = on.is.can in
@@ -108,7 +108,7 @@ fit_there start parts actor call root place node depth indirection on =
       settled = on.settled;
     }
 
-pub ends_there : (start : State) (parts : Parts) (actor : ℕ) (call : Call) (root : Ref) (place now : Place) (node : Node) → IsOn start parts actor call root place node place.depth now.indirection →
+ends_there : (start : State) (parts : Parts) (actor : ℕ) (call : Call) (root : Ref) (place now : Place) (node : Node) → IsOn start parts actor call root place node place.depth now.indirection →
     now ≡ record place { indirection = now.indirection } → EndsAt parts.heap.heap root (key_hash (seen parts) (key_of call)) (key_of call) now
 ends_there start parts actor call root place now node on same =
     let (main, stands, own) = ends_here parts.heap.heap (key_hash (seen parts) (key_of call)) (key_of call) place node place.depth (main_at parts.heap.heap now.indirection) on.is.on refl in
@@ -121,9 +121,20 @@ ends_there start parts actor call root place now node on same =
       here = stands;
     })
 
-pub leads_there : (start : State) (parts : Parts) (actor : ℕ) (call : Call) (root : Ref) (place now : Place) (node : Node) → IsOn start parts actor call root place node place.depth now.indirection →
+leads_there : (start : State) (parts : Parts) (actor : ℕ) (call : Call) (root : Ref) (place now : Place) (node : Node) → IsOn start parts actor call root place node place.depth now.indirection →
     now ≡ record place { indirection = now.indirection } → LeadsTo start (seen parts) actor call now.depth
 leads_there start parts actor call root place now node on same = subst (LeadsTo start (seen parts) actor call) (sym (ap (λ (p : Place). p.depth) same)) on.is.leads
+
+-- so it has arrived there
+pub arrives : (start : State) (parts : Parts) (actor : ℕ) (call : Call) (root : Ref) (place now : Place) (node : Node) → IsOn start parts actor call root place node place.depth now.indirection →
+    now ≡ record place { indirection = now.indirection } → HasArrived start parts actor call root now
+arrives start parts actor call root place now node on same = record {
+  fit = fit_there start parts actor call root place node place.depth now.indirection on;
+  keyed = on.is.keyed;
+  fits = on.is.fits;
+  ends = ends_there start parts actor call root place now node on same;
+  leads = leads_there start parts actor call root place now node on same;
+}
 
 -- what is left there where a key is taken out of a branch of three or more
 pub leaves_there : (start : State) (parts : Parts) (actor : ℕ) (call : Call) (root : Ref) (place now : Place) (node : Node) → IsOn start parts actor call root place node place.depth now.indirection →
@@ -142,8 +153,11 @@ place_is state call depth indirection main key hash flag bitmap at m k h f b is 
 
 -- ---- level by level
 
--- the call was at the root, and has come to there
-pub record ComesOn (before parts : Parts) (actor : ℕ) (call : Call) (root : Ref) (place : Place) (node : Node) (depth : ℕ) (indirection : Ref) : Type 0 where
+-- a call on this key was at the root, and has come to there, as each does that was
+pub record ComesOn (before parts : Parts) (root : Ref) (key : ℕ) (place : Place) (node : Node) (depth : ℕ) (indirection : Ref) : Type 0 where
   pub start : State
+  pub actor : ℕ
+  pub call : Call
+  pub own : key ≡ key_of call
   pub is : IsOn start parts actor call root place node depth indirection
-  pub each : (start : State) → IsOn start before actor call root place node 0 root → IsOn start parts actor call root place node depth indirection
+  pub each : (start : State) (actor : ℕ) (call : Call) → key ≡ key_of call → IsOn start before actor call root place node 0 root → IsOn start parts actor call root place node depth indirection

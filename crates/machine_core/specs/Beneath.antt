@@ -14,3 +14,4 @@ pub use Rattle.proof_core.specs.Beneath.proof_shape as proof_shape
 pub use Rattle.proof_core as proof_core
 pub use Rattle.proof_core.specs.Beneath.proof_operations as proof_operations
 pub use Rattle.proof_core.specs.Beneath.proof_straight as proof_straight
+pub use Rattle.running.specs.Beneath.key_finding as key_finding

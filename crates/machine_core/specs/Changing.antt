@@ -1,6 +1,7 @@
 -- How a key is changed where the way down ends.
 use Rattle.std.specs.Prelude.{◌≡◌, ℕ, true, false, Option, Some, None}
-use Rattle.machine_core.specs.Vocabulary.{Call, Reply, Ref, Change, Update, Answers, Removes, Sets, absent_reply, inserts, when_found}
+use Rattle.machine_core.specs.Vocabulary.{Call, Reply, Ref, Change, Update, Answers, Removes, Sets, absent_reply, changed_reply, inserts, value_of, when_found}
+use Rattle.machine_core.specs.Beneath.key_finding.specs.Replies.{reply_of}
 use Rattle.machine_model.specs.declared.building.Change.TheVariants.{Insert}
 use Rattle.machine_core.specs.declared.changing.Deed.{Deed}
 use Rattle.machine_core.specs.declared.changing.Deed.TheVariants as deed
@@ -38,9 +39,14 @@ abbrev pub IsAnswer : Call → Entry → Reply → Type 0
 IsAnswer call (Own value) answer = when_found call value ≡ Answers answer
 IsAnswer call entry answer = (inserts call ≡ false) × (answer ≡ absent_reply call)
 
--- that is what the call does where this stands for its key
+-- that is what the call does where this stands for its key: what it puts there, and what it answers
 abbrev pub IsDeed : Call → Entry → Deed → Type 0
-IsDeed call entry (deed.Answers answer) = IsAnswer call entry answer
-IsDeed call entry deed.Puts = IsPut call entry
-IsDeed call entry deed.Removes = IsRemoval call entry
-IsDeed call entry deed.Parts = (entry ≡ Other) × (inserts call ≡ true)
+IsDeed call entry (deed.Answers answer) = IsAnswer call entry (reply_of answer)
+IsDeed call entry (deed.Puts value reply) = IsPut call entry × (value ≡ value_of call) × (reply_of reply ≡ changed_reply call (value_in entry))
+IsDeed call entry (deed.Removes reply) = IsRemoval call entry × (reply_of reply ≡ changed_reply call (value_in entry))
+IsDeed call entry (deed.Parts value reply) = (entry ≡ Other) × (inserts call ≡ true) × (value ≡ value_of call) × (reply_of reply ≡ changed_reply call None)
+
+-- it takes the key out
+abbrev pub IsRemoving : Deed → Type 0
+IsRemoving (deed.Removes reply) = Unit {0}
+IsRemoving other = ⊥

@@ -114,3 +114,8 @@ pub record IsOn (start : State) (parts : Parts) (actor : ℕ) (call : Call) (roo
   pub is : IsDown start (seen parts) actor call root place node depth indirection
   pub kept : IsKept parts
   pub settled : parts.heap.noted ≡ []
+
+-- there is a call on this key of which that is so, and whose place lies further down
+abbrev pub IsOnTheWay : Parts → (root : Ref) → (key depth : ℕ) → (indirection : Ref) → Type 0
+IsOnTheWay parts root key depth indirection =
+    (start : State) × (actor : ℕ) × (call : Call) × (place : Place) × (node : Node) × (key ≡ key_of call) × (depth < place.depth) × IsOn start parts actor call root place node depth indirection

@@ -1,13 +1,10 @@
 //! What calls name, and their programs.
 
-ghost use Rattle.std.specs.Prelude.{◌≡◌, ◌<◌, ◌^◌, IsTrue};
-ghost use Rattle.machine_model.specs.Calls.{handle_of, key_of, value_of, needs_writable, needs_read_only, opens_handle, is_close};
-ghost use Rattle.machine_model.specs.Calls.{absent_reply, answers_unless, changed_reply, inserts, when_found};
-ghost use Rattle.machine_core.specs.Beneath.proof_straight.specs.Running.{IsKeyed};
+ghost use Rattle.std.specs.Prelude.{◌≡◌, ◌<◌, ◌^◌};
+ghost use Rattle.machine_model.specs.Calls.{handle_of, key_of, needs_writable, needs_read_only, opens_handle, is_close};
 ghost use Rattle.running.specs.Places.{call_for};
 
-use history::{Call, Reply};
-use machine_model::WhenFound;
+use history::Call;
 use running::{CopyCall, KeyCall, Program, WalkCall};
 
 /// The call without the handle.
@@ -91,89 +88,4 @@ pub fn is_close(call: Call) -> bool
     ensures { result ≡ is_close call }
 {
     matches!(call, Call::Close { .. })
-}
-
-/// The value that a call sets.
-pub fn value_of(call: Call) -> u64
-    ensures { result ≡ value_of call }
-{
-    match call {
-        Call::Put { value, .. } | Call::PutIfAbsent { value, .. } | Call::Replace { value, .. } => {
-            value
-        }
-        Call::ReplaceIf { new, .. } => new,
-        _ => 0,
-    }
-}
-
-/// Whether it is a call on one key.
-pub fn is_keyed(call: Call) -> bool
-    ensures { IsTrue result → IsKeyed call }
-{
-    match call {
-        Call::Get { .. }
-        | Call::Put { .. }
-        | Call::PutIfAbsent { .. }
-        | Call::Replace { .. }
-        | Call::ReplaceIf { .. }
-        | Call::Remove { .. }
-        | Call::RemoveIf { .. } => true,
-        Call::Clear { .. }
-        | Call::Snapshot { .. }
-        | Call::Freeze { .. }
-        | Call::Close { .. }
-        | Call::Entries { .. }
-        | Call::Count { .. } => false,
-    }
-}
-
-/// Whether the call gives an absent key a value.
-pub fn inserts(call: Call) -> bool
-    ensures { result ≡ inserts call }
-{
-    matches!(call, Call::Put { .. } | Call::PutIfAbsent { .. })
-}
-
-/// The reply where the key is absent and stays so.
-pub fn absent_reply(call: Call) -> Reply
-    ensures { result ≡ absent_reply call }
-{
-    match call {
-        Call::ReplaceIf { .. } | Call::RemoveIf { .. } => Reply::Truth(false),
-        _ => Reply::Found(None),
-    }
-}
-
-/// The reply once the call has changed the map, whose value of the key was this before.
-pub fn changed_reply(call: Call, before: Option<u64>) -> Reply
-    ensures { result ≡ changed_reply call before }
-{
-    match call {
-        Call::ReplaceIf { .. } | Call::RemoveIf { .. } => Reply::Truth(true),
-        _ => Reply::Found(before),
-    }
-}
-
-/// What the call does where its key has this value.
-pub fn when_found(call: Call, value: u64) -> WhenFound
-    ensures { result ≡ when_found call value }
-{
-    match call {
-        Call::Put { .. } | Call::Replace { .. } => WhenFound::Sets,
-        Call::ReplaceIf { old, .. } => unless(value == old, WhenFound::Sets),
-        Call::Remove { .. } => WhenFound::Removes,
-        Call::RemoveIf { value: old, .. } => unless(value == old, WhenFound::Removes),
-        _ => WhenFound::Answers(Reply::Found(Some(value))),
-    }
-}
-
-/// That, or where it isn't so, that nothing is changed.
-fn unless(is: bool, todo: WhenFound) -> WhenFound
-    ensures { result ≡ answers_unless is todo }
-{
-    if is {
-        todo
-    } else {
-        WhenFound::Answers(Reply::Truth(false))
-    }
 }

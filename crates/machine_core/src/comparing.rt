@@ -8,10 +8,10 @@ ghost use Rattle.machine_core.specs.Seen.{seen};
 
 use crate::contents::MOST_LEVELS;
 use crate::entries::Left;
-use crate::mains::{logical_main, root_of};
+use crate::mains::logical_main;
 use crate::parts::Parts;
 use epochs::Heap;
-use running::node_at;
+use running::{node_at, root_of};
 use slot_arena::{NodeRef, Ref};
 use std::alloc::AllocError;
 

@@ -7,11 +7,11 @@ ghost use Rattle.machine_model.specs.Contents.{pairs_below, content_at};
 ghost use Rattle.machine_model.specs.Pairs.{by_key};
 ghost use Rattle.machine_core.specs.Seen.{seen};
 
-use crate::mains::{logical_main, root_of};
+use crate::mains::logical_main;
 use crate::parts::Parts;
 use epochs::Heap;
 use history::Pairs;
-use running::{entries_at, node_at};
+use running::{entries_at, node_at, root_of};
 use slot_arena::{NodeRef, Ref};
 use std::alloc::{AllocError, Global};
 

@@ -1,11 +1,11 @@
 //! Calls that copy a map, empty it or take its handle away, carried out at once.
 
-ghost use Rattle.std.specs.Prelude.{◌≡◌, ◌+◌, ◌≤◌, false, None, IfSome};
-ghost use Rattle.machine_model.specs.Machine.{begin_denial, is_busy};
+ghost use Rattle.std.specs.Prelude.{◌≡◌, ◌+◌, ◌≤◌, false, IfSome};
+ghost use Rattle.machine_model.specs.Machine.{is_busy};
 ghost use Rattle.machine_core.specs.Keeping.{IsCore};
 ghost use Rattle.machine_core.specs.Rooting.{IsOverDecided};
 ghost use Rattle.machine_core.specs.Seen.{seen};
-ghost use Rattle.machine_core.specs.Straight.{CarriesBy, IsClear};
+ghost use Rattle.machine_core.specs.Straight.{CarriesForAny, IsClear, MayBegin};
 
 use crate::descending::is_decided;
 use crate::drafting::make;
@@ -36,13 +36,13 @@ pub fn decided_main(heap: &Heap, root: Ref) -> Option<Ref>
 }
 
 /// Freezes the map of a handle over this root and its main node.
-pub fn freeze(parts: &mut Parts, _actor: u8, handle: u16, root: Ref, main: Ref) -> Reply
+pub fn freeze(parts: &mut Parts, handle: u16, root: Ref, main: Ref) -> Reply
     requires core { IsCore parts.old }
     requires rest { is_busy (seen parts.old) ≡ false }
-    requires allowed { begin_denial (seen parts.old) _actor (Call.Freeze handle) None ≡ None }
-    requires clear { IsClear (seen parts.old) (Call.Freeze handle) root }
+    requires allowed { MayBegin (seen parts.old) (Call.Freeze handle) }
+    requires clear { IsClear (seen parts.old) handle root }
     requires over { IsOverDecided parts.old.heap.heap root main }
-    ensures { CarriesBy parts.old _actor (Call.Freeze handle) result parts.new }
+    ensures { CarriesForAny parts.old (Call.Freeze handle) result parts.new }
 {
     let opened = parts.handles.least_free();
     let successor = make_root(parts, main);
@@ -61,13 +61,13 @@ pub fn freeze(parts: &mut Parts, _actor: u8, handle: u16, root: Ref, main: Ref) 
 }
 
 /// Opens a writable copy of the map of a handle over this root and its main node.
-pub fn snapshot(parts: &mut Parts, _actor: u8, handle: u16, root: Ref, main: Ref) -> Reply
+pub fn snapshot(parts: &mut Parts, handle: u16, root: Ref, main: Ref) -> Reply
     requires core { IsCore parts.old }
     requires rest { is_busy (seen parts.old) ≡ false }
-    requires allowed { begin_denial (seen parts.old) _actor (Call.Snapshot handle) None ≡ None }
-    requires clear { IsClear (seen parts.old) (Call.Snapshot handle) root }
+    requires allowed { MayBegin (seen parts.old) (Call.Snapshot handle) }
+    requires clear { IsClear (seen parts.old) handle root }
     requires over { IsOverDecided parts.old.heap.heap root main }
-    ensures { CarriesBy parts.old _actor (Call.Snapshot handle) result parts.new }
+    ensures { CarriesForAny parts.old (Call.Snapshot handle) result parts.new }
 {
     let opened = parts.handles.least_free();
     let successor = make_root(parts, main);
@@ -87,13 +87,13 @@ pub fn snapshot(parts: &mut Parts, _actor: u8, handle: u16, root: Ref, main: Ref
 }
 
 /// Empties the map of a handle over this root and its main node.
-pub fn clear(parts: &mut Parts, _actor: u8, handle: u16, root: Ref, main: Ref) -> Reply
+pub fn clear(parts: &mut Parts, handle: u16, root: Ref, main: Ref) -> Reply
     requires core { IsCore parts.old }
     requires rest { is_busy (seen parts.old) ≡ false }
-    requires allowed { begin_denial (seen parts.old) _actor (Call.Clear handle) None ≡ None }
-    requires clear { IsClear (seen parts.old) (Call.Clear handle) root }
+    requires allowed { MayBegin (seen parts.old) (Call.Clear handle) }
+    requires clear { IsClear (seen parts.old) handle root }
     requires over { IsOverDecided parts.old.heap.heap root main }
-    ensures { CarriesBy parts.old _actor (Call.Clear handle) result parts.new }
+    ensures { CarriesForAny parts.old (Call.Clear handle) result parts.new }
 {
     let branch = make(
         &mut parts.heap,
@@ -118,12 +118,12 @@ pub fn clear(parts: &mut Parts, _actor: u8, handle: u16, root: Ref, main: Ref) -
 }
 
 /// Closes a handle.
-pub fn close(parts: &mut Parts, _actor: u8, handle: u16) -> Reply
+pub fn close(parts: &mut Parts, handle: u16) -> Reply
     requires core { IsCore parts.old }
     requires rest { is_busy (seen parts.old) ≡ false }
-    requires allowed { begin_denial (seen parts.old) _actor (Call.Close handle) None ≡ None }
+    requires allowed { MayBegin (seen parts.old) (Call.Close handle) }
     requires left { parts.old.steps + 2 ≤ parts.old.limits.steps }
-    ensures { CarriesBy parts.old _actor (Call.Close handle) result parts.new }
+    ensures { CarriesForAny parts.old (Call.Close handle) result parts.new }
 {
     take_away(&mut parts.heap, &mut parts.table, handle);
     parts.handles.give_back(handle);

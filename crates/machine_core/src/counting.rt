@@ -9,10 +9,10 @@ ghost use Rattle.machine_core.specs.Keeping.{IsCore};
 ghost use Rattle.machine_core.specs.Seen.{seen};
 
 use crate::contents::MOST_LEVELS;
-use crate::mains::{logical_main, root_of};
+use crate::mains::logical_main;
 use crate::parts::Parts;
 use epochs::Heap;
-use running::{entries_at, node_at};
+use running::{entries_at, node_at, root_of};
 use slot_arena::{NodeRef, Ref};
 
 /// How many pairs the map of an open handle has.

@@ -13,8 +13,8 @@ ghost use Rattle.machine_core.specs.Seen.{seen};
 
 use crate::comparing::keys_apart;
 use crate::finding::value_along;
-use crate::mains::root_of;
 use crate::parts::Parts;
+use running::root_of;
 use std::alloc::AllocError;
 
 /// A key of which two maps have different values.

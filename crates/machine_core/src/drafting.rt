@@ -49,7 +49,7 @@ pub fn swap_in(heap: &mut Heap, indirection: Ref, main: Ref, node: Node, made: &
     ensures records { KeepsRecords heap.old heap.new }
 {
     let fresh = make(heap, node);
-    publish(heap, indirection, main, fresh, made);
+    publish_made(heap, indirection, main, fresh, made);
     commit(heap, main, fresh);
 }
 
@@ -95,13 +95,13 @@ pub fn swap_changed(
     ensures records { KeepsRecords heap.old heap.new }
 {
     let fresh = make_changed(heap, main, flag, change);
-    publish(heap, indirection, main, fresh, made);
+    publish_made(heap, indirection, main, fresh, made);
     commit(heap, main, fresh);
 }
 
 /// Puts a node that was made in the place of an indirection's main node, pending over it, and gives up what was held.
 #[inline(always)]
-fn publish(heap: &mut Heap, indirection: Ref, main: Ref, fresh: Ref, made: &[Ref])
+fn publish_made(heap: &mut Heap, indirection: Ref, main: Ref, fresh: Ref, made: &[Ref])
     requires live { IsLive heap.old.heap indirection }
     requires kind { is_indirection (node_at heap.old.heap indirection) ≡ true }
     requires over { main_at heap.old.heap indirection ≡ main }

@@ -51,7 +51,7 @@ pub fn go_telling(parts: &mut Parts, actor: u8, published: Option<Publication>) 
     ensures kept { IsKept parts.new }
     ensures work { ActsLittle parts.old actor parts.new }
 {
-    let taken = go(parts, actor);
+    let taken = step_of(parts, actor);
     let kind = taken.kind();
     let carried = take_carried(parts, kind);
     Stepped {
@@ -79,14 +79,14 @@ pub fn published(parts: &Parts, actor: u8) -> Option<Publication>
 
 /// Lets the actor's programs take the step.
 #[inline(always)]
-fn go(parts: &mut Parts, actor: u8) -> Taken
+fn step_of(parts: &mut Parts, actor: u8) -> Taken
     requires core { IsCore parts.old }
     requires allowed { go_denial (seen parts.old) actor ≡ None }
     requires room { (found : AnActor) → slice_get parts.old.actors.items (actor - 1) ≡ Some found → HasRoomToStep found }
     ensures { (u : AnUnderWay) → under_way_of parts.old actor ≡ Some u → Steps parts.old actor u result parts.new }
 {
     let index = actor as usize - 1;
-    parts.actors[index].go(&mut parts.table, &mut parts.generations, &mut parts.heap)
+    parts.actors[index].step_programs(&mut parts.table, &mut parts.generations, &mut parts.heap)
 }
 
 /// What is told of the offer that a step of this kind carried out, if it did. Nothing is kept of it.
@@ -145,7 +145,7 @@ impl Actor {
 
     /// Lets its programs take the step.
     #[inline(always)]
-    fn go(&mut self, table: &mut Roots, generations: &mut u64, heap: &mut Heap) -> Taken
+    fn step_programs(&mut self, table: &mut Roots, generations: &mut u64, heap: &mut Heap) -> Taken
         requires { CanGo (scene heap.old table.old generations.old self.old.programs) self.old }
         ensures { (u : AnUnderWay) → self.old.under_way ≡ Some u → StepsTo u heap.old table.old generations.old result heap.new table.new generations.new self.old self.new }
     {

@@ -9,12 +9,12 @@ ghost use Rattle.machine_core.specs.Seen.{seen};
 ghost use Rattle.machine_core.specs.Selecting.{Takes};
 
 use crate::contents::MOST_LEVELS;
-use crate::mains::{logical_main, root_of};
+use crate::mains::logical_main;
 use crate::parts::Parts;
 use crate::selection::Selection;
 use epochs::Heap;
 use history::Pairs;
-use running::{entries_at, node_at};
+use running::{entries_at, node_at, root_of};
 use slot_arena::{NodeRef, Ref};
 use std::alloc::AllocError;
 

@@ -26,7 +26,6 @@ use crate::denials::{begin_denial, denial_of, go_denial, is_access, spent_denial
 use crate::finding::value_along;
 use crate::going::{goes_on, published};
 use crate::handles::runs_on;
-use crate::mains::root_of;
 use crate::parts::Parts;
 use crate::starting::{are_bounds, first_parts};
 use crate::stepping::{take_begin, take_end, take_go};
@@ -36,6 +35,7 @@ use crate::telling::{Begun, Ended, Stepped};
 use ctrie_base::{Kind, Refusal, Ticks};
 use history::{Access, Call, Pairs, Reply};
 use machine_model::{Bounds, Outcome, Publication};
+use running::root_of;
 use std::alloc::Global;
 use std::marker::Model;
 
@@ -163,13 +163,13 @@ impl Core {
 
     /// Carries a call out at once that its actor would carry out alone, from its begin to its end; or gives none, and nothing
     /// has changed. Which of the two no clause says.
-    pub fn at_once(&mut self, actor: u8, call: Call) -> Option<Reply>
+    pub fn at_once(&mut self, _actor: u8, call: Call) -> Option<Reply>
         requires rest { is_busy self.old.state ≡ false }
-        requires allowed { begin_denial self.old.state actor call None ≡ None }
-        ensures done { IfSome result (λ reply. CarriesOut self.old.state actor call reply self.new.state) }
+        requires allowed { begin_denial self.old.state _actor call None ≡ None }
+        ensures done { IfSome result (λ reply. CarriesOut self.old.state _actor call reply self.new.state) }
         ensures none { IfNone result (self.new ≡ self.old) }
     {
-        at_once(&mut self.parts, actor, call)
+        at_once(&mut self.parts, call)
     }
 
     /// Takes a step of the sweep, or refuses it; the refusal is the definition's, and nothing has changed then.

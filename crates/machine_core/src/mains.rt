@@ -1,24 +1,12 @@
-//! Roots and logical main nodes, looked up without a condition.
+//! Logical main nodes and positions, looked up without a condition.
 
 ghost use Rattle.std.specs.Prelude.{◌≡◌};
 ghost use Rattle.slot_arena.specs.Heaps.{logical_main};
 ghost use Rattle.ctrie_base.specs.Paths.{position_of};
-ghost use Rattle.machine_model.specs.States.{root_of};
 
 use epochs::Heap;
-use machine_model::RootWord;
 use running::main_at;
 use slot_arena::{Prev, Ref};
-
-/// The root that stands while an offer does.
-pub fn root_of(word: RootWord) -> Ref
-    ensures { result ≡ root_of word }
-{
-    match word {
-        RootWord::Plain(root) => root,
-        RootWord::Offer(offer) => offer.root,
-    }
-}
 
 /// The logical main node of an indirection: the one before the main node while that is pending or failed.
 pub fn logical_main(heap: &Heap, indirection: Ref) -> Ref

@@ -8,10 +8,10 @@ ghost use Rattle.proof_core.specs.Reading.{IsOneOf, first_of};
 ghost use Rattle.machine_core.specs.Seen.{seen};
 
 use crate::contents::MOST_LEVELS;
-use crate::mains::{logical_main, root_of};
+use crate::mains::logical_main;
 use crate::parts::Parts;
 use epochs::Heap;
-use running::{entries_at, node_at};
+use running::{entries_at, node_at, root_of};
 use slot_arena::{NodeRef, Ref};
 
 /// A pair of the handle's map, whichever is reached first.

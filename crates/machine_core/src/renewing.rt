@@ -3,7 +3,10 @@
 
 ghost use Rattle.std.specs.Prelude.{◌≡◌, ◌+◌, ◌<◌, ◌≤◌, ◌++◌, ◌∷◌, [], ℕ, true, List, IfSome, IsTrue, length};
 ghost use Rattle.arrayvec.specs.ArrayVec.{ArrayVec as AnArrayVec};
+ghost use Rattle.history.specs.declared.calls.Call.{Call as ACall};
+ghost use Rattle.machine_model.specs.Calls.{key_of};
 ghost use Rattle.machine_model.specs.States.{State};
+ghost use Rattle.machine_core.specs.declared.descending.Place.{Place as APlace};
 ghost use Rattle.machine_core.specs.Beneath.proof_straight.specs.Drafts.{first_draft};
 ghost use Rattle.machine_core.specs.Beneath.proof_straight.specs.Renewals.{Renewal, is_of_other, is_old, renewed_entry};
 ghost use Rattle.slot_arena.specs.Arenas.{IsLive};
@@ -13,9 +16,8 @@ ghost use Rattle.slot_arena.specs.declared.nodes.Node.TheVariants.{Branch};
 ghost use Rattle.slot_arena.specs.declared.refs.Ref.{Ref as ARef};
 ghost use Rattle.proof_core.specs.Drafting.{CanSwap, IsDraft, KeepsRecords};
 ghost use Rattle.machine_core.specs.Pairing.{CanMake, Makes};
-ghost use Rattle.machine_core.specs.Renewing.{AreDecided, AreOverLive, EndsPast, FindsPast, IsBranch, IsDecided, IsOn, IsSoFar, Renews};
+ghost use Rattle.machine_core.specs.Renewing.{AreDecided, AreOverLive, EndsPast, FindsPast, IsBranch, IsDecided, IsOn, IsOnTheWay, IsSoFar, Renews};
 
-use crate::calls::{key_fits, key_of};
 use crate::contents::MOST_LEVELS;
 use crate::descending::{Onward, Place, is_decided, look_in};
 use crate::drafting::swap_in;
@@ -24,7 +26,6 @@ use crate::pairing::{Made, make_more};
 use crate::parts::Parts;
 use arrayvec::ArrayVec;
 use epochs::Heap;
-use history::Call;
 use running::{bitmap_at, entries_at, entry_at, flag_of, generation_at, main_at, node_at};
 use slot_arena::{Node, NodeRef, Ref};
 
@@ -153,26 +154,16 @@ fn renew(heap: &mut Heap, generation: u64, indirection: Ref, main: Ref) -> u64
     steps
 }
 
-/// Goes one level further down, and renews the branch before that where its entry there is of another generation. It gives the
-/// entry that stands there then.
-fn go_below(
-    parts: &mut Parts,
-    _actor: u8,
-    call: Call,
-    root: Ref,
-    _place: &Place,
-    depth: usize,
-    indirection: Ref,
-) -> Ref
-    requires on { (start : State) × (node : ANode) × IsOn start parts.old _actor call root _place.now node depth indirection }
-    requires further { depth < _place.now.depth }
-    ensures { (start : State) (node : ANode) → IsOn start parts.old _actor call root _place.now node depth indirection →
-        IsOn start parts.new _actor call root _place.now node (depth + 1) result }
+/// Goes one level further down on the way to the key, and renews the branch before that where its entry there is of another
+/// generation. It gives the entry that stands there then.
+fn go_below(parts: &mut Parts, root: Ref, key: u64, depth: usize, indirection: Ref) -> Ref
+    requires on { IsOnTheWay parts.old root key depth indirection }
+    ensures { (start : State) (actor : ℕ) (call : ACall) (place : APlace) (node : ANode) → key ≡ key_of call → depth < place.depth →
+        IsOn start parts.old actor call root place node depth indirection → IsOn start parts.new actor call root place node (depth + 1) result }
 {
-    key_fits(call);
     let generation = generation_at(&parts.heap, root);
     let main = main_at(&parts.heap, indirection);
-    let flag = flag_of(parts.key_hash(key_of(call)), depth);
+    let flag = flag_of(parts.key_hash(key), depth);
     let position = position_of(flag, bitmap_at(&parts.heap, main));
     let entry = entry_at(&parts.heap, main, position);
     if !is_old(&parts.heap, entry, generation) {
@@ -184,17 +175,17 @@ fn go_below(
     entry_at(&parts.heap, fresh, position)
 }
 
-/// Goes down to the place, and renews each branch whose entry on the way is of another generation. It gives the place below the
-/// indirection that stands there then.
-pub fn renew_down(parts: &mut Parts, actor: u8, call: Call, root: Ref, place: Place) -> Place
-    requires on { (start : State) × IsOn start parts.old actor call root place (node_at parts.old.heap.heap place.main) 0 root }
+/// Goes down to the key's place, and renews each branch whose entry on the way is of another generation. It gives the place
+/// below the indirection that stands there then.
+pub fn renew_down(parts: &mut Parts, root: Ref, key: u64, place: Place) -> Place
+    requires on { (start : State) × (actor : ℕ) × (call : ACall) × (key ≡ key_of call) × IsOn start parts.old actor call root place (node_at parts.old.heap.heap place.main) 0 root }
     ensures same { result ≡ record place { indirection = result.indirection } }
-    ensures on { (start : State) → IsOn start parts.old actor call root place (node_at parts.old.heap.heap place.main) 0 root →
+    ensures on { (start : State) (actor : ℕ) (call : ACall) → key ≡ key_of call → IsOn start parts.old actor call root place (node_at parts.old.heap.heap place.main) 0 root →
         IsOn start parts.new actor call root place (node_at parts.old.heap.heap place.main) place.depth result.indirection }
 {
     let mut indirection = root;
     for depth in 0..place.depth {
-        indirection = go_below(parts, actor, call, root, &place, depth, indirection);
+        indirection = go_below(parts, root, key, depth, indirection);
     }
     Place {
         indirection,

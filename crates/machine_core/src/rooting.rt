@@ -96,7 +96,7 @@ fn open_handle(heap: &mut Heap, table: &mut Roots, offer: &Descriptor)
 }
 
 /// Carries an offer out: its successor comes to stand, and the handle that it opens is open.
-fn carry_out(heap: &mut Heap, table: &mut Roots, handle: u16, offer: &Descriptor)
+fn carry_out_offer(heap: &mut Heap, table: &mut Roots, handle: u16, offer: &Descriptor)
     requires live { AreLive heap.old.heap (refs_of_word (RootWord.Offer offer.now)) }
     requires holds { HoldsBeside heap.old table.old.roots [] 8 }
     ensures drafts { (base : State) (draft : Draft) → IsDraft base draft heap.old → base.roots ≡ table.old.roots → draft.private ≡ [] →
@@ -122,7 +122,7 @@ pub fn swap_root(parts: &mut Parts, handle: u16, offer: &Descriptor, made: &[Ref
     ensures same { parts.new ≡ record parts.old { heap = parts.new.heap; table = parts.new.table; handles = reserved parts.old.handles offer.now.opens } }
 {
     put_offer(&mut parts.heap, &mut parts.table, handle, offer, made);
-    carry_out(&mut parts.heap, &mut parts.table, handle, offer);
+    carry_out_offer(&mut parts.heap, &mut parts.table, handle, offer);
     reserve(&mut parts.handles, offer.opens);
 }
 

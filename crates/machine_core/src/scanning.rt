@@ -16,14 +16,14 @@ ghost use Rattle.proof_core.specs.Scanning.{is_behind, scanned, walked, walked_i
 
 use crate::contents::MOST_LEVELS;
 use crate::listing::select_each;
-use crate::mains::{logical_main, position_of, root_of};
+use crate::mains::{logical_main, position_of};
 use crate::parts::Parts;
 use crate::selection::Selection;
 use ctrie_base::HashKind;
 use epochs::Heap;
 use history::Pairs;
 use nodes::{has_flag, index_in, list_depth, parting};
-use running::{bitmap_at, entries_at, entry_at, flag_of, node_at};
+use running::{bitmap_at, entries_at, entry_at, flag_of, node_at, root_of};
 use slot_arena::{NodeRef, Ref};
 use std::alloc::AllocError;
 

@@ -21,6 +21,6 @@ pub use contract::{
     Heap, KeyCall, Publication, Ref, bitmap_at, entries_at, entry_at, flag_of, generation_at,
     key_at, main_at, make_changed, node_at, release_all,
 };
-pub use key_finding::KeyReply;
+pub use key_finding::{KeyReply, Todo, absent_reply, changed_reply, inserts, when_found};
 pub use key_op::{BelowAt, KeyAt, KeyOp};
 pub use laws::{acts_of_key, tells_key};

@@ -19,9 +19,10 @@ mod walking;
 
 pub use job::{Job, Program};
 pub use operate::{
-    KeyCall, bitmap_at, entries_at, entry_at, flag_of, generation_at, key_at, main_at,
-    make_changed, node_at, release_all,
+    KeyCall, KeyReply, Todo, absent_reply, bitmap_at, changed_reply, entries_at, entry_at, flag_of,
+    generation_at, inserts, key_at, main_at, make_changed, node_at, release_all, when_found,
 };
 pub use programs::{ProgramAt, Programs};
-pub use snapshot::{CopyCall, Roots, WalkCall, opened_root};
+pub use snapshot::{CopyCall, Roots, WalkCall, opened_root, root_of};
 pub use taken::Taken;
+pub use telling::key_reply;

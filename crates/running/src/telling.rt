@@ -203,7 +203,7 @@ impl Programs {
 }
 
 /// The reply to a call on one key.
-fn key_reply(reply: KeyReply) -> Reply
+pub fn key_reply(reply: KeyReply) -> Reply
     ensures { result ≡ key_reply reply }
 {
     match reply {

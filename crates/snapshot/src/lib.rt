@@ -31,4 +31,4 @@ pub use history::{Access, Reply};
 pub use laws::{draws_generations, tells_copy, tells_walk};
 pub use root_asking::{Asking, Next, ReadAt, Roots, opened_root};
 pub use tasks::{CopyCall, CopyReply, CopyTask, WalkCall};
-pub use walk::{Walk, WalkAt, Walked};
+pub use walk::{Walk, WalkAt, Walked, root_of};

@@ -241,8 +241,8 @@ impl Walk {
     }
 }
 
-/// The root that stands in a root word.
-fn root_of(word: RootWord) -> Ref
+/// The root that stands in a root word, also while an offer stands over it.
+pub fn root_of(word: RootWord) -> Ref
     ensures { result ≡ root_of word }
 {
     match word {

@@ -11,11 +11,11 @@ returns-then-place-eq0 c =
     elim c.then-place-eq0.branch [
       | then-place-eq0-via-then-place-eq0 w ↦ (
         omega arith,
-        leaves_at_root heap place.main place.indirection place.flag c.args._key place.position place.depth place.entry c.requires.main c.requires.here (omega (arith, w.if-place-eq0.true)),
+        leaves_at_root heap place.main place.indirection place.flag c.requires.here.0 place.position place.depth place.entry c.requires.main c.requires.here.1 (omega (arith, w.if-place-eq0.true)),
       )
       | then-place-eq0-via-else-place-eq0+then-entries_at-ne2 w ↦ (
         omega arith,
-        leaves_others heap place.main place.indirection place.flag c.args._key place.position place.depth place.entry c.requires.main c.requires.here w.entries_at.result.now
+        leaves_others heap place.main place.indirection place.flag c.requires.here.0 place.position place.depth place.entry c.requires.main c.requires.here.1 w.entries_at.result.now
             w.entries_at.ensures.entries (λ two. omega (arith, two, w.if-entries_at-ne2.true)),
       )
     ]
@@ -25,7 +25,7 @@ returns-in-Some-Indirection c =
     let heap = c.args.heap.now.heap in
     let place = c.args.place.now in (
       omega arith,
-      leaves_indirection heap place.main place.indirection place.flag c.args._key place.position place.depth place.entry c.requires.main c.requires.here c.entries_at.result.now
+      leaves_indirection heap place.main place.indirection place.flag c.requires.here.0 place.position place.depth place.entry c.requires.main c.requires.here.1 c.entries_at.result.now
           c.entry_at-other.result c.saturating_sub.result c.entries_at.ensures.entries (omega (arith, c.if-place-eq0.false)) (omega (arith, c.if-entries_at-ne2.false)) c.entry_at-other.ensures
           (omega (arith, c.saturating_sub.ensures)) (c.in-Some-Indirection.ensures ∙ ap viewed c.in-Some-Indirection.field-0-is),
     )

@@ -42,7 +42,7 @@ make_root-successor-requires-clause-live c =
 pub swap_root-requires-clause-live : goal.swap_root-requires-clause-live
 swap_root-requires-clause-live c =
     let lives =
-    over_lives c.args.parts.now c.args._actor (call.Clear c.args.handle) c.args.root c.args.main c.requires.core c.requires.allowed c.requires.clear.word c.requires.over in
+    over_lives c.args.parts.now c.requires.allowed.0 (call.Clear c.args.handle) c.args.root c.args.main c.requires.core c.requires.allowed.1 c.requires.clear.word c.requires.over in
     let first = c.make-branch.ensures in
     let second = c.make_root-successor.ensures in
     offer_lives c.make_root-successor.new.parts.heap.heap c.args.root c.args.main c.make_root-successor.result
@@ -79,9 +79,9 @@ count_call-requires-clause-begun c =
     )
 
 pub returns : goal.returns
-returns c =
+returns c actor allowed =
     let lives =
-    over_lives c.args.parts.now c.args._actor (call.Clear c.args.handle) c.args.root c.args.main c.requires.core c.requires.allowed c.requires.clear.word c.requires.over in
+    over_lives c.args.parts.now actor (call.Clear c.args.handle) c.args.root c.args.main c.requires.core allowed c.requires.clear.word c.requires.over in
     let before = c.args.parts.now in
     let state = seen before in
     let root = c.args.root in
@@ -108,17 +108,17 @@ returns c =
       second = None;
       opens = None;
     } in
-    let found = root_found state c.args._actor (call.Clear handle) root c.requires.allowed refl c.requires.clear.word in
+    let found = root_found state actor (call.Clear handle) root allowed refl c.requires.clear.word in
     let newest : c.make_root-successor.result ≡ next_made emptied.draft.heap = second.made ∙ ap next_made half.draft.heap in
     let is : IsCourse (with_offer course handle offer) c.swap_root.new.parts =
     c.swap_root.ensures.courses course (Plain root) (second.courses emptied half)
     (ap (λ r. r ∷ next_made emptied.draft.heap ∷ []) (sym first.made) ∙ ap (λ r. branch ∷ r ∷ []) (sym newest)) found in
     let theirs = with_new_root emptied (next_made state.heap) in
-    copy_after before c.make_root-successor.new.parts c.swap_root.new.parts c.count_call.new.parts c.args._actor (call.Clear handle) handle root offer
+    copy_after before c.make_root-successor.new.parts c.swap_root.new.parts c.count_call.new.parts actor (call.Clear handle) handle root offer
     (offer_of state root theirs.draft.newest None None) (state.generations + 1) theirs.draft 9 11 reply.Cleared c.requires.core c.requires.rest (omega arith) found
     (offer_same (ap (λ (p : Parts). p.begun) second.same) main_is newest refl refl)
     (subst (λ r. IsCourse (with_offer (with_new_root emptied r) handle offer) c.swap_root.new.parts) first.made is)
     (made_twice before middle c.make_root-successor.new.parts refl (made_so middle c.make_root-successor.new.parts (before.generations + 1) second.same))
     c.swap_root.ensures.same c.swap_root.ensures.table c.count_call.ensures (second.records.0 ∙ first.records.0, second.records.1 ∙ first.records.1) c.swap_root.ensures.records refl
-    (clear_comes state c.args._actor handle c.requires.core.run c.requires.rest root c.requires.allowed c.requires.clear
+    (clear_comes state actor handle c.requires.core.run c.requires.rest root allowed c.requires.clear
     (settled_root state before.heap.heap root c.args.main refl c.requires.over lives.1))

@@ -22,15 +22,15 @@ pub count_call-requires-clause-steps : goal.count_call-requires-clause-steps
 count_call-requires-clause-steps c = let bounds = bounded (seen c.args.parts.now) c.requires.core.run in omega (arith, bounds.steps)
 
 pub returns : goal.returns
-returns c =
+returns c actor allowed =
     let before = c.args.parts.now in
     let state = seen before in
     let handle = c.args.handle in
     let taken = c.take_away.ensures in
     let middle : Parts = record before { heap = c.take_away.new.heap; table = c.take_away.new.table; handles = c.give_back.new.self } in
     let table : c.count_call.new.parts.table ≡ with_root_in before.table handle None = ap (λ (p : Parts). p.table) c.count_call.ensures ∙ taken.table in
-    close_done before c.count_call.new.parts c.args._actor (call.Close handle) handle (closed state handle).draft reply.Closed c.requires.core c.requires.rest (omega arith)
-    (handle_small state c.args._actor (call.Close handle) c.requires.core.run c.requires.allowed)
+    close_done before c.count_call.new.parts actor (call.Close handle) handle (closed state handle).draft reply.Closed c.requires.core c.requires.rest (omega arith)
+    (handle_small state actor (call.Close handle) c.requires.core.run allowed)
     (course_counted (record { base = with_root state handle None; draft = (closed state handle).draft }) middle c.count_call.new.parts (before.begun + 1) (before.steps + 2) c.count_call.ensures
     (record {
       draft = taken.drafts state (first_draft state) (first_drafted before c.requires.core) refl refl;
@@ -45,4 +45,4 @@ returns c =
       begun = ap (λ (p : Parts). p.begun) c.count_call.ensures;
       steps = ap (λ (p : Parts). p.steps) c.count_call.ensures;
     }) (ap (λ (p : Parts). p.heap.cursor) c.count_call.ensures ∙ taken.records.0, ap (λ (p : Parts). p.heap.pins) c.count_call.ensures ∙ taken.records.1)
-    (close_comes state c.args._actor handle c.requires.core.run c.requires.rest c.requires.allowed c.requires.left)
+    (close_comes state actor handle c.requires.core.run c.requires.rest allowed c.requires.left)

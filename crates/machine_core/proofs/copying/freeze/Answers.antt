@@ -23,13 +23,13 @@ make_root-successor-requires-clause-generations c = let bounds = bounded (seen c
 pub make_root-successor-requires-clause-live : goal.make_root-successor-requires-clause-live
 make_root-successor-requires-clause-live c =
     let lives =
-    over_lives c.args.parts.now c.args._actor (call.Freeze c.args.handle) c.args.root c.args.main c.requires.core c.requires.allowed c.requires.clear.word c.requires.over in
+    over_lives c.args.parts.now c.requires.allowed.0 (call.Freeze c.args.handle) c.args.root c.args.main c.requires.core c.requires.allowed.1 c.requires.clear.word c.requires.over in
     one_live c.args.parts.now.heap.heap c.args.main lives.1
 
 pub swap_root-requires-clause-live : goal.swap_root-requires-clause-live
 swap_root-requires-clause-live c =
     let lives =
-    over_lives c.args.parts.now c.args._actor (call.Freeze c.args.handle) c.args.root c.args.main c.requires.core c.requires.allowed c.requires.clear.word c.requires.over in
+    over_lives c.args.parts.now c.requires.allowed.0 (call.Freeze c.args.handle) c.args.root c.args.main c.requires.core c.requires.allowed.1 c.requires.clear.word c.requires.over in
     let made = c.make_root-successor.ensures in
     offer_lives c.make_root-successor.new.parts.heap.heap c.args.root c.args.main c.make_root-successor.result
     (made.stay c.args.root lives.0) (made.stay c.args.main lives.1) made.lives
@@ -54,9 +54,9 @@ count_call-requires-clause-begun c =
     )
 
 pub returns : goal.returns
-returns c =
+returns c actor allowed =
     let lives =
-    over_lives c.args.parts.now c.args._actor (call.Freeze c.args.handle) c.args.root c.args.main c.requires.core c.requires.allowed c.requires.clear.word c.requires.over in
+    over_lives c.args.parts.now actor (call.Freeze c.args.handle) c.args.root c.args.main c.requires.core allowed c.requires.clear.word c.requires.over in
     let before = c.args.parts.now in
     let state = seen before in
     let root = c.args.root in
@@ -73,17 +73,17 @@ returns c =
       second = None;
       opens = Some opened;
     } in
-    let found = root_found state c.args._actor (call.Freeze c.args.handle) root c.requires.allowed refl c.requires.clear.word in
+    let found = root_found state actor (call.Freeze c.args.handle) root allowed refl c.requires.clear.word in
     let is : IsCourse (with_offer (with_new_root (first_course state) c.args.main) c.args.handle offer) c.swap_root.new.parts =
     c.swap_root.ensures.courses (with_new_root (first_course state) c.args.main) (Plain root) (made.courses (first_course state) (first_coursed before c.requires.core))
     (ap (λ r. r ∷ []) (sym made.made)) found in
-    subst (λ n. CarriesBy before c.args._actor (call.Freeze c.args.handle) (reply.Opened n) c.count_call.new.parts) (sym free)
-    (copy_after before c.make_root-successor.new.parts c.swap_root.new.parts c.count_call.new.parts c.args._actor (call.Freeze c.args.handle) c.args.handle root offer
+    subst (λ n. CarriesBy before actor (call.Freeze c.args.handle) (reply.Opened n) c.count_call.new.parts) (sym free)
+    (copy_after before c.make_root-successor.new.parts c.swap_root.new.parts c.count_call.new.parts actor (call.Freeze c.args.handle) c.args.handle root offer
     (offer_of state root (next_made state.heap) None (Some (least_free state))) (state.generations + 1) (with_new_root (first_course state) (main_at state.heap root)).draft 8 10
     (reply.Opened (least_free state)) c.requires.core c.requires.rest (omega arith) found
     (offer_same (ap (λ (p : Parts). p.begun) made.same) main_is made.made refl (ap Some free))
     (subst (λ m. IsCourse (with_offer (with_new_root (first_course state) m) c.args.handle offer) c.swap_root.new.parts) main_is is)
     (made_so before c.make_root-successor.new.parts (before.generations + 1) made.same) c.swap_root.ensures.same c.swap_root.ensures.table c.count_call.ensures made.records
     c.swap_root.ensures.records refl
-    (freeze_comes state c.args._actor c.args.handle c.requires.core.run c.requires.rest root c.requires.allowed c.requires.clear
+    (freeze_comes state actor c.args.handle c.requires.core.run c.requires.rest root allowed c.requires.clear
     (settled_root state before.heap.heap root c.args.main refl c.requires.over lives.1)))

@@ -24,7 +24,7 @@ make_root-successor-requires-clause-generations c = let bounds = bounded (seen c
 pub make_root-successor-requires-clause-live : goal.make_root-successor-requires-clause-live
 make_root-successor-requires-clause-live c =
     let lives =
-    over_lives c.args.parts.now c.args._actor (call.Snapshot c.args.handle) c.args.root c.args.main c.requires.core c.requires.allowed c.requires.clear.word c.requires.over in
+    over_lives c.args.parts.now c.requires.allowed.0 (call.Snapshot c.args.handle) c.args.root c.args.main c.requires.core c.requires.allowed.1 c.requires.clear.word c.requires.over in
     one_live c.args.parts.now.heap.heap c.args.main lives.1
 
 pub make_root-second-requires-clause-free : goal.make_root-second-requires-clause-free
@@ -49,13 +49,13 @@ make_root-second-requires-clause-generations c =
 pub make_root-second-requires-clause-live : goal.make_root-second-requires-clause-live
 make_root-second-requires-clause-live c =
     let lives =
-    over_lives c.args.parts.now c.args._actor (call.Snapshot c.args.handle) c.args.root c.args.main c.requires.core c.requires.allowed c.requires.clear.word c.requires.over in
+    over_lives c.args.parts.now c.requires.allowed.0 (call.Snapshot c.args.handle) c.args.root c.args.main c.requires.core c.requires.allowed.1 c.requires.clear.word c.requires.over in
     one_live c.make_root-successor.new.parts.heap.heap c.args.main (c.make_root-successor.ensures.stay c.args.main lives.1)
 
 pub swap_root-requires-clause-live : goal.swap_root-requires-clause-live
 swap_root-requires-clause-live c =
     let lives =
-    over_lives c.args.parts.now c.args._actor (call.Snapshot c.args.handle) c.args.root c.args.main c.requires.core c.requires.allowed c.requires.clear.word c.requires.over in
+    over_lives c.args.parts.now c.requires.allowed.0 (call.Snapshot c.args.handle) c.args.root c.args.main c.requires.core c.requires.allowed.1 c.requires.clear.word c.requires.over in
     let first = c.make_root-successor.ensures in
     let second = c.make_root-second.ensures in
     offers_live c.make_root-second.new.parts.heap.heap c.args.root c.args.main c.make_root-successor.result c.make_root-second.result
@@ -96,9 +96,9 @@ count_call-requires-clause-begun c =
     )
 
 pub returns : goal.returns
-returns c =
+returns c actor allowed =
     let lives =
-    over_lives c.args.parts.now c.args._actor (call.Snapshot c.args.handle) c.args.root c.args.main c.requires.core c.requires.allowed c.requires.clear.word c.requires.over in
+    over_lives c.args.parts.now actor (call.Snapshot c.args.handle) c.args.root c.args.main c.requires.core allowed c.requires.clear.word c.requires.over in
     let before = c.args.parts.now in
     let state = seen before in
     let root = c.args.root in
@@ -118,15 +118,15 @@ returns c =
       second = Some c.make_root-second.result;
       opens = Some opened;
     } in
-    let found = root_found state c.args._actor (call.Snapshot c.args.handle) root c.requires.allowed refl c.requires.clear.word in
+    let found = root_found state actor (call.Snapshot c.args.handle) root allowed refl c.requires.clear.word in
     let half : IsCourse middle c.make_root-successor.new.parts = first.courses (first_course state) (first_coursed before c.requires.core) in
     let newest : c.make_root-second.result ≡ next_made middle.draft.heap = second.made ∙ ap next_made half.draft.heap in
     let is : IsCourse (with_offer course c.args.handle offer) c.swap_root.new.parts =
     c.swap_root.ensures.courses course (Plain root) (second.courses middle half)
     (ap (λ r. r ∷ next_made middle.draft.heap ∷ []) (sym first.made) ∙ ap (λ r. c.make_root-successor.result ∷ r ∷ []) (sym newest)) found in
     let theirs = with_new_root (with_new_root (first_course state) (main_at state.heap root)) (main_at state.heap root) in
-    subst (λ n. CarriesBy before c.args._actor (call.Snapshot c.args.handle) (reply.Opened n) c.count_call.new.parts) (sym free)
-    (copy_after before c.make_root-second.new.parts c.swap_root.new.parts c.count_call.new.parts c.args._actor (call.Snapshot c.args.handle) c.args.handle root offer
+    subst (λ n. CarriesBy before actor (call.Snapshot c.args.handle) (reply.Opened n) c.count_call.new.parts) (sym free)
+    (copy_after before c.make_root-second.new.parts c.swap_root.new.parts c.count_call.new.parts actor (call.Snapshot c.args.handle) c.args.handle root offer
     (offer_of state root (next_made state.heap) (Some theirs.draft.newest) (Some (least_free state))) (state.generations + 1 + 1) theirs.draft 9 11
     (reply.Opened (least_free state)) c.requires.core c.requires.rest (omega arith) found
     (offer_same (ap (λ (p : Parts). p.begun) c.make_root-second.ensures.same ∙ ap (λ (p : Parts). p.begun) c.make_root-successor.ensures.same) main_is first.made
@@ -135,5 +135,5 @@ returns c =
     (made_twice before c.make_root-successor.new.parts c.make_root-second.new.parts (made_so before c.make_root-successor.new.parts (before.generations + 1) first.same)
     (made_so c.make_root-successor.new.parts c.make_root-second.new.parts (c.make_root-successor.new.parts.generations + 1) second.same))
     c.swap_root.ensures.same c.swap_root.ensures.table c.count_call.ensures (second.records.0 ∙ first.records.0, second.records.1 ∙ first.records.1) c.swap_root.ensures.records refl
-    (snapshot_comes state c.args._actor c.args.handle c.requires.core.run c.requires.rest root c.requires.allowed c.requires.clear
+    (snapshot_comes state actor c.args.handle c.requires.core.run c.requires.rest root allowed c.requires.clear
     (settled_root state before.heap.heap root c.args.main refl c.requires.over lives.1)))

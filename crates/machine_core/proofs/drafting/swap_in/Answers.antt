@@ -4,22 +4,22 @@ use Rattle.machine_core.specs.Beneath.proof_straight.specs.Drafts.{with_made}
 use Rattle.proof_core.proofs.Drafts.{can_then, held_more, made_then}
 use Rattle.machine_core.proofs.drafting.swap_in.Goals as goal
 
-pub publish-requires-clause-kind : goal.publish-requires-clause-kind
-publish-requires-clause-kind c =
+pub publish_made-requires-clause-kind : goal.publish_made-requires-clause-kind
+publish_made-requires-clause-kind c =
     (can_then c.args.heap.now.heap c.make-fresh.new.heap.heap c.args.node c.args.indirection c.args.main 0 c.requires.can c.make-fresh.ensures.heap c.make-fresh.ensures.stay).kind
 
-pub publish-requires-clause-over : goal.publish-requires-clause-over
-publish-requires-clause-over c =
+pub publish_made-requires-clause-over : goal.publish_made-requires-clause-over
+publish_made-requires-clause-over c =
     (can_then c.args.heap.now.heap c.make-fresh.new.heap.heap c.args.node c.args.indirection c.args.main 0 c.requires.can c.make-fresh.ensures.heap c.make-fresh.ensures.stay).over
 
-pub publish-requires-clause-fresh_kind : goal.publish-requires-clause-fresh_kind
-publish-requires-clause-fresh_kind c =
+pub publish_made-requires-clause-fresh_kind : goal.publish_made-requires-clause-fresh_kind
+publish_made-requires-clause-fresh_kind c =
     ap is_main_node (made_then c.args.heap.now.heap c.make-fresh.new.heap.heap c.args.node c.args.indirection c.args.main 0 c.requires.can c.make-fresh.ensures.heap c.make-fresh.ensures.stay
     c.make-fresh.result c.make-fresh.ensures.made)
     ∙ c.requires.kind
 
-pub publish-requires-clause-held : goal.publish-requires-clause-held
-publish-requires-clause-held c r =
+pub publish_made-requires-clause-held : goal.publish_made-requires-clause-held
+publish_made-requires-clause-held c r =
     subst (λ (held : List Ref). times r (c.args.made.now ++ c.make-fresh.result ∷ []) ≤ times r held) (sym c.make-fresh.ensures.outside)
     (held_more c.args.made.now c.args.heap.now.outside c.make-fresh.result c.requires.held r)
 
@@ -27,6 +27,6 @@ pub returns-clause-drafts : goal.returns-clause-drafts
 returns-clause-drafts c state draft is private =
     let own : c.make-fresh.result ≡ next_made draft.heap = c.make-fresh.ensures.made ∙ ap next_made is.heap in
     c.commit.ensures.drafts state (with_published state (with_made state draft c.args.node) c.args.indirection c.args.main)
-    (c.publish.ensures.drafts state (with_made state draft c.args.node) (c.make-fresh.ensures.drafts state draft is)
+    (c.publish_made.ensures.drafts state (with_made state draft c.args.node) (c.make-fresh.ensures.drafts state draft is)
     (ap (λ (held : List Ref). held ++ next_made draft.heap ∷ []) private ∙ ap (λ (r : Ref). c.args.made.now ++ r ∷ []) (sym own)) (sym own))
     refl (sym own)

@@ -15,21 +15,21 @@ use Rattle.machine_core.proofs.going.go_telling.Goals as goal
 pub returns-clause-goes : goal.returns-clause-goes
 returns-clause-goes c = λ operation found.
     let parts = c.args.parts.now in
-    let now = c.go-taken.new.parts in
+    let now = c.step_of-taken.new.parts in
     let (u, runs) = at_work parts c.args.actor c.requires.allowed in
-    let t = took parts now c.args.actor u c.go-taken.result runs (c.go-taken.ensures u runs) in
+    let t = took parts now c.args.actor u c.step_of-taken.result runs (c.step_of-taken.ensures u runs) in
     let none = tells_none parts c.args.actor c.requires.goes_on u runs t.seat.found (actor_there parts c.args.actor u t.seat) in
-    goes parts c.args.actor u c.go-taken.result now t c.requires.core.run c.requires.core.kept c.requires.allowed none c.kind-kind.result c.kind-kind.ensures operation found
+    goes parts c.args.actor u c.step_of-taken.result now t c.requires.core.run c.requires.core.kept c.requires.allowed none c.kind-kind.result c.kind-kind.ensures operation found
     ∙ ap (λ (p : Parts). (outcome.Went c.kind-kind.result, seen p)) (sym c.take_carried-carried.ensures.rest)
 
 pub returns-clause-tells : goal.returns-clause-tells
 returns-clause-tells c =
     let parts = c.args.parts.now in
-    let now = c.go-taken.new.parts in
+    let now = c.step_of-taken.new.parts in
     let (u, runs) = at_work parts c.args.actor c.requires.allowed in
-    let t = took parts now c.args.actor u c.go-taken.result runs (c.go-taken.ensures u runs) in
+    let t = took parts now c.args.actor u c.step_of-taken.result runs (c.step_of-taken.ensures u runs) in
     let none = tells_none parts c.args.actor c.requires.goes_on u runs t.seat.found (actor_there parts c.args.actor u t.seat) in
-    tells parts c.args.actor u c.go-taken.result now t c.requires.core.run c.requires.core.kept c.requires.allowed none
+    tells parts c.args.actor u c.step_of-taken.result now t c.requires.core.run c.requires.core.kept c.requires.allowed none
     (record {
       kind = c.kind-kind.result;
       progress = record {
@@ -45,12 +45,12 @@ returns-clause-tells c =
 pub returns-clause-kept : goal.returns-clause-kept
 returns-clause-kept c =
     let parts = c.args.parts.now in
-    let now = c.go-taken.new.parts in
+    let now = c.step_of-taken.new.parts in
     let (u, runs) = at_work parts c.args.actor c.requires.allowed in
-    let t = took parts now c.args.actor u c.go-taken.result runs (c.go-taken.ensures u runs) in
+    let t = took parts now c.args.actor u c.step_of-taken.result runs (c.step_of-taken.ensures u runs) in
     let none = tells_none parts c.args.actor c.requires.goes_on u runs t.seat.found (actor_there parts c.args.actor u t.seat) in
     subst IsKept (sym c.take_carried-carried.ensures.rest)
-    (kept_gone parts c.args.actor u c.go-taken.result now t c.requires.core.run c.requires.core.kept c.requires.allowed none)
+    (kept_gone parts c.args.actor u c.step_of-taken.result now t c.requires.core.run c.requires.core.kept c.requires.allowed none)
 
 pub returns-clause-work : goal.returns-clause-work
 returns-clause-work c =
@@ -58,14 +58,14 @@ returns-clause-work c =
     let (u, runs) = at_work parts c.args.actor c.requires.allowed in
     let held = held_by (seen parts) c.args.actor in
     subst (λ (p : Parts). NotesUpTo (32 + held) (36 + held) parts.heap p.heap) (sym c.take_carried-carried.ensures.rest)
-    (steps_little parts c.go-taken.new.parts c.args.actor u c.go-taken.result runs (c.go-taken.ensures u runs))
+    (steps_little parts c.step_of-taken.new.parts c.args.actor u c.step_of-taken.result runs (c.step_of-taken.ensures u runs))
 
 pub take_carried-carried-requires : goal.take_carried-carried-requires
 take_carried-carried-requires c =
     let parts = c.args.parts.now in
-    let now = c.go-taken.new.parts in
+    let now = c.step_of-taken.new.parts in
     let (u, runs) = at_work parts c.args.actor c.requires.allowed in
-    let t = took parts now c.args.actor u c.go-taken.result runs (c.go-taken.ensures u runs) in
+    let t = took parts now c.args.actor u c.step_of-taken.result runs (c.step_of-taken.ensures u runs) in
     let none = tells_none parts c.args.actor c.requires.goes_on u runs t.seat.found (actor_there parts c.args.actor u t.seat) in
     subst (λ (k : Kind). CarriesUnless k now.table) (sym c.kind-kind.ensures)
-    (carries_nothing parts c.args.actor u c.go-taken.result now t c.requires.core.run c.requires.core.kept c.requires.allowed none)
+    (carries_nothing parts c.args.actor u c.step_of-taken.result now t c.requires.core.run c.requires.core.kept c.requires.allowed none)

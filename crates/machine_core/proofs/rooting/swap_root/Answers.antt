@@ -14,8 +14,8 @@ returns-clause-courses c course word is private found =
     let there : offered.roots ≡ c.put_offer.new.table.roots =
     ap (λ rs. set rs handle (writable (Offer offer))) is.roots ∙ ap (λ (t : Table). t.roots) (sym c.put_offer.ensures.table) in
     record {
-      draft = swapped_draft base draft handle word offer found c.carry_out.new.heap
-          (c.carry_out.ensures.drafts offered (redrafted offered draft draft.heap [] draft.newest) (c.put_offer.ensures.drafts base draft is.draft is.roots private) there refl);
-      roots = swapped_roots base draft handle word offer found c.put_offer.new.table c.carry_out.new.table there c.carry_out.ensures.table;
+      draft = swapped_draft base draft handle word offer found c.carry_out_offer.new.heap
+          (c.carry_out_offer.ensures.drafts offered (redrafted offered draft draft.heap [] draft.newest) (c.put_offer.ensures.drafts base draft is.draft is.roots private) there refl);
+      roots = swapped_roots base draft handle word offer found c.put_offer.new.table c.carry_out_offer.new.table there c.carry_out_offer.ensures.table;
       generations = swapped_generations base draft handle word offer found ∙ is.generations;
     }

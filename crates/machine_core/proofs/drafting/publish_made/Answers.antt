@@ -2,7 +2,7 @@ use Rattle.std.proofs.Common.{[], ap, ◌∙◌, ◌≡◌, ◌+◌, sym, List, 
 use Rattle.slot_arena.proofs.Times.{times_push}
 use Rattle.machine_core.specs.Vocabulary.{Ref, is_main_node, node_at, prev_at, times, published}
 use Rattle.proof_core.proofs.Drafts.{is_published, last_held, none_held, published_kind, published_pending, settled_draft}
-use Rattle.machine_core.proofs.drafting.publish.Goals as goal
+use Rattle.machine_core.proofs.drafting.publish_made.Goals as goal
 
 pub release_all-requires : goal.release_all-requires
 release_all-requires c = record {

@@ -3,7 +3,7 @@ use Rattle.machine_core.specs.Vocabulary.{AreLive, refs_of_option, times, refs_o
 use Rattle.machine_core.specs.Rooting.{writable}
 use Rattle.proof_core.proofs.Drafts.{settled_over}
 use Rattle.machine_core.proofs.Rooted.{held_moved, opened_is, opened_roots, successor_lives}
-use Rattle.machine_core.proofs.rooting.carry_out.Goals as goal
+use Rattle.machine_core.proofs.rooting.carry_out_offer.Goals as goal
 
 pub put-requires-clause-live : goal.put-requires-clause-live
 put-requires-clause-live c =
