@@ -2,7 +2,7 @@
 use Rattle.history.specs.declared.calls.Access.TheVariants.{Writable, ReadOnly}
 use Rattle.history.specs.declared.calls.Call.{Call}
 use Rattle.std.proofs.Common.{◌≡◌, ◌<◌, ◌≤◌, ◌^◌, ℕ, zero, suc, Bool, true, false, List, [], ◌∷◌, get_or, set, slice_index, is_some, not, Option, Some, None}
-use Rattle.std.proofs.Common.{Result, Ok, Err, refl, sym, ap, subst, ◌∙◌, arith, ne_eqb}
+use Rattle.std.proofs.Common.{Result, Ok, Err, refl, sym, ap, subst, ◌∙◌, arith, ne_eqb, inr}
 use Rattle.std.specs.Prelude.{◌&&◌, ◌||◌, ◌++◌, unwrap_or, if◌then◌else◌}
 use Rattle.std.specs.List.{list_any}
 use Rattle.std.proofs.lemmas.Bool.{lt-ltb}
@@ -22,6 +22,7 @@ use Rattle.machine_model.specs.declared.steps.Step.TheVariants as taken
 use Rattle.machine_model.specs.Calls.{handle_of, key_of, needs_read_only, needs_writable, opens_handle}
 use Rattle.machine_model.specs.Machine.{access_of, begin_denial, begun_operation, is_access, is_free, is_number, is_taken, lacks_number, reserved_by, runs_on}
 use Rattle.machine_model.specs.States.{State, operation_of, root_at, handle_limit}
+use Rattle.lock_free.proofs.EpochStays.{rest_of}
 use Rattle.lock_free.specs.declared.accounts.Account.{Account}
 use Rattle.lock_free.specs.declared.calling.Denial.{Denial}
 use Rattle.lock_free.specs.declared.calling.Denial.TheVariants as denial
@@ -122,7 +123,7 @@ module _ (v : View) (call : Call) (b : IsBeginner v call) (low : handle_of call 
   abbrev Starts : Result Started RootWord → Type 0
   Starts result =
       (x : View) × IsKept v.sizes (record { words = s.words; homes = s.homes; views = set s.views id x }) × HasTriedToStart v call result x × IsSound (words_of v.sizes) x
-      × (x.heard ≡ v.heard)
+      × (rest_of x ≡ rest_of v)
 
   abbrev saw : Saw v (seen_view v s kept id at)
   saw = record { account = there; waited = waited_so v s kept id at; after_is = refl }
@@ -206,7 +207,7 @@ pub begin_step_allowed : (sizes : Sizes) (size id : ℕ) (me : Me Call View) (so
     Allows (IsRuled sizes) size id me (root_word (handle_of call)) (λ n. n) (has_started (step size (root_word (handle_of call)) 0 0 none) me)
 begin_step_allowed sizes size id me some_seats call b low key =
     allowed sizes size id me (root_word (handle_of call)) (λ n. n) (has_started (step size (root_word (handle_of call)) 0 0 none) me)
-    some_seats
+    some_seats (λ s kept at. inr refl)
     (λ s kept at. (let x = starts me.0 call b low key s kept id at in (
       x.0,
       subst (λ ws. IsKept me.0.sizes (record { words = ws; homes = s.homes; views = set s.views id x.0 })) (sym (set-get_or s.words (root_word (handle_of call)) 0)) x.1,

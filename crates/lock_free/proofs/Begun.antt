@@ -9,13 +9,13 @@ use Rattle.std.proofs.lemmas.List.Elements.{All-cons, All-nil, All-append}
 use mathlib.Core.Option.{some}
 use lib.ListN.{get_elem?}
 use Rattle.atomic_table.specs.Table as Table
-use Rattle.trie_words.specs.declared.pins.Pin.{Pin}
 use Rattle.machine_model.specs.declared.operations.Operation.{Operation}
 use Rattle.machine_model.specs.declared.steps.Step.{Step}
 use Rattle.machine_model.specs.Calls.{handle_of}
 use Rattle.machine_model.specs.Keys.{FitsKey}
 use Rattle.machine_model.specs.States.{State, operation_of, handle_limit, root_at}
 use Rattle.lock_free.specs.declared.accounts.Account.{Account}
+use Rattle.lock_free.specs.declared.rules.Pinned.{Pinned}
 use Rattle.lock_free.specs.declared.rules.View.{View}
 use Rattle.lock_free.specs.declared.sizes.Sizes.{Sizes}
 use Rattle.lock_free.specs.Accounts.{state_of, HasWaited, IsOfOther}
@@ -27,7 +27,7 @@ use Rattle.lock_free.specs.Trying.{try_of, try_at}
 use Rattle.lock_free.proofs.Assembling.{AllStand, all_stand, closing_at, opening_stays, Numbers, assembled, other_actor}
 use Rattle.lock_free.proofs.Meanings.{unmarked_at, unmarked_then, marked_at}
 use Rattle.lock_free.proofs.RootSteps as root
-use Rattle.lock_free.proofs.Seats.{ran_so, Stays, other_kept, own_else}
+use Rattle.lock_free.proofs.Seats.{idle_then, ran_so, Stays, other_kept, own_else}
 use Rattle.lock_free.proofs.Waiting.{waited_none, waited_more, quiet_more, other_quiet}
 
 module _ (sizes : Sizes) (s : Table.State Call View) (kept : IsKept sizes s) (id : ℕ) (v : View) (at : get_elem? s.views id ≡ some v) (taken : Step) (call : Call)
@@ -104,7 +104,7 @@ module _ (sizes : Sizes) (s : Table.State Call View) (kept : IsKept sizes s) (id
 
   -- ---- the seat has pinned itself to the handle, and there is no mark that somebody would close it
 
-  module _ (pin : Pin) (pinned : v.pin ≡ Some pin) (its : pin.handle ≡ handle_of call) (low : handle_of call < handle_limit) (is_open : is_some (root_at now (handle_of call)) ≡ true)
+  module _ (pin : Pinned) (pinned : v.pin ≡ Some pin) (its : pin.pin.handle ≡ handle_of call) (low : handle_of call < handle_limit) (is_open : is_some (root_at now (handle_of call)) ≡ true)
       (unmarked : (who : ℕ) → SaysClosing (slice_index s.words (root_word (handle_of call))) who → ⊥) where
     abbrev pub view_then : View
     view_then = record v { account = account_then; entered = Some (handle_of call) }
@@ -112,6 +112,7 @@ module _ (sizes : Sizes) (s : Table.State Call View) (kept : IsKept sizes s) (id
     stays : Stays sizes s kept id v at account_then kept.stands s.words
     stays = record {
       waits = waits;
+      still = λ x h. h.still;
       others = λ a differs. ran_so now next a (begins.others a differs);
       pins = λ a positive most_a differs. refl;
       named = λ other w e apart g slot p x. refl;
@@ -125,7 +126,7 @@ module _ (sizes : Sizes) (s : Table.State Call View) (kept : IsKept sizes s) (id
     own_then =
         own_else sizes s kept id v at account_then kept.stands s.words stays account_then (waited_none v.actor account_then)
         (λ a above below. waits a (first_account sizes) (λ is. absurd (omega (arith, above, is))) (seat.rested a above below)) all_then.counted v.pin (Some (handle_of call)) v.closing v.opens
-        v.opening seat.pinned
+        v.opening seat.pinned (λ p is. idle_then sizes s kept id v at account_then kept.stands s.words stays v.actor p (seat.pinned_idle p is))
         (λ g e. (let same = same_Some (handle_of call) g e in
         (subst (λ n. n < handle_limit) same low, ap (λ n. is_some (root_at next n)) (sym same) ∙ ap is_some (root_then (handle_of call)) ∙ is_open, (pin, pinned, its ∙ same))))
         (λ o e. ap (λ c. Some (handle_of c)) (sym begins.its_call) ∙ ap (λ (x : Operation). Some (handle_of x.call)) (sym (own_call o e)))

@@ -8,13 +8,14 @@ use Rattle.machine_model.specs.declared.steps.Step.TheVariants as step
 use Rattle.machine_model.specs.GivingUp.{gave_up}
 use Rattle.lock_free.specs.declared.calling.Denial.{Denial}
 use Rattle.lock_free.specs.declared.reading.Way.{Way}
+use Rattle.lock_free.specs.declared.rules.Pinned.{Pinned}
 use Rattle.lock_free.specs.declared.rules.View.{View}
 use Rattle.lock_free.specs.Accounts.{HasWaited}
 use Rattle.lock_free.specs.Answering.{HasAnswered}
 use Rattle.lock_free.specs.Calling.{first_operation, is_denied, is_opening, GaveUp, HasBegun, HasCalled, IsRefused}
 use Rattle.lock_free.specs.Loading.{IsAt, IsSound, Runs, Saw}
 use Rattle.lock_free.specs.RunningOn.{MayAnswer, RunsOn}
-use Rattle.lock_free.specs.SeatWords.{left_by, pinned_for, HasEnded, IsIdle}
+use Rattle.lock_free.specs.SeatWords.{left_by, pinned_for, unpinned, HasEnded, IsIdle}
 use Rattle.lock_free.specs.Stocks.{made_of, own_of, IsStock, Stocked}
 use Rattle.lock_free.specs.WholeCalls.{RestsWith, SameSeat}
 use Rattle.lock_free.proofs.Answered.{calls_are_answered}
@@ -39,7 +40,7 @@ opens_run u w r = ap (λ (z : View). z.opens) r.still.is
 
 -- ---- it ends
 
-same_ended : (w x : View) (answer : Reply) → HasEnded w answer x → SameSeat w x
+pub same_ended : (w x : View) (answer : Reply) → HasEnded w answer x → SameSeat w x
 same_ended w x answer e = record {
   sizes = ap (λ (z : View). z.sizes) e.after_is;
   actor = ap (λ (z : View). z.actor) e.after_is;
@@ -48,7 +49,7 @@ same_ended w x answer e = record {
       (step.Go w.actor ∷ [], ap (λ (z : View). z.account.steps) e.after_is);
 }
 
-rests_ended : (w x : View) (answer : Reply) (opens : Option ℕ) → w.opens ≡ opens → (e : HasEnded w answer x) → RestsWith x (left_by e.operation.is_marked opens)
+pub rests_ended : (w x : View) (answer : Reply) (opens : Option ℕ) → w.opens ≡ opens → (e : HasEnded w answer x) → RestsWith x (left_by e.operation.is_marked opens)
 rests_ended w x answer opens number e = record {
   idle = e.idle;
   pin = ap (λ (z : View). z.pin) e.after_is;
@@ -112,6 +113,32 @@ gave_on u w at r answer may g = runs_on_both u w at r (runs_on_given_up w at may
 pub gave_end : (w at : View) (o : Operation) (answer : Reply) → GaveUp w o answer at → IsAt at (act.End answer)
 gave_end w at o answer g = record { operation = record (gave_up o answer) { is_marked = g.runs.0 }; runs = g.runs.1; acts = refl }
 
+-- ---- it has not begun
+
+module _ (v : View) (opens : Option ℕ) (rests : RestsWith v opens) (call : Call) (x : View) (pin : Pinned) (at : View) (saw : Saw (pinned_for v pin call) at) (is : x ≡ unpinned at) where
+  pub unpinned_waited : HasWaited v.actor v.account x.account
+  unpinned_waited = subst (λ a. HasWaited v.actor v.account a) (sym (ap (λ (z : View). z.account) is ∙ ap (λ (z : View). z.account) saw.after_is)) saw.waited.waited
+
+  pub unpinned_same : SameSeat v x
+  unpinned_same = record {
+    sizes = ap (λ (z : View). z.sizes) is ∙ ap (λ (z : View). z.sizes) saw.after_is;
+    actor = ap (λ (z : View). z.actor) is ∙ ap (λ (z : View). z.actor) saw.after_is;
+    last = ap (λ (z : View). z.last) is ∙ ap (λ (z : View). z.last) saw.after_is;
+    goes_on = (unpinned_waited.steps, unpinned_waited.goes_on);
+  }
+
+  pub unpinned_rests : RestsWith x opens
+  unpinned_rests = record {
+    idle = subst IsIdle (sym is) (idle_seen (pinned_for v pin call) at saw rests.idle);
+    pin = ap (λ (z : View). z.pin) is;
+    entered = ap (λ (z : View). z.entered) is;
+    opens_it = ap (λ (z : View). z.opens) is ∙ ap (λ (z : View). z.opens) saw.after_is ∙ rests.opens_it;
+  }
+
+  pub unpinned_stock : (stock : Stocked) → IsStock stock v → IsStock stock x
+  unpinned_stock stock owns =
+      idle_stock stock v x rests.idle unpinned_rests.idle unpinned_same.sizes (ap (λ (z : View). z.pool) is ∙ ap (λ (z : View). z.pool) saw.after_is) owns
+
 -- ---- it was denied
 
 saw_refused : (v : View) (call : Call) (why : Denial) (after : View) → IsRefused v call why after → Saw v after
@@ -119,38 +146,20 @@ saw_refused v call why after (is_denied w x d) = d.0
 saw_refused v call why after (is_opening slot x d) = d.0
 
 module _ (v : View) (opens : Option ℕ) (rests : RestsWith v opens) (call : Call) (why : Denial) (x : View) (denied : HasCalled v call (Err why) x) where
-  abbrev at_pin : View
-  at_pin = pinned_for v denied.0 call
-
-  saw_denied : Saw at_pin denied.1
-  saw_denied = saw_refused at_pin call why denied.1 denied.2
-
-  idle_denied : IsIdle x
-  idle_denied = subst IsIdle (sym denied.3) (idle_seen at_pin denied.1 saw_denied rests.idle)
+  abbrev saw_denied : Saw (pinned_for v denied.0 call) denied.1
+  saw_denied = saw_refused (pinned_for v denied.0 call) call why denied.1 denied.2
 
   pub denied_waited : HasWaited v.actor v.account x.account
-  denied_waited =
-      subst (λ a. HasWaited v.actor v.account a) (sym (ap (λ (z : View). z.account) denied.3 ∙ ap (λ (z : View). z.account) saw_denied.after_is)) saw_denied.waited.waited
+  denied_waited = unpinned_waited v opens rests call x denied.0 denied.1 saw_denied denied.3
 
   pub denied_same : SameSeat v x
-  denied_same = record {
-    sizes = ap (λ (z : View). z.sizes) denied.3 ∙ ap (λ (z : View). z.sizes) saw_denied.after_is;
-    actor = ap (λ (z : View). z.actor) denied.3 ∙ ap (λ (z : View). z.actor) saw_denied.after_is;
-    last = ap (λ (z : View). z.last) denied.3 ∙ ap (λ (z : View). z.last) saw_denied.after_is;
-    goes_on = (denied_waited.steps, denied_waited.goes_on);
-  }
+  denied_same = unpinned_same v opens rests call x denied.0 denied.1 saw_denied denied.3
 
   pub denied_rests : RestsWith x opens
-  denied_rests = record {
-    idle = idle_denied;
-    pin = ap (λ (z : View). z.pin) denied.3;
-    entered = ap (λ (z : View). z.entered) denied.3;
-    opens_it = ap (λ (z : View). z.opens) denied.3 ∙ ap (λ (z : View). z.opens) saw_denied.after_is ∙ rests.opens_it;
-  }
+  denied_rests = unpinned_rests v opens rests call x denied.0 denied.1 saw_denied denied.3
 
   pub denied_stock : (stock : Stocked) → IsStock stock v → IsStock stock x
-  denied_stock stock owns =
-      idle_stock stock v x rests.idle idle_denied denied_same.sizes (ap (λ (z : View). z.pool) denied.3 ∙ ap (λ (z : View). z.pool) saw_denied.after_is) owns
+  denied_stock stock owns = unpinned_stock v opens rests call x denied.0 denied.1 saw_denied denied.3 stock owns
 
 -- ---- a call that opens nothing
 

@@ -1,6 +1,7 @@
 -- BUILD's last line: what it asks of the main node before, and what it comes to.
-use Rattle.std.proofs.Common.{◌≡◌, ◌≤◌, ◌∷◌, inl, ℕ, true, List, Option, Some, None, refl, sym, ap, subst, ◌∙◌, length, Contains}
+use Rattle.std.proofs.Common.{◌≡◌, ◌<◌, ◌≤◌, ◌^◌, ◌∷◌, inl, ℕ, true, List, Option, Some, None, refl, sym, ap, subst, ◌∙◌, length, Contains}
 use Rattle.std.proofs.lemmas.List.Elements.{Contains-append_left, Contains-append_right}
+use Rattle.trie_words.specs.Codes.{IsEntry}
 use Rattle.trie_words.specs.declared.entries.Entry.{Entry}
 use Rattle.trie_words.specs.declared.headers.Previous.TheVariants as previous
 use Rattle.trie_words.specs.declared.headers.Shape.{Shape}
@@ -26,15 +27,17 @@ use Rattle.lock_free.specs.declared.rules.View.{View}
 use Rattle.lock_free.specs.Becoming.{HasNew, line_made, made_on}
 use Rattle.lock_free.specs.Changing.{count_in, edited, CanEdit, HasBuilt, IsChange, IsChanging}
 use Rattle.lock_free.specs.Entries.{HasStayed}
+use Rattle.lock_free.specs.Halves.{FitsHalf}
 use Rattle.lock_free.specs.Live.{IsLive, refs_of_claims, line_claims}
 use Rattle.lock_free.specs.Loading.{now, Runs, IsAt, IsSound, Holds}
 use Rattle.lock_free.specs.Making.{over_of, IsOverBy}
 use Rattle.lock_free.specs.Passing.{IsPlaced}
-use Rattle.lock_free.specs.SeenEntries.{entry_to, AreEntriesTo, HasEntries, HasMadeNext, HasSeenEntries, IsOver}
+use Rattle.lock_free.specs.SeenEntries.{entry_to, unowned, AreEntriesTo, HasEntries, HasMadeNext, HasSeenEntries, IsOver}
 use Rattle.lock_free.specs.Stocks.{Stocked, IsStock}
 use Rattle.lock_free.proofs.AllEntries.{entry_same}
 use Rattle.lock_free.proofs.Asked.{live_in_use}
 use Rattle.lock_free.proofs.Comings.{runs_one}
+use Rattle.lock_free.proofs.EntryLooks.{slot_small}
 use Rattle.lock_free.proofs.Followings.{follows_later, follows_both, main_node_on}
 use Rattle.lock_free.proofs.GivenBack.{node_is}
 use Rattle.lock_free.proofs.KeyMoves.{hash_is}
@@ -121,6 +124,23 @@ module _ (n : ℕ) (v : View) (sound : IsSound n v) (name : Name) (what : Shape)
   change_on w s (edit.Update position entry) c former wants is = absurd is
   change_on w s (edit.Remove position) c former wants is = absurd is
   change_on w s (edit.Entomb one) c former wants is = absurd is
+
+  -- and so its new entry fits
+  pub edit_fits : FitsHalf e
+  edit_fits = by e h.its h.former claims.1.1.1 h.is_change
+    where
+      small : (entry : Entry) (r : Ref) → IsLive (now v) r → unowned entry ≡ entry_to v r → IsEntry entry
+      small entry r live is =
+          let u = live_in_use v.sizes v.account sound.bounds r live in subst (λ k. k < 2 ^ 27) (sym (ap (λ (x : Entry). x.slot) is)) (slot_small n v sound r u.0 u.1)
+
+      by : (d : Edit) (c : Change) (former : Option ℕ) → AllHold (IsLive (now v)) (now v).heap (change_wants h.main (flag_on v.sizes.hash o.call h.path) former c) → IsChange v d c → FitsHalf d
+      by (edit.Insert entry) (change.Insert single) former wants is = small entry single (safe_of wants.0) is
+      by (edit.Update position entry) (change.Update at other) None wants (same, is) = small entry other (safe_of wants.1.0) is
+      by (edit.Update position entry) (change.Update at other) (Some value) wants (same, is) = small entry other (safe_of wants.0) is
+      by (edit.Remove position) c former wants is = tt
+      by (edit.Entomb one) c former wants is = tt
+      by (edit.Insert entry) c former wants is = absurd is
+      by (edit.Update position entry) c former wants is = absurd is
 
   -- it is so later
   module _ (w : View) (s : HasStayed v w) where

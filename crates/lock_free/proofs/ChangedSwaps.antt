@@ -36,6 +36,10 @@ use Rattle.lock_free.specs.Updating.{changed_by, HasChanged, HasChangedBy, IsAtC
 use Rattle.lock_free.proofs.AfterChanges.{after_changed, grown_to}
 use Rattle.lock_free.proofs.ChangedMains.{at_make, its_node, kind, known_node}
 use Rattle.lock_free.proofs.OnLines.{line_is}
+use Rattle.lock_free.specs.Leaving.{HasLeftSwap, IsUpdate, LeavesChange, LeavesSwap}
+use Rattle.lock_free.specs.declared.leaving.Swapping.{Swapping}
+use Rattle.lock_free.proofs.RunningOn.{runs_on_become}
+use Rattle.lock_free.proofs.SwapsBegun.{leaves_swap}
 
 parts_in : Line → List Ref × Change × Option ℕ
 parts_in (line.Build (build.Main path main its former)) = (path, its, former)
@@ -101,3 +105,11 @@ module _ (n : ℕ) (v w : View) (sound : IsSound n v) (indirection : ℕ) (given
           follows = follows_both v w after new.become.follows done.follows;
           comes = λ o r. subst (Runs after) (comes_by s o) (done.comes (grown reached.more next o) (reached.become.comes o r));
         })
+
+    -- its SWAP is under way
+    pub change_left : (s : Swapping) (x : View) → HasLeftSwap w s x → LeavesChange v s x
+    unfolding parts_in
+    change_left s x left path main its former other =
+        subst (λ (z : List Ref × Change × Option ℕ). LeavesSwap (IsUpdate z.2) v s x) (ap parts_in (sym (line_is v now_line h.on other.0 other.1) ∙ other.2))
+        (leaves_swap (IsUpdate h.former) v w x s (runs_on_become v w (grown reached.more next) (λ o. refl) reached.become) (purpose.Update h.path h.former) (current h.path) h.main new.made swaps refl
+        left)

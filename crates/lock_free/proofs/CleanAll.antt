@@ -40,6 +40,9 @@ use Rattle.lock_free.proofs.Laters.{waited_later, went_later}
 use Rattle.lock_free.proofs.Moments.{entry_lives}
 use Rattle.lock_free.proofs.OnLines.{line_is, at_look, finds_now, moves_on, moved, moved_both, way_on}
 use Rattle.lock_free.proofs.RepairLooks.{clean_same}
+use Rattle.lock_free.specs.Leaving.{IsSpent}
+use Rattle.lock_free.proofs.Leavings.{halts_later}
+use Rattle.history.specs.declared.replies.Reply.TheVariants as reply
 
 -- so many entries are done
 pub record Going (v0 v : View) (path : List Ref) (main : Ref) (n : ℕ) (so_far : List Entry) (changed : Bool) : Type 0 where
@@ -152,6 +155,9 @@ module _ (words : ℕ) (way : Way) (v0 : View) (sound0 : IsSound words v0) (on0 
 
       at_entry : IsOn v l
       at_entry = moves_on v0 l0 at.on v l come_there
+
+      pub spent_all : (w : View) → IsSpent v w → IsSpent v0 w
+      spent_all w h = halts_later reply.NoSlots v0 v w (λ o. l) come_there h
 
       abbrev f : Follows v0 v
       f = follows_later v0 v come_there.later

@@ -33,6 +33,13 @@ use Rattle.lock_free.proofs.GivenBack.{node_is}
 use Rattle.lock_free.proofs.Laters.{placed_later, waited_later, went_later}
 use Rattle.lock_free.proofs.MainLooks.{branch_says, kind_in}
 use Rattle.lock_free.proofs.OnLines.{at_look, moves_on, moved, moved_both, reading_on, given_moved, way_on}
+use Rattle.lock_free.specs.declared.leaving.Swapping.{Swapping}
+use Rattle.lock_free.specs.declared.reading.ReadFrom.{ReadFrom}
+use Rattle.lock_free.specs.Leaving.{Halts, IsRepair, LeavesSwap}
+use Rattle.lock_free.proofs.Leavings.{halts_gives, halts_stock, line_may, read_halts}
+use Rattle.lock_free.proofs.RunningOn.{runs_on_moved}
+use Rattle.lock_free.proofs.SwapsBegun.{leaves_swap_on}
+use Rattle.history.specs.declared.replies.Reply.TheVariants as reply
 
 -- ---- what a header says a main node is
 
@@ -104,6 +111,9 @@ module _ (n : ℕ) (v0 v1 : View) (sound0 : IsSound n v0) (sound1 : IsSound n v1
   pub branch_cleaned : (bitmap : ℕ) → given.header.shape ≡ shape.Branch bitmap → (v2 : View) (result : Bool) → HasCleanedBranch v1 result v2 → HasCleanedBelow v0 result v2
   branch_cleaned bitmap is v2 result c q other = again_on v0 v1 v2 l1 result come1 (c path main at1)
 
+  pub branch_left : (s : Swapping) (v2 : View) → LeavesSwap IsRepair v1 s v2 → LeavesSwap IsRepair v0 s v2
+  branch_left s v2 h = leaves_swap_on IsRepair v0 v1 v2 s (runs_on_moved v0 v1 (λ o. l1) come1) h
+
   -- it is no branch any more
   pub main_ready : IsAtSlot v1 act.Look given.link.main.slot
   main_ready = (main, at_look v1 l1 at1 main (λ o. refl), g.link.is.names.place)
@@ -125,3 +135,19 @@ module _ (n : ℕ) (v0 v1 : View) (sound0 : IsSound n v0) (sound1 : IsSound n v1
     other_cleaned q at =
         let m = moved_both v0 v1 v2 (λ o. l1) (λ o. new_try) (λ o. new_try) (λ o l. refl) come1 come2 in
         record { follows = follows_later v0 v2 m.later; comes = λ o runs. (o.private, m.comes o runs) }
+
+-- its READ is out of tries
+module _ (n : ℕ) (v0 : View) (sound0 : IsSound n v0) (name : ℕ) (below : Bool) (is_at : IsAtClean v0 name below) (place : ReadFrom) (v1 : View) (h : HasPassed v0 (passed.Again place) v1) where
+  abbrev first_line : Line
+  first_line = line.Clean (clean.Read is_at.0 (reading (current is_at.0)))
+
+  spent : Halts (λ o. reply.NoSlots) v0 v1
+  spent =
+      read_halts (λ o. reply.NoSlots) v0 v1 (current is_at.0) read.Main (reading_on v0 first_line is_at.1 (current is_at.0) read.Main refl) place h
+      (line_may (λ o. reply.NoSlots) v0 first_line is_at.1 (λ o. refl))
+
+  pub below_spent_stock : (stock : Stocked) → IsStock stock v0 → IsStock stock v1
+  below_spent_stock stock is = halts_stock (λ o. reply.NoSlots) n v0 v1 sound0 first_line is_at.1 spent stock is
+
+  pub below_spent : HasCleanedBelow v0 false v1
+  below_spent q other = halts_gives (λ o. reply.NoSlots) v0 v1 spent

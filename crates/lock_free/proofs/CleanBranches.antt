@@ -24,7 +24,7 @@ use Rattle.proof_memory.specs.Wants.{AnEntry}
 use Rattle.lock_free.specs.declared.reading.Way.{Way}
 use Rattle.lock_free.specs.declared.rules.View.{View}
 use Rattle.lock_free.specs.declared.swapping.Swapped.{Swapped}
-use Rattle.lock_free.specs.Becoming.{HasNew}
+use Rattle.lock_free.specs.Becoming.{HasNew, made_on}
 use Rattle.lock_free.specs.Contracting.{IsAtContracted}
 use Rattle.lock_free.specs.Entries.{HasStayed}
 use Rattle.lock_free.specs.Holding.{IsOn, HasComeTo}
@@ -43,7 +43,12 @@ use Rattle.lock_free.proofs.Followings.{follows_both, follows_later, main_node_o
 use Rattle.lock_free.proofs.GivenBack.{node_is}
 use Rattle.lock_free.proofs.Laters.{placed_later, link_later}
 use Rattle.lock_free.proofs.OnLines.{line_is, finds_now, stays_on, moves_on, stayed_moved, way_on}
-use Rattle.lock_free.proofs.Replaces.{branch_is_main, has_entries, entries_seen, at_make, is_over, at_swap, swap_way, swap_follows, swap_comes}
+use Rattle.lock_free.proofs.Replaces.{branch_is_main, has_entries, entries_seen, at_make, is_over, at_swap, is_swapping, swap_way, swap_follows, swap_comes}
+use Rattle.lock_free.specs.declared.leaving.Swapping.{Swapping}
+use Rattle.lock_free.specs.Leaving.{HasLeftSwap, IsRepair, IsSpent, LeavesSwap}
+use Rattle.lock_free.proofs.Leavings.{halts_gives, halts_later, halts_stock}
+use Rattle.lock_free.proofs.RunningOn.{runs_on_become, runs_on_both, runs_on_moved}
+use Rattle.lock_free.proofs.SwapsBegun.{leaves_swap}
 
 single_kinds : (node : Node) → is_a_single node ≡ is_single node
 single_kinds (Single k v) = refl
@@ -116,6 +121,14 @@ module _ (n : ℕ) (v0 : View) (sound0 : IsSound n v0) (name : ℕ) (link : Link
 
     pub cleaning_stock : (stock : Stocked) → IsStock stock v0 → IsStock stock v1
     cleaning_stock stock h = stock_moved n v0 v1 sound0 l0 at0 (λ o. l0) (stay_moves v0 v1 l0 at0 stayed) stock h
+
+    -- it is out of tries
+    module _ (v2 : View) (h : IsSpent v1 v2) where
+      pub spent_branch : HasCleanedBranch v0 false v2
+      spent_branch = elsewhere false v2 (halts_gives (λ o. reply.NoSlots) v0 v2 (halts_later reply.NoSlots v0 v1 v2 (λ o. l0) (stay_moves v0 v1 l0 at0 stayed) h))
+
+      pub spent_branch_stock : (stock : Stocked) → IsStock stock v0 → IsStock stock v2
+      spent_branch_stock stock is = halts_stock (λ o. reply.NoSlots) n v1 v2 sound1 l0 at1 h stock (cleaning_stock stock is)
 
     module _ (v2 : View) (sound2 : IsSound n v2) (done_entries : List Entry) (changed : Bool) (c : HasCleanedAll v1 done_entries changed v2) where
       all : CleanedAll v1 path main done_entries changed v2
@@ -208,3 +221,9 @@ module _ (n : ℕ) (v0 : View) (sound0 : IsSound n v0) (name : ℕ) (link : Link
                   follows = follows_both v0 v2 x (follows_later v0 v2 come2.later) (swap_follows v2 l2 at2 purpose.Clean (current path) main node v3 fresh it (λ o. refl) swapped x s);
                   comes = λ o runs. ([], swap_comes v2 l2 at2 purpose.Clean (current path) main node v3 fresh it (λ o. refl) swapped x s (record o { line = l2 }) (come2.comes o runs));
                 })
+
+            -- its SWAP is under way
+            pub clean_left : (s : Swapping) (x : View) → HasLeftSwap v3 s x → LeavesSwap IsRepair v0 s x
+            clean_left s x h =
+                leaves_swap IsRepair v0 v3 x s (runs_on_both v0 v2 v3 (runs_on_moved v0 v2 (λ o. l2) come2) (runs_on_become v2 v3 (made_on (now v2) it.made) (λ o. refl) it.become))
+                purpose.Clean (current path) main it.made (is_swapping v2 l2 at2 purpose.Clean (current path) main node v3 fresh it (λ o. refl)) tt h

@@ -1,5 +1,5 @@
 -- CLEAN at an entry: it is kept, or a tomb's single comes to its place.
-use Rattle.std.proofs.Common.{◌≡◌, ◌≢◌, ◌==◌, ◌++◌, ℕ, Bool, true, false, not, List, [], ◌∷◌, length, get_or, Contains, None, refl, sym, ap, ap₂, subst, ◌∙◌, arith, eq-eqb, ne_eqb}
+use Rattle.std.proofs.Common.{◌≡◌, ◌≢◌, ◌==◌, ◌++◌, ℕ, Bool, true, false, not, List, [], ◌∷◌, length, get_or, Contains, refl, sym, ap, ap₂, subst, ◌∙◌, arith, eq-eqb, ne_eqb}
 use Rattle.std.proofs.lemmas.Bool.{true≢false}
 use Rattle.std.proofs.lemmas.List.Elements.{Contains-get_or}
 use Rattle.trie_words.specs.declared.entries.Entry.{Entry}
@@ -27,6 +27,8 @@ use Rattle.lock_free.specs.declared.cleaning.Cleaned.{Cleaned}
 use Rattle.lock_free.specs.declared.reading.Given.{Given}
 use Rattle.lock_free.specs.declared.reading.Passed.TheVariants as passed
 use Rattle.lock_free.specs.declared.reading.Way.{Way}
+use Rattle.lock_free.specs.declared.reading.ReadFrom.{ReadFrom}
+use Rattle.lock_free.specs.declared.reading.ReadFrom.TheVariants as resume
 use Rattle.lock_free.specs.declared.rules.View.{View}
 use Rattle.lock_free.specs.Accounts.{place_of}
 use Rattle.lock_free.specs.Entries.{entry_in}
@@ -46,6 +48,9 @@ use Rattle.lock_free.proofs.NextEntries.{holds_next}
 use Rattle.lock_free.proofs.OnLines.{line_is, at_look, finds_now, moves_on, moved, reading_on, given_moved, moved_both, way_on}
 use Rattle.lock_free.proofs.RepairLooks.{clean_same, clean_parts}
 use Rattle.lock_free.proofs.TombSingles.{tomb_single}
+use Rattle.lock_free.specs.Leaving.{IsSpent}
+use Rattle.lock_free.proofs.Leavings.{halts_later, line_may, read_halts}
+use Rattle.history.specs.declared.replies.Reply.TheVariants as reply
 
 -- ---- what a header says of a tomb
 
@@ -128,11 +133,17 @@ module _ (n : ℕ) (v0 v1 : View) (sound0 : IsSound n v0) (entry : Entry) (is_at
     is_reading : IsReading v1 e read.Main
     is_reading = reading_on v1 l1 at1 e read.Main refl
 
-    pub child_passing : IsPassing v1 entry.slot None
+    pub child_passing : IsPassing v1 entry.slot resume.Start
     child_passing = (e, placed_later v0 v1 later1 e entry.slot is_at.4.placed, is_reading)
 
     pub child_way : (way : Way) → IsOnWay v0 way → IsOnWay v1 way
     child_way way on = way_on v0 v1 l0 (λ o. l1) way at0 (come_by false no_single) on
+
+    -- the READ is out of tries
+    pub spent_cleaned : (place : ReadFrom) (v2 : View) → HasPassed v1 (passed.Again place) v2 → IsSpent v0 v2
+    spent_cleaned place v2 h =
+        halts_later reply.NoSlots v0 v1 v2 (λ o. l1) (come_by false no_single)
+        (read_halts (λ o. reply.NoSlots) v1 v2 e read.Main is_reading place h (line_may (λ o. reply.NoSlots) v1 l1 at1 (λ o. refl)))
 
     module _ (v2 : View) (sound2 : IsSound n v2) (given : Given) (p : HasPassed v1 (passed.Gives given) v2) where
       g : HasGiven v1 e given v2

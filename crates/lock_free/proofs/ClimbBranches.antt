@@ -53,6 +53,11 @@ use Rattle.lock_free.proofs.Laters.{later_both, link_later, placed_later, waited
 use Rattle.lock_free.proofs.Moments.{entry_lives}
 use Rattle.lock_free.proofs.OnLines.{line_is, at_look, finds_now, stays_on, moves_on, moved, stayed_moved, way_on}
 use Rattle.lock_free.proofs.Replaces.{branch_is_main, has_entries, entries_seen}
+use Rattle.lock_free.specs.declared.leaving.Swapping.{Swapping}
+use Rattle.lock_free.specs.Climbs.{HasLeftBranch, HasLeftContracted, LeavesClimb}
+use Rattle.lock_free.specs.Leaving.{IsClimbAfter}
+use Rattle.lock_free.proofs.RunningOn.{runs_on_moved}
+use Rattle.lock_free.proofs.SwapsBegun.{leaves_swap_on}
 
 -- ---- what a climb comes to later it comes to from before
 
@@ -294,3 +299,8 @@ module _ (n : ℕ) (v0 : View) (sound0 : IsSound n v0) (parent : ℕ) (link : Li
 
         pub contracted_there : (v4 : View) (result : Climbed) → HasContracted v3 result v4 → HasClimbedBranch v0 result v4
         contracted_there v4 result e = elsewhere result v4 (climbed_from v0 v3 v4 l3 come03 c result (e c main at3))
+
+        pub branch_left : (s : Swapping) (v4 : View) → HasLeftContracted v3 s v4 → HasLeftBranch v0 s v4
+        branch_left s v4 h d m other =
+            subst (λ (x : Climb × Ref). LeavesClimb v0 x.0 s v4) (ap main_parts (sym (line_is v0 l0 at0 other.0 other.1) ∙ other.2))
+            (leaves_swap_on (IsClimbAfter c.former) v0 v3 v4 s (runs_on_moved v0 v3 (λ o. l3) come03) (h c main at3))

@@ -29,7 +29,7 @@ use Rattle.lock_free.specs.declared.rules.View.{View}
 use Rattle.lock_free.specs.declared.swapping.Swapped.{Swapped}
 use Rattle.lock_free.specs.declared.swapping.Swapped.TheVariants.{Commits}
 use Rattle.lock_free.specs.Becoming.{Follows, HasBecome, HasNew}
-use Rattle.lock_free.specs.Climbs.{IsContracting, ContractsParent, HasContracted, ClimbedBy, IsAskingAgain, AskedBy, HasAskedAgain}
+use Rattle.lock_free.specs.Climbs.{IsContracting, ContractsParent, HasContracted, ClimbedBy, IsAskingAgain}
 use Rattle.lock_free.specs.Contracting.{IsAtContracted}
 use Rattle.lock_free.specs.GoingDown.{HasMoved}
 use Rattle.lock_free.specs.Holding.{IsOn}
@@ -46,7 +46,13 @@ use Rattle.lock_free.proofs.EntriesTo.{Used, entry_to_on}
 use Rattle.lock_free.proofs.Followings.{follows_self, follows_both, follows_later, used_on}
 use Rattle.lock_free.proofs.GoingOver.{as_many}
 use Rattle.lock_free.proofs.OnLines.{line_is}
-use Rattle.lock_free.proofs.Replaces.{at_make, is_over, at_swap, swap_way, swap_follows, swap_comes}
+use Rattle.lock_free.proofs.Replaces.{at_make, is_over, at_swap, is_swapping, swap_way, swap_follows, swap_comes}
+use Rattle.lock_free.specs.declared.leaving.Swapping.{Swapping}
+use Rattle.lock_free.specs.Becoming.{made_on}
+use Rattle.lock_free.specs.Climbs.{AskedOrSpent, HasAskedWithin, HasLeftContracted, LeavesClimb}
+use Rattle.lock_free.specs.Leaving.{HasLeftSwap, IsClimbAfter}
+use Rattle.lock_free.proofs.RunningOn.{runs_on_become}
+use Rattle.lock_free.proofs.SwapsBegun.{leaves_swap}
 
 abbrev contracted_parts : Line → Climb × Ref
 contracted_parts (line.Climb (climb.Contracted c main)) = (c, main)
@@ -211,30 +217,42 @@ module _ (n : ℕ) (v0 : View) (sound0 : IsSound n v0) (parent : ℕ) (link : Li
           pub ask_start : (start : ℕ) → HasStart v0 start → HasStart v2 start
           ask_start start begun = start_become v0 v2 (λ o. record o { private = []; line = l2 }) become2 l0 at0 start (λ o. refl) begun
 
-          module _ (sound2 : IsSound n v2) (v3 : View) (asked : Climbed) (a : HasAskedAgain v2 asked v3) where
-            at2 : IsOn v2 l2
-            at2 = (record at0.0 { private = []; line = l2 }, become2.comes at0.0 at0.1, refl)
+          module _ (sound2 : IsSound n v2) (v3 : View) (asked : Climbed) (a : HasAskedWithin v2 asked v3) where
+            on2 : IsOn v2 l2
+            on2 = (record at0.0 { private = []; line = l2 }, become2.comes at0.0 at0.1, refl)
 
-            by_moves : (f : Operation → Line) → ((o : Operation) → f (record o { private = []; line = l2 }) ≡ f o) → HasMoved f v2 v3 → HasEndedBy f v0 v3
-            by_moves f same m = record {
+            moves_there : (f : Operation → Line) → ((o : Operation) → f (record o { private = []; line = l2 }) ≡ f o) → HasMoved f v2 v3 → HasEndedBy f v0 v3
+            moves_there f same m = record {
               follows = follows_both v0 v2 v3 follows2 (follows_later v2 v3 m.later);
               comes = λ o runs. ([], subst (λ x. Runs v3 (record o { private = []; line = x })) (same o) (m.comes (record o { private = []; line = l2 }) (become2.comes o runs)));
             }
 
-            ended_by : (x : Climbed) → AskedBy v2 c x v3 → ClimbedBy v0 c x v3
-            ended_by outcome.Again m = by_moves (λ o. climbing o c) (λ o. refl) m
-            ended_by outcome.Ends m = by_moves (λ o. climbed o c.former) (λ o. refl) m
-            ended_by (outcome.Higher e) m = absurd m
-            ended_by outcome.Full m = absurd m
+            climbed_or_spent : (x : Climbed) → AskedOrSpent v2 c x v3 → ClimbedBy v0 c x v3
+            climbed_or_spent outcome.Again m = moves_there (λ o. climbing o c) (λ o. refl) m
+            climbed_or_spent outcome.Ends m = moves_there (λ o. climbed o c.former) (λ o. refl) m
+            climbed_or_spent (outcome.Higher e) m = absurd m
+            climbed_or_spent outcome.Full h = record {
+              follows = follows_both v0 v2 v3 follows2 (follows_later v2 v3 h.moved.later);
+              runs = λ o runs.
+                  (let p : Operation = record o { private = []; line = l2 } in
+                  ([], h.next p, h.moved.comes p (become2.comes o runs), h.gives_up p (become2.comes o runs)));
+            }
 
-            pub asked_there : HasContracted v0 asked v3
-            asked_there = elsewhere asked v3 (ended_by asked (a c at2))
+            pub asked_or_spent : HasContracted v0 asked v3
+            asked_or_spent = elsewhere asked v3 (climbed_or_spent asked (a c on2))
 
-            stock_by : (stock : Stocked) → IsStock stock v2 → (x : Climbed) → AskedBy v2 c x v3 → IsStock stock v3
-            stock_by stock is outcome.Again m = stock_moved n v2 v3 sound2 l2 at2 (λ o. climbing o c) m stock is
-            stock_by stock is outcome.Ends m = stock_moved n v2 v3 sound2 l2 at2 (λ o. climbed o c.former) m stock is
-            stock_by stock is (outcome.Higher e) m = absurd m
-            stock_by stock is outcome.Full m = absurd m
+            stock_or_spent : (stock : Stocked) → IsStock stock v2 → (x : Climbed) → AskedOrSpent v2 c x v3 → IsStock stock v3
+            stock_or_spent stock is outcome.Again m = stock_moved n v2 v3 sound2 l2 on2 (λ o. climbing o c) m stock is
+            stock_or_spent stock is outcome.Ends m = stock_moved n v2 v3 sound2 l2 on2 (λ o. climbed o c.former) m stock is
+            stock_or_spent stock is (outcome.Higher e) m = absurd m
+            stock_or_spent stock is outcome.Full h = stock_moved n v2 v3 sound2 l2 on2 h.next h.moved stock is
 
-            pub asked_stock : (stock : Stocked) → IsStock stock v2 → IsStock stock v3
-            asked_stock stock is = stock_by stock is asked (a c at2)
+            pub spent_or_stock : (stock : Stocked) → IsStock stock v2 → IsStock stock v3
+            spent_or_stock stock is = stock_or_spent stock is asked (a c on2)
+
+      -- its SWAP is under way
+      pub contract_left : (s : Swapping) (x : View) → HasLeftSwap v1 s x → HasLeftContracted v0 s x
+      contract_left s x h d m other =
+          subst (λ (z : Climb × Ref). LeavesClimb v0 z.0 s x) (ap contracted_parts (sym (line_is v0 l0 at0 other.0 other.1) ∙ other.2))
+          (leaves_swap (IsClimbAfter c.former) v0 v1 x s (runs_on_become v0 v1 (made_on (now v0) it.made) (λ o. refl) it.become) (purpose.Climb c) (current (above c.path)) main it.made
+          (is_swapping v0 l0 at0 (purpose.Climb c) (current (above c.path)) main node v1 fresh it (λ o. refl)) refl h)

@@ -1,5 +1,5 @@
 -- CLIMB looks whether the parent's entry for the key is the tombed indirection, and asks for the root again.
-use Rattle.std.proofs.Common.{◌≡◌, ◌<◌, ◌≤◌, ◌==◌, ◌&&◌, ◌^◌, ◌*◌, ◌-◌, ◌++◌, ℕ, Bool, true, false, [], ◌∷◌, Contains, length, get_or, count_ones, nat_eq, None, Some, inl, sym, ap, ap₂}
+use Rattle.std.proofs.Common.{◌≡◌, ◌<◌, ◌≤◌, ◌==◌, ◌&&◌, ◌^◌, ◌*◌, ◌-◌, ◌++◌, ℕ, Bool, true, false, [], ◌∷◌, Contains, length, get_or, count_ones, nat_eq, None, Some, inl, sym, ap, ap₂, refl}
 use Rattle.std.proofs.Common.{subst, ◌∙◌, arith, ltb-true, if◌then◌else◌}
 use Rattle.std.specs.Option.{option_eq}
 use Rattle.std.proofs.lemmas.Bool.{le-leb}
@@ -39,6 +39,11 @@ use Rattle.lock_free.proofs.KeyMoves.{hash_is}
 use Rattle.lock_free.proofs.Laters.{later_self}
 use Rattle.lock_free.proofs.OnLines.{line_is, finds_now}
 use Rattle.lock_free.proofs.RepairLooks.{eqb_swap}
+use Rattle.machine_model.specs.Calls.{changed_reply}
+use Rattle.lock_free.specs.declared.leaving.Left.{Left}
+use Rattle.lock_free.specs.Climbs.{HasAskedWithin}
+use Rattle.lock_free.specs.Leaving.{HasLeftOff}
+use Rattle.lock_free.proofs.Leavings.{may_on, off_halts}
 
 -- an operation is at one main node in one climb
 abbrev pub no_climb : Climb
@@ -175,3 +180,8 @@ module _ (v0 : View) (is_at : IsAskingAgain v0) where
 
     pub asks_ended : (given.generation == start) ≡ false → HasAskedAgain v0 outcome.Ends w
     asks_ended is d other = subst (λ x. AskedBy v0 x outcome.Ends w) (ap root_parts (sym (line_is v0 l is_at.1 other.0 other.1) ∙ other.2)) (comes false is)
+
+-- ROOT is out of tries
+pub asks_spent : (v : View) (result : Left) (w : View) → HasLeftOff v result w → HasAskedWithin v outcome.Full w
+asks_spent v result w h d on =
+    off_halts (λ call. changed_reply call d.former) v result w h (may_on (λ call. changed_reply call d.former) v (line.Climb (climb.Root d root.Read)) on (λ call. refl))

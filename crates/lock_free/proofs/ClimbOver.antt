@@ -1,5 +1,5 @@
 -- CLIMB over one indirection.
-use Rattle.std.proofs.Common.{◌≡◌, ◌∷◌, ℕ, suc, zero, Bool, true, false, [], Contains, None, Some, refl, sym, ap, ap₂, subst, ◌∙◌, arith}
+use Rattle.std.proofs.Common.{◌≡◌, ◌∷◌, ℕ, suc, zero, Bool, true, false, [], Contains, Some, refl, sym, ap, ap₂, subst, ◌∙◌, arith}
 use Rattle.std.proofs.lemmas.List.Elements.{Contains-get_or}
 use Rattle.std.proofs.lemmas.Option.{none-some}
 use Rattle.trie_words.specs.declared.entries.Entry.{Entry}
@@ -31,6 +31,7 @@ use Rattle.lock_free.specs.declared.climbing.Climbed.TheVariants as outcome
 use Rattle.lock_free.specs.declared.reading.Given.{Given}
 use Rattle.lock_free.specs.declared.reading.Passed.TheVariants as passed
 use Rattle.lock_free.specs.declared.reading.Way.{Way}
+use Rattle.lock_free.specs.declared.reading.ReadFrom.TheVariants as resume
 use Rattle.lock_free.specs.declared.rules.View.{View}
 use Rattle.lock_free.specs.Accounts.{bounds_for, state_of, place_of}
 use Rattle.lock_free.specs.Becoming.{Follows}
@@ -56,6 +57,14 @@ use Rattle.lock_free.proofs.Laters.{placed_later, waited_later, went_later}
 use Rattle.lock_free.proofs.MainLooks.{list_says}
 use Rattle.lock_free.proofs.OnLines.{line_is, at_look, finds_now, moves_on, moved, reading_on, given_moved, way_on}
 use Rattle.lock_free.proofs.TombSingles.{tomb_single}
+use Rattle.machine_model.specs.Calls.{changed_reply}
+use Rattle.lock_free.specs.declared.leaving.Swapping.{Swapping}
+use Rattle.lock_free.specs.declared.reading.ReadFrom.{ReadFrom}
+use Rattle.lock_free.specs.Climbs.{HasLeftBranch, HasLeftParent, LeavesClimb}
+use Rattle.lock_free.specs.Leaving.{Halts, IsClimbAfter}
+use Rattle.lock_free.proofs.Leavings.{halts_gives, halts_stock, line_may, read_halts}
+use Rattle.lock_free.proofs.RunningOn.{runs_on_moved}
+use Rattle.lock_free.proofs.SwapsBegun.{leaves_swap_on}
 
 abbrev read_parts : Line → Climb
 read_parts (line.Climb (climb.Read c r)) = c
@@ -91,8 +100,20 @@ module _ (n : ℕ) (v0 : View) (sound0 : IsSound n v0) (parent tombed flag : ℕ
   is_reading : IsReading v0 i read.Main
   is_reading = reading_on v0 l0 at0 i read.Main refl
 
-  pub over_passing : IsPassing v0 parent None
+  pub over_passing : IsPassing v0 parent resume.Start
   over_passing = (i, k.parent_at, is_reading)
+
+  -- its READ is out of tries
+  module _ (place : ReadFrom) (v1 : View) (h : HasPassed v0 (passed.Again place) v1) where
+    spent : Halts (λ o. changed_reply o.call c.former) v0 v1
+    spent = read_halts (λ o. changed_reply o.call c.former) v0 v1 i read.Main is_reading place h (line_may (λ o. changed_reply o.call c.former) v0 l0 at0 (λ o. refl))
+
+    pub over_spent_stock : (stock : Stocked) → IsStock stock v0 → IsStock stock v1
+    over_spent_stock stock is = halts_stock (λ o. changed_reply o.call c.former) n v0 v1 sound0 l0 at0 spent stock is
+
+    pub over_spent : HasClimbed v0 outcome.Full v1
+    over_spent d other =
+        subst (λ x. ClimbedBy v0 x outcome.Full v1) (ap read_parts (sym (line_is v0 l0 at0 other.0 other.1) ∙ other.2)) (halts_gives (λ o. changed_reply o.call c.former) v0 v1 spent)
 
   module _ (v1 : View) (sound1 : IsSound n v1) (given : Given) (p : HasPassed v0 (passed.Gives given) v1) where
     g : HasGiven v0 i given v1
@@ -143,6 +164,11 @@ module _ (n : ℕ) (v0 : View) (sound0 : IsSound n v0) (parent tombed flag : ℕ
 
     pub parent_branch : (bitmap : ℕ) → given.header.shape ≡ shape.Branch bitmap → IsAtParentBranch v1 parent given.link bitmap tombed flag single below
     parent_branch bitmap is = (c, main, at1, record { knows = knows1; link_is = g.link; branch = known_branch v1 main given.header bitmap g.header is })
+
+    pub parent_left : (s : Swapping) (v2 : View) → HasLeftBranch v1 s v2 → HasLeftParent v0 s v2
+    parent_left s v2 h d other =
+        subst (λ x. LeavesClimb v0 x s v2) (ap read_parts (sym (line_is v0 l0 at0 other.0 other.1) ∙ other.2))
+        (leaves_swap_on (IsClimbAfter c.former) v0 v1 v2 s (runs_on_moved v0 v1 (λ o. l1) come1) (h c main at1))
 
     pub branch_climbed : (v2 : View) (result : Climbed) → HasClimbedBranch v1 result v2 → HasClimbed v0 result v2
     branch_climbed v2 result h = elsewhere result v2 (climbed_from v0 v1 v2 l1 come1 c result (h c main at1))

@@ -35,6 +35,12 @@ use Rattle.lock_free.proofs.Descents.{as_long}
 use Rattle.lock_free.proofs.EntriesTo.{entry_to_on}
 use Rattle.lock_free.proofs.Followings.{follows_self, follows_both, placed_on, used_on}
 use Rattle.lock_free.proofs.LevelPassed.{at_index}
+use Rattle.lock_free.specs.declared.leaving.Swapping.{Swapping}
+use Rattle.lock_free.specs.Climbs.{HasLeftClimb, HasLeftParent}
+use Rattle.lock_free.specs.Leaving.{IsClimbAfter, LeavesSwap}
+use Rattle.machine_model.specs.GivingUp.{given_up}
+use Rattle.lock_free.proofs.RunningOn.{runs_on_ended}
+use Rattle.lock_free.proofs.SwapsBegun.{leaves_swap_on}
 
 -- ---- lists
 
@@ -318,3 +324,20 @@ module _ (words : ℕ) (way : Way) (start : ℕ) (v0 : View) (on0 : IsOnWay v0 w
                 (z.0, z.1, z.2, z.3));
           } in
           answered at w false (subst (λ f. GivesUp (λ o. changed_reply o.call f) v0 w) x.former_is first_up) c on
+
+      -- its SWAP is under way
+      pub climb_left : (s2 : Swapping) → HasLeftParent v s2 w → HasLeftClimb v0 path hash first s2 w
+      climb_left s2 h other =
+          let x = it other in
+          subst (λ f. LeavesSwap (IsClimbAfter f) v0 s2 w) x.former_is
+          (leaves_swap_on (IsClimbAfter x.c.former) v0 v w s2 (runs_on_ended v0 v (λ o. climbing o x.c) x.ended) (h x.c (at_there other more)))
+
+    -- ---- it is out of tries
+
+    pub climb_spent : (at : IsClimbing v0 path hash first) → 2 ≤ n → HasClimbedUp v0 false v
+    climb_spent at more c on =
+        let x = it at in
+        answered at v false (subst (λ f. GivesUp (λ o. changed_reply o.call f) v0 v) x.former_is (record {
+          follows = x.ended.follows;
+          runs = λ o runs. (let y = x.ended.comes o runs in (y.0, climbing o x.c, y.1, ap (λ b. given_up o.call (shown b x.c o)) (below at more)));
+        })) c on

@@ -12,6 +12,8 @@ use Rattle.trie_words.specs.Codes.{root_code}
 use Rattle.trie_words.specs.declared.roots.RootWord.{RootWord}
 use Rattle.machine_model.specs.Machine.{begin_denial}
 use Rattle.machine_model.specs.States.{operation_of, root_at}
+use Rattle.lock_free.proofs.EpochStays.{rest_of}
+use Rattle.lock_free.proofs.Geometry.{root_not_epoch}
 use Rattle.lock_free.specs.declared.rules.Closing.{Closing}
 use Rattle.lock_free.specs.declared.rules.View.{View}
 use Rattle.lock_free.specs.declared.sizes.Sizes.{Sizes}
@@ -60,7 +62,7 @@ module _ (v : View) (handle looked : ℕ) (low : handle < 256) (others : List Cl
   abbrev Shut : View → Type 0
   Shut x =
       IsKept v.sizes (record { words = words_then v s kept id at (root_word handle) old 0; homes = s.homes; views = set s.views id x })
-      × HasClosed v handle (found == old) x × (IsSound (words_of v.sizes) v → IsSound (words_of v.sizes) x) × (x.heard ≡ v.heard)
+      × HasClosed v handle (found == old) x × (IsSound (words_of v.sizes) v → IsSound (words_of v.sizes) x) × (rest_of x ≡ rest_of v)
 
   module _ (e : found ≡ old) where
     says : SaysClosing found v.actor
@@ -119,7 +121,7 @@ pub close_allows : (sizes : Sizes) (size id : ℕ) (me : Me Call View) (some_sea
     Allows (IsRuled sizes) size id me (root_word handle) (λ n. either (n == root_code w) 0 n) (has_closed (step size (root_word handle) (root_code w) 0 none) me)
 close_allows sizes size id me some_seats handle looked low (others, would) all_looked outside idle w mine =
     allowed sizes size id me (root_word handle) (λ n. either (n == root_code w) 0 n) (has_closed (step size (root_word handle) (root_code w) 0 none) me)
-    some_seats
+    some_seats (λ s kept at. inl (root_not_epoch handle))
     (λ s kept at. (let x = shuts me.0 handle looked low others would all_looked outside idle w mine s kept id at in (
       x.0,
       x.1.0,

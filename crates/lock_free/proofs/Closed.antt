@@ -42,7 +42,7 @@ use Rattle.lock_free.proofs.Meanings.{ran, reserved, reserves_on, marks_kept, st
 use Rattle.lock_free.proofs.RootCodes.{kind, same_kind}
 use Rattle.lock_free.proofs.RootFound.{said, slot_fits}
 use Rattle.lock_free.proofs.RootSteps as root
-use Rattle.lock_free.proofs.Seats.{ran_so, Stays, StaysSpare, other_kept, own_else}
+use Rattle.lock_free.proofs.Seats.{idle_then as pinned_then, ran_so, Stays, StaysSpare, other_kept, own_else}
 use Rattle.lock_free.proofs.Stood.{plain_not}
 use Rattle.lock_free.proofs.Waiting.{waited_none, waited_more, quiet_more}
 
@@ -239,6 +239,7 @@ module _ (sizes : Sizes) (s : Table.State Call View) (kept : IsKept sizes s) (id
     stays : Stays sizes s kept id v at account_then kept.stands words_then
     stays = record {
       waits = waits;
+      still = λ x h. h.still;
       others = λ a differs. ran_so now next a (closes.operations a);
       pins = λ a positive most differs. pin_same a positive;
       named = λ other w e apart g slot p n. named w g slot n;
@@ -255,7 +256,8 @@ module _ (sizes : Sizes) (s : Table.State Call View) (kept : IsKept sizes s) (id
     own_then =
         own_else sizes s kept id v at account_then kept.stands words_then stays account_then (waited_none v.actor account_then)
         (λ a above below. waits a (first_account sizes) (λ is. absurd (omega (arith, above, is))) (seat.rested a above below)) all_then.counted v.pin v.entered v.closing v.opens v.opening
-        (pin_same v.actor seat.low ∙ seat.pinned) (λ g e. (let x = seat.entered g e in (x.0, still_open id v at g e x.1, x.2))) (λ o e. absurd (idle_then o e)) (held id v at)
+        (pin_same v.actor seat.low ∙ seat.pinned) (λ p is. pinned_then sizes s kept id v at account_then kept.stands words_then stays v.actor p (seat.pinned_idle p is))
+        (λ g e. (let x = seat.entered g e in (x.0, still_open id v at g e x.1, x.2))) (λ o e. absurd (idle_then o e)) (held id v at)
         (λ o e. absurd (idle_then o e))
         (λ g slot o n. (let x = seat.opening g slot o n in record { low = x.low; fits = x.fits; is = named v g slot x ∙ x.is; free = x.free })) (λ b name free. spare_by id v b name at free)
 

@@ -13,6 +13,7 @@ use Rattle.machine_model.specs.declared.operations.Operation.{Operation}
 use Rattle.machine_model.specs.Calls.{handle_of}
 use Rattle.machine_model.specs.States.{State, operation_of, root_at, handle_limit}
 use Rattle.lock_free.specs.declared.rules.Closing.{Closing}
+use Rattle.lock_free.specs.declared.rules.Pinned.{Pinned}
 use Rattle.lock_free.specs.declared.rules.View.{View}
 use Rattle.lock_free.specs.declared.sizes.Sizes.{Sizes}
 use Rattle.lock_free.specs.Accounts.{state_of}
@@ -38,7 +39,7 @@ module _ (sizes : Sizes) (s : Table.State Call View) (kept : IsKept sizes s) (id
 
   -- what the seat has entered and would close then
   module _ (entered : Option ℕ) (closing : List Closing)
-      (inside : (g : ℕ) → entered ≡ Some g → (g < handle_limit) × (is_some (root_at now g) ≡ true) × ((p : Pin) × (v.pin ≡ Some p) × (p.handle ≡ g)))
+      (inside : (g : ℕ) → entered ≡ Some g → (g < handle_limit) × (is_some (root_at now g) ≡ true) × ((p : Pinned) × (v.pin ≡ Some p) × (p.pin.handle ≡ g)))
       (calls : (o : Operation) → operation_of now v.actor ≡ Some o → entered ≡ Some (handle_of o.call)) where
     abbrev pub view_then : View
     view_then = record v { entered = entered; closing = closing }
@@ -46,6 +47,7 @@ module _ (sizes : Sizes) (s : Table.State Call View) (kept : IsKept sizes s) (id
     stays : Stays sizes s kept id v at kept.account kept.stands s.words
     stays = record {
       waits = λ actor first differs h. h;
+      still = λ x h. h.still;
       others = λ a differs. ran_so now now a refl;
       pins = λ a positive most apart. refl;
       named = λ other w e apart handle slot o x. refl;
@@ -58,7 +60,7 @@ module _ (sizes : Sizes) (s : Table.State Call View) (kept : IsKept sizes s) (id
     own_then : IsSeat sizes kept.account kept.stands s.words view_then
     own_then =
         own_else sizes s kept id v at kept.account kept.stands s.words stays v.account seat.waited seat.rested seat.counts v.pin entered closing v.opens v.opening
-        seat.pinned inside calls seat.opens seat.reserves
+        seat.pinned seat.pinned_idle inside calls seat.opens seat.reserves
         (λ g slot o n. (let x = seat.opening g slot o n in names_kept sizes s kept id v at kept.account kept.stands s.words stays v view_then g slot x refl x.free))
         (λ b name free. ((seat.spare b name free).1, λ j its. refl))
 
@@ -86,7 +88,7 @@ module _ (sizes : Sizes) (s : Table.State Call View) (kept : IsKept sizes s) (id
       not_next who other w e inside own apart same =
           let x = kept.seats other w e in
           let p = (x.entered handle inside).2 in
-          apart (same ∙ none p.0 (ap (λ n. slice_index s.words (pin_word n)) (sym same) ∙ x.pinned ∙ ap pin_word_of p.1) p.2 ∙ sym own)
+          apart (same ∙ none p.0.pin (ap (λ n. slice_index s.words (pin_word n)) (sym same) ∙ x.pinned ∙ ap pin_word_of p.1) p.2 ∙ sym own)
 
       same_seat : (who : ℕ) (h : IsClosing s.views handle who) → v.actor ≡ who → id ≡ h.id
       same_seat who h its =

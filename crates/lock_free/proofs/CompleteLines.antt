@@ -6,6 +6,7 @@ use Rattle.std.proofs.lemmas.Option.{none-some, same_Some}
 use Rattle.history.specs.declared.calls.Access.{Access}
 use Rattle.history.specs.declared.calls.Call.{Call}
 use Rattle.machine_model.specs.Beneath.slot_arena.specs.declared.refs.Ref.{Ref}
+use Rattle.machine_model.specs.declared.reading.ReadLine.{ReadLine}
 use Rattle.machine_model.specs.declared.roots.Complete.{Complete}
 use Rattle.machine_model.specs.declared.roots.CompleteLine.TheVariants as complete
 use Rattle.machine_model.specs.declared.roots.Descriptor.{Descriptor}
@@ -21,7 +22,7 @@ use Rattle.machine_model.specs.Swapping.{complete_action}
 use Rattle.proof_memory.specs.Vocabulary.{HashKind}
 use Rattle.proof_memory.specs.Wants.{Claim, Is, AMain, complete_wants, line_wants, offer_wants, climb_carries}
 use Rattle.lock_free.specs.Live.{refs_of_claim, refs_of_claims}
-use Rattle.lock_free.specs.OfReads.{complete_given, on_given}
+use Rattle.lock_free.specs.OfReads.{complete_given, complete_on, on_given, on_read}
 use Rattle.lock_free.specs.Rooting.{completing_of}
 
 -- a line of COMPLETE: what is so of each program that has one is so of it
@@ -51,6 +52,10 @@ completing_reads = by_program (λ l c. read_of l ≡ completing_read c.offer c.l
 -- after the READ
 pub completing_given : (call : Call) (m : Ref) (l : Line) (c : Complete) → completing_of l ≡ Some c → completing_of (on_given call l m) ≡ Some (complete_given c m)
 completing_given call m = by_program (λ l c. completing_of (on_given call l m) ≡ Some (complete_given c m)) (λ c. refl) (λ d c. refl) (λ c. refl)
+
+-- in its READ
+pub completing_reading : (x : ReadLine) (l : Line) (c : Complete) → completing_of l ≡ Some c → completing_of (on_read l x) ≡ Some (complete_on c x)
+completing_reading x = by_program (λ l c. completing_of (on_read l x) ≡ Some (complete_on c x)) (λ c. refl) (λ d c. refl) (λ c. refl)
 
 -- what its step does
 pub completing_acts : (state : State) (operation : Operation) (l : Line) (c : Complete) → completing_of l ≡ Some c → line_action state operation l ≡ complete_action c

@@ -26,13 +26,15 @@ use Rattle.lock_free.specs.declared.accounts.Known.{Known}
 use Rattle.lock_free.specs.declared.rules.View.{View}
 use Rattle.lock_free.specs.declared.sizes.Sizes.{Sizes}
 use Rattle.lock_free.specs.Accounts.{state_of, running, gone_on}
+use Rattle.lock_free.specs.Fates.{IsUnsettled}
 use Rattle.lock_free.specs.Loading.{Moment, now, seen, IsAt, IsSound}
 use Rattle.lock_free.specs.OfferWords.{IsAtComplete, TookUnmarked, HasCompleted, has_completed, outcome_by, carried_by}
 use Rattle.lock_free.specs.Places.{words_of}
 use Rattle.lock_free.specs.Roots.{open_with, carried_out, IsItsTry}
 use Rattle.lock_free.specs.Rules.{IsSeat, IsKept, IsRuled}
-use Rattle.lock_free.proofs.AbortStep.{known_there}
+use Rattle.lock_free.proofs.AbortStep.{known_there, offer_not_epoch}
 use Rattle.lock_free.proofs.Exchanged.{words_then, words_hit, missed, sound_by}
+use Rattle.lock_free.proofs.Fates.{settled_decides, settled_still}
 use Rattle.lock_free.proofs.Looking.{o_there, acts_there, same_action}
 use Rattle.lock_free.proofs.Moments.{allowed, waited_so}
 use Rattle.lock_free.proofs.OneStep.Settles.{stands}
@@ -41,7 +43,7 @@ use Rattle.lock_free.proofs.Settled.{all_then, settle_kept}
 use Rattle.lock_free.proofs.Stood.{stands_there, stands_no_more}
 
 module _ (v : View) (k : Known) (main : Ref) (known : Contains v.account.offers k) (p : IsAt v (act.Complete k.offer main)) (on : k.handle ≡ handle_of p.operation.call) (expected : Bool)
-    (test : (main == k.offer.expected) ≡ expected) where
+    (test : IsUnsettled v.sizes v.account k → (main == k.offer.expected) ≡ expected) where
   abbrev does : Action
   does = act.Complete k.offer main
 
@@ -88,6 +90,12 @@ module _ (v : View) (k : Known) (main : Ref) (known : Contains v.account.offers 
     no_more : found ≢ 0 → stands_in (word_at state (handle_of o.call)) k.offer ≡ false
     no_more differs = stands_no_more v.sizes s kept k here differs (handle_of o.call) low
 
+    -- where it is undecided it wasn't settled before
+    unsettled : found ≡ 0 → IsUnsettled v.sizes v.account k
+    unsettled e n settled =
+        let there_too = settled_still v.sizes v.account there seat.waited.steps seat.waited.goes_on k n settled in
+        settled_decides n k.offer _ _ settled.settled (sym ((kept.roots.fates k here).once n there_too) ∙ e)
+
     abbrev after : View
     after = seen v (gone_on v.actor there)
 
@@ -103,7 +111,7 @@ module _ (v : View) (k : Known) (main : Ref) (known : Contains v.account.offers 
 
     hits : found ≡ 0 → Settled
     hits e =
-        let settles = complete_settles v.sizes there kept.bounds v.actor o runs k main acts (stood e) expected test in (
+        let settles = complete_settles v.sizes there kept.bounds v.actor o runs k main acts (stood e) expected (test (unsettled e)) in (
           subst (λ ws. IsKept v.sizes (record { words = ws; homes = s.homes; views = set s.views id after })) (words_hit v s kept id at word 0 outcome e word refl)
               (settle_kept v.sizes s kept id v at o runs outcome k here settles on e),
           sound_by v s kept id at (gone_on v.actor there) kept.stands _ (all_then v.sizes s kept id v at o runs outcome k here settles on e),
@@ -124,7 +132,7 @@ module _ (v : View) (k : Known) (main : Ref) (known : Contains v.account.offers 
       pub tells : (is_carried_out (word_at state (handle_of o.call)) k.offer main || o.is_marked) ≡ carried_by found expected
       tells = elim (cases_eq found 0) [
         | inl e ↦
-            ap (λ b. (b && (main == k.offer.expected)) || o.is_marked) (stands v.sizes there kept.bounds v.actor o runs k (stood e)) ∙ ap (λ b. (true && b) || o.is_marked) test
+            ap (λ b. (b && (main == k.offer.expected)) || o.is_marked) (stands v.sizes there kept.bounds v.actor o runs k (stood e)) ∙ ap (λ b. (true && b) || o.is_marked) (test (unsettled e))
             ∙ ap (λ b. (true && expected) || b) (mark_is ∙ ap (λ n. n == carried_out) e) ∙ or_false expected ∙ sym (ap (λ b. if b then expected else (found == carried_out)) (eq-eqb found 0 e))
         | inr differs ↦
             ap (λ b. (b && (main == k.offer.expected)) || o.is_marked) (no_more differs) ∙ mark_is ∙ sym (ap (λ b. if b then expected else (found == carried_out)) (ne_eqb found 0 differs))
@@ -139,7 +147,7 @@ pub complete_allowed : (sizes : Sizes) (size id : ℕ) (me : Me Call View) (some
 complete_allowed sizes size id me some_seats slot expected a =
     subst (λ n. Allows (IsRuled sizes) size id me (2 * n) (λ x. either (x == 0) (outcome_by expected) x) (has_completed (step size (2 * n) 0 (outcome_by expected) none) me)) a.place
     (allowed sizes size id me (2 * a.its.slot) (λ n. either (n == 0) (outcome_by expected) n) (has_completed (step size (2 * a.its.slot) 0 (outcome_by expected) none) me)
-    some_seats
+    some_seats (λ s kept at. inl (offer_not_epoch me.0 s kept id at a.its a.here))
     (λ s kept at. (let x = leaves me.0 a.its a.main a.here a.acts a.on expected a.test s kept id at in
     (seen me.0 (gone_on me.0.actor kept.account), x.0.0, ((record { table = s; kept = kept; id = id; at = at; finds = refl }, refl, x.1), x.0.1, refl))))
     (λ s kept at. refl))

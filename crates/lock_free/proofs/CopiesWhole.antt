@@ -26,18 +26,18 @@ use Rattle.lock_free.specs.declared.rules.View.{View}
 use Rattle.lock_free.specs.Accounts.{bounds_for}
 use Rattle.lock_free.specs.Answering.{HasAnswered}
 use Rattle.lock_free.specs.Calling.{HasCalled, IsCaller, IsCancelled}
-use Rattle.lock_free.specs.CopySteps.{copy_kind, HasMadeCopy, IsAtTry, IsCopying}
+use Rattle.lock_free.specs.CopySteps.{copy_kind, EndsCopy, HasRunCopy, IsAtTry, IsCopying}
 use Rattle.lock_free.specs.Holding.{IsOn}
 use Rattle.lock_free.specs.Loading.{IsAt, IsSound, Runs}
 use Rattle.lock_free.specs.Numbers.{reserving, without_number}
-use Rattle.lock_free.specs.RunningOn.{MayAnswer}
+use Rattle.lock_free.specs.RunningOn.{RunsOn}
 use Rattle.lock_free.specs.SeatCalls.{error_of}
 use Rattle.lock_free.specs.SeatWords.{HasEnded, IsAtEnd, left_by}
 use Rattle.lock_free.specs.Stocks.{IsStock, Stocked}
 use Rattle.lock_free.specs.WholeCalls.{HasCopiedOnce, HasFoundNoSlot, HasLeft, IsCopyCall, IsLack, IsToldCopy, RestsWith, SameSeat, WasDeniedCopy, WasRefusedCopy}
 use Rattle.lock_free.proofs.BetweenCalls.{idle_stock, same_seat}
 use Rattle.lock_free.proofs.CallBegins as call
-use Rattle.lock_free.proofs.CallsRunOn.{at_end, copied, copied_runs_on, copy_full}
+use Rattle.lock_free.proofs.CallsRunOn.{at_end}
 use Rattle.lock_free.proofs.Comings.{runs_one}
 use Rattle.lock_free.proofs.CopyEnds.{ends_marked}
 use Rattle.lock_free.proofs.Waiting.{waited_none}
@@ -105,21 +105,31 @@ module _ (n : ℕ) (v : View) (sound : IsSound n v) (opens : Option ℕ) (rests 
     -- ---- and has run
 
     module _ (sound_u : IsSound n u) (w : View) where
-      pub ends_copied : HasMadeCopy u true w → IsAtEnd w
-      ends_copied h = let on = copied u w first runs_first h in (copied_reply first.call first.opens, at_end w (copied_reply first.call first.opens) on)
+      -- it was made
+      module _ (ran : HasRunCopy u true w) where
+        abbrev r : RunsOn u w
+        r = ran.0
 
-      pub may_refuse : HasMadeCopy u false w → MayAnswer w reply.NoSlots
-      may_refuse h = copy_full u w first runs_first h
+        abbrev ends : EndsCopy w true
+        ends = ran.1
 
-      module _ (x : View) where
-        -- it was made
-        pub came_true : HasMadeCopy u true w → ((told : Reply) → IsAt w (act.End told) → HasEnded w told x) → HasCopiedOnce v c opens (Ok true) x
-        came_true h ends =
+        on_end : IsOn w (line.End (copied_reply c opens))
+        on_end =
+            let (p, rp, is) = r.runs first runs_first in
+            let same = runs_one w ends.0 p ends.1 rp in
+            let call_is : ends.0.call ≡ c = ap (λ (z : Operation). z.call) same ∙ ap (λ (z : Operation). z.call) is in
+            let opens_is : ends.0.opens ≡ opens = ap (λ (z : Operation). z.opens) same ∙ ap (λ (z : Operation). z.opens) is ∙ opens_first in
+            (ends.0, ends.1, ends.2 ∙ ap (λ z. line.End (copied_reply z ends.0.opens)) call_is ∙ ap (λ z. line.End (copied_reply c z)) opens_is)
+
+        pub ends_copied : IsAtEnd w
+        ends_copied = (copied_reply c opens, at_end w (copied_reply c opens) on_end)
+
+        pub came_true : (x : View) → ((told : Reply) → IsAt w (act.End told) → HasEnded w told x) → HasCopiedOnce v c opens (Ok true) x
+        came_true x ended =
             let answer = copied_reply c opens in
-            let on = subst (λ p. IsOn w (line.End (copied_reply c p))) opens_first (copied u w first runs_first h) in
-            let r = copied_runs_on u w true h in
+            let on = on_end in
             let at = at_end w answer on in
-            let e = ends answer at in
+            let e = ended answer at in
             let its = call.call_run v opens rests c way u begun w r on.0 on.1 in
             let mark = mark_ended w x answer on.0 on.1 (ap copies its ∙ is.its) on.2 e ∙ ap (λ z. tells_effect z answer) its ∙ copied_tells c opens in (
               call.same_then v opens rests c way u begun w r answer at x e,
@@ -129,22 +139,21 @@ module _ (n : ℕ) (v : View) (sound : IsSound n v) (opens : Option ℕ) (rests 
               ),
             )
 
-        -- no slot was had for it
-        pub came_false : HasMadeCopy u false w → IsCancelled w x → HasCopiedOnce v c opens (Ok false) x
-        came_false h cancelled =
-            let answer = reply.NoSlots in
-            let may = may_refuse h in
-            let (there, gave, e) = cancelled may.0 answer may.1 may.2 in
-            let r = call.gave_on u w there (copied_runs_on u w false h) answer may gave in
-            let at = call.gave_end w there may.0 answer gave in
-            let its = call.call_run v opens rests c way u begun there r (gave_up may.0 answer) gave.runs in
-            let mark = mark_ended there x answer (gave_up may.0 answer) gave.runs (ap copies its ∙ is.its) refl e in (
-              call.same_then v opens rests c way u begun there r answer at x e,
-              (
-                call.answered v opens rests c way u begun there r answer at x e n sound sound_u,
-                subst (λ m. RestsWith x (left_by m opens)) mark (call.rests_then v opens rests c way u begun there r answer at x e),
-              ),
-            )
+      -- no slot was had for it, or it was out of tries
+      pub came_false : HasRunCopy u false w → (x : View) → IsCancelled w x → HasCopiedOnce v c opens (Ok false) x
+      came_false (on, may) x cancelled =
+          let answer = reply.NoSlots in
+          let (there, gave, e) = cancelled may.0 answer may.1 may.2 in
+          let r = call.gave_on u w there on answer may gave in
+          let at = call.gave_end w there may.0 answer gave in
+          let its = call.call_run v opens rests c way u begun there r (gave_up may.0 answer) gave.runs in
+          let mark = mark_ended there x answer (gave_up may.0 answer) gave.runs (ap copies its ∙ is.its) refl e in (
+            call.same_then v opens rests c way u begun there r answer at x e,
+            (
+              call.answered v opens rests c way u begun there r answer at x e n sound sound_u,
+              subst (λ m. RestsWith x (left_by m opens)) mark (call.rests_then v opens rests c way u begun there r answer at x e),
+            ),
+          )
 
   -- ---- it was denied
 

@@ -25,6 +25,15 @@ use Rattle.lock_free.specs.Stocks.{Stocked, IsStock}
 use Rattle.lock_free.proofs.Comings.{runs_one}
 use Rattle.lock_free.proofs.RunningOn.{still_self, still_both, still_later}
 use Rattle.lock_free.proofs.StockStays.{stock_later}
+use Rattle.history.specs.declared.replies.Reply.TheVariants as reply
+use Rattle.lock_free.specs.declared.leaving.Completing.{Completing}
+use Rattle.lock_free.specs.declared.leaving.Left.{Left}
+use Rattle.lock_free.specs.CopySteps.{LeavesCopy}
+use Rattle.lock_free.specs.Leaving.{HasLeftOff, MayLeave}
+use Rattle.lock_free.specs.RunningOn.{RunsOn}
+use Rattle.lock_free.proofs.Leavings.{may_on}
+use Rattle.lock_free.proofs.RunningOn.{runs_on_both, runs_on_moved}
+use Rattle.lock_free.proofs.StockStays.{stock_moved}
 
 -- a copy reads the root's main node first
 read_first : (call : Call) (r : Ref) → copies call ≡ true → from_root call r ≡ line.Copy (copy.Read r (reading r))
@@ -66,6 +75,23 @@ module _ (u v : View) (at : IsAtTry u) (h : HasComeTo (λ o. new_try) u v) where
       let same = runs_one v q now_is s came.3 in
       let it = on o at.1 in
       (ap (λ (z : Operation). z.access) same ∙ it.0, ap (λ (z : Operation). handle_of z.call) same ∙ it.1)
+
+  -- it is out of tries
+  runs_v : RunsOn u v
+  runs_v = record { still = h.still; runs = λ q s. (let y = h.comes q s in (tried_on y.0 y.1 y.2 new_try q, y.3, refl)) }
+
+  may_v : MayLeave (λ call. reply.NoSlots) v
+  may_v = may_on (λ call. reply.NoSlots) v new_try (now_is, came.3, refl) (λ call. refl)
+
+  pub anew_left : RunsOn u v × MayLeave (λ call. reply.NoSlots) v
+  anew_left = (runs_v, may_v)
+
+  module _ (result : Left) (w : View) (off : HasLeftOff v result w) where
+    pub rootless : RunsOn u w × MayLeave (λ call. reply.NoSlots) w
+    rootless = (runs_on_both u v w runs_v (runs_on_moved v w off.next off.moved), off.leaves (λ call. reply.NoSlots) may_v)
+
+    pub rootless_stock : (n : ℕ) → IsSound n v → (stock : Stocked) → IsStock stock v → IsStock stock w
+    rootless_stock n sound stock is = stock_moved n v w sound now_is came.3 stock is off.next off.moved
 
   -- the root is read
   module _ (n : ℕ) (sound : IsSound n v) (given : Rooted) (w : View) (r : HasRooted v given w) where
@@ -131,4 +157,13 @@ module _ (u v : View) (at : IsAtTry u) (h : HasComeTo (λ o. new_try) u v) where
         stops = λ q s.
             (let y = comes_to_read q s in
             let z = t.stops (tried_on y.0 y.1 (Some given.generation) (root_line q) q) y.2 in (z.0, y.1, Some given.generation, z.1, z.2, z.3));
+      }
+
+      -- its COMPLETE is under way
+      pub copy_left : (k : CopyKind) (handle : ℕ) (opens : Option ℕ) (next : Completing) → LeavesCopy w k handle opens next x → LeavesCopy u k handle opens next x
+      copy_left k handle opens next l = record {
+        on = runs_on_both u w x
+            (record { still = still_w; runs = λ q s. (let y = comes_to_read q s in (tried_on y.0 y.1 (Some given.generation) (root_line q) q, y.2, refl)) }) l.on;
+        is = l.is;
+        opening = l.opening;
       }

@@ -1,5 +1,5 @@
 -- COPY reads the main node of its root, and completes its offer by the one that its root has then.
-use Rattle.std.proofs.Common.{◌≡◌, ◌||◌, ℕ, Bool, None, refl, sym, ap, subst, ◌∙◌, if◌then◌else◌}
+use Rattle.std.proofs.Common.{◌≡◌, ◌||◌, ℕ, Bool, refl, sym, ap, subst, ◌∙◌, if◌then◌else◌}
 use Rattle.machine_model.specs.Beneath.slot_arena.specs.declared.refs.Ref.{Ref}
 use Rattle.machine_model.specs.Beneath.slot_arena.specs.Heaps.{no_ref}
 use Rattle.machine_model.specs.declared.actions.Action.TheVariants as act
@@ -24,6 +24,7 @@ use Rattle.machine_model.specs.Swapping.{completing, is_carried_out}
 use Rattle.lock_free.specs.declared.accounts.Account.{Account}
 use Rattle.lock_free.specs.declared.reading.Given.{Given}
 use Rattle.lock_free.specs.declared.reading.Passed.TheVariants as passed
+use Rattle.lock_free.specs.declared.reading.ReadFrom.TheVariants as resume
 use Rattle.lock_free.specs.declared.rules.View.{View}
 use Rattle.lock_free.specs.Accounts.{bounds_for}
 use Rattle.lock_free.specs.CopySteps.{IsAtCopy, IsAtOriginal, HasReadOriginal, HasOriginal, IsToComplete, HasCopied, copied_line}
@@ -35,6 +36,11 @@ use Rattle.lock_free.specs.Places.{words_of}
 use Rattle.lock_free.specs.Roots.{IsItsTry}
 use Rattle.lock_free.proofs.Comings.{runs_one}
 use Rattle.lock_free.proofs.Laters.{later_both, gone_later}
+use Rattle.machine_model.specs.declared.reading.After.TheVariants.{Goes}
+use Rattle.machine_model.specs.declared.reading.ReadLine.{ReadLine}
+use Rattle.lock_free.specs.declared.reading.ReadFrom.{ReadFrom}
+use Rattle.lock_free.specs.Passing.{HasCome}
+use Rattle.lock_free.proofs.OnePass.{line_from}
 
 -- ---- on a line of COPY
 
@@ -59,8 +65,11 @@ module _ (before : View) (name : ℕ) (is_at : IsAtOriginal before name) where
   pub is_reading : IsReading before root read.Main
   is_reading = (is_at.1.0, is_at.1.1, ap read_of is_at.1.2)
 
-  pub passing : IsPassing before name None
+  pub passing : IsPassing before name resume.Start
   passing = (root, is_at.2, is_reading)
+
+  pub original_spent : (place : ReadFrom) (w : View) → HasPassed before (passed.Again place) w → (reads : ReadLine) × HasCome (Goes reads) before w
+  original_spent place w h = line_from before w root place (h root read.Main is_reading)
 
   pub original_read : (given : Given) (after : View) → HasPassed before (passed.Gives given) after → HasOriginal before given after
   original_read given after p other at =
@@ -81,10 +90,10 @@ module _ (before : View) (name : ℕ) (is_at : IsAtOriginal before name) where
 -- ---- the offer is completed
 
 -- with this main node
-abbrev completing_with : Descriptor → Ref → Line
+abbrev pub completing_with : Descriptor → Ref → Line
 completing_with offer main = line.Copy (copy.Complete (record { offer = offer; line = complete.Swap main }))
 
-complete_step : (state : State) (o : Operation) (offer : Descriptor) (main : Ref) (carried : Bool) → (is_carried_out (word_at state (handle_of o.call)) offer main || o.is_marked) ≡ carried →
+pub complete_step : (state : State) (o : Operation) (offer : Descriptor) (main : Ref) (carried : Bool) → (is_carried_out (word_at state (handle_of o.call)) offer main || o.is_marked) ≡ carried →
     operation_after state (record o { line = completing_with offer main }) ≡ record o { line = copied_line carried o }
 complete_step state o offer main carried is = ap (λ b. record o { line = if b then line.End (copied_reply o.call o.opens) else new_try }) is
 

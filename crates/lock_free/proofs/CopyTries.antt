@@ -43,6 +43,15 @@ use Rattle.lock_free.proofs.Pools.{first_there}
 use Rattle.lock_free.proofs.RunningOn.{still_both, still_later, still_with}
 use Rattle.lock_free.proofs.StockStays.{stock_later, stock_moved}
 use Rattle.lock_free.proofs.SwapsMade.{back_is}
+use Rattle.machine_model.specs.declared.reading.After.TheVariants.{Goes}
+use Rattle.machine_model.specs.Reading.{reading}
+use Rattle.lock_free.specs.declared.leaving.Completing.{Completing}
+use Rattle.lock_free.specs.CopySteps.{HasCopiedOn, LeavesCopy}
+use Rattle.lock_free.specs.OfReads.{at_line, on_read, read_to}
+use Rattle.lock_free.specs.Passing.{HasCome}
+use Rattle.machine_model.specs.declared.reading.ReadLine.{ReadLine}
+use Rattle.lock_free.proofs.CopyReads.{copy_line}
+use Rattle.lock_free.proofs.RunningOn.{runs_on_both}
 
 -- ---- the root is read
 
@@ -192,6 +201,22 @@ module _ (n : ℕ) (u : View) (sound : IsSound n u) (k : CopyKind) (handle : ℕ
 
     -- ---- it stands
 
+    -- it doesn't stand yet, since something else stood there
+    module _ (sound_w : IsSound n w) (x : View) (saw : Saw w x) where
+      pub unoffered : HasStopped u x
+      unoffered = record {
+        still = still_both u w x still_w (still_later w x (saw_later n w sound_w x saw));
+        stops = λ q s.
+            (let is = is_offering q s in
+            (is.private, copy.Offer offer, saw_runs w x saw (record q { private = is.private; line = line.Copy (copy.Offer offer) }) is.runs, refl));
+      }
+
+      pub unoffered_stock : (stock : Stocked) → IsStock stock w → IsStock stock x
+      unoffered_stock stock is =
+          let p = is_offering o at.1.1 in
+          let q : Operation = record o { private = p.private; line = line.Copy (copy.Offer offer) } in
+          stock_later n w x sound_w q p.runs stock is (saw_later n w sound_w x saw) q (saw_runs w x saw q p.runs) refl
+
     module _ (sound_w : IsSound n w) (x : View) (stands : HasOffered w slot x) where
       abbrev then : Account
       then = stands.0
@@ -257,6 +282,38 @@ module _ (n : ℕ) (u : View) (sound : IsSound n u) (k : CopyKind) (handle : ℕ
         made = none ∙ ap (map (made_of x)) (sym (none_own x true then stands.1));
       }
 
+      -- its COMPLETE is under way
+      module _ (sound_x : IsSound n x) (next : Completing) (y : View) (h : HasCopiedOn x handle slot next y) where
+        pub left_stock : (stock noted next : Stocked) → IsStock stock w → noted.sizes ≡ stock.sizes → NotesLast stock 1 noted → next.sizes ≡ noted.sizes → next.pool ≡ noted.pool → next.made ≡ [] →
+            IsStock next y
+        left_stock stock noted next is sizes notes sizes_next pool none =
+            stock_moved n x y sound_x (completes o) (completing_it o at.1.1) next (stock_then stock noted next is sizes notes sizes_next pool none) (λ q. on_read q.line h.reads)
+            (record { later = h.come.later; comes = h.come.comes })
+
+        opens_left : IsToOpenAll y k opens slot
+        opens_left number is =
+            let (has, two) = to_open number is in (
+              c.low number is,
+              (
+                record {
+                  its = has.its;
+                  here = h.come.later.offers has.its has.here;
+                  place = has.place;
+                  opens = has.opens;
+                  inside = subst (λ (z : View). 2 * slot + words_in 1 ≤ words_of z.sizes) (sym h.come.later.is) has.inside;
+                },
+                two,
+              ),
+            )
+
+        pub left_copy : LeavesCopy u k handle opens next y
+        left_copy = record {
+          on = runs_on_both u x y (record { still = still_step x then stands.1.0 stood stood_so refl; runs = λ q s. (completes q, completing_it q s, refl) })
+              (record { still = still_later x y h.come.later; runs = λ q s. (read_to (Goes h.reads) q, h.come.comes q s, refl) });
+          is = h.is;
+          opening = subst (IsToOpenAll y k opens) (sym h.same) opens_left;
+        }
+
       -- and is completed
       module _ (sound_x : IsSound n x) (carried : Bool) (y : View) (copied : HasCopied x carried y) where
         pub copied_stock : (stock noted next : Stocked) → IsStock stock w → noted.sizes ≡ stock.sizes → NotesLast stock 1 noted → next.sizes ≡ noted.sizes → next.pool ≡ noted.pool → next.made ≡ [] →
@@ -298,3 +355,20 @@ module _ (n : ℕ) (u : View) (sound : IsSound n u) (k : CopyKind) (handle : ℕ
           opened_stock stock t is =
               stock_later n y z sound_y (copied_on carried o) (t.comes o at.1.1) stock is (saw_later n y sound_y z saw) (copied_on carried o)
               (saw_runs y z saw (copied_on carried o) (t.comes o at.1.1)) refl
+
+-- ---- the READ is out of tries
+
+module _ (n : ℕ) (u : View) (sound : IsSound n u) (name : ℕ) (at : IsAtOriginal u name) (v : View) (h : (reads : ReadLine) × HasCome (Goes reads) u v) where
+  pub spent_stock : (stock : Stocked) → IsStock stock u → IsStock stock v
+  spent_stock stock is = stock_moved n u v sound at.1.0 at.1.1 stock is (λ q. on_read q.line h.0) (record { later = h.1.later; comes = h.1.comes })
+
+  pub spent_stopped : HasStopped u v
+  spent_stopped = record {
+    still = still_later u v h.1.later;
+    stops = λ q s. (
+      q.private,
+      copy.Read at.0 (at_line (reading at.0) h.0),
+      subst (λ l. Runs v (record q { line = on_read l h.0 })) (copy_line u (copy.Read at.0 (reading at.0)) at.1 q s) (h.1.comes q s),
+      refl,
+    );
+  }

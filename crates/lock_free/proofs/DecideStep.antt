@@ -21,10 +21,11 @@ use Rattle.machine_model.specs.Beneath.slot_arena.specs.Refs.{slot_of}
 use Rattle.machine_model.specs.declared.actions.Action.{Action}
 use Rattle.machine_model.specs.declared.actions.Action.TheVariants as act
 use Rattle.std.specs.Option.{option_eq}
-use Rattle.std.proofs.Common.{nat_eq}
+use Rattle.std.proofs.Common.{nat_eq, ◌≢◌, inl}
 use Rattle.trie_words.specs.declared.headers.Shape.{Shape}
 use Rattle.machine_model.specs.Reading.{is_licensed, is_pending}
 use Rattle.proof_memory.specs.Wants.{is_main_node}
+use Rattle.lock_free.specs.Places.{epoch_word}
 use Rattle.lock_free.specs.declared.accounts.Account.{Account}
 use Rattle.lock_free.specs.declared.rules.View.{View}
 use Rattle.lock_free.specs.declared.sizes.Sizes.{Sizes}
@@ -40,7 +41,7 @@ use Rattle.lock_free.proofs.DecidedKept.{decide_kept}
 use Rattle.lock_free.proofs.Exchanged.{AllowsExchange, Leaves, words_hit, missed, sound_by}
 use Rattle.lock_free.proofs.LinkWords.{same_generation}
 use Rattle.lock_free.proofs.Looking.{went, link_there, same_action}
-use Rattle.lock_free.proofs.Moments.{allowed, took_by, its_place}
+use Rattle.lock_free.proofs.Moments.{allowed, took_by, its_place, not_epoch}
 use Rattle.lock_free.proofs.Verdicts.{o, runs, main_is, shape_now, previous_now, case_is, Case, was_pending, was_decided}
 
 -- what an exchange writes over a header that is pending
@@ -86,6 +87,9 @@ module _ (v : View) (i main replaced : Ref) (told : Option ℕ) (p : IsAt v (act
 
     case : Case v word found m i main replaced told p its_word header fits over
     case = case_is v word found m i main replaced told p its_word header fits over
+
+    pub is_elsewhere : word ≢ epoch_word
+    is_elsewhere = not_epoch v s kept id at main (main_is v word found m i main replaced told p its_word header fits over).0 word its_word
 
     abbrev Left : Type 0
     Left = Leaves v s kept id at word old new
@@ -159,7 +163,7 @@ pub decide_allowed : (sizes : Sizes) (size id : ℕ) (me : Me Call View) (some_s
 decide_allowed sizes size id me some_seats name header fits licensed is_at =
     allowed sizes size id me (2 * name) (λ n. either (n == header_code header) (header_code (decided_header licensed header)) n)
     (has_gone (step size (2 * name) (header_code header) (header_code (decided_header licensed header)) none) me)
-    some_seats
+    some_seats (λ s kept at. inl (is_elsewhere me.0 is_at.0 is_at.1 is_at.2 is_at.3 is_at.4 name is_at.5 header fits is_at.6 licensed is_at.7 s kept id at))
     (λ s kept at. (let x = it_leaves me.0 name header fits licensed is_at s kept id at in
     (seen me.0 (gone_on me.0.actor kept.account), x.0, ((record { table = s; kept = kept; id = id; at = at; finds = refl }, refl, x.1.1), x.1.0, refl))))
     (λ s kept at. refl)

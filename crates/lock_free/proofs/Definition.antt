@@ -89,7 +89,8 @@ module _ (sizes : Sizes) (account : Account) (bounds : AreBounds (bounds_for siz
     reads_then : Reads sizes account actor operation
     reads_then =
         let tries = reading_tries operation.attempt operation.is_marked (action_of state operation) h in
-        leads sizes account bounds actor operation runs g (reading_goes (action_of state operation) h).1 same nothing (λ r k. refl) (λ r h. refl) (λ i a over. makes_none operation.line i a h over)
+        leads sizes account bounds actor operation runs g (reading_goes (action_of state operation) h).1 same nothing (λ r k. refl) (λ r h. refl) (λ x h g. refl)
+        (λ i a over. makes_none operation.line i a h over)
         (λ i a f ahead kept. publishes_none operation.line i a f h ahead)
         (as_before (tries_stay sizes account bounds actor operation runs g (reading_goes (action_of state operation) h).1 tries.0 tries.1))
 

@@ -77,6 +77,7 @@ module _ (sizes : Sizes) (s : Table.State Call View) (kept : IsKept sizes s) (id
   stays : Stays sizes s kept id v at kept.account kept.stands words_then
   stays = record {
     waits = λ actor first differs h. h;
+    still = λ x h. h.still;
     others = λ a apart. ran_so (state_of sizes kept.account) (state_of sizes kept.account) a refl;
     pins = λ a some most apart. pin_same a most;
     named = λ other w e apart handle slot o x. root_same handle x.low;

@@ -21,7 +21,7 @@ use Rattle.lock_free.specs.Places.{pin_word, words_of}
 use Rattle.lock_free.specs.Rules.{IsKept, IsRuled}
 use Rattle.lock_free.specs.SeatWords.{HasEnded, IsAtEnd, left_by, once_ended, has_ended}
 use Rattle.lock_free.proofs.Ended.{all_then, end_kept}
-use Rattle.lock_free.proofs.Moments.{allowed, waited_so, free_inside}
+use Rattle.lock_free.proofs.Moments.{allowed_unpinned, waited_so, free_inside}
 use Rattle.lock_free.proofs.OneStep.Sitting.{ends_of}
 use Rattle.lock_free.proofs.OneStep.Telling.{end_told}
 
@@ -97,8 +97,8 @@ same_answer v a b p q =
 pub end_allowed : (sizes : Sizes) (size id : ℕ) (me : Me Call View) (some_seats : 1 ≤ me.0.sizes.seats) → IsAtEnd me.0 →
     Allows (IsRuled sizes) size id me (pin_word me.0.actor) (λ n. 0) (λ n. has_ended (step size (pin_word me.0.actor) 0 0 none) me 0)
 end_allowed sizes size id me some_seats (answer, p) =
-    allowed sizes size id me (pin_word me.0.actor) (λ n. 0) (λ n. has_ended (step size (pin_word me.0.actor) 0 0 none) me 0)
-    some_seats
+    allowed_unpinned sizes size id me (pin_word me.0.actor) (λ n. 0) (λ n. has_ended (step size (pin_word me.0.actor) 0 0 none) me 0)
+    some_seats (λ s kept at. inl (λ e. omega (arith, e)))
     (λ s kept at. (
       after me.0 answer p s kept id at,
       kept_after me.0 answer p s kept id at,

@@ -106,6 +106,7 @@ module _ (sizes : Sizes) (s : Table.State Call View) (kept : IsKept sizes s) (id
   stays : Stays sizes s kept id v at account_then kept.stands words_then
   stays = record {
     waits = waits;
+    still = λ x h. h.still;
     others = λ a differs. ran_so now next a (ends.others a differs);
     pins = λ a positive most_a differs. root.else_pinned sizes kept.account kept.stands s.words all v.actor seat.low most 0 a differs;
     named = λ other w e apart handle slot o x. root_same handle x.low;
@@ -119,7 +120,7 @@ module _ (sizes : Sizes) (s : Table.State Call View) (kept : IsKept sizes s) (id
   own_then =
       own_else sizes s kept id v at account_then kept.stands words_then stays account_then (waited_none v.actor account_then)
       (λ a above below. waits a (first_account sizes) (λ is. absurd (omega (arith, above, is))) (seat.rested a above below)) all_then.counted None None v.closing opens None
-      (root.at_p sizes kept.account kept.stands s.words all v.actor seat.low most 0) (λ g e. absurd (none-some g e)) (λ o e. absurd (none-some o (sym ends.own ∙ e)))
+      (root.at_p sizes kept.account kept.stands s.words all v.actor seat.low most 0) (λ p is. absurd (none-some p is)) (λ g e. absurd (none-some g e)) (λ o e. absurd (none-some o (sym ends.own ∙ e)))
       (λ g r. still_held g (seat.opens g (own_reserved g r.0))) (λ o e. absurd (none-some o (sym ends.own ∙ e))) (λ g slot o n. absurd (none-some slot n))
       (λ b name free. stays_spare id v b name at free)
 

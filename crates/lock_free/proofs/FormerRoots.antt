@@ -13,7 +13,7 @@ use Rattle.machine_model.specs.Beneath.slot_arena.specs.Refs.{slot_of}
 use Rattle.machine_model.specs.States.{State}
 use Rattle.lock_free.specs.declared.accounts.Account.{Account}
 use Rattle.lock_free.specs.declared.rules.View.{View}
-use Rattle.lock_free.specs.Accounts.{state_of, place_of, WasReached, OwnIs}
+use Rattle.lock_free.specs.Accounts.{state_of, place_of, WasRoot, OwnIs}
 use Rattle.lock_free.specs.Loading.{Moment, now, IsSound, HasSeen}
 use Rattle.lock_free.specs.Nodes.{StandsAs, InTable, class_of}
 use Rattle.lock_free.specs.RootWords.{IsRootAt, HasSeenGeneration}
@@ -51,7 +51,7 @@ module _ (before : View) (name found : ℕ) (m : Moment before (2 * name) found)
     is_link : slot.node ≡ Indirection h.generation main
     main_used : (other : Slot) × (get_or state.heap.slots (slot_of main) None ≡ Some other)
 
-  reached : WasReached before.sizes there r
+  reached : WasRoot before.sizes there r
   reached =
       let waited = (seat before m.table m.kept m.id m.at).waited in reached_still before.sizes before.account there waited.steps waited.goes_on r h.reached
 

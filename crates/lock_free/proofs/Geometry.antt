@@ -1,8 +1,8 @@
 -- No two things have a word in common.
-use Rattle.std.proofs.Common.{◌≡◌, ◌+◌, ◌*◌, ◌<◌, ◌≤◌, ℕ, zero, suc, List, refl, ap, subst, arith, if◌then◌else◌}
+use Rattle.std.proofs.Common.{◌≡◌, ◌≢◌, ◌+◌, ◌*◌, ◌<◌, ◌≤◌, ℕ, zero, suc, List, refl, ap, subst, arith, if◌then◌else◌}
 use Rattle.std.proofs.lemmas.Bool.{ne_eqb}
 use Rattle.lock_free.specs.declared.sizes.Sizes.{Sizes}
-use Rattle.lock_free.specs.Places.{part_of, words_in, slots_in, first_slot_word, words_of, root_word, IsTaken, HaveTaken}
+use Rattle.lock_free.specs.Places.{epoch_word, part_of, words_in, slots_in, first_slot_word, words_of, root_word, IsTaken, HaveTaken}
 
 -- the word is one of the slot's
 pub record IsWordOf (class name i : ℕ) : Type 0 where
@@ -88,3 +88,8 @@ root_apart zero zero e = refl
 root_apart zero (suc h) e = absurd (omega (arith, e, next_root h))
 root_apart (suc g) zero e = absurd (omega (arith, e, next_root g))
 root_apart (suc g) (suc h) e = omega (arith, e, next_root g, next_root h)
+
+-- it isn't the epoch's
+pub root_not_epoch : (handle : ℕ) → root_word handle ≢ epoch_word
+root_not_epoch zero e = absurd (omega (arith, e))
+root_not_epoch (suc handle) e = absurd (omega (arith, e, next_root handle))

@@ -1,7 +1,7 @@
 -- A load lets a seat's operation give up.
 use Rattle.history.specs.declared.calls.Call.{Call}
 use Rattle.history.specs.declared.replies.Reply.{Reply}
-use Rattle.std.proofs.Common.{◌≤◌, ◌≡◌, ◌<◌, ℕ, Bool, set, Some, refl, sym, ap, subst, ◌∙◌, arith}
+use Rattle.std.proofs.Common.{◌≤◌, ◌≡◌, ◌<◌, ℕ, Bool, set, Some, refl, sym, ap, subst, ◌∙◌, arith, inr}
 use Rattle.std.proofs.lemmas.List.{set-get_or}
 use Rattle.std.proofs.lemmas.Option.{same_Some}
 use mathlib.Core.Option.{some, none}
@@ -75,7 +75,7 @@ pub give_up_allowed : (sizes : Sizes) (size id : ℕ) (me : Me Call View) (some_
     Allows (IsRuled sizes) size id me epoch_word (λ n. n) (has_given_up (step size epoch_word 0 0 none) me)
 give_up_allowed sizes size id me some_seats (operation, answer, runs, may) =
     allowed sizes size id me epoch_word (λ n. n) (has_given_up (step size epoch_word 0 0 none) me)
-    some_seats
+    some_seats (λ s kept at. inr refl)
     (λ s kept at. (
       after me.0 operation answer runs may s kept id at,
       subst (λ ws. IsKept me.0.sizes (record { words = ws; homes = s.homes; views = set s.views id (after me.0 operation answer runs may s kept id at) })) (sym (set-get_or s.words epoch_word 0))

@@ -7,6 +7,7 @@ use lib.ListN.{get_elem?}
 use Rattle.atomic_table.specs.Table as Table
 use Rattle.atomic_table.specs.Table.{Me, Act, gives, keeps, chain, carried_after, homes_after, Valid, Allows, Joins, step}
 use Rattle.atomic_table.proofs.Lists.{at_set, set_else}
+use Rattle.lock_free.proofs.EpochStays.{IsAsWas, Was, epochs_stay, stays_elsewhere, was_one, was_then}
 use Rattle.lock_free.specs.declared.rules.Heard.{Heard}
 use Rattle.lock_free.specs.declared.rules.View.{View}
 use Rattle.lock_free.specs.declared.sizes.Sizes.{Sizes}
@@ -19,6 +20,7 @@ use Rattle.lock_free.proofs.GivenBack.{first_or}
 use Rattle.lock_free.proofs.GoneSeats.{given_up_still, heard_still}
 use Rattle.lock_free.proofs.Meanings.{no_tries}
 use Rattle.lock_free.proofs.Moments.{seen_view, seen_kept}
+use Rattle.lock_free.proofs.RetiredStay.{epoch_still, retired_then}
 use Rattle.lock_free.proofs.Pools.{first_there, more_there}
 
 -- ---- the rule
@@ -67,6 +69,8 @@ module _ (sizes : Sizes) (s : Table.State Call View) (kept : IsKept sizes s) (id
     rested = mine.rested;
     rests = mine.rests;
     pinned = mine.pinned;
+    pinned_idle = mine.pinned_idle;
+    retired = mine.retired;
     entered = mine.entered;
     calls = mine.calls;
     opens = mine.opens;
@@ -131,7 +135,20 @@ module _ (sizes : Sizes) (id : ℕ) (v : View) (some_v : 1 ≤ v.sizes.seats) (o
   ]
 
   pub heard_ruled : IsRuled sizes (record { words = s.words; homes = s.homes; views = views_then })
-  heard_ruled = record { kept = kept_then; heard = heard_then }
+  heard_ruled = record {
+    kept = kept_then;
+    epochs = epochs_stay s.words s.words s.views views_then refl (λ k x f. was k x f) ruled.epochs;
+    retired =
+        retired_then (set s.views id (hearing v w)) other w e (gone w) refl (λ p is. is) sizes s.words s.words (omega arith)
+        (retired_then s.views id v at (hearing v w) refl (λ p is. is) sizes s.words s.words (omega arith) ruled.retired);
+    heard = heard_then;
+  }
+    where
+      was : (k : ℕ) (x : View) → get_elem? views_then k ≡ some x → Was s.views x
+      was k x f = elim (at_set (set s.views id (hearing v w)) other k (gone w) x f) [
+        | inl p ↦ was_one other w was_there (subst (IsAsWas w) p.1 (record { actor = refl; epoch = refl; passed = refl; pinned = λ q e. e }))
+        | inr p ↦ was_then s.views id v at (hearing v w) (record { actor = refl; epoch = refl; passed = refl; pinned = λ q e. e }) k x p.1
+      ]
 
 pub hearing_joins : (sizes : Sizes) (id : ℕ) (v : View) → 1 ≤ v.sizes.seats → (other : ℕ) (w : View) → 1 ≤ w.sizes.seats → Joins (IsRuled sizes) id v other w (hearing v w) (gone w)
 hearing_joins sizes id v some_v other w some_w s ruled at apart e = heard_ruled sizes id v some_v other w some_w s ruled at apart e
@@ -167,6 +184,12 @@ module _ (sizes : Sizes) (size id : ℕ) (me : Me Call View) (word : ℕ) (some_
         record {
           kept =
               subst (λ z. IsKept z (record { words = set s.words word (slice_index s.words word); homes = homes_after s.homes me.1 (gives_all me.1); views = set s.views id view })) its there;
+          epochs =
+              epochs_stay s.words (set s.words word (slice_index s.words word)) s.views (set s.views id view) (stays_elsewhere s.words word (λ n. n) (inr refl))
+              (was_then s.views id me.0 at view (record { actor = refl; epoch = refl; passed = refl; pinned = λ q e. e })) ruled.epochs;
+          retired =
+              retired_then s.views id me.0 at view refl (λ p is. is) sizes s.words (set s.words word (slice_index s.words word))
+              (epoch_still s.words (set s.words word (slice_index s.words word)) (stays_elsewhere s.words word (λ n. n) (inr refl))) ruled.retired;
           heard = heard_still s.views id me.0 at some_seats view refl ruled.heard;
         },
         ((record { table = s; kept = own; id = id; at = at; finds = refl }, refl), none_left me.1),

@@ -211,6 +211,7 @@ module _ (sizes : Sizes) (s : Table.State Call View) (kept : IsKept sizes s) (id
   stays : Stays sizes s kept id v at account_then stands_then s.words
   stays = record {
     waits = waits;
+    still = λ x h. live_then (dropped x.number) x.number refl (leads.retired x h.was h.grown) h.still;
     others = λ a differs. ran_so now next_state a (leads.others a differs);
     pins = λ a some most apart. refl;
     named = λ other w e apart handle slot o x. refl;

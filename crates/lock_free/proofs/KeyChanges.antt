@@ -9,10 +9,14 @@ use Rattle.machine_model.specs.declared.lines.Line.TheVariants as line
 use Rattle.machine_model.specs.Calls.{changed_reply, key_of, value_of}
 use Rattle.nodes.specs.Levels.{flag_of}
 use Rattle.proof_memory.proofs.Claims.Uses.{fact_of}
+use Rattle.lock_free.specs.declared.attempts.Attempt.TheVariants as attempt
 use Rattle.lock_free.specs.declared.building.Builder.{Builder}
 use Rattle.lock_free.specs.declared.changing.Edit.{Edit}
 use Rattle.lock_free.specs.declared.descending.Update.{Update}
 use Rattle.lock_free.specs.declared.descending.Update.TheVariants as update
+use Rattle.lock_free.specs.declared.leaving.Swapping.{Swapping}
+use Rattle.lock_free.specs.declared.parking.Came.TheVariants as came
+use Rattle.lock_free.specs.declared.parking.Parked.TheVariants as parked
 use Rattle.lock_free.specs.declared.reading.Given.{Given}
 use Rattle.lock_free.specs.declared.rules.View.{View}
 use Rattle.lock_free.specs.declared.swapping.Swapped.{Swapped}
@@ -24,6 +28,7 @@ use Rattle.lock_free.specs.Changing.{IsChange}
 use Rattle.lock_free.specs.Descending.{IsTask}
 use Rattle.lock_free.specs.GoingDown.{IsFlag}
 use Rattle.lock_free.specs.Holding.{IsOn}
+use Rattle.lock_free.specs.Leaving.{IsUpdate, LeavesChange, LeavesSwap}
 use Rattle.lock_free.specs.Loading.{IsSound}
 use Rattle.lock_free.specs.Updating.{HasChanged, HasUpdated, IsAtChange, IsAtUpdate}
 use Rattle.lock_free.proofs.CallsRunOn.{changed_commits, changed_fails, changed_full, changed_misses, changed_runs_on, updated_commits, updated_fails, updated_full, updated_misses, updated_runs_on}
@@ -89,6 +94,9 @@ module _ (v : View) (task : Task) (t : IsTask v task) (slots : List ℕ) (some :
     gave w (Some Fails) h = (updated_runs_on v w former (Some Fails) h, updated_fails v w former at.on.0 at.on.1 h)
     gave w (Some Misses) h = (updated_runs_on v w former (Some Misses) h, updated_misses v w former at.on.0 at.on.1 h)
 
+    pub gave_parked : (w : View) (s : Swapping) → LeavesSwap (IsUpdate former) v s w → HasAttempted v (attempt.Comes (came.Parked (parked.Changes s former))) w
+    gave_parked w s h = (h.on, (h.its, h.aim))
+
   -- ---- an entry is taken out
 
   pub change_by : (c : Update) (at : IsToChange v slots given c) (its : Change) (former : Option ℕ) → IsOn v (line.Build (build.Main at.path at.main its former)) → (e : Edit) → IsChange v e its →
@@ -132,3 +140,6 @@ module _ (v : View) (task : Task) (t : IsTask v task) (slots : List ℕ) (some :
       changed_runs_on v w at.path at.main (change.Remove position) (Some former) at.on (Some Misses) h,
       changed_misses v w at.path at.main (change.Remove position) (Some former) at.on at.on.0 at.on.1 h,
     )
+
+    pub removal_parked : (w : View) (s : Swapping) → LeavesChange v s w → HasAttempted v (attempt.Comes (came.Parked (parked.Changes s (Some former)))) w
+    removal_parked w s h = let l = h at.path at.main (change.Remove position) (Some former) at.on in (l.on, (l.its, l.aim))

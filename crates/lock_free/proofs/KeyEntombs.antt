@@ -12,30 +12,37 @@ use Rattle.machine_model.specs.declared.operations.Operation.{Operation}
 use Rattle.machine_model.specs.declared.repairs.Climb.{Climb}
 use Rattle.machine_model.specs.Calls.{changed_reply, key_of}
 use Rattle.machine_model.specs.Climbing.{climbing}
+use Rattle.machine_model.specs.GivingUp.{gave_up}
 use Rattle.nodes.specs.Levels.{flag_of}
 use Rattle.proof_memory.proofs.Claims.Uses.{meets_of}
 use Rattle.lock_free.specs.declared.attempts.Attempt.TheVariants as attempt
 use Rattle.lock_free.specs.declared.changing.Edit.{Edit}
 use Rattle.lock_free.specs.declared.descending.Update.TheVariants as update
+use Rattle.lock_free.specs.declared.leaving.Swapping.{Swapping}
+use Rattle.lock_free.specs.declared.parking.Came.{Came}
+use Rattle.lock_free.specs.declared.parking.Came.TheVariants as came
+use Rattle.lock_free.specs.declared.parking.Parked.TheVariants as parked
 use Rattle.lock_free.specs.declared.reading.Given.{Given}
 use Rattle.lock_free.specs.declared.rules.View.{View}
 use Rattle.lock_free.specs.declared.swapping.Swapped.TheVariants.{Commits, Fails, Misses}
 use Rattle.lock_free.specs.declared.tasks.Task.{Task}
 use Rattle.lock_free.specs.Attempts.{HasAttempted, IsToChange, IsToClimb}
 use Rattle.lock_free.specs.Becoming.{HasBecome}
-use Rattle.lock_free.specs.Calling.{GaveUp, HasGivenUp, MayGiveUp}
+use Rattle.lock_free.specs.Calling.{GaveUp, HasGivenUp}
 use Rattle.lock_free.specs.Changing.{IsChange}
-use Rattle.lock_free.specs.Climbs.{HasClimbedUp}
+use Rattle.lock_free.specs.Climbs.{HasClimbedUp, HasLeftClimb}
 use Rattle.lock_free.specs.Descending.{IsTask}
 use Rattle.lock_free.specs.Holding.{IsOn}
+use Rattle.lock_free.specs.Leaving.{IsClimbAfter, LeavesChange}
 use Rattle.lock_free.specs.Loading.{now, Runs, IsSound}
 use Rattle.lock_free.specs.Nodes.{is_single}
+use Rattle.lock_free.specs.Parking.{HasRunTo}
 use Rattle.lock_free.specs.RunningOn.{MayAnswer}
 use Rattle.lock_free.specs.SeenEntries.{entry_to, unowned}
 use Rattle.lock_free.specs.Stocks.{Stocked, IsStock, put_back}
 use Rattle.lock_free.specs.Updating.{changed_by, HasChanged, IsAtChange}
 use Rattle.lock_free.proofs.CallEnds.{left_stock}
-use Rattle.lock_free.proofs.CallsRunOn.{changed_fails, changed_full, changed_misses, changed_runs_on, climb_left, climbed_runs_on, climbed_up, may_give_up}
+use Rattle.lock_free.proofs.CallsRunOn.{changed_fails, changed_full, changed_misses, changed_runs_on, climb_left, climbed_runs_on, climbed_up}
 use Rattle.lock_free.proofs.Comings.{runs_one}
 use Rattle.lock_free.proofs.EntriesTo.{entry_to_on}
 use Rattle.lock_free.proofs.Followings.{used_on}
@@ -65,7 +72,7 @@ module _ (n : ℕ) (v : View) (sound : IsSound n v) (task : Task) (t : IsTask v 
   entry_is = ap₂ (λ s b. record { slot = s; own = false; is_single = b }) at.knows.0.1 (kind ∙ sym at.knows.1)
 
   module _ (w : View) where
-    pub tomb_full : HasChanged v None w → HasAttempted v attempt.Full w
+    pub tomb_full : HasChanged v None w → HasAttempted v (attempt.Comes came.Spent) w
     tomb_full h = (changed_runs_on v w at.path at.main (change.Entomb at.other) (Some former) at.on None h, changed_full v w at.path at.main (change.Entomb at.other) (Some former) at.on h)
 
     pub tomb_fails : HasChanged v (Some Fails) w → HasAttempted v attempt.Again w
@@ -79,6 +86,9 @@ module _ (n : ℕ) (v : View) (sound : IsSound n v) (task : Task) (t : IsTask v 
       changed_runs_on v w at.path at.main (change.Entomb at.other) (Some former) at.on (Some Misses) h,
       changed_misses v w at.path at.main (change.Entomb at.other) (Some former) at.on first_on.0 first_on.1 h,
     )
+
+    pub tomb_parked : (s : Swapping) → LeavesChange v s w → HasAttempted v (attempt.Comes (came.Parked (parked.Changes s (Some former)))) w
+    tomb_parked s h = let l = h at.path at.main (change.Entomb at.other) (Some former) at.on in (l.on, (l.its, l.aim))
 
     -- it is committed
     module _ (h : HasChanged v (Some Commits) w) where
@@ -120,8 +130,8 @@ module _ (n : ℕ) (v : View) (sound : IsSound n v) (task : Task) (t : IsTask v 
         its = refl;
       }
 
-      pub climbed_from : (after : View) (answer : Reply) → HasAttempted w (attempt.Answers answer) after → HasAttempted v (attempt.Answers answer) after
-      climbed_from after answer a =
+      pub climbed_from : (after : View) (result : Came) → HasRunTo w result after → HasAttempted v (attempt.Comes result) after
+      climbed_from after result a =
           (runs_on_both v w after (changed_runs_on v w at.path at.main (change.Entomb at.other) (Some former) at.on (Some Commits) h) a.0, a.1)
 
 -- ---- the climb
@@ -142,25 +152,28 @@ module _ (v : View) (task : Task) (t : IsTask v task) (slots : List ℕ) (single
   reply_is : changed_reply o.call c.former ≡ changed_reply task.call former
   reply_is = ap₂ changed_reply (t.calls o runs).0 at.its
 
-  pub climbed_out : (w : View) → HasClimbedUp v true w → HasAttempted v (attempt.Answers (changed_reply task.call former)) w
+  pub climbed_out : (w : View) → HasClimbedUp v true w → HasRunTo v (came.Answered (changed_reply task.call former)) w
   climbed_out w h = (climbed_runs_on v w c climbs true h, subst (λ answer. IsOn w (line.End answer)) reply_is (climbed_up v w c climbs o runs h))
 
   module _ (w : View) (h : HasClimbedUp v false w) where
-    left : MayAnswer w (changed_reply task.call former)
+    pub left : MayAnswer w (changed_reply task.call former)
     left = subst (MayAnswer w) reply_is (climb_left v w c climbs o runs h)
 
-    pub may_leave : MayGiveUp w
-    may_leave = may_give_up w (changed_reply task.call former) left
+    pub left_out : (result : Came) (after : View) → HasRunTo w result after → HasRunTo v result after
+    left_out result after a = (runs_on_both v w after (climbed_runs_on v w c climbs false h) a.0, a.1)
 
-    module _ (after : View) (gave : HasGivenUp w after) where
-      given : GaveUp w left.0 (changed_reply task.call former) after
-      given = gave left.0 (changed_reply task.call former) left.1 left.2
+  -- its SWAP is under way
+  pub climb_parked : (s : Swapping) (w : View) → HasLeftClimb v slots task.hash single s w → HasRunTo v (came.Parked (parked.Climbs s former)) w
+  climb_parked s w h = let l = h at.climbing in (l.on, (l.its, subst (λ f. IsClimbAfter f l.its.why) at.its l.aim))
 
-      pub left_out : HasAttempted v (attempt.Answers (changed_reply task.call former)) after
-      left_out = (
-        runs_on_both v w after (climbed_runs_on v w c climbs false h) (runs_on_given_up w after left.0 (changed_reply task.call former) left.1 given),
-        (record left.0 { private = []; line = line.End (changed_reply task.call former) }, given.runs, refl),
-      )
+-- ---- the climb is given up
 
-      pub left_owns : (n : ℕ) → IsSound n w → (stock next : Stocked) → IsStock stock w → next.sizes ≡ stock.sizes → next.pool ≡ put_back stock.made stock.pool → next.made ≡ [] → IsStock next after
-      left_owns n sound stock next is sizes pool none = left_stock n w sound left.0 left.1 (changed_reply task.call former) after given stock next is sizes pool none
+module _ (w : View) (answer : Reply) (may : MayAnswer w answer) (after : View) (gave : HasGivenUp w after) where
+  given : GaveUp w may.0 answer after
+  given = gave may.0 answer may.1 may.2
+
+  pub climb_given_up : HasRunTo w (came.Answered answer) after
+  climb_given_up = (runs_on_given_up w after may.0 answer may.1 given, (gave_up may.0 answer, given.runs, refl))
+
+  pub left_owns : (n : ℕ) → IsSound n w → (stock next : Stocked) → IsStock stock w → next.sizes ≡ stock.sizes → next.pool ≡ put_back stock.made stock.pool → next.made ≡ [] → IsStock next after
+  left_owns n sound stock next is sizes pool none = left_stock n w sound may.0 may.1 answer after given stock next is sizes pool none

@@ -1,5 +1,5 @@
 -- What a call on a key is answered fits it, since an order explains the history.
-use Rattle.std.proofs.Common.{◌≡◌, ◌≢◌, ◌⊎◌, inl, inr, ◌∷◌, ◌++◌, ℕ, zero, suc, Bool, true, false, cond, length, slice_get, List, [], Option, Some, None, option_and_then}
+use Rattle.std.proofs.Common.{◌≡◌, ◌≢◌, ◌⊎◌, inl, inr, ◌∷◌, ◌++◌, ℕ, zero, suc, Bool, true, false, cond, length, slice_get, List, [], Option, Some, None, option_and_then, Result, Ok, Err, IfOk}
 use Rattle.std.proofs.Common.{refl, sym, ap, subst, ◌∙◌, append_assoc}
 use Rattle.std.proofs.lemmas.Bool.{true≢false}
 use Rattle.std.proofs.lemmas.Option.{none-some, same_Some}
@@ -16,13 +16,19 @@ use Rattle.history.specs.Orders.{Answered, Explains, OrderedAt, RecallsEach, Rep
 use Rattle.history.specs.Worlds.{HandleMap, KeyMap, first_world}
 use Rattle.history.proofs.Begins.{begins_once}
 use Rattle.history.proofs.Places.{at_seam}
+use Rattle.lock_free.specs.declared.call_errors.CallError.{CallError}
 use Rattle.lock_free.specs.declared.rules.View.{View}
 use Rattle.lock_free.specs.Answering.{HasAnswered}
-use Rattle.lock_free.specs.Attempts.{IsKeyed}
-use Rattle.lock_free.specs.KeyReplies.{FitsCall, TellsTruth, TellsValue}
+use Rattle.lock_free.specs.Attempts.{IsTried}
+use Rattle.lock_free.specs.KeyReplies.{FitsCall, Refuses, TellsTruth, TellsValue}
 use Rattle.lock_free.specs.Loading.{IsSound}
 use Rattle.lock_free.specs.OneKey.{is_refused}
+use Rattle.lock_free.specs.SeatCalls.{IsNoRefusal, IsTold}
 use Rattle.lock_free.specs.Telling.{history_of, SeatsAreExplained}
+
+-- it is answered so, or refused
+abbrev FitsOr : Call → Reply → Type 0
+FitsOr call answer = FitsCall call answer ⊎ Refuses answer
 
 -- ---- a call with an effect is answered so
 
@@ -36,30 +42,36 @@ module _ (P : Reply → Type 0) (w next : HandleMap) (h : ℕ) (answer : Reply) 
       let x = and_then _ (writable_map_of w h) (answer, next) e in
       subst P (ap (λ (p : Reply × HandleMap). p.0) (same_Some _ (answer, next) x.1)) (all x.0)
 
-put_tells : (hash : ℕ → ℕ) (m : KeyMap) (k v : ℕ) → TellsValue (put_in hash m k v).0
+abbrev ValueOr : Reply → Type 0
+ValueOr answer = TellsValue answer ⊎ Refuses answer
+
+abbrev TruthOr : Reply → Type 0
+TruthOr answer = TellsTruth answer ⊎ Refuses answer
+
+put_tells : (hash : ℕ → ℕ) (m : KeyMap) (k v : ℕ) → ValueOr (put_in hash m k v).0
 put_tells hash m k v = by (is_crowded hash m k)
   where
-    by : (b : Bool) → TellsValue (cond {A = Reply × KeyMap} b (reply.Crowded, m) (reply.Found (map.get m k), map.insert m k v)).0
-    by true = tt
-    by false = tt
+    by : (b : Bool) → ValueOr (cond {A = Reply × KeyMap} b (reply.Crowded, m) (reply.Found (map.get m k), map.insert m k v)).0
+    by true = inr tt
+    by false = inl tt
 
-absent_tells : (hash : ℕ → ℕ) (m : KeyMap) (k v : ℕ) → TellsValue (put_if_absent_in hash m k v).0
+absent_tells : (hash : ℕ → ℕ) (m : KeyMap) (k v : ℕ) → ValueOr (put_if_absent_in hash m k v).0
 absent_tells hash m k v = by (map.contains_key m k)
   where
-    by : (b : Bool) → TellsValue (cond {A = Reply × KeyMap} b (reply.Found (map.get m k), m) (put_in hash m k v)).0
-    by true = tt
+    by : (b : Bool) → ValueOr (cond {A = Reply × KeyMap} b (reply.Found (map.get m k), m) (put_in hash m k v)).0
+    by true = inl tt
     by false = put_tells hash m k v
 
-effect_fits : (hash : ℕ → ℕ) (w next : HandleMap) (call : Call) (opens : Option ℕ) (answer : Reply) → IsKeyed call → Effect hash w call opens answer next → FitsCall call answer
+effect_fits : (hash : ℕ → ℕ) (w next : HandleMap) (call : Call) (opens : Option ℕ) (answer : Reply) → IsTried call → Effect hash w call opens answer next → FitsOr call answer
 effect_fits hash w next (Get h k) opens answer keyed e =
-    let x = and_then _ (map_of w h) (answer, next) e in subst TellsValue (ap (λ (p : Reply × HandleMap). p.0) (same_Some _ (answer, next) x.1)) tt
-effect_fits hash w next (Put h k v) opens answer keyed e = changed_so TellsValue w next h answer (λ m. put_in hash m k v) e (λ m. put_tells hash m k v)
-effect_fits hash w next (PutIfAbsent h k v) opens answer keyed e = changed_so TellsValue w next h answer (λ m. put_if_absent_in hash m k v) e (λ m. absent_tells hash m k v)
-effect_fits hash w next (Replace h k v) opens answer keyed e = changed_so TellsValue w next h answer (λ m. replace_in m k v) e (λ m. tt)
-effect_fits hash w next (ReplaceIf h k a b) opens answer keyed e = changed_so TellsTruth w next h answer (λ m. replace_if_in m k a b) e (λ m. tt)
-effect_fits hash w next (Remove h k) opens answer keyed e = changed_so TellsValue w next h answer (λ m. remove_in m k) e (λ m. tt)
-effect_fits hash w next (RemoveIf h k v) opens answer keyed e = changed_so TellsTruth w next h answer (λ m. remove_if_in m k v) e (λ m. tt)
-effect_fits hash w next (Clear h) opens answer keyed e = absurd keyed
+    let x = and_then _ (map_of w h) (answer, next) e in subst ValueOr (ap (λ (p : Reply × HandleMap). p.0) (same_Some _ (answer, next) x.1)) (inl tt)
+effect_fits hash w next (Put h k v) opens answer keyed e = changed_so ValueOr w next h answer (λ m. put_in hash m k v) e (λ m. put_tells hash m k v)
+effect_fits hash w next (PutIfAbsent h k v) opens answer keyed e = changed_so ValueOr w next h answer (λ m. put_if_absent_in hash m k v) e (λ m. absent_tells hash m k v)
+effect_fits hash w next (Replace h k v) opens answer keyed e = changed_so ValueOr w next h answer (λ m. replace_in m k v) e (λ m. inl tt)
+effect_fits hash w next (ReplaceIf h k a b) opens answer keyed e = changed_so TruthOr w next h answer (λ m. replace_if_in m k a b) e (λ m. inl tt)
+effect_fits hash w next (Remove h k) opens answer keyed e = changed_so ValueOr w next h answer (λ m. remove_in m k) e (λ m. inl tt)
+effect_fits hash w next (RemoveIf h k v) opens answer keyed e = changed_so TruthOr w next h answer (λ m. remove_if_in m k v) e (λ m. inl tt)
+effect_fits hash w next (Clear h) opens answer keyed e = changed_so (λ a. FitsOr (Clear h) a) w next h answer (λ m. (reply.Cleared, map.empty)) e (λ m. inl refl)
 effect_fits hash w next (Snapshot h) opens answer keyed e = absurd keyed
 effect_fits hash w next (Freeze h) opens answer keyed e = absurd keyed
 effect_fits hash w next (Close h) opens answer keyed e = absurd keyed
@@ -69,7 +81,7 @@ effect_fits hash w next (Count h) opens answer keyed e = absurd keyed
 -- ---- along the order
 
 module _ (hash : ℕ → ℕ) (history : List Event) (order : List ℕ) (world : HandleMap) (ex : Explains hash history order world) (begins ends id : ℕ) (its : Operation) (answer : Reply)
-    (begun : BeginsAt history begins id its) (ended : EndsAt history ends id answer) (keyed : IsKeyed its.call) where
+    (begun : BeginsAt history begins id its) (ended : EndsAt history ends id answer) (keyed : IsTried its.call) where
   one_call : (place : ℕ) (operation : Operation) → BeginsAt history place id operation → operation.call ≡ its.call
   one_call place operation at =
       let here = begins_once history place begins id operation its ex.well_formed at begun in
@@ -77,38 +89,21 @@ module _ (hash : ℕ → ℕ) (history : List Event) (order : List ℕ) (world :
       sym at ∙ ap (slice_get history) here ∙ begun in
       cc events
 
-  along : (ids : List ℕ) (calls : List Answered) (w : HandleMap) (i : ℕ) → OrderedAt ids i id → RecallsEach history ids calls → Replays hash calls w world → FitsCall its.call answer
+  along : (ids : List ℕ) (calls : List Answered) (w : HandleMap) (i : ℕ) → OrderedAt ids i id → RecallsEach history ids calls → Replays hash calls w world → FitsOr its.call answer
   along [] calls w i at recalls replays = absurd (none-some id at)
   along (x ∷ ids) [] w i at recalls replays = absurd recalls
   along (x ∷ ids) (one ∷ calls) w zero at ((told, answered), recalls) (next, effect, replays) =
       let same : x ≡ id = same_Some x id at in
       let call : one.call ≡ its.call = sym told.3 ∙ one_call told.0 told.1 (subst (λ k. BeginsAt history told.0 k told.1) same told.2) in
       let said : one.answer ≡ answer = answered answer (ends, subst (λ k. EndsAt history ends k answer) (sym same) ended) in
-      subst (FitsCall its.call) said
-      (subst (λ c. FitsCall c one.answer) call (effect_fits hash w next one.call one.opens one.answer (subst IsKeyed (sym call) keyed) effect))
+      subst (FitsOr its.call) said
+      (subst (λ c. FitsOr c one.answer) call (effect_fits hash w next one.call one.opens one.answer (subst IsTried (sym call) keyed) effect))
   along (x ∷ ids) (one ∷ calls) w (suc i) at (recalled, recalls) (next, effect, replays) = along ids calls next i at recalls replays
 
-  pub explained_fits : answer ≢ reply.NoSlots → FitsCall its.call answer
+  pub explained_fits : answer ≢ reply.NoSlots → FitsOr its.call answer
   explained_fits counts =
       let place = ex.candidate.answered id answer (ends, ended) counts in
       along order ex.replayed.0 first_world place.0 place.1 ex.replayed.1 ex.replayed.2
-
--- ---- a refusal fits each
-
-refused_fits : (call : Call) → IsKeyed call → FitsCall call reply.NoSlots
-refused_fits (Get h k) keyed = tt
-refused_fits (Put h k v) keyed = tt
-refused_fits (PutIfAbsent h k v) keyed = tt
-refused_fits (Replace h k v) keyed = tt
-refused_fits (ReplaceIf h k a b) keyed = tt
-refused_fits (Remove h k) keyed = tt
-refused_fits (RemoveIf h k v) keyed = tt
-refused_fits (Clear h) keyed = absurd keyed
-refused_fits (Snapshot h) keyed = absurd keyed
-refused_fits (Freeze h) keyed = absurd keyed
-refused_fits (Close h) keyed = absurd keyed
-refused_fits (Entries h) keyed = absurd keyed
-refused_fits (Count h) keyed = absurd keyed
 
 -- ---- a call in a history
 
@@ -122,7 +117,7 @@ seam_first xs ys b e = subst (λ zs. slice_get zs (length xs) ≡ Some b) (sym (
 seam_last : (xs ys : List Event) (b e : Event) → slice_get (xs ++ b ∷ ys ++ e ∷ []) (length (xs ++ b ∷ ys)) ≡ Some e
 seam_last xs ys b e = at_seam (xs ++ b ∷ ys) [] e
 
-module _ (n : ℕ) (before after : View) (sound : IsSound n after) (explained : SeatsAreExplained) (call : Call) (keyed : IsKeyed call) (opens : Option ℕ) (answer : Reply)
+module _ (n : ℕ) (before after : View) (sound : IsSound n after) (explained : SeatsAreExplained) (call : Call) (keyed : IsTried call) (opens : Option ℕ) (answer : Reply)
     (h : HasAnswered before call opens answer after) where
   abbrev history : List Event
   history = history_of after.sizes after.account
@@ -140,11 +135,30 @@ module _ (n : ℕ) (before after : View) (sound : IsSound n after) (explained : 
   ended_there = subst (λ xs. slice_get xs (length (h.earlier ++ begin ∷ h.meanwhile)) ≡ Some end) (sym h.is) (seam_last h.earlier h.meanwhile begin end)
 
   -- the reply is one to this call
-  pub reply_fits : FitsCall call answer
+  reply_fits : FitsOr call answer
   reply_fits = elim (counts_or answer) [
-    | inl refused ↦ subst (FitsCall call) (sym refused) (refused_fits call keyed)
+    | inl refused ↦ inr (subst Refuses (sym refused) tt)
     | inr counts ↦
         (let (world, order_is, shows) = explained n after sound in
         explained_fits _ history _ world order_is (length h.earlier) (length (h.earlier ++ begin ∷ h.meanwhile)) h.id (record { actor = before.actor; call = call; opens = opens }) answer begun_there
         ended_there keyed counts)
   ]
+
+-- ---- what is told of a call
+
+fits_by : (call : Call) (answer : Reply) → IsNoRefusal (Ok answer) → FitsOr call answer → FitsCall call answer
+fits_by call answer counts (inl fits) = fits
+fits_by call reply.Crowded counts (inr refuses) = absurd counts
+fits_by call reply.NoSlots counts (inr refuses) = absurd counts
+fits_by call (reply.Found value) counts (inr refuses) = absurd refuses
+fits_by call (reply.Truth truth) counts (inr refuses) = absurd refuses
+fits_by call (reply.Opened handle) counts (inr refuses) = absurd refuses
+fits_by call reply.Closed counts (inr refuses) = absurd refuses
+fits_by call reply.Cleared counts (inr refuses) = absurd refuses
+fits_by call (reply.Pairs pairs) counts (inr refuses) = absurd refuses
+fits_by call (reply.Count count) counts (inr refuses) = absurd refuses
+
+pub told_fits : (n : ℕ) (before after : View) → IsSound n after → SeatsAreExplained → (call : Call) → IsTried call → (told : Result Reply CallError) → IsTold (λ r. r) before call told after →
+    IsNoRefusal told → IfOk told (FitsCall call)
+told_fits n before after sound explained call keyed (Ok answer) h counts = fits_by call answer counts (reply_fits n before after sound explained call keyed None answer h)
+told_fits n before after sound explained call keyed (Err why) h counts = tt

@@ -3,11 +3,16 @@ use Rattle.std.proofs.Common.{ℕ, List, refl, ap, ◌∙◌}
 use Rattle.history.specs.declared.calls.Access.{Access}
 use Rattle.history.specs.declared.calls.Call.{Call}
 use Rattle.history.specs.declared.replies.Reply.{Reply}
+use Rattle.history.specs.declared.replies.Reply.TheVariants as reply
 use Rattle.machine_model.specs.declared.operations.Operation.{Operation}
+use Rattle.machine_model.specs.GivingUp.{given_up}
 use Rattle.machine_model.specs.Lines.{new_try}
 use Rattle.lock_free.specs.declared.attempts.Attempt.{Attempt}
 use Rattle.lock_free.specs.declared.attempts.Attempt.TheVariants as attempt
 use Rattle.lock_free.specs.declared.descending.Update.{Update}
+use Rattle.lock_free.specs.declared.leaving.Left.{Left}
+use Rattle.lock_free.specs.declared.leaving.Left.TheVariants as left
+use Rattle.lock_free.specs.declared.parking.Came.TheVariants as came
 use Rattle.lock_free.specs.declared.reading.Given.{Given}
 use Rattle.lock_free.specs.declared.rules.View.{View}
 use Rattle.lock_free.specs.declared.seeking.Sought.TheVariants as sought
@@ -15,7 +20,9 @@ use Rattle.lock_free.specs.declared.tasks.Task.{Task}
 use Rattle.lock_free.specs.Attempts.{HasAttempted, IsToChange}
 use Rattle.lock_free.specs.Descending.{IsTask, line_updated}
 use Rattle.lock_free.specs.Holding.{IsOn}
+use Rattle.lock_free.specs.Leaving.{IsRepair, Leaves}
 use Rattle.lock_free.specs.Loading.{Runs}
+use Rattle.lock_free.specs.Parking.{left_so, HasRunTo, IsOwnLeft}
 use Rattle.lock_free.specs.RunningOn.{RunsOn}
 use Rattle.lock_free.specs.Seeking.{HasTried, IsCalled}
 use Rattle.lock_free.proofs.CallsRunOn.{tried_again, tried_answers, tried_full, tried_runs_on}
@@ -26,13 +33,13 @@ use Rattle.lock_free.proofs.Seekings.{task_ended}
 -- ---- one try
 
 module _ (v : View) (on : IsOn v new_try) (slots : List ℕ) (task : Task) (w : View) where
-  pub try_answers : (answer : Reply) → HasTried v slots (task, sought.Answers answer) w → HasAttempted v (attempt.Answers answer) w
+  pub try_answers : (answer : Reply) → HasTried v slots (task, sought.Answers answer) w → HasAttempted v (attempt.Comes (came.Answered answer)) w
   try_answers answer h = (tried_runs_on v w slots task (sought.Answers answer) h, tried_answers v w slots task on.0 on.1 answer h)
 
   pub try_again : HasTried v slots (task, sought.Again) w → HasAttempted v attempt.Again w
   try_again h = (tried_runs_on v w slots task sought.Again h, tried_again v w slots task on.0 on.1 h)
 
-  pub try_full : HasTried v slots (task, sought.Full) w → HasAttempted v attempt.Full w
+  pub try_full : HasTried v slots (task, sought.Full) w → HasAttempted v (attempt.Comes came.Spent) w
   try_full h = (tried_runs_on v w slots task sought.Full h, tried_full v w slots task on.0 on.1 h)
 
   module _ (update : Update) (given : Given) (h : HasTried v slots (task, sought.Changes update given) w) where
@@ -58,12 +65,27 @@ module _ (v : View) (on : IsOn v new_try) (slots : List ℕ) (task : Task) (w : 
     pub tried_changes : RunsOn v w
     tried_changes = tried_runs_on v w slots task (sought.Changes update given) h
 
+-- out of tries
+
+pub own_left : (v : View) (result : Left) (w : View) → Leaves (λ call. reply.NoSlots) IsRepair v result w → IsOwnLeft result
+own_left v left.MayGiveUp w h = tt
+own_left v (left.Swapping s) w h = tt
+own_left v (left.Completing s) w h = h.is
+
+pub left_run : (v : View) → IsOn v new_try → (result : Left) (w : View) → Leaves (λ call. reply.NoSlots) IsRepair v result w → HasRunTo v (left_so result) w
+left_run v on left.MayGiveUp w h = let x = h.on.runs on.0 on.1 in (h.on, (x.0, x.1, h.is x.0 x.1))
+left_run v on (left.Swapping s) w h = (h.on, h.is)
+left_run v on (left.Completing s) w h = absurd h.is
+
 -- ---- one after another
 
 pub attempted_later : (u v w : View) (result : Attempt) → RunsOn u v → HasAttempted v result w → HasAttempted u result w
-attempted_later u v w (attempt.Answers answer) p h = (runs_on_both u v w p h.0, h.1)
 attempted_later u v w attempt.Again p h = (runs_on_both u v w p h.0, h.1)
-attempted_later u v w attempt.Full p h = (runs_on_both u v w p h.0, h.1)
+attempted_later u v w (attempt.Comes result) p h = (runs_on_both u v w p h.0, h.1)
+
+-- all tries are used up
+pub tries_spent : (v w : View) → RunsOn v w → IsOn w new_try → HasRunTo v came.Spent w
+tries_spent v w on at = (on, (at.0, at.1, ap (given_up at.0.call) at.2))
 
 -- the call is still the operation's
 pub called_on : (v w : View) (o : Operation) → Runs v o → RunsOn v w → (call : Call) (access : Access) → IsCalled v call access → IsCalled w call access

@@ -29,6 +29,9 @@ use Rattle.lock_free.proofs.Descents.{are_at_later, as_long, task_moved, moved_s
 use Rattle.lock_free.proofs.KeyFound.{absent_here}
 use Rattle.lock_free.proofs.KeyMoves.{moved_on}
 use Rattle.lock_free.proofs.OnLines.{moved_so, moves_on}
+use Rattle.history.specs.declared.replies.Reply.TheVariants as reply
+use Rattle.lock_free.specs.Leaving.{IsSpent}
+use Rattle.lock_free.proofs.Leavings.{halts_later}
 
 pub at_index : (v : View) (path : List Ref) (slots : List ℕ) → AreAt v path slots → (k : ℕ) → k < length slots → IsPlaced v (get_or path k no_ref) (get_or slots k 0)
 at_index v [] [] h k low = absurd (omega (arith, low))
@@ -177,3 +180,10 @@ module _ (before : View) (first : List ℕ) (start : IsOnPath before first) (tas
 
   pub ends : (result : Found) (after : View) → HasFound v slots result after → HasFound before slots result after
   ends result after h = found_after before v after (λ o. line.Key (key.Read d.path (reading (current d.path)))) slots result d.moved h
+
+  -- it is out of tries
+  pub level_spent : (after : View) → IsSpent v after → IsSpent before after
+  level_spent after h = halts_later reply.NoSlots before v after (λ o. line.Key (key.Read d.path (reading (current d.path)))) d.moved h
+
+  pub way_spent : IsSpent before v
+  way_spent = record { next = λ o. line.Key (key.Read d.path (reading (current d.path))); moved = d.moved; gives_up = λ o r. refl }

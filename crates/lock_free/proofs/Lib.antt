@@ -13,6 +13,13 @@ mod Keeping
 mod RootFound
 mod RootSteps
 mod GoneSeats
+mod EpochStays
+mod BegunSince
+mod RetiredStay
+mod Reclaimable
+mod Reclaimed
+mod ReclaimStep
+mod EpochWord
 mod Moments
 mod Within
 mod Decoding
@@ -88,7 +95,6 @@ mod CleanStep
 mod OpenStep
 mod CompleteLines
 mod OffersLater
-mod Completions
 mod Cleanings
 mod Licenses
 mod RootLines
@@ -96,6 +102,7 @@ mod Rootings
 mod EndStep
 mod PinnedFor
 mod PinStep
+mod EpochSteps
 mod BeginStep
 mod Beginners
 mod GiveUpStep
@@ -114,6 +121,7 @@ mod SwapsMade
 mod AllEntries
 mod StockStays
 mod MainChanges
+mod EntryHalves
 mod KnownLines
 mod ChangedMains
 mod ChangedBranches
@@ -161,6 +169,9 @@ mod BranchEntries
 mod KeyTombs
 mod KeyLists
 mod LevelPassed
+mod LinkWays
+mod HeadersSeen
+mod ReaderAnswers
 mod NextEntries
 mod RepairLooks
 mod EntriesTo
@@ -199,6 +210,7 @@ mod KeysApart
 mod Meanwhile
 mod Answered
 mod Seekings
+mod SoughtOn
 mod Trials
 mod Updates
 mod AfterChanges
@@ -210,6 +222,11 @@ mod WalkTakes
 mod WalkEnters
 mod WalkNexts
 mod WalkBegins
+mod Leavings
+mod SwapsLeft
+mod SwapsBegun
+mod CompletesLeft
+mod RootsLeft
 mod CallsRunOn
 mod KeyChanges
 mod KeyEntombs
@@ -217,3 +234,10 @@ mod KeyTries
 mod WholeCalls
 mod KeyKinds
 mod SeatsMade
+mod CopiesLeft
+mod CopiesOn
+mod SwapsEnd
+mod CutShort
+mod ParkedOn
+mod CallsUnderWay
+mod CopiesParked

@@ -66,6 +66,14 @@ stands_new k stands j same = ap (λ b. if b then true else stands j) (eq-eqb j k
 pub stands_else : (k : ℕ) (stands : Standing) (j : ℕ) → j ≢ k → stands_too k stands j ≡ stands j
 stands_else k stands j other = ap (λ b. if b then true else stands j) (ne_eqb j k other)
 
+still_true : (new stood : Bool) → stood ≡ true → (if new then true else stood) ≡ true
+still_true true stood h = refl
+still_true false stood h = h
+
+-- what stood stands
+pub stands_still : (k : ℕ) (stands : Standing) (j : ℕ) → stands j ≡ true → stands_too k stands j ≡ true
+stands_still k stands j h = still_true (j == k) (stands j) h
+
 abbrev pub is_undecided : Prev → Bool
 is_undecided prev.None = false
 is_undecided (prev.Pending p) = true

@@ -25,7 +25,7 @@ use Rattle.lock_free.specs.Trying.{as_before}
 use Rattle.lock_free.proofs.Assembling.{AllStand, closing_stays, numbers_stay, assembled}
 use Rattle.lock_free.proofs.Framing.{class_small}
 use Rattle.lock_free.proofs.Geometry.{IsWordOf}
-use Rattle.lock_free.proofs.Made.{stands_too, stands_else, place_else, place_last}
+use Rattle.lock_free.proofs.Made.{stands_too, stands_else, place_else, place_last, stands_still}
 use Rattle.lock_free.proofs.Pools.{pool_else}
 use Rattle.lock_free.proofs.Spending as spending
 use Rattle.lock_free.proofs.Seats.{ran_so, numbers_so, Stays, other_kept, own_kept}
@@ -98,6 +98,7 @@ module _ (sizes : Sizes) (s : Table.State Call View) (kept : IsKept sizes s) (id
     stays : Stays sizes s kept id v at account_then stands_then words_then
     stays = record {
       waits = waits;
+      still = λ x h. stands_still (length kept.account.names) kept.stands x.number h.still;
       others = λ a differs. ran_so (state_of sizes kept.account) (state_of sizes account_then) a (makes.others a differs);
       pins = λ a some most apart. pin_same a most;
       named = λ other w e apart handle slot o x. root_same handle x.low;

@@ -27,11 +27,11 @@ refs_edited refs place (change.Remove position) = remove refs position
 refs_edited refs place (change.Entomb single) = refs
 
 module _ {A B : Type 0} (f : A → B) where
-  map_insert : (xs : List A) (i : ℕ) (x : A) → map f (insert xs i x) ≡ insert (map f xs) i (f x)
+  pub map_insert : (xs : List A) (i : ℕ) (x : A) → map f (insert xs i x) ≡ insert (map f xs) i (f x)
   map_insert xs i x =
       map-append f (take i xs) (x ∷ drop i xs) ∙ ap (λ ys. ys ++ f x ∷ map f (drop i xs)) (sym (take-map f i xs)) ∙ ap (λ ys. take i (map f xs) ++ f x ∷ ys) (sym (drop-map f i xs))
 
-  map_remove : (xs : List A) (i : ℕ) → map f (remove xs i) ≡ remove (map f xs) i
+  pub map_remove : (xs : List A) (i : ℕ) → map f (remove xs i) ≡ remove (map f xs) i
   map_remove xs i =
       map-append f (take i xs) (drop (suc i) xs) ∙ ap (λ ys. ys ++ map f (drop (suc i) xs)) (sym (take-map f i xs)) ∙ ap (λ ys. take i (map f xs) ++ ys) (sym (drop-map f (suc i) xs))
 

@@ -22,7 +22,7 @@ use Rattle.lock_free.proofs.Geometry.{IsWordOf}
 use Rattle.lock_free.proofs.GivenBack.{node_is}
 use Rattle.lock_free.proofs.Made.{got_in}
 use Rattle.lock_free.proofs.MadeKept.{all_made, make_kept}
-use Rattle.lock_free.proofs.Moments.{allowed, waited_so, before, seat, live_place, still_own, free_inside}
+use Rattle.lock_free.proofs.Moments.{allowed, waited_so, before, seat, live_place, still_own, free_inside, own_not_epoch}
 use Rattle.lock_free.proofs.Pools.{pool_same, pool_else}
 use Rattle.lock_free.proofs.OneStep.Openers.{openers_make_roots}
 use Rattle.machine_model.specs.Beneath.slot_arena.specs.declared.refs.Ref.{Ref}
@@ -183,7 +183,7 @@ pub make_allowed : (sizes : Sizes) (size id : ℕ) (me : Me Call View) (some_sea
     (λ n. has_made (step size word value 0 none) me value)
 make_allowed sizes size id me some_seats word value (node, rest, name, own, p, w) =
     allowed sizes size id me word (λ n. value) (λ n. has_made (step size word value 0 none) me value)
-    some_seats
+    some_seats (λ s kept at. inl (own_not_epoch me.0 s kept id at (class_of node) name (class_small node, subst (λ xs. Contains xs name) (sym w.last) (Contains-push rest name)) word w.low))
     (λ s kept at. (
       made_by me.0 (class_of node) name rest own node kept.account,
       kept_after me.0 word value node rest name own p w s kept id at,

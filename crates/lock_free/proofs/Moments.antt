@@ -1,6 +1,6 @@
 -- What the rule says at the moment of an access: of the seat's operation, of nodes, and what a load leaves.
 use Rattle.history.specs.declared.calls.Call.{Call}
-use Rattle.std.proofs.Common.{◌≡◌, ◌+◌, ◌*◌, ◌<◌, ◌≤◌, ℕ, suc, zero, inl, inr, Bool, List, [], ◌∷◌, ◌++◌, Contains, set, get_or, slice_index, length, Some, None, refl, sym, ap, subst, ◌∙◌, arith}
+use Rattle.std.proofs.Common.{◌≡◌, ◌≢◌, ◌+◌, ◌*◌, ◌<◌, ◌≤◌, ℕ, suc, zero, inl, inr, Bool, List, [], ◌∷◌, ◌++◌, Contains, set, get_or, slice_index, length, Some, None, refl, sym, ap, subst, ◌∙◌, arith}
 use Rattle.std.proofs.lemmas.List.{set-get_or}
 use Rattle.std.proofs.lemmas.List.Elements.{Contains-append_left}
 use Rattle.std.proofs.lemmas.Option.{same_Some}
@@ -25,21 +25,25 @@ use Rattle.proof_memory.specs.Laws.{SameNode}
 use Rattle.proof_memory.specs.Wants.{line_wants}
 use Rattle.lock_free.specs.declared.accounts.Account.{Account}
 use Rattle.lock_free.specs.declared.accounts.Owned.{Owned}
+use Rattle.lock_free.specs.declared.rules.Pinned.{Pinned}
 use Rattle.lock_free.specs.declared.rules.View.{View}
 use Rattle.lock_free.specs.declared.sizes.Sizes.{Sizes}
 use Rattle.lock_free.specs.Accounts.{bounds_for, state_of, place_at, place_of, running, gone_on, OwnIs, later}
 use Rattle.lock_free.specs.Live.{refs_of_claims, at_hand, from_operation, from_slot, IsLive}
 use Rattle.lock_free.specs.Loading.{now, IsUsed, IsSound, seen, Waited, Took, has_seen, has_gone, Holds}
-use Rattle.lock_free.specs.Nodes.{StandsAs, InTable}
-use Rattle.lock_free.specs.Places.{words_in, words_of}
-use Rattle.lock_free.specs.Rules.{IsFree, IsSeat, IsKept, IsRuled}
+use Rattle.lock_free.specs.Nodes.{StandsAs, InTable, class_of}
+use Rattle.lock_free.specs.Places.{epoch_word, first_slot_word, words_in, words_of}
+use Rattle.lock_free.specs.Rules.{AreEpochs, AreRetired, IsFree, IsSeat, IsKept, IsRuled}
 use Rattle.lock_free.specs.Steps.{Reads}
 use Rattle.lock_free.proofs.Asked.{in_use_made, live_in_use, nodes_stay}
 use Rattle.lock_free.proofs.Assembling.{all_stand, closing_stays, numbers_stay, assembled}
 use Rattle.lock_free.proofs.Meanings.{no_tries}
 use Rattle.lock_free.proofs.Definition.{IsReading, reads_of, waits, bounds_before}
-use Rattle.lock_free.proofs.Geometry.{end_inside}
+use Rattle.lock_free.proofs.Framing.{class_small, first_word, has_words}
+use Rattle.lock_free.proofs.Geometry.{above, end_inside}
+use Rattle.lock_free.proofs.EpochStays.{Elsewhere, IsAsWas, epochs_stay, rest_as_was, rest_of, rest_unpinned, stays_elsewhere, unpinned_as_was, was_then}
 use Rattle.lock_free.proofs.GoneSeats.{heard_still}
+use Rattle.lock_free.proofs.RetiredStay.{epoch_still, retired_then, same_pin, same_retired}
 use Rattle.lock_free.proofs.Keeping.{keys_gone, kept_then}
 use Rattle.lock_free.proofs.Waiting.{waited_none}
 
@@ -51,22 +55,70 @@ module _ (sizes : Sizes) (size id : ℕ) (me : Me Call View) (word : ℕ) (f : �
   abbrev pub CanBe : Type 0
   CanBe = (s : Table.State Call View) → IsKept me.0.sizes s → get_elem? s.views id ≡ some me.0 → (w : View) × IsKept me.0.sizes (after_it s w) × then (slice_index s.words word) (w, me.1)
 
-  -- The seat wasn't given up, and has heard of nobody more.
-  pub allowed : 1 ≤ me.0.sizes.seats → (h : CanBe) → ((s : Table.State Call View) (kept : IsKept me.0.sizes s) (at : get_elem? s.views id ≡ some me.0) → (h s kept at).0.heard ≡ me.0.heard) →
-      Allows (IsRuled sizes) size id me word f then
-  allowed some_seats h same s ruled length_is at low =
+  -- This is so of all that the access may find.
+  abbrev pub Always : ((s : Table.State Call View) → IsKept me.0.sizes s → get_elem? s.views id ≡ some me.0 → Type 0) → Type 0
+  Always Is = (s : Table.State Call View) (kept : IsKept me.0.sizes s) (at : get_elem? s.views id ≡ some me.0) → Is s kept at
+
+  -- The seat wasn't given up, has heard of nobody more, and what the rule says of the epoch and of retired slots holds after it too.
+  abbrev pub CanBeBy : Type 0
+  CanBeBy = (s : Table.State Call View) → IsKept me.0.sizes s → AreEpochs s.words s.views → AreRetired me.0.sizes s.words s.views → get_elem? s.views id ≡ some me.0 →
+      (w : View) × IsKept me.0.sizes (after_it s w) × AreEpochs (after_it s w).words (after_it s w).views × AreRetired me.0.sizes (after_it s w).words (after_it s w).views
+      × (w.heard ≡ me.0.heard) × then (slice_index s.words word) (w, me.1)
+
+  pub allowed_by : 1 ≤ me.0.sizes.seats → CanBeBy → Allows (IsRuled sizes) size id me word f then
+  allowed_by some_seats h s ruled length_is at low =
       let its = (ruled.kept.seats id me.0 at).same some_seats in
-      let kept = subst (λ z. IsKept z s) (sym its) ruled.kept in
-      let x = h s kept at in (
+      let x = h s (subst (λ z. IsKept z s) (sym its) ruled.kept) ruled.epochs (subst (λ z. AreRetired z s.words s.views) (sym its) ruled.retired) at in (
         x.0,
         keeps,
         tt,
         record {
           kept = subst (λ z. IsKept z (after_it s x.0)) its x.1;
-          heard = heard_still s.views id me.0 at some_seats x.0 (same s kept at) ruled.heard;
+          epochs = x.2;
+          retired = subst (λ z. AreRetired z (after_it s x.0).words (after_it s x.0).views) its x.3;
+          heard = heard_still s.views id me.0 at some_seats x.0 x.4 ruled.heard;
         },
-        x.2,
+        x.5,
       )
+
+  -- where the word isn't the epoch's, or has what it had
+  epochs_then : (s : Table.State Call View) → get_elem? s.views id ≡ some me.0 → Elsewhere word f s.words → (w : View) → IsAsWas me.0 w → AreEpochs s.words s.views →
+      AreEpochs (after_it s w).words (after_it s w).views
+  epochs_then s at elsewhere w it h =
+      epochs_stay s.words (after_it s w).words s.views (after_it s w).views (stays_elsewhere s.words word f elsewhere) (was_then s.views id me.0 at w it) h
+
+  -- and where it has retired no more, and isn't pinned anew
+  slots_then : (s : Table.State Call View) → get_elem? s.views id ≡ some me.0 → Elsewhere word f s.words → (w : View) → w.retired ≡ me.0.retired →
+      ((p : Pinned) → w.pin ≡ Some p → me.0.pin ≡ Some p) → AreRetired me.0.sizes s.words s.views → AreRetired me.0.sizes (after_it s w).words (after_it s w).views
+  slots_then s at elsewhere w same pin h =
+      retired_then s.views id me.0 at w same pin me.0.sizes s.words (after_it s w).words (epoch_still s.words (after_it s w).words (stays_elsewhere s.words word f elsewhere)) h
+
+  pub allowed : 1 ≤ me.0.sizes.seats → Always (λ s kept at. Elsewhere word f s.words) → (h : CanBe) → Always (λ s kept at. rest_of (h s kept at).0 ≡ rest_of me.0) →
+      Allows (IsRuled sizes) size id me word f then
+  allowed some_seats elsewhere h same =
+      allowed_by some_seats
+      (λ s kept epochs retired at. (let x = h s kept at in (
+        x.0,
+        x.1,
+        epochs_then s at (elsewhere s kept at) x.0 (rest_as_was me.0 x.0 (same s kept at)) epochs,
+        slots_then s at (elsewhere s kept at) x.0 (same_retired me.0 x.0 (same s kept at)) (same_pin me.0 x.0 (same s kept at)) retired,
+        ap (λ r. r.0) (same s kept at),
+        x.2,
+      )))
+
+  -- the seat isn't pinned then
+  pub allowed_unpinned : 1 ≤ me.0.sizes.seats → Always (λ s kept at. Elsewhere word f s.words) → (h : CanBe) →
+      Always (λ s kept at. rest_of (h s kept at).0 ≡ rest_unpinned me.0) → Allows (IsRuled sizes) size id me word f then
+  allowed_unpinned some_seats elsewhere h same =
+      allowed_by some_seats
+      (λ s kept epochs retired at. (let x = h s kept at in (
+        x.0,
+        x.1,
+        epochs_then s at (elsewhere s kept at) x.0 (unpinned_as_was me.0 x.0 (same s kept at)) epochs,
+        slots_then s at (elsewhere s kept at) x.0 (ap (λ r. r.5) (same s kept at)) (unpinned_as_was me.0 x.0 (same s kept at)).pinned retired,
+        ap (λ r. r.0) (same s kept at),
+        x.2,
+      )))
 
 -- places stay where they are
 pub place_stays : (names more : List ℕ) (k : ℕ) → k < length names → get_or (names ++ more) k 0 ≡ get_or names k 0
@@ -158,9 +210,25 @@ module _ (v : View) (s : Table.State Call View) (kept : IsKept v.sizes s) (id : 
       let is = live_in_use v.sizes there kept.bounds r second in
       record { was = was.0; was_used = was.1; was_live = first; lives = second; slot = is.0; used = is.1 }
 
+  -- no word of its slot is one of the first
+  pub above_first : (r : Ref) (h : IsThere r) → first_slot_word v.sizes ≤ 2 * place_of there r
+  above_first r h =
+      above v.sizes s.words kept.taken (class_of h.slot.node) (place_of there r) (2 * place_of there r) (class_small h.slot.node)
+      (kept.nodes.within (slot_of r) h.slot (kept.nodes.live r h.lives, h.used)) (first_word h.slot.node (place_of there r))
+
   -- its place is the one that the seat knows
   pub its_place : (r : Ref) → IsThere r → place_of there r ≡ place_of v.account r
   its_place r h = same_place (slot_of r) h.was h.was_used
+
+  pub not_epoch : (r : Ref) → IsThere r → (word : ℕ) → word ≡ 2 * place_of v.account r → word ≢ epoch_word
+  not_epoch r h word is e = let first = above_first r h in let same = its_place r h in omega (arith, is, e, first, same)
+
+  -- nor is one that is free for the seat
+  pub own_not_epoch : (class name : ℕ) → IsFree v class name → (word : ℕ) → 2 * name ≤ word → word ≢ epoch_word
+  own_not_epoch class name free word low e =
+      let some = has_words class free.0 in
+      let first = above v.sizes s.words kept.taken class name (2 * name) free.0 (seat.spare class name free).0 (record { low = omega arith; high = omega (arith, some) }) in
+      omega (arith, low, e, first)
 
   -- so is that of each node that was live
   pub live_place : (r : Ref) → IsLive (now v) r → place_of there r ≡ place_of v.account r
@@ -207,6 +275,8 @@ module _ (v : View) (s : Table.State Call View) (kept : IsKept v.sizes s) (id : 
     rested = seat.rested;
     rests = seat.rests;
     pinned = seat.pinned;
+    pinned_idle = seat.pinned_idle;
+    retired = seat.retired;
     entered = seat.entered;
     calls = seat.calls;
     opens = seat.opens;
@@ -268,7 +338,7 @@ module _ (sizes : Sizes) (size id : ℕ) (me : Me Call View) (word : ℕ) where
   pub load_allowed : 1 ≤ me.0.sizes.seats → Allows (IsRuled sizes) size id me word (λ n. n) (has_seen (step size word 0 0 none) me)
   load_allowed some_seats =
       allowed sizes size id me word (λ n. n) (has_seen (step size word 0 0 none) me)
-      some_seats
+      some_seats (λ s kept at. inr refl)
       (λ s kept at. (
         seen_view me.0 s kept id at,
         unchanged s (seen_view me.0 s kept id at) (seen_kept me.0 s kept id at),
@@ -280,7 +350,7 @@ module _ (sizes : Sizes) (size id : ℕ) (me : Me Call View) (word : ℕ) where
       (has_gone (step size word 0 0 none) me)
   go_allowed some_seats o runs reading =
       allowed sizes size id me word (λ n. n) (has_gone (step size word 0 0 none) me)
-      some_seats
+      some_seats (λ s kept at. inr refl)
       (λ s kept at. (
         gone_view me.0 s kept id at o runs reading,
         unchanged s (gone_view me.0 s kept id at o runs reading) (gone_kept me.0 s kept id at o runs reading),

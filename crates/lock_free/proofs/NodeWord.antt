@@ -69,6 +69,7 @@ module _ (sizes : Sizes) (s : Table.State Call View) (kept : IsKept sizes s) (id
   stays : Stays sizes s kept id v at account_then kept.stands words_then
   stays = record {
     waits = waits;
+    still = λ x h. h.still;
     others = λ a differs. ran_so (state_of sizes kept.account) (state_of sizes account_then) a (others a differs);
     pins = λ a some most apart. pin_beside sizes kept.account kept.stands s.words all k slot stood i its value a most;
     named = λ other w e apart handle slot o x. root_same handle x.low;

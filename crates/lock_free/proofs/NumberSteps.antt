@@ -14,6 +14,7 @@ use Rattle.machine_model.specs.declared.copying.CopyLine.TheVariants as copy
 use Rattle.machine_model.specs.declared.lines.Line.TheVariants as line
 use Rattle.machine_model.specs.declared.operations.Operation.{Operation}
 use Rattle.machine_model.specs.declared.roots.Complete.{Complete}
+use Rattle.lock_free.proofs.EpochStays.{rest_of}
 use Rattle.lock_free.specs.declared.accounts.Known.{Known}
 use Rattle.lock_free.specs.declared.rules.View.{View}
 use Rattle.lock_free.specs.declared.sizes.Sizes.{Sizes}
@@ -27,7 +28,7 @@ use Rattle.lock_free.specs.SeatWords.{IsIdle}
 use Rattle.lock_free.proofs.Assembling.{closing_at}
 use Rattle.lock_free.proofs.Closers.{seat_kept}
 use Rattle.lock_free.proofs.Exchanged.{words_then, words_hit, words_miss}
-use Rattle.lock_free.proofs.Geometry.{root_apart}
+use Rattle.lock_free.proofs.Geometry.{root_apart, root_not_epoch}
 use Rattle.lock_free.proofs.Moments.{allowed, waited_so}
 use Rattle.lock_free.proofs.OneStep.Idle.{idle_stays}
 use Rattle.lock_free.proofs.OneStep.Standing.{offering_unmarked, owner_of}
@@ -64,14 +65,14 @@ module _ (v : View) (number : ℕ) (low : number < 256) (idle : IsIdle v) (opens
     (λ x. absurd (true≢false (sym x ∙ ne_eqb found 0 differs)), λ x. refl),
   )
 
-  tries : (x : View) × (x.heard ≡ v.heard) × Tried x
+  tries : (x : View) × (rest_of x ≡ rest_of v) × Tried x
   tries = elim (cases_eq found 0) [ inl e ↦ (reserving v number, refl, hits e) | inr differs ↦ (v, refl, misses differs) ]
 
 pub reserve_allowed : (sizes : Sizes) (size id : ℕ) (me : Me Call View) (some_seats : 1 ≤ me.0.sizes.seats) (number : ℕ) → number < 256 → IsIdle me.0 → me.0.opens ≡ None →
     Allows (IsRuled sizes) size id me (root_word number) (λ n. either (n == 0) (root_code word.Reserved) n) (has_reserved (step size (root_word number) 0 (root_code word.Reserved) none) me)
 reserve_allowed sizes size id me some_seats number low idle opens =
     allowed sizes size id me (root_word number) (λ n. either (n == 0) (root_code word.Reserved) n) (has_reserved (step size (root_word number) 0 (root_code word.Reserved) none) me)
-    some_seats
+    some_seats (λ s kept at. inl (root_not_epoch number))
     (λ s kept at. (let x = tries me.0 number low idle opens s kept id at in
     (x.0, x.2.0, (λ g is. subst (λ n. HasTried me.0 n (slice_index s.words (root_word number) == 0) x.0) (root_apart number g is) x.2.1, refl))))
     (λ s kept at. (tries me.0 number low idle opens s kept id at).1)
@@ -92,7 +93,7 @@ pub name_allowed : (sizes : Sizes) (size id : ℕ) (me : Me Call View) (some_sea
 name_allowed sizes size id me some_seats number slot low n fits =
     allowed sizes size id me (root_word number) (λ x. root_code (word.Opening slot))
     (λ x. has_named (step size (root_word number) (root_code (word.Opening slot)) 0 none) me (root_code (word.Opening slot)))
-    some_seats
+    some_seats (λ s kept at. inl (root_not_epoch number))
     (λ s kept at. (
       naming me.0 slot,
       (let is = (waited_so me.0 s kept id at).stays (record n.operation { is_marked = n.runs.0 }) n.runs.1 in
@@ -117,7 +118,7 @@ pub give_back_allowed : (sizes : Sizes) (size id : ℕ) (me : Me Call View) (som
     Allows (IsRuled sizes) size id me (root_word number) (λ n. 0) (λ n. has_given_back (step size (root_word number) 0 0 none) me 0)
 give_back_allowed sizes size id me some_seats number idle opens =
     allowed sizes size id me (root_word number) (λ n. 0) (λ n. has_given_back (step size (root_word number) 0 0 none) me 0)
-    some_seats
+    some_seats (λ s kept at. inl (root_not_epoch number))
     (λ s kept at. (
       without_number me.0,
       (let rests = idle_stays me.0.sizes me.0.actor me.0.account kept.account (kept.seats id me.0 at).waited kept.bounds idle in

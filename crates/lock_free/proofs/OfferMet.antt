@@ -1,6 +1,6 @@
 -- The load of an offer's first word by which an operation that asks for the root finds it standing there is the operation's step; where it is settled, that is known for ever.
 use Rattle.history.specs.declared.calls.Call.{Call}
-use Rattle.std.proofs.Common.{◌≤◌, ◌≡◌, ◌≢◌, ◌*◌, ◌==◌, ℕ, Bool, true, false, Contains, set, slice_index, refl, sym, ap, subst, ◌∙◌, eqb-true, if◌then◌else◌}
+use Rattle.std.proofs.Common.{◌≤◌, ◌≡◌, ◌≢◌, ◌*◌, ◌==◌, ℕ, Bool, true, false, Contains, set, slice_index, refl, sym, ap, subst, ◌∙◌, eqb-true, if◌then◌else◌, inr}
 use Rattle.std.proofs.lemmas.Bool.{eqb-false}
 use Rattle.std.proofs.lemmas.List.{set-get_or}
 use mathlib.Core.Option.{some, none}
@@ -12,6 +12,7 @@ use Rattle.machine_model.specs.declared.operations.Operation.{Operation}
 use Rattle.machine_model.specs.declared.roots.RootWord.TheVariants.{Offer}
 use Rattle.machine_model.specs.Operations.{action_of}
 use Rattle.machine_model.specs.States.{State, root_at}
+use Rattle.lock_free.proofs.EpochStays.{rest_of}
 use Rattle.lock_free.specs.declared.accounts.Account.{Account}
 use Rattle.lock_free.specs.declared.accounts.Known.{Known}
 use Rattle.lock_free.specs.declared.offers.Fate.TheVariants as became
@@ -42,7 +43,7 @@ module _ (v : View) (handle : ℕ) (asks : AsksAt v handle) (word : ℕ) (s : Ta
   reading = subst IsReading (sym asks.acts.acts) tt
 
   abbrev Meets : Bool → View → Type 0
-  Meets b w = IsKept v.sizes (record { words = s.words; homes = s.homes; views = set s.views id w }) × MetAs b v word found w × IsSound (words_of v.sizes) w × (w.heard ≡ v.heard)
+  Meets b w = IsKept v.sizes (record { words = s.words; homes = s.homes; views = set s.views id w }) × MetAs b v word found w × IsSound (words_of v.sizes) w × (rest_of w ≡ rest_of v)
 
   pub meets_as : (b : Bool) → (w : View) × Meets b w
   meets_as true = (
@@ -61,7 +62,7 @@ pub meet_allowed : (sizes : Sizes) (size id : ℕ) (me : Me Call View) (some_sea
     Allows (IsRuled sizes) size id me word (λ n. n) (has_met (step size word 0 0 none) me)
 meet_allowed sizes size id me some_seats handle word asks =
     allowed sizes size id me word (λ n. n) (has_met (step size word 0 0 none) me)
-    some_seats
+    some_seats (λ s kept at. inr refl)
     (λ s kept at. (let x = meets_as me.0 handle asks word s kept id at (slice_index s.words word == undecided) in (
       x.0,
       subst (λ ws. IsKept me.0.sizes (record { words = ws; homes = s.homes; views = set s.views id x.0 })) (sym (set-get_or s.words word 0)) x.1.0,

@@ -1,5 +1,6 @@
 -- Loads of what an offer offers.
-use Rattle.std.proofs.Common.{◌≡◌, ◌+◌, ◌*◌, ◌<◌, ◌^◌, ◌∷◌, [], ℕ, Contains, slice_index, get_or, Option, Some, None, sym, subst, ap, ◌∙◌, arith}
+use Rattle.std.proofs.Common.{◌≡◌, ◌+◌, ◌*◌, ◌<◌, ◌^◌, ◌∷◌, [], inl, inr, ℕ, Contains, slice_index, get_or, Option, Some, None, sym, subst, ap, ◌∙◌, arith}
+use Rattle.std.proofs.lemmas.Bool.{cases_eq}
 use Rattle.std.proofs.lemmas.List.Elements.{Contains-get_or, Contains-append_right}
 use Rattle.trie_words.specs.Codes.{pair_of, IsPair}
 use Rattle.trie_words.specs.declared.entries.Pair.{Pair}
@@ -8,26 +9,28 @@ use Rattle.machine_model.specs.Beneath.slot_arena.specs.declared.refs.Ref.{Ref}
 use Rattle.machine_model.specs.Beneath.slot_arena.specs.declared.nodes.Slot.{Slot}
 use Rattle.machine_model.specs.Beneath.slot_arena.specs.Heaps.{refs_of_option}
 use Rattle.machine_model.specs.Beneath.slot_arena.specs.Refs.{slot_of}
-use Rattle.machine_model.specs.States.{State}
+use Rattle.machine_model.specs.States.{State, root_at, word_of}
 use Rattle.proof_memory.specs.Laws.{IsInUse}
 use Rattle.proof_waiting.specs.Beneath.proof_slots.proofs.Unswept.Kept.{one_ref}
 use Rattle.lock_free.specs.declared.accounts.Account.{Account}
 use Rattle.lock_free.specs.declared.accounts.Known.{Known}
 use Rattle.lock_free.specs.declared.rules.View.{View}
 use Rattle.lock_free.specs.Accounts.{state_of, place_of}
+use Rattle.lock_free.specs.Fates.{IsUnsettled}
 use Rattle.lock_free.specs.HandleWords.{HasOffer}
+use Rattle.lock_free.specs.Live.{IsLive, from_root}
 use Rattle.lock_free.specs.Loading.{Moment, Holds, IsSound, HasSeen}
 use Rattle.lock_free.specs.Making.{refs_of_offer}
 use Rattle.lock_free.specs.Nodes.{class_of}
-use Rattle.lock_free.specs.Roots.{IsWritten, second_of}
+use Rattle.lock_free.specs.Roots.{IsWritten, fate, second_of, undecided}
 use Rattle.lock_free.specs.RootWords.{SaysNews, SaysOlds, HasSeenNews, HasSeenOlds}
 use Rattle.lock_free.proofs.AbortStep.{known_there}
 use Rattle.lock_free.proofs.Framing.{class_small}
 use Rattle.lock_free.proofs.Looking.{saw}
 use Rattle.lock_free.proofs.Moments.{held_there, its_place}
 use Rattle.lock_free.proofs.OneStep.Found.{live_used, slot_at}
-use Rattle.lock_free.proofs.OneStep.Offers.{stood_used}
-use Rattle.lock_free.proofs.OneStep.Roots.{stood_reached}
+use Rattle.lock_free.proofs.OneStep.Offers.{offer_in, stood_used}
+use Rattle.lock_free.proofs.Stood.{stands_there}
 use Rattle.lock_free.proofs.Within.{two_words}
 
 -- its words are the table's
@@ -90,13 +93,25 @@ module _ (before : View) (word found : ℕ) (m : Moment before word found) (k : 
         let fits : IsPair olds = (small k.offer.root root_in, small k.offer.expected expected_in) in
         ap pair_of (sym m.finds ∙ ap (slice_index m.table.words) its_word ∙ written.olds) ∙ pair_back olds fits
 
-    -- of what the operation holds only the expected one is in its slot
-    only_it : (r : Ref) → Holds before r → place_of before.account r ≡ place_of there k.offer.expected → r ≡ k.offer.expected
-    only_it r holds same =
+    -- while the offer isn't settled the expected one is live
+    undecided_there : IsUnsettled before.sizes there k → fate m.table.words k ≡ undecided
+    undecided_there none = elim (cases_eq (fate m.table.words k) undecided) [
+      | inl is ↦ is
+      | inr decided ↦ absurd (none (fate m.table.words k) ((m.kept.roots.fates k here).told decided))
+    ]
+
+    expected_lives : IsUnsettled before.sizes there k → IsLive state k.offer.expected
+    expected_lives none =
+        from_root k.handle k.offer.expected
+        (offer_in (root_at state k.handle) k.offer (ap word_of (stands_there before.sizes m.table m.kept k here (undecided_there none))) k.offer.expected expected_in)
+
+    -- so of what the operation holds only that one is in its slot
+    only_it : IsUnsettled before.sizes there k → (r : Ref) → Holds before r → place_of before.account r ≡ place_of there k.offer.expected → r ≡ k.offer.expected
+    only_it none r holds same =
         let h = held_there before m.table m.kept m.id m.at r holds in
         let e = used k.offer.expected expected_in in
         let stands = m.kept.nodes.live r h.lives in
-        let stands_too = m.kept.nodes.reached k.offer.expected (stood_reached before.sizes there k.offer (m.kept.roots.stood k here) k.offer.expected expected_in) in
+        let stands_too = m.kept.nodes.live k.offer.expected (expected_lives none) in
         let place = its_place before m.table m.kept m.id m.at r h ∙ same in
         one_ref state.heap r k.offer.expected (live_used before.sizes there m.kept.bounds r h.lives) (in_use k.offer.expected expected_in)
         (m.kept.nodes.apart (slot_of r) (slot_of k.offer.expected) h.slot e.0 (stands, h.used) (stands_too, e.1) place)
@@ -105,7 +120,7 @@ module _ (before : View) (word found : ℕ) (m : Moment before word found) (k : 
     olds_said = record {
       root = (used k.offer.root root_in, sym (ap (λ (p : Pair). p.low) olds_found));
       expected = ap (λ (p : Pair). p.high) olds_found;
-      only = λ r holds e. only_it r holds (e ∙ ap (λ (p : Pair). p.high) olds_found);
+      only = λ none r holds e. only_it none r holds (e ∙ ap (λ (p : Pair). p.high) olds_found);
     }
 
   -- ---- the new root

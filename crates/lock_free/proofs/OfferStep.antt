@@ -34,6 +34,8 @@ use Rattle.machine_model.specs.States.{State, root_at, word_at, word_of, handle_
 use Rattle.machine_model.specs.Swapping.{is_plain}
 use Rattle.proof_garbage.specs.Beneath.proof_generations.proofs.Offers.Standing.{offer_line}
 use Rattle.proof_memory.specs.Wants.{line_wants, offer_wants}
+use Rattle.lock_free.proofs.EpochStays.{rest_of}
+use Rattle.lock_free.proofs.Geometry.{root_not_epoch}
 use Rattle.lock_free.specs.declared.accounts.Account.{Account}
 use Rattle.lock_free.specs.declared.root_offers.Proposed.TheVariants.{Stands, Misses, Meets}
 use Rattle.lock_free.specs.declared.rules.View.{View}
@@ -169,7 +171,7 @@ module _ (v : View) (root slot : ℕ) (offer : Descriptor) (rest : List ℕ) (p 
     abbrev Left : RootWord → View → Type 0
     Left x after =
         IsKept v.sizes (record { words = words_then v s kept id at (root_word handle) old new; homes = s.homes; views = set s.views id after })
-        × (IsSound (words_of v.sizes) after × HasProposed v handle slot (proposed_by root x) after) × (after.heard ≡ v.heard)
+        × (IsSound (words_of v.sizes) after × HasProposed v handle slot (proposed_by root x) after) × (rest_of after ≡ rest_of v)
 
     module _ (plain : root_at state handle ≡ open_with Writable (Plain offer.root)) where
       offers : Offers v.sizes there v.actor slot o offer
@@ -320,7 +322,7 @@ offer_allowed sizes size id me some_seats named root slot (offer, rest, p, w, on
     subst (λ h. AllowsOffer sizes size id me (root_word h) (root_code (word.Writable root)) (root_code (word.Offered slot))) on
     (allowed sizes size id me (root_word (handle_of p.operation.call)) (λ n. either (n == root_code (word.Writable root)) (root_code (word.Offered slot)) n)
     (has_proposed (step size (root_word (handle_of p.operation.call)) (root_code (word.Writable root)) (root_code (word.Offered slot)) none) me)
-    some_seats
+    some_seats (λ s kept at. inl (root_not_epoch (handle_of p.operation.call)))
     (λ s kept at. (let x = leaves me.0 root slot offer rest p w s kept id at in (
       x.0,
       x.1.0,

@@ -332,6 +332,7 @@ module _ (sizes : Sizes) (s : Table.State Call View) (kept : IsKept sizes s) (id
   stays : Stays sizes s kept id v at account_then kept.stands words_then
   stays = record {
     waits = waits;
+    still = λ x h. h.still;
     others = λ a differs. ran_so now next a (offers.others a differs);
     pins = λ a positive most apart. pin_same a positive;
     named = λ other w e apart g found_slot o x. root_beside g (not_open g

@@ -4,7 +4,7 @@ use Rattle.machine_model.specs.Beneath.slot_arena.specs.declared.refs.Ref.{Ref}
 use Rattle.machine_model.specs.Beneath.slot_arena.specs.Heaps.{with_main_word}
 use Rattle.lock_free.specs.declared.accounts.Known.{Known}
 use Rattle.lock_free.specs.declared.rules.View.{View}
-use Rattle.lock_free.specs.Accounts.{WasReached}
+use Rattle.lock_free.specs.Accounts.{WasRoot}
 use Rattle.lock_free.specs.Fates.{HasSettled}
 use Rattle.lock_free.specs.HandleWords.{HasOffer, HasOpening}
 use Rattle.lock_free.specs.Passing.{Later}
@@ -48,5 +48,5 @@ module _ (v w : View) (l : Later v w) where
         generation = h.generation;
         main = x.2.0;
         is_link = x.2.1 ∙ ap (with_main_word x.2.0) h.is_link;
-        reached = subst (λ z. WasReached z w.account r) (sym sizes_same) (reached_still v.sizes v.account w.account l.goes_on.0 l.goes_on.1 r h.reached);
+        reached = subst (λ z. WasRoot z w.account r) (sym sizes_same) (reached_still v.sizes v.account w.account l.goes_on.0 l.goes_on.1 r h.reached);
       }

@@ -9,6 +9,8 @@ pub mod Leading
 pub mod Found
 pub mod Giving
 pub mod Reached
+pub mod Retired
+pub mod GarbageWide
 pub mod Standing
 pub mod Marking
 pub mod Settles

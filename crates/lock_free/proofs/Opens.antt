@@ -1,6 +1,6 @@
 -- The words of a new map keep the rule.
 use Rattle.std.proofs.Common.{◌≡◌, ◌≢◌, ◌+◌, ◌*◌, ◌^◌, ◌<◌, ◌≤◌, ℕ, zero, suc, Bool, true, List, [], ◌∷◌, Contains, length, replicate, set, slice_index, length-set, refl, sym, ap, subst, ◌∙◌}
-use Rattle.std.proofs.Common.{inl, inr, arith}
+use Rattle.std.proofs.Common.{inl, inr, map, arith}
 use Rattle.std.proofs.lemmas.List.{get_or-set_same, get_or-set_other, length-replicate}
 use Rattle.std.proofs.lemmas.List.Elements.{All-nil}
 use Rattle.std.proofs.lemmas.Option.{none-some}
@@ -23,15 +23,16 @@ use Rattle.machine_model.specs.Machine.{AreBounds}
 use Rattle.machine_model.specs.States.{root_at, handle_limit}
 use Rattle.lock_free.specs.declared.accounts.Account.{Account}
 use Rattle.lock_free.specs.declared.accounts.Owned.{Owned}
+use Rattle.lock_free.specs.declared.rules.Retired.{Retired}
 use Rattle.lock_free.specs.declared.rules.View.{View}
 use Rattle.lock_free.specs.declared.sizes.Sizes.{Sizes}
 use Rattle.lock_free.specs.Accounts.{bounds_for, state_of, place_at, OwnIs, first, later}
 use Rattle.lock_free.specs.Loading.{IsSound}
 use Rattle.lock_free.specs.Nodes.{IsAhead, AreOwners, StandsAs, InTable, class_of, of_branch, decided}
 use Rattle.lock_free.specs.Opening.{counted_words, first_words, first_link, first_handle}
-use Rattle.lock_free.specs.Places.{AreSizes, HaveTaken, IsTaken, branch_slot, root_slot, words_of, words_in, generation_word, taken_word, root_word, pin_word}
+use Rattle.lock_free.specs.Places.{AreSizes, HaveTaken, IsTaken, branch_slot, epoch_word, root_slot, words_of, words_in, generation_word, taken_word, root_word, pin_word}
 use Rattle.lock_free.specs.Roots.{MeansRoot}
-use Rattle.lock_free.specs.Rules.{first_account, first_view, Standing, NodesStand, RootsStand, SaysClosing, IsSeat, IsKept, IsRuled}
+use Rattle.lock_free.specs.Rules.{Once, first_account, first_view, Standing, NodesStand, RootsStand, SaysClosing, IsSeat, IsKept, IsRuled}
 use Rattle.lock_free.proofs.Geometry.{next_root}
 use Rattle.lock_free.proofs.FirstState.{IsFirst, branch, link, births_are, generations_are, node_found, root_is, no_root, nobody_runs, none_runs}
 use Rattle.lock_free.proofs.Idle.{empty_has, none_free, none_twice}
@@ -262,6 +263,8 @@ module _ (sizes : Sizes) where
       rested = λ a above most. waited_none a account;
       rests = λ a above most. (nobody_runs sizes a, no_pin a (omega (arith, above)) most);
       pinned = no_pin 1 (omega arith) ok.some;
+      pinned_idle = λ p is. absurd (none-some p is);
+      retired = λ x c. absurd (empty_has x c);
       entered = λ handle e. absurd (none-some handle e);
       calls = λ o e. absurd (none_runs sizes 1 o e);
       opens = λ handle r. absurd (none-some handle r.0);
@@ -298,10 +301,24 @@ module _ (sizes : Sizes) where
       numbers = λ i j v w handle ei ej hv hw. (its v i ei).0 ∙ sym (its w j ej).0;
     }
 
-    -- nobody has heard of anybody
+    none_retired : (id : ℕ) (v : View) → get_elem? (first_view sizes ∷ []) id ≡ some v → (x : Retired) → Contains v.retired x → ⊥
+    none_retired id v e x c = empty_has x (subst (λ xs. Contains xs x) (ap (λ (y : View). y.retired) (sym (its v id e).1)) c)
+
+    -- nobody has heard of anybody, and nothing is retired
     pub opens_ruled : IsRuled sizes (opening {S = Call} (first_words sizes) [] (first_view sizes))
     opens_ruled = record {
       kept = opens;
+      epochs = record {
+        seen = λ id v e. subst (λ n. n ≤ slice_index (first_words sizes) epoch_word) (ap (λ (x : View). x.epoch) (its v id e).1) (omega arith);
+        pinned = λ id v e p is. absurd (none-some p (ap (λ (x : View). x.pin) (its v id e).1 ∙ is));
+        passed = λ i j v w ei ej below p is. absurd (none-some p (ap (λ (x : View). x.pin) (its w j ej).1 ∙ is));
+      };
+      retired = record {
+        stamps = λ id v e x c. absurd (none_retired id v e x c);
+        pins = λ i j v w ei ej x c p is. absurd (none_retired i v ei x c);
+        once = λ id v e. subst (λ xs. Once (map (λ (x : Retired). x.number) xs)) (ap (λ (x : View). x.retired) (its v id e).1) tt;
+        apart = λ i j v w ei ej x y c d same. absurd (none_retired i v ei x c);
+      };
       heard = λ id v e h c. (let none = (subst (λ hs. Contains hs h) (ap (λ (x : View). x.heard) (sym (its v id e).1)) c).1 in absurd (omega (arith, none)));
     }
 

@@ -8,6 +8,7 @@ use prog.Atomic.{either}
 use Rattle.atomic_table.specs.Table.{Me, Allows, step}
 use Rattle.atomic_table.specs.Table as Table
 use Rattle.atomic_table.proofs.Lists.{set_again}
+use Rattle.lock_free.proofs.EpochStays.{rest_of}
 use Rattle.lock_free.specs.declared.rules.View.{View}
 use Rattle.lock_free.specs.declared.sizes.Sizes.{Sizes}
 use Rattle.lock_free.specs.Loading.{IsSound}
@@ -16,7 +17,7 @@ use Rattle.lock_free.specs.Rules.{pool_of, IsKept, IsRuled}
 use Rattle.lock_free.specs.Storing.{IsOwnWord, drafted, has_drafted, with_free, has_taken}
 use Rattle.lock_free.proofs.Drafting.{draft_kept}
 use Rattle.lock_free.proofs.Exchanged.{words_hit, words_miss}
-use Rattle.lock_free.proofs.Moments.{allowed}
+use Rattle.lock_free.proofs.Moments.{allowed, own_not_epoch}
 use Rattle.lock_free.proofs.Pools.{was_free}
 use Rattle.lock_free.proofs.Taking.{take_kept, same_class}
 
@@ -26,7 +27,7 @@ pub draft_allowed : (sizes : Sizes) (size id : ℕ) (me : Me Call View) (some_se
     (λ n. has_drafted (step size word value 0 none) me value)
 draft_allowed sizes size id me some_seats word value (class, name, free, low, high) =
     allowed sizes size id me word (λ n. value) (λ n. has_drafted (step size word value 0 none) me value)
-    some_seats
+    some_seats (λ s kept at. inl (own_not_epoch me.0 s kept id at class name free word low))
     (λ s kept at. (drafted me.0 word value, draft_kept me.0.sizes s kept id me.0 at class name free word (record { low = low; high = high }) value, refl))
     (λ s kept at. refl)
 
@@ -63,7 +64,7 @@ module _ (sizes : Sizes) (size id : ℕ) (me : Me Call View) (class : ℕ) (smal
 
   module _ (s : Table.State Call View) (kept : IsKept v.sizes s) (at : get_elem? s.views id ≡ some v) where
     abbrev Taken : Type 0
-    Taken = (w : View) × (w.heard ≡ v.heard) × IsKept v.sizes (record {
+    Taken = (w : View) × (rest_of w ≡ rest_of v) × IsKept v.sizes (record {
       words = set s.words word (either (slice_index s.words word == count) (count + 1) (slice_index s.words word));
       homes = s.homes;
       views = set s.views id w;
@@ -107,6 +108,7 @@ module _ (sizes : Sizes) (size id : ℕ) (me : Me Call View) (class : ℕ) (smal
   pub take_allowed : 1 ≤ me.0.sizes.seats → Allows (IsRuled sizes) size id me word (λ n. either (n == count) (count + 1) n) (has_taken (step size word count (count + 1) none) me)
   take_allowed some_seats =
       allowed sizes size id me word (λ n. either (n == count) (count + 1) n) (has_taken (step size word count (count + 1) none) me) some_seats
+      (λ s kept at. inl (λ e. omega (arith, e)))
       (λ s kept at. (let x = taken_or_lost s kept at in (x.0, x.2, x.3))) (λ s kept at. (taken_or_lost s kept at).1)
 
 pub taken_sound : (words : ℕ) (v : View) (class count name : ℕ) → class < 3 → count < slots_in v.sizes class → 2 * name ≡ part_of v.sizes class + words_in class * count → IsSound words v →

@@ -9,6 +9,7 @@ use Rattle.atomic_table.specs.Table.{Me, Allows, step}
 use Rattle.atomic_table.specs.Table as Table
 use Rattle.trie_words.specs.Codes.{pin_code, pin_of}
 use Rattle.trie_words.specs.declared.pins.Pin.{Pin}
+use Rattle.lock_free.proofs.EpochStays.{rest_of}
 use Rattle.lock_free.specs.declared.rules.Closing.{Closing}
 use Rattle.lock_free.specs.declared.rules.View.{View}
 use Rattle.lock_free.specs.declared.sizes.Sizes.{Sizes}
@@ -47,7 +48,7 @@ module _ (v : View) (handle looked : ℕ) (low : handle < 256) (others : List Cl
 
   abbrev Passed : View → Type 0
   Passed w = IsKept v.sizes (record { words = s.words; homes = s.homes; views = set s.views id w }) × HasPassed v handle looked (is_passed v handle looked found) w
-      × (w.heard ≡ v.heard)
+      × (rest_of w ≡ rest_of v)
 
   passes_by : (b : Bool) → is_passed v handle looked found ≡ b → (w : View) × Passed w
   passes_by true e = (passing v handle looked, (pass_kept v.sizes s kept id v at handle looked others would (nobody e), (λ x. refl, λ x. absurd (true≢false (sym e ∙ x))), refl))
@@ -68,7 +69,7 @@ pub pass_allowed : (sizes : Sizes) (size id : ℕ) (me : Me Call View) (some_sea
     Allows (IsRuled sizes) size id me (pin_word (looked + 1)) (λ n. n) (has_passed (step size (pin_word (looked + 1)) 0 0 none) me)
 pass_allowed sizes size id me some_seats handle looked low (others, would) =
     allowed sizes size id me (pin_word (looked + 1)) (λ n. n) (has_passed (step size (pin_word (looked + 1)) 0 0 none) me)
-    some_seats
+    some_seats (λ s kept at. inr refl)
     (λ s kept at. (let x = passes me.0 handle looked low others would s kept id at in (
       x.0,
       subst (λ ws. IsKept me.0.sizes (record { words = ws; homes = s.homes; views = set s.views id x.0 })) (sym (set-get_or s.words (pin_word (looked + 1)) 0)) x.1.0,

@@ -1,4 +1,4 @@
--- Which call a seat has pinned itself for changes nothing of the rule.
+-- Which call a seat has pinned itself for changes nothing of what the rule says of words and steps, nor does what it knows of the epoch.
 use Rattle.history.specs.declared.calls.Call.{Call}
 use Rattle.std.proofs.Common.{◌≡◌, ℕ, inl, set, Option, refl}
 use mathlib.Core.Option.{some}
@@ -11,9 +11,9 @@ use Rattle.lock_free.specs.Rules.{IsSeat, IsKept}
 use Rattle.lock_free.proofs.Assembling.{all_stand, closing_stays, numbers_stay, assembled}
 use Rattle.lock_free.proofs.Meanings.{no_tries}
 
-module _ (sizes : Sizes) (s : Table.State Call View) (kept : IsKept sizes s) (id : ℕ) (v : View) (at : get_elem? s.views id ≡ some v) (call : Option Call) where
+module _ (sizes : Sizes) (s : Table.State Call View) (kept : IsKept sizes s) (id : ℕ) (v : View) (at : get_elem? s.views id ≡ some v) (call : Option Call) (epoch passed : ℕ) where
   abbrev then : View
-  then = record v { asks = call }
+  then = record v { asks = call; epoch = epoch; passed = passed }
 
   own : IsSeat sizes kept.account kept.stands s.words then
   own =
@@ -28,6 +28,8 @@ module _ (sizes : Sizes) (s : Table.State Call View) (kept : IsKept sizes s) (id
         counts = h.counts;
         rests = h.rests;
         pinned = h.pinned;
+        pinned_idle = h.pinned_idle;
+        retired = h.retired;
         entered = h.entered;
         calls = h.calls;
         opens = h.opens;

@@ -1,24 +1,25 @@
 -- A seat that runs nothing stores its own word: it pins itself, or goes out of a call that it hasn't begun.
 use Rattle.history.specs.declared.calls.Call.{Call}
-use Rattle.std.proofs.Common.{◌≡◌, ℕ, ◌<◌, ◌≤◌, inl, List, set, slice_index, Option, None, refl, sym, subst, ◌∙◌, arith}
+use Rattle.std.proofs.Common.{◌≡◌, ℕ, ◌<◌, ◌≤◌, inl, List, set, slice_index, Option, None, refl, sym, subst, ◌∙◌, arith, Some}
 use Rattle.std.proofs.lemmas.Option.{none-some}
 use mathlib.Core.Option.{some}
 use lib.ListN.{get_elem?}
 use Rattle.atomic_table.specs.Table as Table
-use Rattle.trie_words.specs.declared.pins.Pin.{Pin}
 use Rattle.machine_model.specs.States.{State, operation_of, handle_limit}
+use Rattle.lock_free.specs.declared.rules.Pinned.{Pinned}
 use Rattle.lock_free.specs.declared.rules.View.{View}
 use Rattle.lock_free.specs.declared.sizes.Sizes.{Sizes}
 use Rattle.lock_free.specs.Accounts.{state_of}
 use Rattle.lock_free.specs.Places.{pin_word, root_word}
-use Rattle.lock_free.specs.Rules.{SaysClosing, IsFree, IsHeld, Reserves, IsSeat, IsKept, pin_word_of}
+use Rattle.lock_free.specs.Rules.{SaysClosing, IsFree, IsHeld, Reserves, IsSeat, IsKept, pin_word_of, HasPinnedIdle}
 use Rattle.lock_free.proofs.Assembling.{AllStand, all_stand, closing_stays, numbers_stay, assembled}
 use Rattle.lock_free.proofs.Meanings.{no_tries}
 use Rattle.lock_free.proofs.RootSteps as root
 use Rattle.lock_free.proofs.Seats.{ran_so, Stays, StaysSpare, other_kept, names_kept, own_else}
 
 module _ (sizes : Sizes) (s : Table.State Call View) (kept : IsKept sizes s) (id : ℕ) (v : View) (at : get_elem? s.views id ≡ some v)
-    (idle : operation_of (state_of sizes kept.account) v.actor ≡ None) (pin : Option Pin) where
+    (idle : operation_of (state_of sizes kept.account) v.actor ≡ None) (pin : Option Pinned)
+    (its : (p : Pinned) → pin ≡ Some p → HasPinnedIdle sizes kept.account v.actor p) where
   abbrev all : AllStand sizes kept.account kept.stands s.words
   all = all_stand sizes s kept
 
@@ -50,6 +51,7 @@ module _ (sizes : Sizes) (s : Table.State Call View) (kept : IsKept sizes s) (id
   stays : Stays sizes s kept id v at kept.account kept.stands words_then
   stays = record {
     waits = λ actor first differs h. h;
+    still = λ x h. h.still;
     others = λ a differs. ran_so now now a refl;
     pins = λ a positive most_a differs. root.else_pinned sizes kept.account kept.stands s.words all v.actor seat.low most (pin_word_of pin) a differs;
     named = λ other w e apart handle slot o x. root_same handle x.low;
@@ -62,7 +64,7 @@ module _ (sizes : Sizes) (s : Table.State Call View) (kept : IsKept sizes s) (id
   own_then : IsSeat sizes kept.account kept.stands words_then view_then
   own_then =
       own_else sizes s kept id v at kept.account kept.stands words_then stays v.account seat.waited seat.rested seat.counts pin None v.closing v.opens v.opening
-      (root.at_p sizes kept.account kept.stands s.words all v.actor seat.low most (pin_word_of pin)) (λ g e. absurd (none-some g e)) (λ o e. absurd (none-some o (sym idle ∙ e))) (held id v at)
+      (root.at_p sizes kept.account kept.stands s.words all v.actor seat.low most (pin_word_of pin)) its (λ g e. absurd (none-some g e)) (λ o e. absurd (none-some o (sym idle ∙ e))) (held id v at)
       seat.reserves
       (λ g slot o n. (let x = seat.opening g slot o n in names_kept sizes s kept id v at kept.account kept.stands words_then stays v view_then g slot x (root_same g x.low) x.free))
       (λ b name free. stays_spare id v b name at free)

@@ -22,6 +22,8 @@ use Rattle.machine_model.specs.declared.operations.Operation.{Operation}
 use Rattle.machine_model.specs.declared.steps.Step.TheVariants as machine
 use Rattle.machine_model.specs.Acting.{operation_after}
 use Rattle.machine_model.specs.States.{State}
+use Rattle.lock_free.proofs.EpochStays.{rest_of}
+use Rattle.lock_free.specs.Places.{epoch_word}
 use Rattle.lock_free.specs.declared.accounts.Account.{Account}
 use Rattle.lock_free.specs.declared.rules.View.{View}
 use Rattle.lock_free.specs.declared.sizes.Sizes.{Sizes}
@@ -37,7 +39,7 @@ use Rattle.lock_free.proofs.Exchanged.{LeavesAt, words_hit, words_miss, sound_by
 use Rattle.lock_free.proofs.Abandoned.{abandon_kept, abandon_sound}
 use Rattle.lock_free.proofs.LinkWords.{i_there, generation_now, hit, miss}
 use Rattle.lock_free.proofs.Looking.{main_there, o_there, acts_there, same_action}
-use Rattle.lock_free.proofs.Moments.{IsThere, allowed, took_by, waited_so, its_place}
+use Rattle.lock_free.proofs.Moments.{IsThere, allowed, took_by, waited_so, its_place, not_epoch}
 use Rattle.lock_free.proofs.PublishedAll.{all_then}
 use Rattle.lock_free.proofs.PublishedKept.{publish_kept}
 
@@ -89,6 +91,9 @@ module _ (v : View) (i replaced made : Ref) (p : IsAt v (act.Publish i replaced 
 
     abbrev link_is : (h : IsThere v s kept id at i) × (generation : ℕ) × (current : Ref) × (h.slot.node ≡ Indirection generation current)
     link_is = i_there v word found m does p i replaced link_in replaced_in its_word link fits is
+
+    pub is_elsewhere : word ≢ epoch_word
+    is_elsewhere = not_epoch v s kept id at i link_is.0 word its_word
 
     found_old : main_at state.heap i ≡ replaced → found ≡ old
     found_old = hit v word found m does p i replaced link_in replaced_in its_word link fits is
@@ -155,7 +160,7 @@ module _ (v : View) (i replaced made : Ref) (p : IsAt v (act.Publish i replaced 
 
     abbrev Either : Type 0
     Either = (after : View) × Left after × ((main_at state.heap i == replaced) ≡ (found == old)) × ((found == old) ≡ true → after ≡ swapped) × ((found == old) ≡ false → after ≡ dropped)
-        × (after.heard ≡ v.heard)
+        × (rest_of after ≡ rest_of v)
 
     pub leaves : Either
     leaves = elim (publishes_or_not v.sizes there kept.bounds v.actor o runs kept.quiet i replaced made (acts_there v word found m does p)) [
@@ -196,7 +201,7 @@ publish_allowed sizes size id me some_seats name link fits fresh (i, replaced, m
     let old = link_code link in
     let new = link_code (record { generation = link.generation; main = record { slot = fresh; own = true } }) in
     allowed sizes size id me (2 * name) (λ n. either (n == old) new n) (has_published (step size (2 * name) old new none) me)
-    some_seats
+    some_seats (λ s kept at. inl (is_elsewhere me.0 i replaced made p name place link fits is fresh fresh_place s kept id at))
     (λ s kept at. (let x = leaves me.0 i replaced made p name place link fits is fresh fresh_place s kept id at in (
       x.0,
       x.1.0,

@@ -1,5 +1,5 @@
 -- KEY reads an indirection, and turns at its main node.
-use Rattle.std.proofs.Common.{◌≡◌, ℕ, None, refl, sym, ap, subst, ◌∙◌, List, []}
+use Rattle.std.proofs.Common.{◌≡◌, ℕ, refl, sym, ap, subst, ◌∙◌, List, []}
 use Rattle.machine_model.specs.Beneath.slot_arena.specs.declared.refs.Ref.{Ref}
 use Rattle.machine_model.specs.Beneath.slot_arena.specs.Heaps.{no_ref}
 use Rattle.machine_model.specs.declared.finding.KeyLine.TheVariants as key
@@ -15,6 +15,7 @@ use Rattle.lock_free.specs.declared.finding.Turn.{Turn}
 use Rattle.lock_free.specs.declared.finding.Turn.TheVariants as turn
 use Rattle.lock_free.specs.declared.reading.Given.{Given}
 use Rattle.lock_free.specs.declared.reading.Passed.TheVariants as passed
+use Rattle.lock_free.specs.declared.reading.ReadFrom.TheVariants as resume
 use Rattle.lock_free.specs.declared.rules.View.{View}
 use Rattle.lock_free.specs.GoingDown.{IsAtKey, HasMoved, IsFlag, IsAtMain, line_at, HasTurned, IsAtLink, HasReadTurn, HasReadKey}
 use Rattle.lock_free.specs.Loading.{Runs}
@@ -23,6 +24,10 @@ use Rattle.lock_free.specs.Passing.{IsReading, IsPassing, HasGiven, HasPassed}
 use Rattle.lock_free.proofs.Comings.{runs_one}
 use Rattle.lock_free.proofs.OnLines.{line_is}
 use Rattle.lock_free.proofs.Laters.{later_both, link_later, main_later}
+use Rattle.history.specs.declared.replies.Reply.TheVariants as reply
+use Rattle.lock_free.specs.declared.reading.ReadFrom.{ReadFrom}
+use Rattle.lock_free.specs.Leaving.{IsSpent}
+use Rattle.lock_free.proofs.Leavings.{line_may, read_halts}
 
 -- where it turns goes by the call and the access
 line_same : (path : List Ref) (main : Ref) (t : Turn) (o : Operation) (l : Line) → line_at path main t (record o { line = l }) ≡ line_at path main t o
@@ -53,8 +58,12 @@ module _ (before middle : View) (name flag : ℕ) (is_at : IsAtLink before name 
   is_reading : IsReading before i read.Main
   is_reading = (at.0, at.1, ap read_of at.2)
 
-  pub passing : IsPassing before name None
+  pub passing : IsPassing before name resume.Start
   passing = (i, is_at.3, is_reading)
+
+  pub turn_spent : (place : ReadFrom) (w : View) → HasPassed before (passed.Again place) w → IsSpent before w
+  turn_spent place w h =
+      read_halts (λ o. reply.NoSlots) before w i read.Main is_reading place h (line_may (λ o. reply.NoSlots) before (line.Key (key.Read path (reading i))) at (λ o. refl))
 
   module _ (given : Given) (p : HasPassed before (passed.Gives given) middle) where
     gives : HasGiven before i given middle

@@ -24,12 +24,12 @@ use Rattle.lock_free.specs.declared.renewing.Renewed.TheVariants as outcome
 use Rattle.lock_free.specs.declared.rules.View.{View}
 use Rattle.lock_free.specs.declared.swapping.Swapped.{Swapped}
 use Rattle.lock_free.specs.declared.swapping.Swapped.TheVariants.{Commits, Fails, Misses}
-use Rattle.lock_free.specs.Becoming.{Follows, HasNew}
+use Rattle.lock_free.specs.Becoming.{Follows, HasNew, made_on}
 use Rattle.lock_free.specs.Entries.{HasStayed}
 use Rattle.lock_free.specs.Holding.{IsOn}
 use Rattle.lock_free.specs.Loading.{now, Runs, IsSound, Holds}
 use Rattle.lock_free.specs.Passing.{KnowsLink, IsOnWay}
-use Rattle.lock_free.specs.Repairing.{HasStart, GivesUp, HasEndedAt, IsBranchBelow, IsAtRenew, RenewedBy, HasRenewedBranch, IsRenewing, RenewedAll, AllRenewedOrNot, HasRenewedAll}
+use Rattle.lock_free.specs.Repairing.{HasStart, GivesUp, HasEndedAt, IsBranchBelow, IsAtRenew, RenewedBy, HasRenewedBranch, IsRenewing, RenewedAll, AllRenewedOrNot, HasRenewedAll, renewed_by}
 use Rattle.lock_free.specs.SeenEntries.{HasEntries, HasSeenEntries, IsAtBranch, HasMadeNext, HasNewOrNone, IsOver}
 use Rattle.lock_free.specs.Stocks.{Stocked, IsStock, HasSwapped}
 use Rattle.lock_free.specs.Swaps.{IsAtSwap, is_done}
@@ -41,7 +41,11 @@ use Rattle.lock_free.proofs.NextEntries.{holds_next}
 use Rattle.lock_free.proofs.OnLines.{line_is, stays_on, way_on}
 use Rattle.lock_free.proofs.RenewAll.{with_more}
 use Rattle.lock_free.proofs.RepairLooks.{renew_parts}
-use Rattle.lock_free.proofs.Replaces.{branch_is_main, has_entries, entries_seen, at_make, is_over, at_swap, swap_way, swap_follows, swap_comes}
+use Rattle.lock_free.proofs.Replaces.{branch_is_main, has_entries, entries_seen, at_make, is_over, at_swap, is_swapping, swap_way, swap_follows, swap_comes}
+use Rattle.lock_free.specs.declared.leaving.Swapping.{Swapping}
+use Rattle.lock_free.specs.Leaving.{HasLeftSwap, IsRepair, LeavesSwap}
+use Rattle.lock_free.proofs.RunningOn.{runs_on_become, runs_on_both, runs_on_stayed}
+use Rattle.lock_free.proofs.SwapsBegun.{leaves_swap}
 
 module _ (n : ℕ) (v0 : View) (sound0 : IsSound n v0) (name : ℕ) (link : Link) (bitmap : ℕ) (is_at : IsAtRenew v0 name link bitmap) where
   abbrev path : List Ref
@@ -182,3 +186,19 @@ module _ (n : ℕ) (v0 : View) (sound0 : IsSound n v0) (name : ℕ) (link : Link
 
               pub swap_misses : r ≡ Misses → HasRenewedBranch v0 outcome.Again x
               swap_misses e = elsewhere outcome.Again x (ends r x s _ (λ o. ap (λ q. swapped o node (purpose.Renew path) (is_done q)) e))
+
+              by_kind : (q : Swapped) → r ≡ q → HasRenewedBranch v0 (renewed_by q) x
+              by_kind Commits e = swap_commits e
+              by_kind Fails e = swap_fails e
+              by_kind Misses e = swap_misses e
+
+              pub swap_ends : HasRenewedBranch v0 (renewed_by r) x
+              swap_ends = by_kind r refl
+
+            -- its SWAP is under way
+            pub renew_left : (s : Swapping) (x : View) → HasLeftSwap v3 s x → LeavesSwap IsRepair v0 s x
+            renew_left s x h =
+                leaves_swap IsRepair v0 v3 x s
+                (runs_on_both v0 v1 v3 (runs_on_stayed v0 v1 stayed)
+                (runs_on_both v1 v2 v3 (runs_on_become v1 v2 (with_more it.more l2) (λ o. refl) it.become) (runs_on_become v2 v3 (made_on (now v2) its.made) (λ o. refl) its.become)))
+                (purpose.Renew path) (current path) main its.made (is_swapping v2 l2 at2 (purpose.Renew path) (current path) main node v3 fresh its (λ o. refl)) tt h

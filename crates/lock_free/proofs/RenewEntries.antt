@@ -16,10 +16,13 @@ use Rattle.machine_model.specs.Renewing.{renew_next}
 use Rattle.lock_free.specs.declared.reading.Given.{Given}
 use Rattle.lock_free.specs.declared.reading.Passed.TheVariants as passed
 use Rattle.lock_free.specs.declared.reading.Way.{Way}
+use Rattle.lock_free.specs.declared.reading.ReadFrom.{ReadFrom}
+use Rattle.lock_free.specs.declared.reading.ReadFrom.TheVariants as resume
 use Rattle.lock_free.specs.declared.rules.View.{View}
 use Rattle.lock_free.specs.Becoming.{HasNew, made_on}
 use Rattle.lock_free.specs.Entries.{entry_in}
 use Rattle.lock_free.specs.Holding.{IsOn, HasComeTo}
+use Rattle.lock_free.specs.Leaving.{Halts}
 use Rattle.lock_free.specs.Loading.{now, Runs, IsAt, IsSound}
 use Rattle.lock_free.specs.Nodes.{is_single}
 use Rattle.lock_free.specs.Passing.{Later, IsPlaced, IsReading, IsPassing, IsOnWay, HasPassed, HasGiven}
@@ -34,6 +37,7 @@ use Rattle.lock_free.proofs.Laters.{placed_later}
 use Rattle.lock_free.proofs.NextEntries.{holds_next}
 use Rattle.lock_free.proofs.OnLines.{line_is, moves_on, reading_on, given_moved, moved_both, way_on}
 use Rattle.lock_free.proofs.RepairLooks.{renew_same, renew_parts}
+use Rattle.lock_free.proofs.Leavings.{halts_gives, halts_later, halts_stock, line_may, read_halts}
 
 module _ (n : ℕ) (v0 v1 : View) (sound0 : IsSound n v0) (entry : Entry) (is_at : IsAtRenewed v0 entry) (kept : Bool) (looked : HasLookedOld v0 kept v1) where
   abbrev path : List Ref
@@ -99,11 +103,22 @@ module _ (n : ℕ) (v0 v1 : View) (sound0 : IsSound n v0) (entry : Entry) (is_at
     is_reading : IsReading v1 e read.Main
     is_reading = reading_on v1 l1 at1 e read.Main refl
 
-    pub old_passing : IsPassing v1 entry.slot None
+    pub old_passing : IsPassing v1 entry.slot resume.Start
     old_passing = (e, placed_later v0 v1 later1 e entry.slot is_at.4.placed, is_reading)
 
     pub old_way : (way : Way) → IsOnWay v0 way → IsOnWay v1 way
     old_way way on = way_on v0 v1 l0 (λ o. l1) way at0 (come_by false old) on
+
+    -- the READ is out of tries
+    module _ (place : ReadFrom) (v2 : View) (h : HasPassed v1 (passed.Again place) v2) where
+      spent : Halts (λ o. reply.NoSlots) v1 v2
+      spent = read_halts (λ o. reply.NoSlots) v1 v2 e read.Main is_reading place h (line_may (λ o. reply.NoSlots) v1 l1 at1 (λ o. refl))
+
+      pub spent_renewed : HasRenewed v0 None v2
+      spent_renewed = elsewhere None v2 (halts_gives (λ o. reply.NoSlots) v0 v2 (halts_later reply.NoSlots v0 v1 v2 (λ o. l1) (come_by false old) spent))
+
+      pub spent_stock : IsSound n v1 → (stock : Stocked) → IsStock stock v0 → IsStock stock v2
+      spent_stock sound1 stock is = halts_stock (λ o. reply.NoSlots) n v1 v2 sound1 l1 at1 spent stock (looked_stock stock is)
 
     module _ (v2 : View) (sound1 : IsSound n v1) (sound2 : IsSound n v2) (given : Given) (p : HasPassed v1 (passed.Gives given) v2) where
       g : HasGiven v1 e given v2

@@ -110,6 +110,7 @@ module _ (sizes : Sizes) (s : Table.State Call View) (kept : IsKept sizes s) (id
     stays : Stays sizes s kept id v at kept.account kept.stands words_then
     stays = record {
       waits = λ actor first differs h. h;
+      still = λ x h. h.still;
       others = λ a differs. ran_so now now a refl;
       pins = λ a positive most apart. pin_same a positive;
       named = λ other x e apart g slot p n. root_beside g (others_name other x e apart g slot n);
@@ -139,7 +140,7 @@ module _ (sizes : Sizes) (s : Table.State Call View) (kept : IsKept sizes s) (id
           ((g slot : ℕ) → opens ≡ Some g → opening ≡ Some slot → Names words_then view_then g slot) → IsSeat sizes kept.account kept.stands words_then view_then
       own_by numbers reserves_then names =
           own_else sizes s kept id v at kept.account kept.stands words_then stays v.account seat.waited seat.rested seat.counts v.pin v.entered v.closing opens opening
-          (pin_same v.actor seat.low ∙ seat.pinned) seat.entered seat.calls
+          (pin_same v.actor seat.low ∙ seat.pinned) seat.pinned_idle seat.entered seat.calls
           numbers reserves_then names (λ b name free. stays_spare id v b name at free)
 
   -- ---- the offer that is to open it is named

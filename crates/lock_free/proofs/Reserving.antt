@@ -78,6 +78,7 @@ module _ (sizes : Sizes) (s : Table.State Call View) (kept : IsKept sizes s) (id
   stays : Stays sizes s kept id v at kept.account kept.stands words_then
   stays = record {
     waits = λ actor first differs h. h;
+    still = λ x h. h.still;
     others = λ a differs. ran_so now now a refl;
     pins = λ a positive most apart. pin_same a positive;
     named = λ other w e apart g slot p x. root_beside g (not_named g slot x.fits x.is);
@@ -90,7 +91,7 @@ module _ (sizes : Sizes) (s : Table.State Call View) (kept : IsKept sizes s) (id
   own_then : IsSeat sizes kept.account kept.stands words_then (reserving v o)
   own_then =
       own_else sizes s kept id v at kept.account kept.stands words_then stays v.account seat.waited seat.rested seat.counts v.pin v.entered v.closing (Some o) None
-      (pin_same v.actor seat.low ∙ seat.pinned) seat.entered (λ p e. absurd (none-some p (sym idle ∙ e))) (λ g r. held_own g r.0) (λ p e. absurd (none-some p (sym idle ∙ e)))
+      (pin_same v.actor seat.low ∙ seat.pinned) seat.pinned_idle seat.entered (λ p e. absurd (none-some p (sym idle ∙ e))) (λ g r. held_own g r.0) (λ p e. absurd (none-some p (sym idle ∙ e)))
       (λ g slot p n. absurd (none-some slot n)) (λ b name free. spare id v b name at free)
 
   openings_then : (g slot : ℕ) → g < handle_limit → IsRootWord (word.Opening slot) → slice_index words_then (root_word g) ≡ root_code (word.Opening slot) → NoOffer kept.account slot →

@@ -20,6 +20,7 @@ use Rattle.machine_model.specs.declared.actions.Action.{Action}
 use Rattle.machine_model.specs.declared.actions.Action.TheVariants as act
 use Rattle.machine_model.specs.declared.operations.Operation.{Operation}
 use Rattle.machine_model.specs.States.{State}
+use Rattle.lock_free.specs.Places.{epoch_word}
 use Rattle.lock_free.specs.declared.accounts.Account.{Account}
 use Rattle.lock_free.specs.declared.rules.View.{View}
 use Rattle.lock_free.specs.declared.sizes.Sizes.{Sizes}
@@ -33,7 +34,7 @@ use Rattle.lock_free.proofs.Assembling.{all_stand}
 use Rattle.lock_free.proofs.Exchanged.{AllowsExchange, Leaves, words_hit, missed, sound_by}
 use Rattle.lock_free.proofs.LinkWords.{i_there, generation_now, hit, miss}
 use Rattle.lock_free.proofs.Looking.{went, main_there, o_there, acts_there, same_action}
-use Rattle.lock_free.proofs.Moments.{IsThere, seat, allowed, took_by, its_place, still_own}
+use Rattle.lock_free.proofs.Moments.{IsThere, seat, allowed, took_by, its_place, still_own, not_epoch}
 use Rattle.lock_free.proofs.Restored.{all_then, restore_kept}
 
 module _ (v : View) (i main former : Ref) (p : IsAt v (act.Restore i main former)) (name : ℕ) (place : place_of v.account i ≡ name) (link : Link) (fits : IsLink link) (is : IsLinkTo v i main link)
@@ -83,6 +84,9 @@ module _ (v : View) (i main former : Ref) (p : IsAt v (act.Restore i main former
 
     abbrev link_is : (h : IsThere v s kept id at i) × (generation : ℕ) × (current : Ref) × (h.slot.node ≡ Indirection generation current)
     link_is = i_there v word found m does p i main link_in main_in its_word link fits is
+
+    pub is_elsewhere : word ≢ epoch_word
+    is_elsewhere = not_epoch v s kept id at i link_is.0 word its_word
 
     found_old : main_at state.heap i ≡ main → found ≡ old
     found_old = hit v word found m does p i main link_in main_in its_word link fits is
@@ -150,7 +154,7 @@ restore_allowed sizes size id me some_seats name link fits former (i, main, repl
     let old = link_code link in
     let new = link_code (record { generation = link.generation; main = former }) in
     allowed sizes size id me (2 * name) (λ n. either (n == old) new n) (has_gone (step size (2 * name) old new none) me)
-    some_seats
+    some_seats (λ s kept at. inl (is_elsewhere me.0 i main replaced p name place link fits is former s kept id at))
     (λ s kept at. (let x = leaves me.0 i main replaced p name place link fits is former s kept id at names in
     (seen me.0 (gone_on me.0.actor kept.account), x.0, ((record { table = s; kept = kept; id = id; at = at; finds = refl }, refl, x.1.1), x.1.0, refl))))
     (λ s kept at. refl)

@@ -8,7 +8,6 @@ use mathlib.Core.Option.{some}
 use lib.ListN.{get_elem?}
 use Rattle.atomic_table.specs.Table as Table
 use Rattle.trie_words.specs.Codes.{root_code, IsRootWord}
-use Rattle.trie_words.specs.declared.pins.Pin.{Pin}
 use Rattle.trie_words.specs.declared.roots.RootWord.{RootWord as HandleWord}
 use Rattle.trie_words.specs.declared.roots.RootWord.TheVariants as word
 use Rattle.history.specs.declared.calls.Access.{Access}
@@ -20,6 +19,7 @@ use Rattle.machine_model.specs.Calls.{handle_of}
 use Rattle.machine_model.specs.States.{State, operation_of, root_at, handle_limit}
 use Rattle.lock_free.specs.declared.accounts.Known.{Known}
 use Rattle.lock_free.specs.declared.rules.Closing.{Closing}
+use Rattle.lock_free.specs.declared.rules.Pinned.{Pinned}
 use Rattle.lock_free.specs.declared.rules.View.{View}
 use Rattle.lock_free.specs.declared.sizes.Sizes.{Sizes}
 use Rattle.lock_free.specs.Accounts.{state_of, place_of}
@@ -109,6 +109,7 @@ module _ (sizes : Sizes) (s : Table.State Call View) (kept : IsKept sizes s) (id
   stays : Stays sizes s kept id v at kept.account kept.stands words_then
   stays = record {
     waits = λ actor first differs h. h;
+    still = λ x h. h.still;
     others = λ a differs. ran_so now now a refl;
     pins = λ a positive most apart. pin_same a positive;
     named = λ other u e apart handle_of_it found_slot o x. root_beside handle_of_it
@@ -121,7 +122,7 @@ module _ (sizes : Sizes) (s : Table.State Call View) (kept : IsKept sizes s) (id
 
   -- what the seat has entered and would close then
   module _ (entered : Option ℕ) (closing : List Closing)
-      (inside : (g : ℕ) → entered ≡ Some g → (g < handle_limit) × (is_some (root_at now g) ≡ true) × ((p : Pin) × (v.pin ≡ Some p) × (p.handle ≡ g)))
+      (inside : (g : ℕ) → entered ≡ Some g → (g < handle_limit) × (is_some (root_at now g) ≡ true) × ((p : Pinned) × (v.pin ≡ Some p) × (p.pin.handle ≡ g)))
       (calls : (o : Operation) → operation_of now v.actor ≡ Some o → entered ≡ Some (handle_of o.call)) where
     abbrev pub view_then : View
     view_then = record v { entered = entered; closing = closing }
@@ -129,7 +130,7 @@ module _ (sizes : Sizes) (s : Table.State Call View) (kept : IsKept sizes s) (id
     own_then : IsSeat sizes kept.account kept.stands words_then view_then
     own_then =
         own_else sizes s kept id v at kept.account kept.stands words_then stays v.account seat.waited seat.rested seat.counts v.pin entered closing v.opens v.opening
-        (pin_same v.actor seat.low ∙ seat.pinned)
+        (pin_same v.actor seat.low ∙ seat.pinned) seat.pinned_idle
         inside calls (held id v at)
         seat.reserves (λ g slot o n. (let x = seat.opening g slot o n in names_kept sizes s kept id v at kept.account kept.stands words_then stays v view_then g slot x (stays_named g slot x) x.free))
         (λ b name free. stays_spare id v b name at free)

@@ -1,8 +1,7 @@
 -- The load by which the root of a handle is asked for is the operation's step, where the word names the root.
 use Rattle.history.specs.declared.calls.Call.{Call}
-use Rattle.std.proofs.Common.{◌≤◌, ◌≡◌, ◌<◌, ◌∷◌, [], ℕ, Contains, set, slice_index, refl, sym, ap, subst, ◌∙◌, arith}
+use Rattle.std.proofs.Common.{◌≤◌, ◌≡◌, ◌<◌, ◌∷◌, [], ℕ, set, slice_index, refl, sym, ap, subst, ◌∙◌, inr}
 use Rattle.std.proofs.lemmas.List.{set-get_or}
-use Rattle.std.proofs.lemmas.List.Elements.{Contains-get_or}
 use mathlib.Core.Option.{some, none}
 use lib.ListN.{get_elem?}
 use Rattle.atomic_table.specs.Table.{Me, Allows, step}
@@ -16,11 +15,10 @@ use Rattle.machine_model.specs.Beneath.slot_arena.specs.Refs.{slot_of}
 use Rattle.machine_model.specs.declared.actions.Action.TheVariants as act
 use Rattle.machine_model.specs.declared.operations.Operation.{Operation}
 use Rattle.machine_model.specs.declared.steps.Step.TheVariants as taken
-use Rattle.machine_model.specs.Contents as contents
-use Rattle.machine_model.specs.Counting.{refs_of_root}
 use Rattle.machine_model.specs.Moves.{GoesOn}
 use Rattle.machine_model.specs.Operations.{action_of}
 use Rattle.machine_model.specs.States.{State, root_at}
+use Rattle.lock_free.proofs.EpochStays.{rest_of}
 use Rattle.lock_free.specs.declared.accounts.Account.{Account}
 use Rattle.lock_free.specs.declared.asking.Named.{Named}
 use Rattle.lock_free.specs.declared.asking.Named.TheVariants as named
@@ -57,10 +55,10 @@ module _ (v : View) (handle : ℕ) (asks : AsksAt v handle) (s : Table.State Cal
   reading = subst IsReading (sym asks.acts.acts) tt
 
   abbrev Asks : Named → View → Type 0
-  Asks n w = IsKept v.sizes (record { words = s.words; homes = s.homes; views = set s.views id w }) × LoadedAs n v (root_word handle) found w × IsSound (words_of v.sizes) w × (w.heard ≡ v.heard)
+  Asks n w = IsKept v.sizes (record { words = s.words; homes = s.homes; views = set s.views id w }) × LoadedAs n v (root_word handle) found w × IsSound (words_of v.sizes) w × (rest_of w ≡ rest_of v)
 
   saw_it : IsKept v.sizes (record { words = s.words; homes = s.homes; views = set s.views id (seen_view v s kept id at) }) × HasSeen v (root_word handle) found (seen_view v s kept id at)
-      × IsSound (words_of v.sizes) (seen_view v s kept id at) × ((seen_view v s kept id at).heard ≡ v.heard)
+      × IsSound (words_of v.sizes) (seen_view v s kept id at) × (rest_of (seen_view v s kept id at) ≡ rest_of v)
   saw_it = (seen_kept v s kept id at, (record { table = s; kept = kept; id = id; at = at; finds = refl }, refl), (waited_so v s kept id at).sound, refl)
 
   pub asks_as : (n : Named) → (w : View) × Asks n w
@@ -80,7 +78,7 @@ pub ask_allowed : (sizes : Sizes) (size id : ℕ) (me : Me Call View) (some_seat
     Allows (IsRuled sizes) size id me (root_word handle) (λ n. n) (has_asked (step size (root_word handle) 0 0 none) me)
 ask_allowed sizes size id me some_seats handle asks =
     allowed sizes size id me (root_word handle) (λ n. n) (has_asked (step size (root_word handle) 0 0 none) me)
-    some_seats
+    some_seats (λ s kept at. inr refl)
     (λ s kept at. (let x = asks_as me.0 handle asks s kept id at (named_by (root_of (slice_index s.words (root_word handle)))) in (
       x.0,
       subst (λ ws. IsKept me.0.sizes (record { words = ws; homes = s.homes; views = set s.views id x.0 })) (sym (set-get_or s.words (root_word handle) 0)) x.1.0,
@@ -122,7 +120,9 @@ module _ (before : View) (handle : ℕ) (low : handle < 256) (asks : AsksAt befo
             steps = account.steps;
             more = taken.Go before.actor ∷ [];
             goes_on = refl;
-            reached = contents.from_root handle h.root (subst (λ r. Contains (refs_of_root r) h.root) (sym h.is) (Contains-get_or (h.root ∷ []) 0 h.root (omega arith)));
+            handle = handle;
+            access = access;
+            was = h.is;
           };
         } in
         record {

@@ -18,6 +18,7 @@ use Rattle.machine_model.specs.declared.operations.Operation.{Operation}
 use Rattle.machine_model.specs.Acting.{operation_after}
 use Rattle.machine_model.specs.Calls.{handle_of}
 use Rattle.machine_model.specs.Climbing.{climb_after_root}
+use Rattle.machine_model.specs.GivingUp.{given_up}
 use Rattle.machine_model.specs.Operations.{after_root, given_root, line_action}
 use Rattle.machine_model.specs.States.{State, word_at}
 use Rattle.machine_model.specs.Swapping.{after_root_word, completing, root_action}
@@ -53,6 +54,10 @@ rooting_there y = by_program (λ l x. rooting_of (rooting_on l y) ≡ Some y) (�
 
 pub rooting_again : (y z : RootLine) (l : Line) (x : RootLine) → rooting_of l ≡ Some x → rooting_on (rooting_on l y) z ≡ rooting_on l z
 rooting_again y z = by_program (λ l x. rooting_on (rooting_on l y) z ≡ rooting_on l z) (λ x. refl) (λ c x. refl)
+
+-- and gives up as it would
+pub rooting_gives_up : (call : Call) (y : RootLine) (l : Line) (x : RootLine) → rooting_of l ≡ Some x → given_up call (rooting_on l y) ≡ given_up call l
+rooting_gives_up call y = by_program (λ l x. given_up call (rooting_on l y) ≡ given_up call l) (λ x. refl) (λ c x. refl)
 
 -- its COMPLETE
 pub rooting_completes : (l : Line) (x : RootLine) → rooting_of l ≡ Some x → completing_of l ≡ in_root x

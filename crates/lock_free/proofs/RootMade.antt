@@ -21,6 +21,7 @@ use Rattle.machine_model.specs.declared.operations.Operation.{Operation}
 use Rattle.machine_model.specs.Acting.{operation_after}
 use Rattle.machine_model.specs.Operations.{action_of}
 use Rattle.machine_model.specs.States.{State}
+use Rattle.lock_free.proofs.EpochStays.{rest_of}
 use Rattle.lock_free.specs.declared.accounts.Account.{Account}
 use Rattle.lock_free.specs.declared.rules.View.{View}
 use Rattle.lock_free.specs.declared.sizes.Sizes.{Sizes}
@@ -119,7 +120,7 @@ module _ (sizes : Sizes) (size id : ℕ) (me : Me Call View) (generation : ℕ) 
   abbrev then : ℕ → Me Call View → Type 0
   then = has_made_root (step size generation_word generation (generation + 1) none) me
 
-  made_or_not : (s : Table.State Call View) (kept : IsKept me.0.sizes s) (at : get_elem? s.views id ≡ some me.0) → (x : View) × (x.heard ≡ me.0.heard)
+  made_or_not : (s : Table.State Call View) (kept : IsKept me.0.sizes s) (at : get_elem? s.views id ≡ some me.0) → (x : View) × (rest_of x ≡ rest_of me.0)
       × IsKept me.0.sizes (after_it sizes size id me generation_word (λ n. either (n == generation) (generation + 1) n) then s x) × then (slice_index s.words generation_word) (x, me.1)
   made_or_not s kept at = elim (cases_eq (slice_index s.words generation_word) generation) [
     | inl e ↦ (
@@ -168,5 +169,6 @@ module _ (sizes : Sizes) (size id : ℕ) (me : Me Call View) (generation : ℕ) 
 pub root_allowed : (sizes : Sizes) (size id : ℕ) (me : Me Call View) (some_seats : 1 ≤ me.0.sizes.seats) (generation : ℕ) → IsAtMakeRoot me.0 generation → AllowsRoot sizes size id me generation
 root_allowed sizes size id me some_seats generation (main, rest, name, own, p, w) =
     allowed sizes size id me generation_word (λ n. either (n == generation) (generation + 1) n) (has_made_root (step size generation_word generation (generation + 1) none) me) some_seats
+    (λ s kept at. inl (λ e. omega (arith, e)))
     (λ s kept at. (let x = made_or_not sizes size id me generation main rest name own p w s kept at in (x.0, x.2, x.3)))
     (λ s kept at. (made_or_not sizes size id me generation main rest name own p w s kept at).1)

@@ -34,7 +34,7 @@ use Rattle.lock_free.proofs.RootLines.{completes_offer, completing_on, finds_off
 
 -- ---- who is at a ROOT
 
-root_line : (v : View) → IsAtRoot v → (o : Operation) → Runs v o → rooting_of o.line ≡ Some root.Read
+pub root_line : (v : View) → IsAtRoot v → (o : Operation) → Runs v o → rooting_of o.line ≡ Some root.Read
 root_line v (p, r, is) o runs = ap (λ (z : Operation). rooting_of z.line) (runs_one v o p runs r) ∙ is
 
 pub asks_root : (v : View) (way : Way) → IsAtRoot v → IsOnWay v way → AsksAt v way.handle
@@ -78,7 +78,7 @@ module _ (n : ℕ) (v : View) (sound : IsSound n v) (way : Way) (at : IsAtRoot v
   abbrev its : Known
   its = knows.its
 
-  later : Later v w
+  pub later : Later v w
   later = went_later n v sound n w then found.went
 
   abbrev state : State
@@ -88,10 +88,10 @@ module _ (n : ℕ) (v : View) (sound : IsSound n v) (way : Way) (at : IsAtRoot v
   completes = root.Completing (completing its.offer)
 
   -- the operation is in a COMPLETE of it
-  abbrev on_line : Operation → Operation
+  abbrev pub on_line : Operation → Operation
   on_line o = record o { line = rooting_on o.line completes }
 
-  goes : (o : Operation) → Runs v o → Runs w (on_line o)
+  pub goes : (o : Operation) → Runs v o → Runs w (on_line o)
   goes o (mark, runs) =
       let there = found.went.waited.stays (record o { is_marked = mark }) runs in
       let o_there : Operation = record o { is_marked = there.0 } in

@@ -1,6 +1,6 @@
 -- What an access of one seat leaves of the seats.
 use Rattle.history.specs.declared.calls.Call.{Call}
-use Rattle.std.proofs.Common.{◌≡◌, ◌≢◌, ℕ, ◌<◌, ◌≤◌, true, Option, List, Contains, get_or, slice_index, is_some, length, Some, None, refl, sym, ap, ◌∙◌, arith}
+use Rattle.std.proofs.Common.{◌≡◌, ◌≢◌, ℕ, suc, ◌<◌, ◌≤◌, true, Option, List, Contains, get_or, slice_index, is_some, length, Some, None, refl, sym, ap, ◌∙◌, arith}
 use Rattle.std.proofs.lemmas.Option.{none-some, same_Some}
 use mathlib.Core.Option.{some}
 use lib.ListN.{get_elem?}
@@ -9,19 +9,20 @@ use Rattle.machine_model.specs.Calls.{handle_of}
 use Rattle.machine_model.specs.declared.operations.Operation.{Operation}
 use Rattle.machine_model.specs.States.{State, operation_of, root_at, handle_limit}
 use Rattle.lock_free.specs.declared.accounts.Account.{Account}
-use Rattle.trie_words.specs.declared.pins.Pin.{Pin}
 use Rattle.lock_free.specs.declared.rules.Closing.{Closing}
+use Rattle.lock_free.specs.declared.rules.Pinned.{Pinned}
 use Rattle.lock_free.specs.declared.rules.Pool.{Pool}
+use Rattle.lock_free.specs.declared.rules.Retired.{Retired}
 use Rattle.lock_free.specs.declared.rules.View.{View}
 use Rattle.lock_free.specs.declared.sizes.Sizes.{Sizes}
-use Rattle.lock_free.specs.Accounts.{state_of, HasWaited}
+use Rattle.lock_free.specs.Accounts.{state_of, HasGrown, HasWaited}
 use Rattle.lock_free.specs.Places.{pin_word, root_word, IsTaken}
-use Rattle.lock_free.specs.Rules.{Standing, AreDrafts, Once, pool_of, IsFree, IsSpare, IsSeat, IsKept, Reserves, IsHeld, Names, pin_word_of, first_account}
+use Rattle.lock_free.specs.Rules.{Standing, AreDrafts, Once, pool_of, IsFree, IsSpare, IsSeat, IsKept, Reserves, IsHeld, Names, HasPinnedIdle, IsRetired, pin_word_of, first_account}
 use Rattle.lock_free.proofs.Assembling.{not_its, other_actor}
 use Rattle.lock_free.specs.Trying.{KeepsTries}
 use Rattle.lock_free.proofs.Geometry.{IsWordOf}
 use Rattle.lock_free.proofs.Meanings.{reserved}
-use Rattle.lock_free.proofs.Waiting.{waited_none}
+use Rattle.lock_free.proofs.Waiting.{grown_both, grown_by, waited_none}
 
 -- it ran before, for the same call
 pub record Ran (before : State) (a : ℕ) (o : Operation) : Type 0 where
@@ -59,6 +60,8 @@ module _ (sizes : Sizes) (s : Table.State Call View) (kept : IsKept sizes s) (id
   -- the access keeps what other seats rely on
   pub record Stays : Type 0 where
     pub waits : (actor : ℕ) (first : Account) → actor ≢ v.actor → HasWaited actor first kept.account → HasWaited actor first account
+    -- retired slots have their nodes still
+    pub still : (x : Retired) → IsRetired sizes kept.account kept.stands x → stands x.number ≡ true
     pub others : (a : ℕ) → a ≢ v.actor → (o : Operation) → operation_of (state_of sizes account) a ≡ Some o → Ran (state_of sizes kept.account) a o
     pub pins : (a : ℕ) → 1 ≤ a → a ≤ sizes.seats → a ≢ v.actor → slice_index words (pin_word a) ≡ slice_index s.words (pin_word a)
     pub numbers : (other : ℕ) (w : View) → get_elem? s.views other ≡ some w → (other ≡ id → ⊥) → (handle : ℕ) → Reserves (state_of sizes account) w handle → IsHeld (state_of sizes account) words
@@ -89,6 +92,15 @@ module _ (sizes : Sizes) (s : Table.State Call View) (kept : IsKept sizes s) (id
         let free = still slot.0 slot.1 slot.2 in
         (free.1 d.0 (record { low = slot.3; high = slot.4 }) ∙ x.0, (slot.0, slot.1, free.0, slot.3, slot.4))
 
+    grown : HasGrown kept.account account
+    grown = grown_by (suc v.actor) kept.account account (stays.waits (suc v.actor) kept.account (λ e. omega (arith, e)) (waited_none (suc v.actor) kept.account))
+
+    retired_then : (x : Retired) → IsRetired sizes kept.account kept.stands x → IsRetired sizes account stands x
+    retired_then x h = record { was = h.was; grown = grown_both x.account kept.account account h.grown grown; still = stays.still x h }
+
+    pub idle_then : (actor : ℕ) (p : Pinned) → HasPinnedIdle sizes kept.account actor p → HasPinnedIdle sizes account actor p
+    idle_then actor p h = record { grown = grown_both p.account kept.account account h.grown grown; idle = h.idle }
+
     pub other_kept : (other : ℕ) (w : View) → get_elem? s.views other ≡ some w → (other ≡ id → ⊥) → IsSeat sizes account stands words w
     other_kept other w e apart =
         let h = kept.seats other w e in
@@ -107,6 +119,8 @@ module _ (sizes : Sizes) (s : Table.State Call View) (kept : IsKept sizes s) (id
               let its = not_mine a (omega (arith, above), below) in
               (rests_so (state_of sizes kept.account) (state_of sizes account) a (stays.others a its) r.0, stays.pins a (omega (arith, above, h.low)) (omega (arith, below, h.most)) its ∙ r.1));
           pinned = stays.pins w.actor h.low (omega (arith, h.top, h.most)) differs ∙ h.pinned;
+          pinned_idle = λ p is. idle_then w.actor p (h.pinned_idle p is);
+          retired = λ x c. retired_then x (h.retired x c);
           entered = λ handle f. (let x = h.entered handle f in (x.0, stays.still_open other w e handle f x.1, x.2));
           calls = λ o f. (let p = stays.others w.actor differs o f in h.calls p.was p.runs ∙ ap (λ c. Some (handle_of c)) p.call);
           opens = stays.numbers other w e apart;
@@ -145,6 +159,8 @@ module _ (sizes : Sizes) (s : Table.State Call View) (kept : IsKept sizes s) (id
                 let its : a ≢ v.actor = λ is. absurd (omega (arith, above, is)) in
                 (rests_so (state_of sizes kept.account) (state_of sizes account) a (stays.others a its) r.0, stays.pins a (omega (arith, above, h.low)) (omega (arith, below, h.most)) its ∙ r.1));
             pinned = own_pin ∙ h.pinned;
+            pinned_idle = λ p is. idle_then v.actor p (h.pinned_idle p is);
+            retired = λ x c. retired_then x (h.retired x c);
             entered = λ handle f. (let x = h.entered handle f in (x.0, stays.still_open id v at handle f x.1, x.2));
             calls = λ o f. h.calls operation runs ∙ ap (λ c. Some (handle_of c)) (sym same_call ∙ ap (λ (x : Operation). x.call) (same_Some next o (sym goes_on ∙ f)));
             opens = held;
@@ -158,14 +174,15 @@ module _ (sizes : Sizes) (s : Table.State Call View) (kept : IsKept sizes s) (id
 
     -- and the seat itself, where it pins itself, enters a handle, would close one, or reserves a number
     module _ (first : Account) (waited : HasWaited v.actor first account) (rested : (a : ℕ) → v.actor < a → a ≤ v.last → HasWaited a (first_account sizes) account)
-        (counted : length first.names ≡ (state_of sizes first).heap.births) (pin : Option Pin) (entered : Option ℕ)
+        (counted : length first.names ≡ (state_of sizes first).heap.births) (pin : Option Pinned) (entered : Option ℕ)
         (closing : List Closing)
         (opens : Option ℕ) (opening : Option ℕ) where
       abbrev pub seat_else : View
       seat_else = record v { account = first; pin = pin; entered = entered; closing = closing; opens = opens; opening = opening }
 
-      module _ (pinned : slice_index words (pin_word v.actor) ≡ pin_word_of pin)
-          (inside : (handle : ℕ) → entered ≡ Some handle → (handle < handle_limit) × (is_some (root_at (state_of sizes account) handle) ≡ true) × ((p : Pin) × (pin ≡ Some p) × (p.handle ≡ handle)))
+      module _ (pinned : slice_index words (pin_word v.actor) ≡ pin_word_of pin) (idle : (p : Pinned) → pin ≡ Some p → HasPinnedIdle sizes account v.actor p)
+          (inside : (handle : ℕ) → entered ≡ Some handle → (handle < handle_limit) × (is_some (root_at (state_of sizes account) handle) ≡ true) ×
+          ((p : Pinned) × (pin ≡ Some p) × (p.pin.handle ≡ handle)))
           (calls : (o : Operation) → operation_of (state_of sizes account) v.actor ≡ Some o → entered ≡ Some (handle_of o.call))
           (numbers : (handle : ℕ) → Reserves (state_of sizes account) seat_else handle → IsHeld (state_of sizes account) words handle)
           (reserves : (o : Operation) → operation_of (state_of sizes account) v.actor ≡ Some o → opens ≡ o.opens)
@@ -187,6 +204,8 @@ module _ (sizes : Sizes) (s : Table.State Call View) (kept : IsKept sizes s) (id
                   let its : a ≢ v.actor = λ is. absurd (omega (arith, above, is)) in
                   (rests_so (state_of sizes kept.account) (state_of sizes account) a (stays.others a its) r.0, stays.pins a (omega (arith, above, h.low)) (omega (arith, below, h.most)) its ∙ r.1));
               pinned = pinned;
+              pinned_idle = idle;
+              retired = λ x c. retired_then x (h.retired x c);
               entered = inside;
               calls = calls;
               opens = numbers;
@@ -220,6 +239,8 @@ module _ (sizes : Sizes) (s : Table.State Call View) (kept : IsKept sizes s) (id
         rested = h.rested;
         rests = λ a above below. (let r = h.rests a above below in (r.0, stays.pins a (omega (arith, above, h.low)) (omega (arith, below, h.most)) (λ is. absurd (omega (arith, above, is))) ∙ r.1));
         pinned = own_pin ∙ h.pinned;
+        pinned_idle = h.pinned_idle;
+        retired = λ x c. retired_then sizes s kept id v at kept.account kept.stands words stays x (h.retired x c);
         entered = h.entered;
         calls = h.calls;
         opens = held;

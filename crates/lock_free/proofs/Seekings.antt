@@ -48,6 +48,11 @@ use Rattle.lock_free.proofs.LevelPassed.{at_index, placed_last}
 use Rattle.lock_free.proofs.MainLooks.{list_says, tomb_says}
 use Rattle.lock_free.proofs.OnLines.{finds_now, moves_on}
 use Rattle.lock_free.proofs.StockStays.{stock_moved}
+use Rattle.lock_free.specs.declared.leaving.Swapping.{Swapping}
+use Rattle.lock_free.specs.Leaving.{IsRepair, IsSpent, LeavesSwap}
+use Rattle.lock_free.proofs.Leavings.{halts_gives, halts_stock}
+use Rattle.lock_free.proofs.RunningOn.{runs_on_ended}
+use Rattle.lock_free.proofs.SwapsBegun.{leaves_swap_on}
 
 -- ---- an operation that has come to a line, whatever it has of its own
 
@@ -135,6 +140,9 @@ module _ (n : ℕ) (v : View) (sound : IsSound n v) (task : Task) (t : IsTask v 
   pub renewed_done : (result : Renewed) (after : View) → HasRenewedBranch v result after → HasRenewedLast v slots result after
   renewed_done result after h = by_result result after (h path main at.3)
 
+pub as_renewed : (v : View) (slots : List ℕ) (r q : Renewed) (w : View) → r ≡ q → HasRenewedLast v slots r w → HasRenewedLast v slots q w
+as_renewed v slots r q w is h = subst (λ x. HasRenewedLast v slots x w) is h
+
 -- ---- the last indirection but one is cleaned
 
 below_by : (k : ℕ) → nat_lt 1 (k - 1) ≡ nat_lt 2 k
@@ -183,7 +191,7 @@ module _ (v : View) (slots : List ℕ) (at : IsToClean v slots) where
 
 -- ---- all of it
 
-sought_later : (u v w : View) (a : Line) (slots : List ℕ) (result : Sought) → HasEndedAt a u v → HasSought v slots result w → HasSought u slots result w
+pub sought_later : (u v w : View) (a : Line) (slots : List ℕ) (result : Sought) → HasEndedAt a u v → HasSought v slots result w → HasSought u slots result w
 sought_later u v w a slots (sought.Answers answer) e h = ended_both u v w a (line.End answer) e h
 sought_later u v w a slots (sought.Changes update given) e h = record {
   path = h.path;
@@ -234,6 +242,27 @@ module _ (before : View) (first : List ℕ) (start : IsOnPath before first) (tas
 
     pub stock_there : (n : ℕ) → IsSound n v → (stock : Stocked) → IsStock stock v → IsStock stock w
     stock_there n sound stock is = stock_moved n v w sound on_read.0 on_read.1 stock is (λ o. its_line) h.moved
+
+  -- and from there to this
+  pub found_sought : (slots2 : List ℕ) (result : Found) (w : View) → HasFound v slots2 result w → (slots3 : List ℕ) (more : Sought) (z : View) → HasSought w slots3 more z → HasSought before
+      slots3 more z
+  found_sought slots2 result w h slots3 more z e = sought_later before w z (its_line slots2 result w h) slots3 more (ended_there slots2 result w h) e
+
+  -- its SWAP is under way
+  pub found_leaves : (slots2 : List ℕ) (result : Found) (w : View) → HasFound v slots2 result w → (s : Swapping) (z : View) → LeavesSwap IsRepair w s z → LeavesSwap IsRepair before s z
+  found_leaves slots2 result w h s z left =
+      leaves_swap_on IsRepair before w z s (runs_on_ended before w (λ o. its_line slots2 result w h) (ended_there slots2 result w h)) left
+
+  -- the way down is out of tries
+  module _ (w : View) (h : IsSpent v w) where
+    pub spent_stock : (n : ℕ) → IsSound n v → (stock : Stocked) → IsStock stock v → IsStock stock w
+    spent_stock n sound stock is = halts_stock (λ o. reply.NoSlots) n v w sound read_line on_read h stock is
+
+    pub spent_full : (slots2 : List ℕ) → HasSought before slots2 sought.Full w
+    spent_full slots2 = gives_up_later before v w read_line reply.NoSlots s.ended (halts_gives (λ o. reply.NoSlots) v w h)
+
+  pub seeking_full : HasSought before slots sought.Full v
+  seeking_full = record { follows = s.ended.follows; runs = λ o r. (let x = s.ended.comes o r in (x.0, read_line, x.1, refl)) }
 
   pub answers : (slots2 : List ℕ) (answer : Reply) (w : View) → HasFound v slots2 (found.Answers answer) w → HasSought before slots2 (sought.Answers answer) w
   answers slots2 answer w h = ended_there slots2 (found.Answers answer) w h

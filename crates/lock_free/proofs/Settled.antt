@@ -321,6 +321,7 @@ module _ (sizes : Sizes) (s : Table.State Call View) (kept : IsKept sizes s) (id
   stays : Stays sizes s kept id v at account_then kept.stands words_then
   stays = record {
     waits = waits;
+    still = λ x h. h.still;
     others = λ a differs o e. ran_settled n k.offer now next settles.tries a o e;
     pins = λ a positive most apart. before_slots (pin_word a) (omega (arith, most));
     named = λ other w e apart handle slot o x. root_same handle x.low;

@@ -18,16 +18,21 @@ use Rattle.machine_model.specs.declared.reading.ReadLine.{ReadLine}
 use Rattle.machine_model.specs.declared.reading.ReadLine.TheVariants as read
 use Rattle.machine_model.specs.Reading.{is_licensed, is_pending, verdict_by, after_decide, after_restore}
 use Rattle.proof_memory.specs.Wants.{is_main_node}
+use Rattle.lock_free.specs.declared.reading.Passed.{Passed}
+use Rattle.lock_free.specs.declared.reading.Passed.TheVariants as passed
+use Rattle.lock_free.specs.declared.reading.ReadFrom.TheVariants as resume
 use Rattle.lock_free.specs.declared.reading.Way.{Way}
 use Rattle.lock_free.specs.declared.rules.View.{View}
 use Rattle.lock_free.specs.Exchanging.{IsNamed, IsNamedOrGone, IsAtDecide, HasDecided, IsAtRestore, HasRestored}
 use Rattle.lock_free.specs.Loading.{now, seen, IsAt, IsUsed, IsSound, Holds, HoldsSlot, HasSeenMain}
 use Rattle.lock_free.specs.Nodes.{class_of}
-use Rattle.lock_free.specs.Passing.{Later, HasCome, IsReading, KnowsLink, KnowsMain, KnowsPending, HasGiven, pending_line, IsPending, HasLicense, IsFailed}
+use Rattle.lock_free.specs.Passing.{Later, HasCome, IsReading, IsOnWay, KnowsLink, KnowsMain, HasGiven, GoesToAsk}
+use Rattle.lock_free.specs.Passing.{PassedBy, HasPassed, pending_line, IsDeciding, IsPending, HasLicense, StillAsks, IsFailed}
 use Rattle.lock_free.proofs.Asked.{mains_of, main_stands, gone_stays}
-use Rattle.lock_free.proofs.Comings.{at_read, all_read, came, come_on, reading_one, reading_then, saw_come}
+use Rattle.lock_free.proofs.Comings.{at_read, all_read, came, come_on, reading_one, reading_then, saw_come, way_then}
 use Rattle.lock_free.proofs.Framing.{class_small}
 use Rattle.lock_free.proofs.Laters.{main_kind, went_later, saw_later, used_later, placed_later, named_later, link_later, main_later, pending_later, pending_over}
+use Rattle.lock_free.proofs.OnePass.{passes_on}
 use Rattle.lock_free.proofs.ReadHolds.{reading_holds}
 use Rattle.lock_free.proofs.Within.{two_words}
 
@@ -39,78 +44,119 @@ license_is v i main link told k = ap (λ g. option_eq nat_eq told (Some g)) (sym
 
 -- ---- deciding
 
-module _ (before middle : View) (way : Way) (link : Link) (header : Header) (licensed : Bool) (pending : IsPending before way link header) (license : HasLicense before way link licensed middle) where
+-- the root was asked
+module _ (before middle : View) (way : Way) (link : Link) (header : Header) (pending : IsPending before way link header) where
+  abbrev i1 : Ref
+  i1 = pending.0
+
+  abbrev main1 : Ref
+  main1 = pending.1
+
+  abbrev replaced1 : Ref
+  replaced1 = pending.2
+
+  abbrev asks : ReadLine
+  asks = pending_line way.access main1 replaced1
+
+  module _ (licensed : Bool) (license : HasLicense before way link licensed middle) where
+    told : (told : Option ℕ) × HasCome (Goes (read.Decide main1 replaced1 told)) before middle × (is_licensed (now middle).heap i1 told ≡ licensed)
+    told = license i1 main1 replaced1 pending.3 pending.4
+
+    pub is_deciding : IsDeciding middle link header licensed
+    is_deciding = record {
+      i = i1;
+      main = main1;
+      replaced = replaced1;
+      told = told.0;
+      reading = reading_then before middle i1 asks (read.Decide main1 replaced1 told.0) pending.3 told.1;
+      licensed_is = told.2;
+      link_is = link_later before middle told.1.later i1 main1 link pending.4;
+      header_is = pending_later before middle told.1.later i1 main1 replaced1 header pending.5;
+    }
+
+    pub decided_passes : (result : Passed) (after : View) → HasPassed middle result after → HasPassed before result after
+    unfolding is_deciding told
+    decided_passes result after h j y is =
+        subst (λ z. PassedBy before z result after) (reading_one before i1 j asks y pending.3 is).0
+        (passes_on before middle after i1 (read.Decide main1 replaced1 told.0) result told.1 (h i1 (read.Decide main1 replaced1 told.0) is_deciding.reading))
+
+  -- or is still to be asked
+  pub still_to_ask : IsOnWay before way → StillAsks before way middle → HasPassed before (passed.Again (resume.Asking link header)) middle
+  still_to_ask on (writable, again) j y is =
+      let reading = subst (λ a. IsReading before i1 (pending_line a main1 replaced1)) writable pending.3 in
+      let come = again i1 main1 replaced1 reading in
+      subst (λ z. GoesToAsk before z link header middle) (reading_one before i1 j asks y pending.3 is).0
+      (record {
+        main = main1;
+        replaced = replaced1;
+        come = come;
+        writable = λ o r. (way_then before middle i1 (read.AskRoot main1 replaced1) (Goes (read.AskRoot main1 replaced1)) way reading come on o r).0 ∙ writable;
+        link_is = link_later before middle come.later i1 main1 link pending.4;
+        header_is = pending_later before middle come.later i1 main1 replaced1 header pending.5;
+      })
+
+module _ (middle : View) (link : Link) (header : Header) (licensed : Bool) (d : IsDeciding middle link header licensed) where
   abbrev i : Ref
-  i = pending.0
+  i = d.i
 
   abbrev main : Ref
-  main = pending.1
+  main = d.main
 
   abbrev replaced : Ref
-  replaced = pending.2
+  replaced = d.replaced
 
-  told : (told : Option ℕ) × HasCome (Goes (read.Decide main replaced told)) before middle × (is_licensed (now middle).heap i told ≡ licensed)
-  told = license i main replaced pending.3 pending.4
-
-  deciding : IsReading middle i (read.Decide main replaced told.0)
-  deciding = reading_then before middle i (pending_line way.access main replaced) (read.Decide main replaced told.0) pending.3 told.1
-
-  link_now : KnowsLink middle i main link
-  link_now = link_later before middle told.1.later i main link pending.4
-
-  pending_now : KnowsPending middle i main replaced header
-  pending_now = pending_later before middle told.1.later i main replaced header pending.5
+  abbrev deciding : IsReading middle i (read.Decide main replaced d.told)
+  deciding = d.reading
 
   pub decide_ready : IsAtDecide middle link.main.slot header licensed
   decide_ready =
-      (i, main, replaced, told.0, at_read middle i (read.Decide main replaced told.0) deciding, link_now.is.names.place, pending_over middle i main replaced header pending_now, told.2)
+      (i, main, replaced, d.told, at_read middle i (read.Decide main replaced d.told) deciding, d.link_is.is.names.place, pending_over middle i main replaced header d.header_is, d.licensed_is)
 
   module _ (n m : ℕ) (after : View) (sound : IsSound n middle) (then : IsSound m after) (stood : Bool) (g : HasDecided middle stood after) where
     its_later : Later middle after
     its_later = went_later n middle sound m after then g.0
 
-    comes : HasCome (after_decide main (verdict_by licensed stood)) before after
+    comes : HasCome (after_decide main (verdict_by licensed stood)) middle after
     comes =
-        let x = g.1 i main replaced told.0 (at_read middle i (read.Decide main replaced told.0) deciding) in
-        come_on before middle after (read.Decide main replaced told.0) (after_decide main (verdict_by licensed stood)) told.1
-        (came middle after i (read.Decide main replaced told.0) deciding its_later g.0 (after_decide main (verdict_by licensed stood))
-        (λ o r. ap (λ a. after_decide main (verdict_by a (is_pending (prev_at (now (seen middle g.0.account)).heap main) replaced))) (x.1 ∙ told.2) ∙ ap
-        (λ b. after_decide main (verdict_by licensed b)) x.0))
+        let x = g.1 i main replaced d.told (at_read middle i (read.Decide main replaced d.told) deciding) in
+        came middle after i (read.Decide main replaced d.told) deciding its_later g.0 (after_decide main (verdict_by licensed stood))
+        (λ o r. ap (λ a. after_decide main (verdict_by a (is_pending (prev_at (now (seen middle g.0.account)).heap main) replaced))) (x.1 ∙ d.licensed_is) ∙ ap
+        (λ b. after_decide main (verdict_by licensed b)) x.0)
 
     link_then : KnowsLink after i main link
-    link_then = link_later middle after its_later i main link link_now
+    link_then = link_later middle after its_later i main link d.link_is
 
     main_then : KnowsMain after main header
-    main_then = main_later middle after its_later main header pending_now.main_is
+    main_then = main_later middle after its_later main header d.header_is.main_is
 
-    same_link : (j : Ref) (y : ReadLine) → IsReading before j y → i ≡ j
-    same_link j y reading = (reading_one before i j (pending_line way.access main replaced) y pending.3 reading).0
+    same_link : (j : Ref) (y : ReadLine) → IsReading middle j y → i ≡ j
+    same_link j y reading = (reading_one middle i j (read.Decide main replaced d.told) y deciding reading).0
 
     -- it is committed, and given
-    pub commits : licensed ≡ true → stood ≡ true → (j : Ref) (y : ReadLine) → IsReading before j y → HasGiven before j
+    pub commits : licensed ≡ true → stood ≡ true → (j : Ref) (y : ReadLine) → IsReading middle j y → HasGiven middle j
         (record { link = link; header = record { previous = previous.None; shape = header.shape } }) after
     commits a b j y reading =
-        subst (λ k. HasGiven before k (record { link = link; header = record { previous = previous.None; shape = header.shape } }) after) (same_link j y reading)
+        subst (λ k. HasGiven middle k (record { link = link; header = record { previous = previous.None; shape = header.shape } }) after) (same_link j y reading)
         (record {
           main = main;
-          come = subst (λ z. HasCome (after_decide main z) before after) (ap (λ z. verdict_by z stood) a ∙ ap (verdict_by true) b) comes;
+          come = subst (λ z. HasCome (after_decide main z) middle after) (ap (λ z. verdict_by z stood) a ∙ ap (verdict_by true) b) comes;
           link = link_then;
           header = record { slot = main_then.slot; used = main_then.used; is_main = main_then.is_main; is_shape = main_then.is_shape; fits = (tt, main_then.fits.1); names = main_then.names };
         })
 
     -- another one decided it, so its header is read again
-    pub overtaken : licensed ≡ true → stood ≡ false → (j : Ref) (y : ReadLine) → IsReading before j y → (k : Ref) × HasCome (Goes (read.Prev k)) before after × KnowsLink after j k link
+    pub overtaken : licensed ≡ true → stood ≡ false → (j : Ref) (y : ReadLine) → IsReading middle j y → (k : Ref) × HasCome (Goes (read.Prev k)) middle after × KnowsLink after j k link
     overtaken a b j y reading =
-        subst (λ z. (k : Ref) × HasCome (Goes (read.Prev k)) before after × KnowsLink after z k link) (same_link j y reading)
-        (main, subst (λ z. HasCome (after_decide main z) before after) (ap (λ z. verdict_by z stood) a ∙ ap (verdict_by true) b) comes, link_then)
+        subst (λ z. (k : Ref) × HasCome (Goes (read.Prev k)) middle after × KnowsLink after z k link) (same_link j y reading)
+        (main, subst (λ z. HasCome (after_decide main z) middle after) (ap (λ z. verdict_by z stood) a ∙ ap (verdict_by true) b) comes, link_then)
 
     from_main : (b : Bool) → after_decide main (verdict_by false b) ≡ Goes read.Main
     from_main true = refl
     from_main false = refl
 
     -- it has failed, or another one decided it: the READ begins anew
-    pub fails : licensed ≡ false → HasCome (Goes read.Main) before after
-    fails a = subst (λ z. HasCome z before after) (ap (λ z. after_decide main (verdict_by z stood)) a ∙ from_main stood) comes
+    pub fails : licensed ≡ false → HasCome (Goes read.Main) middle after
+    fails a = subst (λ z. HasCome z middle after) (ap (λ z. after_decide main (verdict_by z stood)) a ∙ from_main stood) comes
 
 -- ---- putting back
 

@@ -15,9 +15,11 @@ use Rattle.lock_free.specs.declared.rules.View.{View}
 use Rattle.lock_free.specs.declared.sizes.Sizes.{Sizes}
 use Rattle.lock_free.specs.Accounts.{state_of}
 use Rattle.lock_free.specs.Loading.{IsSound}
-use Rattle.lock_free.specs.Rules.{latest, IsClosing, IsOpening, IsFree, Reserves, HasActor, HasSeat, IsSeat, IsKept, IsRuled, WasGivenUp}
+use Rattle.lock_free.specs.Rules.{AreEpochs, AreRetired, latest, IsClosing, IsOpening, IsFree, Reserves, HasActor, HasSeat, IsSeat, IsKept, IsRuled, WasGivenUp}
 use Rattle.lock_free.specs.Splitting.{without_last, of_last}
+use Rattle.lock_free.proofs.EpochStays.{IsAsWas, Was as Before, as_was, epochs_stay, is_new, was_one}
 use Rattle.lock_free.proofs.Idle.{empty_has, none_free, none_twice}
+use Rattle.lock_free.proofs.RetiredStay.{Retires, retired_stay, retires_as, retires_none, retires_self}
 use Rattle.lock_free.proofs.Silent.{waited_since}
 
 at_more : (xs : List View) (x w : View) (k : ℕ) → get_elem? (xs ++ x ∷ []) k ≡ some w → (get_elem? xs k ≡ some w) ⊎ ((k ≡ length xs) × (x ≡ w))
@@ -97,6 +99,8 @@ module _ (sizes : Sizes) (s : Table.State Call View) (kept : IsKept sizes s) (id
         rested = λ a above below. seat.rested a above (omega (arith, below));
         rests = λ a above below. seat.rests a above (omega (arith, below));
         pinned = seat.pinned;
+        pinned_idle = seat.pinned_idle;
+        retired = seat.retired;
         entered = seat.entered;
         calls = seat.calls;
         opens = seat.opens;
@@ -123,6 +127,8 @@ module _ (sizes : Sizes) (s : Table.State Call View) (kept : IsKept sizes s) (id
         rested = λ a above below. absurd (omega (arith, above, below));
         rests = λ a above below. absurd (omega (arith, above, below));
         pinned = (seat.rests v.last more (omega arith)).1;
+        pinned_idle = λ p is. absurd (none-some p is);
+        retired = λ x c. absurd (empty_has x c);
         entered = λ handle e. absurd (none-some handle e);
         calls = λ o e. absurd (idle o e);
         opens = λ handle r. absurd (none-some handle r.0);
@@ -239,11 +245,26 @@ module _ (sizes : Sizes) (s : Table.State Call View) (kept : IsKept sizes s) (id
     heard_by k x (was_other e p) h c = gone_still h (heard k x p h c)
     heard_by k x (was_second e p) h c = let none = (subst (λ hs. Contains hs h) (ap (λ (y : View). y.heard) (sym p)) c).1 in absurd (omega (arith, none))
 
-    pub split_ruled : IsRuled sizes (record { words = s.words; homes = s.homes; views = split_views })
-    split_ruled = record { kept = split_kept; heard = λ k x e h c. heard_by k x (was k x e) h c }
+    was_before : (k : ℕ) (x : View) → Was k x → Before s.views x
+    was_before k x (was_first e p) = was_one id v at (subst (IsAsWas v) p (record { actor = refl; epoch = refl; passed = refl; pinned = λ q e. e }))
+    was_before k x (was_other e p) = was_one k x p (as_was x)
+    was_before k x (was_second e p) = is_new (ap (λ (y : View). y.pin) (sym p)) (ap (λ (y : View). y.epoch) (sym p))
+
+    retires_before : (k : ℕ) (x : View) → Was k x → Retires s.views k x
+    retires_before k x (was_first e p) = subst (Retires s.views k) p (retires_as v (ap (λ n. get_elem? s.views n) e ∙ at) refl (λ q is. is))
+    retires_before k x (was_other e p) = retires_self s.views k x p
+    retires_before k x (was_second e p) = retires_none (ap (λ (y : View). y.retired) (sym p)) (ap (λ (y : View). y.pin) (sym p))
+
+    pub split_ruled : AreEpochs s.words s.views → AreRetired sizes s.words s.views → IsRuled sizes (record { words = s.words; homes = s.homes; views = split_views })
+    split_ruled epochs retired = record {
+      kept = split_kept;
+      epochs = epochs_stay s.words s.words s.views split_views refl (λ k x e. was_before k x (was k x e)) epochs;
+      retired = retired_stay sizes s.words s.words s.views split_views (omega arith) (λ k x e. retires_before k x (was k x e)) retired;
+      heard = λ k x e h c. heard_by k x (was k x e) h c;
+    }
 
 pub splits : (sizes : Sizes) (id : ℕ) (v : View) → 1 ≤ v.sizes.seats → v.actor < v.last → Splits (IsRuled sizes) id v (without_last v) (of_last v)
-splits sizes id v some_seats more s ruled at = split_ruled sizes s ruled.kept id v at more some_seats ruled.heard
+splits sizes id v some_seats more s ruled at = split_ruled sizes s ruled.kept id v at more some_seats ruled.heard ruled.epochs ruled.retired
 
 pub left_sound : (words : ℕ) (v : View) → IsSound words v → IsSound words (without_last v)
 left_sound words v h = record { size = h.size; range = h.range; bounds = h.bounds; keys = h.keys; counted = h.counted; inside = h.inside; free = h.free }

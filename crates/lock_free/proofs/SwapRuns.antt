@@ -35,7 +35,7 @@ module _ (why : Purpose) (i a f : Ref) where
   at_line x = line.Swap why (record { indirection = i; replaced = a; fresh = f; line = x })
 
   -- what comes after it goes by the call alone
-  same_call : (p : Purpose) (node : Node) (done : Bool) (o : Operation) (private : List Ref) (l : Line) (mark : Bool) →
+  pub same_call : (p : Purpose) (node : Node) (done : Bool) (o : Operation) (private : List Ref) (l : Line) (mark : Bool) →
       swapped (record o { private = private; line = l; is_marked = mark }) node p done ≡ swapped o node p done
   same_call (purpose.Update path former) (Tomb single) true o private l mark = refl
   same_call (purpose.Update path former) (Indirection g m) true o private l mark = refl

@@ -31,13 +31,14 @@ use Rattle.lock_free.specs.declared.accounts.Account.{Account}
 use Rattle.lock_free.specs.declared.reading.Given.{Given}
 use Rattle.lock_free.specs.declared.reading.Passed.TheVariants as passed
 use Rattle.lock_free.specs.declared.reading.Way.{Way}
+use Rattle.lock_free.specs.declared.reading.ReadFrom.TheVariants as resume
 use Rattle.lock_free.specs.declared.rules.View.{View}
 use Rattle.lock_free.specs.declared.swapping.Swapped.TheVariants.{Commits, Fails, Misses}
 use Rattle.lock_free.specs.Accounts.{bounds_for, IsOwn, later, first}
 use Rattle.lock_free.specs.Exchanging.{HasPublished, given_up}
 use Rattle.lock_free.specs.Loading.{now, seen, Runs, IsAt, IsSound, IsAtSlot, HasHeader, HasReadHeader}
 use Rattle.lock_free.specs.Nodes.{class_of, IsAhead, SaysPrevious, decided, ahead, pending, failed}
-use Rattle.lock_free.specs.Passing.{Later, IsReading, IsOnWay, IsPlaced, IsPassing, HasPassed, HasGiven}
+use Rattle.lock_free.specs.Passing.{Later, IsFrom, IsReading, IsOnWay, IsPlaced, HasPassed, HasGiven}
 use Rattle.lock_free.specs.Publishing.{owned_now, swapped_in}
 use Rattle.lock_free.specs.Swaps.{swap_on, swap_done, IsSwapping, IsAtSwap, HasSwapDone}
 use Rattle.lock_free.proofs.Asked.{mains_of, main_stands, nodes_go, read_is_met}
@@ -55,7 +56,7 @@ abbrev parts_in : Line → Purpose × Ref
 parts_in (line.Swap why s) = (why, s.fresh)
 parts_in l = (purpose.Clean, no_ref)
 
-not_none : (account : Account) (state : State) (k : ℕ) (p : Prev) (says : Previous) → says ≢ previous.None → ((j b c : Ref) → IsAhead state j b c → slot_of c ≢ k) →
+pub not_none : (account : Account) (state : State) (k : ℕ) (p : Prev) (says : Previous) → says ≢ previous.None → ((j b c : Ref) → IsAhead state j b c → slot_of c ≢ k) →
     SaysPrevious account state k p says → is_none p ≡ false
 not_none account state k p says isnt met (decided nobody) = absurd (isnt refl)
 not_none account state k p says isnt met (ahead i b c own h its owned) = absurd (met i b c h its)
@@ -126,7 +127,7 @@ module _ (v : View) (name : ℕ) (link : Link) (fresh : ℕ) (is_at : IsAtSwap v
         subst (λ (z : Slot). is_main_node z.node ≡ true) (same_Some stands.1.0 is_at.7.0.0 (sym stands.1.1 ∙ is_at.7.0.1)) stands.1.2
 
     -- the fresh node stays what it is
-    fresh_same : (x : View) → Later v x → node_at (now x).heap f ≡ node_at (now v).heap f
+    pub fresh_same : (x : View) → Later v x → node_at (now x).heap f ≡ node_at (now v).heap f
     fresh_same x l =
         let y = l.nodes f is_at.7.0.0 is_at.7.0.1 in
         let main = main_kind is_at.7.0.0.node y.0.node y.2 fresh_main in
@@ -176,7 +177,7 @@ module _ (v : View) (name : ℕ) (link : Link) (fresh : ℕ) (is_at : IsAtSwap v
       swapped_link : Link
       swapped_link = record { generation = link.generation; main = record { slot = fresh; own = true } }
 
-      goes_w : (o : Operation) → Runs v o → Runs w (swap_on why i a f (swap.Deciding (read.Prev f)) o)
+      pub goes_w : (o : Operation) → Runs v o → Runs w (swap_on why i a f (swap.Deciding (read.Prev f)) o)
       goes_w o (mark, runs) =
           let there = g.1.stays (record o { is_marked = mark }) runs in
           (there.0, g.2 (record o { is_marked = there.0 }) there.1 ∙ ap Some (publishes why i a f state o there.0 (line_of o (mark, runs)) (what.0 ∙ e)))
@@ -195,23 +196,19 @@ module _ (v : View) (name : ℕ) (link : Link) (fresh : ℕ) (is_at : IsAtSwap v
       owned_w : IsOwn w.account i f true
       owned_w = subst (λ (x : View). IsOwn x.account i f true) (sym hit_is) (first (owned_now i f) account.owned)
 
-      placed_f : IsPlaced w f fresh
+      pub placed_f : IsPlaced w f fresh
       placed_f = placed_later v w later_w f fresh is_at.7
 
-      pub read_ready : IsPassing w name (Some (record { generation = link.generation; main = record { slot = fresh; own = true } }))
-      read_ready = (
-        i,
-        placed_later v w later_w i name is_at.5,
-        (
-          f,
-          reading_w,
-          record {
-            is = record { generation = is_at.6.is.generation ∙ sym (generation_later v w later_w i is_at.6.link_used); names = record { place = placed_f.1; is_own = owned_w } };
-            fits = (is_at.6.fits.0, fresh_small);
-            link_used = used_later v w later_w i is_at.6.link_used;
-            main_used = placed_f.0;
-          },
-        ),
+      pub from_ready : IsFrom w i (resume.Header (record { generation = link.generation; main = record { slot = fresh; own = true } }))
+      from_ready = (
+        f,
+        reading_w,
+        record {
+          is = record { generation = is_at.6.is.generation ∙ sym (generation_later v w later_w i is_at.6.link_used); names = record { place = placed_f.1; is_own = owned_w } };
+          fits = (is_at.6.fits.0, fresh_small);
+          link_used = used_later v w later_w i is_at.6.link_used;
+          main_used = placed_f.0;
+        },
       )
 
       pub way_w : (way : Way) → IsOnWay v way → IsOnWay w way

@@ -7,7 +7,7 @@ use Rattle.history.specs.declared.calls.Call.TheVariants.{Get, Put, PutIfAbsent,
 use Rattle.machine_model.specs.Beneath.ctrie_base.specs.Hashes.{hash_of}
 use Rattle.machine_model.specs.Beneath.slot_arena.specs.declared.refs.Ref.{Ref}
 use Rattle.machine_model.specs.declared.operations.Operation.{Operation}
-use Rattle.machine_model.specs.Calls.{copies, handle_of, key_of}
+use Rattle.machine_model.specs.Calls.{copies, key_of}
 use Rattle.machine_model.specs.Finding.{going_down}
 use Rattle.machine_model.specs.Lines.{new_try}
 use Rattle.machine_model.specs.Operations.{from_root}
@@ -17,7 +17,6 @@ use Rattle.lock_free.specs.declared.tasks.Task.{Task}
 use Rattle.lock_free.specs.Descending.{IsOnPath, IsTask}
 use Rattle.lock_free.specs.Holding.{IsOn}
 use Rattle.lock_free.specs.Loading.{Runs, IsSound}
-use Rattle.lock_free.specs.Passing.{IsOnWay}
 use Rattle.lock_free.specs.Rooting.{HasRooted, rooted}
 use Rattle.lock_free.specs.Seeking.{IsCalled}
 use Rattle.lock_free.specs.Stocks.{IsStock, Stocked}
@@ -43,9 +42,6 @@ goes_from_root (Count h) r keeps = refl
 
 module _ (v : View) (on : IsOn v new_try) where
   module _ (call : Call) (access : Access) (calls : IsCalled v call access) where
-    pub way_called : IsOnWay v (record { handle = handle_of call; access = access })
-    way_called o r = ((calls o r).1, ap handle_of (calls o r).0)
-
     module _ (keyed : copies call ≡ false) (given : Rooted) (w : View) (h : HasRooted v given w) where
       abbrev next : Operation → Operation
       next o = record o { generation = Some given.generation; line = going_down [] h.root }

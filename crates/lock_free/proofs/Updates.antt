@@ -25,6 +25,10 @@ use Rattle.lock_free.specs.Swaps.{is_done, swap_done, IsAtSwap, IsSwapping}
 use Rattle.lock_free.specs.Updating.{updated, HasUpdated, IsAtUpdate}
 use Rattle.lock_free.proofs.Followings.{follows_both, placed_on}
 use Rattle.lock_free.proofs.Reachings.{main_then, way_then}
+use Rattle.lock_free.specs.Leaving.{HasLeftSwap, IsUpdate, LeavesSwap}
+use Rattle.lock_free.specs.declared.leaving.Swapping.{Swapping}
+use Rattle.lock_free.proofs.RunningOn.{runs_on_become}
+use Rattle.lock_free.proofs.SwapsBegun.{leaves_swap}
 
 module _ (v w : View) (by : Builder) (given : Given) (place : Site) (former : Option ℕ) (indirection : ℕ) (at : IsAtUpdate v by given place former indirection) where
   abbrev path : List Ref
@@ -79,3 +83,8 @@ module _ (v w : View) (by : Builder) (given : Given) (place : Site) (former : Op
           follows = follows_both v w after f.reached.become.follows done.follows;
           comes = λ o r. subst (Runs after) (comes_to s o) (done.comes (grown f.reached.more then o) (f.reached.become.comes o r));
         }
+
+    -- its SWAP is under way
+    pub update_left : (s : Swapping) (x : View) → HasLeftSwap w s x → LeavesSwap (IsUpdate former) v s x
+    update_left s x h =
+        leaves_swap (IsUpdate former) v w x s (runs_on_become v w (grown f.reached.more then) (λ o. refl) f.reached.become) (purpose.Update path former) (current path) main f.fresh this refl h

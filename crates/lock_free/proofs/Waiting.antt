@@ -8,7 +8,7 @@ use Rattle.lock_free.specs.declared.accounts.Account.{Account}
 use Rattle.lock_free.specs.declared.accounts.Owned.{Owned}
 use Rattle.lock_free.specs.declared.accounts.Known.{Known}
 use Rattle.lock_free.specs.declared.rules.View.{View}
-use Rattle.lock_free.specs.Accounts.{IsOfOther, HasWaited}
+use Rattle.lock_free.specs.Accounts.{IsOfOther, HasGrown, HasWaited}
 use Rattle.lock_free.specs.Loading.{seen, IsSound, Saw, Waited}
 
 -- one step more that isn't the sweep's
@@ -49,6 +49,22 @@ waited_both actor first middle last h k = record {
   offers = k.offers ++ h.offers;
   more_offers = k.more_offers ∙ ap (λ xs. k.offers ++ xs) h.more_offers ∙ sym (append_assoc k.offers h.offers first.offers);
 }
+
+-- ---- how it grows, whoever takes the steps
+
+pub grown_none : (account : Account) → HasGrown account account
+grown_none account = record { steps = []; goes_on = sym (append-nil account.steps); names = []; more_names = sym (append-nil account.names) }
+
+pub grown_both : (first middle last : Account) → HasGrown first middle → HasGrown middle last → HasGrown first last
+grown_both first middle last h k = record {
+  steps = h.steps ++ k.steps;
+  goes_on = k.goes_on ∙ ap (λ xs. xs ++ k.steps) h.goes_on ∙ append_assoc first.steps h.steps k.steps;
+  names = h.names ++ k.names;
+  more_names = k.more_names ∙ ap (λ xs. xs ++ k.names) h.more_names ∙ append_assoc first.names h.names k.names;
+}
+
+pub grown_by : (actor : ℕ) (first last : Account) → HasWaited actor first last → HasGrown first last
+grown_by actor first last h = record { steps = h.steps; goes_on = h.goes_on; names = h.names; more_names = h.more_names }
 
 -- the account with these steps, names, owners and offers more
 abbrev pub more : Account → List Step → List ℕ → List Owned → List Known → Account

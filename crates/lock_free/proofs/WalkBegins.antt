@@ -6,10 +6,12 @@ use Rattle.lock_free.specs.declared.reading.Way.{Way}
 use Rattle.lock_free.specs.declared.rules.View.{View}
 use Rattle.lock_free.specs.Passing.{IsOnWay}
 use Rattle.lock_free.specs.Walks.{AreToDo, HasFoundStart, HasWalked, IsAtStart, IsLeft, IsToRead, IsWalking}
+use Rattle.lock_free.proofs.CleanBranches.{stay_moves}
 use Rattle.lock_free.proofs.OnLines.{moves_on, way_on}
 use Rattle.lock_free.proofs.WalkLines.{left_after, left_by, next_gives_up, walking_then}
 use Rattle.lock_free.proofs.WalkNexts.{met_walked}
 use Rattle.lock_free.proofs.WalkRoots.{first_line, reads_from}
+use Rattle.lock_free.specs.Entries.{HasStayed}
 
 module _ (v : View) (at : IsAtStart v) (slot : ℕ) (w : View) (found : HasFoundStart v slot w) where
   pub start_way : (way : Way) → IsOnWay v way → IsOnWay w way
@@ -31,6 +33,9 @@ module _ (v : View) (at : IsAtStart v) (slot : ℕ) (w : View) (found : HasFound
 
     pub begun_left : ((at : IsToRead w first slot) → IsLeft w z) → IsLeft v z
     begun_left left = left_after v w z (λ o. reads_from found.0) found.1 (left (start_reads first none))
+
+pub start_spent : (v : View) → IsAtStart v → (w : View) → HasStayed v w → IsLeft v w
+start_spent v at w h = left_by v w (λ o. first_line) (λ o. refl) (stay_moves v w first_line at h)
 
 -- ---- so far
 

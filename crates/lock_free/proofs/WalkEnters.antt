@@ -1,5 +1,5 @@
 -- WALK enters an indirection: it reads its main node, whose entries come to be the next ones.
-use Rattle.std.proofs.Common.{◌≡◌, ◌++◌, ◌⊎◌, inl, inr, ℕ, List, Contains, None, refl, sym, ap, subst, ◌∙◌, reverse}
+use Rattle.std.proofs.Common.{◌≡◌, ◌++◌, ◌⊎◌, inl, inr, ℕ, List, Contains, refl, sym, ap, subst, ◌∙◌, reverse}
 use Rattle.trie_words.specs.declared.entries.Entry.{Entry}
 use Rattle.machine_model.specs.Beneath.slot_arena.specs.declared.refs.Ref.{Ref}
 use Rattle.machine_model.specs.Beneath.slot_arena.specs.declared.nodes.Slot.{Slot}
@@ -14,11 +14,12 @@ use Rattle.machine_model.specs.Walking.{walk_next}
 use Rattle.proof_memory.specs.Wants.{AllHold, line_wants}
 use Rattle.lock_free.specs.declared.reading.Given.{Given}
 use Rattle.lock_free.specs.declared.reading.Passed.TheVariants as passed
+use Rattle.lock_free.specs.declared.reading.ReadFrom.TheVariants as resume
 use Rattle.lock_free.specs.declared.rules.View.{View}
 use Rattle.lock_free.specs.GoingDown.{HasMoved}
 use Rattle.lock_free.specs.Holding.{IsOn, HasComeTo}
 use Rattle.lock_free.specs.Live.{IsLive}
-use Rattle.lock_free.specs.Loading.{now, seen, IsAtSlot, IsSound, IsUsed, Went}
+use Rattle.lock_free.specs.Loading.{now, seen, IsAtSlot, IsSound, IsUsed, Runs, Went}
 use Rattle.lock_free.specs.Passing.{HasGiven, HasPassed, IsPassing, IsReading, Later}
 use Rattle.lock_free.specs.Walks.{AreToDo, HasSeenAll, HasWalked, IsAtWalkedMain, IsLeft, IsToRead}
 use Rattle.lock_free.proofs.Asked.{live_in_use}
@@ -28,11 +29,14 @@ use Rattle.lock_free.proofs.Followings.{follows_later}
 use Rattle.lock_free.proofs.GivenBack.{node_is}
 use Rattle.lock_free.proofs.Laters.{main_later, placed_later, waited_later, went_later}
 use Rattle.lock_free.proofs.Moments.{entry_lives}
-use Rattle.lock_free.proofs.OnLines.{at_look, finds_now, given_moved, moved, moved_both, moves_on, reading_on, stays_on}
+use Rattle.lock_free.proofs.OnLines.{at_look, finds_now, given_moved, line_is, moved, moved_both, moves_on, reading_on, stays_on}
 use Rattle.lock_free.proofs.WalkLines.{left_by, next_same, to_do_more, to_do_on, todo_used}
 use Rattle.lock_free.proofs.WalkMains.{holds_main}
 use Rattle.lock_free.proofs.Within.{held_lives}
 use Rattle.std.proofs.lemmas.List.Elements.{Contains-append_cases}
+use Rattle.lock_free.specs.declared.reading.ReadFrom.{ReadFrom}
+use Rattle.lock_free.specs.OfReads.{on_read}
+use Rattle.lock_free.proofs.OnePass.{line_from}
 
 module _ (n : ℕ) (v0 : View) (sound0 : IsSound n v0) (stack : List Entry) (name : ℕ) (at : IsToRead v0 stack name) where
   abbrev l0 : Line
@@ -41,13 +45,20 @@ module _ (n : ℕ) (v0 : View) (sound0 : IsSound n v0) (stack : List Entry) (nam
   pub is_reading : IsReading v0 at.i read.Main
   is_reading = reading_on v0 l0 at.on at.i read.Main refl
 
-  pub passing : IsPassing v0 name None
+  pub passing : IsPassing v0 name resume.Start
   passing = (at.i, at.placed, is_reading)
 
   used0 : (r : Ref) → Contains at.todo r → (slot : Slot) × IsUsed v0 r slot
   used0 =
       let claims : AllHold (IsLive (now v0)) (now v0).heap (line_wants v0.sizes.hash at.on.0.call at.on.0.access l0) = finds_now v0 l0 at.on n sound0 in
       todo_used n v0 sound0 at.todo claims.0
+
+  -- it is out of tries
+  pub enter_spent : (place : ReadFrom) (v1 : View) → HasPassed v0 (passed.Again place) v1 → IsLeft v0 v1
+  enter_spent place v1 h =
+      let come = line_from v0 v1 at.i place (h at.i read.Main is_reading) in
+      left_by v0 v1 (λ o. on_read l0 come.0) (λ o. refl)
+      (record { later = come.1.later; comes = λ o r. subst (λ x. Runs v1 (record o { line = on_read x come.0 })) (line_is v0 l0 at.on o r) (come.1.comes o r) })
 
   module _ (given : Given) (v1 : View) (p : HasPassed v0 (passed.Gives given) v1) (sound1 : IsSound n v1) where
     abbrev pub gives : HasGiven v0 at.i given v1

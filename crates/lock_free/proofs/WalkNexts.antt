@@ -28,6 +28,7 @@ use Rattle.lock_free.proofs.OnLines.{at_look, finds_now, moved_both, moved_so, m
 use Rattle.lock_free.proofs.Pools.{first_there, more_there}
 use Rattle.lock_free.proofs.WalkLines.{left_after, next_same, to_do_on, todo_is, todo_used, walked_self, walking_on, walking_then}
 use Rattle.lock_free.proofs.WalkTakes.{entry_line, link_met}
+use Rattle.lock_free.proofs.WalkLines.{left_by, next_gives_up}
 
 -- ---- the stack
 
@@ -203,3 +204,10 @@ module _ (n : ℕ) (way : Way) (before : View) (stack0 : List Entry) (v : View) 
             then_left before v z taken stack (h.walked taken y)
             (left_after v w z (λ o. read_line (f n v h.sound stack e rest is taken x).r (f n v h.sound stack e rest is taken x).more taken)
             (met n v h.sound stack e rest is taken x link w sound_w went) (left (to_read n v h.sound stack e rest is taken x link w sound_w went)))
+
+-- it is out of tries
+pub walk_spent : (words : ℕ) (way : Way) (before : View) (stack : List Entry) (v : View) (then : List Entry) → IsGoingOn words way before stack v then → (pairs : List (ℕ × ℕ)) →
+    IsWalking before stack pairs → IsLeft before v
+walk_spent words way before stack v then g pairs at =
+    let h = g.walked pairs at in
+    left_by before v (λ o. walk_next o h.todo pairs) (λ o. next_gives_up o h.todo pairs) h.moved

@@ -3,7 +3,7 @@ use Rattle.history.specs.declared.calls.Call.{Call}
 use Rattle.history.specs.declared.calls.Call.TheVariants.{Count, Entries}
 use Rattle.history.specs.declared.replies.Reply.{Reply}
 use Rattle.history.specs.declared.replies.Reply.TheVariants as reply
-use Rattle.std.proofs.Common.{◌≡◌, ℕ, false, List, None, Ok, is_some, refl, sym, ap, subst, ◌∙◌}
+use Rattle.std.proofs.Common.{◌≡◌, ℕ, false, List, Result, None, Ok, Err, IfErr, inl, inr, is_some, refl, sym, ap, subst, ◌∙◌}
 use Rattle.machine_model.specs.declared.actions.Action.TheVariants as act
 use Rattle.machine_model.specs.declared.lines.Line.{Line}
 use Rattle.machine_model.specs.declared.lines.Line.TheVariants as line
@@ -12,20 +12,28 @@ use Rattle.machine_model.specs.declared.walking.WalkLine.TheVariants as walk
 use Rattle.machine_model.specs.Calls.{is_close, opens_handle}
 use Rattle.machine_model.specs.Operations.{first_line}
 use Rattle.machine_model.specs.Walking.{walked_reply}
+use Rattle.lock_free.specs.declared.call_errors.CallError.{CallError}
+use Rattle.lock_free.specs.declared.call_errors.CallError.TheVariants as error
 use Rattle.lock_free.specs.declared.reading.Way.{Way}
 use Rattle.lock_free.specs.declared.rules.View.{View}
+use Rattle.lock_free.specs.declared.walking.WalkError.{WalkError}
+use Rattle.lock_free.specs.declared.walking.WalkError.TheVariants as lack
 use Rattle.lock_free.specs.Answering.{HasAnswered}
-use Rattle.lock_free.specs.Calling.{GaveUp, HasCalled, IsCaller, IsCancelled}
+use Rattle.lock_free.specs.Attempts.{HasEndedWith}
+use Rattle.lock_free.specs.Calling.{CalledOrNot, HasCalled, IsCaller, IsCancelled}
 use Rattle.lock_free.specs.GoingDown.{HasMoved}
 use Rattle.lock_free.specs.Holding.{IsOn}
-use Rattle.lock_free.specs.Loading.{IsAt, IsSound, Runs}
+use Rattle.lock_free.specs.Loading.{IsAt, IsSound}
 use Rattle.lock_free.specs.RunningOn.{MayAnswer, RunsOn}
+use Rattle.lock_free.specs.SeatCalls.{walk_error, IsTold, WasRefused}
 use Rattle.lock_free.specs.SeatWords.{HasEnded, IsAtEnd}
 use Rattle.lock_free.specs.Stocks.{IsStock, Stocked}
 use Rattle.lock_free.specs.Walks.{HasAllPairs, IsAtStart, IsLeft}
-use Rattle.lock_free.specs.WholeCalls.{HasLeft, RestsWith}
+use Rattle.lock_free.specs.WholeCalls.{reply_or_none, HasLeft, IsWalkLack, IsWalkOf, RestsWith}
 use Rattle.lock_free.proofs.CallBegins as call
+use Rattle.lock_free.proofs.CallEnds.{cancelled_with, ended_with}
 use Rattle.lock_free.proofs.CallsRunOn.{at_end, left_runs_on, walk_left, walked, walked_runs_on}
+use Rattle.lock_free.proofs.RunningOn.{runs_on_both}
 use Rattle.lock_free.proofs.StockStays.{stock_moved}
 
 -- such a call is a walk
@@ -43,80 +51,92 @@ count_walk handle = record { line_is = refl; number = refl; stays = refl }
 pub walk_caller : (v : View) (c : Call) → RestsWith v None → IsWalkCall c → IsCaller v c
 walk_caller v c r is = record { idle = r.idle; free = r.pin; number = is.number ∙ ap is_some (sym r.opens_it); stays = is.stays }
 
-module _ (n : ℕ) (v : View) (sound : IsSound n v) (rests : RestsWith v None) (c : Call) (is : IsWalkCall c) where
-  -- ---- it has begun
+-- ---- from its begin to its end
 
-  module _ (way : Way) (u : View) (begun : HasCalled v c (Ok way) u) where
-    abbrev first : Operation
-    first = call.first v None rests c way u begun
+-- it has run on, and has ended then
+ended_after : (u w x : View) (answer : Reply) → RunsOn u w → HasEndedWith w answer x → HasEndedWith u answer x
+ended_after u w x answer r e = record { late = e.late; on = runs_on_both u w e.late r e.on; at = e.at; ended = e.ended }
 
-    runs_first : Runs u first
-    runs_first = call.runs_first v None rests c way u begun
+module _ (n : ℕ) (u : View) (sound : IsSound n u) (kind : ℕ → Call) (at : IsWalkOf kind u) where
+  pub at_start : IsAtStart u
+  at_start = (at.operation, at.runs, at.line_is)
 
-    pub at_start : IsAtStart u
-    at_start = (first, runs_first, is.line_is)
+  module _ (w : View) where
+    moved_stock : (stock : Stocked) → IsStock stock u → (next : Operation → Line) → HasMoved next u w → IsStock stock w
+    moved_stock stock owns next m = stock_moved n u w sound at.operation at.runs stock owns next m
 
-    module _ (sound_u : IsSound n u) (w : View) where
-      moved_stock : (stock : Stocked) → IsStock stock v → (next : Operation → Line) → HasMoved next u w → IsStock stock w
-      moved_stock stock owns next m = stock_moved n u w sound_u first runs_first stock (call.stock_begun v None rests c way u begun stock owns) next m
+    -- all pairs were seen
+    module _ (pairs : List (ℕ × ℕ)) (all : HasAllPairs u pairs w) where
+      abbrev answer : Reply
+      answer = walked_reply (kind at.handle) pairs
 
-      -- ---- all pairs were seen
+      pub all_stock : (stock : Stocked) → IsStock stock u → IsStock stock w
+      all_stock stock owns = moved_stock stock owns (λ o. line.End (walked_reply o.call pairs)) all
 
-      module _ (pairs : List (ℕ × ℕ)) (all : HasAllPairs u pairs w) where
-        pub all_stock : (stock : Stocked) → IsStock stock v → IsStock stock w
-        all_stock stock owns = moved_stock stock owns (λ o. line.End (walked_reply o.call pairs)) all
+      on_end : IsOn w (line.End answer)
+      on_end = subst (λ c. IsOn w (line.End (walked_reply c pairs))) at.call_is (walked u w pairs all at.operation at.runs)
 
-        on_end : IsOn w (line.End (walked_reply c pairs))
-        on_end = walked u w pairs all first runs_first
+      pub all_ending : IsAtEnd w
+      all_ending = (answer, at_end w answer on_end)
 
-        pub all_ending : IsAtEnd w
-        all_ending = (walked_reply c pairs, at_end w (walked_reply c pairs) on_end)
+      pub all_ended : (x : View) → ((told : Reply) → IsAt w (act.End told) → HasEnded w told x) → HasEndedWith u answer x
+      all_ended x ends = ended_after u w x answer (walked_runs_on u w pairs all) (ended_with w x answer on_end ends)
 
-        module _ (x : View) (ends : (told : Reply) → IsAt w (act.End told) → HasEnded w told x) where
-          abbrev answer : Reply
-          answer = walked_reply c pairs
+    -- memory was lacking, or it is out of tries
+    module _ (lacks : IsLeft u w) where
+      pub lacking_stock : (stock : Stocked) → IsStock stock u → IsStock stock w
+      lacking_stock stock owns = moved_stock stock owns lacks.0 lacks.2
 
-          abbrev at : IsAt w (act.End answer)
-          at = at_end w answer on_end
+      pub may_lack : MayAnswer w reply.NoSlots
+      may_lack = walk_left u w lacks at.operation at.runs
 
-          abbrev r : RunsOn u w
-          r = walked_runs_on u w pairs all
+      pub lacking_ended : (x : View) → IsCancelled w x → HasEndedWith u reply.NoSlots x
+      lacking_ended x cancelled = ended_after u w x reply.NoSlots (left_runs_on u w lacks) (cancelled_with w x reply.NoSlots may_lack cancelled)
 
-          pub all_left : HasLeft v x
-          all_left = record {
-            same = call.same_then v None rests c way u begun w r answer at x (ends answer at);
-            rests = subst (λ p. RestsWith x p) (call.left_none (ends answer at).operation.is_marked)
-                (call.rests_then v None rests c way u begun w r answer at x (ends answer at));
-          }
+pub lacks_so : (why : WalkError) → IsWalkLack (walk_error why)
+lacks_so lack.Memory = tt
+lacks_so lack.Spent = tt
 
-          pub all_answered : HasAnswered v c None answer x
-          all_answered = call.answered v None rests c way u begun w r answer at x (ends answer at) n sound sound_u
+-- ---- the whole of it
 
-      -- ---- memory was lacking
+module _ (n : ℕ) (v : View) (sound : IsSound n v) (rests : RestsWith v None) where
+  module _ (kind : ℕ → Call) (handle : ℕ) (is : IsWalkCall (kind handle)) (way : Way) (u : View) (begun : HasCalled v (kind handle) (Ok way) u) where
+    pub begun_walk : IsWalkOf kind u
+    begun_walk = record {
+      operation = call.first v None rests (kind handle) way u begun;
+      runs = call.runs_first v None rests (kind handle) way u begun;
+      line_is = is.line_is;
+      handle = handle;
+      call_is = refl;
+    }
 
-      module _ (lacks : IsLeft u w) where
-        pub lacking_stock : (stock : Stocked) → IsStock stock v → IsStock stock w
-        lacking_stock stock owns = moved_stock stock owns lacks.0 lacks.2
+  module _ (c : Call) (way : Way) (u : View) (begun : HasCalled v c (Ok way) u) (sound_u : IsSound n u) (answer : Reply) (x : View) (e : HasEndedWith u answer x) where
+    pub ended_left : HasLeft v x
+    ended_left = record {
+      same = call.same_then v None rests c way u begun e.late e.on answer e.at x e.ended;
+      rests = subst (λ p. RestsWith x p) (call.left_none e.ended.operation.is_marked) (call.rests_then v None rests c way u begun e.late e.on answer e.at x e.ended);
+    }
 
-        pub may_lack : MayAnswer w reply.NoSlots
-        may_lack = walk_left u w lacks first runs_first
+    ended_answered : HasAnswered v c None answer x
+    ended_answered = call.answered v None rests c way u begun e.late e.on answer e.at x e.ended n sound sound_u
 
-        module _ (x : View) (cancelled : IsCancelled w x) where
-          abbrev gave : (there : View) × GaveUp w may_lack.0 reply.NoSlots there × HasEnded there reply.NoSlots x
-          gave = cancelled may_lack.0 reply.NoSlots may_lack.1 may_lack.2
+  lacking_told : {A : Type 0} (reply_of : A → Reply) (c : Call) (why : CallError) (x : View) → IsWalkLack why → HasAnswered v c None reply.NoSlots x → IsTold reply_of v c (Err why) x
+  lacking_told reply_of c error.Memory x lacks a = a
+  lacking_told reply_of c error.Spent x lacks a = inl a
+  lacking_told reply_of c why x lacks a = absurd lacks
 
-          abbrev gave_r : RunsOn u gave.0
-          gave_r = call.gave_on u w gave.0 (left_runs_on u w lacks) reply.NoSlots may_lack gave.1
+  pub walk_told : {A : Type 0} (reply_of : A → Reply) (c : Call) (way : Way) (u : View) → HasCalled v c (Ok way) u → IsSound n u → (result : Result A CallError) (x : View) →
+      IfErr result IsWalkLack → HasEndedWith u (reply_or_none reply_of result) x → IsTold reply_of v c result x
+  walk_told reply_of c way u begun sound_u (Ok told) x lacks e = ended_answered c way u begun sound_u (reply_of told) x e
+  walk_told reply_of c way u begun sound_u (Err why) x lacks e = lacking_told reply_of c why x lacks (ended_answered c way u begun sound_u reply.NoSlots x e)
 
-          abbrev gave_at : IsAt gave.0 (act.End reply.NoSlots)
-          gave_at = call.gave_end w gave.0 may_lack.0 reply.NoSlots gave.1
+-- it hasn't begun in so many looks
+module _ (v : View) (rests : RestsWith v None) (c : Call) (x : View) (h : CalledOrNot v c (Ok None) x) where
+  pub unbegun_left : HasLeft v x
+  unbegun_left = record { same = call.unpinned_same v None rests c x h.0 h.1 h.2 h.3; rests = call.unpinned_rests v None rests c x h.0 h.1 h.2 h.3 }
 
-          pub lacking_left : HasLeft v x
-          lacking_left = record {
-            same = call.same_then v None rests c way u begun gave.0 gave_r reply.NoSlots gave_at x gave.2;
-            rests = subst (λ p. RestsWith x p) (call.left_none gave.2.operation.is_marked)
-                (call.rests_then v None rests c way u begun gave.0 gave_r reply.NoSlots gave_at x gave.2);
-          }
+  pub unbegun_stock : (stock : Stocked) → IsStock stock v → IsStock stock x
+  unbegun_stock stock owns = call.unpinned_stock v None rests c x h.0 h.1 h.2 h.3 stock owns
 
-          pub lacking_answered : HasAnswered v c None reply.NoSlots x
-          lacking_answered = call.answered v None rests c way u begun gave.0 gave_r reply.NoSlots gave_at x gave.2 n sound sound_u
+  pub unbegun_told : WasRefused v c None error.Spent x
+  unbegun_told = inr (call.unpinned_waited v None rests c x h.0 h.1 h.2 h.3)

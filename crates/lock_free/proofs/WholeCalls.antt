@@ -1,32 +1,23 @@
--- A whole call on a key: it is denied, or begins and ends, and the seat rests again.
-use Rattle.std.proofs.Common.{◌≡◌, ℕ, false, is_some, None, Ok, Err, refl, sym, ap, subst, ◌∙◌}
+-- A call on a key begins.
+use Rattle.std.proofs.Common.{◌≡◌, false, is_some, None, Ok, refl, sym, ap, ◌∙◌}
 use Rattle.history.specs.declared.calls.Call.{Call}
 use Rattle.history.specs.declared.calls.Call.TheVariants.{Get, Put, PutIfAbsent, Replace, ReplaceIf, Remove, RemoveIf, Clear, Snapshot, Freeze, Close, Entries, Count}
-use Rattle.history.specs.declared.replies.Reply.{Reply}
-use Rattle.atomic_table.specs.Seated.{TableId}
 use Rattle.machine_model.specs.declared.operations.Operation.{Operation}
 use Rattle.machine_model.specs.Calls.{copies, is_close, opens_handle}
 use Rattle.machine_model.specs.Lines.{new_try}
 use Rattle.machine_model.specs.Operations.{first_line}
-use Rattle.lock_free.specs.declared.calling.Denial.{Denial}
 use Rattle.lock_free.specs.declared.reading.Way.{Way}
 use Rattle.lock_free.specs.declared.rules.View.{View}
-use Rattle.lock_free.specs.Answering.{HasAnswered}
-use Rattle.lock_free.specs.Attempts.{HasEndedWith, IsKeyed}
+use Rattle.lock_free.specs.Attempts.{IsKeyed, IsTried}
 use Rattle.lock_free.specs.Calling.{HasCalled, IsCaller}
 use Rattle.lock_free.specs.Holding.{IsOn}
-use Rattle.lock_free.specs.Loading.{IsSound, Runs}
-use Rattle.lock_free.specs.RunningOn.{RunsOn}
-use Rattle.lock_free.specs.Seated.{HasGoneOn, IsResting, IsSeated}
-use Rattle.lock_free.specs.SeatCalls.{WasDenied}
+use Rattle.lock_free.specs.Loading.{Runs}
+use Rattle.lock_free.specs.Seated.{IsResting}
 use Rattle.lock_free.specs.Seeking.{IsCalled}
 use Rattle.lock_free.specs.Stocks.{IsStock, Stocked}
-use Rattle.lock_free.specs.WholeCalls.{HasLeft, RestsWith, SameSeat}
-use Rattle.lock_free.proofs.BetweenCalls.{gone_on, rests_with, seat_after}
+use Rattle.lock_free.proofs.BetweenCalls.{rests_with}
 use Rattle.lock_free.proofs.CallBegins as call
-use Rattle.lock_free.proofs.CallsDenied as denied
 use Rattle.lock_free.proofs.Comings.{runs_one}
-use Rattle.lock_free.proofs.RunningOn.{runs_on_both}
 
 -- a call on a key begins with a new try
 keyed_first : (c : Call) → IsKeyed c → first_line c ≡ new_try
@@ -60,6 +51,38 @@ keyed_plain (Close h) keyed = absurd keyed
 keyed_plain (Entries h) keyed = absurd keyed
 keyed_plain (Count h) keyed = absurd keyed
 
+-- it may be tried
+pub keyed_tried : (c : Call) → IsKeyed c → IsTried c
+keyed_tried (Get h k) keyed = keyed
+keyed_tried (Put h k v) keyed = keyed
+keyed_tried (PutIfAbsent h k v) keyed = keyed
+keyed_tried (Replace h k v) keyed = keyed
+keyed_tried (ReplaceIf h k a b) keyed = keyed
+keyed_tried (Remove h k) keyed = keyed
+keyed_tried (RemoveIf h k v) keyed = keyed
+keyed_tried (Clear h) keyed = absurd keyed
+keyed_tried (Snapshot h) keyed = absurd keyed
+keyed_tried (Freeze h) keyed = absurd keyed
+keyed_tried (Close h) keyed = absurd keyed
+keyed_tried (Entries h) keyed = absurd keyed
+keyed_tried (Count h) keyed = absurd keyed
+
+-- one that may be tried begins with a new try, opens no handle and closes nothing
+pub tried_plain : (c : Call) → IsTried c → (first_line c ≡ new_try) × (opens_handle c ≡ false) × (is_close c ≡ false)
+tried_plain (Get h k) tried = (refl, refl, refl)
+tried_plain (Put h k v) tried = (refl, refl, refl)
+tried_plain (PutIfAbsent h k v) tried = (refl, refl, refl)
+tried_plain (Replace h k v) tried = (refl, refl, refl)
+tried_plain (ReplaceIf h k a b) tried = (refl, refl, refl)
+tried_plain (Remove h k) tried = (refl, refl, refl)
+tried_plain (RemoveIf h k v) tried = (refl, refl, refl)
+tried_plain (Clear h) tried = (refl, refl, refl)
+tried_plain (Snapshot h) tried = absurd tried
+tried_plain (Freeze h) tried = absurd tried
+tried_plain (Close h) tried = absurd tried
+tried_plain (Entries h) tried = absurd tried
+tried_plain (Count h) tried = absurd tried
+
 module _ (v : View) (rests : IsResting v) (c : Call) where
   pub keyed_caller : IsKeyed c → IsCaller v c
   keyed_caller keyed = record {
@@ -67,6 +90,14 @@ module _ (v : View) (rests : IsResting v) (c : Call) where
     free = rests.pin;
     number = (keyed_plain c keyed).0 ∙ sym (ap is_some rests.opens);
     stays = (keyed_plain c keyed).2;
+  }
+
+  pub tried_caller : IsTried c → IsCaller v c
+  tried_caller tried = record {
+    idle = rests.idle;
+    free = rests.pin;
+    number = (tried_plain c tried).1 ∙ sym (ap is_some rests.opens);
+    stays = (tried_plain c tried).2;
   }
 
   -- it has begun
@@ -80,49 +111,11 @@ module _ (v : View) (rests : IsResting v) (c : Call) where
     pub begun_new : IsKeyed c → IsOn begun new_try
     begun_new keyed = (first, runs_first, keyed_first c keyed)
 
+    pub begun_try : IsTried c → IsOn begun new_try
+    begun_try tried = (first, runs_first, (tried_plain c tried).0)
+
     pub begun_called : IsCalled begun c way.access
     begun_called o r = (ap (λ (z : Operation). z.call) (runs_one begun o first r runs_first), (h.3 o r).0)
 
     pub begun_owns : (stock : Stocked) → IsStock stock v → IsStock stock begun
     begun_owns stock owns = call.stock_begun v None (rests_with v rests) c way begun h stock owns
-
--- ---- the seat
-
-module _ (words : ℕ) (v : View) (number last : ℕ) (stock : Stocked) (s : IsSeated words v number last stock) (c : Call) where
-  abbrev rests : RestsWith v None
-  rests = rests_with v s.rests
-
-  -- what it is once its call was denied
-  module _ (why : Denial) (after : View) (sound : IsSound words after) (h : HasCalled v c (Err why) after) where
-    pub denied_seated : IsSeated words after number last stock
-    denied_seated = seat_after words words number last stock stock v after s refl sound (denied.denied_left v rests c why after h) (call.denied_stock v None rests c why after h stock s.owns)
-
-    pub denied_so : WasDenied v c why after
-    denied_so = denied.denied_so v rests c why after h
-
-    pub denied_on : (table then : TableId) → then ≡ table → HasGoneOn (record { table = table; view = v }) (record { table = then; view = after })
-    denied_on table then is = gone_on table then v after is (call.denied_same v None rests c why after h)
-
-  -- and once it has ended
-  module _ (way : Way) (begun : View) (begun_sound : IsSound words begun) (h : HasCalled v c (Ok way) begun) (late : View) (on : RunsOn begun late) (answer : Reply) (after : View)
-      (sound : IsSound words after) (w : HasEndedWith late answer after) where
-    abbrev r : RunsOn begun w.late
-    r = runs_on_both begun late w.late on w.on
-
-    same : SameSeat v after
-    same = call.same_then v None rests c way begun h w.late r answer w.at after w.ended
-
-    left : HasLeft v after
-    left = record {
-      same = same;
-      rests = subst (λ p. RestsWith after p) (call.left_none w.ended.operation.is_marked) (call.rests_then v None rests c way begun h w.late r answer w.at after w.ended);
-    }
-
-    pub ended_seated : (next : Stocked) → IsStock next after → IsSeated words after number last next
-    ended_seated next owns = seat_after words words number last stock next v after s refl sound left owns
-
-    pub answered_so : HasAnswered v c None answer after
-    answered_so = call.answered v None rests c way begun h w.late r answer w.at after w.ended words s.sound begun_sound
-
-    pub ended_on : (table then : TableId) → then ≡ table → HasGoneOn (record { table = table; view = v }) (record { table = then; view = after })
-    ended_on table then is = gone_on table then v after is same

@@ -12,6 +12,7 @@ use Rattle.machine_model.specs.declared.roots.Descriptor.{Descriptor}
 use Rattle.machine_model.specs.Calls.{handle_of}
 use Rattle.machine_model.specs.States.{word_at, word_of}
 use Rattle.machine_model.specs.Swapping.{is_plain}
+use Rattle.lock_free.proofs.EpochStays.{rest_of}
 use Rattle.lock_free.specs.declared.accounts.Known.{Known}
 use Rattle.lock_free.specs.declared.offers.Fate.TheVariants as became
 use Rattle.lock_free.specs.declared.rules.View.{View}
@@ -50,7 +51,7 @@ module _ (v : View) (slot : ℕ) (offer : Descriptor) (p : IsAt v (act.Offer off
   abbrev Left : View → Type 0
   Left after =
       IsKept v.sizes (record { words = set s.words (2 * slot) found; homes = s.homes; views = set s.views id after }) ×
-      (IsSound (words_of v.sizes) after × YieldedAs (found == undecided) v (2 * slot) found after) × (after.heard ≡ v.heard)
+      (IsSound (words_of v.sizes) after × YieldedAs (found == undecided) v (2 * slot) found after) × (rest_of after ≡ rest_of v)
 
   same_words : (after : View) → IsKept v.sizes (record { words = s.words; homes = s.homes; views = set s.views id after }) → IsKept v.sizes
       (record { words = set s.words (2 * slot) found; homes = s.homes; views = set s.views id after })
@@ -84,7 +85,7 @@ pub yield_allowed : (sizes : Sizes) (size id : ℕ) (me : Me Call View) (some_se
     (has_yielded (step size (2 * slot) 0 0 none) me)
 yield_allowed sizes size id me some_seats slot (offer, p, met) =
     allowed sizes size id me (2 * slot) (λ n. n) (has_yielded (step size (2 * slot) 0 0 none) me)
-    some_seats
+    some_seats (λ s kept at. inr refl)
     (λ s kept at. (let x = leaves me.0 slot offer p met s kept id at in (x.0, x.1.0, (x.1.1.1, x.1.1.0, refl))))
     (λ s kept at. (leaves me.0 slot offer p met s kept id at).1.2)
 

@@ -1,5 +1,6 @@
 -- What has happened so far, as the definition has it: the state that its steps lead to, and where its nodes stand in the table. The definition never runs out
 -- of slots: it has as many as steps were taken, and three more.
+use Rattle.history.specs.declared.calls.Access.{Access}
 use Rattle.std.specs.Prelude.{◌≡◌, ℕ, ◌+◌, Bool, List, [], ◌∷◌, ◌++◌, All, length, slice_index_or, Some}
 use Rattle.machine_model.specs.declared.operations.Operation.{Operation}
 use Rattle.machine_model.specs.declared.steps.Bounds.{Bounds}
@@ -8,11 +9,10 @@ use Rattle.machine_model.specs.declared.steps.Step.TheVariants as step
 use Rattle.machine_model.specs.Beneath.slot_arena.specs.declared.refs.Ref.{Ref}
 use Rattle.machine_model.specs.Beneath.slot_arena.specs.Refs.{slot_of}
 use Rattle.machine_model.specs.declared.roots.Descriptor.{Descriptor}
-use Rattle.machine_model.specs.declared.roots.RootWord.TheVariants.{Offer}
-use Rattle.machine_model.specs.Contents.{IsReached}
+use Rattle.machine_model.specs.declared.roots.RootWord.TheVariants.{Offer, Plain}
 use Rattle.machine_model.specs.Machine.{run}
 use Rattle.machine_model.specs.Records.{Record, record_of}
-use Rattle.machine_model.specs.States.{State, operation_of, word_at}
+use Rattle.machine_model.specs.States.{State, operation_of, root_at, word_at}
 pub use Rattle.proof_waiting.specs.Waiting.{IsOfOther}
 use Rattle.lock_free.specs.declared.accounts.Account.{Account}
 use Rattle.lock_free.specs.declared.accounts.Owned.{Owned}
@@ -45,6 +45,13 @@ IsOwn account holder held b = OwnIs account.owned (slot_of holder) (slot_of held
 
 -- ---- how it goes on
 
+-- the one account goes on as the other
+pub record HasGrown (before after : Account) : Type 0 where
+  pub steps : List Step
+  pub goes_on : after.steps ≡ before.steps ++ steps
+  pub names : List ℕ
+  pub more_names : after.names ≡ before.names ++ names
+
 -- the one account goes on as the other, by others' steps alone
 pub record HasWaited (actor : ℕ) (before after : Account) : Type 0 where
   pub steps : List Step
@@ -67,12 +74,14 @@ gone_on actor account = record account { steps = account.steps ++ step.Go actor 
 
 -- ---- roots
 
--- a root led to it once
-pub record WasReached (sizes : Sizes) (account : Account) (r : Ref) : Type 0 where
+-- it was the root of a handle once
+pub record WasRoot (sizes : Sizes) (account : Account) (r : Ref) : Type 0 where
   pub steps : List Step
   pub more : List Step
   pub goes_on : account.steps ≡ steps ++ more
-  pub reached : IsReached (run (bounds_for sizes steps) steps) r
+  pub handle : ℕ
+  pub access : Access
+  pub was : root_at (run (bounds_for sizes steps) steps) handle ≡ Some (record { access = access; word = Plain r })
 
 -- ---- offers
 

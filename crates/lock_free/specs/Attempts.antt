@@ -1,7 +1,7 @@
 -- A call on a key: what a whole try of it comes to, and what all of them do.
 use Rattle.std.specs.Prelude.{◌≡◌, ℕ, List, Option, Some, None}
 use Rattle.history.specs.declared.calls.Call.{Call}
-use Rattle.history.specs.declared.calls.Call.TheVariants.{Get, Put, PutIfAbsent, Replace, ReplaceIf, Remove, RemoveIf}
+use Rattle.history.specs.declared.calls.Call.TheVariants.{Get, Put, PutIfAbsent, Replace, ReplaceIf, Remove, RemoveIf, Clear}
 use Rattle.history.specs.declared.replies.Reply.{Reply}
 use Rattle.history.specs.declared.replies.Reply.TheVariants as reply
 use Rattle.trie_words.specs.declared.entries.Entry.{Entry}
@@ -13,6 +13,7 @@ use Rattle.machine_model.specs.Lines.{new_try}
 use Rattle.lock_free.specs.declared.descending.Update.{Update}
 use Rattle.lock_free.specs.declared.attempts.Attempt.{Attempt}
 use Rattle.lock_free.specs.declared.attempts.Attempt.TheVariants as attempt
+use Rattle.lock_free.specs.declared.parking.Came.TheVariants as came
 use Rattle.lock_free.specs.declared.reading.Given.{Given}
 use Rattle.lock_free.specs.declared.rules.View.{View}
 use Rattle.lock_free.specs.declared.swapping.Swapped.{Swapped}
@@ -21,6 +22,7 @@ use Rattle.lock_free.specs.Climbs.{IsClimbing}
 use Rattle.lock_free.specs.Descending.{IsPlace, KnowsUpdate, line_updated}
 use Rattle.lock_free.specs.Holding.{IsOn}
 use Rattle.lock_free.specs.Loading.{IsAt}
+use Rattle.lock_free.specs.Parking.{HasRunTo}
 use Rattle.lock_free.specs.RunningOn.{MayAnswer, RunsOn}
 use Rattle.lock_free.specs.SeatWords.{HasEnded}
 
@@ -34,6 +36,11 @@ IsKeyed (ReplaceIf h k a b) = Unit {0}
 IsKeyed (Remove h k) = Unit {0}
 IsKeyed (RemoveIf h k v) = Unit {0}
 IsKeyed call = ⊥
+
+-- or a clear
+abbrev pub IsTried : Call → Type 0
+IsTried (Clear h) = Unit {0}
+IsTried call = IsKeyed call
 
 -- ---- a change
 
@@ -53,30 +60,24 @@ pub record IsToClimb (v : View) (slots : List ℕ) (hash : ℕ) (single : Entry)
 
 -- what a SWAP makes of it; no slot was had where there was none
 abbrev pub attempted : Option Swapped → Call → Option ℕ → Attempt
-attempted None call former = attempt.Full
-attempted (Some Commits) call former = attempt.Answers (changed_reply call former)
+attempted None call former = attempt.Comes came.Spent
+attempted (Some Commits) call former = attempt.Comes (came.Answered (changed_reply call former))
 attempted (Some Fails) call former = attempt.Again
 attempted (Some Misses) call former = attempt.Again
 
 -- ---- a try
 
--- it is to end with this reply, begins a new try, or has no slot
+-- it begins a new try, or comes to this
 abbrev pub HasAttempted : View → Attempt → View → Type 0
-HasAttempted before (attempt.Answers answer) after = RunsOn before after × IsOn after (line.End answer)
 HasAttempted before attempt.Again after = RunsOn before after × IsOn after new_try
-HasAttempted before attempt.Full after = RunsOn before after × MayAnswer after reply.NoSlots
+HasAttempted before (attempt.Comes result) after = HasRunTo before result after
 
--- ---- all of them
+-- ---- its end
 
 -- it is to end with this reply, or no slot was had
 abbrev pub IsEnding : View → Option Reply → Type 0
 IsEnding v (Some answer) = IsOn v (line.End answer)
 IsEnding v None = MayAnswer v reply.NoSlots
-
-abbrev pub HasReplied : View → Option Reply → View → Type 0
-HasReplied before result after = RunsOn before after × IsEnding after result
-
--- ---- its end
 
 -- it has ended with this reply, where it had to give up first or not
 pub record HasEndedWith (before : View) (answer : Reply) (after : View) : Type 0 where

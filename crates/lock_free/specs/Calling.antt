@@ -7,11 +7,12 @@ use Rattle.history.specs.declared.replies.Reply.{Reply}
 use Rattle.std.specs.Prelude.{◌≡◌, ◌++◌, ◌∷◌, [], ℕ, List, Bool, true, false, is_some, Some, None, Result, Ok, Err}
 use Rattle.atomic_table.specs.Table.{Me, Step}
 use Rattle.trie_words.specs.Codes.{IsRootWord, root_of}
-use Rattle.trie_words.specs.declared.pins.Pin.{Pin}
 use Rattle.trie_words.specs.declared.roots.RootWord.{RootWord}
 use Rattle.trie_words.specs.declared.roots.RootWord.TheVariants as word
 use Rattle.machine_model.specs.Beneath.ctrie_base.specs.declared.refusals.Refusal.{Refusal}
 use Rattle.machine_model.specs.Beneath.ctrie_base.specs.declared.refusals.Refusal.TheVariants as refuse
+use Rattle.machine_model.specs.declared.lines.Line.{Line}
+use Rattle.machine_model.specs.declared.lines.Line.TheVariants as line
 use Rattle.machine_model.specs.declared.operations.Operation.{Operation}
 use Rattle.machine_model.specs.declared.steps.Step.TheVariants as step
 use Rattle.machine_model.specs.Calls.{handle_of, is_close, needs_read_only, needs_writable, opens_handle}
@@ -24,6 +25,7 @@ use Rattle.lock_free.specs.declared.calling.Denial.TheVariants as denial
 use Rattle.lock_free.specs.declared.calling.Started.{Started}
 use Rattle.lock_free.specs.declared.calling.Started.TheVariants as started
 use Rattle.lock_free.specs.declared.reading.Way.{Way}
+use Rattle.lock_free.specs.declared.rules.Pinned.{Pinned}
 use Rattle.lock_free.specs.declared.rules.View.{View}
 use Rattle.lock_free.specs.Accounts.{running}
 use Rattle.lock_free.specs.Beginning.{taking}
@@ -34,14 +36,15 @@ use Rattle.lock_free.specs.Passing.{IsOnWay}
 use Rattle.lock_free.specs.Places.{root_word, words_of}
 use Rattle.lock_free.specs.SeatWords.{pinned_for, unpinned, HasEnded, IsIdle}
 use Rattle.lock_free.specs.Telling.{history_of}
+use Rattle.std.specs.Prelude.{Option}
 
 -- The seat runs nothing, has pinned itself for this call, and has reserved a number if it opens a handle.
 pub record IsBeginner (v : View) (call : Call) : Type 0 where
   pub idle : IsIdle v
   pub asks : v.asks ≡ Some call
-  pub pin : Pin
+  pub pin : Pinned
   pub pinned : v.pin ≡ Some pin
-  pub its : pin.handle ≡ handle_of call
+  pub its : pin.pin.handle ≡ handle_of call
   pub number : opens_handle call ≡ is_some v.opens
   pub stays : is_close call ≡ false
 
@@ -129,8 +132,8 @@ pub data IsRefused (before : View) (call : Call) : Denial → View → Type 0 wh
 
 -- it has begun, or the seat isn't pinned any more
 abbrev pub HasCalled : View → Call → Result Way Denial → View → Type 0
-HasCalled before call (Ok way) after = (pin : Pin) × (found : RootWord) × HasBegun (pinned_for before pin call) call found after × IsOnWay after way
-HasCalled before call (Err why) after = (pin : Pin) × (at : View) × IsRefused (pinned_for before pin call) call why at × (after ≡ unpinned at)
+HasCalled before call (Ok way) after = (pin : Pinned) × (found : RootWord) × HasBegun (pinned_for before pin call) call found after × IsOnWay after way
+HasCalled before call (Err why) after = (pin : Pinned) × (at : View) × IsRefused (pinned_for before pin call) call why at × (after ≡ unpinned at)
 
 -- ---- an operation gives up, at any load
 
@@ -156,4 +159,37 @@ has_given_up access before found after = HasGivenUp before.0 after.0 × IsSound 
 -- it has given up, and has ended with what it then had to answer
 abbrev pub IsCancelled : View → View → Type 0
 IsCancelled before after =
-    (operation : Operation) (answer : Reply) → Runs before operation → given_up operation.call operation.line ≡ Some answer → (at : View) × GaveUp before operation answer at × HasEnded at answer after
+    (operation : Operation) (answer : Reply) → Runs before operation → given_up operation.call operation.line ≡ Some answer → (at : View) × GaveUp before operation answer at × HasEnded at answer
+    after
+
+-- ---- an operation is cut short, at any load
+
+abbrev pub IsRunning : View → Type 0
+IsRunning v = (operation : Operation) × Runs v operation
+
+-- what it answers then; nothing where it is to end anyway, or may not give up
+abbrev pub cut_short : Call → Line → Option Reply
+cut_short call (line.End answer) = None
+cut_short call l = given_up call l
+
+abbrev pub CutBy : View → Operation → Option Reply → View → Type 0
+CutBy before operation None after = Saw before after
+CutBy before operation (Some answer) after = GaveUp before operation answer after
+
+abbrev pub HasCutShort : View → View → Type 0
+HasCutShort before after = (operation : Operation) → Runs before operation → CutBy before operation (cut_short operation.call operation.line) after
+
+abbrev pub has_cut_short : Step Call → Me Call View → ℕ → Me Call View → Type 0
+has_cut_short access before found after = HasCutShort before.0 after.0 × IsSound (words_of before.0.sizes) after.0 × (after.1 ≡ before.1)
+
+-- ---- within so many looks
+
+-- or nothing has begun
+abbrev pub StartedOrNot : View → Call → Option Started → View → Type 0
+StartedOrNot before call (Some result) after = HasStarted before call result after
+StartedOrNot before call None after = Saw before after
+
+abbrev pub CalledOrNot : View → Call → Result (Option Way) Denial → View → Type 0
+CalledOrNot before call (Ok (Some way)) after = HasCalled before call (Ok way) after
+CalledOrNot before call (Ok None) after = (pin : Pinned) × (at : View) × Saw (pinned_for before pin call) at × (after ≡ unpinned at)
+CalledOrNot before call (Err why) after = HasCalled before call (Err why) after

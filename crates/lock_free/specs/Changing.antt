@@ -62,7 +62,7 @@ HasPlaceFor s flag (edit.Remove position) = position < count_in s
 HasPlaceFor s flag (edit.Entomb single) = Unit {0}
 
 -- so the entries themselves
-abbrev pub CanEdit : List Entry → ℕ → Edit → Type 0
+abbrev pub CanEdit : {X : Type 0} → List X → ℕ → Edit → Type 0
 CanEdit entries place (edit.Insert entry) = (place ≤ length entries) × (length entries < 32)
 CanEdit entries place (edit.Update position entry) = position < length entries
 CanEdit entries place (edit.Remove position) = position < length entries

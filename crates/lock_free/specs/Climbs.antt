@@ -31,6 +31,8 @@ use Rattle.lock_free.specs.Loading.{now, Runs, IsUsed, Holds}
 use Rattle.lock_free.specs.Passing.{KnowsLink, IsPlaced}
 use Rattle.lock_free.specs.Repairing.{GivesUp, HasEndedBy, IsBranch}
 use Rattle.lock_free.specs.SeenEntries.{AreEntriesTo, entry_to, unowned}
+use Rattle.lock_free.specs.declared.leaving.Swapping.{Swapping}
+use Rattle.lock_free.specs.Leaving.{Halts, IsClimbAfter, LeavesSwap}
 
 -- ---- an entry that leads to an indirection
 
@@ -163,3 +165,28 @@ AnsweredOrNot before c false after = GivesUp (λ o. changed_reply o.call c.forme
 
 abbrev pub HasClimbedUp : View → Bool → View → Type 0
 HasClimbedUp before result after = (c : Climb) → ((o : Operation) → Runs before o → o.line ≡ climbing o c) → AnsweredOrNot before c result after
+
+-- ---- within a number of tries
+
+abbrev pub AskedOrSpent : View → Climb → Climbed → View → Type 0
+AskedOrSpent before c outcome.Full after = Halts (λ o. changed_reply o.call c.former) before after
+AskedOrSpent before c result after = AskedBy before c result after
+
+abbrev pub HasAskedWithin : View → Climbed → View → Type 0
+HasAskedWithin before result after = (c : Climb) → IsOn before (line.Climb (climb.Root c root.Read)) → AskedOrSpent before c result after
+
+-- its SWAP is under way
+abbrev pub LeavesClimb : View → Climb → Swapping → View → Type 0
+LeavesClimb before c s after = LeavesSwap (IsClimbAfter c.former) before s after
+
+abbrev pub HasLeftContracted : View → Swapping → View → Type 0
+HasLeftContracted before s after = (c : Climb) (main : Ref) → IsOn before (line.Climb (climb.Contracted c main)) → LeavesClimb before c s after
+
+abbrev pub HasLeftBranch : View → Swapping → View → Type 0
+HasLeftBranch before s after = (c : Climb) (main : Ref) → IsOn before (line.Climb (climb.Main c main)) → LeavesClimb before c s after
+
+abbrev pub HasLeftParent : View → Swapping → View → Type 0
+HasLeftParent before s after = (c : Climb) → IsOn before (at_parent c) → LeavesClimb before c s after
+
+abbrev pub HasLeftClimb : View → List ℕ → ℕ → Entry → Swapping → View → Type 0
+HasLeftClimb before path hash single s after = (at : IsClimbing before path hash single) → LeavesClimb before at.climb s after

@@ -35,6 +35,15 @@ use Rattle.lock_free.specs.RootWords.{IsToOpen}
 use Rattle.lock_free.specs.Roots.{IsItsTry, undecided}
 use Rattle.lock_free.specs.RunningOn.{IsStill}
 use Rattle.lock_free.specs.Storing.{HasMadeRoot}
+use Rattle.machine_model.specs.declared.reading.After.TheVariants.{Goes}
+use Rattle.machine_model.specs.declared.reading.ReadLine.{ReadLine}
+use Rattle.machine_model.specs.declared.roots.CompleteLine.TheVariants as complete
+use Rattle.lock_free.specs.declared.leaving.Completing.{Completing}
+use Rattle.lock_free.specs.declared.leaving.Left.{Left}
+use Rattle.lock_free.specs.declared.leaving.Left.TheVariants as left
+use Rattle.lock_free.specs.Leaving.{MayLeave}
+use Rattle.lock_free.specs.Passing.{HasCome, IsFrom}
+use Rattle.lock_free.specs.RunningOn.{MayAnswer, RunsOn}
 
 -- the operation is on this line of COPY
 abbrev pub IsAtCopy : View → CopyLine → Type 0
@@ -245,3 +254,55 @@ pub record HasGivenOut (v w : View) : Type 0 where
 abbrev pub HasMadeCopy : View → Bool → View → Type 0
 HasMadeCopy before true after = HasComeTo (copied_line true) before after
 HasMadeCopy before false after = HasGivenOut before after
+
+-- ---- within a number of tries
+
+abbrev pub OriginalOrNot : View → Option Given → View → Type 0
+OriginalOrNot before (Some given) after = HasOriginal before given after
+OriginalOrNot before None after = (reads : ReadLine) × HasCome (Goes reads) before after
+
+-- its own offer was brought to stand, and is to be completed from there on
+pub record IsOwnCompleting (v : View) (handle : ℕ) (s : Completing) : Type 0 where
+  pub its : HasOffer v.sizes v.account handle s.offer
+  pub reads : ReadLine
+  pub at : IsAtCopy v (copy.Complete (record { offer = its.its.offer; line = complete.Reading reads }))
+  pub on : handle_of at.0.call ≡ handle
+  pub its_try : IsItsTry at.0 its.its.offer
+  pub root : IsPlaced v its.its.offer.root s.root
+  pub from : IsFrom v its.its.offer.root s.from
+
+-- the COMPLETE has gone on
+pub record HasCopiedOn (before : View) (handle offer : ℕ) (next : Completing) (after : View) : Type 0 where
+  pub same : next.offer ≡ offer
+  pub reads : ReadLine
+  pub come : HasCome (Goes reads) before after
+  pub is : IsOwnCompleting after handle next
+
+-- the operation has run on to there; what its offer opens is to be opened once it is carried out
+pub record LeavesCopy (before : View) (k : CopyKind) (handle : ℕ) (opens : Option ℕ) (s : Completing) (after : View) : Type 0 where
+  pub on : RunsOn before after
+  pub is : IsOwnCompleting after handle s
+  pub opening : IsToOpenAll after k opens s.offer
+
+abbrev pub HasLeftCopy : View → CopyKind → ℕ → Option ℕ → Left → View → Type 0
+HasLeftCopy before k handle opens left.MayGiveUp after = RunsOn before after × MayLeave (λ call. reply.NoSlots) after
+HasLeftCopy before k handle opens (left.Completing s) after = LeavesCopy before k handle opens s after
+HasLeftCopy before k handle opens (left.Swapping s) after = ⊥
+
+-- its call is a copy or a clear
+abbrev pub IsCopier : View → Type 0
+IsCopier v = (operation : Operation) → Runs v operation → copies operation.call ≡ true
+
+-- it is to end, as it was carried out; or it may give up
+abbrev pub EndsCopy : View → Bool → Type 0
+EndsCopy v true = (operation : Operation) × Runs v operation × (operation.line ≡ line.End (copied_reply operation.call operation.opens))
+EndsCopy v false = MayAnswer v reply.NoSlots
+
+-- the operation has run on to there
+abbrev pub HasRunCopy : View → Bool → View → Type 0
+HasRunCopy before done after = RunsOn before after × EndsCopy after done
+
+-- its own offer is settled, and what that opens is open
+pub record HasSettledCopy (before : View) (done : Bool) (after : View) : Type 0 where
+  pub still : IsStill before after
+  pub comes : (operation : Operation) → Runs before operation → Runs after (record operation { line = copied_line done operation })

@@ -44,6 +44,10 @@ pub record HasSettled (sizes : Sizes) (account : Account) (k : Known) (n : ℕ) 
   pub left : word_at (after sizes (steps ++ last ∷ [])) k.handle ≢ Offer k.offer
   pub settled : IsSettled n k.offer (after sizes steps) (after sizes (steps ++ last ∷ []))
 
+-- it stands still, or doesn't stand yet
+abbrev pub IsUnsettled : Sizes → Account → Known → Type 0
+IsUnsettled sizes account k = (n : ℕ) → ¬ HasSettled sizes account k n
+
 -- and its first word says which
 pub record TellsFate (sizes : Sizes) (account : Account) (k : Known) (n : ℕ) : Type 0 where
   pub once : (m : ℕ) → HasSettled sizes account k m → n ≡ m

@@ -15,6 +15,7 @@ use Rattle.lock_free.specs.declared.accounts.Account.{Account}
 use Rattle.lock_free.specs.declared.accounts.Known.{Known}
 use Rattle.lock_free.specs.declared.rules.View.{View}
 use Rattle.lock_free.specs.Accounts.{running, gone_on}
+use Rattle.lock_free.specs.Fates.{IsUnsettled}
 use Rattle.lock_free.specs.Loading.{now, seen, IsAt, Went, Moment, Waited, Runs, IsSound}
 use Rattle.lock_free.specs.Places.{words_of}
 use Rattle.lock_free.specs.Roots.{IsItsTry, undecided, carried_out, taken_back}
@@ -47,7 +48,7 @@ outcome_by expected = if expected then carried_out else taken_back
 abbrev pub carried_by : ℕ → Bool → Bool
 carried_by found expected = if found == undecided then expected else (found == carried_out)
 
--- the main node that it has read is the expected one, or isn't
+-- as long as the offer isn't settled the main node that it has read is the expected one, or isn't
 pub record IsAtComplete (v : View) (slot : ℕ) (expected : Bool) : Type 0 where
   pub its : Known
   pub main : Ref
@@ -55,7 +56,7 @@ pub record IsAtComplete (v : View) (slot : ℕ) (expected : Bool) : Type 0 where
   pub place : its.slot ≡ slot
   pub acts : IsAt v (act.Complete its.offer main)
   pub on : its.handle ≡ handle_of acts.operation.call
-  pub test : (main == its.offer.expected) ≡ expected
+  pub test : IsUnsettled v.sizes v.account its → (main == its.offer.expected) ≡ expected
 
 -- the operation has taken its step, but for its mark
 abbrev pub TookUnmarked : View → Account → View → Type 0

@@ -18,7 +18,7 @@ use Rattle.lock_free.specs.declared.accounts.Account.{Account}
 use Rattle.lock_free.specs.declared.accounts.Known.{Known}
 use Rattle.lock_free.specs.declared.rules.View.{View}
 use Rattle.lock_free.specs.declared.sizes.Sizes.{Sizes}
-use Rattle.lock_free.specs.Accounts.{bounds_for, state_of, place_of, HasStood, WasReached}
+use Rattle.lock_free.specs.Accounts.{bounds_for, state_of, place_of, HasStood, WasRoot}
 use Rattle.lock_free.specs.Live.{IsLive}
 use Rattle.lock_free.specs.Making.{with_slots}
 use Rattle.lock_free.specs.Nodes.{IsAhead}
@@ -30,7 +30,7 @@ pub record LeavesNodes (sizes : Sizes) (account after : Account) : Type 0 where
   pub nodes : (k : ℕ) → slice_index_or (state_of sizes after).heap.slots k None ≡ slice_index_or (state_of sizes account).heap.slots k None
   pub births : (state_of sizes after).heap.births ≡ (state_of sizes account).heap.births
   pub live : (r : Ref) → IsLive (state_of sizes after) r → IsLive (state_of sizes account) r
-  pub reached : (r : Ref) → WasReached sizes after r → WasReached sizes account r ⊎ IsLive (state_of sizes account) r
+  pub reached : (r : Ref) → WasRoot sizes after r → WasRoot sizes account r ⊎ IsLive (state_of sizes account) r
   pub generations : (state_of sizes after).generations ≡ (state_of sizes account).generations
   pub aheads : (i a f : Ref) → IsAhead (state_of sizes after) i a f → IsAhead (state_of sizes account) i a f
   pub still : (i a f : Ref) → IsAhead (state_of sizes account) i a f → IsAhead (state_of sizes after) i a f

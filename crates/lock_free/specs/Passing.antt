@@ -26,6 +26,8 @@ use Rattle.lock_free.specs.declared.accounts.Known.{Known}
 use Rattle.lock_free.specs.declared.reading.Given.{Given}
 use Rattle.lock_free.specs.declared.reading.Passed.{Passed}
 use Rattle.lock_free.specs.declared.reading.Passed.TheVariants as passed
+use Rattle.lock_free.specs.declared.reading.ReadFrom.{ReadFrom}
+use Rattle.lock_free.specs.declared.reading.ReadFrom.TheVariants as resume
 use Rattle.lock_free.specs.declared.reading.Way.{Way}
 use Rattle.lock_free.specs.declared.rules.View.{View}
 use Rattle.lock_free.specs.Accounts.{place_of, IsOwn}
@@ -90,12 +92,22 @@ pub record KnowsPending (v : View) (i main replaced : Ref) (header : Header) : T
 
 -- ---- passes
 
--- the READ is at its first line, or has read this link and is to read the header
-abbrev pub IsFrom : View → Ref → Option Link → Type 0
-IsFrom v i None = IsReading v i read.Main
-IsFrom v i (Some link) = (main : Ref) × IsReading v i (read.Prev main) × KnowsLink v i main link
+-- it is to ask for the root, since the main node of this link is pending and has this header
+pub record IsToAsk (v : View) (i : Ref) (link : Link) (header : Header) : Type 0 where
+  pub main : Ref
+  pub replaced : Ref
+  pub reading : IsReading v i (read.AskRoot main replaced)
+  pub writable : (operation : Operation) → Runs v operation → operation.access ≡ Writable
+  pub link_is : KnowsLink v i main link
+  pub header_is : KnowsPending v i main replaced header
 
-abbrev pub IsPassing : View → ℕ → Option Link → Type 0
+-- the READ is at its first line, or has read this link and is to read the header, or to ask
+abbrev pub IsFrom : View → Ref → ReadFrom → Type 0
+IsFrom v i resume.Start = IsReading v i read.Main
+IsFrom v i (resume.Header link) = (main : Ref) × IsReading v i (read.Prev main) × KnowsLink v i main link
+IsFrom v i (resume.Asking link header) = IsToAsk v i link header
+
+abbrev pub IsPassing : View → ℕ → ReadFrom → Type 0
 IsPassing v name from = (i : Ref) × IsPlaced v i name × IsFrom v i from
 
 -- it has given this main node
@@ -106,9 +118,18 @@ pub record HasGiven (before : View) (i : Ref) (given : Given) (after : View) : T
   pub header : KnowsMain after main given.header
 
 -- it goes on from there
-abbrev pub GoesFrom : View → Ref → Option Link → View → Type 0
-GoesFrom before i None after = HasCome (Goes read.Main) before after
-GoesFrom before i (Some link) after = (main : Ref) × HasCome (Goes (read.Prev main)) before after × KnowsLink after i main link
+pub record GoesToAsk (before : View) (i : Ref) (link : Link) (header : Header) (after : View) : Type 0 where
+  pub main : Ref
+  pub replaced : Ref
+  pub come : HasCome (Goes (read.AskRoot main replaced)) before after
+  pub writable : (operation : Operation) → Runs after operation → operation.access ≡ Writable
+  pub link_is : KnowsLink after i main link
+  pub header_is : KnowsPending after i main replaced header
+
+abbrev pub GoesFrom : View → Ref → ReadFrom → View → Type 0
+GoesFrom before i resume.Start after = HasCome (Goes read.Main) before after
+GoesFrom before i (resume.Header link) after = (main : Ref) × HasCome (Goes (read.Prev main)) before after × KnowsLink after i main link
+GoesFrom before i (resume.Asking link header) after = GoesToAsk before i link header after
 
 abbrev pub PassedBy : View → Ref → Passed → View → Type 0
 PassedBy before i (passed.Gives given) after = HasGiven before i given after
@@ -118,11 +139,8 @@ PassedBy before i (passed.Again from) after = GoesFrom before i from after
 abbrev pub HasPassed : View → Passed → View → Type 0
 HasPassed before result after = (i : Ref) (x : ReadLine) → IsReading before i x → PassedBy before i result after
 
-abbrev pub HasReached : View → Link → View → Type 0
-HasReached before link after = (i : Ref) (x : ReadLine) → IsReading before i x → GoesFrom before i (Some link) after
-
 -- after some passes, from which the READ goes on
-pub record HasPassedSome (words : ℕ) (way : Way) (name : ℕ) (before after : View) (next : Option Link) : Type 0 where
+pub record HasPassedSome (words : ℕ) (way : Way) (name : ℕ) (before after : View) (next : ReadFrom) : Type 0 where
   pub sound : IsSound words after
   pub on : IsOnWay after way
   pub passing : IsPassing after name next
@@ -145,6 +163,25 @@ abbrev pub HasLicense : View → Way → Link → Bool → View → Type 0
 HasLicense before way link licensed after = (i main replaced : Ref) → IsReading before i (pending_line way.access main replaced) → KnowsLink before i main link →
     (told : Option ℕ) × HasCome (Goes (read.Decide main replaced told)) before after × (is_licensed (now after).heap i told ≡ licensed)
 
+-- or it is still to be asked
+abbrev pub StillAsks : View → Way → View → Type 0
+StillAsks before way after = (way.access ≡ Writable) × ((i main replaced : Ref) → IsReading before i (read.AskRoot main replaced) → HasCome (Goes (read.AskRoot main replaced)) before after)
+
+abbrev pub HasLicenseOrNot : View → Way → Link → Option Bool → View → Type 0
+HasLicenseOrNot before way link (Some licensed) after = HasLicense before way link licensed after
+HasLicenseOrNot before way link None after = StillAsks before way after
+
+-- it is to be decided so
+pub record IsDeciding (v : View) (link : Link) (header : Header) (licensed : Bool) : Type 0 where
+  pub i : Ref
+  pub main : Ref
+  pub replaced : Ref
+  pub told : Option ℕ
+  pub reading : IsReading v i (read.Decide main replaced told)
+  pub licensed_is : is_licensed (now v).heap i told ≡ licensed
+  pub link_is : KnowsLink v i main link
+  pub header_is : KnowsPending v i main replaced header
+
 -- the root's generation is asked
 abbrev pub IsAsking : View → ℕ → Type 0
 IsAsking v handle =
@@ -157,6 +194,11 @@ HasAsked before told after = (i main replaced : Ref) → IsReading before i (rea
 -- it is still to be asked
 abbrev pub HasAskedAgain : View → View → Type 0
 HasAskedAgain before after = (i main replaced : Ref) → IsReading before i (read.AskRoot main replaced) → HasCome (Goes (read.AskRoot main replaced)) before after
+
+-- it was told, or is still to be asked
+abbrev pub HasAskedOrNot : View → Option ℕ → View → Type 0
+HasAskedOrNot before (Some generation) after = HasAsked before (Some generation) after
+HasAskedOrNot before None after = HasAskedAgain before after
 
 -- after some looks it still is
 pub record HasAskedSome (words handle : ℕ) (before after : View) : Type 0 where

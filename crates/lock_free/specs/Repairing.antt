@@ -26,6 +26,8 @@ use Rattle.lock_free.specs.declared.cleaning.Cleaned.{Cleaned}
 use Rattle.lock_free.specs.declared.renewing.Renewed.{Renewed}
 use Rattle.lock_free.specs.declared.renewing.Renewed.TheVariants as renewed
 use Rattle.lock_free.specs.declared.rules.View.{View}
+use Rattle.lock_free.specs.declared.swapping.Swapped.{Swapped}
+use Rattle.lock_free.specs.declared.swapping.Swapped.TheVariants.{Commits, Fails, Misses}
 use Rattle.lock_free.specs.Becoming.{Follows, HasBecome}
 use Rattle.lock_free.specs.Entries.{IsEntryIn}
 use Rattle.lock_free.specs.Holding.{IsOn, HasComeTo}
@@ -201,6 +203,12 @@ abbrev pub RenewedBy : View → List Ref → Renewed → View → Type 0
 RenewedBy before path renewed.Reads after = HasEndedAt (line.Key (key.Read path (reading (current path)))) before after
 RenewedBy before path renewed.Again after = HasEndedAt new_try before after
 RenewedBy before path renewed.Full after = GivesUp (λ o. reply.NoSlots) before after
+
+-- after its SWAP
+abbrev pub renewed_by : Swapped → Renewed
+renewed_by Commits = renewed.Reads
+renewed_by Fails = renewed.Again
+renewed_by Misses = renewed.Again
 
 abbrev pub HasRenewedBranch : View → Renewed → View → Type 0
 HasRenewedBranch before result after = (path : List Ref) (main : Ref) → IsOn before (line.Renew (renew.Entry path main [])) → RenewedBy before path result after

@@ -26,6 +26,7 @@ use Rattle.lock_free.specs.Places.{words_of}
 use Rattle.lock_free.specs.RootWords.{HasSeenSettled}
 use Rattle.lock_free.specs.Roots.{undecided, carried_out, taken_back}
 use Rattle.lock_free.specs.Rules.{pool_of}
+use Rattle.std.specs.Prelude.{Option, None}
 
 -- ---- what is asked
 
@@ -104,3 +105,8 @@ HasMadeWay before false after = Saw before after
 abbrev pub HasOfferedOrMissed : View → ℕ → Bool → View → Type 0
 HasOfferedOrMissed before slot true after = HasOffered before slot after
 HasOfferedOrMissed before slot false after = HasMissed before after
+
+-- within a number of tries: or it has seen that something else stands there, and is where it was
+abbrev pub HasOfferedWithin : View → ℕ → Option Bool → View → Type 0
+HasOfferedWithin before slot (Some stands) after = HasOfferedOrMissed before slot stands after
+HasOfferedWithin before slot None after = Saw before after

@@ -24,8 +24,8 @@ use Rattle.lock_free.specs.declared.asking.Named.TheVariants as named
 use Rattle.lock_free.specs.declared.offers.Fate.{Fate}
 use Rattle.lock_free.specs.declared.offers.Fate.TheVariants as fate
 use Rattle.lock_free.specs.declared.rules.View.{View}
-use Rattle.lock_free.specs.Accounts.{place_of, WasReached}
-use Rattle.lock_free.specs.Fates.{HasSettled}
+use Rattle.lock_free.specs.Accounts.{place_of, WasRoot}
+use Rattle.lock_free.specs.Fates.{HasSettled, IsUnsettled}
 use Rattle.lock_free.specs.HandleWords.{HasOffer, HasOpening}
 use Rattle.lock_free.specs.Loading.{now, seen, Holds, IsAt, IsUsed, Saw, Went, SameSlots, HasSeen, HasGone, IsSound}
 use Rattle.lock_free.specs.Passing.{IsPlaced}
@@ -68,7 +68,7 @@ pub record IsRootAt (v : View) (r : Ref) (name : ℕ) : Type 0 where
   pub generation : ℕ
   pub main : Ref
   pub is_link : slot.node ≡ Indirection generation main
-  pub reached : WasReached v.sizes v.account r
+  pub reached : WasRoot v.sizes v.account r
 
 -- the root was this one when the step was taken
 pub record HasFoundRoot (before : View) (handle name : ℕ) (after : View) : Type 0 where
@@ -129,11 +129,11 @@ HasSeenFate before name fate.TakenBack after = HasSeenSettled before name taken_
 
 -- ---- what it offers
 
--- the old root and its main node; of what the operation holds only that one is in its slot
+-- the old root and its main node; as long as the offer isn't settled, only that one is in its slot of what the operation holds
 pub record SaysOlds (before : View) (account : Account) (k : Known) (pair : Pair) : Type 0 where
   pub root : IsPlaced (seen before account) k.offer.root pair.low
   pub expected : pair.high ≡ place_of account k.offer.expected
-  pub only : (r : Ref) → Holds before r → place_of before.account r ≡ pair.high → r ≡ k.offer.expected
+  pub only : IsUnsettled before.sizes account k → (r : Ref) → Holds before r → place_of before.account r ≡ pair.high → r ≡ k.offer.expected
 
 abbrev pub KnowsOffer : View → ℕ → Type 0
 KnowsOffer v name = (handle : ℕ) × HasOffer v.sizes v.account handle name

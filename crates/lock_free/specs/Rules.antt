@@ -2,18 +2,21 @@
 -- actor has taken no step.
 use Rattle.history.specs.declared.calls.Call.{Call}
 use Rattle.std.specs.Prelude.{◌≡◌, ℕ, ◌+◌, ◌*◌, ◌<◌, ◌≤◌, ◌≢◌, ◌⊎◌, ◌==◌, Bool, true, false, is_some, if◌then◌else◌, List, [], ◌∷◌, length, Option, Some, None, slice_index, slice_index_or}
-use Rattle.std.specs.Prelude.{Contains}
+use Rattle.std.specs.Prelude.{Contains, map}
 use mathlib.Core.Option.{some}
 use lib.ListN.{get_elem?}
 use Rattle.atomic_table.specs.Table as Table
-use Rattle.trie_words.specs.Codes.{pin_code, root_code, IsRootWord}
+use Rattle.trie_words.specs.Codes.{pin_code, root_code, IsPin, IsRootWord}
 use Rattle.trie_words.specs.declared.roots.RootWord.TheVariants as word
 use Rattle.lock_free.specs.declared.rules.Closing.{Closing}
 use Rattle.lock_free.specs.declared.rules.Heard.{Heard}
+use Rattle.lock_free.specs.declared.rules.Pinned.{Pinned}
 use Rattle.lock_free.specs.declared.rules.Pool.{Pool}
+use Rattle.lock_free.specs.declared.rules.Retired.{Retired}
 use Rattle.proof_waiting.specs.Beneath.proof_slots.specs.Unswept.{HasNoSweeps}
+use Rattle.proof_garbage.specs.Grace.{HaveEnded}
+use Rattle.proof_reuse.specs.Laws.{IsGarbage}
 use Rattle.lock_free.specs.Live.{IsLive}
-use Rattle.trie_words.specs.declared.pins.Pin.{Pin}
 use Rattle.machine_model.specs.Beneath.slot_arena.specs.declared.refs.Ref.{Ref}
 use Rattle.machine_model.specs.Beneath.slot_arena.specs.declared.nodes.Slot.{Slot}
 use Rattle.machine_model.specs.Beneath.slot_arena.specs.Refs.{slot_of}
@@ -27,10 +30,10 @@ use Rattle.lock_free.specs.declared.accounts.Account.{Account}
 use Rattle.lock_free.specs.declared.accounts.Known.{Known}
 use Rattle.lock_free.specs.declared.rules.View.{View}
 use Rattle.lock_free.specs.declared.sizes.Sizes.{Sizes}
-use Rattle.lock_free.specs.Accounts.{bounds_for, state_of, place_at, HasWaited, HasStood, WasReached}
+use Rattle.lock_free.specs.Accounts.{bounds_for, state_of, place_at, HasGrown, HasWaited, HasStood, WasRoot}
 use Rattle.lock_free.specs.Fates.{TellsFate}
 use Rattle.lock_free.specs.Nodes.{StandsAs, InTable, AreOwners, class_of}
-use Rattle.lock_free.specs.Places.{AreSizes, branch_slot, root_slot, words_of, words_in, IsTaken, HaveTaken, generation_word, pin_word, root_word}
+use Rattle.lock_free.specs.Places.{AreSizes, branch_slot, root_slot, words_of, words_in, IsTaken, HaveTaken, epoch_word, generation_word, pin_word, root_word}
 use Rattle.lock_free.specs.Roots.{MeansRoot, IsWritten, NoOffer, AreMarked, IsPending, fate, undecided}
 
 -- nothing has happened yet: there are the first branch and the root over it
@@ -53,10 +56,13 @@ idle_view sizes actor last account = record {
   asks = None;
   entered = None;
   closing = [];
+  epoch = 0;
+  passed = 0;
   opens = None;
   opening = None;
   pool = record { small = []; medium = []; wide = [] };
   drafts = [];
+  retired = [];
   heard = [];
 }
 
@@ -90,8 +96,8 @@ pub record NodesStand (sizes : Sizes) (account : Account) (stands : Standing) (w
   pub owners : AreOwners account (state_of sizes account)
   -- what a root or an operation leads to stands there
   pub live : (r : Ref) → IsLive (state_of sizes account) r → stands (slot_of r) ≡ true
-  -- and what a root led to once
-  pub reached : (r : Ref) → WasReached sizes account r → stands (slot_of r) ≡ true
+  -- and what was a root once
+  pub reached : (r : Ref) → WasRoot sizes account r → stands (slot_of r) ≡ true
 
 -- ---- handles
 
@@ -132,9 +138,9 @@ SaysClosing found seat =
 
 -- ---- seats
 
-abbrev pub pin_word_of : Option Pin → ℕ
+abbrev pub pin_word_of : Option Pinned → ℕ
 pin_word_of None = 0
-pin_word_of (Some pin) = pin_code pin
+pin_word_of (Some pinned) = pin_code pinned.pin
 
 abbrev pub pool_of : Pool → ℕ → List ℕ
 pool_of pool class = if class == 0 then pool.small else (if class == 1 then pool.medium else pool.wide)
@@ -169,6 +175,32 @@ pub record Names (words : List ℕ) (v : View) (handle slot : ℕ) : Type 0 wher
   pub is : slice_index words (root_word handle) ≡ root_code (word.Opening slot)
   pub free : IsFree v 1 slot
 
+-- ---- slots that were retired
+
+-- when the seat retired the slot its node was garbage, and stood there
+pub record WasGarbage (sizes : Sizes) (x : Retired) : Type 0 where
+  pub node : Ref
+  pub number : slot_of node ≡ x.number
+  pub garbage : IsGarbage (state_of sizes x.account) node
+  -- roots aren't retired: who has found one may look at it later
+  pub unrooted : ¬ WasRoot sizes x.account node
+  pub slot : Slot
+  pub stored : slice_index_or (state_of sizes x.account).heap.slots x.number None ≡ Some slot
+  pub class : class_of slot.node ≡ x.class
+  pub made : x.number < length x.account.names
+  pub place : place_at x.account x.number ≡ x.name
+
+-- and its words are the node's still
+pub record IsRetired (sizes : Sizes) (account : Account) (stands : Standing) (x : Retired) : Type 0 where
+  pub was : WasGarbage sizes x
+  pub grown : HasGrown x.account account
+  pub still : stands x.number ≡ true
+
+-- whoever is pinned so has pinned itself while nothing ran there
+pub record HasPinnedIdle (sizes : Sizes) (account : Account) (actor : ℕ) (pinned : Pinned) : Type 0 where
+  pub grown : HasGrown pinned.account account
+  pub idle : operation_of (state_of sizes pinned.account) actor ≡ None
+
 pub record IsSeat (sizes : Sizes) (account : Account) (stands : Standing) (words : List ℕ) (v : View) : Type 0 where
   -- a seat that was given up has no sizes
   pub same : 1 ≤ v.sizes.seats → v.sizes ≡ sizes
@@ -181,8 +213,10 @@ pub record IsSeat (sizes : Sizes) (account : Account) (stands : Standing) (words
   pub rested : (a : ℕ) → v.actor < a → a ≤ v.last → HasWaited a (first_account sizes) account
   pub rests : (a : ℕ) → v.actor < a → a ≤ v.last → (operation_of (state_of sizes account) a ≡ None) × (slice_index words (pin_word a) ≡ 0)
   pub pinned : slice_index words (pin_word v.actor) ≡ pin_word_of v.pin
+  pub pinned_idle : (pinned : Pinned) → v.pin ≡ Some pinned → HasPinnedIdle sizes account v.actor pinned
+  pub retired : (x : Retired) → Contains v.retired x → IsRetired sizes account stands x
   pub entered : (handle : ℕ) → v.entered ≡ Some handle →
-      (handle < handle_limit) × (is_some (root_at (state_of sizes account) handle) ≡ true) × ((pin : Pin) × (v.pin ≡ Some pin) × (pin.handle ≡ handle))
+      (handle < handle_limit) × (is_some (root_at (state_of sizes account) handle) ≡ true) × ((pinned : Pinned) × (v.pin ≡ Some pinned) × (pinned.pin.handle ≡ handle))
   pub calls : (operation : Operation) → operation_of (state_of sizes account) v.actor ≡ Some operation → v.entered ≡ Some (handle_of operation.call)
   pub opens : (handle : ℕ) → Reserves (state_of sizes account) v handle → IsHeld (state_of sizes account) words handle
   pub reserves : (operation : Operation) → operation_of (state_of sizes account) v.actor ≡ Some operation → v.opens ≡ operation.opens
@@ -253,7 +287,43 @@ pub record WasGivenUp (views : List View) (h : Heard) : Type 0 where
   pub last : view.last ≡ h.last
   pub account : view.account ≡ h.account
 
+-- ---- the epoch
+
+-- While a seat is pinned the epoch is at most one more than it was when it pinned itself.
+pub record IsPinned (words : List ℕ) (pinned : Pinned) : Type 0 where
+  pub fits : IsPin pinned.pin
+  -- what its word says was so before
+  pub read : pinned.pin.epoch ≤ pinned.since
+  pub since : pinned.since ≤ slice_index words epoch_word
+  pub soon : slice_index words epoch_word ≤ pinned.since + 1
+
+pub record AreEpochs (words : List ℕ) (views : List View) : Type 0 where
+  pub seen : (id : ℕ) (v : View) → get_elem? views id ≡ some v → v.epoch ≤ slice_index words epoch_word
+  pub pinned : (id : ℕ) (v : View) → get_elem? views id ≡ some v → (pinned : Pinned) → v.pin ≡ Some pinned → IsPinned words pinned
+  -- if a seat is pinned by which another one has gone, it has pinned itself since the epoch that this one has seen
+  pub passed : (i j : ℕ) (v w : View) → get_elem? views i ≡ some v → get_elem? views j ≡ some w → w.actor ≤ v.passed → (pinned : Pinned) → w.pin ≡ Some pinned → v.epoch ≤ pinned.since
+
+-- ---- retired slots, the epoch and pins
+
+-- a seat with this pin has pinned itself before the slot was retired, or since
+abbrev pub IsApartFrom : Retired → Pinned → Type 0
+IsApartFrom x pinned = (pinned.since ≤ x.stamp) ⊎ HasGrown x.account pinned.account
+
+-- in the epoch then or the next one, or when all that ran then had ended
+abbrev pub IsFarFrom : Sizes → Retired → Pinned → Type 0
+IsFarFrom sizes x pinned = (pinned.since ≤ x.stamp + 1) ⊎ HaveEnded (state_of sizes x.account) (state_of sizes pinned.account)
+
+pub record AreRetired (sizes : Sizes) (words : List ℕ) (views : List View) : Type 0 where
+  pub stamps : (id : ℕ) (v : View) → get_elem? views id ≡ some v → (x : Retired) → Contains v.retired x → x.stamp ≤ slice_index words epoch_word
+  pub pins : (i j : ℕ) (v w : View) → get_elem? views i ≡ some v → get_elem? views j ≡ some w → (x : Retired) → Contains v.retired x → (pinned : Pinned) → w.pin ≡ Some pinned →
+      IsApartFrom x pinned × IsFarFrom sizes x pinned
+  -- no node is retired twice
+  pub once : (id : ℕ) (v : View) → get_elem? views id ≡ some v → Once (map (λ (x : Retired). x.number) v.retired)
+  pub apart : (i j : ℕ) (v w : View) → get_elem? views i ≡ some v → get_elem? views j ≡ some w → (x y : Retired) → Contains v.retired x → Contains w.retired y → x.number ≡ y.number → i ≡ j
+
 -- all of it, and that whom a seat has heard of makes no access any more
 pub record IsRuled (sizes : Sizes) (s : Table.State Call View) : Type 0 where
   pub kept : IsKept sizes s
+  pub epochs : AreEpochs s.words s.views
+  pub retired : AreRetired sizes s.words s.views
   pub heard : (id : ℕ) (v : View) → get_elem? s.views id ≡ some v → (h : Heard) → Contains v.heard h → WasGivenUp s.views h

@@ -10,6 +10,8 @@ use Rattle.lock_free.specs.declared.call_errors.CallError.TheVariants as error
 use Rattle.lock_free.specs.declared.calling.Denial.{Denial}
 use Rattle.lock_free.specs.declared.calling.Denial.TheVariants as denial
 use Rattle.lock_free.specs.declared.rules.View.{View}
+use Rattle.lock_free.specs.declared.walking.WalkError.{WalkError}
+use Rattle.lock_free.specs.declared.walking.WalkError.TheVariants as lack
 use Rattle.lock_free.specs.Accounts.{HasWaited}
 use Rattle.lock_free.specs.Answering.{HasAnswered}
 use Rattle.lock_free.specs.Calling.{HasCalled}
@@ -18,6 +20,11 @@ abbrev pub error_of : Denial → CallError
 error_of denial.NoHandle = error.NoHandle
 error_of denial.ReadOnly = error.ReadOnly
 error_of denial.NotReadOnly = error.NotReadOnly
+
+-- why a walk that had begun is refused
+abbrev pub walk_error : WalkError → CallError
+walk_error lack.Memory = error.Memory
+walk_error lack.Spent = error.Spent
 
 -- there is no such number, or the handle isn't open for the call
 abbrev pub IsNoHandle : Call → Denial → Type 0
@@ -28,11 +35,6 @@ pub record WasDenied (before : View) (call : Call) (why : Denial) (after : View)
   pub waited : HasWaited before.actor before.account after.account
   pub reason : IsNoHandle call why ⊎ HasCalled before call (Err why) after
 
--- the reply to it in the history, or it was denied
-abbrev pub IsReplied : View → Call → Result Reply Denial → View → Type 0
-IsReplied before call (Ok answer) after = HasAnswered before call None answer after
-IsReplied before call (Err why) after = WasDenied before call why after
-
 -- nothing of it is in the history; or it is answered there that nothing was changed, as it stands in no order
 abbrev pub WasRefused : View → Call → Option ℕ → CallError → View → Type 0
 WasRefused before call opens error.NoHandle after = WasDenied before call denial.NoHandle after
@@ -40,6 +42,7 @@ WasRefused before call opens error.ReadOnly after = WasDenied before call denial
 WasRefused before call opens error.NotReadOnly after = WasDenied before call denial.NotReadOnly after
 WasRefused before call opens error.Crowded after = HasAnswered before call opens reply.Crowded after
 WasRefused before call opens error.Full after = HasAnswered before call opens reply.NoSlots after
+WasRefused before call opens error.Spent after = HasAnswered before call opens reply.NoSlots after ⊎ HasWaited before.actor before.account after.account
 WasRefused before call opens error.WornOut after = HasAnswered before call opens reply.NoSlots after
 WasRefused before call opens error.Memory after = HasAnswered before call opens reply.NoSlots after
 WasRefused before call opens why after = ⊥
@@ -48,6 +51,24 @@ WasRefused before call opens why after = ⊥
 abbrev pub IsTold : {A : Type 0} → (A → Reply) → View → Call → Result A CallError → View → Type 0
 IsTold {A} reply_of before call (Ok told) after = HasAnswered before call None (reply_of told) after
 IsTold {A} reply_of before call (Err why) after = WasRefused before call None why after
+
+-- why an operation has given up: no slot was had, or it is out of tries
+abbrev pub LacksSlots : CallError → Type 0
+LacksSlots error.Full = Unit {0}
+LacksSlots error.Spent = Unit {0}
+LacksSlots why = ⊥
+
+-- what the caller is told of this reply, with what was lacked where that is a refusal
+abbrev pub told_by : Reply → CallError → Result Reply CallError
+told_by reply.Crowded lack = Err error.Crowded
+told_by reply.NoSlots lack = Err lack
+told_by answer lack = Ok answer
+
+-- so no reply that is told refuses the call
+abbrev pub IsNoRefusal : Result Reply CallError → Type 0
+IsNoRefusal (Ok reply.Crowded) = ⊥
+IsNoRefusal (Ok reply.NoSlots) = ⊥
+IsNoRefusal told = Unit {0}
 
 -- whether its key has a value
 abbrev pub IsToldIfSome : View → Call → Result Bool CallError → View → Type 0

@@ -12,6 +12,7 @@ use Rattle.machine_model.specs.declared.operations.Operation.{Operation}
 use Rattle.machine_model.specs.States.{operation_of}
 use Rattle.lock_free.specs.declared.accounts.Account.{Account}
 use Rattle.lock_free.specs.declared.rules.Closing.{Closing}
+use Rattle.lock_free.specs.declared.rules.Pinned.{Pinned}
 use Rattle.lock_free.specs.declared.rules.View.{View}
 use Rattle.lock_free.specs.Accounts.{gone_on, running}
 use Rattle.lock_free.specs.Loading.{now, IsAt, IsSound, Runs, Waited}
@@ -24,11 +25,14 @@ IsIdle v = operation_of (now v) v.actor ≡ None
 
 -- ---- the exchange by which a seat pins itself for a call
 
-abbrev pub pinned_for : View → Pin → Call → View
-pinned_for v pin call = record v { pin = Some pin; asks = Some call; entered = None }
+abbrev pub pinned_for : View → Pinned → Call → View
+pinned_for v pinned call = record v { pin = Some pinned; asks = Some call; entered = None }
+
+abbrev pub HasPinned : Me Call View → Pin → Call → Me Call View → Type 0
+HasPinned before pin call after = (pinned : Pinned) × (pinned.pin ≡ pin) × (after ≡ (pinned_for before.0 pinned call, before.1))
 
 abbrev pub has_pinned : Step Call → Me Call View → ℕ → Me Call View → Type 0
-has_pinned step before found after = (pin : Pin) (call : Call) → pin_of step.second ≡ Some pin → step.said ≡ some call → after ≡ (pinned_for before.0 pin call, before.1)
+has_pinned step before found after = (pin : Pin) (call : Call) → pin_of step.second ≡ Some pin → step.said ≡ some call → HasPinned before pin call after
 
 -- ---- the store of 0 by which it goes out of one that it hasn't begun
 

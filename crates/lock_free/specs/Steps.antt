@@ -11,7 +11,9 @@ use Rattle.lock_free.specs.Nodes.{IsAhead}
 use Rattle.lock_free.specs.Trying.{KeepsTries}
 use Rattle.lock_free.specs.declared.accounts.Account.{Account}
 use Rattle.lock_free.specs.declared.sizes.Sizes.{Sizes}
-use Rattle.lock_free.specs.Accounts.{state_of, bounds_for, gone_on, WasReached}
+use Rattle.lock_free.specs.declared.rules.Retired.{Retired}
+use Rattle.lock_free.specs.Accounts.{state_of, bounds_for, gone_on, HasGrown, WasRoot}
+use Rattle.lock_free.specs.Rules.{WasGarbage}
 
 -- the nodes that are given up, by their numbers
 abbrev pub Dropped : Type 0
@@ -26,8 +28,10 @@ pub record Leads (sizes : Sizes) (account after : Account) (actor : ℕ) (droppe
   pub births : (state_of sizes after).heap.births ≡ (state_of sizes account).heap.births
   -- nothing more is live, and nothing that is given up
   pub live : (r : Ref) → IsLive (state_of sizes after) r → IsLive (state_of sizes account) r × (dropped (slot_of r) ≡ false)
-  -- nor what a root led to once
-  pub reached : (r : Ref) → WasReached sizes account r → dropped (slot_of r) ≡ false
+  -- nor what was a root once
+  pub reached : (r : Ref) → WasRoot sizes account r → dropped (slot_of r) ≡ false
+  -- nor what is retired
+  pub retired : (x : Retired) → WasGarbage sizes x → HasGrown x.account account → dropped x.number ≡ false
   pub roots : (state_of sizes after).roots ≡ (state_of sizes account).roots
   pub generations : (state_of sizes after).generations ≡ (state_of sizes account).generations
   pub others : (a : ℕ) → a ≢ actor → operation_of (state_of sizes after) a ≡ operation_of (state_of sizes account) a

@@ -6,6 +6,7 @@ use Rattle.machine_model.specs.declared.operations.Operation.{Operation}
 use Rattle.machine_model.specs.States.{operation_of}
 use Rattle.machine_model.specs.declared.lines.Purpose.{Purpose}
 use Rattle.lock_free.specs.declared.swapping.Swapped.{Swapped}
+use Rattle.lock_free.specs.declared.swapping.Swapped.TheVariants.{Misses}
 use Rattle.lock_free.specs.Becoming.{HasBecome}
 use Rattle.lock_free.specs.Swaps.{swap_done, is_done, IsSwapping}
 use Rattle.lock_free.specs.declared.rules.Pool.{Pool}
@@ -54,6 +55,11 @@ IsLast names (Some name) = (rest : List ℕ) × (names ≡ rest ++ name ∷ [])
 abbrev pub put_back : List OwnNode → Pool → Pool
 put_back [] pool = pool
 put_back (m ∷ ms) pool = put_back ms (with_slot pool m.class m.slot)
+
+-- after a SWAP that came to this
+abbrev pub settled_pool : Swapped → List OwnNode → Pool → Pool
+settled_pool Misses made pool = put_back made pool
+settled_pool swapped made pool = pool
 
 -- so many slots of a class are kept at most, with those of all that was made
 abbrev pub most_kept : ℕ

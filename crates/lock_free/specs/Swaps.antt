@@ -40,6 +40,10 @@ is_done Commits = true
 is_done Fails = false
 is_done Misses = false
 
+abbrev pub swapped_by : Bool → Swapped
+swapped_by true = Commits
+swapped_by false = Fails
+
 -- what is left of the seat's own: where the replaced node wasn't found, all that it has made is free for it again
 abbrev pub LeavesOwn : View → Swapped → View → Type 0
 LeavesOwn before Commits after = Later before after

@@ -135,3 +135,8 @@ pub record IsGoingOn (words : ℕ) (way : Way) (before : View) (stack : List Ent
   pub pairs : List (ℕ × ℕ)
   pub at : IsWalking v then pairs
   pub walked : (taken : List (ℕ × ℕ)) → IsWalking before stack taken → HasWalked before taken v then
+
+-- within so many looks
+abbrev pub FoundStartOrNot : View → Option ℕ → View → Type 0
+FoundStartOrNot before (Some name) after = HasFoundStart before name after
+FoundStartOrNot before None after = HasStayed before after

@@ -2,7 +2,11 @@
 use Rattle.std.specs.Prelude.{◌≡◌, ◌<◌, ◌≤◌, ◌⊎◌, ℕ, true, false, Bool, is_some, Option, Some, None, Result, Ok, Err}
 use Rattle.history.specs.declared.calls.Call.{Call}
 use Rattle.history.specs.declared.calls.Call.TheVariants.{Close}
+use Rattle.history.specs.declared.replies.Reply.{Reply}
 use Rattle.history.specs.declared.replies.Reply.TheVariants as reply
+use Rattle.machine_model.specs.declared.lines.Line.TheVariants as line
+use Rattle.machine_model.specs.declared.operations.Operation.{Operation}
+use Rattle.machine_model.specs.declared.walking.WalkLine.TheVariants as walk
 use Rattle.machine_model.specs.Calls.{copies, opens_handle}
 use Rattle.machine_model.specs.Copying.{copied_reply}
 use Rattle.machine_model.specs.States.{handle_limit}
@@ -17,6 +21,7 @@ use Rattle.lock_free.specs.Answering.{HasAnswered}
 use Rattle.lock_free.specs.Calling.{HasCalled}
 use Rattle.lock_free.specs.Closing.{FoundClosed}
 use Rattle.lock_free.specs.CopySteps.{copy_kind}
+use Rattle.lock_free.specs.Loading.{Runs}
 use Rattle.lock_free.specs.Numbers.{reserving, without_number}
 use Rattle.lock_free.specs.SeatCalls.{IsNoHandle}
 use Rattle.lock_free.specs.SeatWords.{IsIdle}
@@ -77,6 +82,7 @@ WasRefusedCopy before call error.ReadOnly after = WasDeniedCopy before call deni
 WasRefusedCopy before call error.NotReadOnly after = WasDeniedCopy before call denial.NotReadOnly after
 WasRefusedCopy before call error.HandlesFull after = after ≡ before
 WasRefusedCopy before call error.Full after = HasFoundNoSlot before call after
+WasRefusedCopy before call error.Spent after = HasFoundNoSlot before call after ⊎ HasWaited before.actor before.account after.account
 WasRefusedCopy before call error.WornOut after = HasFoundNoSlot before call after
 WasRefusedCopy before call why after = ⊥
 
@@ -90,6 +96,27 @@ abbrev pub IsLack : CallError → Type 0
 IsLack error.Full = Unit {0}
 IsLack error.WornOut = Unit {0}
 IsLack why = ⊥
+
+-- ---- a walk
+
+-- the operation of a call of this kind is to begin with the root
+pub record IsWalkOf (kind : ℕ → Call) (v : View) : Type 0 where
+  pub operation : Operation
+  pub runs : Runs v operation
+  pub line_is : operation.line ≡ line.Walk walk.Root
+  pub handle : ℕ
+  pub call_is : operation.call ≡ kind handle
+
+-- the reply to a call that came to this; without memory or out of tries it was answered that nothing was changed
+abbrev pub reply_or_none : {A E : Type 0} → (A → Reply) → Result A E → Reply
+reply_or_none reply_of (Ok told) = reply_of told
+reply_or_none reply_of (Err why) = reply.NoSlots
+
+-- why it is refused that had begun
+abbrev pub IsWalkLack : CallError → Type 0
+IsWalkLack error.Memory = Unit {0}
+IsWalkLack error.Spent = Unit {0}
+IsWalkLack why = ⊥
 
 -- ---- a close
 

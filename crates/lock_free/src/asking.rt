@@ -21,6 +21,7 @@ pub enum Named {
 }
 
 /// What this word says of the root.
+#[inline(always)]
 fn named_of(word: RootWord) -> Named
     ensures { result ≡ named_by word }
 {
@@ -37,6 +38,7 @@ fn named_of(word: RootWord) -> Named
 }
 
 /// Asks for the root of this handle: where its word names the root, the operation has read it.
+#[inline(always)]
 pub fn ask_word(words: &Words, actor: &mut Actor, handle: u16) -> Named
     requires table { actor.old.table_id ≡ words.now.table_id }
     requires sound { IsSound words.now.table_id.words actor.old.me.0 }
@@ -50,6 +52,7 @@ pub fn ask_word(words: &Words, actor: &mut Actor, handle: u16) -> Named
 }
 
 /// The generation of the root in this slot.
+#[inline(always)]
 pub fn see_generation(words: &Words, actor: &mut Actor, root: u32) -> u64
     requires table { actor.old.table_id ≡ words.now.table_id }
     requires sound { IsSound words.now.table_id.words actor.old.me.0 }

@@ -1,4 +1,4 @@
-//! Calls on keys: tries, one after another, until one answers or no slot is had.
+//! Calls on keys: tries, one after another, until one answers, no slot is had, or so many were made.
 
 ghost use Rattle.std.specs.Prelude.{◌≡◌, ◌<◌, ◌≤◌, ◌^◌, false, length};
 ghost use Rattle.machine_model.specs.Calls.{changed_reply, copies};
@@ -7,8 +7,11 @@ ghost use Rattle.lock_free.specs.Descending.{IsTask};
 ghost use Rattle.lock_free.specs.Holding.{IsOn};
 ghost use Rattle.lock_free.specs.declared.attempts.Attempt.TheVariants as attempt;
 ghost use Rattle.lock_free.specs.declared.descending.Update.TheVariants as update;
-ghost use Rattle.lock_free.specs.Attempts.{attempted, HasAttempted, HasReplied, IsToChange, IsToClimb};
+ghost use Rattle.lock_free.specs.declared.parking.Came.TheVariants as came;
+ghost use Rattle.lock_free.specs.Attempts.{attempted, HasAttempted, IsToChange, IsToClimb};
 ghost use Rattle.lock_free.specs.Loading.{IsSound};
+ghost use Rattle.lock_free.specs.Parking.{HasRunTo, IsOwnLeft, left_so};
+ghost use Rattle.lock_free.specs.RunningOn.{MayAnswer};
 ghost use Rattle.lock_free.specs.Seeking.{IsCalled};
 ghost use Rattle.lock_free.specs.Stocks.{IsStock};
 
@@ -16,30 +19,30 @@ use crate::building::Builder;
 use crate::calling::give_up;
 use crate::changing::Edit;
 use crate::cleaning::single_in;
-use crate::climbing::climb;
+use crate::climbs::climb_within;
 use crate::descending::{Path, Update};
+use crate::key_tries::try_key_within;
+use crate::leaving::Left;
 use crate::loads::{Actor, Words};
-use crate::reading::{AsksRoot, Given};
-use crate::seeking::{Sought, try_key};
+use crate::parking::{Came, Parked};
+use crate::reading::Given;
+use crate::seeking::Sought;
 use crate::stock::Stock;
 use crate::swapping::Swapped;
 use crate::tasks::{Task, changed_reply, value_of};
-use crate::updating::{change_main, update};
+use crate::updating::{change_main_within, update_within};
 use history::{Access, Call, Reply};
 use machine_model::Site;
 use nodes::flag_of;
-use std::sync::Wait;
 use trie_words::{Entry, Name};
 
 /// What a whole try of a call on a key comes to.
 #[derive(Drop)]
 pub enum Attempt {
-    /// The operation is to end with this reply.
-    Answers(Reply),
-    /// It begins a new try.
+    /// The operation begins a new try.
     Again,
-    /// No slot is had: it may give up.
-    Full,
+    /// It has come to this.
+    Comes(Came),
 }
 
 /// What a SWAP makes of a try of this call, whose key had this value before, or none.
@@ -47,17 +50,16 @@ fn attempted(swapped: Option<Swapped>, call: Call, former: Option<u64>) -> Attem
     ensures { result ≡ attempted swapped call former }
 {
     match swapped {
-        None => Attempt::Full,
-        Some(Swapped::Commits) => Attempt::Answers(changed_reply(call, former)),
+        None => Attempt::Comes(Came::Spent),
+        Some(Swapped::Commits) => Attempt::Comes(Came::Answered(changed_reply(call, former))),
         Some(Swapped::Fails) => Attempt::Again,
         Some(Swapped::Misses) => Attempt::Again,
     }
 }
 
 /// Gives the key its new value, in a single that is made for this site.
-fn give_value<R: Wait, A: AsksRoot>(
-    rt: &R,
-    asker: &A,
+fn give_value(
+    tries: u64,
     words: &Words,
     actor: &mut Actor,
     stock: &mut Stock,
@@ -90,16 +92,17 @@ fn give_value<R: Wait, A: AsksRoot>(
         depth: last,
     };
     let way = task.way();
-    let swapped = update(
-        rt, asker, words, actor, stock, way, path[last], by, given, site, former,
-    );
-    attempted(swapped, task.call, former)
+    match update_within(
+        tries, words, actor, stock, way, path[last], by, given, site, former,
+    ) {
+        Ok(swapped) => attempted(swapped, task.call, former),
+        Err(left) => Attempt::Comes(Came::Parked(Parked::Changes(left, former))),
+    }
 }
 
 /// Takes the entry at this position out of the main node at the end of the path.
-fn remove<R: Wait, A: AsksRoot>(
-    rt: &R,
-    asker: &A,
+fn remove(
+    tries: u64,
     words: &Words,
     actor: &mut Actor,
     stock: &mut Stock,
@@ -124,9 +127,8 @@ fn remove<R: Wait, A: AsksRoot>(
     let last = path.len() - 1;
     let flag = flag_of(task.hash, last);
     let change = Edit::Remove(position);
-    let swapped = change_main(
-        rt,
-        asker,
+    match change_main_within(
+        tries,
         words,
         actor,
         stock,
@@ -135,15 +137,32 @@ fn remove<R: Wait, A: AsksRoot>(
         given,
         flag,
         change,
-    );
-    attempted(swapped, task.call, Some(former))
+    ) {
+        Ok(swapped) => attempted(swapped, task.call, Some(former)),
+        Err(left) => Attempt::Comes(Came::Parked(Parked::Changes(left, Some(former)))),
+    }
 }
 
-/// Climbs from the end of the path, which was tombed with this single. Where no slot is had the climb is given up, and the removal
-/// answered all the same. Returns the reply, of a key that had this value.
-fn climb_out<R: Wait, A: AsksRoot>(
-    rt: &R,
-    asker: &A,
+/// Lets an operation give its climb up, and be answered so.
+fn leave_climb(words: &Words, actor: &mut Actor, stock: &mut Stock, reply: Reply) -> Came
+    requires table { actor.old.table_id ≡ words.now.table_id }
+    requires sound { IsSound words.now.table_id.words actor.old.me.0 }
+    requires stock { IsStock stock.old actor.old.me.0 }
+    requires may { MayAnswer actor.old.me.0 reply }
+    ensures table { actor.new.table_id ≡ actor.old.table_id }
+    ensures sound { IsSound words.now.table_id.words actor.new.me.0 }
+    ensures stock { IsStock stock.new actor.new.me.0 }
+    ensures left { HasRunTo actor.old.me.0 result actor.new.me.0 }
+{
+    give_up(words, actor);
+    stock.give_back();
+    Came::Answered(reply)
+}
+
+/// Climbs from the end of the path, which was tombed with this single by the removal of a key that had this value. Where no slot is had, or
+/// it is out of tries, the climb is given up, and the removal answered all the same.
+fn climb_out(
+    tries: u64,
     words: &Words,
     actor: &mut Actor,
     stock: &mut Stock,
@@ -151,7 +170,7 @@ fn climb_out<R: Wait, A: AsksRoot>(
     path: &Path,
     single: Entry,
     former: Option<u64>,
-) -> Reply
+) -> Came
     requires table { actor.old.table_id ≡ words.now.table_id }
     requires sound { IsSound words.now.table_id.words actor.old.me.0 }
     requires stock { IsStock stock.old actor.old.me.0 }
@@ -161,24 +180,22 @@ fn climb_out<R: Wait, A: AsksRoot>(
     ensures table { actor.new.table_id ≡ actor.old.table_id }
     ensures sound { IsSound words.now.table_id.words actor.new.me.0 }
     ensures stock { IsStock stock.new actor.new.me.0 }
-    ensures climbed { HasAttempted actor.old.me.0 (attempt.Answers result) actor.new.me.0 }
+    ensures climbed { HasRunTo actor.old.me.0 result actor.new.me.0 }
 {
     let way = task.way();
     let reply = changed_reply(task.call, former);
-    if climb(
-        rt, asker, words, actor, stock, way, task.start, path, task.hash, single,
+    match climb_within(
+        tries, words, actor, stock, way, task.start, path, task.hash, single,
     ) {
-        return reply;
+        Ok(true) => Came::Answered(reply),
+        Ok(false) => leave_climb(words, actor, stock, reply),
+        Err(left) => Came::Parked(Parked::Climbs(left, former)),
     }
-    give_up(words, actor);
-    stock.give_back();
-    reply
 }
 
 /// Puts a tomb of this single, the only other entry, in the place of the main node at the end of the path, and climbs.
-fn entomb<R: Wait, A: AsksRoot>(
-    rt: &R,
-    asker: &A,
+fn entomb(
+    tries: u64,
     words: &Words,
     actor: &mut Actor,
     stock: &mut Stock,
@@ -207,9 +224,8 @@ fn entomb<R: Wait, A: AsksRoot>(
         slot: single.slot,
         own: single.own,
     });
-    let Some(swapped) = change_main(
-        rt,
-        asker,
+    let swapped = match change_main_within(
+        tries,
         words,
         actor,
         stock,
@@ -218,13 +234,16 @@ fn entomb<R: Wait, A: AsksRoot>(
         given,
         flag,
         change,
-    ) else {
-        return Attempt::Full;
+    ) {
+        Ok(swapped) => swapped,
+        Err(left) => return Attempt::Comes(Came::Parked(Parked::Changes(left, Some(former)))),
+    };
+    let Some(swapped) = swapped else {
+        return Attempt::Comes(Came::Spent);
     };
     match swapped {
-        Swapped::Commits => Attempt::Answers(climb_out(
-            rt,
-            asker,
+        Swapped::Commits => Attempt::Comes(climb_out(
+            tries,
             words,
             actor,
             stock,
@@ -239,9 +258,8 @@ fn entomb<R: Wait, A: AsksRoot>(
 }
 
 /// Makes this change of the main node that READ gave at the end of the path.
-fn change<R: Wait, A: AsksRoot>(
-    rt: &R,
-    asker: &A,
+fn change(
+    tries: u64,
     words: &Words,
     actor: &mut Actor,
     stock: &mut Stock,
@@ -264,8 +282,7 @@ fn change<R: Wait, A: AsksRoot>(
 {
     match update {
         Update::Builds { site, former } => give_value(
-            rt,
-            asker,
+            tries,
             words,
             actor,
             stock,
@@ -276,8 +293,7 @@ fn change<R: Wait, A: AsksRoot>(
             former,
         ),
         Update::Removes { position, former } => remove(
-            rt,
-            asker,
+            tries,
             words,
             actor,
             stock,
@@ -288,15 +304,26 @@ fn change<R: Wait, A: AsksRoot>(
             former,
         ),
         Update::Entombs { single, former } => entomb(
-            rt, asker, words, actor, stock, task, path, given, single, former,
+            tries, words, actor, stock, task, path, given, single, former,
         ),
     }
 }
 
+/// What a try comes to that is out of tries, or has no slot.
+fn left_so(left: Left) -> Came
+    requires { IsOwnLeft left }
+    ensures { result ≡ left_so left }
+{
+    match left {
+        Left::MayGiveUp => Came::Spent,
+        Left::Swapping(swapping) => Came::Parked(Parked::Repairs(swapping)),
+        Left::Completing(_) => unreachable!(),
+    }
+}
+
 /// A whole try of the call, from the root of its handle, with the change that it comes to.
-fn try_once<R: Wait, A: AsksRoot>(
-    rt: &R,
-    asker: &A,
+fn try_once(
+    tries: u64,
     words: &Words,
     actor: &mut Actor,
     stock: &mut Stock,
@@ -316,28 +343,31 @@ fn try_once<R: Wait, A: AsksRoot>(
     ensures attempted { HasAttempted actor.old.me.0 result actor.new.me.0 }
 {
     let hashes = stock.sizes().hash;
-    let (task, sought) = try_key(rt, asker, words, actor, stock, call, access, hashes, path);
+    let (task, sought) = match try_key_within(
+        tries, words, actor, stock, call, access, hashes, path,
+    ) {
+        Ok(tried) => tried,
+        Err(left) => return Attempt::Comes(left_so(left)),
+    };
     match sought {
-        Sought::Answers(reply) => Attempt::Answers(reply),
+        Sought::Answers(reply) => Attempt::Comes(Came::Answered(reply)),
         Sought::Changes { update, given } => change(
-            rt, asker, words, actor, stock, &task, path, given, update,
+            tries, words, actor, stock, &task, path, given, update,
         ),
         Sought::Again => Attempt::Again,
-        Sought::Full => Attempt::Full,
+        Sought::Full => Attempt::Comes(Came::Spent),
     }
 }
 
-/// Brings the operation of this call on a key, which has begun on a handle that allows this, to its end. Returns the reply with which it
-/// is to end; none where no slot is had, so that it may give up.
-pub(crate) fn answer<R: Wait, A: AsksRoot>(
-    rt: &R,
-    asker: &A,
+/// Tries the operation of this call on a key, which has begun on a handle that allows this, so often at most.
+pub(crate) fn run_key(
+    tries: u64,
     words: &Words,
     actor: &mut Actor,
     stock: &mut Stock,
     call: Call,
     access: Access,
-) -> Option<Reply>
+) -> Came
     requires table { actor.old.table_id ≡ words.now.table_id }
     requires sound { IsSound words.now.table_id.words actor.old.me.0 }
     requires stock { IsStock stock.old actor.old.me.0 }
@@ -347,15 +377,14 @@ pub(crate) fn answer<R: Wait, A: AsksRoot>(
     ensures table { actor.new.table_id ≡ actor.old.table_id }
     ensures sound { IsSound words.now.table_id.words actor.new.me.0 }
     ensures stock { IsStock stock.new actor.new.me.0 }
-    ensures replied { HasReplied actor.old.me.0 result actor.new.me.0 }
+    ensures run { HasRunTo actor.old.me.0 result actor.new.me.0 }
 {
     let mut path = Path::new();
-    for _ in rt.forever() {
-        match try_once(rt, asker, words, actor, stock, call, access, &mut path) {
-            Attempt::Answers(reply) => return Some(reply),
+    for _ in 0..tries {
+        match try_once(tries, words, actor, stock, call, access, &mut path) {
             Attempt::Again => {}
-            Attempt::Full => return None,
+            Attempt::Comes(came) => return came,
         }
     }
-    unreachable!()
+    Came::Spent
 }

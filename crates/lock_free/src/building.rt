@@ -13,7 +13,6 @@ use crate::reading::Given;
 use crate::stock::Stock;
 use machine_model::Site;
 use nodes::{HashKind, flag_of, index_in, list_depth, parting};
-use std::sync::Wait;
 use trie_words::{Entry, Name, Previous};
 
 /// What BUILD goes by, at the end of an operation's way.
@@ -35,8 +34,8 @@ pub struct Builder {
 
 /// Makes a single of the key and its new value, and what leads to it, up to the main node that is to take the place of this one.
 /// Returns its slot, or none where no slot is had: then the operation is in BUILD still.
-pub fn build<R: Wait>(
-    rt: &R,
+pub fn build(
+    tries: u64,
     words: &Words,
     actor: &mut Actor,
     stock: &mut Stock,
@@ -54,17 +53,17 @@ pub fn build<R: Wait>(
     ensures stock { IsStock stock.new actor.new.me.0 }
     ensures built { HasBuiltSingle actor.old.me.0 site former result actor.new.me.0 }
 {
-    let slot = make_single(rt, words, actor, stock, by.key, by.value)?;
+    let slot = make_single(tries, words, actor, stock, by.key, by.value)?;
     let single = Entry {
         slot,
         own: true,
         is_single: true,
     };
-    let change = edit_for(rt, words, actor, stock, by, given, site, former, single)?;
+    let change = edit_for(tries, words, actor, stock, by, given, site, former, single)?;
     let flag = flag_of(by.hash, by.depth);
     let main = given.link.main;
     build_main(
-        rt,
+        tries,
         words,
         actor,
         stock,
@@ -76,8 +75,8 @@ pub fn build<R: Wait>(
 }
 
 /// The change of the main node for this new single, with what leads to it where it stands beside another one.
-fn edit_for<R: Wait>(
-    rt: &R,
+fn edit_for(
+    tries: u64,
     words: &Words,
     actor: &mut Actor,
     stock: &mut Stock,
@@ -100,7 +99,7 @@ fn edit_for<R: Wait>(
         Site::Absent => Some(Edit::Insert(single)),
         Site::At { position } => Some(Edit::Update(position, single)),
         Site::Beside { position } => {
-            let slot = build_beside(rt, words, actor, stock, by, given, position, single)?;
+            let slot = build_beside(tries, words, actor, stock, by, given, position, single)?;
             let link = Entry {
                 slot,
                 own: false,
@@ -123,8 +122,8 @@ fn by_index(first_index: u32, other_index: u32, first: Entry, other: Entry) -> [
 }
 
 /// Makes the main node of both singles, at the depth where the paths of these hashes part.
-fn make_pair<R: Wait>(
-    rt: &R,
+fn make_pair(
+    tries: u64,
     words: &Words,
     actor: &mut Actor,
     stock: &mut Stock,
@@ -144,17 +143,17 @@ fn make_pair<R: Wait>(
     ensures made { HasMadeNext actor.old.me.0 result actor.new.me.0 }
 {
     if depth == list_depth(by.hashes) {
-        return make_list(rt, words, actor, stock, &[old, single], Previous::None);
+        return make_list(tries, words, actor, stock, &[old, single], Previous::None);
     }
     let old_index = index_in(old_hash, depth);
     let entries = by_index(old_index, index_in(by.hash, depth), old, single);
     let bitmap = flag_of(old_hash, depth) | flag_of(by.hash, depth);
-    make_branch(rt, words, actor, stock, bitmap, &entries, Previous::None)
+    make_branch(tries, words, actor, stock, bitmap, &entries, Previous::None)
 }
 
 /// Makes a branch whose one entry is the indirection in this slot.
-fn make_rung<R: Wait>(
-    rt: &R,
+fn make_rung(
+    tries: u64,
     words: &Words,
     actor: &mut Actor,
     stock: &mut Stock,
@@ -175,13 +174,13 @@ fn make_rung<R: Wait>(
         own: false,
         is_single: false,
     };
-    make_branch(rt, words, actor, stock, flag, &[entry], Previous::None)
+    make_branch(tries, words, actor, stock, flag, &[entry], Previous::None)
 }
 
 /// Makes the indirections and branches that lead to the main node in this slot, which was made for this depth: the topmost
 /// indirection goes into the main node at the end of the way.
-fn lead<R: Wait>(
-    rt: &R,
+fn lead(
+    tries: u64,
     words: &Words,
     actor: &mut Actor,
     stock: &mut Stock,
@@ -198,11 +197,11 @@ fn lead<R: Wait>(
     ensures stock { IsStock stock.new actor.new.me.0 }
     ensures led { HasLinked actor.old.me.0 depth result actor.new.me.0 }
 {
-    let mut link = make_link(rt, words, actor, stock, by.start, owned(main))?;
+    let mut link = make_link(tries, words, actor, stock, by.start, owned(main))?;
     for n in by.depth + 1..depth {
         let flag = flag_of(by.hash, depth - (n - by.depth));
-        let rung = make_rung(rt, words, actor, stock, flag, link)?;
-        link = make_link(rt, words, actor, stock, by.start, owned(rung))?;
+        let rung = make_rung(tries, words, actor, stock, flag, link)?;
+        link = make_link(tries, words, actor, stock, by.start, owned(rung))?;
     }
     Some(link)
 }
@@ -215,8 +214,8 @@ fn owned(slot: u32) -> Name
 }
 
 /// Makes what leads to the new single and to the one at this position of the main node, beside which it is to stand.
-fn build_beside<R: Wait>(
-    rt: &R,
+fn build_beside(
+    tries: u64,
     words: &Words,
     actor: &mut Actor,
     stock: &mut Stock,
@@ -238,6 +237,6 @@ fn build_beside<R: Wait>(
     let old_hash = by.hashes.hash(see_key(words, actor, old.slot));
     let most = list_depth(by.hashes);
     let depth = parting(old_hash, by.hash, by.depth + 1, most);
-    let main = make_pair(rt, words, actor, stock, by, depth, old_hash, old, single)?;
-    lead(rt, words, actor, stock, by, depth, main)
+    let main = make_pair(tries, words, actor, stock, by, depth, old_hash, old, single)?;
+    lead(tries, words, actor, stock, by, depth, main)
 }

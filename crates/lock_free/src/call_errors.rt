@@ -1,9 +1,10 @@
 //! Why a call of a seat was refused.
 
 ghost use Rattle.std.specs.Prelude.{◌≡◌};
-ghost use Rattle.lock_free.specs.SeatCalls.{error_of};
+ghost use Rattle.lock_free.specs.SeatCalls.{error_of, walk_error};
 
 use crate::calling::Denial;
+use crate::walking::WalkError;
 
 /// Why a call was refused. No map has changed then.
 #[derive(Clone, Copy, Debug, PartialEq, Eq)]
@@ -18,6 +19,8 @@ pub enum CallError {
     Crowded,
     /// No slot is free for what the call has to make.
     Full,
+    /// It didn't come through in its number of tries, and nothing of it is under way. It may come through if it is made again.
+    Spent,
     /// A copy, where each of the 256 handles is open or about to be opened.
     HandlesFull,
     /// A close, while another seat is in a call on the handle, is about to begin or to open it, or would close it too.
@@ -36,6 +39,17 @@ impl From<Denial> for CallError {
             Denial::NoHandle => CallError::NoHandle,
             Denial::ReadOnly => CallError::ReadOnly,
             Denial::NotReadOnly => CallError::NotReadOnly,
+        }
+    }
+}
+
+impl From<WalkError> for CallError {
+    ghost from_gives = { λ why error. error ≡ walk_error why };
+
+    fn from(why: WalkError) -> CallError {
+        match why {
+            WalkError::Memory => CallError::Memory,
+            WalkError::Spent => CallError::Spent,
         }
     }
 }

@@ -2,21 +2,20 @@
 
 ghost use Rattle.std.specs.Prelude.{◌≡◌, ◌<◌, ◌≤◌, ◌^◌};
 ghost use Rattle.machine_model.specs.Calls.{handle_of, key_of, needs_read_only, needs_writable};
-ghost use Rattle.lock_free.specs.Calling.{access_in, started_by, HasCalled, HasGivenUp, HasStarted, HasTriedToStart, IsBeginner, IsCancelled, IsCaller, MayGiveUp};
+ghost use Rattle.lock_free.specs.Calling.{access_in, started_by, HasCalled, HasCutShort, HasGivenUp, HasTriedToStart, CalledOrNot, StartedOrNot};
+ghost use Rattle.lock_free.specs.Calling.{IsBeginner, IsCancelled, IsCaller, IsRunning, MayGiveUp};
 ghost use Rattle.lock_free.specs.Loading.{IsSound};
 
+use crate::advancing::EPOCH;
 use crate::handles::{root_word_of, unmark};
 use crate::loads::{Actor, Words};
 use crate::pins::{finish, pin, unpin};
 use crate::reading::Way;
-use crate::rules::{Abandons, Starts};
+use crate::rules::{Abandons, CutsShort, Starts};
 use crate::tasks::key_of;
 use history::{Access, Call};
 use std::sync::Wait;
 use trie_words::{Pin, RootWord};
-
-/// The epoch stands in this word.
-const EPOCH: usize = 0;
 
 /// Why a call doesn't begin.
 #[derive(Clone, Copy, Debug, PartialEq, Eq, Drop)]
@@ -41,6 +40,7 @@ pub enum Started {
 }
 
 /// Whether the call needs a handle that may be written.
+#[inline(always)]
 fn needs_writable(call: &Call) -> bool
     ensures { result ≡ needs_writable call.now }
 {
@@ -51,6 +51,7 @@ fn needs_writable(call: &Call) -> bool
 }
 
 /// Whether it needs one for readers.
+#[inline(always)]
 fn needs_read_only(call: &Call) -> bool
     ensures { result ≡ needs_read_only call.now }
 {
@@ -66,6 +67,7 @@ fn key_fits(call: Call)
 }
 
 /// What comes of the begin of this call where its handle has this word.
+#[inline(always)]
 fn started_by(word: RootWord, call: &Call) -> Result<Started, RootWord>
     ensures { result ≡ started_by word call.now }
 {
@@ -82,6 +84,7 @@ fn started_by(word: RootWord, call: &Call) -> Result<Started, RootWord>
 
 /// Begins the operation of this call, for which the seat has pinned itself, if its handle is open for it. A call that opens a handle
 /// has reserved its number before. An `Err` has the word by which a seat would close the handle: nothing has begun.
+#[inline(always)]
 pub fn try_begin(words: &Words, actor: &mut Actor, call: &Call) -> Result<Started, RootWord>
     requires table { actor.old.table_id ≡ words.now.table_id }
     requires sound { IsSound words.now.table_id.words actor.old.me.0 }
@@ -96,26 +99,8 @@ pub fn try_begin(words: &Words, actor: &mut Actor, call: &Call) -> Result<Starte
     started_by(RootWord::of_word(found), call)
 }
 
-/// The same, once nobody would close the handle: the marks that it meets are taken away, and who made them finds the handle busy.
-pub fn begin<R: Wait>(rt: &R, words: &Words, actor: &mut Actor, call: &Call) -> Started
-    requires table { actor.old.table_id ≡ words.now.table_id }
-    requires sound { IsSound words.now.table_id.words actor.old.me.0 }
-    requires low { handle_of call.now < 256 }
-    requires beginner { IsBeginner actor.old.me.0 call.now }
-    ensures table { actor.new.table_id ≡ actor.old.table_id }
-    ensures sound { IsSound words.now.table_id.words actor.new.me.0 }
-    ensures started { HasStarted actor.old.me.0 call.now result actor.new.me.0 }
-{
-    for _ in rt.forever() {
-        match try_begin(words, actor, call) {
-            Ok(started) => return started,
-            Err(marked) => unmark(words, actor, call.handle(), marked),
-        }
-    }
-    unreachable!()
-}
-
 /// The access of an open handle with this word.
+#[inline(always)]
 fn access_of(found: RootWord) -> Access
     ensures { result ≡ access_in found }
 {
@@ -125,8 +110,69 @@ fn access_of(found: RootWord) -> Access
     }
 }
 
+/// The same in so many looks, or nothing has begun: the marks that it meets are taken away, and who made them finds the handle busy.
+#[inline(always)]
+pub fn begin_within(tries: u64, words: &Words, actor: &mut Actor, call: &Call) -> Option<Started>
+    requires table { actor.old.table_id ≡ words.now.table_id }
+    requires sound { IsSound words.now.table_id.words actor.old.me.0 }
+    requires low { handle_of call.now < 256 }
+    requires beginner { IsBeginner actor.old.me.0 call.now }
+    ensures table { actor.new.table_id ≡ actor.old.table_id }
+    ensures sound { IsSound words.now.table_id.words actor.new.me.0 }
+    ensures started { StartedOrNot actor.old.me.0 call.now result actor.new.me.0 }
+{
+    for _ in 0..tries {
+        match try_begin(words, actor, call) {
+            Ok(started) => return Some(started),
+            Err(marked) => unmark(words, actor, call.handle(), marked),
+        }
+    }
+    None
+}
+
 /// The beginning of a call: pins this seat, `seat`, in this epoch and begins the operation; its handle and what that allows is returned.
-/// An `Err` says why none has begun: the seat is as before. A handle isn't open yet while the call that opens it hasn't ended.
+/// None where it hasn't begun in so many looks; an `Err` says why none has begun: then the seat is as before. A handle isn't open yet while
+/// the call that opens it hasn't ended.
+#[inline(always)]
+pub fn start_within(
+    tries: u64,
+    words: &Words,
+    actor: &mut Actor,
+    seat: u8,
+    epoch: u64,
+    call: &Call,
+) -> Result<Option<Way>, Denial>
+    requires table { actor.old.table_id ≡ words.now.table_id }
+    requires sound { IsSound words.now.table_id.words actor.old.me.0 }
+    requires its { actor.old.me.0.actor ≡ seat }
+    requires few { actor.old.me.0.actor ≤ actor.old.me.0.sizes.seats }
+    requires low { handle_of call.now < 256 }
+    requires epoch { epoch < 2 ^ 54 }
+    requires late { epoch ≤ actor.old.me.0.epoch }
+    requires caller { IsCaller actor.old.me.0 call.now }
+    ensures table { actor.new.table_id ≡ actor.old.table_id }
+    ensures sound { IsSound words.now.table_id.words actor.new.me.0 }
+    ensures called { CalledOrNot actor.old.me.0 call.now result actor.new.me.0 }
+{
+    let handle = call.handle();
+    pin(words, actor, seat, Pin { epoch, handle }, call);
+    let Some(started) = begin_within(tries, words, actor, call) else {
+        unpin(words, actor, seat);
+        return Ok(None);
+    };
+    let denial = match started {
+        Started::Runs(found) => {
+            let access = access_of(found);
+            return Ok(Some(Way { handle, access }));
+        }
+        Started::Denied(denial) => denial,
+        Started::Opening(..) => Denial::NoHandle,
+    };
+    unpin(words, actor, seat);
+    Err(denial)
+}
+
+/// The same, as often as it takes.
 pub fn start<R: Wait>(
     rt: &R,
     words: &Words,
@@ -141,23 +187,20 @@ pub fn start<R: Wait>(
     requires few { actor.old.me.0.actor ≤ actor.old.me.0.sizes.seats }
     requires low { handle_of call.now < 256 }
     requires epoch { epoch < 2 ^ 54 }
+    requires late { epoch ≤ actor.old.me.0.epoch }
     requires caller { IsCaller actor.old.me.0 call.now }
     ensures table { actor.new.table_id ≡ actor.old.table_id }
     ensures sound { IsSound words.now.table_id.words actor.new.me.0 }
     ensures called { HasCalled actor.old.me.0 call.now result actor.new.me.0 }
 {
-    let handle = call.handle();
-    pin(words, actor, seat, Pin { epoch, handle }, call);
-    let denial = match begin(rt, words, actor, call) {
-        Started::Runs(found) => {
-            let access = access_of(found);
-            return Ok(Way { handle, access });
+    for _ in rt.forever() {
+        match start_within(u64::MAX, words, actor, seat, epoch, call) {
+            Ok(Some(way)) => return Ok(way),
+            Ok(None) => {}
+            Err(denial) => return Err(denial),
         }
-        Started::Denied(denial) => denial,
-        Started::Opening(_) => Denial::NoHandle,
-    };
-    unpin(words, actor, seat);
-    Err(denial)
+    }
+    unreachable!()
 }
 
 /// Lets the operation of this seat give up, where nothing of its own is published and pending: from then on it is to end, as one that
@@ -171,6 +214,18 @@ pub fn give_up(words: &Words, actor: &mut Actor)
     ensures gave { HasGivenUp actor.old.me.0 actor.new.me.0 }
 {
     words.load::<Abandons>(actor, EPOCH);
+}
+
+/// Lets the operation of this seat give up, unless it is to end anyway.
+pub fn cut_short(words: &Words, actor: &mut Actor)
+    requires table { actor.old.table_id ≡ words.now.table_id }
+    requires sound { IsSound words.now.table_id.words actor.old.me.0 }
+    requires runs { IsRunning actor.old.me.0 }
+    ensures table { actor.new.table_id ≡ actor.old.table_id }
+    ensures sound { IsSound words.now.table_id.words actor.new.me.0 }
+    ensures cut { HasCutShort actor.old.me.0 actor.new.me.0 }
+{
+    words.load::<CutsShort>(actor, EPOCH);
 }
 
 /// Ends the operation of this seat at once, as one that gives up. The seat is pinned no more.

@@ -2,17 +2,17 @@
 
 ghost use Rattle.std.specs.Prelude.{◌≡◌, ◌<◌};
 ghost use Rattle.trie_words.specs.declared.headers.Shape.TheVariants as shape;
-ghost use Rattle.lock_free.specs.Changing.{edited, edited_bitmap, CanEdit, HasBuilt, IsChanging, IsNoTomb};
+ghost use Rattle.lock_free.specs.Changing.{edited_bitmap, CanEdit, HasBuilt, IsChanging, IsNoTomb};
+ghost use Rattle.lock_free.specs.Halves.{halves_edited, FitsHalf};
 ghost use Rattle.lock_free.specs.Loading.{IsSound};
 ghost use Rattle.lock_free.specs.Stocks.{IsStock};
 
-use crate::entries::see_entries;
+use crate::entries::see_halves;
 use crate::loads::{Actor, Words};
-use crate::makes::{make_branch, make_list, make_tomb};
+use crate::makes::{make_branch_of, make_list_of, make_tomb};
 use crate::stock::Stock;
 use arrayvec::ArrayVec;
 use nodes::position_of;
-use std::sync::Wait;
 use trie_words::{Entry, Name, Previous, Shape};
 
 /// A change of the entries of a main node.
@@ -28,16 +28,17 @@ pub enum Edit {
     Entomb(Name),
 }
 
-/// Changes these entries, where one more would come to this place.
-fn apply(entries: &mut ArrayVec<Entry, 32>, place: usize, change: Edit)
-    requires { CanEdit entries.old.items place change }
-    ensures { entries.new.items ≡ edited entries.old.items place change }
+/// Changes the entries of these halves, where one more would come to this place.
+fn apply(halves: &mut ArrayVec<u32, 32>, place: usize, change: Edit)
+    requires can { CanEdit halves.old.items place change }
+    requires fits { FitsHalf change }
+    ensures { halves.new.items ≡ halves_edited halves.old.items place change }
 {
     match change {
-        Edit::Insert(entry) => entries.insert(place, entry),
-        Edit::Update(position, entry) => entries[position] = entry,
+        Edit::Insert(entry) => halves.insert(place, entry.to_half()),
+        Edit::Update(position, entry) => halves[position] = entry.to_half(),
         Edit::Remove(position) => {
-            entries.remove(position);
+            halves.remove(position);
         }
         Edit::Entomb(_) => {}
     }
@@ -55,8 +56,8 @@ fn edited_bitmap(bitmap: u32, flag: u32, change: Edit) -> u32
 }
 
 /// Makes a branch from the one of this name and bitmap.
-fn build_branch<R: Wait>(
-    rt: &R,
+fn build_branch(
+    tries: u64,
     words: &Words,
     actor: &mut Actor,
     stock: &mut Stock,
@@ -77,23 +78,23 @@ fn build_branch<R: Wait>(
     ensures built { HasBuilt actor.old.me.0 result actor.new.me.0 }
 {
     let count = bitmap.count_ones() as usize;
-    let mut entries = see_entries(words, actor, main.slot, count, main.own);
-    apply(&mut entries, position_of(flag, bitmap), change);
+    let mut halves = see_halves(words, actor, main.slot, count, main.own);
+    apply(&mut halves, position_of(flag, bitmap), change);
     let bitmap = edited_bitmap(bitmap, flag, change);
-    make_branch(
-        rt,
+    make_branch_of(
+        tries,
         words,
         actor,
         stock,
         bitmap,
-        &entries,
+        &halves,
         Previous::Pending(main),
     )
 }
 
 /// Makes a list from the one of this name, with so many singles.
-fn build_list<R: Wait>(
-    rt: &R,
+fn build_list(
+    tries: u64,
     words: &Words,
     actor: &mut Actor,
     stock: &mut Stock,
@@ -112,15 +113,16 @@ fn build_list<R: Wait>(
     ensures stock { IsStock stock.new actor.new.me.0 }
     ensures built { HasBuilt actor.old.me.0 result actor.new.me.0 }
 {
-    let mut entries = see_entries(words, actor, main.slot, count as usize, main.own);
-    apply(&mut entries, count as usize, change);
-    make_list(rt, words, actor, stock, &entries, Previous::Pending(main))
+    let mut halves = see_halves(words, actor, main.slot, count as usize, main.own);
+    apply(&mut halves, count as usize, change);
+    let over = Previous::Pending(main);
+    make_list_of(tries, words, actor, stock, &halves, over)
 }
 
 /// Makes the main node that comes from the one of this name and shape by this change, where its operation's key has this flag. Returns
 /// its slot, or none where no slot is had: then the operation is where it was.
-pub fn build_main<R: Wait>(
-    rt: &R,
+pub fn build_main(
+    tries: u64,
     words: &Words,
     actor: &mut Actor,
     stock: &mut Stock,
@@ -141,12 +143,14 @@ pub fn build_main<R: Wait>(
 {
     match (change, shape) {
         (Edit::Entomb(single), _) => {
-            make_tomb(rt, words, actor, stock, single, Previous::Pending(main))
+            make_tomb(tries, words, actor, stock, single, Previous::Pending(main))
         }
         (_, Shape::Branch(bitmap)) => {
-            build_branch(rt, words, actor, stock, main, bitmap, flag, change)
+            build_branch(tries, words, actor, stock, main, bitmap, flag, change)
         }
-        (_, Shape::List(count)) => build_list(rt, words, actor, stock, main, count, flag, change),
+        (_, Shape::List(count)) => build_list(
+            tries, words, actor, stock, main, count, flag, change,
+        ),
         (_, Shape::Tomb(_)) => unreachable!(),
     }
 }

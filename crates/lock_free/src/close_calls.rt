@@ -3,8 +3,8 @@
 ghost use Rattle.std.specs.Prelude.{◌≡◌};
 
 use crate::call_errors::CallError;
+use crate::call_runs::HANDLES;
 use crate::closing::{Shut, close_handle};
-use crate::key_calls::HANDLES;
 use crate::loads::Words;
 use crate::seating::Seat;
 

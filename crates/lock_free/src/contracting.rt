@@ -10,7 +10,6 @@ use crate::loads::{Actor, Words};
 use crate::makes::{make_branch, make_tomb};
 use crate::stock::Stock;
 use arrayvec::ArrayVec;
-use std::sync::Wait;
 use trie_words::{Entry, Name, Previous};
 
 /// The single that alone is left, where a tomb may be made of it.
@@ -27,8 +26,8 @@ fn lone_single(may_entomb: bool, entries: &ArrayVec<Entry, 32>) -> Option<Entry>
 /// Makes the main node with these entries in the places of those of a branch with this bitmap: a tomb, where one single alone is left and
 /// that may be, else a branch. Its header says this of the main node that it is to replace. Returns its slot, or none where no slot is
 /// had: then nothing has changed.
-pub fn make_contracted<R: Wait>(
-    rt: &R,
+pub fn make_contracted(
+    tries: u64,
     words: &Words,
     actor: &mut Actor,
     stock: &mut Stock,
@@ -53,8 +52,8 @@ pub fn make_contracted<R: Wait>(
                 slot: single.slot,
                 own: single.own,
             };
-            make_tomb(rt, words, actor, stock, name, previous)
+            make_tomb(tries, words, actor, stock, name, previous)
         }
-        None => make_branch(rt, words, actor, stock, bitmap, entries, previous),
+        None => make_branch(tries, words, actor, stock, bitmap, entries, previous),
     }
 }

@@ -3,25 +3,67 @@
 ghost use Rattle.std.specs.Prelude.{◌≡◌, ℕ, ◌<◌, ◌≤◌, Some, None};
 ghost use Rattle.history.specs.declared.calls.Call.TheVariants.{Clear, Freeze, Snapshot};
 ghost use Rattle.history.specs.declared.replies.Reply.TheVariants as reply;
-ghost use Rattle.machine_model.specs.Calls.{handle_of, opens_handle};
+ghost use Rattle.machine_model.specs.Calls.{handle_of};
+ghost use Rattle.lock_free.specs.CopySteps.{HasRunCopy, IsAtTry, IsCopying};
 ghost use Rattle.lock_free.specs.Loading.{IsSound};
+ghost use Rattle.lock_free.specs.Passing.{IsOnWay};
 ghost use Rattle.lock_free.specs.SeatCalls.{IsTold};
 ghost use Rattle.lock_free.specs.Stocks.{IsStock};
 ghost use Rattle.lock_free.specs.WholeCalls.{HasCopiedOnce, HasLeft, IsCopyCall, IsLack, IsToldCopy, RestsWith};
 
 use crate::call_errors::CallError;
+use crate::call_runs::{EPOCH, HANDLES};
 use crate::calling::{Denial, start};
+use crate::copies::{copy_on, make_copy_within};
 use crate::copy_roots::{CopyKind, GENERATIONS};
-use crate::copying::make_copy;
-use crate::key_calls::{EPOCH, HANDLES};
-use crate::licensing::Asker;
+use crate::leaving::Left;
 use crate::loads::{Actor, Words};
 use crate::numbers::{give_back, reserve};
+use crate::reading::Way;
 use crate::seating::{Seat, end, refuse};
 use crate::stock::Stock;
 use crate::stores::GENERATION;
 use history::Call;
 use std::sync::Wait;
+
+/// COPY to its end: out of tries, it goes on from where its own offer stands. Returns whether it was carried out: then the operation is to
+/// end. Else it may give up.
+fn copy_through<R: Wait>(
+    rt: &R,
+    words: &Words,
+    actor: &mut Actor,
+    stock: &mut Stock,
+    way: Way,
+    which: CopyKind,
+    opens: Option<u16>,
+) -> bool
+    requires table { actor.old.table_id ≡ words.now.table_id }
+    requires sound { IsSound words.now.table_id.words actor.old.me.0 }
+    requires stock { IsStock stock.old actor.old.me.0 }
+    requires way { IsOnWay actor.old.me.0 way }
+    requires low { way.handle < 256 }
+    requires copying { IsCopying actor.old.me.0 which way.handle opens }
+    requires at { IsAtTry actor.old.me.0 }
+    ensures table { actor.new.table_id ≡ actor.old.table_id }
+    ensures sound { IsSound words.now.table_id.words actor.new.me.0 }
+    ensures stock { IsStock stock.new actor.new.me.0 }
+    ensures ran { HasRunCopy actor.old.me.0 result actor.new.me.0 }
+{
+    let mut came = make_copy_within(u64::MAX, words, actor, stock, way, which, opens);
+    for _ in rt.forever() {
+        match came {
+            Ok(made) => return made,
+            Err(left) => match left {
+                Left::MayGiveUp => return false,
+                Left::Swapping(_) => unreachable!(),
+                Left::Completing(next) => {
+                    came = copy_on(u64::MAX, words, actor, stock, way, which, opens, next);
+                }
+            },
+        }
+    }
+    unreachable!()
+}
 
 /// A copy or a clear as a whole, for which this seat, `seat`, has reserved the number of the handle that it opens, if it opens one.
 /// Returns whether it was made: then the number isn't the seat's any more. Else a slot was missing, or a generation.
@@ -52,8 +94,7 @@ fn copy_once<R: Wait>(
         Ok(way) => way,
         Err(denial) => return Err(denial),
     };
-    let asker = Asker::new(rt);
-    let made = make_copy(rt, &asker, words, actor, stock, way, which, opens);
+    let made = copy_through(rt, words, actor, stock, way, which, opens);
     if made {
         end(words, actor, stock, seat);
     } else {

@@ -13,7 +13,6 @@ use crate::loads::{Actor, Words};
 use crate::makes::make_branch;
 use crate::stock::{Stock, take};
 use crate::stores::{GENERATION, draft, make_root};
-use std::sync::Wait;
 use trie_words::{Link, Name, Previous};
 
 /// So many generations can be given out.
@@ -41,7 +40,7 @@ pub struct NewRoots {
 
 /// Makes a root over the main node of this name in this slot, the last of those that are free, with the generation that is next. Returns
 /// false where no generation is left.
-fn try_roots<R: Wait>(rt: &R, words: &Words, actor: &mut Actor, slot: u32, main: Name) -> bool
+fn try_roots(tries: u64, words: &Words, actor: &mut Actor, slot: u32, main: Name) -> bool
     requires table { actor.old.table_id ≡ words.now.table_id }
     requires sound { IsSound words.now.table_id.words actor.old.me.0 }
     requires last { (rest : List ℕ) × (pool_of actor.old.me.0.pool 0 ≡ rest ++ slot ∷ []) }
@@ -50,7 +49,7 @@ fn try_roots<R: Wait>(rt: &R, words: &Words, actor: &mut Actor, slot: u32, main:
     ensures sound { IsSound words.now.table_id.words actor.new.me.0 }
     ensures tried { HasTriedRoot actor.old.me.0 result actor.new.me.0 }
 {
-    for _ in rt.forever() {
+    for _ in 0..tries {
         let generation = words.peek(GENERATION);
         if generation >= GENERATIONS {
             return false;
@@ -61,12 +60,12 @@ fn try_roots<R: Wait>(rt: &R, words: &Words, actor: &mut Actor, slot: u32, main:
             return true;
         }
     }
-    unreachable!()
+    false
 }
 
 /// Makes a root over the main node of this name. Returns its slot, or none where no slot or no generation is had.
-fn make_new_root<R: Wait>(
-    rt: &R,
+fn make_new_root(
+    tries: u64,
     words: &Words,
     actor: &mut Actor,
     stock: &mut Stock,
@@ -81,8 +80,8 @@ fn make_new_root<R: Wait>(
     ensures stock { IsStock stock.new actor.new.me.0 }
     ensures made { HasRoot actor.old.me.0 result actor.new.me.0 }
 {
-    let slot = take(rt, words, actor, stock, 0)?;
-    if !try_roots(rt, words, actor, slot, main) {
+    let slot = take(tries, words, actor, stock, 0)?;
+    if !try_roots(tries, words, actor, slot, main) {
         return None;
     }
     stock.note(0);
@@ -90,12 +89,7 @@ fn make_new_root<R: Wait>(
 }
 
 /// An empty branch, and a root over it.
-fn make_cleared<R: Wait>(
-    rt: &R,
-    words: &Words,
-    actor: &mut Actor,
-    stock: &mut Stock,
-) -> Option<NewRoots>
+fn make_cleared(tries: u64, words: &Words, actor: &mut Actor, stock: &mut Stock) -> Option<NewRoots>
     requires table { actor.old.table_id ≡ words.now.table_id }
     requires sound { IsSound words.now.table_id.words actor.old.me.0 }
     requires stock { IsStock stock.old actor.old.me.0 }
@@ -105,12 +99,12 @@ fn make_cleared<R: Wait>(
     ensures stock { IsStock stock.new actor.new.me.0 }
     ensures made { HasMadeRoots actor.old.me.0 kind.Clear result actor.new.me.0 }
 {
-    let branch = make_branch(rt, words, actor, stock, 0, &[], Previous::None)?;
+    let branch = make_branch(tries, words, actor, stock, 0, &[], Previous::None)?;
     let over = Name {
         slot: branch,
         own: true,
     };
-    let successor = make_new_root(rt, words, actor, stock, over)?;
+    let successor = make_new_root(tries, words, actor, stock, over)?;
     Some(NewRoots {
         successor,
         second: None,
@@ -118,8 +112,8 @@ fn make_cleared<R: Wait>(
 }
 
 /// Two roots over the main node in this slot.
-fn make_both<R: Wait>(
-    rt: &R,
+fn make_both(
+    tries: u64,
     words: &Words,
     actor: &mut Actor,
     stock: &mut Stock,
@@ -139,8 +133,8 @@ fn make_both<R: Wait>(
         slot: main,
         own: false,
     };
-    let successor = make_new_root(rt, words, actor, stock, over)?;
-    let second = make_new_root(rt, words, actor, stock, over)?;
+    let successor = make_new_root(tries, words, actor, stock, over)?;
+    let second = make_new_root(tries, words, actor, stock, over)?;
     Some(NewRoots {
         successor,
         second: Some(second),
@@ -148,8 +142,8 @@ fn make_both<R: Wait>(
 }
 
 /// One root over the main node in this slot.
-fn make_one<R: Wait>(
-    rt: &R,
+fn make_one(
+    tries: u64,
     words: &Words,
     actor: &mut Actor,
     stock: &mut Stock,
@@ -169,7 +163,7 @@ fn make_one<R: Wait>(
         slot: main,
         own: false,
     };
-    let successor = make_new_root(rt, words, actor, stock, over)?;
+    let successor = make_new_root(tries, words, actor, stock, over)?;
     Some(NewRoots {
         successor,
         second: None,
@@ -177,8 +171,8 @@ fn make_one<R: Wait>(
 }
 
 /// The roots of a copy of the main node in this slot, or none where a slot or a generation is missing.
-pub fn make_roots<R: Wait>(
-    rt: &R,
+pub fn make_roots(
+    tries: u64,
     words: &Words,
     actor: &mut Actor,
     stock: &mut Stock,
@@ -196,8 +190,8 @@ pub fn make_roots<R: Wait>(
     ensures made { HasMadeRoots actor.old.me.0 which result actor.new.me.0 }
 {
     match which {
-        CopyKind::Clear => make_cleared(rt, words, actor, stock),
-        CopyKind::Snapshot => make_both(rt, words, actor, stock, main),
-        CopyKind::Freeze => make_one(rt, words, actor, stock, main),
+        CopyKind::Clear => make_cleared(tries, words, actor, stock),
+        CopyKind::Snapshot => make_both(tries, words, actor, stock, main),
+        CopyKind::Freeze => make_one(tries, words, actor, stock, main),
     }
 }

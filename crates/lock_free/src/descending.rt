@@ -1,23 +1,22 @@
 //! KEY: the way down to a key, from the root to what it comes to.
 
-ghost use Rattle.std.specs.Prelude.{◌≡◌, ◌<◌, ◌&&◌, nat_le, length, if◌then◌else◌};
+ghost use Rattle.std.specs.Prelude.{◌≡◌, ◌<◌, ◌&&◌, nat_le, if◌then◌else◌};
 ghost use Rattle.history.specs.declared.replies.Reply.TheVariants as reply;
 ghost use Rattle.machine_model.specs.declared.building.Site.TheVariants as place;
 ghost use Rattle.machine_model.specs.Calls.{inserts};
 ghost use Rattle.lock_free.specs.declared.descending.Found.TheVariants as what;
 ghost use Rattle.lock_free.specs.Descending.{absent_found, entries_in, rest_in, HasFound, HasPassedLevel, IsAtEntry, IsAtList};
-ghost use Rattle.lock_free.specs.Descending.{IsAtOne, IsAtSibling, IsAtTomb, IsFoundAt, IsHere, IsOnPath, IsRemovingAt, IsTask};
+ghost use Rattle.lock_free.specs.Descending.{IsAtOne, IsAtSibling, IsAtTomb, IsFoundAt, IsHere, IsRemovingAt, IsTask};
 ghost use Rattle.lock_free.specs.Loading.{IsSound};
 
-use crate::finding::{Met, Turn, meet_link, meet_single, read_turn};
+use crate::finding::{Met, meet_link, meet_single};
 use crate::loads::{Actor, Words, look_at_key, look_at_link, see_entry};
-use crate::reading::{AsksRoot, Given};
+use crate::reading::Given;
 use crate::tasks::{Task, absent_reply, inserts, when_found};
 use arrayvec::ArrayVec;
 use history::{Access, Call, Reply};
 use machine_model::{Site, WhenFound};
-use nodes::{MOST_ENTRIES, flag_of};
-use std::sync::Wait;
+use nodes::MOST_ENTRIES;
 use trie_words::{Entry, Shape};
 
 /// The slots of the indirections from the root down; the last is the current one.
@@ -57,7 +56,8 @@ pub enum Stage {
 }
 
 /// Where the key is absent: its single is made for this site, or the call answers.
-fn absent(call: Call, site: Site, given: Given) -> Found
+#[inline(always)]
+pub fn absent(call: Call, site: Site, given: Given) -> Found
     ensures { result ≡ absent_found call site given }
 {
     if inserts(call) {
@@ -81,7 +81,7 @@ fn absent_listed(call: Call, singles: usize, given: Given) -> Found
 }
 
 /// How many entries a main node of this shape has.
-fn entries_in(shape: Shape) -> usize
+pub fn entries_in(shape: Shape) -> usize
     ensures { result ≡ entries_in shape }
 {
     match shape {
@@ -188,6 +188,7 @@ fn remove(
 }
 
 /// What the call does where its key stands at this position of the main node, with this value.
+#[inline(always)]
 fn at_key(
     words: &Words,
     actor: &mut Actor,
@@ -218,7 +219,15 @@ fn at_key(
 }
 
 /// Looks for the key along the singles of a list.
-fn search_list(words: &Words, actor: &mut Actor, task: &Task, path: &[u32], given: Given) -> Found
+#[cold]
+#[inline(never)]
+pub fn search_list(
+    words: &Words,
+    actor: &mut Actor,
+    task: &Task,
+    path: &[u32],
+    given: Given,
+) -> Found
     requires table { actor.old.table_id ≡ words.now.table_id }
     requires sound { IsSound words.now.table_id.words actor.old.me.0 }
     requires task { IsTask actor.old.me.0 task.now }
@@ -241,7 +250,9 @@ fn search_list(words: &Words, actor: &mut Actor, task: &Task, path: &[u32], give
 }
 
 /// At a tomb, whose single is in this slot: a writable call has it cleaned, a read-only one looks at the single.
-fn at_tomb(
+#[cold]
+#[inline(never)]
+pub fn at_tomb(
     words: &Words,
     actor: &mut Actor,
     task: &Task,
@@ -267,6 +278,7 @@ fn at_tomb(
 }
 
 /// At the single in this slot, the entry at this position of a branch.
+#[inline(always)]
 fn at_single(
     words: &Words,
     actor: &mut Actor,
@@ -292,7 +304,8 @@ fn at_single(
 
 /// At the entry at this position of a branch: the way goes on below an indirection, and ends at a single, or at an indirection that is
 /// to be renewed.
-fn at_entry(
+#[inline(always)]
+pub fn at_entry(
     words: &Words,
     actor: &mut Actor,
     task: &Task,
@@ -318,60 +331,4 @@ fn at_entry(
     } else {
         Stage::Here(Found::Renews(given))
     }
-}
-
-/// The way through the last indirection of the path.
-fn pass_level<R: Wait, A: AsksRoot>(
-    rt: &R,
-    asker: &A,
-    words: &Words,
-    actor: &mut Actor,
-    task: &Task,
-    path: &[u32],
-) -> Stage
-    requires table { actor.old.table_id ≡ words.now.table_id }
-    requires sound { IsSound words.now.table_id.words actor.old.me.0 }
-    requires task { IsTask actor.old.me.0 task.now }
-    requires some { 0 < length path.now }
-    requires at { IsOnPath actor.old.me.0 path.now }
-    ensures table { actor.new.table_id ≡ actor.old.table_id }
-    ensures sound { IsSound words.now.table_id.words actor.new.me.0 }
-    ensures passed { HasPassedLevel actor.old.me.0 path.now result actor.new.me.0 }
-{
-    let depth = path.len() - 1;
-    let flag = flag_of(task.hash, depth);
-    let (given, turn) = read_turn(rt, asker, words, actor, task.way(), path[depth], flag);
-    match turn {
-        Turn::Entry(position) => at_entry(words, actor, task, path, given, position),
-        Turn::Absent => Stage::Here(absent(task.call, Site::Absent, given)),
-        Turn::List => Stage::Here(search_list(words, actor, task, path, given)),
-        Turn::Tomb(single) => Stage::Here(at_tomb(words, actor, task, path, given, single)),
-    }
-}
-
-/// The way down to the key of this call, from the last indirection of the path. The path has each further indirection then to which the
-/// way has come.
-pub fn descend<R: Wait, A: AsksRoot>(
-    rt: &R,
-    asker: &A,
-    words: &Words,
-    actor: &mut Actor,
-    task: &Task,
-    path: &mut Path,
-) -> Found
-    requires table { actor.old.table_id ≡ words.now.table_id }
-    requires sound { IsSound words.now.table_id.words actor.old.me.0 }
-    requires task { IsTask actor.old.me.0 task.now }
-    requires at { IsOnPath actor.old.me.0 path.old.items }
-    ensures table { actor.new.table_id ≡ actor.old.table_id }
-    ensures sound { IsSound words.now.table_id.words actor.new.me.0 }
-    ensures found { HasFound actor.old.me.0 path.new.items result actor.new.me.0 }
-{
-    for _ in rt.forever() {
-        match pass_level(rt, asker, words, actor, task, path.as_slice()) {
-            Stage::Below(slot) => path.push(slot),
-            Stage::Here(found) => return found,
-        }
-    }
-    unreachable!()
 }

@@ -1,8 +1,9 @@
 //! The entries of a main node in plain memory.
 
-ghost use Rattle.std.specs.Prelude.{◌≡◌};
+ghost use Rattle.std.specs.Prelude.{◌≡◌, ◌≤◌, length};
+ghost use Rattle.lock_free.specs.Halves.{entries_of_halves, halves_of, AreHalves, IsHalf};
 ghost use Rattle.lock_free.specs.Loading.{IsSound};
-ghost use Rattle.lock_free.specs.SeenEntries.{HasEntries, HasSeenEntries, unowned};
+ghost use Rattle.lock_free.specs.SeenEntries.{unowned, AreFit, HasEntries, HasSeenEntries};
 ghost use Rattle.trie_words.specs.Codes.{entry_of};
 
 use crate::loads::{Actor, Words, see_pair};
@@ -10,6 +11,7 @@ use arrayvec::ArrayVec;
 use trie_words::Entry;
 
 /// An entry, which is its main node's own only where that is its indirection's.
+#[inline(always)]
 fn entry_in(half: u32, is_own: bool) -> Entry
     ensures { unowned result ≡ unowned (entry_of half) }
 {
@@ -44,4 +46,57 @@ pub fn see_entries(
         }
     }
     entries
+}
+
+/// The half of a word for an entry, which is its main node's own only where that is its indirection's.
+#[inline(always)]
+fn half_in(half: u32, is_own: bool) -> u32
+    ensures small { IsHalf result }
+    ensures same { unowned (entry_of result) ≡ unowned (entry_of half) }
+{
+    if is_own {
+        half % (1 << 29)
+    } else {
+        half % (1 << 27) + (1 << 28) * (half / (1 << 28) % 2)
+    }
+}
+
+/// The same entries as they stand in halves of words.
+pub fn see_halves(
+    words: &Words,
+    actor: &mut Actor,
+    main: u32,
+    count: usize,
+    is_own: bool,
+) -> ArrayVec<u32, 32>
+    requires table { actor.old.table_id ≡ words.now.table_id }
+    requires sound { IsSound words.now.table_id.words actor.old.me.0 }
+    requires held { HasEntries actor.old.me.0 main count }
+    ensures table { actor.new.table_id ≡ actor.old.table_id }
+    ensures sound { IsSound words.now.table_id.words actor.new.me.0 }
+    ensures halves { AreHalves result.items }
+    ensures seen { HasSeenEntries actor.old.me.0 main count (entries_of_halves result.items) actor.new.me.0 }
+{
+    let mut halves = ArrayVec::new();
+    for n in 0..count.div_ceil(2) {
+        let pair = see_pair(words, actor, main, 2 * n as u32);
+        halves.push(half_in(pair.low, is_own));
+        if 2 * n + 1 < count {
+            halves.push(half_in(pair.high, is_own));
+        }
+    }
+    halves
+}
+
+/// The halves of these entries.
+pub fn halves_of(entries: &[Entry]) -> ArrayVec<u32, 32>
+    requires few { length entries.now ≤ 32 }
+    requires fit { AreFit entries.now }
+    ensures { result.items ≡ halves_of entries.now }
+{
+    let mut halves = ArrayVec::new();
+    for n in 0..entries.len() {
+        halves.push(entries[n].to_half());
+    }
+    halves
 }

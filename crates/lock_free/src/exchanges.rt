@@ -10,6 +10,7 @@ use crate::rules::{Goes, Publishes};
 use trie_words::{Header, Link, Name, Previous};
 
 /// The header of a pending main node, decided.
+#[inline(always)]
 fn once_decided(header: Header, is_licensed: bool) -> Header
     ensures { result ≡ decided_header is_licensed header }
 {
@@ -26,6 +27,7 @@ fn once_decided(header: Header, is_licensed: bool) -> Header
 
 /// Decides the main node in this slot, if it is pending still and this is its header: with a licence it is committed, without one
 /// it fails. Returns whether it was pending still.
+#[inline(always)]
 pub fn decide(
     words: &Words,
     actor: &mut Actor,
@@ -69,6 +71,7 @@ pub fn restore(words: &Words, actor: &mut Actor, indirection: u32, link: Link, f
 
 /// Swaps the fresh main node in this slot in, in the place of the one to which this link of the indirection leads, if that one
 /// stands there still: else the operation gives up all that it has made. Returns whether it stood there.
+#[inline(always)]
 pub fn publish(words: &Words, actor: &mut Actor, indirection: u32, link: Link, fresh: u32) -> bool
     requires table { actor.old.table_id ≡ words.now.table_id }
     requires sound { IsSound words.now.table_id.words actor.old.me.0 }

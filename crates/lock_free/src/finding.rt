@@ -1,14 +1,17 @@
 //! KEY: single steps of the way down to a key.
 
-ghost use Rattle.std.specs.Prelude.{◌≡◌, ◌<◌};
+ghost use Rattle.std.specs.Prelude.{◌≡◌, ◌<◌, IfSome};
+ghost use Rattle.lock_free.specs.Leaving.{OrSpent};
 ghost use Rattle.lock_free.specs.GoingDown.{HasMet, HasMetLink, HasReadKey, HasTurned, IsAtBelow, IsAtLink, IsAtMain, IsAtSingle, IsOnKey, IsWithin};
+ghost use Rattle.lock_free.specs.LinkReads.{HasReadOn};
 ghost use Rattle.lock_free.specs.Loading.{IsSound};
 ghost use Rattle.lock_free.specs.Passing.{IsOnWay};
 
+use crate::leaving::read_first;
+use crate::licensing::LimitedAsker;
 use crate::loads::{Actor, Words, look_at_key, look_at_link, look_at_main, look_at_value, see_key};
-use crate::reading::{AsksRoot, Given, Way, read};
+use crate::reading::{Given, Passed, ReadFrom, Way, read_link_within};
 use nodes::{has_flag, position_of};
-use std::sync::Wait;
 use trie_words::{Link, Shape};
 
 /// Where the way to a key goes on from a main node.
@@ -25,6 +28,7 @@ pub enum Turn {
 }
 
 /// Looks at the main node in this slot, for where the way goes on from it by the key's flag.
+#[inline(always)]
 pub fn turn_at(words: &Words, actor: &mut Actor, main: u32, flag: u32) -> Turn
     requires table { actor.old.table_id ≡ words.now.table_id }
     requires sound { IsSound words.now.table_id.words actor.old.me.0 }
@@ -48,32 +52,6 @@ pub fn turn_at(words: &Words, actor: &mut Actor, main: u32, flag: u32) -> Turn
     }
 }
 
-/// Reads the main node of the indirection in this slot, to which the way to a key has come, and looks where it goes on by the key's
-/// flag.
-pub fn read_turn<R: Wait, A: AsksRoot>(
-    rt: &R,
-    asker: &A,
-    words: &Words,
-    actor: &mut Actor,
-    way: Way,
-    indirection: u32,
-    flag: u32,
-) -> (Given, Turn)
-    requires table { actor.old.table_id ≡ words.now.table_id }
-    requires sound { IsSound words.now.table_id.words actor.old.me.0 }
-    requires way { IsOnWay actor.old.me.0 way }
-    requires some { 0 < flag }
-    requires at { IsAtLink actor.old.me.0 indirection flag }
-    ensures table { actor.new.table_id ≡ actor.old.table_id }
-    ensures sound { IsSound words.now.table_id.words actor.new.me.0 }
-    ensures turned { HasReadKey actor.old.me.0 result actor.new.me.0 }
-    ensures within { IsWithin result.1 }
-{
-    let given = read(rt, asker, words, actor, way, indirection, None);
-    let turn = turn_at(words, actor, given.link.main.slot, flag);
-    (given, turn)
-}
-
 /// What the way to a key meets in a single.
 #[derive(Clone, Copy, Drop)]
 pub enum Met {
@@ -84,6 +62,7 @@ pub enum Met {
 }
 
 /// Looks at the single in this slot, to which the way to this key has come.
+#[inline(always)]
 pub fn meet_single(words: &Words, actor: &mut Actor, key: u64, single: u32) -> Met
     requires table { actor.old.table_id ≡ words.now.table_id }
     requires sound { IsSound words.now.table_id.words actor.old.me.0 }
@@ -102,6 +81,7 @@ pub fn meet_single(words: &Words, actor: &mut Actor, key: u64, single: u32) -> M
 }
 
 /// Looks at the indirection in this slot, to which the way has come.
+#[inline(always)]
 pub fn meet_link(words: &Words, actor: &mut Actor, indirection: u32) -> Link
     requires table { actor.old.table_id ≡ words.now.table_id }
     requires sound { IsSound words.now.table_id.words actor.old.me.0 }
@@ -111,4 +91,61 @@ pub fn meet_link(words: &Words, actor: &mut Actor, indirection: u32) -> Link
     ensures met { HasMetLink actor.old.me.0 result actor.new.me.0 }
 {
     look_at_link(words, actor, indirection)
+}
+
+/// Reads the main node of the indirection in this slot, to which the way to a key has come, and looks where it goes on by the key's flag.
+/// None where it is out of tries.
+#[inline(always)]
+pub fn read_turn_within(
+    tries: u64,
+    words: &Words,
+    actor: &mut Actor,
+    way: Way,
+    indirection: u32,
+    flag: u32,
+) -> Option<(Given, Turn)>
+    requires table { actor.old.table_id ≡ words.now.table_id }
+    requires sound { IsSound words.now.table_id.words actor.old.me.0 }
+    requires way { IsOnWay actor.old.me.0 way }
+    requires some { 0 < flag }
+    requires at { IsAtLink actor.old.me.0 indirection flag }
+    ensures table { actor.new.table_id ≡ actor.old.table_id }
+    ensures sound { IsSound words.now.table_id.words actor.new.me.0 }
+    ensures turned { OrSpent (λ read. HasReadKey actor.old.me.0 read actor.new.me.0) result actor.old.me.0 actor.new.me.0 }
+    ensures within { IfSome result (λ read. IsWithin read.1) }
+{
+    let given = match read_first(tries, words, actor, way, indirection) {
+        Passed::Gives(given) => given,
+        Passed::Again(_) => return None,
+    };
+    let turn = turn_at(words, actor, given.link.main.slot, flag);
+    Some((given, turn))
+}
+
+/// The same, of which no more is told than the link of the main node.
+#[inline(always)]
+pub fn read_link_turn_within(
+    tries: u64,
+    words: &Words,
+    actor: &mut Actor,
+    way: Way,
+    indirection: u32,
+    flag: u32,
+) -> Option<(Link, Turn)>
+    requires table { actor.old.table_id ≡ words.now.table_id }
+    requires sound { IsSound words.now.table_id.words actor.old.me.0 }
+    requires way { IsOnWay actor.old.me.0 way }
+    requires some { 0 < flag }
+    requires at { IsAtLink actor.old.me.0 indirection flag }
+    ensures table { actor.new.table_id ≡ actor.old.table_id }
+    ensures sound { IsSound words.now.table_id.words actor.new.me.0 }
+    ensures turned { OrSpent (λ read. HasReadOn actor.old.me.0 read actor.new.me.0) result actor.old.me.0 actor.new.me.0 }
+    ensures within { IfSome result (λ read. IsWithin read.1) }
+{
+    let asker = LimitedAsker::new(tries);
+    let Some(link) = read_link_within(&asker, words, actor, way, indirection, tries) else {
+        return None;
+    };
+    let turn = turn_at(words, actor, link.main.slot, flag);
+    Some((link, turn))
 }

@@ -14,6 +14,7 @@ use crate::rules::{Cleans, Marks, Sees, Shuts, Unmarks};
 use trie_words::RootWord;
 
 /// Which word is this handle's.
+#[inline(always)]
 pub(crate) fn root_word_of(handle: u16) -> usize
     requires { handle < 256 }
     ensures { result ≡ root_word handle }
@@ -128,6 +129,8 @@ fn once_unmarked(word: RootWord) -> RootWord
 
 /// Takes the mark of a seat, this one or another, that would close the handle out of its word, if that is this one still. So a seat
 /// that would enter the handle goes on, and who would close it finds it busy.
+#[cold]
+#[inline(never)]
 pub fn unmark(words: &Words, actor: &mut Actor, handle: u16, word: RootWord)
     requires table { actor.old.table_id ≡ words.now.table_id }
     requires sound { IsSound words.now.table_id.words actor.old.me.0 }

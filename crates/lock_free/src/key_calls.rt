@@ -4,88 +4,58 @@ ghost use Rattle.std.specs.Prelude.{◌≡◌, IfOk};
 ghost use Rattle.history.specs.declared.calls.Call.TheVariants.{Get, Put, PutIfAbsent, Remove, RemoveIf, Replace, ReplaceIf};
 ghost use Rattle.history.specs.declared.replies.Reply.TheVariants as reply;
 ghost use Rattle.lock_free.specs.Attempts.{IsKeyed};
-ghost use Rattle.lock_free.specs.KeyReplies.{truth_in, value_in, FitsCall, TellsTruth, TellsValue};
+ghost use Rattle.lock_free.specs.KeyReplies.{FitsCall, TellsTruth, TellsValue};
 
-use crate::attempts::answer;
 use crate::call_errors::CallError;
-use crate::calling::{Denial, start};
+use crate::call_runs::run;
 use crate::laws::seats_are_explained;
-use crate::licensing::Asker;
 use crate::loads::Words;
-use crate::seating::{Seat, end_with};
+use crate::seating::Seat;
 use history::{Call, Reply};
 use std::sync::Wait;
 
-/// So many handles there are at most.
-pub(crate) const HANDLES: u16 = 256;
-
-/// No memory is used again, so each pin has the first epoch.
-pub(crate) const EPOCH: u64 = 0;
-
 /// The value in the reply to a call on a key that is answered by one.
-fn value_in(reply: Reply) -> Result<Option<u64>, CallError>
-    requires { TellsValue reply }
-    ensures { result ≡ value_in reply }
+fn value_in(answer: Reply) -> Option<u64>
+    requires { TellsValue answer }
+    ensures { answer ≡ reply.Found result }
 {
-    match reply {
-        Reply::Found(value) => Ok(value),
-        Reply::Crowded => Err(CallError::Crowded),
-        Reply::NoSlots => Err(CallError::Full),
+    match answer {
+        Reply::Found(value) => value,
         _ => unreachable!(),
     }
 }
 
 /// Whether the value was the one asked for, by the reply to a call that asks so.
-fn truth_in(reply: Reply) -> Result<bool, CallError>
-    requires { TellsTruth reply }
-    ensures { result ≡ truth_in reply }
+fn truth_in(answer: Reply) -> bool
+    requires { TellsTruth answer }
+    ensures { answer ≡ reply.Truth result }
 {
-    match reply {
-        Reply::Truth(truth) => Ok(truth),
-        Reply::NoSlots => Err(CallError::Full),
+    match answer {
+        Reply::Truth(truth) => truth,
         _ => unreachable!(),
     }
 }
 
 impl Seat {
     ghost use Rattle.lock_free.specs.Seated.{HasGoneOn};
-    ghost use Rattle.lock_free.specs.SeatCalls.{IsReplied, IsTold, IsToldIfSome};
+    ghost use Rattle.lock_free.specs.SeatCalls.{IsTold, IsToldIfSome};
 
-    /// A call on a key. Returns its reply, which is `NoSlots` where no slot was had.
+    /// A call on a key. Returns its reply.
     pub(crate) fn call_key<R: Wait>(
         &mut self,
         rt: &R,
         words: &Words,
-        call: &Call,
-    ) -> Result<Reply, Denial>
+        call: Call,
+    ) -> Result<Reply, CallError>
         requires table { self.old.table ≡ words.now.table_id }
-        requires keyed { IsKeyed call.now }
+        requires keyed { IsKeyed call }
         ensures seat { HasGoneOn self.old self.new }
-        ensures told { IsReplied self.old.view call.now result self.new.view }
-        ensures fits { IfOk result (λ answer. FitsCall call.now answer) }
+        ensures told { IsTold (λ r. r) self.old.view call result self.new.view }
+        ensures fits { IfOk result (FitsCall call) }
     {
         seats_are_explained();
-        if call.handle() >= HANDLES {
-            return Err(Denial::NoHandle);
-        }
-        let way = start(rt, words, &mut self.actor, self.number, EPOCH, call)?;
-        let asker = Asker::new(rt);
-        let answered = answer(
-            rt,
-            &asker,
-            words,
-            &mut self.actor,
-            &mut self.stock,
-            *call,
-            way.access,
-        );
-        Ok(end_with(
-            words,
-            &mut self.actor,
-            &mut self.stock,
-            self.number,
-            answered,
-        ))
+        let (actor, stock) = (&mut self.actor, &mut self.stock);
+        run(rt, words, actor, stock, self.number, call)
     }
 
     /// The value of this key, if it has one.
@@ -104,7 +74,7 @@ impl Seat {
         ensures seat { HasGoneOn self.old self.new }
         ensures told { IsTold reply.Found self.old.view (Get handle key) result self.new.view }
     {
-        value_in(self.call_key(rt, words, &Call::Get { handle, key })?)
+        Ok(value_in(self.call_key(rt, words, Call::Get { handle, key })?))
     }
 
     /// Whether this key has a value.
@@ -143,7 +113,7 @@ impl Seat {
         ensures seat { HasGoneOn self.old self.new }
         ensures told { IsTold reply.Found self.old.view (Put handle key value) result self.new.view }
     {
-        value_in(self.call_key(rt, words, &Call::Put { handle, key, value })?)
+        Ok(value_in(self.call_key(rt, words, Call::Put { handle, key, value })?))
     }
 
     /// Gives this key this value if it has none. Returns the value that it had.
@@ -163,7 +133,7 @@ impl Seat {
         ensures seat { HasGoneOn self.old self.new }
         ensures told { IsTold reply.Found self.old.view (PutIfAbsent handle key value) result self.new.view }
     {
-        value_in(self.call_key(rt, words, &Call::PutIfAbsent { handle, key, value })?)
+        Ok(value_in(self.call_key(rt, words, Call::PutIfAbsent { handle, key, value })?))
     }
 
     /// Gives this key this value if it has one. Returns the value that it had.
@@ -183,7 +153,7 @@ impl Seat {
         ensures seat { HasGoneOn self.old self.new }
         ensures told { IsTold reply.Found self.old.view (Replace handle key value) result self.new.view }
     {
-        value_in(self.call_key(rt, words, &Call::Replace { handle, key, value })?)
+        Ok(value_in(self.call_key(rt, words, Call::Replace { handle, key, value })?))
     }
 
     /// Gives this key the value `new` if it has the value `old`. Returns whether it had.
@@ -210,7 +180,7 @@ impl Seat {
             old,
             new,
         };
-        truth_in(self.call_key(rt, words, &call)?)
+        Ok(truth_in(self.call_key(rt, words, call)?))
     }
 
     /// Removes this key. Returns the value that it had.
@@ -229,7 +199,7 @@ impl Seat {
         ensures seat { HasGoneOn self.old self.new }
         ensures told { IsTold reply.Found self.old.view (Remove handle key) result self.new.view }
     {
-        value_in(self.call_key(rt, words, &Call::Remove { handle, key })?)
+        Ok(value_in(self.call_key(rt, words, Call::Remove { handle, key })?))
     }
 
     /// Removes this key if it has this value. Returns whether it had.
@@ -250,6 +220,6 @@ impl Seat {
         ensures told { IsTold reply.Truth self.old.view (RemoveIf handle key value) result self.new.view }
     {
         let call = Call::RemoveIf { handle, key, value };
-        truth_in(self.call_key(rt, words, &call)?)
+        Ok(truth_in(self.call_key(rt, words, call)?))
     }
 }

@@ -3,36 +3,50 @@
 #![tactic(auto)]
 
 mod accounts;
+mod advancing;
 mod asking;
 mod attempts;
 mod building;
 mod call_errors;
+mod call_runs;
 mod calling;
 mod changing;
 mod cleaning;
+mod cleans;
 mod climbing;
+mod climbs;
 mod close_calls;
 mod closing;
 mod contracting;
+mod copies;
 mod copy_calls;
 mod copy_roots;
+mod copy_runs;
 mod copying;
 mod descending;
 mod entries;
 mod exchanges;
 mod finding;
 mod finishing;
+mod gets;
 mod handles;
 mod key_calls;
+mod key_tries;
 mod laws;
+mod leaving;
 mod licensing;
 mod loads;
+mod lookups;
 mod makes;
+mod naming;
 mod numbers;
 mod offers;
 mod opening;
+mod parked_seats;
+mod parking;
 mod pins;
 mod reading;
+mod reclaiming;
 mod renewing;
 mod root_offers;
 mod rooting;
@@ -47,6 +61,8 @@ mod tasks;
 mod updating;
 mod walk_calls;
 mod walking;
+mod walks;
+mod ways_down;
 
 pub use call_errors::CallError;
 pub use finishing::finish_map;
@@ -56,6 +72,8 @@ pub use laws::{
     own_keys_are_answered, refusals_are_answered, resting_seats_run_nothing, seats_are_explained,
 };
 pub use loads::Words;
+pub use naming::{MapName, NamedSeat, NamedWords, named};
 pub use opening::{Board, OpenError};
+pub use parked_seats::{ParkedSeat, Tried};
 pub use seating::{Seat, open};
 pub use sizes::Sizes;

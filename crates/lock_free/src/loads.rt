@@ -21,6 +21,7 @@ pub type Actor = Seat<Call, View>;
 // ---- steps of the seat's operation
 
 /// Reads the word of the indirection in this slot.
+#[inline(always)]
 pub fn read_link(words: &Words, actor: &mut Actor, indirection: u32) -> Link
     requires table { actor.old.table_id ≡ words.now.table_id }
     requires sound { IsSound words.now.table_id.words actor.old.me.0 }
@@ -33,6 +34,7 @@ pub fn read_link(words: &Words, actor: &mut Actor, indirection: u32) -> Link
 }
 
 /// Reads the header of the main node in this slot.
+#[inline(always)]
 pub fn read_header(words: &Words, actor: &mut Actor, main: u32) -> Header
     requires table { actor.old.table_id ≡ words.now.table_id }
     requires sound { IsSound words.now.table_id.words actor.old.me.0 }
@@ -45,6 +47,7 @@ pub fn read_header(words: &Words, actor: &mut Actor, main: u32) -> Header
 }
 
 /// Looks at the main node in this slot.
+#[inline(always)]
 pub fn look_at_main(words: &Words, actor: &mut Actor, main: u32) -> Header
     requires table { actor.old.table_id ≡ words.now.table_id }
     requires sound { IsSound words.now.table_id.words actor.old.me.0 }
@@ -57,6 +60,7 @@ pub fn look_at_main(words: &Words, actor: &mut Actor, main: u32) -> Header
 }
 
 /// Looks at the indirection in this slot.
+#[inline(always)]
 pub fn look_at_link(words: &Words, actor: &mut Actor, indirection: u32) -> Link
     requires table { actor.old.table_id ≡ words.now.table_id }
     requires sound { IsSound words.now.table_id.words actor.old.me.0 }
@@ -69,6 +73,7 @@ pub fn look_at_link(words: &Words, actor: &mut Actor, indirection: u32) -> Link
 }
 
 /// Looks at the single in this slot, for its key.
+#[inline(always)]
 pub fn look_at_key(words: &Words, actor: &mut Actor, single: u32) -> u64
     requires table { actor.old.table_id ≡ words.now.table_id }
     requires sound { IsSound words.now.table_id.words actor.old.me.0 }
@@ -81,6 +86,7 @@ pub fn look_at_key(words: &Words, actor: &mut Actor, single: u32) -> u64
 }
 
 /// Looks at the single in this slot, for its value.
+#[inline(always)]
 pub fn look_at_value(words: &Words, actor: &mut Actor, single: u32) -> u64
     requires table { actor.old.table_id ≡ words.now.table_id }
     requires sound { IsSound words.now.table_id.words actor.old.me.0 }
@@ -95,6 +101,7 @@ pub fn look_at_value(words: &Words, actor: &mut Actor, single: u32) -> u64
 // ---- no steps
 
 /// The header of a main node that the seat's operation holds.
+#[inline(always)]
 pub fn see_main(words: &Words, actor: &mut Actor, main: u32) -> Header
     requires table { actor.old.table_id ≡ words.now.table_id }
     requires sound { IsSound words.now.table_id.words actor.old.me.0 }
@@ -107,6 +114,7 @@ pub fn see_main(words: &Words, actor: &mut Actor, main: u32) -> Header
 }
 
 /// The key of a single that the seat's operation holds.
+#[inline(always)]
 pub fn see_key(words: &Words, actor: &mut Actor, single: u32) -> u64
     requires table { actor.old.table_id ≡ words.now.table_id }
     requires sound { IsSound words.now.table_id.words actor.old.me.0 }
@@ -119,6 +127,7 @@ pub fn see_key(words: &Words, actor: &mut Actor, single: u32) -> u64
 }
 
 /// Two entries of a branch or list that the seat's operation holds: that of this position, and the one beside it in its word.
+#[inline(always)]
 pub fn see_pair(words: &Words, actor: &mut Actor, main: u32, position: u32) -> Pair
     requires table { actor.old.table_id ≡ words.now.table_id }
     requires sound { IsSound words.now.table_id.words actor.old.me.0 }
@@ -131,6 +140,7 @@ pub fn see_pair(words: &Words, actor: &mut Actor, main: u32, position: u32) -> P
 }
 
 /// The entry at this position of the branch or list in this slot, which the seat's operation holds.
+#[inline(always)]
 pub fn see_entry(words: &Words, actor: &mut Actor, main: u32, position: u32) -> Entry
     requires table { actor.old.table_id ≡ words.now.table_id }
     requires sound { IsSound words.now.table_id.words actor.old.me.0 }

@@ -4,19 +4,21 @@ ghost use Rattle.std.specs.Prelude.{◌≡◌, ◌<◌, ◌^◌, ◌≤◌, leng
 ghost use Rattle.machine_model.specs.declared.actions.Action.TheVariants as act;
 ghost use Rattle.machine_model.specs.Beneath.slot_arena.specs.declared.refs.Ref.{Ref as ARef};
 ghost use Rattle.machine_model.specs.Beneath.slot_arena.specs.declared.nodes.Node.TheVariants.{Indirection, Single, Tomb};
+ghost use Rattle.lock_free.specs.Halves.{entries_of_halves, AreHalves};
 ghost use Rattle.lock_free.specs.Loading.{IsAt, IsSound};
 ghost use Rattle.lock_free.specs.Passing.{IsPlaced};
 ghost use Rattle.lock_free.specs.Places.{class_for};
-ghost use Rattle.lock_free.specs.SeenEntries.{half_at, AreFit, HasMadeNext, HasWritten, IsAtBranch, IsAtList, IsAtMain, IsOver, IsOwnSlot};
+ghost use Rattle.lock_free.specs.SeenEntries.{half_at, HasMadeNext, HasWritten, IsAtBranch, IsAtList, IsAtMain, IsOver, IsOwnSlot};
 ghost use Rattle.lock_free.specs.Stocks.{IsStock};
 
+use crate::entries::halves_of;
 use crate::loads::{Actor, Words};
 use crate::stock::{Stock, take};
 use crate::stores::{draft, make};
-use std::sync::Wait;
 use trie_words::{Entry, Header, Link, Name, Pair, Previous, Shape};
 
 /// The class of the slot of a main node with so many entries.
+#[inline(always)]
 fn class_for(entries: usize) -> u32
     ensures { result ≡ class_for entries }
 {
@@ -28,8 +30,8 @@ fn class_for(entries: usize) -> u32
 }
 
 /// Makes a single of this key and value. Returns its slot, or none where no slot is had: then nothing has changed.
-pub fn make_single<R: Wait>(
-    rt: &R,
+pub fn make_single(
+    tries: u64,
     words: &Words,
     actor: &mut Actor,
     stock: &mut Stock,
@@ -45,7 +47,7 @@ pub fn make_single<R: Wait>(
     ensures stock { IsStock stock.new actor.new.me.0 }
     ensures made { HasMadeNext actor.old.me.0 result actor.new.me.0 }
 {
-    let slot = take(rt, words, actor, stock, 0)?;
+    let slot = take(tries, words, actor, stock, 0)?;
     draft(words, actor, 2 * slot as usize, key);
     make(words, actor, 2 * slot as usize + 1, value);
     stock.note(0);
@@ -54,8 +56,8 @@ pub fn make_single<R: Wait>(
 
 /// Makes an indirection of this generation, to the main node of this name. Returns its slot, or none where no slot is had: then
 /// nothing has changed.
-pub fn make_link<R: Wait>(
-    rt: &R,
+pub fn make_link(
+    tries: u64,
     words: &Words,
     actor: &mut Actor,
     stock: &mut Stock,
@@ -72,65 +74,67 @@ pub fn make_link<R: Wait>(
     ensures stock { IsStock stock.new actor.new.me.0 }
     ensures made { HasMadeNext actor.old.me.0 result actor.new.me.0 }
 {
-    let slot = take(rt, words, actor, stock, 0)?;
+    let slot = take(tries, words, actor, stock, 0)?;
     let link = Link { generation, main };
     make(words, actor, 2 * slot as usize, link.to_word());
     stock.note(0);
     Some(slot)
 }
 
-/// The half of a word for the entry at this position, 0 where there is none.
-fn half_at(entries: &[Entry], position: usize) -> u32
-    requires { AreFit entries.now }
-    ensures { result ≡ half_at entries.now position }
+/// The half for the entry at this position, 0 where there is none.
+#[inline(always)]
+fn half_at(halves: &[u32], position: usize) -> u32
+    requires { AreHalves halves.now }
+    ensures { result ≡ half_at (entries_of_halves halves.now) position }
 {
-    match entries.get(position) {
-        Some(entry) => entry.to_half(),
+    match halves.get(position) {
+        Some(half) => *half,
         None => 0,
     }
 }
 
-/// Writes these entries after the first word of this slot, two in a word.
-fn write_entries(words: &Words, actor: &mut Actor, slot: u32, entries: &[Entry])
+/// Writes the entries of these halves after the first word of this slot, two in a word.
+fn write_entries(words: &Words, actor: &mut Actor, slot: u32, halves: &[u32])
     requires table { actor.old.table_id ≡ words.now.table_id }
     requires sound { IsSound words.now.table_id.words actor.old.me.0 }
-    requires fit { AreFit entries.now }
-    requires own { IsOwnSlot actor.old.me.0 slot (length entries.now) }
+    requires fit { AreHalves halves.now }
+    requires own { IsOwnSlot actor.old.me.0 slot (length halves.now) }
     ensures table { actor.new.table_id ≡ actor.old.table_id }
     ensures sound { IsSound words.now.table_id.words actor.new.me.0 }
-    ensures written { HasWritten actor.old.me.0 slot entries.now (length entries.now) actor.new.me.0 }
+    ensures written { HasWritten actor.old.me.0 slot (entries_of_halves halves.now) (length halves.now) actor.new.me.0 }
 {
-    for n in 0..entries.len().div_ceil(2) {
+    for n in 0..halves.len().div_ceil(2) {
         let pair = Pair {
-            low: half_at(entries, 2 * n),
-            high: half_at(entries, 2 * n + 1),
+            low: half_at(halves, 2 * n),
+            high: half_at(halves, 2 * n + 1),
         };
         draft(words, actor, 2 * slot as usize + 1 + n, pair.to_word());
     }
 }
 
-/// Makes the main node with this header and these entries. Returns its slot, or none where no slot is had: then nothing has changed.
-fn make_main<R: Wait>(
-    rt: &R,
+/// Makes the main node with this header and the entries of these halves. Returns its slot, or none where no slot is had: then nothing has changed.
+fn make_main(
+    tries: u64,
     words: &Words,
     actor: &mut Actor,
     stock: &mut Stock,
     header: Header,
-    entries: &[Entry],
+    halves: &[u32],
 ) -> Option<u32>
     requires table { actor.old.table_id ≡ words.now.table_id }
     requires sound { IsSound words.now.table_id.words actor.old.me.0 }
     requires stock { IsStock stock.old actor.old.me.0 }
-    requires making { IsAtMain actor.old.me.0 header.shape entries.now }
+    requires halves { AreHalves halves.now }
+    requires making { IsAtMain actor.old.me.0 header.shape (entries_of_halves halves.now) }
     requires over { IsOver actor.old.me.0 header.previous }
     ensures table { actor.new.table_id ≡ actor.old.table_id }
     ensures sound { IsSound words.now.table_id.words actor.new.me.0 }
     ensures stock { IsStock stock.new actor.new.me.0 }
     ensures made { HasMadeNext actor.old.me.0 result actor.new.me.0 }
 {
-    let class = class_for(entries.len());
-    let slot = take(rt, words, actor, stock, class)?;
-    write_entries(words, actor, slot, entries);
+    let class = class_for(halves.len());
+    let slot = take(tries, words, actor, stock, class)?;
+    write_entries(words, actor, slot, halves);
     make(words, actor, 2 * slot as usize, header.to_word());
     stock.note(class);
     Some(slot)
@@ -138,8 +142,8 @@ fn make_main<R: Wait>(
 
 /// Makes a tomb of the single of this name, whose header says this of the main node that it is to replace. Returns its slot, or none
 /// where no slot is had: then nothing has changed.
-pub fn make_tomb<R: Wait>(
-    rt: &R,
+pub fn make_tomb(
+    tries: u64,
     words: &Words,
     actor: &mut Actor,
     stock: &mut Stock,
@@ -161,13 +165,80 @@ pub fn make_tomb<R: Wait>(
         own: single.own,
         is_single: true,
     });
-    make_main(rt, words, actor, stock, Header { previous, shape }, &[])
+    make_main(tries, words, actor, stock, Header { previous, shape }, &[])
+}
+
+/// Makes a branch with this bitmap and the entries of these halves, whose header says this of the main node that it is to replace. Returns its
+/// slot, or none where no slot is had: then nothing has changed.
+pub fn make_branch_of(
+    tries: u64,
+    words: &Words,
+    actor: &mut Actor,
+    stock: &mut Stock,
+    bitmap: u32,
+    halves: &[u32],
+    previous: Previous,
+) -> Option<u32>
+    requires table { actor.old.table_id ≡ words.now.table_id }
+    requires sound { IsSound words.now.table_id.words actor.old.me.0 }
+    requires stock { IsStock stock.old actor.old.me.0 }
+    requires few { length halves.now ≤ 32 }
+    requires halves { AreHalves halves.now }
+    requires making { IsAtBranch actor.old.me.0 bitmap (entries_of_halves halves.now) }
+    requires over { IsOver actor.old.me.0 previous }
+    ensures table { actor.new.table_id ≡ actor.old.table_id }
+    ensures sound { IsSound words.now.table_id.words actor.new.me.0 }
+    ensures stock { IsStock stock.new actor.new.me.0 }
+    ensures made { HasMadeNext actor.old.me.0 result actor.new.me.0 }
+{
+    let shape = Shape::Branch(bitmap);
+    make_main(
+        tries,
+        words,
+        actor,
+        stock,
+        Header { previous, shape },
+        halves,
+    )
+}
+
+/// Makes a list of the singles of these halves, whose header says this of the main node that it is to replace. Returns its slot, or none where no
+/// slot is had: then nothing has changed.
+pub fn make_list_of(
+    tries: u64,
+    words: &Words,
+    actor: &mut Actor,
+    stock: &mut Stock,
+    halves: &[u32],
+    previous: Previous,
+) -> Option<u32>
+    requires table { actor.old.table_id ≡ words.now.table_id }
+    requires sound { IsSound words.now.table_id.words actor.old.me.0 }
+    requires stock { IsStock stock.old actor.old.me.0 }
+    requires few { length halves.now ≤ 32 }
+    requires halves { AreHalves halves.now }
+    requires making { IsAtList actor.old.me.0 (entries_of_halves halves.now) }
+    requires over { IsOver actor.old.me.0 previous }
+    ensures table { actor.new.table_id ≡ actor.old.table_id }
+    ensures sound { IsSound words.now.table_id.words actor.new.me.0 }
+    ensures stock { IsStock stock.new actor.new.me.0 }
+    ensures made { HasMadeNext actor.old.me.0 result actor.new.me.0 }
+{
+    let shape = Shape::List(halves.len() as u32);
+    make_main(
+        tries,
+        words,
+        actor,
+        stock,
+        Header { previous, shape },
+        halves,
+    )
 }
 
 /// Makes a branch with this bitmap and these entries, whose header says this of the main node that it is to replace. Returns its
 /// slot, or none where no slot is had: then nothing has changed.
-pub fn make_branch<R: Wait>(
-    rt: &R,
+pub fn make_branch(
+    tries: u64,
     words: &Words,
     actor: &mut Actor,
     stock: &mut Stock,
@@ -186,14 +257,14 @@ pub fn make_branch<R: Wait>(
     ensures stock { IsStock stock.new actor.new.me.0 }
     ensures made { HasMadeNext actor.old.me.0 result actor.new.me.0 }
 {
-    let shape = Shape::Branch(bitmap);
-    make_main(rt, words, actor, stock, Header { previous, shape }, entries)
+    let halves = halves_of(entries);
+    make_branch_of(tries, words, actor, stock, bitmap, &halves, previous)
 }
 
 /// Makes a list of these singles, whose header says this of the main node that it is to replace. Returns its slot, or none where no
 /// slot is had: then nothing has changed.
-pub fn make_list<R: Wait>(
-    rt: &R,
+pub fn make_list(
+    tries: u64,
     words: &Words,
     actor: &mut Actor,
     stock: &mut Stock,
@@ -211,6 +282,6 @@ pub fn make_list<R: Wait>(
     ensures stock { IsStock stock.new actor.new.me.0 }
     ensures made { HasMadeNext actor.old.me.0 result actor.new.me.0 }
 {
-    let shape = Shape::List(entries.len() as u32);
-    make_main(rt, words, actor, stock, Header { previous, shape }, entries)
+    let halves = halves_of(entries);
+    make_list_of(tries, words, actor, stock, &halves, previous)
 }

@@ -6,7 +6,7 @@ ghost use Rattle.history.specs.declared.replies.Reply.{Reply};
 ghost use Rattle.machine_model.specs.declared.actions.Action.TheVariants as act;
 ghost use Rattle.lock_free.specs.Loading.{IsAt, IsSound};
 ghost use Rattle.lock_free.specs.Places.{pin_word};
-ghost use Rattle.lock_free.specs.SeatWords.{IsAtEnd, IsIdle, HasEnded, HasPassed, WouldClose, is_out, pinned_for, unpinned};
+ghost use Rattle.lock_free.specs.SeatWords.{IsAtEnd, IsIdle, HasEnded, HasPassed, HasPinned, WouldClose, is_out, unpinned};
 
 use crate::loads::{Actor, Words};
 use crate::rules::{Ends, Looks, Pins, Unpins};
@@ -17,13 +17,15 @@ use trie_words::Pin;
 const UNPINNED: u64 = 0;
 
 /// Which word is this seat's own.
-fn pin_word_of(seat: u8) -> usize
+#[inline(always)]
+pub(crate) fn pin_word_of(seat: u8) -> usize
     ensures { result ≡ pin_word seat }
 {
     336 + 16 * seat as usize
 }
 
-/// Pins this seat, which runs nothing and isn't pinned, for a call.
+/// Pins this seat, which runs nothing and isn't pinned, for a call, with an epoch that it has seen.
+#[inline(always)]
 pub fn pin(words: &Words, actor: &mut Actor, seat: u8, pin: Pin, call: &Call)
     requires table { actor.old.table_id ≡ words.now.table_id }
     requires sound { IsSound words.now.table_id.words actor.old.me.0 }
@@ -32,15 +34,17 @@ pub fn pin(words: &Words, actor: &mut Actor, seat: u8, pin: Pin, call: &Call)
     requires idle { IsIdle actor.old.me.0 }
     requires free { actor.old.me.0.pin ≡ None }
     requires fits { IsPin pin }
+    requires late { pin.epoch ≤ actor.old.me.0.epoch }
     ensures table { actor.new.table_id ≡ actor.old.table_id }
     ensures sound { IsSound words.now.table_id.words actor.new.me.0 }
-    ensures pinned { actor.new.me ≡ (pinned_for actor.old.me.0 pin call.now, actor.old.me.1) }
+    ensures pinned { HasPinned actor.old.me pin call.now actor.new.me }
 {
     let pinned = pin.to_word();
     words.compare_exchange_with::<Pins>(actor, pin_word_of(seat), UNPINNED, pinned, call);
 }
 
 /// Takes the pin of this seat away, which runs nothing.
+#[inline(always)]
 pub fn unpin(words: &Words, actor: &mut Actor, seat: u8)
     requires table { actor.old.table_id ≡ words.now.table_id }
     requires sound { IsSound words.now.table_id.words actor.old.me.0 }
@@ -55,6 +59,7 @@ pub fn unpin(words: &Words, actor: &mut Actor, seat: u8)
 }
 
 /// Ends the operation of this seat with the answer to which it has come; the seat is pinned no more.
+#[inline(always)]
 pub fn finish(words: &Words, actor: &mut Actor, seat: u8)
     requires table { actor.old.table_id ≡ words.now.table_id }
     requires sound { IsSound words.now.table_id.words actor.old.me.0 }

@@ -3,12 +3,13 @@
 ghost use Rattle.std.specs.Prelude.{◌≡◌};
 ghost use Rattle.lock_free.specs.Loading.{IsSound};
 ghost use Rattle.lock_free.specs.declared.reading.Passed.TheVariants as passed;
-ghost use Rattle.lock_free.specs.Passing.{HasAsked, HasLicense, HasPassed, HasReached, IsAsking, IsFailed, IsOnWay, IsPassing, IsPending};
+ghost use Rattle.lock_free.specs.declared.reading.ReadFrom.TheVariants as resume;
+ghost use Rattle.lock_free.specs.LinkReads.{CanGoOn, HasLinkAfter, HasReadTo};
+ghost use Rattle.lock_free.specs.Passing.{HasAskedOrNot, HasLicenseOrNot, HasPassed, IsAsking, IsDeciding, IsFailed, IsOnWay, IsPassing, IsPending};
 
 use crate::exchanges::{decide, restore};
 use crate::loads::{Actor, Words, read_header, read_link, see_main};
 use history::Access;
-use std::sync::Wait;
 use trie_words::{Header, Link, Name, Previous};
 
 /// The handle of an operation that reads.
@@ -29,65 +30,89 @@ pub struct Given {
     pub header: Header,
 }
 
+/// From where a READ goes on.
+#[derive(Clone, Copy, Drop)]
+pub enum ReadFrom {
+    /// From its first line.
+    Start,
+    /// From the header of the main node to which this link leads.
+    Header(Link),
+    /// From asking for the generation of its handle's root: the main node of this link is pending, with this header.
+    Asking(Link, Header),
+}
+
 /// What a pass of a READ comes to.
 #[derive(Clone, Copy, Drop)]
 pub enum Passed {
     /// It has given this.
     Gives(Given),
-    /// It goes on, from its first line, or from the header of the main node to which this link leads.
-    Again(Option<Link>),
+    /// It goes on from there.
+    Again(ReadFrom),
 }
 
 /// What tells the generation of a handle's root.
 pub trait AsksRoot {
-    /// The generation of the root of this handle, once no offer stands there; none where it has no root.
+    /// The generation of the root of this handle, once no offer stands there; none where it is still to be asked.
     fn ask(&self, words: &Words, actor: &mut Actor, handle: u16) -> Option<u64>
         requires table { actor.old.table_id ≡ words.now.table_id }
         requires sound { IsSound words.now.table_id.words actor.old.me.0 }
         requires asking { IsAsking actor.old.me.0 handle }
         ensures table { actor.new.table_id ≡ actor.old.table_id }
         ensures sound { IsSound words.now.table_id.words actor.new.me.0 }
-        ensures asked { HasAsked actor.old.me.0 result actor.new.me.0 };
+        ensures asked { HasAskedOrNot actor.old.me.0 result actor.new.me.0 };
 }
 
-/// The link of the indirection, read if it isn't yet.
-fn reach(words: &Words, actor: &mut Actor, indirection: u32, from: Option<Link>) -> Link
-    requires table { actor.old.table_id ≡ words.now.table_id }
-    requires sound { IsSound words.now.table_id.words actor.old.me.0 }
-    requires passing { IsPassing actor.old.me.0 indirection from }
-    ensures table { actor.new.table_id ≡ actor.old.table_id }
-    ensures sound { IsSound words.now.table_id.words actor.new.me.0 }
-    ensures reached { HasReached actor.old.me.0 result actor.new.me.0 }
-{
-    match from {
-        Some(link) => link,
-        None => read_link(words, actor, indirection),
-    }
-}
-
-/// Whether a main node that is pending in this indirection may be committed.
+/// Whether a main node that is pending in this indirection may be committed; none where that is still to be asked.
 fn is_licensed<A: AsksRoot>(
     asker: &A,
     words: &Words,
     actor: &mut Actor,
     way: Way,
     link: Link,
-) -> bool
+) -> Option<bool>
     requires table { actor.old.table_id ≡ words.now.table_id }
     requires sound { IsSound words.now.table_id.words actor.old.me.0 }
     requires way { IsOnWay actor.old.me.0 way }
     requires pending { (h : Header) × IsPending actor.old.me.0 way link h }
     ensures table { actor.new.table_id ≡ actor.old.table_id }
     ensures sound { IsSound words.now.table_id.words actor.new.me.0 }
-    ensures licensed { HasLicense actor.old.me.0 way link result actor.new.me.0 }
+    ensures licensed { HasLicenseOrNot actor.old.me.0 way link result actor.new.me.0 }
 {
     match way.access {
-        Access::Writable => asker.ask(words, actor, way.handle) == Some(link.generation),
-        Access::ReadOnly => false,
+        Access::Writable => match asker.ask(words, actor, way.handle) {
+            Some(generation) => Some(generation == link.generation),
+            None => None,
+        },
+        Access::ReadOnly => Some(false),
     }
 }
 
-/// Decides the main node that is pending in this indirection.
+/// Decides the main node that is pending in this indirection, by whether it is licensed.
+fn settle_by(words: &Words, actor: &mut Actor, link: Link, header: Header, licensed: bool) -> Passed
+    requires table { actor.old.table_id ≡ words.now.table_id }
+    requires sound { IsSound words.now.table_id.words actor.old.me.0 }
+    requires deciding { IsDeciding actor.old.me.0 link header licensed }
+    ensures table { actor.new.table_id ≡ actor.old.table_id }
+    ensures sound { IsSound words.now.table_id.words actor.new.me.0 }
+    ensures passed { HasPassed actor.old.me.0 result actor.new.me.0 }
+{
+    let stood = decide(words, actor, link.main.slot, header, licensed);
+    match (licensed, stood) {
+        (true, true) => Passed::Gives(Given {
+            link,
+            header: Header {
+                previous: Previous::None,
+                shape: header.shape,
+            },
+        }),
+        (true, false) => Passed::Again(ReadFrom::Header(link)),
+        (false, _) => Passed::Again(ReadFrom::Start),
+    }
+}
+
+/// Decides the main node that is pending in this indirection, once the root is asked.
+#[cold]
+#[inline(never)]
 fn settle<A: AsksRoot>(
     asker: &A,
     words: &Words,
@@ -104,22 +129,15 @@ fn settle<A: AsksRoot>(
     ensures sound { IsSound words.now.table_id.words actor.new.me.0 }
     ensures passed { HasPassed actor.old.me.0 result actor.new.me.0 }
 {
-    let licensed = is_licensed(asker, words, actor, way, link);
-    let stood = decide(words, actor, link.main.slot, header, licensed);
-    match (licensed, stood) {
-        (true, true) => Passed::Gives(Given {
-            link,
-            header: Header {
-                previous: Previous::None,
-                shape: header.shape,
-            },
-        }),
-        (true, false) => Passed::Again(Some(link)),
-        (false, _) => Passed::Again(None),
+    match is_licensed(asker, words, actor, way, link) {
+        Some(licensed) => settle_by(words, actor, link, header, licensed),
+        None => Passed::Again(ReadFrom::Asking(link, header)),
     }
 }
 
 /// Puts the main node of this name back in the place of the one that failed.
+#[cold]
+#[inline(never)]
 fn put_back(words: &Words, actor: &mut Actor, indirection: u32, link: Link, former: Name) -> Passed
     requires table { actor.old.table_id ≡ words.now.table_id }
     requires sound { IsSound words.now.table_id.words actor.old.me.0 }
@@ -138,18 +156,45 @@ fn put_back(words: &Words, actor: &mut Actor, indirection: u32, link: Link, form
             header,
         })
     } else {
-        Passed::Again(None)
+        Passed::Again(ReadFrom::Start)
+    }
+}
+
+/// The rest of a pass, from the header of the main node to which this link of the indirection leads.
+#[inline(always)]
+fn pass_header<A: AsksRoot>(
+    asker: &A,
+    words: &Words,
+    actor: &mut Actor,
+    way: Way,
+    indirection: u32,
+    link: Link,
+) -> Passed
+    requires table { actor.old.table_id ≡ words.now.table_id }
+    requires sound { IsSound words.now.table_id.words actor.old.me.0 }
+    requires way { IsOnWay actor.old.me.0 way }
+    requires passing { IsPassing actor.old.me.0 indirection (resume.Header link) }
+    ensures table { actor.new.table_id ≡ actor.old.table_id }
+    ensures sound { IsSound words.now.table_id.words actor.new.me.0 }
+    ensures passed { HasPassed actor.old.me.0 result actor.new.me.0 }
+{
+    let header = read_header(words, actor, link.main.slot);
+    match header.previous {
+        Previous::None => Passed::Gives(Given { link, header }),
+        Previous::Failed(former) => put_back(words, actor, indirection, link, former),
+        Previous::Pending(_) => settle(asker, words, actor, way, link, header),
     }
 }
 
 /// A pass of the READ of the indirection in this slot.
+#[inline(always)]
 fn pass<A: AsksRoot>(
     asker: &A,
     words: &Words,
     actor: &mut Actor,
     way: Way,
     indirection: u32,
-    from: Option<Link>,
+    from: ReadFrom,
 ) -> Passed
     requires table { actor.old.table_id ≡ words.now.table_id }
     requires sound { IsSound words.now.table_id.words actor.old.me.0 }
@@ -159,25 +204,28 @@ fn pass<A: AsksRoot>(
     ensures sound { IsSound words.now.table_id.words actor.new.me.0 }
     ensures passed { HasPassed actor.old.me.0 result actor.new.me.0 }
 {
-    let link = reach(words, actor, indirection, from);
-    let header = read_header(words, actor, link.main.slot);
-    match header.previous {
-        Previous::None => Passed::Gives(Given { link, header }),
-        Previous::Failed(former) => put_back(words, actor, indirection, link, former),
-        Previous::Pending(_) => settle(asker, words, actor, way, link, header),
+    match from {
+        ReadFrom::Start => {
+            let link = read_link(words, actor, indirection);
+            pass_header(asker, words, actor, way, indirection, link)
+        }
+        ReadFrom::Header(link) => pass_header(asker, words, actor, way, indirection, link),
+        ReadFrom::Asking(link, header) => settle(asker, words, actor, way, link, header),
     }
 }
 
 /// The READ of the indirection in this slot, of which so many passes are made at most. Where it gives nothing it goes on from what
 /// is returned.
+#[cold]
+#[inline(never)]
 pub fn read_within<A: AsksRoot>(
     asker: &A,
     words: &Words,
     actor: &mut Actor,
     way: Way,
     indirection: u32,
-    from: Option<Link>,
-    passes: u32,
+    from: ReadFrom,
+    passes: u64,
 ) -> Passed
     requires table { actor.old.table_id ≡ words.now.table_id }
     requires sound { IsSound words.now.table_id.words actor.old.me.0 }
@@ -197,30 +245,90 @@ pub fn read_within<A: AsksRoot>(
     Passed::Again(next)
 }
 
-/// The READ of the indirection in this slot.
-pub fn read<R: Wait, A: AsksRoot>(
-    rt: &R,
+/// What this pass of a READ, or further ones, come to: the link of the decided main node, or none after so many more.
+#[cold]
+#[inline(never)]
+fn link_after<A: AsksRoot>(
     asker: &A,
     words: &Words,
     actor: &mut Actor,
     way: Way,
     indirection: u32,
-    from: Option<Link>,
-) -> Given
+    passed: Passed,
+    passes: u64,
+) -> Option<Link>
+    requires table { actor.old.table_id ≡ words.now.table_id }
+    requires sound { IsSound words.now.table_id.words actor.old.me.0 }
+    requires next { CanGoOn actor.old.me.0 way indirection passed }
+    ensures table { actor.new.table_id ≡ actor.old.table_id }
+    ensures sound { IsSound words.now.table_id.words actor.new.me.0 }
+    ensures link { HasLinkAfter actor.old.me.0 passed result actor.new.me.0 }
+{
+    match passed {
+        Passed::Gives(given) => Some(given.link),
+        Passed::Again(from) => {
+            match read_within(asker, words, actor, way, indirection, from, passes) {
+                Passed::Gives(given) => Some(given.link),
+                Passed::Again(_) => None,
+            }
+        }
+    }
+}
+
+/// A READ from its first line on, where one look at the main node is mostly enough: the link of the decided main node, or none where it gives
+/// nothing in so many further passes.
+#[inline(always)]
+pub fn read_link_within<A: AsksRoot>(
+    asker: &A,
+    words: &Words,
+    actor: &mut Actor,
+    way: Way,
+    indirection: u32,
+    passes: u64,
+) -> Option<Link>
     requires table { actor.old.table_id ≡ words.now.table_id }
     requires sound { IsSound words.now.table_id.words actor.old.me.0 }
     requires way { IsOnWay actor.old.me.0 way }
-    requires passing { IsPassing actor.old.me.0 indirection from }
+    requires passing { IsPassing actor.old.me.0 indirection resume.Start }
     ensures table { actor.new.table_id ≡ actor.old.table_id }
     ensures sound { IsSound words.now.table_id.words actor.new.me.0 }
-    ensures given { HasPassed actor.old.me.0 (passed.Gives result) actor.new.me.0 }
+    ensures link { HasReadTo actor.old.me.0 result actor.new.me.0 }
 {
-    let mut next = from;
-    for _ in rt.forever() {
-        match pass(asker, words, actor, way, indirection, next) {
-            Passed::Gives(given) => return given,
-            Passed::Again(from) => next = from,
+    let link = read_link(words, actor, indirection);
+    let header = read_header(words, actor, link.main.slot);
+    match header.previous {
+        Previous::None => Some(link),
+        Previous::Failed(former) => {
+            let passed = put_back(words, actor, indirection, link, former);
+            link_after(asker, words, actor, way, indirection, passed, passes)
+        }
+        Previous::Pending(_) => {
+            let passed = settle(asker, words, actor, way, link, header);
+            link_after(asker, words, actor, way, indirection, passed, passes)
         }
     }
-    unreachable!()
+}
+
+/// The same from its first line on, where one pass is mostly enough.
+#[inline(always)]
+pub fn read_afresh<A: AsksRoot>(
+    asker: &A,
+    words: &Words,
+    actor: &mut Actor,
+    way: Way,
+    indirection: u32,
+    passes: u64,
+) -> Passed
+    requires table { actor.old.table_id ≡ words.now.table_id }
+    requires sound { IsSound words.now.table_id.words actor.old.me.0 }
+    requires way { IsOnWay actor.old.me.0 way }
+    requires passing { IsPassing actor.old.me.0 indirection resume.Start }
+    ensures table { actor.new.table_id ≡ actor.old.table_id }
+    ensures sound { IsSound words.now.table_id.words actor.new.me.0 }
+    ensures passed { HasPassed actor.old.me.0 result actor.new.me.0 }
+{
+    match pass(asker, words, actor, way, indirection, ReadFrom::Start) {
+        Passed::Gives(given) => Passed::Gives(given),
+        Passed::Again(from) => read_within(asker, words, actor, way, indirection, from, passes),
+    }
 }

@@ -1,19 +1,20 @@
 //! RENEW: a branch gets indirections of the root's generation in the place of older ones.
 
-ghost use Rattle.std.specs.Prelude.{◌≡◌, ◌<◌, ◌^◌};
+ghost use Rattle.std.specs.Prelude.{◌≡◌, ◌<◌, ◌^◌, IfErr, IfOk};
+ghost use Rattle.lock_free.specs.Leaving.{IsRepair, LeavesSwap};
 ghost use Rattle.lock_free.specs.Loading.{IsSound};
 ghost use Rattle.lock_free.specs.Passing.{IsOnWay};
-ghost use Rattle.lock_free.specs.Repairing.{HasLookedOld, HasRenewed, HasRenewedAll, HasRenewedBranch, HasStart, IsAtRenew, IsAtRenewed, IsRenewing};
+ghost use Rattle.lock_free.specs.Repairing.{HasLookedOld, HasRenewed, HasRenewedAll, HasRenewedBranch, HasStart, IsAtRenew, IsAtRenewed, IsRenewing, renewed_by};
 ghost use Rattle.lock_free.specs.Stocks.{IsStock};
 
 use crate::entries::see_entries;
+use crate::leaving::{Swapping, read_on};
 use crate::loads::{Actor, Words, look_at_key, look_at_link};
 use crate::makes::{make_branch, make_link};
-use crate::reading::{AsksRoot, Way, read};
+use crate::reading::{Passed, ReadFrom, Way};
 use crate::stock::Stock;
-use crate::swapping::{Swapped, swap_made};
+use crate::swapping::{Swapped, swap_made_within};
 use arrayvec::ArrayVec;
-use std::sync::Wait;
 use trie_words::{Entry, Link, Name, Previous};
 
 /// What a RENEW comes to.
@@ -47,10 +48,9 @@ fn keeps(words: &Words, actor: &mut Actor, start: u64, entry: Entry) -> bool
 }
 
 /// What comes to the place of this entry, which is next: itself, or a new indirection, of the generation in which the operation began its
-/// try, over the main node of an older one. None where no slot is had.
-fn renew_entry<R: Wait, A: AsksRoot>(
-    rt: &R,
-    asker: &A,
+/// try, over the main node of an older one. None where no slot is had, or it is out of tries.
+fn renew_entry_within(
+    tries: u64,
     words: &Words,
     actor: &mut Actor,
     stock: &mut Stock,
@@ -73,12 +73,15 @@ fn renew_entry<R: Wait, A: AsksRoot>(
     if keeps(words, actor, start, entry) {
         return Some(entry);
     }
-    let below = read(rt, asker, words, actor, way, entry.slot, None);
+    let below = match read_on(tries, words, actor, way, entry.slot, ReadFrom::Start) {
+        Passed::Gives(below) => below,
+        Passed::Again(_) => return None,
+    };
     let main = Name {
         slot: below.link.main.slot,
         own: false,
     };
-    match make_link(rt, words, actor, stock, start, main) {
+    match make_link(tries, words, actor, stock, start, main) {
         Some(slot) => Some(Entry {
             slot,
             own: false,
@@ -88,10 +91,9 @@ fn renew_entry<R: Wait, A: AsksRoot>(
     }
 }
 
-/// What comes to the places of these entries of the branch that is renewed. None where no slot is had.
-fn renew_entries<R: Wait, A: AsksRoot>(
-    rt: &R,
-    asker: &A,
+/// What comes to the places of these entries of the branch that is renewed. None where no slot is had, or it is out of tries.
+fn renew_entries_within(
+    tries: u64,
     words: &Words,
     actor: &mut Actor,
     stock: &mut Stock,
@@ -113,7 +115,7 @@ fn renew_entries<R: Wait, A: AsksRoot>(
 {
     let mut renewed = ArrayVec::new();
     for n in 0..entries.len() {
-        match renew_entry(rt, asker, words, actor, stock, way, start, entries[n]) {
+        match renew_entry_within(tries, words, actor, stock, way, start, entries[n]) {
             Some(entry) => renewed.push(entry),
             None => return None,
         }
@@ -121,10 +123,21 @@ fn renew_entries<R: Wait, A: AsksRoot>(
     Some(renewed)
 }
 
-/// RENEW of the branch with this bitmap to which this link of the indirection leads.
-pub fn renew<R: Wait, A: AsksRoot>(
-    rt: &R,
-    asker: &A,
+/// What a RENEW comes to whose SWAP came to this.
+fn renewed_by(swapped: Swapped) -> Renewed
+    ensures { result ≡ renewed_by swapped }
+{
+    match swapped {
+        Swapped::Commits => Renewed::Reads,
+        Swapped::Fails => Renewed::Again,
+        Swapped::Misses => Renewed::Again,
+    }
+}
+
+/// RENEW of the branch with this bitmap to which this link of the indirection leads, within so many tries. Out of tries it is as where no
+/// slot is had, or its SWAP is under way and is returned.
+pub fn renew_within(
+    tries: u64,
     words: &Words,
     actor: &mut Actor,
     stock: &mut Stock,
@@ -133,7 +146,7 @@ pub fn renew<R: Wait, A: AsksRoot>(
     indirection: u32,
     link: Link,
     bitmap: u32,
-) -> Renewed
+) -> Result<Renewed, Swapping>
     requires table { actor.old.table_id ≡ words.now.table_id }
     requires sound { IsSound words.now.table_id.words actor.old.me.0 }
     requires stock { IsStock stock.old actor.old.me.0 }
@@ -144,30 +157,21 @@ pub fn renew<R: Wait, A: AsksRoot>(
     ensures table { actor.new.table_id ≡ actor.old.table_id }
     ensures sound { IsSound words.now.table_id.words actor.new.me.0 }
     ensures stock { IsStock stock.new actor.new.me.0 }
-    ensures renewed { HasRenewedBranch actor.old.me.0 result actor.new.me.0 }
+    ensures renewed { IfOk result (λ renewed. HasRenewedBranch actor.old.me.0 renewed actor.new.me.0) }
+    ensures left { IfErr result (λ left. LeavesSwap IsRepair actor.old.me.0 left actor.new.me.0) }
 {
     let count = bitmap.count_ones() as usize;
     let entries = see_entries(words, actor, link.main.slot, count, link.main.own);
-    let Some(renewed) = renew_entries(rt, asker, words, actor, stock, way, start, &entries) else {
-        return Renewed::Full;
+    let Some(renewed) = renew_entries_within(tries, words, actor, stock, way, start, &entries)
+    else {
+        return Ok(Renewed::Full);
     };
     let over = Previous::Pending(link.main);
-    let Some(fresh) = make_branch(rt, words, actor, stock, bitmap, &renewed, over) else {
-        return Renewed::Full;
+    let Some(fresh) = make_branch(tries, words, actor, stock, bitmap, &renewed, over) else {
+        return Ok(Renewed::Full);
     };
-    match swap_made(
-        rt,
-        asker,
-        words,
-        actor,
-        stock,
-        way,
-        indirection,
-        link,
-        fresh,
-    ) {
-        Swapped::Commits => Renewed::Reads,
-        Swapped::Fails => Renewed::Again,
-        Swapped::Misses => Renewed::Again,
+    match swap_made_within(tries, words, actor, stock, way, indirection, link, fresh) {
+        Ok(swapped) => Ok(renewed_by(swapped)),
+        Err(swapping) => Err(swapping),
     }
 }

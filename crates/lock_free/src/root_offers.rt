@@ -7,14 +7,13 @@ ghost use Rattle.machine_model.specs.declared.roots.Descriptor.{Descriptor};
 ghost use Rattle.machine_model.specs.Calls.{handle_of};
 ghost use Rattle.lock_free.specs.HandleWords.{TellsRoot};
 ghost use Rattle.lock_free.specs.Loading.{IsAt, IsSound};
-ghost use Rattle.lock_free.specs.RootOffers.{HasMadeWay, HasOfferedOrMissed, HasProposed, HasYielded, IsToOffer, MeetsOffer, proposed_by};
+ghost use Rattle.lock_free.specs.RootOffers.{HasMadeWay, HasOfferedWithin, HasProposed, HasYielded, IsToOffer, MeetsOffer, proposed_by};
 
 use crate::handles::{root_word_of, unmark};
 use crate::loads::{Actor, Words};
 use crate::offers::{Fate, fate_of};
 use crate::rooting::clean_settled;
 use crate::rules::{Proposes, Yields};
-use std::sync::Wait;
 use trie_words::RootWord;
 
 /// What came of an exchange that was to bring an offer to stand.
@@ -96,33 +95,34 @@ fn make_way(words: &Words, actor: &mut Actor, handle: u16, found: RootWord) -> b
 }
 
 /// Brings the offer in this slot to stand in the word of the handle, unless another root than the one in its slot stands there, or
-/// another offer: then all that was made for it is given up. Returns whether it stands.
-pub fn offer<R: Wait>(
-    rt: &R,
+/// another offer: then all that was made for it is given up. Returns whether it stands; or none where it is
+/// out of tries, and all is as it was.
+pub fn offer_within(
+    tries: u64,
     words: &Words,
     actor: &mut Actor,
     handle: u16,
     root: u32,
     slot: u32,
-) -> bool
+) -> Option<bool>
     requires table { actor.old.table_id ≡ words.now.table_id }
     requires sound { IsSound words.now.table_id.words actor.old.me.0 }
     requires low { handle < 256 }
     requires offering { IsToOffer actor.old.me.0 handle root slot }
     ensures table { actor.new.table_id ≡ actor.old.table_id }
     ensures sound { IsSound words.now.table_id.words actor.new.me.0 }
-    ensures offered { HasOfferedOrMissed actor.old.me.0 slot result actor.new.me.0 }
+    ensures offered { HasOfferedWithin actor.old.me.0 slot result actor.new.me.0 }
 {
-    for _ in rt.forever() {
+    for _ in 0..tries {
         match propose(words, actor, handle, root, slot) {
-            Proposed::Stands => return true,
-            Proposed::Misses => return false,
+            Proposed::Stands => return Some(true),
+            Proposed::Misses => return Some(false),
             Proposed::Meets(found) => {
                 if make_way(words, actor, handle, found) {
-                    return false;
+                    return Some(false);
                 }
             }
         }
     }
-    unreachable!()
+    None
 }

@@ -1,8 +1,9 @@
 //! ROOT: the root of a handle, once no offer stands there.
 
-ghost use Rattle.std.specs.Prelude.{◌≡◌, ◌<◌, ◌^◌};
+ghost use Rattle.std.specs.Prelude.{◌≡◌, ◌<◌, ◌^◌, IfErr, IfOk, OnOk};
 ghost use Rattle.lock_free.specs.Entries.{HasStayed};
 ghost use Rattle.lock_free.specs.HandleWords.{HasOffer};
+ghost use Rattle.lock_free.specs.Leaving.{HasCompletedOn, HasLeftOff, IsCompleteOf};
 ghost use Rattle.lock_free.specs.Loading.{IsSound, Saw};
 ghost use Rattle.lock_free.specs.Passing.{IsOnWay};
 ghost use Rattle.lock_free.specs.RootWords.{IsOpenedBy, IsToOpen};
@@ -10,10 +11,10 @@ ghost use Rattle.lock_free.specs.Rooting.{HasHelped, HasRooted, IsAtRoot, IsComp
 
 use crate::asking::{Named, ask_word, see_generation};
 use crate::handles::{clean, open_number};
+use crate::leaving::{Completing, Left, read_on};
 use crate::loads::{Actor, Words};
 use crate::offers::{Fate, complete, meet_offer, see_fate, see_news, see_olds};
-use crate::reading::{AsksRoot, Way, read};
-use std::sync::Wait;
+use crate::reading::{Passed, ReadFrom, Way};
 use trie_words::RootWord;
 
 /// The root that a ROOT gives.
@@ -91,38 +92,67 @@ pub fn open_if_carried_out(
     }
 }
 
-/// COMPLETE: settles the offer in this slot, unless another does. Returns whether it is carried out by now.
-pub fn complete_offer<R: Wait, A: AsksRoot>(
-    rt: &R,
-    asker: &A,
+/// COMPLETE of an offer, from its READ on, within so many tries. Returns whether the offer is carried out by now; or from where it goes
+/// on.
+pub fn complete_on(
+    tries: u64,
+    words: &Words,
+    actor: &mut Actor,
+    way: Way,
+    completing: Completing,
+) -> Result<bool, Completing>
+    requires table { actor.old.table_id ≡ words.now.table_id }
+    requires sound { IsSound words.now.table_id.words actor.old.me.0 }
+    requires way { IsOnWay actor.old.me.0 way }
+    requires completing { IsCompleteOf actor.old.me.0 way.handle completing }
+    ensures table { actor.new.table_id ≡ actor.old.table_id }
+    ensures sound { IsSound words.now.table_id.words actor.new.me.0 }
+    ensures helped { IfOk result (λ carried. HasHelped actor.old.me.0 carried actor.new.me.0) }
+    ensures on { IfErr result (λ next. HasCompletedOn actor.old.me.0 way.handle completing.offer next actor.new.me.0) }
+{
+    match read_on(tries, words, actor, way, completing.root, completing.from) {
+        Passed::Again(from) => Err(Completing { from, ..completing }),
+        Passed::Gives(given) => {
+            let expected = see_olds(words, actor, completing.offer).high;
+            let is_expected = given.link.main.slot == expected;
+            Ok(complete(words, actor, completing.offer, is_expected))
+        }
+    }
+}
+
+/// COMPLETE of the offer in this slot, within so many tries.
+pub fn complete_within(
+    tries: u64,
     words: &Words,
     actor: &mut Actor,
     way: Way,
     offer: u32,
-) -> bool
+) -> Result<bool, Completing>
     requires table { actor.old.table_id ≡ words.now.table_id }
     requires sound { IsSound words.now.table_id.words actor.old.me.0 }
     requires way { IsOnWay actor.old.me.0 way }
     requires completing { IsCompleting actor.old.me.0 way.handle offer }
     ensures table { actor.new.table_id ≡ actor.old.table_id }
     ensures sound { IsSound words.now.table_id.words actor.new.me.0 }
-    ensures helped { HasHelped actor.old.me.0 result actor.new.me.0 }
+    ensures helped { IfOk result (λ carried. HasHelped actor.old.me.0 carried actor.new.me.0) }
+    ensures on { IfErr result (λ next. HasCompletedOn actor.old.me.0 way.handle offer next actor.new.me.0) }
 {
     let root = see_olds(words, actor, offer).low;
-    let given = read(rt, asker, words, actor, way, root, None);
-    let expected = see_olds(words, actor, offer).high;
-    complete(words, actor, offer, given.link.main.slot == expected)
+    let from = ReadFrom::Start;
+    complete_on(tries, words, actor, way, Completing { offer, root, from })
 }
 
-/// Brings the offer in this slot to its end, if it stands still, and takes it out of the word of the handle, if it is settled.
-fn help<R: Wait, A: AsksRoot>(
-    rt: &R,
-    asker: &A,
+/// Brings the offer in this slot to its end within so many tries, if it stands still, and takes it out of the word of the handle, if it
+/// is settled.
+#[cold]
+#[inline(never)]
+fn help_within(
+    tries: u64,
     words: &Words,
     actor: &mut Actor,
     way: Way,
     offer: u32,
-)
+) -> Result<(), Left>
     requires table { actor.old.table_id ≡ words.now.table_id }
     requires sound { IsSound words.now.table_id.words actor.old.me.0 }
     requires way { IsOnWay actor.old.me.0 way }
@@ -130,43 +160,46 @@ fn help<R: Wait, A: AsksRoot>(
     requires known { HasOffer actor.old.me.0.sizes actor.old.me.0.account way.handle offer }
     ensures table { actor.new.table_id ≡ actor.old.table_id }
     ensures sound { IsSound words.now.table_id.words actor.new.me.0 }
-    ensures stays { HasStayed actor.old.me.0 actor.new.me.0 }
+    ensures stays { OnOk result (HasStayed actor.old.me.0 actor.new.me.0) }
+    ensures left { IfErr result (λ left. HasLeftOff actor.old.me.0 left actor.new.me.0) }
 {
-    match meet_offer(words, actor, way.handle, offer) {
-        Fate::Undecided => {
-            complete_offer(rt, asker, words, actor, way, offer);
-        }
-        Fate::CarriedOut => clean_settled(words, actor, way.handle, offer, true),
-        Fate::TakenBack => clean_settled(words, actor, way.handle, offer, false),
+    let handle = way.handle;
+    match meet_offer(words, actor, handle, offer) {
+        Fate::Undecided => match complete_within(tries, words, actor, way, offer) {
+            Ok(_) => {}
+            Err(_) => return Err(Left::MayGiveUp),
+        },
+        Fate::CarriedOut => clean_settled(words, actor, handle, offer, true),
+        Fate::TakenBack => clean_settled(words, actor, handle, offer, false),
     }
+    Ok(())
 }
 
-/// ROOT: the root of the handle, once no offer stands there.
-pub fn root<R: Wait, A: AsksRoot>(
-    rt: &R,
-    asker: &A,
-    words: &Words,
-    actor: &mut Actor,
-    way: Way,
-) -> Rooted
+/// ROOT within so many tries: else the operation may give up.
+#[inline(always)]
+pub fn root_within(tries: u64, words: &Words, actor: &mut Actor, way: Way) -> Result<Rooted, Left>
     requires table { actor.old.table_id ≡ words.now.table_id }
     requires sound { IsSound words.now.table_id.words actor.old.me.0 }
     requires way { IsOnWay actor.old.me.0 way }
     requires at { IsAtRoot actor.old.me.0 }
     ensures table { actor.new.table_id ≡ actor.old.table_id }
     ensures sound { IsSound words.now.table_id.words actor.new.me.0 }
-    ensures rooted { HasRooted actor.old.me.0 result actor.new.me.0 }
-    ensures small { result.generation < 2 ^ 36 }
+    ensures rooted { IfOk result (λ rooted. HasRooted actor.old.me.0 rooted actor.new.me.0) }
+    ensures small { IfOk result (λ rooted. rooted.generation < 2 ^ 36) }
+    ensures left { IfErr result (λ left. HasLeftOff actor.old.me.0 left actor.new.me.0) }
 {
-    for _ in rt.forever() {
+    for _ in 0..tries {
         match ask_word(words, actor, way.handle) {
             Named::Root(slot) => {
                 let generation = see_generation(words, actor, slot);
-                return Rooted { slot, generation };
+                return Ok(Rooted { slot, generation });
             }
-            Named::Offer(offer) => help(rt, asker, words, actor, way, offer),
+            Named::Offer(offer) => match help_within(tries, words, actor, way, offer) {
+                Ok(()) => {}
+                Err(left) => return Err(left),
+            },
             Named::Nothing => {}
         }
     }
-    unreachable!()
+    Err(Left::MayGiveUp)
 }

@@ -3,12 +3,14 @@
 ghost use Rattle.lock_free.specs.declared.rules.View.{View};
 ghost use Rattle.lock_free.specs.Rules.{IsRuled, first_view};
 ghost use Rattle.lock_free.specs.Loading.{has_seen, has_gone};
-ghost use Rattle.lock_free.specs.Calling.{has_given_up, has_started};
+ghost use Rattle.lock_free.specs.Calling.{has_cut_short, has_given_up, has_started};
+ghost use Rattle.lock_free.specs.Epochs.{has_advanced, has_checked, has_seen_epoch};
 ghost use Rattle.lock_free.specs.Exchanging.{has_published};
 ghost use Rattle.lock_free.specs.Finishing.{has_emptied, hearing, no_view};
 ghost use Rattle.lock_free.specs.HandleWords.{has_closed, has_marked, has_unmarked};
 ghost use Rattle.lock_free.specs.Numbers.{has_given_back, has_named, has_reserved};
 ghost use Rattle.lock_free.specs.OfferWords.{has_completed};
+ghost use Rattle.lock_free.specs.Reclaiming.{has_reclaimed};
 ghost use Rattle.lock_free.specs.RootOffers.{has_proposed, has_yielded};
 ghost use Rattle.lock_free.specs.RootWords.{has_asked, has_cleaned, has_met};
 ghost use Rattle.lock_free.specs.SeatWords.{has_ended, has_passed, has_pinned, has_unpinned};
@@ -45,6 +47,23 @@ pub struct Heard {
     pub account: Account,
 }
 
+/// What the word of a pinned seat says, and what the epoch was, and what had happened, when it pinned itself. No value of it is made.
+pub struct Pinned {
+    pub pin: Pin,
+    pub since: u64,
+    pub account: Account,
+}
+
+/// A slot of this class that a seat has retired, since no root leads to its node any more: the node's number, what the epoch was
+/// when the seat looked at it, and what had happened then. No value of it is made.
+pub struct Retired {
+    pub class: u8,
+    pub name: u32,
+    pub number: u64,
+    pub stamp: u64,
+    pub account: Account,
+}
+
 /// What a seat knows. No value of it is made.
 pub struct View {
     /// How many of everything there are.
@@ -56,13 +75,17 @@ pub struct View {
     /// What had happened at its last access.
     pub account: Account,
     /// What its own word says.
-    pub pin: Option<Pin>,
+    pub pin: Option<Pinned>,
     /// The call for which it has pinned itself last.
     pub asks: Option<Call>,
     /// The handle that it has found open since it pinned itself to it: so nobody closes it.
     pub entered: Option<u16>,
     /// The handles that it has marked, since it would close them, the latest first.
     pub closing: LinkedList<Closing>,
+    /// What the epoch was when it looked at it last.
+    pub epoch: u64,
+    /// So many seats it has found since in no call that was begun before that epoch.
+    pub passed: u8,
     /// The number that it has reserved.
     pub opens: Option<u16>,
     /// The slot of the offer that it writes, which the word of that number names already.
@@ -71,6 +94,8 @@ pub struct View {
     pub pool: Pool,
     /// What it has written in these: the number of a word, and what it has.
     pub drafts: LinkedList<(u64, u64)>,
+    /// The slots that it has retired, and that aren't free again yet.
+    pub retired: LinkedList<Retired>,
     /// The seats of which it has heard.
     pub heard: LinkedList<Heard>,
 }
@@ -182,6 +207,34 @@ impl Play<Call, View> for Unpins {
     ghost then = { has_unpinned };
 }
 
+/// The epoch is looked at.
+pub struct SeesEpoch;
+
+impl Play<Call, View> for SeesEpoch {
+    ghost then = { has_seen_epoch };
+}
+
+/// A seat that would let the epoch grow looks at the next seat's pin.
+pub struct Checks;
+
+impl Play<Call, View> for Checks {
+    ghost then = { has_checked };
+}
+
+/// The epoch grows, or doesn't.
+pub struct Advances;
+
+impl Play<Call, View> for Advances {
+    ghost then = { has_advanced };
+}
+
+/// A seat's oldest retired slot is free for it again, or isn't.
+pub struct Reclaims;
+
+impl Play<Call, View> for Reclaims {
+    ghost then = { has_reclaimed };
+}
+
 /// The operation begins for which a seat has pinned itself, if its handle is open for it.
 pub struct Starts;
 
@@ -250,6 +303,13 @@ pub struct Abandons;
 
 impl Play<Call, View> for Abandons {
     ghost then = { has_given_up };
+}
+
+/// An operation gives up, unless it is to end or may not.
+pub struct CutsShort;
+
+impl Play<Call, View> for CutsShort {
+    ghost then = { has_cut_short };
 }
 
 /// A word of a free slot is written.

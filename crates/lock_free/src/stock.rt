@@ -11,7 +11,6 @@ use crate::sizes::Sizes;
 use crate::stores::{Tried, try_take};
 use arrayvec::ArrayVec;
 use std::marker::Model;
-use std::sync::Wait;
 
 /// So many slots of a class are kept at most, with those of all nodes that were made. One try of an operation makes 33 at most.
 const MOST_KEPT: usize = 128;
@@ -55,6 +54,7 @@ impl Free {
     }
 
     /// The last one of this class.
+    #[inline(always)]
     fn last(&self, class: u32) -> Option<u32>
         ensures { IsLast (pool_of self.now class) result }
     {
@@ -66,6 +66,7 @@ impl Free {
     }
 
     /// How many there are of the class that has most.
+    #[inline(always)]
     fn most(&self) -> usize
         ensures most { (class : ℕ) → length (pool_of self.now class) ≤ result }
         ensures fits { result ≤ 128 }
@@ -74,6 +75,7 @@ impl Free {
     }
 
     /// One slot more, the next one of its class.
+    #[inline(always)]
     fn add(&mut self, class: u32, slot: u32)
         requires { length (pool_of self.old class) < 128 }
         ensures { self.new ≡ with_slot self.old class slot }
@@ -86,6 +88,7 @@ impl Free {
     }
 
     /// The last one of this class isn't free any more.
+    #[inline(always)]
     fn pop(&mut self, class: u32) -> Option<u32>
         ensures { IsPopped self.old class result self.new }
     {
@@ -104,6 +107,8 @@ pub struct Stock {
     free: Free,
     /// What its operation has made, in order.
     made: ArrayVec<OwnNode, 128>,
+    /// Whether its call has found no slot.
+    lacks: bool,
 }
 
 impl Model for Stock {
@@ -129,7 +134,27 @@ impl Stock {
             sizes,
             free: Free::new(),
             made: ArrayVec::new(),
+            lacks: false,
         }
+    }
+
+    /// A call begins, which has found no lack of slots yet.
+    pub fn begin(&mut self)
+        ensures { self.new ≡ self.old }
+    {
+        self.lacks = false;
+    }
+
+    /// Its call has found no slot.
+    fn lack(&mut self)
+        ensures { self.new ≡ self.old }
+    {
+        self.lacks = true;
+    }
+
+    /// Whether its call has found no slot.
+    pub fn lacks(&self) -> bool {
+        self.lacks
     }
 
     /// How many of everything its seat's map has.
@@ -147,6 +172,7 @@ impl Stock {
     }
 
     /// Whether two slots more can be kept.
+    #[inline(always)]
     fn has_room(&self) -> bool
         ensures { IsTrue result → HasRoom self.now 2 }
     {
@@ -164,6 +190,7 @@ impl Stock {
     }
 
     /// A node was made in the last free slot of this class.
+    #[inline(always)]
     pub fn note(&mut self, class: u32)
         requires room { HasRoom self.old 1 }
         ensures sizes { self.new.sizes ≡ self.old.sizes }
@@ -197,9 +224,10 @@ impl Stock {
     }
 }
 
-/// A slot of this class for the next node: the last of those that are free then. None where all were handed out.
-pub fn take<R: Wait>(
-    rt: &R,
+/// A slot of this class for the next node: the last of those that are free then. None where all were handed out, or others took each one
+/// first at so many tries.
+pub fn take(
+    tries: u64,
     words: &Words,
     actor: &mut Actor,
     stock: &mut Stock,
@@ -216,20 +244,24 @@ pub fn take<R: Wait>(
     ensures slot { HasSlotOrNone actor.old.me.0 class result actor.new.me.0 }
 {
     if !stock.has_room() {
+        stock.lack();
         return None;
     }
     if let Some(slot) = stock.last(class) {
         return Some(slot);
     }
-    for _ in rt.forever() {
+    for _ in 0..tries {
         match try_take(words, actor, &stock.sizes, class) {
             Tried::Slot(slot) => {
                 stock.add(class, slot);
                 return Some(slot);
             }
-            Tried::Full => return None,
+            Tried::Full => {
+                stock.lack();
+                return None;
+            }
             Tried::Lost => {}
         }
     }
-    unreachable!()
+    None
 }

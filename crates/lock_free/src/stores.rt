@@ -53,6 +53,7 @@ pub fn try_take(words: &Words, actor: &mut Actor, sizes: &Sizes, class: u32) -> 
 }
 
 /// Writes a word of a slot that is free for the seat.
+#[inline(always)]
 pub fn draft(words: &Words, actor: &mut Actor, word: usize, value: u64)
     requires table { actor.old.table_id ≡ words.now.table_id }
     requires sound { IsSound words.now.table_id.words actor.old.me.0 }
@@ -65,6 +66,7 @@ pub fn draft(words: &Words, actor: &mut Actor, word: usize, value: u64)
 }
 
 /// Makes the node that the seat has written in the last of its free slots, by writing the word of it that is left.
+#[inline(always)]
 pub fn make(words: &Words, actor: &mut Actor, word: usize, value: u64)
     requires table { actor.old.table_id ≡ words.now.table_id }
     requires sound { IsSound words.now.table_id.words actor.old.me.0 }

@@ -1,16 +1,17 @@
 //! SWAP: a fresh main node in the place of another.
 
-ghost use Rattle.std.specs.Prelude.{◌≡◌};
+ghost use Rattle.std.specs.Prelude.{◌≡◌, [], IfErr, IfOk};
+ghost use Rattle.lock_free.specs.Leaving.{HasDecidedSwap, HasLeftSwap, HasSwappedOn, IsSwapLeft};
 ghost use Rattle.lock_free.specs.Loading.{IsSound};
 ghost use Rattle.lock_free.specs.Passing.{IsOnWay};
-ghost use Rattle.lock_free.specs.Swaps.{HasSwapDone, IsAtSwap};
-ghost use Rattle.lock_free.specs.Stocks.{IsStock, HasSwapped};
+ghost use Rattle.lock_free.specs.Swaps.{HasSwapDone, IsAtSwap, swapped_by};
+ghost use Rattle.lock_free.specs.Stocks.{IsStock, HasSwapped, settled_pool};
 
 use crate::exchanges::publish;
+use crate::leaving::{Swapping, read_on};
 use crate::loads::{Actor, Words, read_header};
-use crate::reading::{AsksRoot, Way, read};
+use crate::reading::{Passed, ReadFrom, Way};
 use crate::stock::Stock;
-use std::sync::Wait;
 use trie_words::{Link, Name, Previous};
 
 /// What a SWAP comes to.
@@ -24,47 +25,108 @@ pub enum Swapped {
     Misses,
 }
 
-/// The SWAP of the fresh main node in this slot for the one to which this link of the indirection leads.
-pub fn swap<R: Wait, A: AsksRoot>(
-    rt: &R,
-    asker: &A,
+/// The SWAP that is under way, on to its end within so many tries. Returns whether its fresh main node was committed; or from where it
+/// goes on.
+pub fn swap_on(
+    tries: u64,
+    words: &Words,
+    actor: &mut Actor,
+    way: Way,
+    swapping: Swapping,
+) -> Result<bool, Swapping>
+    requires table { actor.old.table_id ≡ words.now.table_id }
+    requires sound { IsSound words.now.table_id.words actor.old.me.0 }
+    requires way { IsOnWay actor.old.me.0 way }
+    requires swapping { IsSwapLeft actor.old.me.0 swapping }
+    ensures table { actor.new.table_id ≡ actor.old.table_id }
+    ensures sound { IsSound words.now.table_id.words actor.new.me.0 }
+    ensures done { IfOk result (λ done. HasDecidedSwap actor.old.me.0 swapping done actor.new.me.0) }
+    ensures on { IfErr result (λ next. HasSwappedOn actor.old.me.0 swapping next actor.new.me.0) }
+{
+    match read_on(
+        tries,
+        words,
+        actor,
+        way,
+        swapping.indirection,
+        swapping.from,
+    ) {
+        Passed::Again(from) => Err(Swapping { from, ..swapping }),
+        Passed::Gives(_) => match read_header(words, actor, swapping.fresh).previous {
+            Previous::None => Ok(true),
+            Previous::Pending(_) => Ok(false),
+            Previous::Failed(_) => Ok(false),
+        },
+    }
+}
+
+/// What a SWAP came to whose fresh main node stood there, and was committed or wasn't.
+fn swapped_by(is_committed: bool) -> Swapped
+    ensures { result ≡ swapped_by is_committed }
+{
+    if is_committed {
+        Swapped::Commits
+    } else {
+        Swapped::Fails
+    }
+}
+
+/// The SWAP of the fresh main node in this slot for the one to which this link of the indirection leads, within so many tries; or what is
+/// under way.
+pub fn swap_within(
+    tries: u64,
     words: &Words,
     actor: &mut Actor,
     way: Way,
     indirection: u32,
     link: Link,
     fresh: u32,
-) -> Swapped
+) -> Result<Swapped, Swapping>
     requires table { actor.old.table_id ≡ words.now.table_id }
     requires sound { IsSound words.now.table_id.words actor.old.me.0 }
     requires way { IsOnWay actor.old.me.0 way }
     requires swapping { IsAtSwap actor.old.me.0 indirection link fresh }
     ensures table { actor.new.table_id ≡ actor.old.table_id }
     ensures sound { IsSound words.now.table_id.words actor.new.me.0 }
-    ensures done { HasSwapDone actor.old.me.0 result actor.new.me.0 }
+    ensures done { IfOk result (λ swapped. HasSwapDone actor.old.me.0 swapped actor.new.me.0) }
+    ensures left { IfErr result (λ left. HasLeftSwap actor.old.me.0 left actor.new.me.0) }
 {
     if !publish(words, actor, indirection, link, fresh) {
-        return Swapped::Misses;
+        return Ok(Swapped::Misses);
     }
-    let swapped = Link {
-        generation: link.generation,
-        main: Name {
-            slot: fresh,
-            own: true,
-        },
+    let main = Name {
+        slot: fresh,
+        own: true,
     };
-    read(rt, asker, words, actor, way, indirection, Some(swapped));
-    match read_header(words, actor, fresh).previous {
-        Previous::None => Swapped::Commits,
-        Previous::Pending(_) => Swapped::Fails,
-        Previous::Failed(_) => Swapped::Fails,
+    let begun = Swapping {
+        indirection,
+        from: ReadFrom::Header(Link {
+            generation: link.generation,
+            main,
+        }),
+        fresh,
+    };
+    match swap_on(tries, words, actor, way, begun) {
+        Ok(is_committed) => Ok(swapped_by(is_committed)),
+        Err(next) => Err(next),
+    }
+}
+
+/// What was made for a SWAP that came to this is handed over, or free again.
+fn settle_stock(stock: &mut Stock, swapped: Swapped)
+    ensures sizes { stock.new.sizes ≡ stock.old.sizes }
+    ensures pool { stock.new.pool ≡ settled_pool swapped stock.old.made stock.old.pool }
+    ensures made { stock.new.made ≡ [] }
+{
+    match swapped {
+        Swapped::Misses => stock.give_back(),
+        Swapped::Commits | Swapped::Fails => stock.hand_over(),
     }
 }
 
 /// The same SWAP, with what the seat owns: what was made for it is handed over, or free again.
-pub fn swap_made<R: Wait, A: AsksRoot>(
-    rt: &R,
-    asker: &A,
+pub fn swap_made_within(
+    tries: u64,
     words: &Words,
     actor: &mut Actor,
     stock: &mut Stock,
@@ -72,7 +134,7 @@ pub fn swap_made<R: Wait, A: AsksRoot>(
     indirection: u32,
     link: Link,
     fresh: u32,
-) -> Swapped
+) -> Result<Swapped, Swapping>
     requires table { actor.old.table_id ≡ words.now.table_id }
     requires sound { IsSound words.now.table_id.words actor.old.me.0 }
     requires stock { IsStock stock.old actor.old.me.0 }
@@ -81,12 +143,17 @@ pub fn swap_made<R: Wait, A: AsksRoot>(
     ensures table { actor.new.table_id ≡ actor.old.table_id }
     ensures sound { IsSound words.now.table_id.words actor.new.me.0 }
     ensures stock { IsStock stock.new actor.new.me.0 }
-    ensures done { HasSwapped actor.old.me.0 result actor.new.me.0 }
+    ensures done { IfOk result (λ swapped. HasSwapped actor.old.me.0 swapped actor.new.me.0) }
+    ensures left { IfErr result (λ left. HasLeftSwap actor.old.me.0 left actor.new.me.0) }
 {
-    let swapped = swap(rt, asker, words, actor, way, indirection, link, fresh);
-    match swapped {
-        Swapped::Misses => stock.give_back(),
-        Swapped::Commits | Swapped::Fails => stock.hand_over(),
+    match swap_within(tries, words, actor, way, indirection, link, fresh) {
+        Ok(swapped) => {
+            settle_stock(stock, swapped);
+            Ok(swapped)
+        }
+        Err(swapping) => {
+            stock.hand_over();
+            Err(swapping)
+        }
     }
-    swapped
 }

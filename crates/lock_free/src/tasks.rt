@@ -27,6 +27,7 @@ pub struct Task {
 
 impl Task {
     /// A try of the call on a handle that allows this, from a root of this generation.
+    #[inline(always)]
     pub fn new(call: Call, access: Access, hashes: HashKind, start: u64) -> Task
         ensures given { (result.call ≡ call) × (result.access ≡ access) × (result.start ≡ start) }
         ensures key { result.key ≡ key_of call }
@@ -43,6 +44,7 @@ impl Task {
     }
 
     /// The handle of the call.
+    #[inline(always)]
     pub fn way(&self) -> Way
         ensures { (result.handle ≡ handle_of self.now.call) × (result.access ≡ self.now.access) }
     {
@@ -53,6 +55,7 @@ impl Task {
     }
 
     /// Whether it goes through an indirection of this generation.
+    #[inline(always)]
     pub fn passes(&self, generation: u64) -> bool
         ensures { result ≡ passes self.now.access (self.now.start == generation) }
     {
@@ -64,6 +67,7 @@ impl Task {
 }
 
 /// The key of a call on one key.
+#[inline(always)]
 pub(crate) fn key_of(call: Call) -> u64
     ensures { result ≡ key_of call }
 {
@@ -80,6 +84,7 @@ pub(crate) fn key_of(call: Call) -> u64
 }
 
 /// The value that a call on one key sets.
+#[inline(always)]
 pub(crate) fn value_of(call: Call) -> u64
     ensures { result ≡ value_of call }
 {
@@ -92,6 +97,7 @@ pub(crate) fn value_of(call: Call) -> u64
 }
 
 /// Whether the call gives an absent key a value.
+#[inline(always)]
 pub fn inserts(call: Call) -> bool
     ensures { result ≡ inserts call }
 {
@@ -99,6 +105,7 @@ pub fn inserts(call: Call) -> bool
 }
 
 /// The reply where the key is absent and stays so.
+#[inline(always)]
 pub fn absent_reply(call: Call) -> Reply
     ensures { result ≡ absent_reply call }
 {
@@ -109,6 +116,7 @@ pub fn absent_reply(call: Call) -> Reply
 }
 
 /// The reply once the call has changed the map, whose value of the key was this one, or none.
+#[inline(always)]
 pub(crate) fn changed_reply(call: Call, former: Option<u64>) -> Reply
     ensures { result ≡ changed_reply call former }
 {
@@ -119,6 +127,7 @@ pub(crate) fn changed_reply(call: Call, former: Option<u64>) -> Reply
 }
 
 /// What the call does where its key has this value.
+#[inline(always)]
 pub fn when_found(call: Call, value: u64) -> WhenFound
     ensures { result ≡ when_found call value }
 {

@@ -1,6 +1,7 @@
 //! The change of one key, from BUILD to the end of its SWAP.
 
-ghost use Rattle.std.specs.Prelude.{◌≡◌, ◌<◌};
+ghost use Rattle.std.specs.Prelude.{◌≡◌, ◌<◌, IfErr, IfOk};
+ghost use Rattle.lock_free.specs.Leaving.{IsUpdate, LeavesChange, LeavesSwap};
 ghost use Rattle.lock_free.specs.Loading.{IsSound};
 ghost use Rattle.lock_free.specs.Passing.{IsOnWay};
 ghost use Rattle.lock_free.specs.Stocks.{IsStock};
@@ -8,18 +9,17 @@ ghost use Rattle.lock_free.specs.Updating.{HasChanged, HasUpdated, IsAtChange, I
 
 use crate::building::{Builder, build};
 use crate::changing::{Edit, build_main};
+use crate::leaving::Swapping;
 use crate::loads::{Actor, Words};
-use crate::reading::{AsksRoot, Given, Way};
+use crate::reading::{Given, Way};
 use crate::stock::Stock;
-use crate::swapping::{Swapped, swap_made};
+use crate::swapping::{Swapped, swap_made_within};
 use machine_model::Site;
-use std::sync::Wait;
 
-/// Makes what gives the key its new value, and swaps it in: the operation is answered, or begins a new try. None where no slot is
-/// had: then it is in BUILD still.
-pub fn update<R: Wait, A: AsksRoot>(
-    rt: &R,
-    asker: &A,
+/// Makes what gives the key its new value, and swaps it in: the operation is answered, or begins a new try. None where no slot is had: then
+/// it is in BUILD still. An `Err` has its SWAP that is under way.
+pub fn update_within(
+    tries: u64,
     words: &Words,
     actor: &mut Actor,
     stock: &mut Stock,
@@ -29,7 +29,7 @@ pub fn update<R: Wait, A: AsksRoot>(
     given: Given,
     site: Site,
     former: Option<u64>,
-) -> Option<Swapped>
+) -> Result<Option<Swapped>, Swapping>
     requires table { actor.old.table_id ≡ words.now.table_id }
     requires sound { IsSound words.now.table_id.words actor.old.me.0 }
     requires stock { IsStock stock.old actor.old.me.0 }
@@ -38,12 +38,14 @@ pub fn update<R: Wait, A: AsksRoot>(
     ensures table { actor.new.table_id ≡ actor.old.table_id }
     ensures sound { IsSound words.now.table_id.words actor.new.me.0 }
     ensures stock { IsStock stock.new actor.new.me.0 }
-    ensures updated { HasUpdated actor.old.me.0 former result actor.new.me.0 }
+    ensures updated { IfOk result (λ updated. HasUpdated actor.old.me.0 former updated actor.new.me.0) }
+    ensures left { IfErr result (λ left. LeavesSwap (IsUpdate former) actor.old.me.0 left actor.new.me.0) }
 {
-    let fresh = build(rt, words, actor, stock, by, given, site, former)?;
-    Some(swap_made(
-        rt,
-        asker,
+    let Some(fresh) = build(tries, words, actor, stock, by, given, site, former) else {
+        return Ok(None);
+    };
+    match swap_made_within(
+        tries,
         words,
         actor,
         stock,
@@ -51,14 +53,17 @@ pub fn update<R: Wait, A: AsksRoot>(
         indirection,
         given.link,
         fresh,
-    ))
+    ) {
+        Ok(swapped) => Ok(Some(swapped)),
+        Err(swapping) => Err(swapping),
+    }
 }
 
-/// Makes this change of the main node that READ gave, where the operation's key has this flag, and swaps it in: the operation is
-/// answered, or climbs after a tomb, or begins a new try. None where no slot is had: then it is where it was.
-pub fn change_main<R: Wait, A: AsksRoot>(
-    rt: &R,
-    asker: &A,
+/// Makes this change of the main node that READ gave, where the operation's key has this flag, and swaps it in: the operation is answered,
+/// or climbs after a tomb, or begins a new try. None where no slot is had: then it is where it was. An `Err` has its SWAP that is under
+/// way.
+pub fn change_main_within(
+    tries: u64,
     words: &Words,
     actor: &mut Actor,
     stock: &mut Stock,
@@ -67,7 +72,7 @@ pub fn change_main<R: Wait, A: AsksRoot>(
     given: Given,
     flag: u32,
     change: Edit,
-) -> Option<Swapped>
+) -> Result<Option<Swapped>, Swapping>
     requires table { actor.old.table_id ≡ words.now.table_id }
     requires sound { IsSound words.now.table_id.words actor.old.me.0 }
     requires stock { IsStock stock.old actor.old.me.0 }
@@ -77,11 +82,12 @@ pub fn change_main<R: Wait, A: AsksRoot>(
     ensures table { actor.new.table_id ≡ actor.old.table_id }
     ensures sound { IsSound words.now.table_id.words actor.new.me.0 }
     ensures stock { IsStock stock.new actor.new.me.0 }
-    ensures changed { HasChanged actor.old.me.0 result actor.new.me.0 }
+    ensures changed { IfOk result (λ changed. HasChanged actor.old.me.0 changed actor.new.me.0) }
+    ensures left { IfErr result (λ left. LeavesChange actor.old.me.0 left actor.new.me.0) }
 {
     let main = given.link.main;
-    let fresh = build_main(
-        rt,
+    let Some(fresh) = build_main(
+        tries,
         words,
         actor,
         stock,
@@ -89,10 +95,11 @@ pub fn change_main<R: Wait, A: AsksRoot>(
         given.header.shape,
         flag,
         change,
-    )?;
-    Some(swap_made(
-        rt,
-        asker,
+    ) else {
+        return Ok(None);
+    };
+    match swap_made_within(
+        tries,
         words,
         actor,
         stock,
@@ -100,5 +107,8 @@ pub fn change_main<R: Wait, A: AsksRoot>(
         indirection,
         given.link,
         fresh,
-    ))
+    ) {
+        Ok(swapped) => Ok(Some(swapped)),
+        Err(swapping) => Err(swapping),
+    }
 }

@@ -1,41 +1,20 @@
 //! WALK: an operation on a read-only handle goes through all pairs.
 
-ghost use Rattle.std.specs.Prelude.{◌≡◌, ◌++◌, ℕ, List, IfOk, OnErr, OnOk, length, reverse};
+ghost use Rattle.std.specs.Prelude.{◌≡◌, ◌++◌, ℕ, List, OnOk, reverse};
 ghost use Rattle.machine_model.specs.Pairs.{by_key};
 ghost use Rattle.lock_free.specs.Loading.{IsSound};
 ghost use Rattle.lock_free.specs.Passing.{IsOnWay};
-ghost use Rattle.lock_free.specs.Walks.{HasFoundStart, HasSeenAll, HasTakenPair, IsAtStart, IsAtWalkedMain, IsAtWalkedSingle};
-ghost use Rattle.lock_free.specs.Walks.{HasAllPairs, HasBegunWalk, HasEntered, HasNext, IsLeft, IsToRead, IsWalking};
+ghost use Rattle.lock_free.specs.Walks.{FoundStartOrNot, HasBegunWalk, HasEntered, HasNext, HasSeenAll, HasTakenPair, IsAtStart, IsAtWalkedMain, IsAtWalkedSingle, IsToRead, IsWalking};
 
 use crate::asking::{Named, ask_word};
 use crate::entries::see_entries;
+use crate::leaving::read_on;
 use crate::loads::{Actor, Words, look_at_link, look_at_main, look_at_value, see_key};
-use crate::reading::{AsksRoot, Given, Way, read};
+use crate::reading::{Given, Passed, ReadFrom, Way};
 use arrayvec::ArrayVec;
 use std::alloc::{AllocError, Global};
 use std::marker::Model;
-use std::sync::Wait;
 use trie_words::{Entry, Shape};
-
-/// The root of a read-only handle.
-fn start<R: Wait>(rt: &R, words: &Words, actor: &mut Actor, way: Way) -> u32
-    requires table { actor.old.table_id ≡ words.now.table_id }
-    requires sound { IsSound words.now.table_id.words actor.old.me.0 }
-    requires way { IsOnWay actor.old.me.0 way }
-    requires at { IsAtStart actor.old.me.0 }
-    ensures table { actor.new.table_id ≡ actor.old.table_id }
-    ensures sound { IsSound words.now.table_id.words actor.new.me.0 }
-    ensures found { HasFoundStart actor.old.me.0 result actor.new.me.0 }
-{
-    for _ in rt.forever() {
-        match ask_word(words, actor, way.handle) {
-            Named::Root(slot) => return slot,
-            Named::Offer(_) => {}
-            Named::Nothing => {}
-        }
-    }
-    unreachable!()
-}
 
 /// All entries of the main node that was given, in order.
 fn see_all(words: &Words, actor: &mut Actor, given: Given) -> ArrayVec<Entry, 32>
@@ -104,16 +83,44 @@ impl Model for Walker {
     ghost view = { λ w. w.todo.items };
 }
 
+/// Why a WALK ends before its end.
+#[derive(Clone, Copy, Debug, PartialEq, Eq, Drop)]
+pub enum WalkError {
+    /// No memory is had.
+    Memory,
+    /// It is out of tries.
+    Spent,
+}
+
+/// The root of a read-only handle, or none where it isn't found in so many looks.
+fn start_within(tries: u64, words: &Words, actor: &mut Actor, way: Way) -> Option<u32>
+    requires table { actor.old.table_id ≡ words.now.table_id }
+    requires sound { IsSound words.now.table_id.words actor.old.me.0 }
+    requires way { IsOnWay actor.old.me.0 way }
+    requires at { IsAtStart actor.old.me.0 }
+    ensures table { actor.new.table_id ≡ actor.old.table_id }
+    ensures sound { IsSound words.now.table_id.words actor.new.me.0 }
+    ensures found { FoundStartOrNot actor.old.me.0 result actor.new.me.0 }
+{
+    for _ in 0..tries {
+        match ask_word(words, actor, way.handle) {
+            Named::Root(slot) => return Some(slot),
+            Named::Offer(_) => {}
+            Named::Nothing => {}
+        }
+    }
+    None
+}
+
 impl Walker {
     /// Begins at the root. After an error the operation is to give up.
-    pub fn begin<R: Wait, A: AsksRoot>(
+    pub fn begin_within(
         alloc: Global,
-        rt: &R,
-        asker: &A,
+        tries: u64,
         words: &Words,
         actor: &mut Actor,
         way: Way,
-    ) -> Result<Walker, AllocError>
+    ) -> Result<Walker, WalkError>
         requires table { actor.old.table_id ≡ words.now.table_id }
         requires sound { IsSound words.now.table_id.words actor.old.me.0 }
         requires way { IsOnWay actor.old.me.0 way }
@@ -122,24 +129,27 @@ impl Walker {
         ensures sound { IsSound words.now.table_id.words actor.new.me.0 }
         ensures begun { HasBegunWalk actor.old.me.0 result actor.new.me.0 }
     {
-        let root = start(rt, words, actor, way);
+        let Some(root) = start_within(tries, words, actor, way) else {
+            return Err(WalkError::Spent);
+        };
         let mut walker = Walker {
             todo: Vec::new(alloc),
         };
-        walker.enter(rt, asker, words, actor, way, root)?;
-        Ok(walker)
+        match walker.enter_within(tries, words, actor, way, root) {
+            Ok(()) => Ok(walker),
+            Err(error) => Err(error),
+        }
     }
 
     /// Reads the indirection in this slot, and looks at its main node, whose entries are to do next.
-    fn enter<R: Wait, A: AsksRoot>(
+    fn enter_within(
         &mut self,
-        rt: &R,
-        asker: &A,
+        tries: u64,
         words: &Words,
         actor: &mut Actor,
         way: Way,
         indirection: u32,
-    ) -> Result<(), AllocError>
+    ) -> Result<(), WalkError>
         requires table { actor.old.table_id ≡ words.now.table_id }
         requires sound { IsSound words.now.table_id.words actor.old.me.0 }
         requires way { IsOnWay actor.old.me.0 way }
@@ -148,22 +158,27 @@ impl Walker {
         ensures sound { IsSound words.now.table_id.words actor.new.me.0 }
         ensures entered { HasEntered actor.old.me.0 self.old indirection result actor.new.me.0 self.new }
     {
-        let given = read(rt, asker, words, actor, way, indirection, None);
+        let given = match read_on(tries, words, actor, way, indirection, ReadFrom::Start) {
+            Passed::Gives(given) => given,
+            Passed::Again(_) => return Err(WalkError::Spent),
+        };
         let entries = see_all(words, actor, given);
-        add_all(&mut self.todo, &entries)?;
+        match add_all(&mut self.todo, &entries) {
+            Ok(()) => {}
+            Err(_) => return Err(WalkError::Memory),
+        }
         look_at_main(words, actor, given.link.main.slot);
         Ok(())
     }
 
     /// The next pair, or none where the operation is to end. After an error it is to give up.
-    pub fn next<R: Wait, A: AsksRoot>(
+    pub fn next_within(
         &mut self,
-        rt: &R,
-        asker: &A,
+        tries: u64,
         words: &Words,
         actor: &mut Actor,
         way: Way,
-    ) -> Result<Option<(u64, u64)>, AllocError>
+    ) -> Result<Option<(u64, u64)>, WalkError>
         requires table { actor.old.table_id ≡ words.now.table_id }
         requires sound { IsSound words.now.table_id.words actor.old.me.0 }
         requires way { IsOnWay actor.old.me.0 way }
@@ -172,76 +187,22 @@ impl Walker {
         ensures sound { IsSound words.now.table_id.words actor.new.me.0 }
         ensures next { HasNext actor.old.me.0 self.old result actor.new.me.0 self.new }
     {
-        for _ in rt.forever() {
+        for _ in 0..u64::MAX {
             let Some(entry) = self.todo.pop() else {
                 return Ok(None);
             };
             if entry.is_single {
-                return Ok(Some(take_pair(words, actor, entry.slot)));
+                let pair = take_pair(words, actor, entry.slot);
+                return Ok(Some(pair));
             }
             look_at_link(words, actor, entry.slot);
-            self.enter(rt, asker, words, actor, way, entry.slot)?;
+            match self.enter_within(tries, words, actor, way, entry.slot) {
+                Ok(()) => {}
+                Err(error) => return Err(error),
+            }
         }
-        unreachable!()
+        Err(WalkError::Spent)
     }
-}
-
-/// All pairs of the map, in the order of its trie: then the operation is to end. After an error it is to give up.
-pub fn all_pairs<R: Wait, A: AsksRoot>(
-    alloc: Global,
-    rt: &R,
-    asker: &A,
-    words: &Words,
-    actor: &mut Actor,
-    way: Way,
-) -> Result<Vec<(u64, u64)>, AllocError>
-    requires table { actor.old.table_id ≡ words.now.table_id }
-    requires sound { IsSound words.now.table_id.words actor.old.me.0 }
-    requires way { IsOnWay actor.old.me.0 way }
-    requires at { IsAtStart actor.old.me.0 }
-    ensures table { actor.new.table_id ≡ actor.old.table_id }
-    ensures sound { IsSound words.now.table_id.words actor.new.me.0 }
-    ensures walked { IfOk result (λ pairs. HasAllPairs actor.old.me.0 pairs.items actor.new.me.0) }
-    ensures left { OnErr result (IsLeft actor.old.me.0 actor.new.me.0) }
-{
-    let mut walker = Walker::begin(alloc, rt, asker, words, actor, way)?;
-    let mut pairs = Vec::new(alloc);
-    for _ in rt.forever() {
-        match walker.next(rt, asker, words, actor, way)? {
-            Some(pair) => pairs.push(pair)?,
-            None => return Ok(pairs),
-        }
-    }
-    unreachable!()
-}
-
-/// How many pairs the map has: then the operation is to end. It takes memory for what is still to do alone. After an error, which comes
-/// at 2^64 - 1 pairs too, it is to give up.
-pub fn count_pairs<R: Wait, A: AsksRoot>(
-    alloc: Global,
-    rt: &R,
-    asker: &A,
-    words: &Words,
-    actor: &mut Actor,
-    way: Way,
-) -> Result<u64, AllocError>
-    requires table { actor.old.table_id ≡ words.now.table_id }
-    requires sound { IsSound words.now.table_id.words actor.old.me.0 }
-    requires way { IsOnWay actor.old.me.0 way }
-    requires at { IsAtStart actor.old.me.0 }
-    ensures table { actor.new.table_id ≡ actor.old.table_id }
-    ensures sound { IsSound words.now.table_id.words actor.new.me.0 }
-    ensures counted { IfOk result (λ n. (pairs : List (ℕ × ℕ)) × HasAllPairs actor.old.me.0 pairs actor.new.me.0 × (n ≡ length pairs)) }
-    ensures left { OnErr result (IsLeft actor.old.me.0 actor.new.me.0) }
-{
-    let mut walker = Walker::begin(alloc, rt, asker, words, actor, way)?;
-    for count in 0..u64::MAX {
-        match walker.next(rt, asker, words, actor, way)? {
-            Some(_) => {}
-            None => return Ok(count),
-        }
-    }
-    Err(AllocError)
 }
 
 /// These pairs by rising key. It takes no memory.

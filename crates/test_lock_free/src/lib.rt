@@ -4,4 +4,6 @@
 #[cfg(test)]
 mod opening;
 #[cfg(test)]
+mod tries;
+#[cfg(test)]
 mod wholes;

@@ -55,3 +55,33 @@ fn read_only_handles_are_listed_and_closed(rt: HostRuntime) -> Result<(), Fail> 
     finish_map(board, seats);
     Ok(())
 }
+
+/// Nobody else makes a call: one try is enough. With none a call hasn't begun.
+#[test]
+fn read_only_handles_are_listed_in_one_try(rt: HostRuntime) -> Result<(), Fail> {
+    let Ok((board, mut seat)) = open(rt.alloc(), sizes(2, 60, 8)) else {
+        panic!(rt; "there is memory");
+    };
+    let words = &board.shared;
+    assert_eq!(rt; seat.put(&rt, words, 0, 9, 90), Ok(None));
+    assert_eq!(rt; seat.put(&rt, words, 0, 7, 70), Ok(None));
+    assert_eq!(rt; seat.freeze(&rt, words, 0), Ok(1));
+    assert_eq!(rt; seat.put(&rt, words, 0, 8, 80), Ok(None));
+    let Ok(pairs) = seat.entries_within(rt.alloc(), 1, words, 1) else {
+        panic!(rt; "the handle is open, and there is memory");
+    };
+    assert_eq!(rt; pairs.as_slice(), [(7, 70), (9, 90)].as_slice());
+    assert_eq!(rt; seat.count_within(rt.alloc(), 1, words, 1), Ok(2));
+    assert_eq!(rt;
+        seat.count_within(rt.alloc(), 0, words, 1),
+        Err(CallError::Spent)
+    );
+    assert_eq!(rt;
+        seat.count_within(rt.alloc(), 1, words, 0),
+        Err(CallError::NotReadOnly)
+    );
+    let mut seats = Vec::new(rt.alloc());
+    seats.push(seat)?;
+    finish_map(board, seats);
+    Ok(())
+}

@@ -129,7 +129,9 @@ module _ (sizes : Sizes) (account : Account) (bounds : AreBounds (bounds_for siz
     same = gone_is false e ∙ ap (λ h. record put { heap = h }) (overtaken_is state.heap main replaced licensed)
 
     pub overtaken : Reads sizes account actor operation
-    overtaken = leads sizes account bounds actor operation runs g none same nothing (λ r k. refl) (λ r h. refl) makes_none (λ j a f ahead standing. publishes_none j a f ahead) (as_before tries)
+    overtaken =
+        leads sizes account bounds actor operation runs g none same nothing (λ r k. refl) (λ r h. refl) (λ x h g. refl) makes_none
+        (λ j a f ahead standing. publishes_none j a f ahead) (as_before tries)
 
     pub not_pending : (p : Ref) → prev_at state.heap main ≡ prev.Pending p → ⊥
     not_pending p pending =

@@ -43,6 +43,7 @@ use Rattle.lock_free.proofs.OneStep.Giving.{is_one_of, one_of_them, none_of_them
 use Rattle.lock_free.proofs.OneStep.Going.{allowed}
 use Rattle.lock_free.proofs.OneStep.Longer.{run_next, bounds_more}
 use Rattle.lock_free.proofs.OneStep.Reached.{reached_apart}
+use Rattle.lock_free.proofs.OneStep.Retired.{retired_apart}
 use Rattle.lock_free.proofs.OneStep.Widened.{slot_in, live_in}
 
 module _ (sizes : Sizes) (account : Account) (bounds : AreBounds (bounds_for sizes account.steps)) (actor : ℕ) (operation : Operation) (runs : running sizes account actor operation) (answer : Reply)
@@ -156,6 +157,7 @@ module _ (sizes : Sizes) (account : Account) (bounds : AreBounds (bounds_for siz
     births = ap (λ (s : State). s.heap.births) whole;
     live = λ r k. let live = live_in 1 steps then (subst (λ s. IsLive s r) whole k) in (was_live r live, given r live);
     reached = λ r h. reached_apart sizes account bounds quiet r h actor operation runs;
+    retired = λ x h g. retired_apart sizes account bounds quiet x h g actor operation runs;
     roots = ap (λ (s : State). s.roots) whole;
     generations = ap (λ (s : State). s.generations) whole;
     others = others_then;

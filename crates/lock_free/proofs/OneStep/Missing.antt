@@ -36,6 +36,7 @@ use Rattle.lock_free.proofs.OneStep.Doing.{CompletesNone, others, own}
 use Rattle.lock_free.proofs.OneStep.Giving.{is_one_of, none_of_them}
 use Rattle.lock_free.proofs.OneStep.Offering.{offer_misses}
 use Rattle.lock_free.proofs.OneStep.Reached.{reached_apart}
+use Rattle.lock_free.proofs.OneStep.Retired.{retired_apart}
 use Rattle.proof_waiting.specs.Beneath.proof_slots.specs.Unswept.{HasNoSweeps}
 
 module _ (sizes : Sizes) (account : Account) (bounds : AreBounds (bounds_for sizes account.steps)) (actor : ℕ) (operation : Operation) (runs : running sizes account actor operation)
@@ -109,4 +110,4 @@ module _ (sizes : Sizes) (account : Account) (bounds : AreBounds (bounds_for siz
 
   pub offer_given_up : Leads sizes account (gone_on actor account) actor (is_one_of operation.private) (operation_after (state_of sizes account) operation)
   offer_given_up = offer_misses sizes account bounds actor operation runs offer is stood another (is_one_of operation.private) given
-      (λ r h. reached_apart sizes account bounds quiet r h actor operation runs)
+      (λ r h. reached_apart sizes account bounds quiet r h actor operation runs) (λ x h g. retired_apart sizes account bounds quiet x h g actor operation runs)

@@ -26,12 +26,14 @@ use Rattle.proof_garbage.specs.Beneath.proof_generations.proofs.Lines.Copy.{IsOw
 use Rattle.proof_garbage.specs.Beneath.proof_generations.proofs.Offers.Standing.{offer_line}
 use Rattle.lock_free.specs.declared.accounts.Account.{Account}
 use Rattle.lock_free.specs.declared.accounts.Known.{Known}
+use Rattle.lock_free.specs.declared.rules.Retired.{Retired}
 use Rattle.lock_free.specs.declared.sizes.Sizes.{Sizes}
-use Rattle.lock_free.specs.Accounts.{bounds_for, state_of, running, gone_on, HasStood, WasReached}
+use Rattle.lock_free.specs.Accounts.{bounds_for, state_of, running, gone_on, HasGrown, HasStood, WasRoot}
 use Rattle.lock_free.specs.Live.{IsLive}
 use Rattle.lock_free.specs.Making.{over_of}
 use Rattle.lock_free.specs.Offering.{Offers}
 use Rattle.lock_free.specs.Roots.{open_with, IsItsTry}
+use Rattle.lock_free.specs.Rules.{WasGarbage}
 use Rattle.lock_free.specs.Steps.{Dropped, Leads}
 use Rattle.lock_free.specs.Trying.{anew, try_of}
 use Rattle.lock_free.proofs.OneStep.Aheads.{ahead_of, over_makes, ahead_acts}
@@ -123,7 +125,7 @@ module _ (sizes : Sizes) (account : Account) (bounds : AreBounds (bounds_for siz
             nodes = leaves.nodes;
             births = leaves.births;
             live = leaves.live;
-            reached = λ r h. leaves.reached r (record { steps = h.steps; more = h.more; goes_on = h.goes_on; reached = h.reached });
+            reached = λ r h. leaves.reached r (record { steps = h.steps; more = h.more; goes_on = h.goes_on; handle = h.handle; access = h.access; was = h.was });
             generations = leaves.generations;
             aheads = leaves.aheads;
             still = leaves.still;
@@ -148,7 +150,8 @@ module _ (sizes : Sizes) (account : Account) (bounds : AreBounds (bounds_for siz
   -- ---- another stands there
 
   module _ (another : is_plain (word_at state h) offer.root ≡ false) (dropped : Dropped) (kept : (r : Ref) → IsLive after r → dropped (slot_of r) ≡ false)
-      (once : (r : Ref) → WasReached sizes account r → dropped (slot_of r) ≡ false) where
+      (once : (r : Ref) → WasRoot sizes account r → dropped (slot_of r) ≡ false)
+      (never : (x : Retired) → WasGarbage sizes x → HasGrown x.account account → dropped x.number ≡ false) where
     pub offer_misses : Leads sizes account (gone_on actor account) actor dropped next
     offer_misses =
         let gone_is = gone_by false another in
@@ -159,6 +162,7 @@ module _ (sizes : Sizes) (account : Account) (bounds : AreBounds (bounds_for siz
           births = leaves.births;
           live = λ r live. (leaves.live r live, kept r live);
           reached = once;
+          retired = never;
           roots = roots_then sizes account bounds actor operation runs goes (ap (λ (s : State). s.roots) gone_is);
           generations = leaves.generations;
           others = others_then;

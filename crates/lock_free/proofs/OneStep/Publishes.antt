@@ -78,6 +78,7 @@ use Rattle.lock_free.proofs.OneStep.Giving.{is_one_of, one_of_them, none_of_them
 use Rattle.lock_free.proofs.OneStep.Found.{link_of, slot_at, ref_at, ahead_used}
 use Rattle.lock_free.proofs.OneStep.Going.{bounds_after}
 use Rattle.lock_free.proofs.OneStep.Reached.{reached_apart}
+use Rattle.lock_free.proofs.OneStep.Retired.{retired_apart}
 use Rattle.lock_free.proofs.OneStep.Leading.{leads}
 
 -- ---- which line publishes
@@ -259,7 +260,8 @@ module _ (sizes : Sizes) (account : Account) (bounds : AreBounds (bounds_for siz
 
     pub missed : Leads sizes account (gone_on actor account) actor (is_one_of operation.private) (operation_after state operation)
     missed = leads sizes account bounds actor operation runs g none (gone_is false e) (is_one_of operation.private) given
-        (λ r h. reached_apart sizes account bounds quiet r h actor operation runs) makes_none its_private (as_before tries)
+        (λ r h. reached_apart sizes account bounds quiet r h actor operation runs)
+        (λ x h g. retired_apart sizes account bounds quiet x h g actor operation runs) makes_none its_private (as_before tries)
 
     pub another : main_at state.heap i ≢ a
     another = eqb-false (main_at state.heap i) a e

@@ -1,7 +1,9 @@
--- What a root led to once is in use for ever, and no operation's own.
-use Rattle.std.proofs.Common.{◌≡◌, ◌⊎◌, inl, inr, ℕ, Bool, true, false, List, [], ◌∷◌, ◌++◌, Contains, sym, ap, subst, ◌∙◌, refl, append-nil, get_or, Some, None}
+-- What was a root once is in use for ever, and no operation's own.
+use Rattle.std.proofs.Common.{◌≡◌, ◌⊎◌, inl, inr, ℕ, Bool, true, false, List, [], ◌∷◌, ◌++◌, Contains, sym, ap, subst, ◌∙◌, refl, append-nil, get_or, Some, None, arith}
+use Rattle.std.proofs.lemmas.List.Elements.{Contains-get_or}
 use Rattle.machine_model.specs.Beneath.slot_arena.specs.declared.refs.Ref.{Ref}
 use Rattle.machine_model.specs.Beneath.slot_arena.specs.Heaps.{refs_of_slot}
+use Rattle.machine_model.specs.Counting.{refs_of_root}
 use Rattle.machine_model.specs.Beneath.slot_arena.specs.Refs.{slot_of}
 use Rattle.machine_model.specs.declared.operations.Operation.{Operation}
 use Rattle.machine_model.specs.declared.steps.Step.{Step}
@@ -20,7 +22,7 @@ use Rattle.proof_waiting.specs.Beneath.proof_slots.proofs.Unswept.Kept.{nothing_
 use Rattle.proof_waiting.specs.Beneath.proof_slots.proofs.Unswept.Shrinking.{unswept_behind}
 use Rattle.lock_free.specs.declared.accounts.Account.{Account}
 use Rattle.lock_free.specs.declared.sizes.Sizes.{Sizes}
-use Rattle.lock_free.specs.Accounts.{bounds_for, state_of, running, WasReached}
+use Rattle.lock_free.specs.Accounts.{bounds_for, state_of, running, WasRoot}
 use Rattle.lock_free.specs.Live.{IsLive}
 use Rattle.lock_free.proofs.OneStep.Giving.{is_one_of, none_of_them}
 use Rattle.lock_free.proofs.OneStep.Longer.{run_longer, bounds_less}
@@ -29,6 +31,9 @@ reached_wide : (more m : _) (state : State) {r : Ref} → IsReached state r → 
 reached_wide more m state (from_root handle r c) = from_root handle r c
 reached_wide more m state (from_slot q r k c) =
     from_slot q r (reached_wide more m state k) (subst (λ o. Contains (refs_of_slot o) r) (sym (stored_wide more state.limits.slots state.heap q)) c)
+
+pub root_reached : (sizes : Sizes) (account : Account) (r : Ref) (h : WasRoot sizes account r) → IsReached (run (bounds_for sizes h.steps) h.steps) r
+root_reached sizes account r h = from_root h.handle r (subst (λ o. Contains (refs_of_root o) r) (sym h.was) (Contains-get_or (r ∷ []) 0 r (omega arith)))
 
 -- ---- one step more
 
@@ -42,17 +47,17 @@ parted (o ∷ steps) s (x ∷ xs) more e = elim (parted steps s xs more (cc e)) 
   | inr all ↦ inr ((let first : o ≡ x = cc e in ap (λ ys. x ∷ ys) all ∙ ap (λ y. y ∷ (steps ++ s ∷ [])) (sym first)))
 ]
 
-pub reached_by_then : (sizes : Sizes) (account after : Account) (s : Step) → after.steps ≡ account.steps ++ s ∷ [] → (r : Ref) → WasReached sizes after r → WasReached sizes account r
+pub reached_by_then : (sizes : Sizes) (account after : Account) (s : Step) → after.steps ≡ account.steps ++ s ∷ [] → (r : Ref) → WasRoot sizes after r → WasRoot sizes account r
     ⊎ IsLive (state_of sizes after) r
 reached_by_then sizes account after s goes_on r h = elim (parted account.steps s h.steps h.more (sym goes_on ∙ h.goes_on)) [
-  | inl before ↦ inl (record { steps = h.steps; more = before.0; goes_on = before.1; reached = h.reached })
+  | inl before ↦ inl (record { steps = h.steps; more = before.0; goes_on = before.1; handle = h.handle; access = h.access; was = h.was })
   | inr all ↦
-      inr (reached_known (state_of sizes after) (λ id. Unit {0}) (subst (λ xs. IsReached (run (bounds_for sizes xs) xs) r) (all ∙ sym goes_on) h.reached))
+      inr (reached_known (state_of sizes after) (λ id. Unit {0}) (subst (λ xs. IsReached (run (bounds_for sizes xs) xs) r) (all ∙ sym goes_on) (root_reached sizes after r h)))
 ]
 
 -- where nothing more is live then
 pub reached_left : (sizes : Sizes) (account after : Account) (s : Step) → after.steps ≡ account.steps ++ s ∷ [] → ((r : Ref) → IsLive (state_of sizes after) r → IsLive (state_of sizes account) r) →
-    (r : Ref) → WasReached sizes after r → WasReached sizes account r ⊎ IsLive (state_of sizes account) r
+    (r : Ref) → WasRoot sizes after r → WasRoot sizes account r ⊎ IsLive (state_of sizes account) r
 reached_left sizes account after s goes_on live r h = elim (reached_by_then sizes account after s goes_on r h) [
   | inl was ↦ inl was
   | inr now ↦ inr (live r now)
@@ -60,9 +65,9 @@ reached_left sizes account after s goes_on live r h = elim (reached_by_then size
 
 -- so it stands where what is live does
 pub reached_kept : (sizes : Sizes) (account after : Account) (s : Step) → after.steps ≡ account.steps ++ s ∷ [] → (before then : ℕ → Bool) →
-    ((r : Ref) → WasReached sizes account r → before (slot_of r) ≡ true) →
-    ((r : Ref) → IsLive (state_of sizes after) r → then (slot_of r) ≡ true) → ((r : Ref) → WasReached sizes account r → before (slot_of r) ≡ true → then (slot_of r) ≡ true) →
-    (r : Ref) → WasReached sizes after r → then (slot_of r) ≡ true
+    ((r : Ref) → WasRoot sizes account r → before (slot_of r) ≡ true) →
+    ((r : Ref) → IsLive (state_of sizes after) r → then (slot_of r) ≡ true) → ((r : Ref) → WasRoot sizes account r → before (slot_of r) ≡ true → then (slot_of r) ≡ true) →
+    (r : Ref) → WasRoot sizes after r → then (slot_of r) ≡ true
 reached_kept sizes account after s goes_on before then was live still r h = elim (reached_by_then sizes account after s goes_on r h) [
   | inl old ↦ still r old (was r old)
   | inr now ↦ live r now
@@ -70,7 +75,7 @@ reached_kept sizes account after s goes_on before then was live still r h = elim
 
 -- ---- it is in use, and nobody's own
 
-module _ (sizes : Sizes) (account : Account) (bounds : AreBounds (bounds_for sizes account.steps)) (quiet : HasNoSweeps account.steps) (r : Ref) (h : WasReached sizes account r) where
+module _ (sizes : Sizes) (account : Account) (bounds : AreBounds (bounds_for sizes account.steps)) (quiet : HasNoSweeps account.steps) (r : Ref) (h : WasRoot sizes account r) where
   abbrev all : List Step
   all = h.steps ++ h.more
 
@@ -80,7 +85,7 @@ module _ (sizes : Sizes) (account : Account) (bounds : AreBounds (bounds_for siz
   then_reached : IsReached (run (bounds_for sizes all) h.steps) r
   then_reached =
       subst (λ s. IsReached s r) (sym (run_longer sizes h.steps (bounds_less sizes h.steps h.more ok) h.steps [] h.more (sym (append-nil h.steps))))
-      (reached_wide _ _ (run (bounds_for sizes h.steps) h.steps) h.reached)
+      (reached_wide _ _ (run (bounds_for sizes h.steps) h.steps) (root_reached sizes account r h))
 
   pub reached_used : IsInUse (state_of sizes account).heap r
   reached_used =

@@ -91,7 +91,7 @@ module _ (sizes : Sizes) (account : Account) (bounds : AreBounds (bounds_for siz
   module _ (e : (main_at state.heap i == main) ≡ false) where
     pub overtaken : Reads sizes account actor operation
     overtaken =
-        leads sizes account bounds actor operation runs g none (gone_is false e) nothing (λ r k. refl) (λ r h. refl) makes_none (λ j a f ahead standing. publishes_none j a f ahead)
+        leads sizes account bounds actor operation runs g none (gone_is false e) nothing (λ r k. refl) (λ r h. refl) (λ x h g. refl) makes_none (λ j a f ahead standing. publishes_none j a f ahead)
         (as_before tries)
 
     pub another : main_at state.heap i ≢ main

@@ -7,11 +7,9 @@ use Rattle.machine_model.specs.Beneath.slot_arena.specs.declared.nodes.Node.TheV
 use Rattle.machine_model.specs.Beneath.slot_arena.specs.declared.nodes.Slot.{Slot}
 use Rattle.machine_model.specs.Beneath.slot_arena.specs.Heaps.{node_at, refs_of_node, refs_of_prev, refs_of_slot}
 use Rattle.machine_model.specs.Beneath.slot_arena.specs.Refs.{slot_of}
-use Rattle.machine_model.specs.declared.roots.Descriptor.{Descriptor}
 use Rattle.machine_model.specs.declared.roots.RootWord.TheVariants.{Plain}
 use Rattle.machine_model.specs.declared.steps.Step.{Step}
-use Rattle.machine_model.specs.Contents.{from_root}
-use Rattle.machine_model.specs.Machine.{AreBounds, run}
+use Rattle.machine_model.specs.Machine.{AreBounds}
 use Rattle.machine_model.specs.States.{State, root_at}
 use Rattle.machine_model.proofs.Grown.{node_standing}
 use Rattle.proof_memory.specs.Laws.{IsInUse}
@@ -21,11 +19,9 @@ use Rattle.proof_memory.proofs.Safety.Standing.{slot_refs}
 use Rattle.proof_memory.proofs.Safety.States.{IsSafe}
 use Rattle.lock_free.specs.declared.accounts.Account.{Account}
 use Rattle.lock_free.specs.declared.sizes.Sizes.{Sizes}
-use Rattle.lock_free.specs.Accounts.{bounds_for, state_of, HasStood, WasReached}
-use Rattle.lock_free.specs.Making.{refs_of_offer}
+use Rattle.lock_free.specs.Accounts.{bounds_for, state_of, WasRoot}
 use Rattle.lock_free.specs.Roots.{open_with}
 use Rattle.lock_free.proofs.OneStep.Found.{link_of, slot_at}
-use Rattle.lock_free.proofs.OneStep.Offers.{offer_in}
 
 module _ (sizes : Sizes) (account : Account) (bounds : AreBounds (bounds_for sizes account.steps)) where
   abbrev state : State
@@ -50,12 +46,7 @@ module _ (sizes : Sizes) (account : Account) (bounds : AreBounds (bounds_for siz
       let named = All-contains (IsInUse state.heap) (refs_of_slot (Some used.0)) q all (Contains-append_left (refs_of_node used.0.node) (refs_of_prev used.0.prev) q c) in
       (named.0, slot_at state.heap q named.0 named.1)
 
--- what stood in an offer a root has led to
-pub stood_reached : (sizes : Sizes) (account : Account) (offer : Descriptor) → HasStood sizes account offer → (r : Ref) → Contains (refs_of_offer offer) r → WasReached sizes account r
-stood_reached sizes account offer h r c =
-    record { steps = h.steps; more = h.more; goes_on = h.goes_on; reached = from_root h.handle r (offer_in (root_at (run (bounds_for sizes h.steps) h.steps) h.handle) offer h.stood r c) }
-
--- and with more steps still
-pub reached_still : (sizes : Sizes) (account later : Account) (more : List Step) → later.steps ≡ account.steps ++ more → (r : Ref) → WasReached sizes account r → WasReached sizes later r
+-- what was a root once was one with more steps still
+pub reached_still : (sizes : Sizes) (account later : Account) (more : List Step) → later.steps ≡ account.steps ++ more → (r : Ref) → WasRoot sizes account r → WasRoot sizes later r
 reached_still sizes account later more goes_on r h =
-    record { steps = h.steps; more = h.more ++ more; goes_on = goes_on ∙ ap (λ xs. xs ++ more) h.goes_on ∙ append_assoc h.steps h.more more; reached = h.reached }
+    record { steps = h.steps; more = h.more ++ more; goes_on = goes_on ∙ ap (λ xs. xs ++ more) h.goes_on ∙ append_assoc h.steps h.more more; handle = h.handle; access = h.access; was = h.was }

@@ -55,6 +55,7 @@ module _ (sizes : Sizes) (account : Account) (bounds : AreBounds (bounds_for siz
           births = leaves.births;
           live = λ r live. (leaves.live r live, refl);
           reached = λ r h. refl;
+          retired = λ x h g. refl;
           roots = roots_then sizes account bounds actor operation runs g (ap (λ (s : State). s.roots) gone_is);
           generations = leaves.generations;
           others = λ a differs. other_marked sizes account bounds actor operation runs g a differs ∙ ap (λ m. after_mark m (operation_of state a)) no_marks;

@@ -1,36 +1,45 @@
 use Rattle.std.proofs.Common.{sym, subst}
-use Rattle.lock_free.specs.declared.attempts.Attempt.TheVariants as attempt
-use Rattle.lock_free.specs.Attempts.{HasAttempted}
-use Rattle.lock_free.proofs.KeyEntombs.{climbed_out, left_out, left_owns, may_leave}
+use Rattle.lock_free.specs.declared.parking.Came.TheVariants as came
+use Rattle.lock_free.specs.Climbs.{HasClimbedUp}
+use Rattle.lock_free.specs.Parking.{HasRunTo}
+use Rattle.lock_free.specs.RunningOn.{MayAnswer}
+use Rattle.lock_free.proofs.KeyEntombs.{climb_parked, climbed_out, left, left_out}
 use Rattle.lock_free.proofs.OfTasks.{on_way}
 use Rattle.lock_free.proofs.attempts.climb_out.Goals as goal
 
-pub climb-requires-clause-way : goal.climb-requires-clause-way
-climb-requires-clause-way g c = on_way c.args.actor.now.me.0 c.args.task.now c.requires.task c.way-way.result c.way-way.ensures.0 c.way-way.ensures.1
+pub climb_within-requires-clause-way : goal.climb_within-requires-clause-way
+climb_within-requires-clause-way c = on_way c.args.actor.now.me.0 c.args.task.now c.requires.task c.way-way.result c.way-way.ensures.0 c.way-way.ensures.1
 
-pub climb-requires-clause-start : goal.climb-requires-clause-start
-climb-requires-clause-start g c o r = (c.requires.task.calls o r).2
+pub climb_within-requires-clause-start : goal.climb_within-requires-clause-start
+climb_within-requires-clause-start c o r = (c.requires.task.calls o r).2
 
-pub returns-then-climb-clause-climbed : goal.returns-then-climb-clause-climbed
-returns-then-climb-clause-climbed g c =
+pub climb_within-requires-clause-at : goal.climb_within-requires-clause-at
+climb_within-requires-clause-at c = c.requires.at.climbing
+
+pub returns-in-Ok-true-clause-climbed : goal.returns-in-Ok-true-clause-climbed
+returns-in-Ok-true-clause-climbed c =
     let v = c.args.actor.now.me.0 in
-    let after = c.climb.new.actor.me.0 in
-    subst (λ r. HasAttempted v (attempt.Answers r) after) (sym c.changed_reply-reply.ensures)
-    (climbed_out v c.args.task.now c.requires.task c.args.path.now.items c.args.single c.args.former c.requires.at after c.if-climb.ensures.climbed)
+    let w = c.climb_within.new.actor.me.0 in
+    subst (λ r. HasRunTo v (came.Answered r) w) (sym c.changed_reply-reply.ensures)
+    (climbed_out v c.args.task.now c.requires.task c.args.path.now.items c.args.single c.args.former c.requires.at w
+    (subst (λ b. HasClimbedUp v b w) c.in-Ok-true.field-0-test (c.in-Ok-true.ensures {u = tt}).climbed))
 
-pub give_up-requires-clause-may : goal.give_up-requires-clause-may
-give_up-requires-clause-may g c =
-    may_leave c.args.actor.now.me.0 c.args.task.now c.requires.task c.args.path.now.items c.args.single c.args.former c.requires.at c.climb.new.actor.me.0 c.if-climb.ensures.climbed
-
-pub returns-clause-stock : goal.returns-clause-stock
-returns-clause-stock g c =
-    let given = c.give_back.ensures in
-    left_owns c.args.actor.now.me.0 c.args.task.now c.requires.task c.args.path.now.items c.args.single c.args.former c.requires.at c.climb.new.actor.me.0 c.if-climb.ensures.climbed
-    c.give_up.new.actor.me.0 c.give_up.ensures.gave c.args.words.now.table_id.words c.climb.ensures.sound c.climb.new.stock c.give_back.new.self c.climb.ensures.stock given.sizes given.pool given.made
-
-pub returns-clause-climbed : goal.returns-clause-climbed
-returns-clause-climbed g c =
+pub leave_climb-requires-clause-may : goal.leave_climb-requires-clause-may
+leave_climb-requires-clause-may c =
     let v = c.args.actor.now.me.0 in
-    let after = c.give_up.new.actor.me.0 in
-    subst (λ r. HasAttempted v (attempt.Answers r) after) (sym c.changed_reply-reply.ensures)
-    (left_out v c.args.task.now c.requires.task c.args.path.now.items c.args.single c.args.former c.requires.at c.climb.new.actor.me.0 c.if-climb.ensures.climbed after c.give_up.ensures.gave)
+    let w = c.climb_within.new.actor.me.0 in
+    subst (MayAnswer w) (sym c.changed_reply-reply.ensures)
+    (left v c.args.task.now c.requires.task c.args.path.now.items c.args.single c.args.former c.requires.at w
+    (subst (λ b. HasClimbedUp v b w) c.in-Ok-false.field-0-test (c.in-Ok-false.ensures {u = tt}).climbed))
+
+pub returns-in-Ok-false-clause-climbed : goal.returns-in-Ok-false-clause-climbed
+returns-in-Ok-false-clause-climbed c =
+    let v = c.args.actor.now.me.0 in
+    let w = c.climb_within.new.actor.me.0 in
+    left_out v c.args.task.now c.requires.task c.args.path.now.items c.args.single c.args.former c.requires.at w
+    (subst (λ b. HasClimbedUp v b w) c.in-Ok-false.field-0-test (c.in-Ok-false.ensures {u = tt}).climbed) c.leave_climb.result c.leave_climb.new.actor.me.0 c.leave_climb.ensures.left
+
+pub returns-in-Err-clause-climbed : goal.returns-in-Err-clause-climbed
+returns-in-Err-clause-climbed c =
+    climb_parked c.args.actor.now.me.0 c.args.task.now c.requires.task c.args.path.now.items c.args.single c.args.former c.requires.at c.in-Err.left c.climb_within.new.actor.me.0
+    (c.in-Err.ensures {u = tt}).left

@@ -6,17 +6,17 @@ use Rattle.lock_free.proofs.Leads.{first_none, first_leads, last_led, makes_rung
 use Rattle.lock_free.proofs.building.lead.Goals as goal
 
 pub make_link-requires-clause-making : goal.make_link-requires-clause-making
-make_link-requires-clause-making g c =
+make_link-requires-clause-making c =
     let (path, main, position, below, on, b, placed, deep) = c.requires.at in
     (below, link_at c.args.actor.now.me.0 c.args.by path main position below c.args.depth on b, subst (IsPlaced c.args.actor.now.me.0 below) (sym c.owned.ensures) placed)
 
 pub returns-in_err-link-clause-led : goal.returns-in_err-link-clause-led
-returns-in_err-link-clause-led g c =
+returns-in_err-link-clause-led c =
     subst (λ r. HasLinked c.args.actor.now.me.0 c.args.depth r c.make_link.new.actor.me.0) (sym c.from_residual.ensures)
     (first_none c.args.words.now.table_id.words c.args.actor.now.me.0 c.args.by c.args.depth c.args.main c.requires.at c.make_link.new.actor.me.0 (c.in_err-link.ensures {u = tt}).made)
 
 pub loop-n-init : goal.loop-n-init
-loop-n-init g c =
+loop-n-init c =
     let deep = c.requires.at.7 in (
       c.make_link.ensures.table,
       c.make_link.ensures.sound,
@@ -28,14 +28,14 @@ loop-n-init g c =
     )
 
 pub make_rung-requires-clause-making : goal.make_rung-requires-clause-making
-make_rung-requires-clause-making g c =
+make_rung-requires-clause-making c =
     let (t, sound, stock, leads, low, top) = c.loop-n.invariant in
     let more = c.loop-n-test.true in
     makes_rung c.args.words.now.table_id.words c.args.actor.now.me.0 c.args.by c.args.depth c.args.main c.requires.at c.loop-n.actor.me.0 c.loop-n.n c.loop-n.link leads low more c.flag_of-flag.result
     (c.flag_of-flag.ensures.flag ∙ ap (flag_of c.args.by.hash) (omega (arith, low, more)))
 
 pub returns-in_err-rung-clause-led : goal.returns-in_err-rung-clause-led
-returns-in_err-rung-clause-led g c =
+returns-in_err-rung-clause-led c =
     let (t, sound, stock, leads, low, top) = c.loop-n.invariant in
     let more = c.loop-n-test.true in
     subst (λ r. HasLinked c.args.actor.now.me.0 c.args.depth r c.make_rung.new.actor.me.0) (sym c.from_residual-in_err-rung.ensures)
@@ -43,7 +43,7 @@ returns-in_err-rung-clause-led g c =
     c.make_rung.new.actor.me.0 (c.in_err-rung.ensures {u = tt}).made)
 
 pub make_link-requires-in-loop-n-clause-making : goal.make_link-requires-in-loop-n-clause-making
-make_link-requires-in-loop-n-clause-making g c =
+make_link-requires-in-loop-n-clause-making c =
     let (t, sound, stock, leads, low, top) = c.loop-n.invariant in
     let more = c.loop-n-test.true in
     let (r, at, placed) = next_link c.args.words.now.table_id.words c.args.actor.now.me.0 c.args.by c.args.depth c.args.main c.requires.at c.loop-n.actor.me.0 c.loop-n.n c.loop-n.link leads low more
@@ -51,7 +51,7 @@ make_link-requires-in-loop-n-clause-making g c =
     (r, at, subst (IsPlaced c.make_rung.new.actor.me.0 r) (sym c.owned-in-loop-n.ensures) placed)
 
 pub returns-in_err-link-2-clause-led : goal.returns-in_err-link-2-clause-led
-returns-in_err-link-2-clause-led g c =
+returns-in_err-link-2-clause-led c =
     let (t, sound, stock, leads, low, top) = c.loop-n.invariant in
     let more = c.loop-n-test.true in
     subst (λ r. HasLinked c.args.actor.now.me.0 c.args.depth r c.make_link-in-loop-n.new.actor.me.0) (sym c.from_residual-in_err-link-2.ensures)
@@ -59,7 +59,7 @@ returns-in_err-link-2-clause-led g c =
     c.make_rung.new.actor.me.0 c.in_ok-rung.rung (c.in_ok-rung.ensures {u = tt}).made c.make_link-in-loop-n.new.actor.me.0 (c.in_err-link-2.ensures {u = tt}).made)
 
 pub loop-n-preserved : goal.loop-n-preserved
-loop-n-preserved g c =
+loop-n-preserved c =
     let (t, sound, stock, leads, low, top) = c.loop-n.invariant in
     let more = c.loop-n-test.true in (
       c.make_link-in-loop-n.ensures.table ∙ c.make_rung.ensures.table ∙ t,
@@ -72,7 +72,7 @@ loop-n-preserved g c =
     )
 
 pub returns-clause-led : goal.returns-clause-led
-returns-clause-led g c =
+returns-clause-led c =
     let (t, sound, stock, leads, low, top) = c.loop-n.invariant in
     let done = c.loop-n-test.false in
     last_led c.args.words.now.table_id.words c.args.actor.now.me.0 c.args.by c.args.depth c.args.main c.requires.at c.loop-n.actor.me.0 c.loop-n.n c.loop-n.link leads low (omega (arith, top, done))

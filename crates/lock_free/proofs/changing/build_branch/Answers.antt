@@ -1,70 +1,85 @@
-use Rattle.std.proofs.Common.{◌≤◌, List, sym, ap, subst, ◌∙◌, length}
-use Rattle.trie_words.specs.declared.entries.Entry.{Entry}
+use Rattle.std.proofs.Common.{◌≤◌, ℕ, List, sym, ap, subst, ◌∙◌, length}
 use Rattle.trie_words.specs.declared.headers.Shape.TheVariants as shape
 use Rattle.machine_model.specs.Beneath.ctrie_base.specs.Paths.{position_of}
-use Rattle.lock_free.specs.Changing.{edited, edited_bitmap, CanEdit}
+use Rattle.lock_free.specs.Changing.{edited_bitmap, CanEdit}
+use Rattle.lock_free.specs.Halves.{entries_of_halves, halves_edited, AreHalves}
 use Rattle.lock_free.specs.SeenEntries.{IsAtBranch}
-use Rattle.lock_free.proofs.ChangedMains.{has_entries, few_seen, over_there, stock_there, built_there}
+use Rattle.lock_free.proofs.ChangedMains.{edit_fits, has_entries, few_seen, over_there, stock_there, built_there}
 use Rattle.lock_free.proofs.ChangedBranches.{refs, refs_are, counted, few, branch_can, branch_ready}
+use Rattle.lock_free.proofs.EntryHalves.{can_edit_halves, edited_few, edited_is, edited_small}
 use Rattle.lock_free.proofs.changing.build_branch.Goals as goal
 
-pub see_entries-entries-requires-clause-held : goal.see_entries-entries-requires-clause-held
-see_entries-entries-requires-clause-held g c =
+pub see_halves-halves-requires-clause-held : goal.see_halves-halves-requires-clause-held
+see_halves-halves-requires-clause-held c =
     has_entries c.args.words.now.table_id.words c.args.actor.now.me.0 c.requires.sound c.args.main (shape.Branch c.args.bitmap) c.args.flag c.args.change c.requires.at
     (refs c.args.words.now.table_id.words c.args.actor.now.me.0 c.requires.sound c.args.main c.args.bitmap c.args.flag c.args.change c.requires.at)
     (refs_are c.args.words.now.table_id.words c.args.actor.now.me.0 c.requires.sound c.args.main c.args.bitmap c.args.flag c.args.change c.requires.at)
     (counted c.args.words.now.table_id.words c.args.actor.now.me.0 c.requires.sound c.args.main c.args.bitmap c.args.flag c.args.change c.requires.at)
     (few c.args.words.now.table_id.words c.args.actor.now.me.0 c.requires.sound c.args.main c.args.bitmap c.args.flag c.args.change c.requires.at)
 
-pub apply-requires : goal.apply-requires
-apply-requires g c =
-    subst (λ k. CanEdit c.see_entries-entries.result.items k c.args.change) (sym c.position_of.ensures.position)
+pub apply-requires-clause-can : goal.apply-requires-clause-can
+apply-requires-clause-can c =
+    can_edit_halves c.see_halves-halves.result.items c.position_of.result c.args.change
+    (subst (λ k. CanEdit (entries_of_halves c.see_halves-halves.result.items) k c.args.change) (sym c.position_of.ensures.position)
     (branch_can c.args.words.now.table_id.words c.args.actor.now.me.0 c.requires.sound c.args.main c.args.bitmap c.args.flag c.args.change c.requires.at
-    c.see_entries-entries.new.actor.me.0 c.see_entries-entries.result.items c.see_entries-entries.ensures.seen)
+    c.see_halves-halves.new.actor.me.0 (entries_of_halves c.see_halves-halves.result.items) c.see_halves-halves.ensures.seen))
 
-pub make_branch-requires-clause-stock : goal.make_branch-requires-clause-stock
-make_branch-requires-clause-stock g c =
+pub apply-requires-clause-fits : goal.apply-requires-clause-fits
+apply-requires-clause-fits c = edit_fits c.args.words.now.table_id.words c.args.actor.now.me.0 c.requires.sound c.args.main (shape.Branch c.args.bitmap) c.args.flag c.args.change c.requires.at
+
+pub make_branch_of-requires-clause-stock : goal.make_branch_of-requires-clause-stock
+make_branch_of-requires-clause-stock c =
     stock_there c.args.words.now.table_id.words c.args.actor.now.me.0 c.requires.sound c.args.main (shape.Branch c.args.bitmap) c.args.flag c.args.change c.requires.at
     (refs c.args.words.now.table_id.words c.args.actor.now.me.0 c.requires.sound c.args.main c.args.bitmap c.args.flag c.args.change c.requires.at)
     (refs_are c.args.words.now.table_id.words c.args.actor.now.me.0 c.requires.sound c.args.main c.args.bitmap c.args.flag c.args.change c.requires.at)
     (counted c.args.words.now.table_id.words c.args.actor.now.me.0 c.requires.sound c.args.main c.args.bitmap c.args.flag c.args.change c.requires.at)
-    (few c.args.words.now.table_id.words c.args.actor.now.me.0 c.requires.sound c.args.main c.args.bitmap c.args.flag c.args.change c.requires.at) c.see_entries-entries.new.actor.me.0
-    c.see_entries-entries.result.items c.see_entries-entries.ensures.seen c.args.stock.now c.requires.stock
+    (few c.args.words.now.table_id.words c.args.actor.now.me.0 c.requires.sound c.args.main c.args.bitmap c.args.flag c.args.change c.requires.at) c.see_halves-halves.new.actor.me.0
+    (entries_of_halves c.see_halves-halves.result.items) c.see_halves-halves.ensures.seen c.args.stock.now c.requires.stock
 
-pub make_branch-requires-clause-few : goal.make_branch-requires-clause-few
-make_branch-requires-clause-few g c =
-    subst (λ (es : List Entry). length es ≤ 32) (sym (c.deref.ensures.0 ∙ c.apply.ensures ∙ ap (λ k. edited c.see_entries-entries.result.items k c.args.change) c.position_of.ensures.position))
+pub make_branch_of-requires-clause-few : goal.make_branch_of-requires-clause-few
+make_branch_of-requires-clause-few c =
+    subst (λ (hs : List ℕ). length hs ≤ 32) (sym (c.deref.ensures.0 ∙ c.apply.ensures ∙ ap (λ k. halves_edited c.see_halves-halves.result.items k c.args.change) c.position_of.ensures.position))
+    (edited_few c.see_halves-halves.result.items (position_of c.args.flag c.args.bitmap) c.args.change (edit_fits c.args.words.now.table_id.words c.args.actor.now.me.0 c.requires.sound
+    c.args.main (shape.Branch c.args.bitmap) c.args.flag c.args.change c.requires.at)
     (few_seen c.args.words.now.table_id.words c.args.actor.now.me.0 c.requires.sound c.args.main (shape.Branch c.args.bitmap) c.args.flag c.args.change c.requires.at
     (refs c.args.words.now.table_id.words c.args.actor.now.me.0 c.requires.sound c.args.main c.args.bitmap c.args.flag c.args.change c.requires.at)
     (refs_are c.args.words.now.table_id.words c.args.actor.now.me.0 c.requires.sound c.args.main c.args.bitmap c.args.flag c.args.change c.requires.at)
     (counted c.args.words.now.table_id.words c.args.actor.now.me.0 c.requires.sound c.args.main c.args.bitmap c.args.flag c.args.change c.requires.at)
-    (few c.args.words.now.table_id.words c.args.actor.now.me.0 c.requires.sound c.args.main c.args.bitmap c.args.flag c.args.change c.requires.at) c.see_entries-entries.new.actor.me.0
-    c.see_entries-entries.result.items c.see_entries-entries.ensures.seen (position_of c.args.flag c.args.bitmap)
+    (few c.args.words.now.table_id.words c.args.actor.now.me.0 c.requires.sound c.args.main c.args.bitmap c.args.flag c.args.change c.requires.at) c.see_halves-halves.new.actor.me.0
+    (entries_of_halves c.see_halves-halves.result.items) c.see_halves-halves.ensures.seen (position_of c.args.flag c.args.bitmap)
     (branch_can c.args.words.now.table_id.words c.args.actor.now.me.0 c.requires.sound c.args.main c.args.bitmap c.args.flag c.args.change c.requires.at
-    c.see_entries-entries.new.actor.me.0 c.see_entries-entries.result.items c.see_entries-entries.ensures.seen))
+    c.see_halves-halves.new.actor.me.0 (entries_of_halves c.see_halves-halves.result.items) c.see_halves-halves.ensures.seen)))
 
-pub make_branch-requires-clause-making : goal.make_branch-requires-clause-making
-make_branch-requires-clause-making g c =
-    subst (λ b. IsAtBranch c.see_entries-entries.new.actor.me.0 b c.deref.result.now) (sym c.edited_bitmap-bitmap.ensures)
-    (subst (IsAtBranch c.see_entries-entries.new.actor.me.0 (edited_bitmap c.args.bitmap c.args.flag c.args.change))
-    (sym (c.deref.ensures.0 ∙ c.apply.ensures ∙ ap (λ k. edited c.see_entries-entries.result.items k c.args.change) c.position_of.ensures.position))
+pub make_branch_of-requires-clause-halves : goal.make_branch_of-requires-clause-halves
+make_branch_of-requires-clause-halves c =
+    subst AreHalves (sym (c.deref.ensures.0 ∙ c.apply.ensures)) (edited_small c.see_halves-halves.result.items c.position_of.result c.args.change (edit_fits c.args.words.now.table_id.words
+    c.args.actor.now.me.0 c.requires.sound c.args.main (shape.Branch c.args.bitmap) c.args.flag c.args.change c.requires.at) c.see_halves-halves.ensures.halves)
+
+pub make_branch_of-requires-clause-making : goal.make_branch_of-requires-clause-making
+make_branch_of-requires-clause-making c =
+    subst (λ b. IsAtBranch c.see_halves-halves.new.actor.me.0 b (entries_of_halves c.deref.result.now)) (sym c.edited_bitmap-bitmap.ensures)
+    (subst (IsAtBranch c.see_halves-halves.new.actor.me.0 (edited_bitmap c.args.bitmap c.args.flag c.args.change))
+    (sym (ap entries_of_halves (c.deref.ensures.0 ∙ c.apply.ensures ∙ ap (λ k. halves_edited c.see_halves-halves.result.items k c.args.change) c.position_of.ensures.position) ∙ edited_is
+    c.see_halves-halves.result.items (position_of c.args.flag c.args.bitmap) c.args.change (edit_fits c.args.words.now.table_id.words c.args.actor.now.me.0 c.requires.sound c.args.main
+    (shape.Branch c.args.bitmap) c.args.flag c.args.change c.requires.at)))
     (branch_ready c.args.words.now.table_id.words c.args.actor.now.me.0 c.requires.sound c.args.main c.args.bitmap c.args.flag c.args.change c.requires.at
-    c.see_entries-entries.new.actor.me.0 c.see_entries-entries.result.items c.see_entries-entries.ensures.seen c.requires.kept c.see_entries-entries.ensures.sound))
+    c.see_halves-halves.new.actor.me.0 (entries_of_halves c.see_halves-halves.result.items) c.see_halves-halves.ensures.seen c.requires.kept c.see_halves-halves.ensures.sound))
 
-pub make_branch-requires-clause-over : goal.make_branch-requires-clause-over
-make_branch-requires-clause-over g c =
+pub make_branch_of-requires-clause-over : goal.make_branch_of-requires-clause-over
+make_branch_of-requires-clause-over c =
     over_there c.args.words.now.table_id.words c.args.actor.now.me.0 c.requires.sound c.args.main (shape.Branch c.args.bitmap) c.args.flag c.args.change c.requires.at
     (refs c.args.words.now.table_id.words c.args.actor.now.me.0 c.requires.sound c.args.main c.args.bitmap c.args.flag c.args.change c.requires.at)
     (refs_are c.args.words.now.table_id.words c.args.actor.now.me.0 c.requires.sound c.args.main c.args.bitmap c.args.flag c.args.change c.requires.at)
     (counted c.args.words.now.table_id.words c.args.actor.now.me.0 c.requires.sound c.args.main c.args.bitmap c.args.flag c.args.change c.requires.at)
-    (few c.args.words.now.table_id.words c.args.actor.now.me.0 c.requires.sound c.args.main c.args.bitmap c.args.flag c.args.change c.requires.at) c.see_entries-entries.new.actor.me.0
-    c.see_entries-entries.result.items c.see_entries-entries.ensures.seen c.see_entries-entries.ensures.sound
+    (few c.args.words.now.table_id.words c.args.actor.now.me.0 c.requires.sound c.args.main c.args.bitmap c.args.flag c.args.change c.requires.at) c.see_halves-halves.new.actor.me.0
+    (entries_of_halves c.see_halves-halves.result.items) c.see_halves-halves.ensures.seen c.see_halves-halves.ensures.sound
 
 pub returns-clause-built : goal.returns-clause-built
-returns-clause-built g c =
+returns-clause-built c =
     built_there c.args.words.now.table_id.words c.args.actor.now.me.0 c.requires.sound c.args.main (shape.Branch c.args.bitmap) c.args.flag c.args.change c.requires.at
     (refs c.args.words.now.table_id.words c.args.actor.now.me.0 c.requires.sound c.args.main c.args.bitmap c.args.flag c.args.change c.requires.at)
     (refs_are c.args.words.now.table_id.words c.args.actor.now.me.0 c.requires.sound c.args.main c.args.bitmap c.args.flag c.args.change c.requires.at)
     (counted c.args.words.now.table_id.words c.args.actor.now.me.0 c.requires.sound c.args.main c.args.bitmap c.args.flag c.args.change c.requires.at)
-    (few c.args.words.now.table_id.words c.args.actor.now.me.0 c.requires.sound c.args.main c.args.bitmap c.args.flag c.args.change c.requires.at) c.see_entries-entries.new.actor.me.0
-    c.see_entries-entries.result.items c.see_entries-entries.ensures.seen c.see_entries-entries.ensures.sound c.make_branch.result c.make_branch.new.actor.me.0 c.make_branch.ensures.made
+    (few c.args.words.now.table_id.words c.args.actor.now.me.0 c.requires.sound c.args.main c.args.bitmap c.args.flag c.args.change c.requires.at) c.see_halves-halves.new.actor.me.0
+    (entries_of_halves c.see_halves-halves.result.items) c.see_halves-halves.ensures.seen c.see_halves-halves.ensures.sound c.make_branch_of.result c.make_branch_of.new.actor.me.0
+    c.make_branch_of.ensures.made

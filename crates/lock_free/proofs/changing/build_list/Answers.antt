@@ -1,65 +1,79 @@
-use Rattle.std.proofs.Common.{◌≤◌, List, sym, subst, ◌∙◌, length}
-use Rattle.trie_words.specs.declared.entries.Entry.{Entry}
+use Rattle.std.proofs.Common.{◌≤◌, ℕ, List, sym, ap, subst, ◌∙◌, length}
 use Rattle.trie_words.specs.declared.headers.Shape.TheVariants as shape
+use Rattle.lock_free.specs.Halves.{entries_of_halves, AreHalves}
 use Rattle.lock_free.specs.SeenEntries.{IsAtList}
-use Rattle.lock_free.proofs.ChangedMains.{has_entries, few_seen, over_there, stock_there, built_there}
+use Rattle.lock_free.proofs.ChangedMains.{edit_fits, has_entries, few_seen, over_there, stock_there, built_there}
 use Rattle.lock_free.proofs.ChangedLists.{refs, refs_are, counted, few, list_can, list_ready}
+use Rattle.lock_free.proofs.EntryHalves.{can_edit_halves, edited_few, edited_is, edited_small}
 use Rattle.lock_free.proofs.changing.build_list.Goals as goal
 
-pub see_entries-entries-requires-clause-held : goal.see_entries-entries-requires-clause-held
-see_entries-entries-requires-clause-held g c =
+pub see_halves-halves-requires-clause-held : goal.see_halves-halves-requires-clause-held
+see_halves-halves-requires-clause-held c =
     has_entries c.args.words.now.table_id.words c.args.actor.now.me.0 c.requires.sound c.args.main (shape.List c.args.count) c.args.flag c.args.change c.requires.at
     (refs c.args.words.now.table_id.words c.args.actor.now.me.0 c.requires.sound c.args.main c.args.count c.args.flag c.args.change c.requires.at)
     (refs_are c.args.words.now.table_id.words c.args.actor.now.me.0 c.requires.sound c.args.main c.args.count c.args.flag c.args.change c.requires.at)
     (counted c.args.words.now.table_id.words c.args.actor.now.me.0 c.requires.sound c.args.main c.args.count c.args.flag c.args.change c.requires.at)
     (few c.args.words.now.table_id.words c.args.actor.now.me.0 c.requires.sound c.args.main c.args.count c.args.flag c.args.change c.requires.at)
 
-pub apply-requires : goal.apply-requires
-apply-requires g c =
-    list_can c.args.words.now.table_id.words c.args.actor.now.me.0 c.requires.sound c.args.main c.args.count c.args.flag c.args.change c.requires.at c.see_entries-entries.new.actor.me.0
-    c.see_entries-entries.result.items c.see_entries-entries.ensures.seen
+pub apply-requires-clause-can : goal.apply-requires-clause-can
+apply-requires-clause-can c =
+    can_edit_halves c.see_halves-halves.result.items c.args.count c.args.change
+    (list_can c.args.words.now.table_id.words c.args.actor.now.me.0 c.requires.sound c.args.main c.args.count c.args.flag c.args.change c.requires.at c.see_halves-halves.new.actor.me.0
+    (entries_of_halves c.see_halves-halves.result.items) c.see_halves-halves.ensures.seen)
 
-pub make_list-requires-clause-stock : goal.make_list-requires-clause-stock
-make_list-requires-clause-stock g c =
+pub apply-requires-clause-fits : goal.apply-requires-clause-fits
+apply-requires-clause-fits c = edit_fits c.args.words.now.table_id.words c.args.actor.now.me.0 c.requires.sound c.args.main (shape.List c.args.count) c.args.flag c.args.change c.requires.at
+
+pub make_list_of-requires-clause-stock : goal.make_list_of-requires-clause-stock
+make_list_of-requires-clause-stock c =
     stock_there c.args.words.now.table_id.words c.args.actor.now.me.0 c.requires.sound c.args.main (shape.List c.args.count) c.args.flag c.args.change c.requires.at
     (refs c.args.words.now.table_id.words c.args.actor.now.me.0 c.requires.sound c.args.main c.args.count c.args.flag c.args.change c.requires.at)
     (refs_are c.args.words.now.table_id.words c.args.actor.now.me.0 c.requires.sound c.args.main c.args.count c.args.flag c.args.change c.requires.at)
     (counted c.args.words.now.table_id.words c.args.actor.now.me.0 c.requires.sound c.args.main c.args.count c.args.flag c.args.change c.requires.at)
-    (few c.args.words.now.table_id.words c.args.actor.now.me.0 c.requires.sound c.args.main c.args.count c.args.flag c.args.change c.requires.at) c.see_entries-entries.new.actor.me.0
-    c.see_entries-entries.result.items c.see_entries-entries.ensures.seen c.args.stock.now c.requires.stock
+    (few c.args.words.now.table_id.words c.args.actor.now.me.0 c.requires.sound c.args.main c.args.count c.args.flag c.args.change c.requires.at) c.see_halves-halves.new.actor.me.0
+    (entries_of_halves c.see_halves-halves.result.items) c.see_halves-halves.ensures.seen c.args.stock.now c.requires.stock
 
-pub make_list-requires-clause-few : goal.make_list-requires-clause-few
-make_list-requires-clause-few g c =
-    subst (λ (es : List Entry). length es ≤ 32) (sym (c.deref.ensures.0 ∙ c.apply.ensures))
+pub make_list_of-requires-clause-few : goal.make_list_of-requires-clause-few
+make_list_of-requires-clause-few c =
+    subst (λ (hs : List ℕ). length hs ≤ 32) (sym (c.deref.ensures.0 ∙ c.apply.ensures))
+    (edited_few c.see_halves-halves.result.items c.args.count c.args.change (edit_fits c.args.words.now.table_id.words c.args.actor.now.me.0 c.requires.sound c.args.main (shape.List c.args.count)
+    c.args.flag c.args.change c.requires.at)
     (few_seen c.args.words.now.table_id.words c.args.actor.now.me.0 c.requires.sound c.args.main (shape.List c.args.count) c.args.flag c.args.change c.requires.at
     (refs c.args.words.now.table_id.words c.args.actor.now.me.0 c.requires.sound c.args.main c.args.count c.args.flag c.args.change c.requires.at)
     (refs_are c.args.words.now.table_id.words c.args.actor.now.me.0 c.requires.sound c.args.main c.args.count c.args.flag c.args.change c.requires.at)
     (counted c.args.words.now.table_id.words c.args.actor.now.me.0 c.requires.sound c.args.main c.args.count c.args.flag c.args.change c.requires.at)
-    (few c.args.words.now.table_id.words c.args.actor.now.me.0 c.requires.sound c.args.main c.args.count c.args.flag c.args.change c.requires.at) c.see_entries-entries.new.actor.me.0
-    c.see_entries-entries.result.items c.see_entries-entries.ensures.seen c.args.count
+    (few c.args.words.now.table_id.words c.args.actor.now.me.0 c.requires.sound c.args.main c.args.count c.args.flag c.args.change c.requires.at) c.see_halves-halves.new.actor.me.0
+    (entries_of_halves c.see_halves-halves.result.items) c.see_halves-halves.ensures.seen c.args.count
     (list_can c.args.words.now.table_id.words c.args.actor.now.me.0 c.requires.sound c.args.main c.args.count c.args.flag c.args.change c.requires.at
-    c.see_entries-entries.new.actor.me.0 c.see_entries-entries.result.items c.see_entries-entries.ensures.seen))
+    c.see_halves-halves.new.actor.me.0 (entries_of_halves c.see_halves-halves.result.items) c.see_halves-halves.ensures.seen)))
 
-pub make_list-requires-clause-making : goal.make_list-requires-clause-making
-make_list-requires-clause-making g c =
-    subst (IsAtList c.see_entries-entries.new.actor.me.0) (sym (c.deref.ensures.0 ∙ c.apply.ensures))
+pub make_list_of-requires-clause-halves : goal.make_list_of-requires-clause-halves
+make_list_of-requires-clause-halves c =
+    subst AreHalves (sym (c.deref.ensures.0 ∙ c.apply.ensures)) (edited_small c.see_halves-halves.result.items c.args.count c.args.change (edit_fits c.args.words.now.table_id.words
+    c.args.actor.now.me.0 c.requires.sound c.args.main (shape.List c.args.count) c.args.flag c.args.change c.requires.at) c.see_halves-halves.ensures.halves)
+
+pub make_list_of-requires-clause-making : goal.make_list_of-requires-clause-making
+make_list_of-requires-clause-making c =
+    subst (IsAtList c.see_halves-halves.new.actor.me.0) (sym (ap entries_of_halves (c.deref.ensures.0 ∙ c.apply.ensures) ∙ edited_is c.see_halves-halves.result.items c.args.count c.args.change
+    (edit_fits c.args.words.now.table_id.words c.args.actor.now.me.0 c.requires.sound c.args.main (shape.List c.args.count) c.args.flag c.args.change c.requires.at)))
     (list_ready c.args.words.now.table_id.words c.args.actor.now.me.0 c.requires.sound c.args.main c.args.count c.args.flag c.args.change c.requires.at
-    c.see_entries-entries.new.actor.me.0 c.see_entries-entries.result.items c.see_entries-entries.ensures.seen c.requires.kept c.see_entries-entries.ensures.sound)
+    c.see_halves-halves.new.actor.me.0 (entries_of_halves c.see_halves-halves.result.items) c.see_halves-halves.ensures.seen c.requires.kept c.see_halves-halves.ensures.sound)
 
-pub make_list-requires-clause-over : goal.make_list-requires-clause-over
-make_list-requires-clause-over g c =
+pub make_list_of-requires-clause-over : goal.make_list_of-requires-clause-over
+make_list_of-requires-clause-over c =
     over_there c.args.words.now.table_id.words c.args.actor.now.me.0 c.requires.sound c.args.main (shape.List c.args.count) c.args.flag c.args.change c.requires.at
     (refs c.args.words.now.table_id.words c.args.actor.now.me.0 c.requires.sound c.args.main c.args.count c.args.flag c.args.change c.requires.at)
     (refs_are c.args.words.now.table_id.words c.args.actor.now.me.0 c.requires.sound c.args.main c.args.count c.args.flag c.args.change c.requires.at)
     (counted c.args.words.now.table_id.words c.args.actor.now.me.0 c.requires.sound c.args.main c.args.count c.args.flag c.args.change c.requires.at)
-    (few c.args.words.now.table_id.words c.args.actor.now.me.0 c.requires.sound c.args.main c.args.count c.args.flag c.args.change c.requires.at) c.see_entries-entries.new.actor.me.0
-    c.see_entries-entries.result.items c.see_entries-entries.ensures.seen c.see_entries-entries.ensures.sound
+    (few c.args.words.now.table_id.words c.args.actor.now.me.0 c.requires.sound c.args.main c.args.count c.args.flag c.args.change c.requires.at) c.see_halves-halves.new.actor.me.0
+    (entries_of_halves c.see_halves-halves.result.items) c.see_halves-halves.ensures.seen c.see_halves-halves.ensures.sound
 
 pub returns-clause-built : goal.returns-clause-built
-returns-clause-built g c =
+returns-clause-built c =
     built_there c.args.words.now.table_id.words c.args.actor.now.me.0 c.requires.sound c.args.main (shape.List c.args.count) c.args.flag c.args.change c.requires.at
     (refs c.args.words.now.table_id.words c.args.actor.now.me.0 c.requires.sound c.args.main c.args.count c.args.flag c.args.change c.requires.at)
     (refs_are c.args.words.now.table_id.words c.args.actor.now.me.0 c.requires.sound c.args.main c.args.count c.args.flag c.args.change c.requires.at)
     (counted c.args.words.now.table_id.words c.args.actor.now.me.0 c.requires.sound c.args.main c.args.count c.args.flag c.args.change c.requires.at)
-    (few c.args.words.now.table_id.words c.args.actor.now.me.0 c.requires.sound c.args.main c.args.count c.args.flag c.args.change c.requires.at) c.see_entries-entries.new.actor.me.0
-    c.see_entries-entries.result.items c.see_entries-entries.ensures.seen c.see_entries-entries.ensures.sound c.make_list.result c.make_list.new.actor.me.0 c.make_list.ensures.made
+    (few c.args.words.now.table_id.words c.args.actor.now.me.0 c.requires.sound c.args.main c.args.count c.args.flag c.args.change c.requires.at) c.see_halves-halves.new.actor.me.0
+    (entries_of_halves c.see_halves-halves.result.items) c.see_halves-halves.ensures.seen c.see_halves-halves.ensures.sound c.make_list_of.result c.make_list_of.new.actor.me.0
+    c.make_list_of.ensures.made

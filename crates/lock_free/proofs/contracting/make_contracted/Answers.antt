@@ -5,7 +5,7 @@ use Rattle.lock_free.proofs.Contracted.{branch_making}
 use Rattle.lock_free.proofs.contracting.make_contracted.Goals as goal
 
 pub make_branch-requires-clause-making : goal.make_branch-requires-clause-making
-make_branch-requires-clause-making g c =
+make_branch-requires-clause-making c =
     let v = c.args.actor.now.me.0 in
     subst (λ xs. IsAtBranch v c.args.bitmap xs) (sym c.deref.ensures.0)
     (branch_making v c.args.may_entomb c.args.bitmap c.args.entries.now.items c.requires.making

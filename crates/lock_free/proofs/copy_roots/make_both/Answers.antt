@@ -6,19 +6,19 @@ use Rattle.lock_free.proofs.CopyRoots.{at_second, both_made, main_at_second, sec
 use Rattle.lock_free.proofs.copy_roots.make_both.Goals as goal
 
 pub returns-in_err-successor-clause-made : goal.returns-in_err-successor-clause-made
-returns-in_err-successor-clause-made g c root main at =
+returns-in_err-successor-clause-made c root main at =
     let before = c.args.actor.now.me.0 in
     let after = c.make_new_root.new.actor.me.0 in
     subst (λ x. HasRootsOrNone before kind.Snapshot root main x after) (sym c.from_residual.ensures)
     (stopped before (copy.Successor root main) at refl after ((c.in_err-successor.ensures {u = tt}).made (copy.Successor root main) main at refl))
 
 pub make_new_root-requires-2-clause-making : goal.make_new_root-requires-2-clause-making
-make_new_root-requires-2-clause-making g c =
+make_new_root-requires-2-clause-making c =
     let (root, main, at, placed) = c.requires.given in
     main_at_second c.args.actor.now.me.0 root main at c.in_ok-successor.successor c.make_new_root.new.actor.me.0 (c.in_ok-successor.ensures {u = tt}).made c.requires.which c.args.main placed
 
 pub returns-in_err-second-clause-made : goal.returns-in_err-second-clause-made
-returns-in_err-second-clause-made g c root main at =
+returns-in_err-second-clause-made c root main at =
     let before = c.args.actor.now.me.0 in
     let middle = c.make_new_root.new.actor.me.0 in
     let after = c.make_new_root-2.new.actor.me.0 in
@@ -29,6 +29,6 @@ returns-in_err-second-clause-made g c root main at =
     ((c.in_err-second.ensures {u = tt}).made (copy.Second root main (first (copy.Successor root main) main at refl).made) main there refl))
 
 pub returns-clause-made : goal.returns-clause-made
-returns-clause-made g c root main at =
+returns-clause-made c root main at =
     both_made c.args.actor.now.me.0 root main at c.in_ok-successor.successor c.make_new_root.new.actor.me.0 (c.in_ok-successor.ensures {u = tt}).made c.requires.which
     c.make_new_root-2.new.actor.me.0 c.in_ok-second.second (c.in_ok-second.ensures {u = tt}).made

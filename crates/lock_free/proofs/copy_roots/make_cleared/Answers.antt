@@ -7,19 +7,19 @@ use Rattle.lock_free.proofs.CopyRoots.{at_cleared, at_empty, cleared_made, root_
 use Rattle.lock_free.proofs.copy_roots.make_cleared.Goals as goal
 
 pub returns-in_err-branch-clause-made : goal.returns-in_err-branch-clause-made
-returns-in_err-branch-clause-made g c root main at =
+returns-in_err-branch-clause-made c root main at =
     let before = c.args.actor.now.me.0 in
     let after = c.make_branch.new.actor.me.0 in
     subst (λ x. HasRootsOrNone before kind.Clear root main x after) (sym c.from_residual.ensures)
     (stopped before (copy.Empty root main) at refl after (unchanged before after ((c.in_err-branch.ensures {u = tt}).made empty_branch (at_empty before root main at))))
 
 pub make_new_root-requires-clause-making : goal.make_new_root-requires-clause-making
-make_new_root-requires-clause-making g c =
+make_new_root-requires-clause-making c =
     let (root, main, at) = c.requires.at in
     root_over_it c.args.actor.now.me.0 root main at c.in_ok-branch.branch c.make_branch.new.actor.me.0 (c.in_ok-branch.ensures {u = tt}).made
 
 pub returns-in_err-successor-clause-made : goal.returns-in_err-successor-clause-made
-returns-in_err-successor-clause-made g c root main at =
+returns-in_err-successor-clause-made c root main at =
     let before = c.args.actor.now.me.0 in
     let middle = c.make_branch.new.actor.me.0 in
     let after = c.make_new_root.new.actor.me.0 in
@@ -30,6 +30,6 @@ returns-in_err-successor-clause-made g c root main at =
     ((c.in_err-successor.ensures {u = tt}).made (copy.Cleared root main made) made (at_cleared before root main at c.in_ok-branch.branch middle branch) refl))
 
 pub returns-clause-made : goal.returns-clause-made
-returns-clause-made g c root main at =
+returns-clause-made c root main at =
     cleared_made c.args.actor.now.me.0 root main at c.in_ok-branch.branch c.make_branch.new.actor.me.0 (c.in_ok-branch.ensures {u = tt}).made c.make_new_root.new.actor.me.0
     c.in_ok-successor.successor (c.in_ok-successor.ensures {u = tt}).made

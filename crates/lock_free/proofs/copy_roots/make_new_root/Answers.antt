@@ -4,7 +4,7 @@ use Rattle.lock_free.proofs.RootMakes.{root_made, root_noted}
 use Rattle.lock_free.proofs.copy_roots.make_new_root.Goals as goal
 
 pub returns-clause-stock : goal.returns-clause-stock
-returns-clause-stock g c =
+returns-clause-stock c =
     let slot = (c.in_ok-slot.ensures {u = tt}) in
     let mid = c.take.new.actor.me.0 in
     let after = c.try_roots.new.actor.me.0 in
@@ -12,7 +12,7 @@ returns-clause-stock g c =
     (subst (λ b. HasTriedRoot mid b after) c.if-not-try_roots.false c.try_roots.ensures.tried) c.take.new.stock c.note.new.self slot.stock c.note.ensures.sizes c.note.ensures.noted
 
 pub returns-clause-made : goal.returns-clause-made
-returns-clause-made g c =
+returns-clause-made c =
     let slot = (c.in_ok-slot.ensures {u = tt}) in
     let mid = c.take.new.actor.me.0 in
     let after = c.try_roots.new.actor.me.0 in

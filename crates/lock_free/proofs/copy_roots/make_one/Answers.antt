@@ -6,12 +6,12 @@ use Rattle.lock_free.proofs.CopyRoots.{one_root_made, stopped}
 use Rattle.lock_free.proofs.copy_roots.make_one.Goals as goal
 
 pub returns-in_err-successor-clause-made : goal.returns-in_err-successor-clause-made
-returns-in_err-successor-clause-made g c root main at =
+returns-in_err-successor-clause-made c root main at =
     let before = c.args.actor.now.me.0 in
     let after = c.make_new_root.new.actor.me.0 in
     subst (λ x. HasRootsOrNone before kind.Freeze root main x after) (sym c.from_residual.ensures)
     (stopped before (copy.Successor root main) at refl after ((c.in_err-successor.ensures {u = tt}).made (copy.Successor root main) main at refl))
 
 pub returns-clause-made : goal.returns-clause-made
-returns-clause-made g c root main at =
+returns-clause-made c root main at =
     one_root_made c.args.actor.now.me.0 root main at c.in_ok-successor.successor c.make_new_root.new.actor.me.0 (c.in_ok-successor.ensures {u = tt}).made c.requires.which

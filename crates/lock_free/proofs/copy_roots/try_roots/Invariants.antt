@@ -3,6 +3,6 @@ use Rattle.lock_free.specs.Loading.{IsSound}
 use Rattle.lock_free.proofs.copy_roots.try_roots.Given as goal
 
 abbrev pub invariant-loop : goal.invariant-loop
-invariant-loop g l =
-    (goal.iterator-loop g).can_next l.iterator' × (goal.iterator-loop g).is_finite l.iterator' × (l.actor.table_id ≡ l.initial.actor.table_id)
+invariant-loop l =
+    (l.actor.table_id ≡ l.initial.actor.table_id)
     × IsSound l.words.table_id.words l.actor.me.0 × (l.actor.me.0 ≡ record l.initial.actor.me.0 { drafts = l.actor.me.0.drafts })

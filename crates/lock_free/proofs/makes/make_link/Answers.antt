@@ -4,18 +4,18 @@ use Rattle.lock_free.proofs.OwnMakes.{link_fits, link_ready, new_there, stock_th
 use Rattle.lock_free.proofs.makes.make_link.Goals as goal
 
 pub to_word-requires : goal.to_word-requires
-to_word-requires g c = link_fits c.args.words.now.table_id.words c.args.actor.now.me.0 c.requires.sound c.in_ok-slot.slot c.take.new.actor.me.0 (c.in_ok-slot.ensures {u = tt}).slot
+to_word-requires c = link_fits c.args.words.now.table_id.words c.args.actor.now.me.0 c.requires.sound c.in_ok-slot.slot c.take.new.actor.me.0 (c.in_ok-slot.ensures {u = tt}).slot
     c.args.generation c.requires.generation c.args.main c.requires.making.0 c.requires.making.1 c.requires.making.2
 
 pub make-requires-clause-making : goal.make-requires-clause-making
-make-requires-clause-making g c = link_ready c.args.words.now.table_id.words c.args.actor.now.me.0 c.requires.sound c.in_ok-slot.slot c.take.new.actor.me.0
+make-requires-clause-making c = link_ready c.args.words.now.table_id.words c.args.actor.now.me.0 c.requires.sound c.in_ok-slot.slot c.take.new.actor.me.0
     (c.in_ok-slot.ensures {u = tt}).slot c.args.generation c.requires.generation c.args.main c.requires.making.0 c.requires.making.1 c.requires.making.2 c.to_word.result c.to_word.ensures
 
 pub returns-clause-stock : goal.returns-clause-stock
-returns-clause-stock g c = stock_there c.args.actor.now.me.0 0 c.in_ok-slot.slot c.take.new.actor.me.0 (c.in_ok-slot.ensures {u = tt}).slot c.take.new.actor.me.0 refl
+returns-clause-stock c = stock_there c.args.actor.now.me.0 0 c.in_ok-slot.slot c.take.new.actor.me.0 (c.in_ok-slot.ensures {u = tt}).slot c.take.new.actor.me.0 refl
     (Indirection c.args.generation c.requires.making.0) c.requires.making.1 refl c.args.words.now.table_id.words c.take.ensures.sound _ c.to_word.result c.make.new.actor.me.0 c.make.ensures.made
     c.take.new.stock c.note.new.self c.take.ensures.stock c.note.ensures.sizes c.note.ensures.noted
 
 pub returns-clause-made : goal.returns-clause-made
-returns-clause-made g c = new_there c.args.actor.now.me.0 0 c.in_ok-slot.slot c.take.new.actor.me.0 (c.in_ok-slot.ensures {u = tt}).slot c.take.new.actor.me.0 refl
+returns-clause-made c = new_there c.args.actor.now.me.0 0 c.in_ok-slot.slot c.take.new.actor.me.0 (c.in_ok-slot.ensures {u = tt}).slot c.take.new.actor.me.0 refl
     (Indirection c.args.generation c.requires.making.0) c.requires.making.1 refl c.args.words.now.table_id.words c.take.ensures.sound _ c.to_word.result c.make.new.actor.me.0 c.make.ensures.made

@@ -23,7 +23,7 @@ compare_exchange_with-requires c =
       subst (λ n. n < c.args.words.now.table_id.words) (sym word_is) (pin_inside c.args.words.now.table_id.words me.0 c.requires.sound c.requires.few),
       subst (λ n. Allows (IsRuled sizes) slots id me n (λ x. either (x == 0) c.to_word-pinned.result x) (has_pinned (step slots n 0 c.to_word-pinned.result (some call)) me)) (sym word_is)
           (subst (λ y. Allows (IsRuled sizes) slots id me (pin_word me.0.actor) (λ x. either (x == 0) y x) (has_pinned (step slots (pin_word me.0.actor) 0 y (some call)) me))
-          (sym c.to_word-pinned.ensures) (pin_allowed sizes slots id me c.requires.sound.bounds.1 c.args.pin call c.requires.fits c.requires.idle c.requires.free)),
+          (sym c.to_word-pinned.ensures) (pin_allowed sizes slots id me c.requires.sound.bounds.1 c.args.pin call c.requires.fits c.requires.late c.requires.idle c.requires.free)),
     )
 
 pub returns-clause-pinned : goal.returns-clause-pinned
@@ -31,6 +31,6 @@ returns-clause-pinned c = c.compare_exchange_with.ensures.2 c.args.pin c.args.ca
 
 pub returns-clause-sound : goal.returns-clause-sound
 returns-clause-sound c =
-    subst (λ v. IsSound c.args.words.now.table_id.words v)
-    (sym (ap (λ me. me.0) (c.compare_exchange_with.ensures.2 c.args.pin c.args.call.now (ap pin_of c.to_word-pinned.ensures ∙ pin_back c.args.pin c.requires.fits) refl)))
-    (pin_sound c.args.words.now.table_id.words c.args.actor.now.me.0 c.args.pin c.args.call.now c.requires.sound)
+    let x = c.compare_exchange_with.ensures.2 c.args.pin c.args.call.now (ap pin_of c.to_word-pinned.ensures ∙ pin_back c.args.pin c.requires.fits) refl in
+    subst (λ v. IsSound c.args.words.now.table_id.words v) (sym (ap (λ me. me.0) x.2))
+    (pin_sound c.args.words.now.table_id.words c.args.actor.now.me.0 x.0 c.args.call.now c.requires.sound)

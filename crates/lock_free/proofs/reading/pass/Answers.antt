@@ -1,36 +1,30 @@
-use Rattle.lock_free.proofs.OnePass.{at_header, gives, is_failed, failed_passes, on_after, is_pending, pending_passes}
+use Rattle.std.proofs.Common.{subst}
+use Rattle.lock_free.specs.Passing.{IsPassing}
+use Rattle.lock_free.proofs.OnePass.{asking_pending, reached_passing, reached_passes, reached_way}
 use Rattle.lock_free.proofs.reading.pass.Goals as goal
 
-pub read_header-header-requires-clause-reading : goal.read_header-header-requires-clause-reading
-read_header-header-requires-clause-reading g c = at_header c.args.actor.now.me.0 c.reach-link.new.actor.me.0 c.args.indirection c.args.from c.requires.passing c.reach-link.result
-    c.reach-link.ensures.reached
+pub pass_header-requires-clause-way : goal.pass_header-requires-clause-way
+pass_header-requires-clause-way g c =
+    let passing = subst (IsPassing c.args.actor.now.me.0 c.args.indirection) c.in-Start.is c.requires.passing in
+    reached_way c.args.words.now.table_id.words c.args.actor.now.me.0 c.requires.sound c.args.indirection passing c.read_link-link.new.actor.me.0 c.read_link-link.ensures.sound
+    c.read_link-link.result c.read_link-link.ensures.read c.args.way c.requires.way
 
-pub put_back-requires-clause-failed : goal.put_back-requires-clause-failed
-put_back-requires-clause-failed g c = is_failed c.args.actor.now.me.0 c.reach-link.new.actor.me.0 c.args.indirection c.args.from c.requires.passing c.reach-link.result c.reach-link.ensures.reached
-    c.args.words.now.table_id.words c.read_header-header.new.actor.me.0 c.reach-link.ensures.sound c.read_header-header.ensures.sound c.read_header-header.result c.read_header-header.ensures.read
-    c.in-Failed.former c.in-Failed.is
+pub pass_header-requires-clause-passing : goal.pass_header-requires-clause-passing
+pass_header-requires-clause-passing g c =
+    let passing = subst (IsPassing c.args.actor.now.me.0 c.args.indirection) c.in-Start.is c.requires.passing in
+    reached_passing c.args.words.now.table_id.words c.args.actor.now.me.0 c.requires.sound c.args.indirection passing c.read_link-link.new.actor.me.0 c.read_link-link.ensures.sound
+    c.read_link-link.result c.read_link-link.ensures.read
 
-pub settle-requires-clause-way : goal.settle-requires-clause-way
-settle-requires-clause-way g c = on_after c.args.actor.now.me.0 c.reach-link.new.actor.me.0 c.args.indirection c.args.from c.requires.passing c.reach-link.result c.reach-link.ensures.reached
-    c.args.words.now.table_id.words c.read_header-header.new.actor.me.0 c.reach-link.ensures.sound c.read_header-header.ensures.sound c.read_header-header.result c.read_header-header.ensures.read
-    c.args.way c.requires.way c.in-Pending.field-0 c.in-Pending.is
+pub returns-in-Start-clause-passed : goal.returns-in-Start-clause-passed
+returns-in-Start-clause-passed g c =
+    let passing = subst (IsPassing c.args.actor.now.me.0 c.args.indirection) c.in-Start.is c.requires.passing in
+    reached_passes c.args.words.now.table_id.words c.args.actor.now.me.0 c.requires.sound c.args.indirection passing c.read_link-link.new.actor.me.0 c.read_link-link.ensures.sound
+    c.read_link-link.result c.read_link-link.ensures.read c.pass_header.result c.pass_header.new.actor.me.0 c.pass_header.ensures.passed
+
+pub pass_header-requires-in-Header-clause-passing : goal.pass_header-requires-in-Header-clause-passing
+pass_header-requires-in-Header-clause-passing g c = subst (IsPassing c.args.actor.now.me.0 c.args.indirection) c.in-Header.is c.requires.passing
 
 pub settle-requires-clause-pending : goal.settle-requires-clause-pending
-settle-requires-clause-pending g c = is_pending c.args.actor.now.me.0 c.reach-link.new.actor.me.0 c.args.indirection c.args.from c.requires.passing c.reach-link.result c.reach-link.ensures.reached
-    c.args.words.now.table_id.words c.read_header-header.new.actor.me.0 c.reach-link.ensures.sound c.read_header-header.ensures.sound c.read_header-header.result c.read_header-header.ensures.read
-    c.args.way c.requires.way c.in-Pending.field-0 c.in-Pending.is
-
-pub returns-in-None-clause-passed : goal.returns-in-None-clause-passed
-returns-in-None-clause-passed g c = gives c.args.actor.now.me.0 c.reach-link.new.actor.me.0 c.args.indirection c.args.from c.requires.passing c.reach-link.result c.reach-link.ensures.reached
-    c.args.words.now.table_id.words c.read_header-header.new.actor.me.0 c.reach-link.ensures.sound c.read_header-header.ensures.sound c.read_header-header.result c.read_header-header.ensures.read
-    c.in-None.is
-
-pub returns-in-Failed-clause-passed : goal.returns-in-Failed-clause-passed
-returns-in-Failed-clause-passed g c = failed_passes c.args.actor.now.me.0 c.reach-link.new.actor.me.0 c.args.indirection c.args.from c.requires.passing c.reach-link.result
-    c.reach-link.ensures.reached c.args.words.now.table_id.words c.read_header-header.new.actor.me.0 c.reach-link.ensures.sound c.read_header-header.ensures.sound c.read_header-header.result
-    c.read_header-header.ensures.read c.in-Failed.former c.in-Failed.is c.put_back.new.actor.me.0 c.put_back.result c.put_back.ensures.passed
-
-pub returns-in-Pending-clause-passed : goal.returns-in-Pending-clause-passed
-returns-in-Pending-clause-passed g c = pending_passes c.args.actor.now.me.0 c.reach-link.new.actor.me.0 c.args.indirection c.args.from c.requires.passing c.reach-link.result
-    c.reach-link.ensures.reached c.args.words.now.table_id.words c.read_header-header.new.actor.me.0 c.reach-link.ensures.sound c.read_header-header.ensures.sound c.read_header-header.result
-    c.read_header-header.ensures.read c.args.way c.requires.way c.in-Pending.field-0 c.in-Pending.is c.settle.new.actor.me.0 c.settle.result c.settle.ensures.passed
+settle-requires-clause-pending g c =
+    asking_pending c.args.actor.now.me.0 c.args.indirection c.in-Asking.link c.in-Asking.header c.args.way c.requires.way
+    (subst (IsPassing c.args.actor.now.me.0 c.args.indirection) c.in-Asking.is c.requires.passing)

@@ -1,30 +1,15 @@
-use Rattle.std.proofs.Common.{true, false, refl}
-use Rattle.lock_free.proofs.Settles.{decide_ready, commits, overtaken, fails}
+use Rattle.lock_free.proofs.Settles.{decided_passes, is_deciding, still_to_ask}
 use Rattle.lock_free.proofs.reading.settle.Goals as goal
 
-pub decide-stood-requires-clause-deciding : goal.decide-stood-requires-clause-deciding
-decide-stood-requires-clause-deciding g c =
-    decide_ready c.args.actor.now.me.0 c.is_licensed-licensed.new.actor.me.0 c.args.way c.args.link c.args.header c.is_licensed-licensed.result c.requires.pending
-    c.is_licensed-licensed.ensures.licensed
+pub settle_by-requires-clause-deciding : goal.settle_by-requires-clause-deciding
+settle_by-requires-clause-deciding g c =
+    is_deciding c.args.actor.now.me.0 c.is_licensed.new.actor.me.0 c.args.way c.args.link c.args.header c.requires.pending c.in-Some.licensed (c.in-Some.ensures {u = tt}).licensed
 
-pub returns-in-true-true-clause-passed : goal.returns-in-true-true-clause-passed
-returns-in-true-true-clause-passed g c =
-    let n = c.args.words.now.table_id.words in
-    commits c.args.actor.now.me.0 c.is_licensed-licensed.new.actor.me.0 c.args.way c.args.link c.args.header true c.requires.pending
-    (c.in-true-true.ensures {u = tt}).licensed n n c.decide-stood.new.actor.me.0
-    c.is_licensed-licensed.ensures.sound c.decide-stood.ensures.sound true (c.in-true-true.ensures' {u = tt}).decided refl refl
+pub returns-in-Some-clause-passed : goal.returns-in-Some-clause-passed
+returns-in-Some-clause-passed g c =
+    decided_passes c.args.actor.now.me.0 c.is_licensed.new.actor.me.0 c.args.way c.args.link c.args.header c.requires.pending c.in-Some.licensed (c.in-Some.ensures {u = tt}).licensed
+    c.settle_by.result c.settle_by.new.actor.me.0 c.settle_by.ensures.passed
 
-pub returns-in-true-false-clause-passed : goal.returns-in-true-false-clause-passed
-returns-in-true-false-clause-passed g c =
-    let n = c.args.words.now.table_id.words in
-    overtaken c.args.actor.now.me.0 c.is_licensed-licensed.new.actor.me.0 c.args.way c.args.link c.args.header true c.requires.pending
-    (c.in-true-false.ensures {u = tt}).licensed n n c.decide-stood.new.actor.me.0
-    c.is_licensed-licensed.ensures.sound c.decide-stood.ensures.sound false (c.in-true-false.ensures' {u = tt}).decided refl refl
-
-pub returns-in-false-default-clause-passed : goal.returns-in-false-default-clause-passed
-returns-in-false-default-clause-passed g c =
-    let n = c.args.words.now.table_id.words in
-    λ j x is.
-    fails c.args.actor.now.me.0 c.is_licensed-licensed.new.actor.me.0 c.args.way c.args.link c.args.header false c.requires.pending
-    (c.in-false-default.ensures {u = tt}).licensed n n c.decide-stood.new.actor.me.0
-    c.is_licensed-licensed.ensures.sound c.decide-stood.ensures.sound c.decide-stood.result c.decide-stood.ensures.decided refl
+pub returns-in-None-clause-passed : goal.returns-in-None-clause-passed
+returns-in-None-clause-passed g c =
+    still_to_ask c.args.actor.now.me.0 c.is_licensed.new.actor.me.0 c.args.way c.args.link c.args.header c.requires.pending c.requires.way (c.in-None.ensures {u = tt}).licensed

@@ -2,6 +2,6 @@ use Rattle.std.proofs.Common.{◌≡◌}
 use Rattle.lock_free.proofs.stock.take.Given as goal
 
 abbrev pub invariant-loop : goal.invariant-loop
-invariant-loop g l =
-    (goal.iterator-loop g).can_next l.iterator' × (goal.iterator-loop g).is_finite l.iterator' × (l.actor.table_id ≡ l.initial.actor.table_id)
+invariant-loop l =
+    (l.actor.table_id ≡ l.initial.actor.table_id)
     × (l.actor.me.0 ≡ l.initial.actor.me.0) × (l.stock ≡ l.initial.stock)

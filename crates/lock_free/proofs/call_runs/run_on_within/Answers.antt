@@ -1,0 +1,26 @@
+use Rattle.lock_free.proofs.CallsUnderWay.{left_out, parked_runs, run_out}
+use Rattle.lock_free.proofs.call_runs.run_on_within.Goals as goal
+
+pub go_on-came-requires-clause-called : goal.go_on-came-requires-clause-called
+go_on-came-requires-clause-called c = c.requires.going.called
+
+pub go_on-came-requires-clause-parked : goal.go_on-came-requires-clause-parked
+go_on-came-requires-clause-parked c = c.requires.going.its
+
+pub come_out-requires-clause-stock : goal.come_out-requires-clause-stock
+come_out-requires-clause-stock c = c.go_on-came.ensures.stays c.args.stock.now c.requires.stock
+
+pub come_out-requires-clause-come : goal.come_out-requires-clause-come
+come_out-requires-clause-come c = c.go_on-came.ensures.run.1
+
+pub returns-clause-run : goal.returns-clause-run
+returns-clause-run c before call under =
+    run_out before call c.args.actor.now.me.0 c.go_on-came.new.actor.me.0 under c.go_on-came.ensures.run.0 c.args.access c.come_out.result c.come_out.new.actor.me.0 c.come_out.ensures.out
+
+pub returns-clause-left : goal.returns-clause-left
+returns-clause-left c =
+    let v = c.args.actor.now.me.0 in
+    let going = c.requires.going in
+    let running = parked_runs v c.args.parked going.its in
+    left_out c.args.call c.args.access v running.0 running.1 going.called going.none c.go_on-came.new.actor.me.0 c.go_on-came.ensures.run.0 c.come_out.result c.come_out.new.actor.me.0
+    c.come_out.ensures.out

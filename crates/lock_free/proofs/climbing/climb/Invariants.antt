@@ -1,9 +1,0 @@
-use Rattle.std.proofs.Common.{◌≡◌}
-use Rattle.lock_free.specs.Stocks.{IsStock}
-use Rattle.lock_free.proofs.ClimbsUp.{ClimbsSoFar}
-use Rattle.lock_free.proofs.climbing.climb.Given as goal
-
-abbrev pub invariant-loop : goal.invariant-loop
-invariant-loop g l =
-    (goal.iterator-loop g).can_next l.iterator' × (goal.iterator-loop g).is_finite l.iterator' × (l.actor.table_id ≡ l.fn.actor.table_id) × IsStock l.stock l.actor.me.0
-    × ClimbsSoFar l.words.table_id.words l.way l.start l.fn.actor.me.0 l.actor.me.0 l.path.items l.hash l.fn.single l.length l.single

@@ -1,0 +1,11 @@
+use Rattle.std.proofs.Common.{◌≡◌}
+use Rattle.machine_model.specs.Lines.{new_try}
+use Rattle.lock_free.specs.CopySteps.{HasComeTo}
+use Rattle.lock_free.specs.Loading.{IsSound}
+use Rattle.lock_free.specs.Stocks.{IsStock}
+use Rattle.lock_free.proofs.copies.make_copy_within.Given as goal
+
+abbrev pub invariant-loop : goal.invariant-loop
+invariant-loop l =
+    (l.actor.table_id ≡ l.initial.actor.table_id)
+    × IsSound l.words.table_id.words l.actor.me.0 × IsStock l.stock l.actor.me.0 × HasComeTo (λ o. new_try) l.initial.actor.me.0 l.actor.me.0

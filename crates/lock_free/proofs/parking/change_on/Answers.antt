@@ -1,0 +1,48 @@
+use Rattle.lock_free.specs.Leaving.{IsUpdate}
+use Rattle.lock_free.proofs.ParkedOn.{changed_ends, decided_owns, owns_both, refused, still_owns, still_swaps, then_bare, way_called, wound_on}
+use Rattle.lock_free.proofs.parking.change_on.Goals as goal
+
+pub swap_on-requires-clause-way : goal.swap_on-requires-clause-way
+swap_on-requires-clause-way c = way_called c.args.actor.now.me.0 c.args.call c.args.access c.requires.called c.handle-handle.result c.handle-handle.ensures
+
+pub swap_on-requires-clause-swapping : goal.swap_on-requires-clause-swapping
+swap_on-requires-clause-swapping c = c.requires.parked.0
+
+pub wind_up-requires-clause-bare : goal.wind_up-requires-clause-bare
+wind_up-requires-clause-bare c =
+    then_bare c.args.actor.now.me.0 c.args.swapping c.requires.parked.0 c.in-Ok-true.field-0 c.swap_on.new.actor.me.0 (c.in-Ok-true.ensures {u = tt}).done
+
+pub wind_up-requires-clause-ends : goal.wind_up-requires-clause-ends
+wind_up-requires-clause-ends c =
+    changed_ends c.args.actor.now.me.0 c.args.swapping c.requires.parked.0 c.in-Ok-true.field-0 c.swap_on.new.actor.me.0 (c.in-Ok-true.ensures {u = tt}).done
+    c.args.call c.args.access c.requires.called
+    c.args.former c.requires.parked.1 c.in-Ok-true.field-0-test
+
+pub returns-in-Ok-true-clause-stays : goal.returns-in-Ok-true-clause-stays
+returns-in-Ok-true-clause-stays c =
+    let v = c.args.actor.now.me.0 in
+    let w = c.swap_on.new.actor.me.0 in
+    owns_both v w c.wind_up.new.actor.me.0 (decided_owns v c.args.swapping c.requires.parked.0 c.in-Ok-true.field-0 w (c.in-Ok-true.ensures {u = tt}).done) c.wind_up.ensures.stays
+
+pub returns-in-Ok-true-clause-run : goal.returns-in-Ok-true-clause-run
+returns-in-Ok-true-clause-run c =
+    wound_on c.args.actor.now.me.0 c.args.swapping c.requires.parked.0 c.in-Ok-true.field-0 c.swap_on.new.actor.me.0 (c.in-Ok-true.ensures {u = tt}).done c.wind_up.result c.wind_up.new.actor.me.0
+    c.wind_up.ensures.wound
+
+pub returns-in-Ok-false-clause-stays : goal.returns-in-Ok-false-clause-stays
+returns-in-Ok-false-clause-stays c =
+    decided_owns c.args.actor.now.me.0 c.args.swapping c.requires.parked.0 c.in-Ok-false.field-0 c.swap_on.new.actor.me.0 (c.in-Ok-false.ensures {u = tt}).done
+
+pub returns-in-Ok-false-clause-run : goal.returns-in-Ok-false-clause-run
+returns-in-Ok-false-clause-run c =
+    refused c.args.actor.now.me.0 c.args.swapping c.requires.parked.0 c.in-Ok-false.field-0 c.swap_on.new.actor.me.0 (c.in-Ok-false.ensures {u = tt}).done c.args.former c.requires.parked.1
+    c.in-Ok-false.field-0-test
+
+pub returns-in-Err-clause-stays : goal.returns-in-Err-clause-stays
+returns-in-Err-clause-stays c =
+    still_owns (IsUpdate c.args.former) c.args.actor.now.me.0 c.args.swapping c.in-Err.next c.swap_on.new.actor.me.0 c.requires.parked (c.in-Err.ensures {u = tt}).on
+
+pub returns-in-Err-clause-run : goal.returns-in-Err-clause-run
+returns-in-Err-clause-run c =
+    let on = (c.in-Err.ensures {u = tt}).on in
+    (on.on, still_swaps (IsUpdate c.args.former) c.args.actor.now.me.0 c.args.swapping c.in-Err.next c.swap_on.new.actor.me.0 c.requires.parked on)

@@ -1,8 +1,0 @@
-use Rattle.std.proofs.Common.{◌≡◌}
-use Rattle.lock_free.specs.Walks.{IsGoingOn}
-use Rattle.lock_free.proofs.walking.Walker.next.Given as goal
-
-abbrev pub invariant-loop : goal.invariant-loop
-invariant-loop g l =
-    (goal.iterator-loop g).can_next l.iterator' × (goal.iterator-loop g).is_finite l.iterator' × (l.actor.table_id ≡ l.initial.actor.table_id)
-    × IsGoingOn l.words.table_id.words l.way l.initial.actor.me.0 l.initial.self l.actor.me.0 l.self

@@ -1,0 +1,237 @@
+//! Whole calls on keys, and clears, in a number of tries.
+
+ghost use Rattle.std.specs.Prelude.{◌≡◌, ◌≤◌, None};
+ghost use Rattle.lock_free.specs.declared.call_runs.Ran.TheVariants as ran;
+ghost use Rattle.lock_free.specs.Attempts.{IsEnding, IsKeyed, IsTried};
+ghost use Rattle.lock_free.specs.Loading.{IsSound};
+ghost use Rattle.lock_free.specs.Parking.{IsCome};
+ghost use Rattle.lock_free.specs.SeatCalls.{told_by, IsNoRefusal, IsTold, LacksSlots};
+ghost use Rattle.lock_free.specs.Stocks.{IsStock};
+ghost use Rattle.lock_free.specs.UnderWay.{HasComeOut, HasFinished, HasLeftBy, HasRun, HasRunOn, IsGoing};
+ghost use Rattle.lock_free.specs.WholeCalls.{HasLeft, RestsWith};
+
+use crate::call_errors::CallError;
+use crate::calling::start_within;
+use crate::copy_runs::run_tried;
+use crate::loads::{Actor, Words};
+use crate::parking::{Came, Parked, go_on};
+use crate::seating::end_with;
+use crate::stock::Stock;
+use history::{Access, Call, Reply};
+use std::sync::Wait;
+
+/// So many handles there are at most.
+pub(crate) const HANDLES: u16 = 256;
+
+/// No memory is used again, so each pin has the first epoch.
+pub(crate) const EPOCH: u64 = 0;
+
+/// How far a call has come.
+#[derive(Drop)]
+pub enum Ran {
+    /// It is over, and its caller is told this.
+    Told(Result<Reply, CallError>),
+    /// This is under way, on a handle that allows that.
+    UnderWay(Access, Parked),
+}
+
+/// What the caller is told of this reply; where the operation has given up it lacked this.
+fn told_by(reply: Reply, lack: CallError) -> Result<Reply, CallError>
+    ensures { result ≡ told_by reply lack }
+{
+    match reply {
+        Reply::Crowded => Err(CallError::Crowded),
+        Reply::NoSlots => Err(lack),
+        other => Ok(other),
+    }
+}
+
+/// Why an operation has given up.
+fn lack_of(stock: &Stock) -> CallError
+    ensures { LacksSlots result }
+{
+    if stock.lacks() {
+        CallError::Full
+    } else {
+        CallError::Spent
+    }
+}
+
+/// Ends the operation of this seat, `seat`, with this reply, or as one that gives up.
+fn finish_call(
+    words: &Words,
+    actor: &mut Actor,
+    stock: &mut Stock,
+    seat: u8,
+    answered: Option<Reply>,
+) -> Result<Reply, CallError>
+    requires table { actor.old.table_id ≡ words.now.table_id }
+    requires sound { IsSound words.now.table_id.words actor.old.me.0 }
+    requires stock { IsStock stock.old actor.old.me.0 }
+    requires its { actor.old.me.0.actor ≡ seat }
+    requires few { actor.old.me.0.actor ≤ actor.old.me.0.sizes.seats }
+    requires ending { IsEnding actor.old.me.0 answered }
+    ensures table { actor.new.table_id ≡ actor.old.table_id }
+    ensures sound { IsSound words.now.table_id.words actor.new.me.0 }
+    ensures stock { IsStock stock.new actor.new.me.0 }
+    ensures finished { HasFinished actor.old.me.0 result actor.new.me.0 }
+{
+    let reply = end_with(words, actor, stock, seat, answered);
+    told_by(reply, lack_of(stock))
+}
+
+/// Ends the operation of this seat, `seat`, on a handle that allows this, unless something of it is under way.
+fn come_out(
+    words: &Words,
+    actor: &mut Actor,
+    stock: &mut Stock,
+    seat: u8,
+    access: Access,
+    came: Came,
+) -> Ran
+    requires table { actor.old.table_id ≡ words.now.table_id }
+    requires sound { IsSound words.now.table_id.words actor.old.me.0 }
+    requires stock { IsStock stock.old actor.old.me.0 }
+    requires its { actor.old.me.0.actor ≡ seat }
+    requires few { actor.old.me.0.actor ≤ actor.old.me.0.sizes.seats }
+    requires come { IsCome actor.old.me.0 came }
+    ensures table { actor.new.table_id ≡ actor.old.table_id }
+    ensures sound { IsSound words.now.table_id.words actor.new.me.0 }
+    ensures stock { IsStock stock.new actor.new.me.0 }
+    ensures out { HasComeOut actor.old.me.0 access result actor.new.me.0 }
+{
+    match came {
+        Came::Answered(reply) => Ran::Told(finish_call(words, actor, stock, seat, Some(reply))),
+        Came::Spent => Ran::Told(finish_call(words, actor, stock, seat, None)),
+        Came::Parked(parked) => Ran::UnderWay(access, parked),
+    }
+}
+
+/// A call on a key, or a clear, by this seat, `seat`, each of whose loops takes so many tries at most.
+pub(crate) fn run_within(
+    tries: u64,
+    words: &Words,
+    actor: &mut Actor,
+    stock: &mut Stock,
+    seat: u8,
+    call: Call,
+) -> Ran
+    requires table { actor.old.table_id ≡ words.now.table_id }
+    requires sound { IsSound words.now.table_id.words actor.old.me.0 }
+    requires stock { IsStock stock.old actor.old.me.0 }
+    requires its { actor.old.me.0.actor ≡ seat }
+    requires few { actor.old.me.0.actor ≤ actor.old.me.0.sizes.seats }
+    requires tried { IsTried call }
+    requires ready { RestsWith actor.old.me.0 None }
+    ensures table { actor.new.table_id ≡ actor.old.table_id }
+    ensures sound { IsSound words.now.table_id.words actor.new.me.0 }
+    ensures stock { IsStock stock.new actor.new.me.0 }
+    ensures run { HasRun actor.old.me.0 call result actor.new.me.0 }
+    ensures left { HasLeftBy actor.old.me.0 call result actor.new.me.0 }
+{
+    if call.handle() >= HANDLES {
+        return Ran::Told(Err(CallError::NoHandle));
+    }
+    stock.begin();
+    let way = match start_within(tries, words, actor, seat, EPOCH, &call) {
+        Ok(Some(way)) => way,
+        Ok(None) => return Ran::Told(Err(CallError::Spent)),
+        Err(denial) => return Ran::Told(Err(CallError::from(denial))),
+    };
+    let came = run_tried(tries, words, actor, stock, call, way);
+    come_out(words, actor, stock, seat, way.access, came)
+}
+
+/// What is under way of a call by this seat, `seat`, goes on in so many tries.
+pub(crate) fn run_on_within(
+    tries: u64,
+    words: &Words,
+    actor: &mut Actor,
+    stock: &mut Stock,
+    seat: u8,
+    call: Call,
+    access: Access,
+    parked: Parked,
+) -> Ran
+    requires table { actor.old.table_id ≡ words.now.table_id }
+    requires sound { IsSound words.now.table_id.words actor.old.me.0 }
+    requires stock { IsStock stock.old actor.old.me.0 }
+    requires its { actor.old.me.0.actor ≡ seat }
+    requires few { actor.old.me.0.actor ≤ actor.old.me.0.sizes.seats }
+    requires going { IsGoing actor.old.me.0 call access parked }
+    ensures table { actor.new.table_id ≡ actor.old.table_id }
+    ensures sound { IsSound words.now.table_id.words actor.new.me.0 }
+    ensures stock { IsStock stock.new actor.new.me.0 }
+    ensures run { HasRunOn actor.old.me.0 result actor.new.me.0 }
+    ensures left { HasLeftBy actor.old.me.0 call result actor.new.me.0 }
+{
+    let came = go_on(tries, words, actor, call, access, parked);
+    come_out(words, actor, stock, seat, access, came)
+}
+
+/// The same, until the call is over.
+fn run_on<R: Wait>(
+    rt: &R,
+    words: &Words,
+    actor: &mut Actor,
+    stock: &mut Stock,
+    seat: u8,
+    call: Call,
+    access: Access,
+    parked: Parked,
+) -> Result<Reply, CallError>
+    requires table { actor.old.table_id ≡ words.now.table_id }
+    requires sound { IsSound words.now.table_id.words actor.old.me.0 }
+    requires stock { IsStock stock.old actor.old.me.0 }
+    requires its { actor.old.me.0.actor ≡ seat }
+    requires few { actor.old.me.0.actor ≤ actor.old.me.0.sizes.seats }
+    requires going { IsGoing actor.old.me.0 call access parked }
+    ensures table { actor.new.table_id ≡ actor.old.table_id }
+    ensures sound { IsSound words.now.table_id.words actor.new.me.0 }
+    ensures stock { IsStock stock.new actor.new.me.0 }
+    ensures run { HasRunOn actor.old.me.0 (ran.Told result) actor.new.me.0 }
+    ensures left { HasLeft actor.old.me.0 actor.new.me.0 }
+{
+    let (mut access, mut parked) = (access, parked);
+    for _ in rt.forever() {
+        match run_on_within(u64::MAX, words, actor, stock, seat, call, access, parked) {
+            Ran::Told(told) => return told,
+            Ran::UnderWay(allowed, next) => {
+                access = allowed;
+                parked = next;
+            }
+        }
+    }
+    unreachable!()
+}
+
+/// A call on a key by this seat, `seat`, as long as it takes.
+pub(crate) fn run<R: Wait>(
+    rt: &R,
+    words: &Words,
+    actor: &mut Actor,
+    stock: &mut Stock,
+    seat: u8,
+    call: Call,
+) -> Result<Reply, CallError>
+    requires table { actor.old.table_id ≡ words.now.table_id }
+    requires sound { IsSound words.now.table_id.words actor.old.me.0 }
+    requires stock { IsStock stock.old actor.old.me.0 }
+    requires its { actor.old.me.0.actor ≡ seat }
+    requires few { actor.old.me.0.actor ≤ actor.old.me.0.sizes.seats }
+    requires keyed { IsKeyed call }
+    requires ready { RestsWith actor.old.me.0 None }
+    ensures table { actor.new.table_id ≡ actor.old.table_id }
+    ensures sound { IsSound words.now.table_id.words actor.new.me.0 }
+    ensures stock { IsStock stock.new actor.new.me.0 }
+    ensures left { HasLeft actor.old.me.0 actor.new.me.0 }
+    ensures told { IsTold (λ r. r) actor.old.me.0 call result actor.new.me.0 }
+    ensures counts { IsNoRefusal result }
+{
+    match run_within(u64::MAX, words, actor, stock, seat, call) {
+        Ran::Told(told) => told,
+        Ran::UnderWay(access, parked) => run_on(
+            rt, words, actor, stock, seat, call, access, parked,
+        ),
+    }
+}

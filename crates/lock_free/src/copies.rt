@@ -1,0 +1,224 @@
+//! COPY within a number of tries.
+
+ghost use Rattle.std.specs.Prelude.{◌≡◌, ◌<◌, IfErr, IfOk};
+ghost use Rattle.lock_free.specs.CopySteps.{HasCopied, HasCopiedOn, HasLeftCopy, HasMadeCopy, HasTriedCopy, IsAtOriginal, IsAtTry, IsCopying};
+ghost use Rattle.lock_free.specs.CopySteps.{IsCopier, IsOwnCompleting, IsToComplete, IsToOpenAll, LeavesCopy, OriginalOrNot};
+ghost use Rattle.lock_free.specs.Loading.{IsSound};
+ghost use Rattle.lock_free.specs.Passing.{IsOnWay};
+ghost use Rattle.lock_free.specs.Stocks.{IsStock};
+
+use crate::copy_roots::CopyKind;
+use crate::copying::{Copied, open_copy, prepare};
+use crate::leaving::{Completing, Left, read_on};
+use crate::loads::{Actor, Words};
+use crate::offers::see_olds;
+use crate::reading::{Given, Passed, ReadFrom, Way};
+use crate::root_offers::offer_within;
+use crate::rooting::{complete_on, root_within};
+use crate::stock::Stock;
+
+/// Reads the main node of the root in this slot, of which a copy is to be made; or none where it is out of tries.
+fn read_original_within(
+    tries: u64,
+    words: &Words,
+    actor: &mut Actor,
+    way: Way,
+    root: u32,
+) -> Option<Given>
+    requires table { actor.old.table_id ≡ words.now.table_id }
+    requires sound { IsSound words.now.table_id.words actor.old.me.0 }
+    requires way { IsOnWay actor.old.me.0 way }
+    requires at { IsAtOriginal actor.old.me.0 root }
+    ensures table { actor.new.table_id ≡ actor.old.table_id }
+    ensures sound { IsSound words.now.table_id.words actor.new.me.0 }
+    ensures original { OriginalOrNot actor.old.me.0 result actor.new.me.0 }
+{
+    match read_on(tries, words, actor, way, root, ReadFrom::Start) {
+        Passed::Gives(given) => Some(given),
+        Passed::Again(_) => None,
+    }
+}
+
+/// Completes the seat's own offer from there on, within so many tries. Returns whether it was carried out, by this seat or another; or from
+/// where it goes on.
+pub fn complete_own_on(
+    tries: u64,
+    words: &Words,
+    actor: &mut Actor,
+    way: Way,
+    completing: Completing,
+) -> Result<bool, Completing>
+    requires table { actor.old.table_id ≡ words.now.table_id }
+    requires sound { IsSound words.now.table_id.words actor.old.me.0 }
+    requires way { IsOnWay actor.old.me.0 way }
+    requires completing { IsOwnCompleting actor.old.me.0 way.handle completing }
+    ensures table { actor.new.table_id ≡ actor.old.table_id }
+    ensures sound { IsSound words.now.table_id.words actor.new.me.0 }
+    ensures copied { IfOk result (λ carried. HasCopied actor.old.me.0 carried actor.new.me.0) }
+    ensures on { IfErr result (λ next. HasCopiedOn actor.old.me.0 way.handle completing.offer next actor.new.me.0) }
+{
+    complete_on(tries, words, actor, way, completing)
+}
+
+/// Completes the seat's own offer, which stands in this slot, within so many tries.
+fn complete_own_within(
+    tries: u64,
+    words: &Words,
+    actor: &mut Actor,
+    way: Way,
+    slot: u32,
+) -> Result<bool, Completing>
+    requires table { actor.old.table_id ≡ words.now.table_id }
+    requires sound { IsSound words.now.table_id.words actor.old.me.0 }
+    requires way { IsOnWay actor.old.me.0 way }
+    requires standing { IsToComplete actor.old.me.0 way.handle slot }
+    ensures table { actor.new.table_id ≡ actor.old.table_id }
+    ensures sound { IsSound words.now.table_id.words actor.new.me.0 }
+    ensures copied { IfOk result (λ carried. HasCopied actor.old.me.0 carried actor.new.me.0) }
+    ensures on { IfErr result (λ next. HasCopiedOn actor.old.me.0 way.handle slot next actor.new.me.0) }
+{
+    let root = see_olds(words, actor, slot).low;
+    let from = ReadFrom::Start;
+    let completing = Completing {
+        offer: slot,
+        root,
+        from,
+    };
+    complete_own_on(tries, words, actor, way, completing)
+}
+
+/// A try of a copy on a handle that may be written, from its root, which is in this slot: new roots are made, and an offer of them comes to
+/// stand and is completed. Out of tries it is as where no slot is had, or the COMPLETE of its own offer is under way and is returned.
+fn try_copy_within(
+    tries: u64,
+    words: &Words,
+    actor: &mut Actor,
+    stock: &mut Stock,
+    way: Way,
+    which: CopyKind,
+    opens: Option<u16>,
+    root: u32,
+) -> Result<Copied, Completing>
+    requires table { actor.old.table_id ≡ words.now.table_id }
+    requires sound { IsSound words.now.table_id.words actor.old.me.0 }
+    requires stock { IsStock stock.old actor.old.me.0 }
+    requires way { IsOnWay actor.old.me.0 way }
+    requires low { way.handle < 256 }
+    requires copying { IsCopying actor.old.me.0 which way.handle opens }
+    requires at { IsAtOriginal actor.old.me.0 root }
+    ensures table { actor.new.table_id ≡ actor.old.table_id }
+    ensures sound { IsSound words.now.table_id.words actor.new.me.0 }
+    ensures stock { IsStock stock.new actor.new.me.0 }
+    ensures tried { IfOk result (λ tried. HasTriedCopy actor.old.me.0 tried actor.new.me.0) }
+    ensures left { IfErr result (λ left. LeavesCopy actor.old.me.0 which way.handle opens left actor.new.me.0) }
+{
+    let Some(given) = read_original_within(tries, words, actor, way, root) else {
+        return Ok(Copied::Full);
+    };
+    let main = given.link.main.slot;
+    let Some(slot) = prepare(
+        tries, words, actor, stock, which, way.handle, opens, root, main,
+    ) else {
+        return Ok(Copied::Full);
+    };
+    let Some(stands) = offer_within(tries, words, actor, way.handle, root, slot) else {
+        return Ok(Copied::Full);
+    };
+    if !stands {
+        stock.give_back();
+        return Ok(Copied::Again);
+    }
+    stock.note(1);
+    stock.hand_over();
+    let carried = match complete_own_within(tries, words, actor, way, slot) {
+        Ok(carried) => carried,
+        Err(next) => return Err(next),
+    };
+    if !carried {
+        return Ok(Copied::Again);
+    }
+    open_copy(words, actor, which, opens, slot);
+    Ok(Copied::Done)
+}
+
+/// COPY on a handle that may be written: tries it from the root, so often at most. Returns whether it was carried out: then the operation
+/// is to end. Else a slot or a generation was missing, or it was out of tries, and it may give up. An `Err` is out of tries too: the
+/// operation may give up, or the COMPLETE of its own offer is under way. Once that was carried out, the handle that it opens is to be
+/// opened.
+pub fn make_copy_within(
+    tries: u64,
+    words: &Words,
+    actor: &mut Actor,
+    stock: &mut Stock,
+    way: Way,
+    which: CopyKind,
+    opens: Option<u16>,
+) -> Result<bool, Left>
+    requires table { actor.old.table_id ≡ words.now.table_id }
+    requires sound { IsSound words.now.table_id.words actor.old.me.0 }
+    requires stock { IsStock stock.old actor.old.me.0 }
+    requires way { IsOnWay actor.old.me.0 way }
+    requires low { way.handle < 256 }
+    requires copying { IsCopying actor.old.me.0 which way.handle opens }
+    requires at { IsAtTry actor.old.me.0 }
+    ensures table { actor.new.table_id ≡ actor.old.table_id }
+    ensures sound { IsSound words.now.table_id.words actor.new.me.0 }
+    ensures stock { IsStock stock.new actor.new.me.0 }
+    ensures made { IfOk result (λ done. HasMadeCopy actor.old.me.0 done actor.new.me.0) }
+    ensures left { IfErr result (λ left. HasLeftCopy actor.old.me.0 which way.handle opens left actor.new.me.0) }
+{
+    for _ in 0..tries {
+        let rooted = match root_within(tries, words, actor, way) {
+            Ok(rooted) => rooted,
+            Err(_) => return Err(Left::MayGiveUp),
+        };
+        let root = rooted.slot;
+        let tried = match try_copy_within(tries, words, actor, stock, way, which, opens, root) {
+            Ok(tried) => tried,
+            Err(next) => return Err(Left::Completing(next)),
+        };
+        match tried {
+            Copied::Done => return Ok(true),
+            Copied::Again => {}
+            Copied::Full => return Ok(false),
+        }
+    }
+    Err(Left::MayGiveUp)
+}
+
+/// The same from where the COMPLETE of its own offer is under way. Where the offer was taken back it tries again, so often at most.
+pub fn copy_on(
+    tries: u64,
+    words: &Words,
+    actor: &mut Actor,
+    stock: &mut Stock,
+    way: Way,
+    which: CopyKind,
+    opens: Option<u16>,
+    completing: Completing,
+) -> Result<bool, Left>
+    requires table { actor.old.table_id ≡ words.now.table_id }
+    requires sound { IsSound words.now.table_id.words actor.old.me.0 }
+    requires stock { IsStock stock.old actor.old.me.0 }
+    requires way { IsOnWay actor.old.me.0 way }
+    requires low { way.handle < 256 }
+    requires copying { IsCopying actor.old.me.0 which way.handle opens }
+    requires copies { IsCopier actor.old.me.0 }
+    requires completing { IsOwnCompleting actor.old.me.0 way.handle completing }
+    requires opening { IsToOpenAll actor.old.me.0 which opens completing.offer }
+    ensures table { actor.new.table_id ≡ actor.old.table_id }
+    ensures sound { IsSound words.now.table_id.words actor.new.me.0 }
+    ensures stock { IsStock stock.new actor.new.me.0 }
+    ensures made { IfOk result (λ done. HasMadeCopy actor.old.me.0 done actor.new.me.0) }
+    ensures left { IfErr result (λ left. HasLeftCopy actor.old.me.0 which way.handle opens left actor.new.me.0) }
+{
+    let carried = match complete_own_on(tries, words, actor, way, completing) {
+        Ok(carried) => carried,
+        Err(next) => return Err(Left::Completing(next)),
+    };
+    if !carried {
+        return make_copy_within(tries, words, actor, stock, way, which, opens);
+    }
+    open_copy(words, actor, which, opens, completing.offer);
+    Ok(true)
+}
