@@ -1,0 +1,64 @@
+"""What tests/threads and tests/turns share: histories of threads are judged."""
+import os
+import subprocess
+import sys
+from pathlib import Path
+
+TOP = Path(__file__).resolve().parent.parent
+PROGRAM, CTRIE = TOP / "crates/test_words/out/test_words", TOP / "crates/ctrie/out/ctrie"
+sys.dont_write_bytecode = True
+sys.path.insert(0, str(TOP / "examples/histories"))
+from find_order import with_order
+from orders import Spent
+
+HASHES = ["low", "fold", "wide", "block"]
+# How many steps a search for an order takes before the history is left out.
+STEPS = 300_000
+
+
+def ran(program, *words, **environment):
+    words = [str(word) for word in words]
+    return subprocess.run([program, *words], env={**os.environ, **environment}, stdin=subprocess.DEVNULL, capture_output=True, text=True)
+
+
+def judged(told, folder):
+    """Judges a run that should have written a history: what `check` calls its order, or what went wrong; None where no order was found in
+    so many steps, though there may be one."""
+    if told.returncode or told.stderr:
+        return f"status {told.returncode}, {told.stderr}"
+    try:
+        text, explains = with_order(told.stdout, STEPS)
+    except Spent:
+        return None
+    history = folder / "history"
+    history.write_text(text + "\n")
+    if not explains:
+        return ran(CTRIE, "explain", history).stdout
+    return ran(CTRIE, "check", history).stdout.removesuffix("\n")
+
+
+class Tally:
+    """Counts histories and their operations, and what stands in them."""
+
+    def __init__(self, folder):
+        self.folder, self.legal, self.unknown, self.operations, self.seen, self.wrong = folder, 0, 0, 0, set(), []
+
+    def judge(self, told, what):
+        """Judges a run, as `judged` does; where something is wrong, that is noted, with the history."""
+        verdict = judged(told, self.folder)
+        if verdict is None:
+            self.unknown += 1
+        elif verdict == "legal":
+            self.legal += 1
+            lines = [line.split(" ") for line in told.stdout.splitlines()]
+            self.operations += sum(1 for words in lines if words[0] == "begin")
+            self.seen.update(words[3] if words[0] == "begin" else words[2] for words in lines if len(words) > 2)
+        else:
+            self.wrong.append(f"{what}: {verdict}\n{told.stdout}")
+        return verdict
+
+    def missing(self):
+        """What should stand in some history: each call, and each kind of reply but those that say that slots were lacking."""
+        calls = "get put put-if-absent replace replace-if remove remove-if snapshot freeze clear close count entries"
+        replies = "some none true false crowded handle cleared closed pairs"
+        return sorted({*calls.split(), *replies.split()} - self.seen)
