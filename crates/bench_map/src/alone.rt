@@ -5,7 +5,7 @@ mod loads;
 
 use self::caller::Caller;
 use self::loads::Load;
-use crate::words::{nanos_since, number};
+use bench_calls::{nanos_since, number};
 use shared_map::{HashKind, Map, MapError};
 use std::alloc::Global;
 use std::time::{Clock, Instant};

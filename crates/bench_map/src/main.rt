@@ -17,9 +17,7 @@
 #![tactic(auto)]
 
 mod alone;
-mod drawing;
 mod shared;
-mod words;
 
 use shared_map::MapError;
 use std::env;

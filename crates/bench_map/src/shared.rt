@@ -3,14 +3,12 @@
 ghost use Rattle.std.specs.Prelude.{◌≡◌};
 ghost use Rattle.shared_map.specs.Seats.{AreSeatsOf};
 
-mod balance;
 mod caller;
 mod member;
 
-use self::balance::Balance;
 use self::caller::Share;
 use self::member::Member;
-use crate::words::number;
+use bench_calls::{Balance, number};
 use shared_map::{HashKind, MapError, MapName, MapSeat, NamedMap, NamedMapSeat, SharedMap};
 use std::alloc::{AllocError, Global};
 use std::marker::Brand;

@@ -1,7 +1,7 @@
 //! Operations on a map that one thread calls, one after the other.
 
 use crate::alone::loads::Load;
-use crate::drawing::{Drawn, Kind};
+use bench_calls::{Drawn, Kind};
 use shared_map::{Handle, Map, MapError};
 
 /// After this many operations a copy is frozen, read and closed, where the load has copies now and then.

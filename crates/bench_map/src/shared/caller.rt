@@ -1,7 +1,6 @@
 //! The calls of one thread, with what they come to.
 
-use crate::drawing::{Drawn, Kind};
-use crate::shared::balance::Balance;
+use bench_calls::{Balance, Drawn, Kind};
 use shared_map::{Handle, MapCalls, MapError, MapName, NamedMap, NamedMapSeat};
 use std::sync::Wait;
 

@@ -1,8 +1,7 @@
 //! One of the threads that share a map.
 
-use crate::shared::balance::Balance;
 use crate::shared::caller::{Caller, Share};
-use crate::words::nanos_since;
+use bench_calls::{Balance, nanos_since};
 use shared_map::{Handle, MapCalls, MapError, MapName, NamedMap, NamedMapSeat};
 use std::sync::Wait;
 use std::time::{Clock, Instant};

@@ -2,37 +2,37 @@
 
 /// How many keys came less those that went, and the sum of the values that came less those that went. Both wrap around.
 #[derive(Clone, Copy, Debug, PartialEq, Eq)]
-pub(crate) struct Balance {
+pub struct Balance {
     keys: u64,
     values: u64,
 }
 
 impl Balance {
     /// Nothing came.
-    pub(crate) fn nothing() -> Balance {
+    pub fn nothing() -> Balance {
         Balance { keys: 0, values: 0 }
     }
 
     /// A value came.
-    pub(crate) fn add(&mut self, value: u64) {
+    pub fn add(&mut self, value: u64) {
         self.keys = self.keys.wrapping_add(1);
         self.values = self.values.wrapping_add(value);
     }
 
     /// A value went, if there was one.
-    pub(crate) fn take(&mut self, value: Option<u64>) {
+    pub fn take(&mut self, value: Option<u64>) {
         self.keys = self.keys.wrapping_sub(u64::from(value.is_some()));
         self.values = self.values.wrapping_sub(value.unwrap_or(0));
     }
 
     /// All that came and went elsewhere.
-    pub(crate) fn join(&mut self, other: Balance) {
+    pub fn join(&mut self, other: Balance) {
         self.keys = self.keys.wrapping_add(other.keys);
         self.values = self.values.wrapping_add(other.values);
     }
 
     /// How many of the two sums differ.
-    pub(crate) fn differences(self, other: Balance) -> u64 {
+    pub fn differences(self, other: Balance) -> u64 {
         u64::from(self.keys != other.keys).wrapping_add(u64::from(self.values != other.values))
     }
 }

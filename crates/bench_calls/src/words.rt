@@ -3,12 +3,12 @@
 use std::time::{Clock, Instant};
 
 /// The number that a word is.
-pub(crate) fn number(word: Option<&String>) -> Option<u64> {
+pub fn number(word: Option<&String>) -> Option<u64> {
     word.and_then(|word| word.as_str().parse().ok())
 }
 
 /// Nanoseconds since then, where the clock told both.
-pub(crate) fn nanos_since<C: Clock>(rt: &C, start: Option<Instant>) -> u128 {
+pub fn nanos_since<C: Clock>(rt: &C, start: Option<Instant>) -> u128 {
     match start {
         Some(start) => start.elapsed(rt).map_or(0, |time| time.as_nanos()),
         None => 0,

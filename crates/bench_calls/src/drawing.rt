@@ -2,7 +2,7 @@
 
 /// What a call of the mix does: gets, puts and removals come 6 : 6 : 4.
 #[derive(Clone, Copy, Debug, PartialEq, Eq)]
-pub(crate) enum Kind {
+pub enum Kind {
     Get,
     Put,
     Remove,
@@ -10,17 +10,17 @@ pub(crate) enum Kind {
 
 /// A number that was drawn.
 #[derive(Clone, Copy)]
-pub(crate) struct Drawn(u64);
+pub struct Drawn(u64);
 
 impl Drawn {
     /// What comes before the first number of the thread with this number, from 0 on.
-    pub(crate) fn start(thread: u64) -> Drawn {
+    pub fn start(thread: u64) -> Drawn {
         Drawn(88_172_645_463_325_252u64.wrapping_add(thread.wrapping_mul(7_919)))
     }
 
     /// The number after this one, by Marsaglia's shifts and exclusive ors.
     #[inline(always)]
-    pub(crate) fn next(self) -> Drawn {
+    pub fn next(self) -> Drawn {
         let drawn = self.0 ^ self.0 << 13;
         let drawn = drawn ^ drawn >> 7;
         Drawn(drawn ^ drawn << 17)
@@ -28,17 +28,18 @@ impl Drawn {
 
     /// The call's key, of this many.
     #[inline(always)]
-    pub(crate) fn key(self, keys: u64) -> u64 {
+    pub fn key(self, keys: u64) -> u64 {
         self.0 % keys.max(1)
     }
 
     /// The value that a put gives the key: no two of a run are likely to be the same.
-    pub(crate) fn value(self) -> u64 {
+    pub fn value(self) -> u64 {
         self.0
     }
 
+    /// What the call does.
     #[inline(always)]
-    pub(crate) fn kind(self) -> Kind {
+    pub fn kind(self) -> Kind {
         match self.0 >> 60 {
             0..6 => Kind::Get,
             6..12 => Kind::Put,

@@ -1,0 +1,242 @@
+//! A load on a new map.
+
+ghost use Rattle.std.specs.Prelude.{◌≡◌};
+
+use crate::caller::Share;
+use crate::loads::Load;
+use crate::member::Member;
+use bench_calls::{Balance, number};
+use lock_free::{
+    Board, CallError, MapName, NamedSeat, NamedWords, OpenError, Seat, Sizes, named, open,
+};
+use nodes::HashKind;
+use std::alloc::{AllocError, Global};
+use std::marker::Brand;
+use std::sync::Wait;
+use std::thread::Threads;
+use std::time::{Clock, Instant};
+use std::{fmt, thread};
+
+/// What is done: this many calls of a load in all, after this many keys that are put.
+#[derive(Clone, Copy)]
+pub(crate) struct Task {
+    load: Load,
+    filled: u64,
+    count: u64,
+    keys: u64,
+    /// Those of the map, with a seat for each thread.
+    sizes: Sizes,
+}
+
+/// What came of it.
+#[derive(Clone, Copy)]
+struct Done {
+    nanos: u128,
+    refused: u64,
+    wrong: u64,
+}
+
+/// Why nothing came of it.
+#[derive(Clone, Copy, Debug)]
+pub(crate) enum Trouble {
+    /// No map has these sizes.
+    BadSizes,
+    /// Memory was refused.
+    Memory,
+    /// What is left in the map couldn't be read.
+    Unread,
+}
+
+impl fmt::Display for Trouble {
+    fn fmt<W: fmt::Write>(&self, f: &mut fmt::Formatter<W>) -> fmt::Result {
+        f.write_str(match self {
+            Trouble::BadSizes => "no map has these sizes",
+            Trouble::Memory => "no memory",
+            Trouble::Unread => "the map can't be read",
+        })
+    }
+}
+
+impl From<AllocError> for Trouble {
+    fn from(_: AllocError) -> Trouble {
+        Trouble::Memory
+    }
+}
+
+impl From<CallError> for Trouble {
+    fn from(_: CallError) -> Trouble {
+        Trouble::Unread
+    }
+}
+
+impl From<OpenError> for Trouble {
+    fn from(error: OpenError) -> Trouble {
+        match error {
+            OpenError::BadSizes => Trouble::BadSizes,
+            OpenError::Memory => Trouble::Memory,
+        }
+    }
+}
+
+/// The number that a word is, below 2^32.
+fn size(word: Option<&String>) -> Option<u32> {
+    u32::try_from(number(word)?).ok()
+}
+
+impl Task {
+    /// That of these words.
+    pub(crate) fn of(words: &[String]) -> Option<Task> {
+        Some(Task {
+            load: Load::named(words.get(0)?.as_str())?,
+            filled: number(words.get(2))?,
+            count: number(words.get(3))?,
+            keys: number(words.get(4))?,
+            sizes: Sizes {
+                seats: u8::try_from(number(words.get(1))?).ok()?,
+                hash: HashKind::Low,
+                small: size(words.get(5))?,
+                medium: size(words.get(6))?,
+                wide: size(words.get(7))?,
+            },
+        })
+    }
+
+    /// What each thread does.
+    fn share(self) -> Share {
+        Share {
+            load: self.load,
+            calls: self.count / u64::from(self.sizes.seats.max(1)),
+            keys: self.keys,
+        }
+    }
+}
+
+/// This many threads that have made no call: that of the first seat, and of those that are split off.
+fn members<N: MapName>(
+    alloc: Global,
+    words: &NamedWords<N>,
+    first: NamedSeat<N>,
+    count: u8,
+) -> Result<Vec<Member<N>>, AllocError> {
+    let mut first = first;
+    let mut members = Vec::with_capacity(alloc, usize::from(count))?;
+    for _ in 1..count {
+        if let Some(seat) = first.split(words) {
+            members.push(Member::new(seat))?;
+        }
+    }
+    members.push(Member::new(first))?;
+    Ok(members)
+}
+
+/// What came of the calls of all, where this is left in the map.
+fn sum<N: MapName>(members: &[Member<N>], found: Balance) -> Done {
+    let (mut balance, mut refused) = (Balance::nothing(), 0u64);
+    let (mut began, mut ended) = (u128::MAX, 0u128);
+    for member in members {
+        balance.join(member.caller.balance);
+        refused = refused.wrapping_add(member.caller.refused);
+        began = began.min(member.began);
+        ended = ended.max(member.ended);
+    }
+    Done {
+        nanos: ended.saturating_sub(began),
+        refused,
+        wrong: balance.differences(found),
+    }
+}
+
+/// Has the task done on a new map.
+fn run<R: Threads + Wait + Sync + Clock + AllocGlobal>(
+    rt: &R,
+    task: Task,
+) -> Result<Done, Trouble> {
+    let (board, seat) = open(rt.alloc(), task.sizes)?;
+    run_by::<Brand, R>(rt, board, seat, task)
+}
+
+/// The same on this map.
+fn run_by<N: MapName + Send + Sync, R: Threads + Wait + Sync + Clock + AllocGlobal>(
+    rt: &R,
+    board: Board,
+    seat: Seat,
+    task: Task,
+) -> Result<Done, Trouble>
+    requires name { N.map_id ≡ record { table = board.shared.table_id; sizes = board.shared.key } }
+    requires slots { board.shared.table_id.slots ≡ 0 }
+    requires seat { (seat.table ≡ board.shared.table_id) × (seat.view.sizes ≡ board.shared.key) }
+{
+    let (words, first) = named::<N>(board, seat);
+    let mut members = members(rt.alloc(), &words, first, task.sizes.seats)?;
+    perform(rt, &words, members.as_mut_slice(), task)
+}
+
+/// The same, each of these on a thread of its own. One of them puts keys before, and reads what is left after it.
+fn perform<N: MapName + Send + Sync, R: Threads + Wait + Sync + Clock>(
+    rt: &R,
+    words: &NamedWords<N>,
+    members: &mut [Member<N>],
+    task: Task,
+) -> Result<Done, Trouble> {
+    if let Some(one) = members.first_mut() {
+        one.fill(rt, words, task.filled);
+    }
+    let start = Instant::now(rt).ok();
+    thread::for_each_mut(
+        rt,
+        members,
+        usize::from(task.sizes.seats.max(1)),
+        &|_, member| member.work(rt, words, task.share(), start),
+    );
+    let found = match members.first_mut() {
+        Some(one) => one.found(rt, words, task.load, task.keys.max(task.filled))?,
+        None => Balance::nothing(),
+    };
+    Ok(sum(members, found))
+}
+
+/// The task, with its figures.
+pub(crate) fn measure<R: Threads + Wait + Sync + Clock + Print + AllocGlobal>(
+    rt: &R,
+    task: Task,
+) -> Result<(), Trouble> {
+    let done = run(rt, task)?;
+    let _ = println!(rt;
+        "{} calls by {} threads, {} ns, {} refused, {} wrong",
+        task.count, task.sizes.seats, done.nanos, done.refused, done.wrong
+    );
+    Ok(())
+}
+
+/// Few calls of each load, of which it is written what came of them.
+pub(crate) fn small<R: Threads + Wait + Sync + Clock + Print + AllocGlobal>(
+    rt: &R,
+) -> Result<(), Trouble> {
+    for name in ["mix", "get", "put", "insert", "spread", "copies", "copy"] {
+        if let Some(load) = Load::named(name) {
+            let done = run(rt, few(load))?;
+            let _ = println!(rt; "{name}: {} refused, {} wrong", done.refused, done.wrong);
+        }
+    }
+    Ok(())
+}
+
+/// Few calls of this load, by two threads.
+fn few(load: Load) -> Task {
+    Task {
+        load,
+        filled: match load {
+            Load::Spread => 0,
+            _ => 40,
+        },
+        count: 4_000,
+        keys: 40,
+        sizes: Sizes {
+            seats: 2,
+            hash: HashKind::Low,
+            small: 400_000,
+            medium: 10_000,
+            wide: 30_000,
+        },
+    }
+}
