@@ -1,5 +1,6 @@
 -- What lies below this crate, named through the nearest crates alone: crates.txt lists only these, since the toolchain goes along each of its paths.
 pub use Rattle.proof_followed as proof_followed
+pub use Rattle.proof_owned as proof_owned
 pub use Rattle.proof_followed.specs.Beneath.slot_arena as slot_arena
 pub use Rattle.proof_followed.specs.Beneath.machine_model as machine_model
 pub use Rattle.proof_followed.specs.Beneath.proof_memory as proof_memory

@@ -1,9 +1,11 @@
 -- When a slot may be used again, for every list of steps.
 use Rattle.std.specs.Prelude.{◌≡◌, ℕ, suc, ◌+◌, ◌<◌, ◌≤◌, List, [], ◌∷◌, ◌++◌, Contains, Some, Ok}
 use Rattle.proof_reuse.specs.Beneath.slot_arena.specs.declared.refs.Ref.{Ref}
-use Rattle.proof_reuse.specs.Beneath.slot_arena.specs.Heaps.{logical_main, main_at}
+use Rattle.proof_reuse.specs.Beneath.slot_arena.specs.Heaps.{logical_main, main_at, prev_at}
+use Rattle.proof_reuse.specs.Beneath.slot_arena.specs.declared.nodes.Prev.TheVariants as prev
 use Rattle.proof_reuse.specs.Beneath.machine_model.specs.declared.lines.Line.TheVariants as line
 use Rattle.proof_reuse.specs.Beneath.machine_model.specs.declared.lines.Purpose.{Purpose}
+use Rattle.proof_reuse.specs.Beneath.machine_model.specs.declared.reading.SwapLine.TheVariants as swap
 use Rattle.proof_reuse.specs.Beneath.machine_model.specs.declared.steps.Outcome.{Outcome}
 use Rattle.proof_reuse.specs.Beneath.machine_model.specs.declared.steps.Step.TheVariants.{Go}
 use Rattle.proof_reuse.specs.Beneath.machine_model.specs.Swapping.{swapping}
@@ -15,7 +17,9 @@ use Rattle.proof_reuse.specs.Beneath.machine_model.specs.Operations.{action_of}
 use Rattle.proof_reuse.specs.Beneath.machine_model.specs.States.{State, operation_of}
 use Rattle.proof_reuse.specs.Beneath.machine_model.specs.Times.{states_of, last_of}
 use Rattle.proof_reuse.specs.Beneath.proof_memory.specs.Laws.{IsInUse}
+use Rattle.proof_reuse.specs.Beneath.proof_commits.specs.Protocol.{Stage, Rests, Reads, Builds, Publishes, Decides, Checks}
 use Rattle.proof_reuse.specs.Beneath.proof_commits.specs.Runs.{HasIndirection}
+use Rattle.proof_reuse.specs.Beneath.proof_commits.specs.Stages.{stage_of_actor}
 use Rattle.proof_reuse.specs.Beneath.proof_garbage.specs.Grace.{HaveEnded, IsKnownSince}
 use Rattle.proof_reuse.specs.Beneath.proof_garbage.specs.Live.{refs_of_claims}
 use Rattle.proof_fresh.specs.Grace.{IsPrivateToNone}
@@ -109,6 +113,14 @@ OneTakesItsPlace =
     (limits : Bounds) (steps : List Step) (i j m f g : Ref) → AreBounds limits → IsOwn (states_of limits steps) (last_of limits steps) i m →
     IsOwn (states_of limits steps) (last_of limits steps) j m → IsReplacedBy limits steps i m f → IsReplacedBy limits steps j m g → (i ≡ j) × (f ≡ g)
 
+-- The operation of this actor is at the last step of its SWAP, and finds that its fresh node was committed over the other one.
+pub record HasReplaced (state : State) (actor : ℕ) (i m f : Ref) : Type 0 where
+  pub operation : Operation
+  pub runs : operation_of state actor ≡ Some operation
+  pub why : Purpose
+  pub checks : operation.line ≡ line.Swap why (record { indirection = i; replaced = m; fresh = f; line = swap.Check })
+  pub decided : prev_at state.heap f ≡ prev.None
+
 -- ---- what is garbage
 
 -- an indirection's own main node that was replaced there, as long as it is in use
@@ -116,6 +128,20 @@ abbrev pub ReplacedOwnIsGarbage : Type 0
 ReplacedOwnIsGarbage =
     (limits : Bounds) (steps : List Step) (i m : Ref) → AreBounds limits → IsOwn (states_of limits steps) (last_of limits steps) i m → IsReplaced limits steps i m →
     IsInUse (run limits steps).heap m → IsGarbage (run limits steps) m
+
+-- so is the one that a SWAP has replaced which sees its fresh node committed, then and later, as long as it is in use
+abbrev pub SwappedOutIsGarbage : Type 0
+SwappedOutIsGarbage =
+    (limits : Bounds) (before since : List Step) (actor : ℕ) (i m f : Ref) → AreBounds limits → HasReplaced (run limits before) actor i m f →
+    IsOwn (states_of limits (before ++ since)) (last_of limits (before ++ since)) i m → IsInUse (run limits (before ++ since)).heap m → IsGarbage (run limits (before ++ since)) m
+
+-- once an operation has seen this of it, no other one does
+abbrev pub ReplacedOnce : Type 0
+ReplacedOnce =
+    (limits : Bounds) (before since : List Step) (a b : ℕ) (i j m f g : Ref) (outcome : Outcome) (after : State) → AreBounds limits →
+    next (run limits before) (Go a) ≡ Ok (outcome, after) → HasReplaced (run limits before) a i m f → HasReplaced (run limits ((before ++ Go a ∷ []) ++ since)) b j m g →
+    IsOwn (states_of limits ((before ++ Go a ∷ []) ++ since)) (last_of limits ((before ++ Go a ∷ []) ++ since)) i m →
+    ¬ IsOwn (states_of limits ((before ++ Go a ∷ []) ++ since)) (last_of limits ((before ++ Go a ∷ []) ++ since)) j m
 
 -- one that has failed, where the node before it was put back, as long as it is in use
 abbrev pub FailedOwnIsGarbage : Type 0
@@ -128,3 +154,27 @@ abbrev pub UnlinkedIsGarbage : Type 0
 UnlinkedIsGarbage =
     (limits : Bounds) (before since : List Step) (r : Ref) → AreBounds limits → IsFollowedByRoots (run limits before) r → IsInUse (run limits (before ++ since)).heap r →
     ¬ IsFollowedByRoots (run limits (before ++ since)) r → IsGarbage (run limits (before ++ since)) r
+
+-- ---- whose fresh node it is
+
+-- who is about this has made the node for an indirection that it makes, or for its SWAP, and isn't done with it
+abbrev pub IsFreshIn : Stage → Ref → Type 0
+IsFreshIn Rests r = ⊥
+IsFreshIn (Reads i l) r = ⊥
+IsFreshIn (Builds f) r = f ≡ r
+IsFreshIn (Publishes i a f) r = f ≡ r
+IsFreshIn (Decides i a f l) r = f ≡ r
+IsFreshIn (Checks i a f) r = f ≡ r
+
+abbrev pub IsFreshOf : State → ℕ → Ref → Type 0
+IsFreshOf state actor r = IsFreshIn (stage_of_actor (operation_of state actor)) r
+
+-- it is one operation's
+abbrev pub FreshIsOnes : Type 0
+FreshIsOnes = (limits : Bounds) (steps : List Step) (j k : ℕ) (f : Ref) → AreBounds limits → IsFreshOf (run limits steps) j f → IsFreshOf (run limits steps) k f → j ≡ k
+
+-- and once it is nobody's it is nobody's ever after
+abbrev pub FreshIsLeftForGood : Type 0
+FreshIsLeftForGood =
+    (limits : Bounds) (before since : List Step) (f : Ref) → AreBounds limits → IsInUse (run limits before).heap f → ((actor : ℕ) → ¬ IsFreshOf (run limits before) actor f) → (actor : ℕ) →
+    ¬ IsFreshOf (run limits (before ++ since)) actor f

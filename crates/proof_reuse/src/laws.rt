@@ -1,7 +1,7 @@
 //! Laws of garbage, for every list of steps.
 
-ghost use Rattle.proof_reuse.specs.Laws.{FailedOwnIsGarbage, GarbageDies, GarbageIsDeadAfterTwoEpochs, GarbageIsUnknownAfterGrace, OneTakesItsPlace};
-ghost use Rattle.proof_reuse.specs.Laws.{ReplacedOwnIsGarbage, SwapInsBringNothingBack, SwappedInIsGarbage, UnlinkedIsGarbage};
+ghost use Rattle.proof_reuse.specs.Laws.{FailedOwnIsGarbage, FreshIsLeftForGood, FreshIsOnes, GarbageDies, GarbageIsDeadAfterTwoEpochs, GarbageIsUnknownAfterGrace, OneTakesItsPlace};
+ghost use Rattle.proof_reuse.specs.Laws.{ReplacedOnce, ReplacedOwnIsGarbage, SwapInsBringNothingBack, SwappedInIsGarbage, SwappedOutIsGarbage, UnlinkedIsGarbage};
 
 /// A law: what is private to nobody comes to be followed again by no swap-in of one who ran then.
 pub fn swap_ins_bring_nothing_back()
@@ -48,4 +48,24 @@ pub fn failed_own_is_garbage()
 /// A law: what a root led to once is garbage when none leads to it any more.
 pub fn unlinked_is_garbage()
     ensures { UnlinkedIsGarbage }
+{}
+
+/// A law: the node that an operation has made for an indirection or for its SWAP is one operation's, until it is done with it.
+pub fn fresh_is_ones()
+    ensures { FreshIsOnes }
+{}
+
+/// A law: once it is nobody's, it is nobody's ever after; so nobody is in a SWAP of it again.
+pub fn fresh_is_left_for_good()
+    ensures { FreshIsLeftForGood }
+{}
+
+/// A law: an indirection's own main node that a SWAP has replaced is garbage once the SWAP sees its fresh node committed.
+pub fn swapped_out_is_garbage()
+    ensures { SwappedOutIsGarbage }
+{}
+
+/// A law: no other operation sees at the end of a SWAP that it has replaced that main node; so one operation retires it.
+pub fn replaced_once()
+    ensures { ReplacedOnce }
 {}
