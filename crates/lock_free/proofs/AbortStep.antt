@@ -18,8 +18,7 @@ use Rattle.machine_model.specs.declared.roots.RootWord.TheVariants.{Offer}
 use Rattle.machine_model.specs.Calls.{handle_of}
 use Rattle.machine_model.specs.States.{State, root_at, word_at, handle_limit}
 use Rattle.machine_model.specs.Swapping.{stands_in}
-use Rattle.lock_free.proofs.Geometry.{above}
-use Rattle.lock_free.specs.Places.{epoch_word}
+use Rattle.lock_free.proofs.CountWords.{Apart, slot_apart}
 use Rattle.lock_free.specs.declared.accounts.Account.{Account}
 use Rattle.lock_free.specs.declared.accounts.Known.{Known}
 use Rattle.lock_free.specs.declared.rules.View.{View}
@@ -42,11 +41,10 @@ pub known_there : (v : View) (s : Table.State Call View) (kept : IsKept v.sizes 
 known_there v s kept id at k c =
     let waited = (kept.seats id v at).waited in subst (λ xs. Contains xs k) (sym waited.more_offers) (Contains-append_right waited.offers v.account.offers k c)
 
--- its slot isn't the epoch's word
-pub offer_not_epoch : (v : View) (s : Table.State Call View) (kept : IsKept v.sizes s) (id : ℕ) → get_elem? s.views id ≡ some v → (k : Known) → Contains v.account.offers k → 2 * k.slot ≢ epoch_word
-offer_not_epoch v s kept id at k c e =
-    let first = above v.sizes s.words kept.taken 1 k.slot (2 * k.slot) (omega arith) (kept.roots.blocks k (known_there v s kept id at k c)) (record { low = omega arith; high = omega arith }) in
-    omega (arith, e, first)
+-- its first word is neither the epoch's nor a count's
+pub offer_apart : (v : View) (s : Table.State Call View) (kept : IsKept v.sizes s) (id : ℕ) → get_elem? s.views id ≡ some v → (k : Known) → Contains v.account.offers k → Apart v.sizes (2 * k.slot)
+offer_apart v s kept id at k c =
+    slot_apart v.sizes s.words kept.taken 1 k.slot (2 * k.slot) (omega arith) (kept.roots.blocks k (known_there v s kept id at k c)) (record { low = omega arith; high = omega arith })
 
 module _ (v : View) (k : Known) (known : Contains v.account.offers k) (p : IsAt v (act.Abort k.offer)) (on : k.handle ≡ handle_of p.operation.call) where
   abbrev does : Action
@@ -119,7 +117,7 @@ pub abort_allowed : (sizes : Sizes) (size id : ℕ) (me : Me Call View) (some_se
 abort_allowed sizes size id me some_seats slot a =
     subst (λ n. AllowsExchange sizes size id me (2 * n) 0 taken_back) a.place
     (allowed sizes size id me (2 * a.its.slot) (λ n. either (n == 0) taken_back n) (has_gone (step size (2 * a.its.slot) 0 taken_back none) me)
-    some_seats (λ s kept at. inl (offer_not_epoch me.0 s kept id at a.its a.here))
+    some_seats (λ s kept at. inl (offer_apart me.0 s kept id at a.its a.here))
     (λ s kept at. (let x = leaves me.0 a.its a.here a.acts a.on s kept id at in
     (seen me.0 (gone_on me.0.actor kept.account), x.0, ((record { table = s; kept = kept; id = id; at = at; finds = refl }, refl, x.1.1), x.1.0, refl))))
     (λ s kept at. refl))

@@ -23,7 +23,7 @@ use Rattle.lock_free.specs.Calling.{CalledOrNot, HasCalled, IsRunning}
 use Rattle.lock_free.specs.Loading.{IsSound, Runs}
 use Rattle.lock_free.specs.Parking.{IsParked}
 use Rattle.lock_free.specs.RunningOn.{RunsOn}
-use Rattle.lock_free.specs.SeatCalls.{error_of, told_by, IsNoRefusal, IsTold, LacksSlots}
+use Rattle.lock_free.specs.SeatCalls.{error_of, told_by, IsLack, IsNoRefusal, IsTold, WasRefused}
 use Rattle.lock_free.specs.Seated.{HasActors, IsSeated}
 use Rattle.lock_free.specs.Seeking.{IsCalled}
 use Rattle.lock_free.specs.Stocks.{IsStock, Stocked}
@@ -41,18 +41,15 @@ use Rattle.lock_free.proofs.RunningOn.{runs_on_both}
 
 -- ---- what is told of a reply
 
-told_so : (v : View) (c : Call) (answer : Reply) (lack : CallError) (x : View) → HasAnswered v c None answer x → LacksSlots lack → IsTold (λ r. r) v c (told_by answer lack) x
+pub lack_told : (v : View) (c : Call) (lack : CallError) (x : View) → HasAnswered v c None reply.NoSlots x → IsLack lack → WasRefused v c None lack x
+lack_told v c error.Full x h is = h
+lack_told v c error.WornOut x h is = h
+lack_told v c error.Spent x h is = inl h
+lack_told v c why x h is = absurd is
+
+told_so : (v : View) (c : Call) (answer : Reply) (lack : CallError) (x : View) → HasAnswered v c None answer x → IsLack lack → IsTold (λ r. r) v c (told_by answer lack) x
 told_so v c reply.Crowded lack x h is = h
-told_so v c reply.NoSlots error.Full x h is = h
-told_so v c reply.NoSlots error.Spent x h is = inl h
-told_so v c reply.NoSlots error.NoHandle x h is = absurd is
-told_so v c reply.NoSlots error.ReadOnly x h is = absurd is
-told_so v c reply.NoSlots error.NotReadOnly x h is = absurd is
-told_so v c reply.NoSlots error.Crowded x h is = absurd is
-told_so v c reply.NoSlots error.HandlesFull x h is = absurd is
-told_so v c reply.NoSlots error.Busy x h is = absurd is
-told_so v c reply.NoSlots error.WornOut x h is = absurd is
-told_so v c reply.NoSlots error.Memory x h is = absurd is
+told_so v c reply.NoSlots lack x h is = lack_told v c lack x h is
 told_so v c (reply.Found value) lack x h is = h
 told_so v c (reply.Truth truth) lack x h is = h
 told_so v c (reply.Opened handle) lack x h is = h

@@ -14,7 +14,7 @@ use Rattle.machine_model.specs.Beneath.slot_arena.specs.declared.refs.Ref.{Ref}
 use Rattle.machine_model.specs.Beneath.slot_arena.specs.Refs.{slot_of}
 use Rattle.machine_model.specs.declared.roots.RootWord.TheVariants.{Plain}
 use Rattle.machine_model.specs.States.{root_at}
-use Rattle.lock_free.proofs.Geometry.{root_not_epoch}
+use Rattle.lock_free.proofs.CountWords.{handle_apart}
 use Rattle.lock_free.specs.declared.accounts.Known.{Known}
 use Rattle.lock_free.specs.declared.rules.View.{View}
 use Rattle.lock_free.specs.declared.sizes.Sizes.{Sizes}
@@ -111,6 +111,6 @@ pub clean_allowed : (sizes : Sizes) (size id : ℕ) (me : Me Call View) (some_se
 clean_allowed sizes size id me some_seats handle offer root low a =
     allowed sizes size id me (root_word handle) (λ n. either (n == root_code (word.Offered offer)) (root_code (word.Writable root)) n)
     (has_cleaned (step size (root_word handle) (root_code (word.Offered offer)) (root_code (word.Writable root)) none) me)
-    some_seats (λ s kept at. inl (root_not_epoch handle))
+    some_seats (λ s kept at. inl (handle_apart me.0.sizes handle low))
     (λ s kept at. (me.0, cleans me.0 handle offer root low a s kept id at, refl))
     (λ s kept at. refl)

@@ -13,7 +13,7 @@ use Rattle.trie_words.specs.declared.roots.RootWord.{RootWord}
 use Rattle.machine_model.specs.Machine.{begin_denial}
 use Rattle.machine_model.specs.States.{operation_of, root_at}
 use Rattle.lock_free.proofs.EpochStays.{rest_of}
-use Rattle.lock_free.proofs.Geometry.{root_not_epoch}
+use Rattle.lock_free.proofs.CountWords.{handle_apart}
 use Rattle.lock_free.specs.declared.rules.Closing.{Closing}
 use Rattle.lock_free.specs.declared.rules.View.{View}
 use Rattle.lock_free.specs.declared.sizes.Sizes.{Sizes}
@@ -121,7 +121,7 @@ pub close_allows : (sizes : Sizes) (size id : ℕ) (me : Me Call View) (some_sea
     Allows (IsRuled sizes) size id me (root_word handle) (λ n. either (n == root_code w) 0 n) (has_closed (step size (root_word handle) (root_code w) 0 none) me)
 close_allows sizes size id me some_seats handle looked low (others, would) all_looked outside idle w mine =
     allowed sizes size id me (root_word handle) (λ n. either (n == root_code w) 0 n) (has_closed (step size (root_word handle) (root_code w) 0 none) me)
-    some_seats (λ s kept at. inl (root_not_epoch handle))
+    some_seats (λ s kept at. inl (handle_apart me.0.sizes handle low))
     (λ s kept at. (let x = shuts me.0 handle looked low others would all_looked outside idle w mine s kept id at in (
       x.0,
       x.1.0,

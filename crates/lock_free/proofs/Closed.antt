@@ -191,7 +191,7 @@ module _ (sizes : Sizes) (s : Table.State Call View) (kept : IsKept sizes s) (id
       size = root.size_rooted sizes kept.account kept.stands s.words all handle low (root_code word.Closed);
       taken = root.have_rooted sizes kept.account kept.stands s.words all handle low (root_code word.Closed);
       generations = root.generations_rooted sizes kept.account kept.stands s.words all handle low (root_code word.Closed) ∙ sym closes.leaves.generations;
-      nodes = root.nodes_left sizes kept.account account_then.steps kept.account.offers closes.leaves kept.stands words_then kept.nodes.offers
+      nodes = root.nodes_left sizes kept.account account_then.steps kept.account.offers closes.leaves kept.stands words_then both refl kept.nodes.offers
           (root.nodes_rooted sizes kept.account kept.stands s.words all handle low (root_code word.Closed));
       roots = record {
         means = means_all;

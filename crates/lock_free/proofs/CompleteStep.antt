@@ -32,7 +32,7 @@ use Rattle.lock_free.specs.OfferWords.{IsAtComplete, TookUnmarked, HasCompleted,
 use Rattle.lock_free.specs.Places.{words_of}
 use Rattle.lock_free.specs.Roots.{open_with, carried_out, IsItsTry}
 use Rattle.lock_free.specs.Rules.{IsSeat, IsKept, IsRuled}
-use Rattle.lock_free.proofs.AbortStep.{known_there, offer_not_epoch}
+use Rattle.lock_free.proofs.AbortStep.{known_there, offer_apart}
 use Rattle.lock_free.proofs.Exchanged.{words_then, words_hit, missed, sound_by}
 use Rattle.lock_free.proofs.Fates.{settled_decides, settled_still}
 use Rattle.lock_free.proofs.Looking.{o_there, acts_there, same_action}
@@ -147,7 +147,7 @@ pub complete_allowed : (sizes : Sizes) (size id : ℕ) (me : Me Call View) (some
 complete_allowed sizes size id me some_seats slot expected a =
     subst (λ n. Allows (IsRuled sizes) size id me (2 * n) (λ x. either (x == 0) (outcome_by expected) x) (has_completed (step size (2 * n) 0 (outcome_by expected) none) me)) a.place
     (allowed sizes size id me (2 * a.its.slot) (λ n. either (n == 0) (outcome_by expected) n) (has_completed (step size (2 * a.its.slot) 0 (outcome_by expected) none) me)
-    some_seats (λ s kept at. inl (offer_not_epoch me.0 s kept id at a.its a.here))
+    some_seats (λ s kept at. inl (offer_apart me.0 s kept id at a.its a.here))
     (λ s kept at. (let x = leaves me.0 a.its a.main a.here a.acts a.on expected a.test s kept id at in
     (seen me.0 (gone_on me.0.actor kept.account), x.0.0, ((record { table = s; kept = kept; id = id; at = at; finds = refl }, refl, x.1), x.0.1, refl))))
     (λ s kept at. refl))

@@ -31,10 +31,10 @@ use Rattle.lock_free.specs.Holding.{IsOn}
 use Rattle.lock_free.specs.Loading.{IsAt, IsSound, Runs}
 use Rattle.lock_free.specs.Numbers.{reserving, without_number}
 use Rattle.lock_free.specs.RunningOn.{RunsOn}
-use Rattle.lock_free.specs.SeatCalls.{error_of}
+use Rattle.lock_free.specs.SeatCalls.{error_of, IsLack}
 use Rattle.lock_free.specs.SeatWords.{HasEnded, IsAtEnd, left_by}
 use Rattle.lock_free.specs.Stocks.{IsStock, Stocked}
-use Rattle.lock_free.specs.WholeCalls.{HasCopiedOnce, HasFoundNoSlot, HasLeft, IsCopyCall, IsLack, IsToldCopy, RestsWith, SameSeat, WasDeniedCopy, WasRefusedCopy}
+use Rattle.lock_free.specs.WholeCalls.{HasCopiedOnce, HasFoundNoSlot, HasLeft, IsCopyCall, IsToldCopy, RestsWith, SameSeat, WasDeniedCopy, WasRefusedCopy}
 use Rattle.lock_free.proofs.BetweenCalls.{idle_stock, same_seat}
 use Rattle.lock_free.proofs.CallBegins as call
 use Rattle.lock_free.proofs.CallsRunOn.{at_end}
@@ -207,6 +207,7 @@ answered_then v w number c answer a = record {
 lacking : (v x : View) (c : Call) (why : CallError) → IsLack why → HasFoundNoSlot v c x → WasRefusedCopy v c why x
 lacking v x c error.Full is h = h
 lacking v x c error.WornOut is h = h
+lacking v x c error.Spent is h = inl h
 lacking v x c why is h = absurd is
 
 module _ (v : View) (rests : RestsWith v None) (c : Call) (number : ℕ) where

@@ -1,5 +1,6 @@
 -- COPY makes the roots of its offer, one after the other, or stops where a slot or a generation is missing.
-use Rattle.std.proofs.Common.{◌≡◌, ◌++◌, ◌∷◌, ℕ, List, [], Some, None, refl, sym, ap, subst, ◌∙◌}
+use Rattle.std.proofs.Common.{◌≡◌, ◌++◌, ◌∷◌, ℕ, true, false, List, [], Some, None, refl, sym, ap, subst, ◌∙◌}
+use Rattle.std.proofs.lemmas.Bool.{false≢true}
 use Rattle.history.specs.declared.calls.Call.{Call}
 use Rattle.history.specs.declared.calls.Call.TheVariants.{Clear, Snapshot}
 use Rattle.history.specs.declared.replies.Reply.TheVariants as reply
@@ -93,8 +94,9 @@ module _ (before : View) (root main : Ref) (at : IsAtCopy before (copy.Successor
     pub at_second : IsAtCopy after (copy.Second root main new.made)
     at_second = (record at.0 { private = at.0.private ++ new.made ∷ []; line = line.Copy (copy.Second root main new.made) }, first_comes at.0 at.1, refl)
 
-    pub main_at_second : (main_name : ℕ) → IsPlaced before main main_name → IsAtNewRoot after main_name
-    main_at_second main_name placed = (copy.Second root main new.made, main, at_second, refl, placed_on before after new.become.follows main main_name placed)
+    pub main_at_second : (main_name : ℕ) → IsPlaced before main main_name → IsAtNewRoot after (record { slot = main_name; own = false })
+    main_at_second main_name placed =
+        (copy.Second root main new.made, main, at_second, refl, placed_on before after new.become.follows main main_name placed, λ own. absurd (false≢true own))
 
     module _ (then : View) where
       pub second_missing : then ≡ record after { pool = then.pool; drafts = then.drafts } → HasStopped before then
@@ -142,8 +144,8 @@ module _ (before : View) (root main : Ref) (at : IsAtCopy before (copy.Empty roo
     at_cleared =
         (record at.0 { private = at.0.private ++ new_branch.made ∷ []; line = line.Copy (copy.Cleared root main new_branch.made) }, branch_comes at.0 at.1, refl)
 
-    pub root_over_it : IsAtNewRoot middle branch
-    root_over_it = (copy.Cleared root main new_branch.made, new_branch.made, at_cleared, refl, new_branch.placed)
+    pub root_over_it : IsAtNewRoot middle (record { slot = branch; own = true })
+    root_over_it = (copy.Cleared root main new_branch.made, new_branch.made, at_cleared, refl, new_branch.placed, λ own. refl)
 
     module _ (then : View) where
       pub root_missing : then ≡ record middle { pool = then.pool; drafts = then.drafts } → HasStopped before then

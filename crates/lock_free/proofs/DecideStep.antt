@@ -21,11 +21,10 @@ use Rattle.machine_model.specs.Beneath.slot_arena.specs.Refs.{slot_of}
 use Rattle.machine_model.specs.declared.actions.Action.{Action}
 use Rattle.machine_model.specs.declared.actions.Action.TheVariants as act
 use Rattle.std.specs.Option.{option_eq}
-use Rattle.std.proofs.Common.{nat_eq, ◌≢◌, inl}
+use Rattle.std.proofs.Common.{nat_eq, inl}
 use Rattle.trie_words.specs.declared.headers.Shape.{Shape}
 use Rattle.machine_model.specs.Reading.{is_licensed, is_pending}
 use Rattle.proof_memory.specs.Wants.{is_main_node}
-use Rattle.lock_free.specs.Places.{epoch_word}
 use Rattle.lock_free.specs.declared.accounts.Account.{Account}
 use Rattle.lock_free.specs.declared.rules.View.{View}
 use Rattle.lock_free.specs.declared.sizes.Sizes.{Sizes}
@@ -35,13 +34,14 @@ use Rattle.lock_free.specs.Exchanging.{IsPendingOver, decided_previous, decided_
 use Rattle.lock_free.specs.Loading.{Moment, now, seen, IsAt, HasGone, has_gone}
 use Rattle.lock_free.specs.Nodes.{SaysPrevious, SaysShape, SaysHeader}
 use Rattle.lock_free.specs.Rules.{IsKept}
+use Rattle.lock_free.proofs.CountWords.{Apart}
 use Rattle.lock_free.proofs.Assembling.{all_stand}
 use Rattle.lock_free.proofs.Decided.{all_then}
 use Rattle.lock_free.proofs.DecidedKept.{decide_kept}
 use Rattle.lock_free.proofs.Exchanged.{AllowsExchange, Leaves, words_hit, missed, sound_by}
 use Rattle.lock_free.proofs.LinkWords.{same_generation}
 use Rattle.lock_free.proofs.Looking.{went, link_there, same_action}
-use Rattle.lock_free.proofs.Moments.{allowed, took_by, its_place, not_epoch}
+use Rattle.lock_free.proofs.Moments.{allowed, took_by, its_place, node_apart}
 use Rattle.lock_free.proofs.Verdicts.{o, runs, main_is, shape_now, previous_now, case_is, Case, was_pending, was_decided}
 
 -- what an exchange writes over a header that is pending
@@ -88,8 +88,8 @@ module _ (v : View) (i main replaced : Ref) (told : Option ℕ) (p : IsAt v (act
     case : Case v word found m i main replaced told p its_word header fits over
     case = case_is v word found m i main replaced told p its_word header fits over
 
-    pub is_elsewhere : word ≢ epoch_word
-    is_elsewhere = not_epoch v s kept id at main (main_is v word found m i main replaced told p its_word header fits over).0 word its_word
+    pub is_elsewhere : Apart v.sizes word
+    is_elsewhere = node_apart v s kept id at main (main_is v word found m i main replaced told p its_word header fits over).0 word its_word
 
     abbrev Left : Type 0
     Left = Leaves v s kept id at word old new

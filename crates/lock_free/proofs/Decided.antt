@@ -29,6 +29,7 @@ use Rattle.lock_free.specs.Places.{first_slot_word, words_in, words_of, generati
 use Rattle.lock_free.specs.Roots.{MeansRoot, fate}
 use Rattle.lock_free.specs.Rules.{Standing, Stands, NodesStand, RootsStand, IsSpare}
 use Rattle.lock_free.specs.Steps.{nothing}
+use Rattle.lock_free.proofs.OwnBits.{own_longer}
 use Rattle.lock_free.proofs.Assembling.{AllStand}
 use Rattle.lock_free.proofs.Framing.{below_word, entries_else, stands_over, still_taken, have_still, roots_still, class_small, node_far, node_inside, not_of_other, not_of_any_offer, first_word}
 use Rattle.lock_free.proofs.Geometry.{IsWordOf}
@@ -191,6 +192,7 @@ module _ (sizes : Sizes) (account : Account) (actor : ℕ) (operation : Operatio
     written = λ k slot h. written_by k slot h.0 (which k slot h.1);
     inside = λ k slot e. (let b = before k slot (which k slot e) in subst (λ n. 2 * place_at account k + words_in (class_of n) ≤ words_of sizes) (sym b.2) (all.nodes.inside k b.0 b.1));
     owners = owners_kept account account_then now next refl refl decides.aheads all.nodes.owners;
+    owned = own_longer sizes account account_then (step.Go actor ∷ []) refl refl all.nodes.owned;
     live = λ r h. all.nodes.live r (decides.live r h);
     reached = reached_kept sizes account account_then (step.Go actor) refl stands stands all.nodes.reached (λ r h. all.nodes.live r (decides.live r h)) (λ r was h. h);
   }

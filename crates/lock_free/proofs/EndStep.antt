@@ -20,6 +20,7 @@ use Rattle.lock_free.specs.Loading.{now, seen, IsAt, IsSound, Runs, Waited}
 use Rattle.lock_free.specs.Places.{pin_word, words_of}
 use Rattle.lock_free.specs.Rules.{IsKept, IsRuled}
 use Rattle.lock_free.specs.SeatWords.{HasEnded, IsAtEnd, left_by, once_ended, has_ended}
+use Rattle.lock_free.proofs.CountWords.{pin_apart}
 use Rattle.lock_free.proofs.Ended.{all_then, end_kept}
 use Rattle.lock_free.proofs.Moments.{allowed_unpinned, waited_so, free_inside}
 use Rattle.lock_free.proofs.OneStep.Sitting.{ends_of}
@@ -98,7 +99,7 @@ pub end_allowed : (sizes : Sizes) (size id : ℕ) (me : Me Call View) (some_seat
     Allows (IsRuled sizes) size id me (pin_word me.0.actor) (λ n. 0) (λ n. has_ended (step size (pin_word me.0.actor) 0 0 none) me 0)
 end_allowed sizes size id me some_seats (answer, p) =
     allowed_unpinned sizes size id me (pin_word me.0.actor) (λ n. 0) (λ n. has_ended (step size (pin_word me.0.actor) 0 0 none) me 0)
-    some_seats (λ s kept at. inl (λ e. omega (arith, e)))
+    some_seats (λ s kept at. inl (pin_apart me.0.sizes me.0.actor (let seat = kept.seats id me.0 at in omega (arith, seat.top, seat.most))))
     (λ s kept at. (
       after me.0 answer p s kept id at,
       kept_after me.0 answer p s kept id at,

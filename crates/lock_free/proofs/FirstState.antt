@@ -42,7 +42,7 @@ none_by None h = refl
 none_by (Some x) h = absurd (h x refl)
 
 module _ (sizes : Sizes) where
-  slots_are : (state_of sizes (first_account sizes)).heap.slots ≡ Some first_branch ∷ Some first_link ∷ None ∷ []
+  pub slots_are : (state_of sizes (first_account sizes)).heap.slots ≡ Some first_branch ∷ Some first_link ∷ None ∷ []
   unfolding run_from first_state taken
   slots_are = refl
 

@@ -26,30 +26,30 @@ use Rattle.lock_free.proofs.Meanings.{means_kept, marks_kept, pending_kept, no_t
 -- ---- a node's words are its slot's
 
 -- a main node with so many entries has room for each of them
-room_by : (n position : ℕ) (two fourteen : Bool) → nat_le n 2 ≡ two → nat_le n 14 ≡ fourteen → n ≤ 32 → position < n →
-    1 + position / 2 < words_in (if two then 0 else (if fourteen then 1 else 2))
-room_by n position true fourteen a b most low = grind (arith, a, most, low)
+room_by : (n position : ℕ) (two twelve : Bool) → nat_le n 2 ≡ two → nat_le n 12 ≡ twelve → n ≤ 32 → position < n →
+    1 + position / 2 < words_in (if two then 0 else (if twelve then 1 else 2))
+room_by n position true twelve a b most low = grind (arith, a, most, low)
 room_by n position false true a b most low = grind (arith, a, b, most, low)
 room_by n position false false a b most low = grind (arith, a, b, most, low)
 
 entry_inside : (n name position : ℕ) → n ≤ 32 → position < n → IsWordOf (class_for n) name (entry_word name position)
 entry_inside n name position most low =
-    let room = room_by n position (nat_le n 2) (nat_le n 14) refl refl most low in
+    let room = room_by n position (nat_le n 2) (nat_le n 12) refl refl most low in
     record { low = omega arith; high = omega (arith, room) }
 
 class_has : (n : ℕ) → 0 < words_in (class_for n)
-class_has n = by (nat_le n 2) (nat_le n 14)
+class_has n = by (nat_le n 2) (nat_le n 12)
   where
-    by : (two fourteen : Bool) → 0 < words_in (if two then 0 else (if fourteen then 1 else 2))
-    by true fourteen = omega arith
+    by : (two twelve : Bool) → 0 < words_in (if two then 0 else (if twelve then 1 else 2))
+    by true twelve = omega arith
     by false true = omega arith
     by false false = omega arith
 
 pub class_below : (n : ℕ) → class_for n < 3
-class_below n = by (nat_le n 2) (nat_le n 14)
+class_below n = by (nat_le n 2) (nat_le n 12)
   where
-    by : (two fourteen : Bool) → (if two then 0 else (if fourteen then 1 else 2)) < 3
-    by true fourteen = omega arith
+    by : (two twelve : Bool) → (if two then 0 else (if twelve then 1 else 2)) < 3
+    by true twelve = omega arith
     by false true = omega arith
     by false false = omega arith
 
@@ -196,6 +196,7 @@ module _ (sizes : Sizes) (account : Account) (stands : Standing) (words : List �
         stands_over account words i x (place_at account k) (state_of sizes account) k slot slot.node (all.nodes.small k slot h) (not_of_node k slot h) (all.nodes.written k slot h);
     inside = all.nodes.inside;
     owners = all.nodes.owners;
+    owned = all.nodes.owned;
     live = all.nodes.live;
     reached = all.nodes.reached;
   }
@@ -271,6 +272,7 @@ module _ (sizes : Sizes) (account : Account) (stands : Standing) (words : List �
         (no_slot (class_of slot.node) (place_at account k) (class_small slot.node) (nodes.within k slot h)) (nodes.written k slot h);
     inside = nodes.inside;
     owners = nodes.owners;
+    owned = nodes.owned;
     live = nodes.live;
     reached = nodes.reached;
   }

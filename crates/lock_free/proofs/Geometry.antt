@@ -2,7 +2,7 @@
 use Rattle.std.proofs.Common.{◌≡◌, ◌≢◌, ◌+◌, ◌*◌, ◌<◌, ◌≤◌, ℕ, zero, suc, List, refl, ap, subst, arith, if◌then◌else◌}
 use Rattle.std.proofs.lemmas.Bool.{ne_eqb}
 use Rattle.lock_free.specs.declared.sizes.Sizes.{Sizes}
-use Rattle.lock_free.specs.Places.{epoch_word, part_of, words_in, slots_in, first_slot_word, words_of, root_word, IsTaken, HaveTaken}
+use Rattle.lock_free.specs.Places.{epoch_word, part_of, stride, words_in, slots_in, first_slot_word, words_of, root_word, IsTaken, HaveTaken}
 
 -- the word is one of the slot's
 pub record IsWordOf (class name i : ℕ) : Type 0 where
@@ -12,7 +12,7 @@ pub record IsWordOf (class name i : ℕ) : Type 0 where
 -- a slot's words lie in its class's part
 pub record LiesIn (sizes : Sizes) (class i : ℕ) : Type 0 where
   pub low : part_of sizes class ≤ i
-  pub high : i < part_of sizes class + words_in class * slots_in sizes class
+  pub high : i < part_of sizes class + stride class * slots_in sizes class
 
 module _ (sizes : Sizes) (words : List ℕ) (have : HaveTaken sizes words) where
   lies : (class name i : ℕ) → class < 3 → IsTaken sizes words class name → IsWordOf class name i → LiesIn sizes class i
@@ -72,8 +72,8 @@ module _ (sizes : Sizes) (words : List ℕ) (have : HaveTaken sizes words) where
 -- all of a slot's words are the table's
 pub end_inside : (sizes : Sizes) (words : List ℕ) (have : HaveTaken sizes words) (class name : ℕ) → class < 3 → IsTaken sizes words class name → 2 * name + words_in class ≤ words_of sizes
 end_inside sizes words have zero name small t = let h = inside sizes words have 0 name (2 * name + 1) small t (record { low = omega arith; high = omega arith }) in omega (arith, h)
-end_inside sizes words have (suc zero) name small t = let h = inside sizes words have 1 name (2 * name + 7) small t (record { low = omega arith; high = omega arith }) in omega (arith, h)
-end_inside sizes words have (suc (suc zero)) name small t = let h = inside sizes words have 2 name (2 * name + 23) small t (record { low = omega arith; high = omega arith }) in omega (arith, h)
+end_inside sizes words have (suc zero) name small t = let h = inside sizes words have 1 name (2 * name + 6) small t (record { low = omega arith; high = omega arith }) in omega (arith, h)
+end_inside sizes words have (suc (suc zero)) name small t = let h = inside sizes words have 2 name (2 * name + 22) small t (record { low = omega arith; high = omega arith }) in omega (arith, h)
 end_inside sizes words have (suc (suc (suc class))) name small t = absurd (omega (arith, small))
 
 pub next_root : (handle : ℕ) → root_word (suc handle) ≡ 87 + suc handle

@@ -7,6 +7,8 @@ use lib.ListN.{get_elem?}
 use Rattle.atomic_table.specs.Table as Table
 use Rattle.atomic_table.specs.Table.{Me, Act, gives, keeps, chain, carried_after, homes_after, Valid, Allows, Joins, step}
 use Rattle.atomic_table.proofs.Lists.{at_set, set_else}
+use Rattle.lock_free.proofs.CountWords.{count_same}
+use Rattle.lock_free.proofs.CountsStay.{counted_then}
 use Rattle.lock_free.proofs.EpochStays.{IsAsWas, Was, epochs_stay, stays_elsewhere, was_one, was_then}
 use Rattle.lock_free.specs.declared.rules.Heard.{Heard}
 use Rattle.lock_free.specs.declared.rules.View.{View}
@@ -141,6 +143,9 @@ module _ (sizes : Sizes) (id : ℕ) (v : View) (some_v : 1 ≤ v.sizes.seats) (o
     retired =
         retired_then (set s.views id (hearing v w)) other w e (gone w) refl (λ p is. is) sizes s.words s.words (omega arith)
         (retired_then s.views id v at (hearing v w) refl (λ p is. is) sizes s.words s.words (omega arith) ruled.retired);
+    counted =
+        counted_then (set s.views id (hearing v w)) other w e (gone w) refl sizes s.words s.words (λ c is. refl)
+        (counted_then s.views id v at (hearing v w) refl sizes s.words s.words (λ c is. refl) ruled.counted);
     heard = heard_then;
   }
     where
@@ -190,6 +195,9 @@ module _ (sizes : Sizes) (size id : ℕ) (me : Me Call View) (word : ℕ) (some_
           retired =
               retired_then s.views id me.0 at view refl (λ p is. is) sizes s.words (set s.words word (slice_index s.words word))
               (epoch_still s.words (set s.words word (slice_index s.words word)) (stays_elsewhere s.words word (λ n. n) (inr refl))) ruled.retired;
+          counted =
+              counted_then s.views id me.0 at view refl sizes s.words (set s.words word (slice_index s.words word))
+              (count_same sizes word (λ n. n) s.words (inr refl)) ruled.counted;
           heard = heard_still s.views id me.0 at some_seats view refl ruled.heard;
         },
         ((record { table = s; kept = own; id = id; at = at; finds = refl }, refl), none_left me.1),

@@ -28,18 +28,22 @@ use Rattle.machine_model.specs.States.{State, operation_of}
 use Rattle.lock_free.specs.declared.accounts.Account.{Account}
 use Rattle.lock_free.specs.declared.accounts.Known.{Known}
 use Rattle.lock_free.specs.declared.rules.Pool.{Pool}
+use Rattle.lock_free.specs.declared.rules.Retired.{Retired}
 use Rattle.lock_free.specs.declared.rules.View.{View}
 use Rattle.lock_free.specs.declared.sizes.Sizes.{Sizes}
-use Rattle.lock_free.specs.Accounts.{state_of, place_at, place_of, HasWaited, IsOfOther, gone_on}
+use Rattle.lock_free.specs.Accounts.{state_of, place_at, place_of, HasGrown, HasWaited, IsOfOther, gone_on}
 use Rattle.lock_free.specs.Live.{IsLive}
 use Rattle.lock_free.specs.Nodes.{StandsAs, class_of, IsAhead, IsOver, is_single, SaysPrevious, decided, ahead, pending, failed, SaysHeader, SaysShape, of_branch, of_tomb, of_list, IsEntryOf}
 use Rattle.lock_free.specs.Nodes.{AreEntries, half_of, InTable}
 use Rattle.lock_free.specs.Roots.{MeansRoot, IsWritten, second_of, fate}
-use Rattle.lock_free.specs.Rules.{Standing, Stands, NodesStand, RootsStand, Once, pool_of, IsFree, IsSpare, IsSeat, IsKept}
+use Rattle.lock_free.specs.Reclaiming.{retiring}
+use Rattle.lock_free.specs.Rules.{Standing, Stands, NodesStand, RootsStand, Once, pool_of, IsFree, IsSpare, IsSeat, IsKept, WasGarbage}
 use Rattle.lock_free.specs.Steps.{Dropped, nothing, Leads, Reads}
+use Rattle.lock_free.proofs.OwnBits.{own_longer}
 use Rattle.lock_free.proofs.Assembling.{AllStand, closing_stays, numbers_stay, assembled}
 use Rattle.lock_free.proofs.Meanings.{means_kept, marks_kept, stood_still}
 use Rattle.lock_free.proofs.Seats.{ran_so, numbers_so, Stays, other_kept, own_kept, drafts_kept}
+use Rattle.lock_free.proofs.RetiredMore.{seat_retiring}
 use Rattle.lock_free.proofs.Owners.{owners_kept}
 use Rattle.lock_free.proofs.Fates.{fate_kept, words_same}
 use Rattle.lock_free.proofs.OneStep.Reached.{reached_kept}
@@ -166,6 +170,7 @@ module _ (sizes : Sizes) (s : Table.State Call View) (kept : IsKept sizes s) (id
         (place_at kept.account k) k slot slot.node was.1 (kept.nodes.written k slot was.0));
     inside = λ k slot e. kept.nodes.inside k slot (sym (leads.nodes k) ∙ e);
     owners = owners_kept kept.account account_then now next_state refl refl leads.aheads kept.nodes.owners;
+    owned = own_longer sizes kept.account account_then (taken ∷ []) refl refl kept.nodes.owned;
     live = live_stands;
     reached = reached_kept sizes kept.account account_then taken refl kept.stands stands_then kept.nodes.reached live_stands
         (λ r was h. live_then (dropped (slot_of r)) (slot_of r) refl (leads.reached r was) h);
@@ -287,3 +292,31 @@ module _ (sizes : Sizes) (s : Table.State Call View) (kept : IsKept sizes s) (id
   kept_then =
       drop_kept sizes s kept id v at operation (operation_after (state_of sizes kept.account) operation) runs (step.Go v.actor) tt (λ a differs e. differs (sym e)) nothing reads refl refl v.pool
       (kept.seats id v at).once (λ b name small h. h) (λ b name small h. inl h)
+
+  -- the same where the seat has retired one slot more
+  module _ (x : Retired) (was : WasGarbage sizes x) (grown : HasGrown x.account (gone_on v.actor kept.account)) (still : kept.stands x.number ≡ true) where
+    abbrev after : Account
+    after = gone_on v.actor kept.account
+
+    abbrev after_stands : Standing
+    after_stands = standing kept.stands nothing
+
+    abbrev next : Operation
+    next = operation_after (state_of sizes kept.account) operation
+
+    gone_others : (a : ℕ) → a ≢ v.actor → IsOfOther a (step.Go v.actor)
+    gone_others a differs e = differs (sym e)
+
+    gone_seat : IsSeat sizes after after_stands s.words then_view
+    gone_seat =
+        own_then sizes s kept id v at operation next runs (step.Go v.actor) tt gone_others nothing reads refl refl v.pool (kept.seats id v at).once (λ b name small h. h) (λ b name small h. inl h)
+
+    pub kept_retiring : IsKept sizes (record { words = s.words; homes = s.homes; views = set s.views id (retiring then_view x) })
+    kept_retiring =
+        assembled sizes s kept id v at (retiring then_view x) refl refl after after_stands s.words
+        (all_then sizes s kept id v at operation next runs (step.Go v.actor) tt gone_others nothing reads refl refl)
+        (λ handle who low says. closing_stays sizes s kept id v at (retiring then_view x) refl refl (λ h e. e) refl handle who (kept.closings handle who low says))
+        (seat_retiring sizes after after_stands s.words then_view x (record { was = was; grown = grown; still = still }) gone_seat)
+        (other_kept sizes s kept id v at after after_stands s.words (stays sizes s kept id v at operation next runs (step.Go v.actor) tt gone_others nothing reads refl refl))
+        (λ b name free. inl free)
+        (numbers_stay sizes s kept id v at (retiring then_view x) refl refl after s.words reads.tries (λ slot none. none) (λ handle low. refl) refl (λ slot handle e free. free))

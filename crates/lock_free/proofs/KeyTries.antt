@@ -2,7 +2,6 @@
 use Rattle.std.proofs.Common.{ℕ, List, refl, ap, ◌∙◌}
 use Rattle.history.specs.declared.calls.Access.{Access}
 use Rattle.history.specs.declared.calls.Call.{Call}
-use Rattle.history.specs.declared.replies.Reply.{Reply}
 use Rattle.history.specs.declared.replies.Reply.TheVariants as reply
 use Rattle.machine_model.specs.declared.operations.Operation.{Operation}
 use Rattle.machine_model.specs.GivingUp.{given_up}
@@ -15,9 +14,10 @@ use Rattle.lock_free.specs.declared.leaving.Left.TheVariants as left
 use Rattle.lock_free.specs.declared.parking.Came.TheVariants as came
 use Rattle.lock_free.specs.declared.reading.Given.{Given}
 use Rattle.lock_free.specs.declared.rules.View.{View}
+use Rattle.lock_free.specs.declared.seeking.Sought.{Sought}
 use Rattle.lock_free.specs.declared.seeking.Sought.TheVariants as sought
 use Rattle.lock_free.specs.declared.tasks.Task.{Task}
-use Rattle.lock_free.specs.Attempts.{HasAttempted, IsToChange}
+use Rattle.lock_free.specs.Attempts.{HasAttempted, IsSought, IsToChange}
 use Rattle.lock_free.specs.Descending.{IsTask, line_updated}
 use Rattle.lock_free.specs.Holding.{IsOn}
 use Rattle.lock_free.specs.Leaving.{IsRepair, Leaves}
@@ -25,7 +25,7 @@ use Rattle.lock_free.specs.Loading.{Runs}
 use Rattle.lock_free.specs.Parking.{left_so, HasRunTo, IsOwnLeft}
 use Rattle.lock_free.specs.RunningOn.{RunsOn}
 use Rattle.lock_free.specs.Seeking.{HasTried, IsCalled}
-use Rattle.lock_free.proofs.CallsRunOn.{tried_again, tried_answers, tried_full, tried_runs_on}
+use Rattle.lock_free.proofs.CallsRunOn.{tried_again, tried_answers, tried_full}
 use Rattle.lock_free.proofs.Comings.{runs_one}
 use Rattle.lock_free.proofs.RunningOn.{runs_on_both, runs_on_rooted}
 use Rattle.lock_free.proofs.Seekings.{task_ended}
@@ -33,23 +33,14 @@ use Rattle.lock_free.proofs.Seekings.{task_ended}
 -- ---- one try
 
 module _ (v : View) (on : IsOn v new_try) (slots : List ℕ) (task : Task) (w : View) where
-  pub try_answers : (answer : Reply) → HasTried v slots (task, sought.Answers answer) w → HasAttempted v (attempt.Comes (came.Answered answer)) w
-  try_answers answer h = (tried_runs_on v w slots task (sought.Answers answer) h, tried_answers v w slots task on.0 on.1 answer h)
-
-  pub try_again : HasTried v slots (task, sought.Again) w → HasAttempted v attempt.Again w
-  try_again h = (tried_runs_on v w slots task sought.Again h, tried_again v w slots task on.0 on.1 h)
-
-  pub try_full : HasTried v slots (task, sought.Full) w → HasAttempted v (attempt.Comes came.Spent) w
-  try_full h = (tried_runs_on v w slots task sought.Full h, tried_full v w slots task on.0 on.1 h)
-
   module _ (update : Update) (given : Given) (h : HasTried v slots (task, sought.Changes update given) w) where
     middle_runs : (o : Operation) × Runs h.0 o
     middle_runs = let x = (runs_on_rooted v h.0 (record { slot = h.1; generation = task.start }) h.2).runs on.0 on.1 in (x.0, x.1)
 
-    pub task_changes : IsTask w task
+    task_changes : IsTask w task
     task_changes = let c = h.4 in task_ended h.0 w (line_updated c.path c.main c.other update) task middle_runs.0 middle_runs.1 c.ended h.3
 
-    pub to_change : IsToChange w slots given update
+    to_change : IsToChange w slots given update
     to_change =
         let c = h.4 in
         let x = c.ended.comes middle_runs.0 middle_runs.1 in
@@ -62,8 +53,13 @@ module _ (v : View) (on : IsOn v new_try) (slots : List ℕ) (task : Task) (w : 
           knows = c.knows;
         }
 
-    pub tried_changes : RunsOn v w
-    tried_changes = tried_runs_on v w slots task (sought.Changes update given) h
+-- what its way has come to
+
+pub try_sought : (v : View) → IsOn v new_try → (slots : List ℕ) (task : Task) (w : View) (result : Sought) → HasTried v slots (task, result) w → IsSought w slots task result
+try_sought v on slots task w (sought.Answers answer) h = tried_answers v w slots task on.0 on.1 answer h
+try_sought v on slots task w (sought.Changes update given) h = (task_changes v on slots task w update given h, to_change v on slots task w update given h)
+try_sought v on slots task w sought.Again h = tried_again v w slots task on.0 on.1 h
+try_sought v on slots task w sought.Full h = tried_full v w slots task on.0 on.1 h
 
 -- out of tries
 

@@ -25,6 +25,7 @@ use Rattle.lock_free.specs.Holding.{IsOn}
 use Rattle.lock_free.specs.Loading.{now, IsAt}
 use Rattle.lock_free.specs.Making.{over_of, IsOverBy}
 use Rattle.lock_free.specs.Nodes.{is_single}
+use Rattle.lock_free.specs.Owning.{IsBuilding}
 use Rattle.lock_free.specs.Passing.{IsPlaced}
 use Rattle.lock_free.specs.SeenEntries.{entry_to, HasMadeNext, IsOver}
 use Rattle.lock_free.proofs.KeyMoves.{hash_is}
@@ -50,6 +51,11 @@ module _ (v : View) (by : Builder) (path : List Ref) (main : Ref) (position : �
     runs = at.1.1;
     acts = ap (line_action (now v) (record at.0 { is_marked = at.1.0 })) at.2 ∙ ap (λ g. act.Make (Indirection g below)) (b.calls at.0 at.1).2;
   }
+
+  -- its main node is the operation's own
+  pub link_building : IsBuilding link_at.operation.line below
+  unfolding link_at
+  link_building = subst (λ l. IsBuilding l below) (sym at.2) refl
 
   pub no_link : (w : View) → HasMadeNext v None w → HasStopped v w
   no_link w made = stopped_here v w (build.Link path main position below depth) at (made (Indirection by.start below) link_at)
@@ -214,8 +220,13 @@ module _ (size : ℕ) (before : View) (by : Builder) (depth name0 : ℕ) (at : I
         builder_w : IsBuilder w by path
         builder_w = builder_then before w (line.Build (build.Link path main position below depth)) at_link on on_link by path b
 
-        pub next_link : (r : Ref) × IsAt w (act.Make (Indirection by.start r)) × IsPlaced w r rung_name
-        next_link = (new.made, link_at w by path main position new.made (depth + by.depth - n) there_w builder_w, new.placed)
+        pub next_link : (r : Ref) × (p : IsAt w (act.Make (Indirection by.start r))) × IsPlaced w r rung_name × IsBuilding p.operation.line r
+        next_link = (
+          new.made,
+          link_at w by path main position new.made (depth + by.depth - n) there_w builder_w,
+          new.placed,
+          link_building w by path main position new.made (depth + by.depth - n) there_w builder_w,
+        )
 
         pub next_none : (x : View) → HasMadeNext w None x → HasLinked before depth None x
         next_none x none q m c k other =

@@ -6,6 +6,8 @@ mod RootCodes
 mod Meanings
 mod Fates
 mod Owners
+mod OwnBits
+mod OwnNodes
 mod Assembling
 mod Waiting
 mod Seats
@@ -16,9 +18,17 @@ mod GoneSeats
 mod EpochStays
 mod BegunSince
 mod RetiredStay
+mod Retirable
+mod RetiredMore
+mod CountWords
+mod CountsStay
+mod CountKept
+mod CountSteps
+mod LastClaim
 mod Reclaimable
 mod Reclaimed
 mod ReclaimStep
+mod RetireStep
 mod EpochWord
 mod Moments
 mod Within
@@ -201,6 +211,7 @@ mod SplitSeats
 mod HistoriesOn
 mod Hearing
 mod Gathering
+mod GetsWhole
 mod Talks
 mod AnswersTold
 mod KeyValues

@@ -27,6 +27,8 @@ use Rattle.lock_free.specs.Places.{IsTaken, words_in, root_word, words_of, HaveT
 use Rattle.lock_free.specs.Roots.{MeansRoot, IsWritten, second_of, fate}
 use Rattle.lock_free.specs.Rules.{Standing, Stands, NodesStand, RootsStand, IsSpare}
 use Rattle.lock_free.specs.Trying.{as_before}
+use Rattle.lock_free.specs.Owning.{MayOwn}
+use Rattle.lock_free.proofs.OwnBits.{own_made}
 use Rattle.lock_free.proofs.Meanings.{means_kept, marks_kept, stood_still}
 use Rattle.lock_free.proofs.Assembling.{AllStand}
 use Rattle.lock_free.proofs.Framing.{class_small}
@@ -40,7 +42,8 @@ use Rattle.lock_free.proofs.Waiting.{quiet_more}
 module _ (sizes : Sizes) (account : Account) (actor : ℕ) (operation : Operation) (name : ℕ) (own : Bool) (node : Node) (more : ℕ)
     (makes : Makes sizes account (made_at actor name own node account) actor operation node more)
     (stands : Standing) (words : List ℕ) (all : AllStand sizes account stands words) (taken : IsTaken sizes words (class_of node) name) (spare : IsSpare sizes account stands name)
-    (small : length (entries_of node) ≤ 32) (drafted : DraftsNode account (state_of sizes account).heap (over_of operation.line) (InTable words) name own node) where
+    (small : length (entries_of node) ≤ 32) (drafted : DraftsNode account (state_of sizes account).heap (over_of operation.line) (InTable words) name own node)
+    (owns : MayOwn operation.line node own) where
   abbrev pub later : Account
   later = made_at actor name own node account
 
@@ -109,6 +112,7 @@ module _ (sizes : Sizes) (account : Account) (actor : ℕ) (operation : Operatio
       | inr other ↦ subst (λ p. 2 * p + words_in (class_of slot.node) ≤ words_of sizes) (sym (place_old k other)) (all.nodes.inside k slot (sym (makes.nodes k other) ∙ e))
     ];
     owners = owners_made sizes account actor operation name own node more makes all.nodes.owners;
+    owned = own_made sizes account actor operation name own node more makes all.counted all.nodes.owned owns;
     live = live_stands;
     reached = reached_kept sizes account later (step.Go actor) refl stands later_stands all.nodes.reached live_stands (λ r was h. stands_by r h);
   }

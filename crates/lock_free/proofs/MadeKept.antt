@@ -20,6 +20,7 @@ use Rattle.lock_free.specs.Nodes.{Has, InTable, class_of}
 use Rattle.lock_free.specs.Making.{over_of, Drafted, AreDrafted, DraftsNode, made_at, Makes, made_by}
 use Rattle.lock_free.specs.Places.{slots_in, first_slot_word, generation_word, taken_word, pin_word, root_word, IsTaken}
 use Rattle.lock_free.specs.Rules.{NodesStand, RootsStand, IsSpare, IsKept, pool_of}
+use Rattle.lock_free.specs.Owning.{MayOwn}
 use Rattle.lock_free.proofs.Assembling.{AllStand, all_stand}
 use Rattle.lock_free.proofs.Framing.{else_word, no_slot, nodes_below, roots_below, other_word, low_word, taken_over, all_over, class_small}
 use Rattle.lock_free.proofs.Geometry.{IsWordOf, slots_apart, inside, root_below}
@@ -48,7 +49,8 @@ module _ (sizes : Sizes) (s : Table.State Call View) (kept : IsKept sizes s) (id
   -- ---- by a store
 
   module _ (makes : Makes sizes kept.account (made_at v.actor name own node kept.account) v.actor operation node 0) (last value : ℕ) (inside_it : IsWordOf (class_of node) name last)
-      (drafted : DraftsNode kept.account (state_of sizes kept.account).heap (over_of operation.line) (Drafted v.drafts last value) name own node) where
+      (drafted : DraftsNode kept.account (state_of sizes kept.account).heap (over_of operation.line) (Drafted v.drafts last value) name own node)
+      (owns : MayOwn operation.line node own) where
     is_spare : IsTaken sizes s.words (class_of node) name × IsSpare sizes kept.account kept.stands name
     is_spare = its_spare sizes s kept id v at operation runs name own node 0 makes rest pool
 
@@ -82,10 +84,10 @@ module _ (sizes : Sizes) (s : Table.State Call View) (kept : IsKept sizes s) (id
 
     pub all_made : AllStand sizes (made_at v.actor name own node kept.account) (stands_too (length kept.account.names) kept.stands) words_then
     all_made =
-        all_then sizes kept.account v.actor operation name own node 0 makes kept.stands words_then stored_all taken_then is_spare.1 small in_words words_then stored_all.size stored_all.taken
+        all_then sizes kept.account v.actor operation name own node 0 makes kept.stands words_then stored_all taken_then is_spare.1 small in_words owns words_then stored_all.size stored_all.taken
         (let before = stored_all.generations in let no_more = makes.generations in omega (arith, before, no_more))
-        (nodes_then sizes kept.account v.actor operation name own node 0 makes kept.stands words_then stored_all taken_then is_spare.1 small in_words)
-        (roots_then sizes kept.account v.actor operation name own node 0 makes kept.stands words_then stored_all taken_then is_spare.1 small in_words)
+        (nodes_then sizes kept.account v.actor operation name own node 0 makes kept.stands words_then stored_all taken_then is_spare.1 small in_words owns)
+        (roots_then sizes kept.account v.actor operation name own node 0 makes kept.stands words_then stored_all taken_then is_spare.1 small in_words owns)
 
     slot_same : (b other : ℕ) → b < 3 → other ≢ name → IsTaken sizes s.words b other → (j : ℕ) → IsWordOf b other j → slice_index words_then j ≡ slice_index s.words j
     slot_same b other small_b differs taken j its =
@@ -101,7 +103,7 @@ module _ (sizes : Sizes) (s : Table.State Call View) (kept : IsKept sizes s) (id
   -- ---- by the exchange of the count of generations
 
   module _ (makes : Makes sizes kept.account (made_at v.actor name own node kept.account) v.actor operation node 1)
-      (drafted : DraftsNode kept.account (state_of sizes kept.account).heap (over_of operation.line) (AreDrafted v.drafts) name own node) where
+      (drafted : DraftsNode kept.account (state_of sizes kept.account).heap (over_of operation.line) (AreDrafted v.drafts) name own node) (owns : MayOwn operation.line node own) where
     root_spare : IsTaken sizes s.words (class_of node) name × IsSpare sizes kept.account kept.stands name
     root_spare = its_spare sizes s kept id v at operation runs name own node 1 makes rest pool
 
@@ -120,10 +122,10 @@ module _ (sizes : Sizes) (s : Table.State Call View) (kept : IsKept sizes s) (id
         (λ j w c. ((kept.seats id v at).drafts (j, w) c).0) drafted
 
     root_nodes : NodesStand sizes (made_at v.actor name own node kept.account) (stands_too (length kept.account.names) kept.stands) s.words
-    root_nodes = nodes_then sizes kept.account v.actor operation name own node 1 makes kept.stands s.words all root_spare.0 root_spare.1 small root_drafted
+    root_nodes = nodes_then sizes kept.account v.actor operation name own node 1 makes kept.stands s.words all root_spare.0 root_spare.1 small root_drafted owns
 
     root_roots : RootsStand sizes (made_at v.actor name own node kept.account) s.words
-    root_roots = roots_then sizes kept.account v.actor operation name own node 1 makes kept.stands s.words all root_spare.0 root_spare.1 small root_drafted
+    root_roots = roots_then sizes kept.account v.actor operation name own node 1 makes kept.stands s.words all root_spare.0 root_spare.1 small root_drafted owns
 
     before_slots : generation_word < first_slot_word sizes
     before_slots = omega arith
@@ -133,7 +135,7 @@ module _ (sizes : Sizes) (s : Table.State Call View) (kept : IsKept sizes s) (id
 
     pub root_made : AllStand sizes (made_at v.actor name own node kept.account) (stands_too (length kept.account.names) kept.stands) root_words
     root_made =
-        all_then sizes kept.account v.actor operation name own node 1 makes kept.stands s.words all root_spare.0 root_spare.1 small root_drafted root_words
+        all_then sizes kept.account v.actor operation name own node 1 makes kept.stands s.words all root_spare.0 root_spare.1 small root_drafted owns root_words
         (length-set s.words generation_word (given_out + 1) ∙ kept.size)
         (λ c low. subst (λ n. n ≤ slots_in sizes c) (sym (beside (taken_word c) (λ e. absurd (omega (arith, e))))) (kept.taken c low))
         (let size = kept.size in let same = get_or-set_same s.words generation_word (given_out + 1) 0 (omega (arith, size)) in let before = kept.generations in let one = makes.generations in omega

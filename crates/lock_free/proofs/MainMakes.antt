@@ -27,6 +27,7 @@ use Rattle.lock_free.specs.Passing.{IsPlaced}
 use Rattle.lock_free.specs.Places.{class_for, words_in}
 use Rattle.lock_free.specs.SeenEntries.{entry_to, unowned, AreEntriesTo, AreFit, half_for, half_at, HasWritten, IsAtBranch, IsAtList, IsAtMain, IsOver, IsOwnSlot, written_of}
 use Rattle.lock_free.specs.Stocks.{HasSlot}
+use Rattle.lock_free.specs.Owning.{MayOwn}
 use Rattle.lock_free.specs.Storing.{IsAtMake}
 use Rattle.lock_free.proofs.Asked.{live_in_use, made_names_live, over_lives}
 use Rattle.lock_free.proofs.EntryLooks.{slot_small}
@@ -35,12 +36,12 @@ use Rattle.lock_free.proofs.OwnMakes.{moved, free_there, ready}
 
 -- ---- classes
 
-by_size : (P : ℕ → Type 0) (n : ℕ) → (n ≤ 2 → P 0) → (n ≤ 14 → P 1) → P 2 → P (class_for n)
-by_size P n small medium wide = by (nat_le n 2) (nat_le n 14) refl refl
+by_size : (P : ℕ → Type 0) (n : ℕ) → (n ≤ 2 → P 0) → (n ≤ 12 → P 1) → P 2 → P (class_for n)
+by_size P n small medium wide = by (nat_le n 2) (nat_le n 12) refl refl
   where
-    by : (a b : Bool) → nat_le n 2 ≡ a → nat_le n 14 ≡ b → P (if a then 0 else (if b then 1 else 2))
+    by : (a b : Bool) → nat_le n 2 ≡ a → nat_le n 12 ≡ b → P (if a then 0 else (if b then 1 else 2))
     by true b e f = small (leb-true n 2 e)
-    by false true e f = medium (leb-true n 14 f)
+    by false true e f = medium (leb-true n 12 f)
     by false false e f = wide
 
 pub small_class : (n : ℕ) → class_for n < 3
@@ -217,7 +218,11 @@ module _ (n : ℕ) (before : View) (sound : IsSound n before) (what : Shape) (en
       main_ready =
           ready before (class_for (length entries)) name mid slot d w.is m.node p class_is (2 * name) value m.own few_entries (omega arith) (some_words name (length entries))
           (subst (λ (x : View). DraftsNode x.account (now x).heap (over_of p.operation.line) has name m.own m.node)
-          (sym (moved before (class_for (length entries)) name mid slot d w.is)) the_node)
+          (sym (moved before (class_for (length entries)) name mid slot d w.is)) the_node) (owns_by m.node m.is_shape)
+        where
+          owns_by : (node : Node) → shape_with before.account m.own node ≡ Some what → MayOwn p.operation.line node m.own
+          owns_by (Indirection generation main) e = absurd (none-some what e)
+          owns_by node e = tt
 
 -- ---- branches, lists and tombs
 

@@ -22,7 +22,7 @@ use Rattle.lock_free.proofs.Geometry.{IsWordOf}
 use Rattle.lock_free.proofs.GivenBack.{node_is}
 use Rattle.lock_free.proofs.Made.{got_in}
 use Rattle.lock_free.proofs.MadeKept.{all_made, make_kept}
-use Rattle.lock_free.proofs.Moments.{allowed, waited_so, before, seat, live_place, still_own, free_inside, own_not_epoch}
+use Rattle.lock_free.proofs.Moments.{allowed, waited_so, before, seat, live_place, still_own, free_inside, own_apart}
 use Rattle.lock_free.proofs.Pools.{pool_same, pool_else}
 use Rattle.lock_free.proofs.OneStep.Openers.{openers_make_roots}
 use Rattle.machine_model.specs.Beneath.slot_arena.specs.declared.refs.Ref.{Ref}
@@ -148,7 +148,7 @@ module _ (v : View) (word value : ℕ) (node : Node) (rest : List ℕ) (name : �
   unopened handle opens is = openers_make_roots v.sizes there v.actor o stays.1 handle (sym ((kept.seats id v at).reserves o stays.1) ∙ opens) node acts
 
   pub kept_after : IsKept v.sizes (record { words = set s.words word value; homes = s.homes; views = set s.views id after })
-  kept_after = make_kept v.sizes s kept id v at o stays.1 name own node rest w.last w.small unopened makes word value inside_it drafts_there
+  kept_after = make_kept v.sizes s kept id v at o stays.1 name own node rest w.last w.small unopened makes word value inside_it drafts_there w.owns
 
   was_free : (b n : ℕ) → IsFree after b n → IsFree v b n
   was_free b n free = elim (cases_eq b (class_of node)) [
@@ -160,7 +160,7 @@ module _ (v : View) (word value : ℕ) (node : Node) (rest : List ℕ) (name : �
 
   pub sound_after : IsSound (words_of v.sizes) after
   sound_after =
-      let all = all_made v.sizes s kept id v at o stays.1 name own node rest w.last w.small unopened makes word value inside_it drafts_there in
+      let all = all_made v.sizes s kept id v at o stays.1 name own node rest w.last w.small unopened makes word value inside_it drafts_there w.owns in
       record {
         size = refl;
         range = kept.range.within;
@@ -183,7 +183,7 @@ pub make_allowed : (sizes : Sizes) (size id : ℕ) (me : Me Call View) (some_sea
     (λ n. has_made (step size word value 0 none) me value)
 make_allowed sizes size id me some_seats word value (node, rest, name, own, p, w) =
     allowed sizes size id me word (λ n. value) (λ n. has_made (step size word value 0 none) me value)
-    some_seats (λ s kept at. inl (own_not_epoch me.0 s kept id at (class_of node) name (class_small node, subst (λ xs. Contains xs name) (sym w.last) (Contains-push rest name)) word w.low))
+    some_seats (λ s kept at. inl (own_apart me.0 s kept id at (class_of node) name (class_small node, subst (λ xs. Contains xs name) (sym w.last) (Contains-push rest name)) word w.low w.high))
     (λ s kept at. (
       made_by me.0 (class_of node) name rest own node kept.account,
       kept_after me.0 word value node rest name own p w s kept id at,

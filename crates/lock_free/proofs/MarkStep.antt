@@ -24,7 +24,8 @@ use Rattle.lock_free.specs.Rules.{SaysClosing, IsKept, IsRuled}
 use Rattle.lock_free.proofs.Assembling.{closing_at}
 use Rattle.lock_free.proofs.Closers.{seat_kept}
 use Rattle.lock_free.proofs.Exchanged.{words_then, words_hit, words_miss}
-use Rattle.lock_free.proofs.Geometry.{root_apart, root_not_epoch}
+use Rattle.lock_free.proofs.CountWords.{handle_apart}
+use Rattle.lock_free.proofs.Geometry.{root_apart}
 use Rattle.lock_free.proofs.Moments.{allowed}
 use Rattle.lock_free.proofs.OpenHandles.{mark_kept}
 use Rattle.lock_free.proofs.Rewritten.{IsPlainWord, is_closing_writable, is_closing_read_only}
@@ -116,7 +117,7 @@ pub mark_allowed : (sizes : Sizes) (size id : ℕ) (me : Me Call View) (some_sea
 mark_allowed sizes size id me some_seats handle low small w fits plain =
     allowed sizes size id me (root_word handle) (λ n. either (n == root_code w) (root_code (marked_by me.0.actor w)) n)
     (has_marked (step size (root_word handle) (root_code w) (root_code (marked_by me.0.actor w)) none) me)
-    some_seats (λ s kept at. inl (root_not_epoch handle))
+    some_seats (λ s kept at. inl (handle_apart me.0.sizes handle low))
     (λ s kept at. (let x = marks me.0 handle low small s kept id at w fits plain in
     (x.0, x.1.0, (λ g is. subst (λ n. HasMarked me.0 n (slice_index s.words (root_word handle) == root_code w) x.0) (root_apart handle g is) x.1.1, refl))))
     (λ s kept at. (marks me.0 handle low small s kept id at w fits plain).1.2)

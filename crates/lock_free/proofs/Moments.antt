@@ -29,6 +29,7 @@ use Rattle.lock_free.specs.declared.rules.Pinned.{Pinned}
 use Rattle.lock_free.specs.declared.rules.View.{View}
 use Rattle.lock_free.specs.declared.sizes.Sizes.{Sizes}
 use Rattle.lock_free.specs.Accounts.{bounds_for, state_of, place_at, place_of, running, gone_on, OwnIs, later}
+use Rattle.lock_free.specs.Counts.{AreCounted}
 use Rattle.lock_free.specs.Live.{refs_of_claims, at_hand, from_operation, from_slot, IsLive}
 use Rattle.lock_free.specs.Loading.{now, IsUsed, IsSound, seen, Waited, Took, has_seen, has_gone, Holds}
 use Rattle.lock_free.specs.Nodes.{StandsAs, InTable, class_of}
@@ -39,8 +40,10 @@ use Rattle.lock_free.proofs.Asked.{in_use_made, live_in_use, nodes_stay}
 use Rattle.lock_free.proofs.Assembling.{all_stand, closing_stays, numbers_stay, assembled}
 use Rattle.lock_free.proofs.Meanings.{no_tries}
 use Rattle.lock_free.proofs.Definition.{IsReading, reads_of, waits, bounds_before}
-use Rattle.lock_free.proofs.Framing.{class_small, first_word, has_words}
+use Rattle.lock_free.proofs.Framing.{class_small, first_word}
 use Rattle.lock_free.proofs.Geometry.{above, end_inside}
+use Rattle.lock_free.proofs.CountWords.{Apart, Beside, count_same, elsewhere_so, slot_apart}
+use Rattle.lock_free.proofs.CountsStay.{counted_then}
 use Rattle.lock_free.proofs.EpochStays.{Elsewhere, IsAsWas, epochs_stay, rest_as_was, rest_of, rest_unpinned, stays_elsewhere, unpinned_as_was, was_then}
 use Rattle.lock_free.proofs.GoneSeats.{heard_still}
 use Rattle.lock_free.proofs.RetiredStay.{epoch_still, retired_then, same_pin, same_retired}
@@ -61,14 +64,16 @@ module _ (sizes : Sizes) (size id : ℕ) (me : Me Call View) (word : ℕ) (f : �
 
   -- The seat wasn't given up, has heard of nobody more, and what the rule says of the epoch and of retired slots holds after it too.
   abbrev pub CanBeBy : Type 0
-  CanBeBy = (s : Table.State Call View) → IsKept me.0.sizes s → AreEpochs s.words s.views → AreRetired me.0.sizes s.words s.views → get_elem? s.views id ≡ some me.0 →
+  CanBeBy = (s : Table.State Call View) → IsKept me.0.sizes s → AreEpochs s.words s.views → AreRetired me.0.sizes s.words s.views → AreCounted me.0.sizes s.words s.views →
+      get_elem? s.views id ≡ some me.0 →
       (w : View) × IsKept me.0.sizes (after_it s w) × AreEpochs (after_it s w).words (after_it s w).views × AreRetired me.0.sizes (after_it s w).words (after_it s w).views
-      × (w.heard ≡ me.0.heard) × then (slice_index s.words word) (w, me.1)
+      × AreCounted me.0.sizes (after_it s w).words (after_it s w).views × (w.heard ≡ me.0.heard) × then (slice_index s.words word) (w, me.1)
 
   pub allowed_by : 1 ≤ me.0.sizes.seats → CanBeBy → Allows (IsRuled sizes) size id me word f then
   allowed_by some_seats h s ruled length_is at low =
       let its = (ruled.kept.seats id me.0 at).same some_seats in
-      let x = h s (subst (λ z. IsKept z s) (sym its) ruled.kept) ruled.epochs (subst (λ z. AreRetired z s.words s.views) (sym its) ruled.retired) at in (
+      let x = h s (subst (λ z. IsKept z s) (sym its) ruled.kept) ruled.epochs (subst (λ z. AreRetired z s.words s.views) (sym its) ruled.retired)
+      (subst (λ z. AreCounted z s.words s.views) (sym its) ruled.counted) at in (
         x.0,
         keeps,
         tt,
@@ -76,9 +81,10 @@ module _ (sizes : Sizes) (size id : ℕ) (me : Me Call View) (word : ℕ) (f : �
           kept = subst (λ z. IsKept z (after_it s x.0)) its x.1;
           epochs = x.2;
           retired = subst (λ z. AreRetired z (after_it s x.0).words (after_it s x.0).views) its x.3;
-          heard = heard_still s.views id me.0 at some_seats x.0 x.4 ruled.heard;
+          counted = subst (λ z. AreCounted z (after_it s x.0).words (after_it s x.0).views) its x.4;
+          heard = heard_still s.views id me.0 at some_seats x.0 x.5 ruled.heard;
         },
-        x.5,
+        x.6,
       )
 
   -- where the word isn't the epoch's, or has what it had
@@ -93,29 +99,37 @@ module _ (sizes : Sizes) (size id : ℕ) (me : Me Call View) (word : ℕ) (f : �
   slots_then s at elsewhere w same pin h =
       retired_then s.views id me.0 at w same pin me.0.sizes s.words (after_it s w).words (epoch_still s.words (after_it s w).words (stays_elsewhere s.words word f elsewhere)) h
 
-  pub allowed : 1 ≤ me.0.sizes.seats → Always (λ s kept at. Elsewhere word f s.words) → (h : CanBe) → Always (λ s kept at. rest_of (h s kept at).0 ≡ rest_of me.0) →
+  -- and where it holds what it held
+  counts_then : (s : Table.State Call View) → get_elem? s.views id ≡ some me.0 → Beside me.0.sizes word f s.words → (w : View) → w.owed ≡ me.0.owed →
+      AreCounted me.0.sizes s.words s.views → AreCounted me.0.sizes (after_it s w).words (after_it s w).views
+  counts_then s at beside w owed h =
+      counted_then s.views id me.0 at w owed me.0.sizes s.words (after_it s w).words (count_same me.0.sizes word f s.words beside) h
+
+  pub allowed : 1 ≤ me.0.sizes.seats → Always (λ s kept at. Beside me.0.sizes word f s.words) → (h : CanBe) → Always (λ s kept at. rest_of (h s kept at).0 ≡ rest_of me.0) →
       Allows (IsRuled sizes) size id me word f then
-  allowed some_seats elsewhere h same =
+  allowed some_seats beside h same =
       allowed_by some_seats
-      (λ s kept epochs retired at. (let x = h s kept at in (
+      (λ s kept epochs retired counted at. (let x = h s kept at in (
         x.0,
         x.1,
-        epochs_then s at (elsewhere s kept at) x.0 (rest_as_was me.0 x.0 (same s kept at)) epochs,
-        slots_then s at (elsewhere s kept at) x.0 (same_retired me.0 x.0 (same s kept at)) (same_pin me.0 x.0 (same s kept at)) retired,
+        epochs_then s at (elsewhere_so me.0.sizes word f s.words (beside s kept at)) x.0 (rest_as_was me.0 x.0 (same s kept at)) epochs,
+        slots_then s at (elsewhere_so me.0.sizes word f s.words (beside s kept at)) x.0 (same_retired me.0 x.0 (same s kept at)) (same_pin me.0 x.0 (same s kept at)) retired,
+        counts_then s at (beside s kept at) x.0 (ap (λ r. r.6) (same s kept at)) counted,
         ap (λ r. r.0) (same s kept at),
         x.2,
       )))
 
   -- the seat isn't pinned then
-  pub allowed_unpinned : 1 ≤ me.0.sizes.seats → Always (λ s kept at. Elsewhere word f s.words) → (h : CanBe) →
+  pub allowed_unpinned : 1 ≤ me.0.sizes.seats → Always (λ s kept at. Beside me.0.sizes word f s.words) → (h : CanBe) →
       Always (λ s kept at. rest_of (h s kept at).0 ≡ rest_unpinned me.0) → Allows (IsRuled sizes) size id me word f then
-  allowed_unpinned some_seats elsewhere h same =
+  allowed_unpinned some_seats beside h same =
       allowed_by some_seats
-      (λ s kept epochs retired at. (let x = h s kept at in (
+      (λ s kept epochs retired counted at. (let x = h s kept at in (
         x.0,
         x.1,
-        epochs_then s at (elsewhere s kept at) x.0 (unpinned_as_was me.0 x.0 (same s kept at)) epochs,
-        slots_then s at (elsewhere s kept at) x.0 (ap (λ r. r.5) (same s kept at)) (unpinned_as_was me.0 x.0 (same s kept at)).pinned retired,
+        epochs_then s at (elsewhere_so me.0.sizes word f s.words (beside s kept at)) x.0 (unpinned_as_was me.0 x.0 (same s kept at)) epochs,
+        slots_then s at (elsewhere_so me.0.sizes word f s.words (beside s kept at)) x.0 (ap (λ r. r.5) (same s kept at)) (unpinned_as_was me.0 x.0 (same s kept at)).pinned retired,
+        counts_then s at (beside s kept at) x.0 (ap (λ r. r.6) (same s kept at)) counted,
         ap (λ r. r.0) (same s kept at),
         x.2,
       )))
@@ -223,12 +237,15 @@ module _ (v : View) (s : Table.State Call View) (kept : IsKept v.sizes s) (id : 
   pub not_epoch : (r : Ref) → IsThere r → (word : ℕ) → word ≡ 2 * place_of v.account r → word ≢ epoch_word
   not_epoch r h word is e = let first = above_first r h in let same = its_place r h in omega (arith, is, e, first, same)
 
+  pub node_apart : (r : Ref) → IsThere r → (word : ℕ) → word ≡ 2 * place_of v.account r → Apart v.sizes word
+  node_apart r h word is =
+      subst (Apart v.sizes) (ap (λ n. 2 * n) (its_place r h) ∙ sym is)
+      (slot_apart v.sizes s.words kept.taken (class_of h.slot.node) (place_of there r) (2 * place_of there r) (class_small h.slot.node)
+      (kept.nodes.within (slot_of r) h.slot (kept.nodes.live r h.lives, h.used)) (first_word h.slot.node (place_of there r)))
+
   -- nor is one that is free for the seat
-  pub own_not_epoch : (class name : ℕ) → IsFree v class name → (word : ℕ) → 2 * name ≤ word → word ≢ epoch_word
-  own_not_epoch class name free word low e =
-      let some = has_words class free.0 in
-      let first = above v.sizes s.words kept.taken class name (2 * name) free.0 (seat.spare class name free).0 (record { low = omega arith; high = omega (arith, some) }) in
-      omega (arith, low, e, first)
+  pub own_apart : (class name : ℕ) → IsFree v class name → (word : ℕ) → 2 * name ≤ word → word < 2 * name + words_in class → Apart v.sizes word
+  own_apart class name free word low high = slot_apart v.sizes s.words kept.taken class name word free.0 (seat.spare class name free).0 (record { low = low; high = high })
 
   -- so is that of each node that was live
   pub live_place : (r : Ref) → IsLive (now v) r → place_of there r ≡ place_of v.account r

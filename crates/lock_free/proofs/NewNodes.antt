@@ -56,7 +56,7 @@ key_same (Single key value) after same = ap key_in same.1
 key_same (Tomb single) after same = ap key_in same.1
 key_same (Listed singles) after same = ap key_in same.1
 
-class_same : (before after : Node) → SameNode before after → class_of after ≡ class_of before
+pub class_same : (before after : Node) → SameNode before after → class_of after ≡ class_of before
 class_same (Indirection generation main) after same = ap class_of same.1
 class_same (Branch bitmap entries) after same = ap class_of same.1
 class_same (Single key value) after same = ap class_of same.1

@@ -28,7 +28,8 @@ use Rattle.lock_free.specs.SeatWords.{IsIdle}
 use Rattle.lock_free.proofs.Assembling.{closing_at}
 use Rattle.lock_free.proofs.Closers.{seat_kept}
 use Rattle.lock_free.proofs.Exchanged.{words_then, words_hit, words_miss}
-use Rattle.lock_free.proofs.Geometry.{root_apart, root_not_epoch}
+use Rattle.lock_free.proofs.CountWords.{handle_apart}
+use Rattle.lock_free.proofs.Geometry.{root_apart}
 use Rattle.lock_free.proofs.Moments.{allowed, waited_so}
 use Rattle.lock_free.proofs.OneStep.Idle.{idle_stays}
 use Rattle.lock_free.proofs.OneStep.Standing.{offering_unmarked, owner_of}
@@ -72,7 +73,7 @@ pub reserve_allowed : (sizes : Sizes) (size id : ℕ) (me : Me Call View) (some_
     Allows (IsRuled sizes) size id me (root_word number) (λ n. either (n == 0) (root_code word.Reserved) n) (has_reserved (step size (root_word number) 0 (root_code word.Reserved) none) me)
 reserve_allowed sizes size id me some_seats number low idle opens =
     allowed sizes size id me (root_word number) (λ n. either (n == 0) (root_code word.Reserved) n) (has_reserved (step size (root_word number) 0 (root_code word.Reserved) none) me)
-    some_seats (λ s kept at. inl (root_not_epoch number))
+    some_seats (λ s kept at. inl (handle_apart me.0.sizes number low))
     (λ s kept at. (let x = tries me.0 number low idle opens s kept id at in
     (x.0, x.2.0, (λ g is. subst (λ n. HasTried me.0 n (slice_index s.words (root_word number) == 0) x.0) (root_apart number g is) x.2.1, refl))))
     (λ s kept at. (tries me.0 number low idle opens s kept id at).1)
@@ -93,7 +94,7 @@ pub name_allowed : (sizes : Sizes) (size id : ℕ) (me : Me Call View) (some_sea
 name_allowed sizes size id me some_seats number slot low n fits =
     allowed sizes size id me (root_word number) (λ x. root_code (word.Opening slot))
     (λ x. has_named (step size (root_word number) (root_code (word.Opening slot)) 0 none) me (root_code (word.Opening slot)))
-    some_seats (λ s kept at. inl (root_not_epoch number))
+    some_seats (λ s kept at. inl (handle_apart me.0.sizes number low))
     (λ s kept at. (
       naming me.0 slot,
       (let is = (waited_so me.0 s kept id at).stays (record n.operation { is_marked = n.runs.0 }) n.runs.1 in
@@ -118,7 +119,9 @@ pub give_back_allowed : (sizes : Sizes) (size id : ℕ) (me : Me Call View) (som
     Allows (IsRuled sizes) size id me (root_word number) (λ n. 0) (λ n. has_given_back (step size (root_word number) 0 0 none) me 0)
 give_back_allowed sizes size id me some_seats number idle opens =
     allowed sizes size id me (root_word number) (λ n. 0) (λ n. has_given_back (step size (root_word number) 0 0 none) me 0)
-    some_seats (λ s kept at. inl (root_not_epoch number))
+    some_seats
+    (λ s kept at. (let rests = idle_stays me.0.sizes me.0.actor me.0.account kept.account (kept.seats id me.0 at).waited kept.bounds idle in
+    inl (handle_apart me.0.sizes number ((kept.seats id me.0 at).opens number (opens, λ p runs. absurd (none-some p (sym rests ∙ runs)))).low)))
     (λ s kept at. (
       without_number me.0,
       (let rests = idle_stays me.0.sizes me.0.actor me.0.account kept.account (kept.seats id me.0 at).waited kept.bounds idle in

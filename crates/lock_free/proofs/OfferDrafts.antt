@@ -12,7 +12,7 @@ use Rattle.lock_free.proofs.Pools.{first_there}
 use Rattle.lock_free.proofs.WrittenEntries.{written_still}
 
 -- a word of the slot is the seat's own
-pub own_offer_word : (v w : View) (slot word : ℕ) → w ≡ record v { drafts = w.drafts } → IsFree v 1 slot → 2 * slot ≤ word → word < 2 * slot + 8 → IsOwnWord w word
+pub own_offer_word : (v w : View) (slot word : ℕ) → w ≡ record v { drafts = w.drafts } → IsFree v 1 slot → 2 * slot ≤ word → word < 2 * slot + 7 → IsOwnWord w word
 own_offer_word v w slot word is free low high = subst (λ x. IsOwnWord x word) (sym is) (1, slot, free, low, high)
 
 pub drafted_once : (v w : View) (word value : ℕ) → w ≡ drafted v word value → w ≡ record v { drafts = w.drafts }

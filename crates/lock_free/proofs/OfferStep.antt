@@ -35,7 +35,7 @@ use Rattle.machine_model.specs.Swapping.{is_plain}
 use Rattle.proof_garbage.specs.Beneath.proof_generations.proofs.Offers.Standing.{offer_line}
 use Rattle.proof_memory.specs.Wants.{line_wants, offer_wants}
 use Rattle.lock_free.proofs.EpochStays.{rest_of}
-use Rattle.lock_free.proofs.Geometry.{root_not_epoch}
+use Rattle.lock_free.proofs.CountWords.{handle_apart}
 use Rattle.lock_free.specs.declared.accounts.Account.{Account}
 use Rattle.lock_free.specs.declared.root_offers.Proposed.TheVariants.{Stands, Misses, Meets}
 use Rattle.lock_free.specs.declared.rules.View.{View}
@@ -138,7 +138,7 @@ module _ (v : View) (root slot : ℕ) (offer : Descriptor) (rest : List ℕ) (p 
     seat : IsSeat v.sizes there kept.stands s.words v
     seat = kept.seats id v at
 
-    low : handle < handle_limit
+    pub low : handle < handle_limit
     low = (seat.entered handle (seat.calls o runs)).0
 
     lives : (r : Ref) → Contains (refs_of_offer offer) r → IsLive (now v) r × IsLive state r
@@ -322,7 +322,7 @@ offer_allowed sizes size id me some_seats named root slot (offer, rest, p, w, on
     subst (λ h. AllowsOffer sizes size id me (root_word h) (root_code (word.Writable root)) (root_code (word.Offered slot))) on
     (allowed sizes size id me (root_word (handle_of p.operation.call)) (λ n. either (n == root_code (word.Writable root)) (root_code (word.Offered slot)) n)
     (has_proposed (step size (root_word (handle_of p.operation.call)) (root_code (word.Writable root)) (root_code (word.Offered slot)) none) me)
-    some_seats (λ s kept at. inl (root_not_epoch (handle_of p.operation.call)))
+    some_seats (λ s kept at. inl (handle_apart me.0.sizes (handle_of p.operation.call) (low me.0 root slot offer rest p w s kept id at)))
     (λ s kept at. (let x = leaves me.0 root slot offer rest p w s kept id at in (
       x.0,
       x.1.0,

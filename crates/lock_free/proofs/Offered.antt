@@ -282,7 +282,7 @@ module _ (sizes : Sizes) (s : Table.State Call View) (kept : IsKept sizes s) (id
     size = root.size_rooted sizes kept.account kept.stands s.words all handle low (root_code (word.Offered slot));
     taken = root.have_rooted sizes kept.account kept.stands s.words all handle low (root_code (word.Offered slot));
     generations = root.generations_rooted sizes kept.account kept.stands s.words all handle low (root_code (word.Offered slot)) ∙ sym offers.leaves.generations;
-    nodes = root.nodes_left sizes kept.account account_then.steps account_then.offers offers.leaves kept.stands words_then not_its_slot
+    nodes = root.nodes_left sizes kept.account account_then.steps account_then.offers offers.leaves kept.stands words_then (step.Go v.actor ∷ []) refl not_its_slot
         (root.nodes_rooted sizes kept.account kept.stands s.words all handle low (root_code (word.Offered slot)));
     roots = record {
       means = means_all;

@@ -10,6 +10,8 @@ pub mod Found
 pub mod Giving
 pub mod Reached
 pub mod Retired
+pub mod LinksWide
+pub mod Parts
 pub mod GarbageWide
 pub mod Standing
 pub mod Marking

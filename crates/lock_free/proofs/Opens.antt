@@ -30,6 +30,7 @@ use Rattle.lock_free.specs.Accounts.{bounds_for, state_of, place_at, OwnIs, firs
 use Rattle.lock_free.specs.Loading.{IsSound}
 use Rattle.lock_free.specs.Nodes.{IsAhead, AreOwners, StandsAs, InTable, class_of, of_branch, decided}
 use Rattle.lock_free.specs.Opening.{counted_words, first_words, first_link, first_handle}
+use Rattle.lock_free.specs.Owning.{IsOwnBy, at_first}
 use Rattle.lock_free.specs.Places.{AreSizes, HaveTaken, IsTaken, branch_slot, epoch_word, root_slot, words_of, words_in, generation_word, taken_word, root_word, pin_word}
 use Rattle.lock_free.specs.Roots.{MeansRoot}
 use Rattle.lock_free.specs.Rules.{Once, first_account, first_view, Standing, NodesStand, RootsStand, SaysClosing, IsSeat, IsKept, IsRuled}
@@ -193,6 +194,10 @@ module _ (sizes : Sizes) where
         once_by i m b (first x rest) = refl
         once_by i m b (later x rest j k c h) = absurd (omega (arith, some_owned [] i m b h))
 
+    own_by : (i m : ℕ) → OwnIs account.owned i m true → IsOwnBy sizes account i m
+    own_by i m (first x rest) = at_first refl refl
+    own_by i m (later x rest j k c h) = absurd (omega (arith, some_owned [] i m true h))
+
     nodes_are : NodesStand sizes account all_stand (first_words sizes)
     nodes_are = record {
       within = λ k slot s. taken_at k slot (node_found sizes k slot s.1);
@@ -202,6 +207,7 @@ module _ (sizes : Sizes) where
       written = λ k slot s. written_at k slot (node_found sizes k slot s.1);
       inside = λ k slot s. inside_at k slot (node_found sizes k slot s);
       owners = owners_are;
+      owned = λ i m own. own_by i m own;
       live = λ r l. refl;
       reached = λ r l. refl;
     }
@@ -319,6 +325,7 @@ module _ (sizes : Sizes) where
         once = λ id v e. subst (λ xs. Once (map (λ (x : Retired). x.number) xs)) (ap (λ (x : View). x.retired) (its v id e).1) tt;
         apart = λ i j v w ei ej x y c d same. absurd (none_retired i v ei x c);
       };
+      counted = record { claims = []; counted = λ c is. omega arith };
       heard = λ id v e h c. (let none = (subst (λ hs. Contains hs h) (ap (λ (x : View). x.heard) (sym (its v id e).1)) c).1 in absurd (omega (arith, none)));
     }
 

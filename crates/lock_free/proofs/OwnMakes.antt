@@ -25,6 +25,7 @@ use Rattle.lock_free.specs.Places.{words_in}
 use Rattle.lock_free.specs.Rules.{IsFree, pool_of}
 use Rattle.lock_free.specs.SeenEntries.{HasMadeNext}
 use Rattle.lock_free.specs.Stocks.{Stocked, IsStock, NotesLast, HasSlot}
+use Rattle.lock_free.specs.Owning.{IsBuilding, MayOwn}
 use Rattle.lock_free.specs.Storing.{IsOwnWord, drafted, IsAtMake, IsAdded, HasMade}
 use Rattle.lock_free.proofs.EntryLooks.{slot_small}
 use Rattle.lock_free.proofs.NewNodes.{has_new, stock_made}
@@ -59,8 +60,8 @@ module _ (before : View) (class name : ℕ) (mid : View) (slot : HasSlot before 
   module _ (node : Node) (p : IsAt before (act.Make node)) (its_class : class ≡ class_of node) where
     -- it is ready to be made
     pub ready : (word value : ℕ) (own : Bool) → length (entries_of node) ≤ 32 → 2 * name ≤ word → word < 2 * name + words_in class →
-        DraftsNode d.account (now d).heap (over_of p.operation.line) (Drafted d.drafts word value) name own node → IsAtMake d word value
-    ready word value own small low high drafts =
+        DraftsNode d.account (now d).heap (over_of p.operation.line) (Drafted d.drafts word value) name own node → MayOwn p.operation.line node own → IsAtMake d word value
+    ready word value own small low high drafts owns =
         let q = at_there (act.Make node) p in (
           node,
           slot.last.0,
@@ -73,6 +74,7 @@ module _ (before : View) (class name : ℕ) (mid : View) (slot : HasSlot before 
             low = low;
             high = subst (λ c. word < 2 * name + words_in c) its_class high;
             drafts = subst (λ (o : Operation). DraftsNode d.account (now d).heap (over_of o.line) (Drafted d.drafts word value) name own node) its_operation drafts;
+            owns = subst (λ (o : Operation). MayOwn o.line node own) its_operation owns;
           },
         )
       where
@@ -156,12 +158,12 @@ module _ (before : View) (name : ℕ) (mid : View) (slot : HasSlot before 0 name
   single_ready d is =
       subst (λ x. IsAtMake x (2 * name + 1) value) (sym is)
       (ready before 0 name mid slot (drafted mid (2 * name) key) refl (Single key value) p refl (2 * name + 1) value true (omega arith) (omega arith) (omega arith)
-      (((λ e. absurd (omega (arith, e))), (λ e. first_there (2 * name, key) _)), ((λ e. refl), (λ e. absurd (e refl)))))
+      (((λ e. absurd (omega (arith, e))), (λ e. first_there (2 * name, key) _)), ((λ e. refl), (λ e. absurd (e refl)))) tt)
 
 -- ---- an indirection
 
 module _ (n : ℕ) (before : View) (sound : IsSound n before) (name : ℕ) (mid : View) (slot : HasSlot before 0 name mid) (generation : ℕ) (small : generation < 2 ^ 36) (main : Name) (r : Ref)
-    (p : IsAt before (act.Make (Indirection generation r))) (placed : IsPlaced before r main.slot) where
+    (p : IsAt before (act.Make (Indirection generation r))) (placed : IsPlaced before r main.slot) (owns : main.own ≡ true → IsBuilding p.operation.line r) where
   pub link_fits : IsLink (record { generation = generation; main = main })
   link_fits = (small, subst (λ k. k < 2 ^ 27) placed.1 (slot_small n before sound r placed.0.0 placed.0.1))
 
@@ -176,4 +178,4 @@ module _ (n : ℕ) (before : View) (sound : IsSound n before) (name : ℕ) (mid 
           λ e. ap (λ k. link_code (record { generation = generation; main = record { slot = k; own = main.own } })) place ∙ sym is,
           λ e. absurd (e refl),
         ),
-      )
+      ) owns

@@ -12,12 +12,13 @@ use Rattle.lock_free.proofs.EpochStays.{rest_of}
 use Rattle.lock_free.specs.declared.rules.View.{View}
 use Rattle.lock_free.specs.declared.sizes.Sizes.{Sizes}
 use Rattle.lock_free.specs.Loading.{IsSound}
-use Rattle.lock_free.specs.Places.{words_in, words_of, part_of, slots_in, taken_word}
+use Rattle.lock_free.specs.Places.{stride, words_in, words_of, part_of, slots_in, taken_word}
 use Rattle.lock_free.specs.Rules.{pool_of, IsKept, IsRuled}
 use Rattle.lock_free.specs.Storing.{IsOwnWord, drafted, has_drafted, with_free, has_taken}
+use Rattle.lock_free.proofs.CountWords.{before_apart}
 use Rattle.lock_free.proofs.Drafting.{draft_kept}
 use Rattle.lock_free.proofs.Exchanged.{words_hit, words_miss}
-use Rattle.lock_free.proofs.Moments.{allowed, own_not_epoch}
+use Rattle.lock_free.proofs.Moments.{allowed, own_apart}
 use Rattle.lock_free.proofs.Pools.{was_free}
 use Rattle.lock_free.proofs.Taking.{take_kept, same_class}
 
@@ -27,7 +28,7 @@ pub draft_allowed : (sizes : Sizes) (size id : ℕ) (me : Me Call View) (some_se
     (λ n. has_drafted (step size word value 0 none) me value)
 draft_allowed sizes size id me some_seats word value (class, name, free, low, high) =
     allowed sizes size id me word (λ n. value) (λ n. has_drafted (step size word value 0 none) me value)
-    some_seats (λ s kept at. inl (own_not_epoch me.0 s kept id at class name free word low))
+    some_seats (λ s kept at. inl (own_apart me.0 s kept id at class name free word low high))
     (λ s kept at. (drafted me.0 word value, draft_kept me.0.sizes s kept id me.0 at class name free word (record { low = low; high = high }) value, refl))
     (λ s kept at. refl)
 
@@ -40,13 +41,13 @@ own_word_inside words v word h (class, name, free, low, high) = let end = h.free
 -- ---- a slot is taken
 
 -- each number has its slot
-slot_at : (sizes : Sizes) (class count : ℕ) → class < 3 → (name : ℕ) × (2 * name ≡ part_of sizes class + words_in class * count)
+slot_at : (sizes : Sizes) (class count : ℕ) → class < 3 → (name : ℕ) × (2 * name ≡ part_of sizes class + stride class * count)
 slot_at sizes zero count low = ((part_of sizes 0 + 2 * count) / 2, omega arith)
 slot_at sizes (suc zero) count low = ((part_of sizes 1 + 8 * count) / 2, omega arith)
 slot_at sizes (suc (suc zero)) count low = ((part_of sizes 2 + 24 * count) / 2, omega arith)
 slot_at sizes (suc (suc (suc class))) count low = absurd (omega (arith, low))
 
-slot_inside : (sizes : Sizes) (class count name : ℕ) → class < 3 → count < slots_in sizes class → 2 * name ≡ part_of sizes class + words_in class * count → 2 * name + words_in class ≤ words_of sizes
+slot_inside : (sizes : Sizes) (class count name : ℕ) → class < 3 → count < slots_in sizes class → 2 * name ≡ part_of sizes class + stride class * count → 2 * name + words_in class ≤ words_of sizes
 slot_inside sizes zero count name low few is = omega (arith, few, is)
 slot_inside sizes (suc zero) count name low few is = omega (arith, few, is)
 slot_inside sizes (suc (suc zero)) count name low few is = omega (arith, few, is)
@@ -83,8 +84,8 @@ module _ (sizes : Sizes) (size id : ℕ) (me : Me Call View) (class : ℕ) (smal
           (
             (λ e c name low same is.
                 (let one = same_class class c same in
-                ap (λ n. (with_free v class n, me.1)) (same_slot slot.0 name (part_of v.sizes class + words_in class * slice_index s.words word) slot.1
-                (is ∙ ap (λ n. part_of v.sizes n + words_in n * slice_index s.words word) (sym one)))
+                ap (λ n. (with_free v class n, me.1)) (same_slot slot.0 name (part_of v.sizes class + stride class * slice_index s.words word) slot.1
+                (is ∙ ap (λ n. part_of v.sizes n + stride n * slice_index s.words word) (sym one)))
                 ∙ ap (λ n. (with_free v n name, me.1)) one)),
             λ other. absurd (other e),
           ),
@@ -108,10 +109,10 @@ module _ (sizes : Sizes) (size id : ℕ) (me : Me Call View) (class : ℕ) (smal
   pub take_allowed : 1 ≤ me.0.sizes.seats → Allows (IsRuled sizes) size id me word (λ n. either (n == count) (count + 1) n) (has_taken (step size word count (count + 1) none) me)
   take_allowed some_seats =
       allowed sizes size id me word (λ n. either (n == count) (count + 1) n) (has_taken (step size word count (count + 1) none) me) some_seats
-      (λ s kept at. inl (λ e. omega (arith, e)))
+      (λ s kept at. inl (before_apart v.sizes word (λ e. omega (arith, e)) (omega (arith, small))))
       (λ s kept at. (let x = taken_or_lost s kept at in (x.0, x.2, x.3))) (λ s kept at. (taken_or_lost s kept at).1)
 
-pub taken_sound : (words : ℕ) (v : View) (class count name : ℕ) → class < 3 → count < slots_in v.sizes class → 2 * name ≡ part_of v.sizes class + words_in class * count → IsSound words v →
+pub taken_sound : (words : ℕ) (v : View) (class count name : ℕ) → class < 3 → count < slots_in v.sizes class → 2 * name ≡ part_of v.sizes class + stride class * count → IsSound words v →
     IsSound words (with_free v class name)
 taken_sound words v class count name small few is h =
     record {

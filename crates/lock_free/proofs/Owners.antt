@@ -26,10 +26,10 @@ owners_kept account then before after same_owned same_names aheads h = record {
 }
 
 -- what is said of owners with one more: it, or what was said before
-abbrev IsIt : Owned → ℕ → ℕ → Bool → Type 0
+abbrev pub IsIt : Owned → ℕ → ℕ → Bool → Type 0
 IsIt x i m b = (x.holder ≡ i) × (x.held ≡ m) × (x.is_own ≡ b)
 
-it_or_before : (x : Owned) (rest : List Owned) (i m : ℕ) (b : Bool) → OwnIs (x ∷ rest) i m b → IsIt x i m b ⊎ OwnIs rest i m b
+pub it_or_before : (x : Owned) (rest : List Owned) (i m : ℕ) (b : Bool) → OwnIs (x ∷ rest) i m b → IsIt x i m b ⊎ OwnIs rest i m b
 it_or_before x rest i m b (first y ys) = inl (refl, refl, refl)
 it_or_before x rest i m b (later y ys j k c h) = inr h
 

@@ -28,6 +28,8 @@ use Rattle.lock_free.specs.Rules.{AreEpochs, IsKept, IsPinned, IsRuled, pin_word
 use Rattle.lock_free.specs.SeatWords.{IsIdle, pinned_for, unpinned, has_pinned, has_unpinned}
 use Rattle.lock_free.proofs.PinnedFor.{asks_kept}
 use Rattle.lock_free.proofs.Assembling.{here}
+use Rattle.lock_free.proofs.CountWords.{count_same, pin_apart}
+use Rattle.lock_free.proofs.CountsStay.{counted_then}
 use Rattle.lock_free.proofs.EpochStays.{epoch_in, pinned_still, stays_elsewhere}
 use Rattle.lock_free.proofs.Exchanged.{words_hit}
 use Rattle.lock_free.proofs.Moments.{allowed_by, allowed_unpinned}
@@ -181,7 +183,7 @@ pub pin_allowed : (sizes : Sizes) (size id : ℕ) (me : Me Call View) (some_seat
 pin_allowed sizes size id me some_seats pin call fits late idle free =
     allowed_by sizes size id me (pin_word me.0.actor) (λ n. either (n == 0) (pin_code pin) n) (has_pinned (step size (pin_word me.0.actor) 0 (pin_code pin) (some call)) me)
     some_seats
-    (λ s kept epochs retired at. (
+    (λ s kept epochs retired counted at. (
       pinning me.0 pin fits late call s kept,
       subst (λ ws. IsKept me.0.sizes (record { words = ws; homes = s.homes; views = set s.views id (pinning me.0 pin fits late call s kept) }))
           (words_hit me.0 s kept id at (pin_word me.0.actor) 0 (pin_code pin) ((kept.seats id me.0 at).pinned ∙ ap pin_word_of free) (pin_word me.0.actor) refl)
@@ -192,6 +194,10 @@ pin_allowed sizes size id me some_seats pin call fits late idle free =
       retired_pinned me.0 pin fits late call s kept id at epochs
           (set s.words (pin_word me.0.actor) (either (slice_index s.words (pin_word me.0.actor) == 0) (pin_code pin) (slice_index s.words (pin_word me.0.actor))))
           (stays_elsewhere s.words (pin_word me.0.actor) (λ n. either (n == 0) (pin_code pin) n) (inl (λ e. omega (arith, e)))) retired,
+      counted_then s.views id me.0 at (pinning me.0 pin fits late call s kept) refl me.0.sizes s.words
+          (set s.words (pin_word me.0.actor) (either (slice_index s.words (pin_word me.0.actor) == 0) (pin_code pin) (slice_index s.words (pin_word me.0.actor))))
+          (count_same me.0.sizes (pin_word me.0.actor) (λ n. either (n == 0) (pin_code pin) n) s.words
+          (inl (pin_apart me.0.sizes me.0.actor (let seat = kept.seats id me.0 at in omega (arith, seat.top, seat.most))))) counted,
       refl,
       λ other said back is. (
         pinned_at me.0 pin fits late call s kept,
@@ -205,7 +211,7 @@ pub unpin_allowed : (sizes : Sizes) (size id : ℕ) (me : Me Call View) (some_se
 unpin_allowed sizes size id me some_seats idle =
     allowed_unpinned sizes size id me (pin_word me.0.actor) (λ n. 0) (λ n. has_unpinned (step size (pin_word me.0.actor) 0 0 none) me 0)
     some_seats
-    (λ s kept at. inl (λ e. omega (arith, e)))
+    (λ s kept at. inl (pin_apart me.0.sizes me.0.actor (let seat = kept.seats id me.0 at in omega (arith, seat.top, seat.most))))
     (λ s kept at. (unpinned me.0, unpins me.0 idle s kept id at, refl))
     (λ s kept at. refl)
 

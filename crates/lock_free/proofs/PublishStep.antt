@@ -22,8 +22,8 @@ use Rattle.machine_model.specs.declared.operations.Operation.{Operation}
 use Rattle.machine_model.specs.declared.steps.Step.TheVariants as machine
 use Rattle.machine_model.specs.Acting.{operation_after}
 use Rattle.machine_model.specs.States.{State}
+use Rattle.lock_free.proofs.CountWords.{Apart}
 use Rattle.lock_free.proofs.EpochStays.{rest_of}
-use Rattle.lock_free.specs.Places.{epoch_word}
 use Rattle.lock_free.specs.declared.accounts.Account.{Account}
 use Rattle.lock_free.specs.declared.rules.View.{View}
 use Rattle.lock_free.specs.declared.sizes.Sizes.{Sizes}
@@ -39,7 +39,7 @@ use Rattle.lock_free.proofs.Exchanged.{LeavesAt, words_hit, words_miss, sound_by
 use Rattle.lock_free.proofs.Abandoned.{abandon_kept, abandon_sound}
 use Rattle.lock_free.proofs.LinkWords.{i_there, generation_now, hit, miss}
 use Rattle.lock_free.proofs.Looking.{main_there, o_there, acts_there, same_action}
-use Rattle.lock_free.proofs.Moments.{IsThere, allowed, took_by, waited_so, its_place, not_epoch}
+use Rattle.lock_free.proofs.Moments.{IsThere, allowed, took_by, waited_so, its_place, node_apart}
 use Rattle.lock_free.proofs.PublishedAll.{all_then}
 use Rattle.lock_free.proofs.PublishedKept.{publish_kept}
 
@@ -92,8 +92,8 @@ module _ (v : View) (i replaced made : Ref) (p : IsAt v (act.Publish i replaced 
     abbrev link_is : (h : IsThere v s kept id at i) × (generation : ℕ) × (current : Ref) × (h.slot.node ≡ Indirection generation current)
     link_is = i_there v word found m does p i replaced link_in replaced_in its_word link fits is
 
-    pub is_elsewhere : word ≢ epoch_word
-    is_elsewhere = not_epoch v s kept id at i link_is.0 word its_word
+    pub is_elsewhere : Apart v.sizes word
+    is_elsewhere = node_apart v s kept id at i link_is.0 word its_word
 
     found_old : main_at state.heap i ≡ replaced → found ≡ old
     found_old = hit v word found m does p i replaced link_in replaced_in its_word link fits is

@@ -25,6 +25,7 @@ use Rattle.lock_free.specs.Places.{first_slot_word, words_in, words_of, generati
 use Rattle.lock_free.specs.Publishing.{swapped_in, with_main_of, over, Publishes}
 use Rattle.lock_free.specs.Roots.{MeansRoot, second_of, fate}
 use Rattle.lock_free.specs.Rules.{Standing, Stands, NodesStand, RootsStand}
+use Rattle.lock_free.proofs.OwnBits.{own_published}
 use Rattle.lock_free.proofs.Asked.{in_use_made}
 use Rattle.lock_free.proofs.Assembling.{AllStand}
 use Rattle.lock_free.proofs.Framing.{below_word, stands_over, still_taken, have_still, roots_still, class_small}
@@ -160,6 +161,7 @@ module _ (sizes : Sizes) (account : Account) (actor : ℕ) (operation : Operatio
     inside = λ k slot e. (let b = before k slot (which k slot e) in subst (λ c. 2 * place_at account k + words_in c ≤ words_of sizes) (sym b.2) (all.nodes.inside k b.0 b.1));
     owners = owners_published sizes account actor operation i a f publishes all.nodes.owners (made_before (slot_of i) publishes.link publishes.link_is)
         (made_before (slot_of f) publishes.fresh publishes.fresh_is);
+    owned = own_published sizes account actor operation i a f publishes all.nodes.owned;
     live = λ r h. all.nodes.live r (publishes.live r h);
     reached = reached_kept sizes account later (step.Go actor) refl stands stands all.nodes.reached (λ r h. all.nodes.live r (publishes.live r h)) (λ r was h. h);
   }

@@ -69,6 +69,7 @@ module _ (sizes : Sizes) (s : Table.State Call View) (kept : IsKept sizes s) (ep
     written = λ k slot h. kept.nodes.written k slot (stood k slot h).0;
     inside = kept.nodes.inside;
     owners = kept.nodes.owners;
+    owned = kept.nodes.owned;
     live = λ r h. still (slot_of r) (not_live sizes s kept epochs old id v at x here ripe r h) (kept.nodes.live r h);
     reached = λ r h. still (slot_of r) (not_root sizes s kept epochs old id v at x here ripe r h) (kept.nodes.reached r h);
   }

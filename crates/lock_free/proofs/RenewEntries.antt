@@ -1,5 +1,6 @@
 -- RENEW at an entry: it is kept, or a new indirection comes to its place.
 use Rattle.std.proofs.Common.{◌≡◌, ◌++◌, ℕ, Bool, true, false, List, [], ◌∷◌, length, Option, None, Some, append-nil, refl, sym, ap, ap₂, subst, ◌∙◌, unwrap_or}
+use Rattle.std.proofs.lemmas.Bool.{false≢true}
 use Rattle.history.specs.declared.replies.Reply.TheVariants as reply
 use Rattle.trie_words.specs.declared.entries.Entry.{Entry}
 use Rattle.machine_model.specs.Beneath.slot_arena.specs.declared.refs.Ref.{Ref}
@@ -25,6 +26,7 @@ use Rattle.lock_free.specs.Holding.{IsOn, HasComeTo}
 use Rattle.lock_free.specs.Leaving.{Halts}
 use Rattle.lock_free.specs.Loading.{now, Runs, IsAt, IsSound}
 use Rattle.lock_free.specs.Nodes.{is_single}
+use Rattle.lock_free.specs.Owning.{IsBuilding}
 use Rattle.lock_free.specs.Passing.{Later, IsPlaced, IsReading, IsPassing, IsOnWay, HasPassed, HasGiven}
 use Rattle.lock_free.specs.Repairing.{HasStart, IsAtRenewed, renew_looked, HasLookedOld, GivesUp, RenewedOrNot, HasRenewed}
 use Rattle.lock_free.specs.SeenEntries.{HasMadeNext, HasNewOrNone}
@@ -155,8 +157,8 @@ module _ (n : ℕ) (v0 v1 : View) (sound0 : IsSound n v0) (entry : Entry) (is_at
               (ap (λ g. act.Make (Indirection g child)) (its_start at2.0 at2.1));
         }
 
-        pub link_making : (r : Ref) × IsAt v2 (act.Make (Indirection start r)) × IsPlaced v2 r given.link.main.slot
-        link_making = (child, its_making, (g.link.main_used, g.link.is.names.place))
+        pub link_making : (r : Ref) × (p : IsAt v2 (act.Make (Indirection start r))) × IsPlaced v2 r given.link.main.slot × (false ≡ true → IsBuilding p.operation.line r)
+        link_making = (child, its_making, (g.link.main_used, g.link.is.names.place), λ e. absurd (false≢true e))
 
         module _ (v3 : View) (result : Option ℕ) (made : HasMadeNext v2 result v3) where
           pub none_renewed : result ≡ None → HasRenewed v0 None v3

@@ -20,7 +20,6 @@ use Rattle.machine_model.specs.declared.actions.Action.{Action}
 use Rattle.machine_model.specs.declared.actions.Action.TheVariants as act
 use Rattle.machine_model.specs.declared.operations.Operation.{Operation}
 use Rattle.machine_model.specs.States.{State}
-use Rattle.lock_free.specs.Places.{epoch_word}
 use Rattle.lock_free.specs.declared.accounts.Account.{Account}
 use Rattle.lock_free.specs.declared.rules.View.{View}
 use Rattle.lock_free.specs.declared.sizes.Sizes.{Sizes}
@@ -29,12 +28,13 @@ use Rattle.lock_free.specs.Exchanging.{IsNamed, IsNamedOrGone, IsLinkTo, IsAtRes
 use Rattle.lock_free.specs.Loading.{Moment, seen, IsAt, HasGone, has_gone}
 use Rattle.lock_free.specs.Restoring.{Restores}
 use Rattle.lock_free.specs.Rules.{IsKept}
+use Rattle.lock_free.proofs.CountWords.{Apart}
 use Rattle.lock_free.proofs.Asked.{links_of, mains_of, restores_or_not, gone_stays}
 use Rattle.lock_free.proofs.Assembling.{all_stand}
 use Rattle.lock_free.proofs.Exchanged.{AllowsExchange, Leaves, words_hit, missed, sound_by}
 use Rattle.lock_free.proofs.LinkWords.{i_there, generation_now, hit, miss}
 use Rattle.lock_free.proofs.Looking.{went, main_there, o_there, acts_there, same_action}
-use Rattle.lock_free.proofs.Moments.{IsThere, seat, allowed, took_by, its_place, still_own, not_epoch}
+use Rattle.lock_free.proofs.Moments.{IsThere, seat, allowed, took_by, its_place, still_own, node_apart}
 use Rattle.lock_free.proofs.Restored.{all_then, restore_kept}
 
 module _ (v : View) (i main former : Ref) (p : IsAt v (act.Restore i main former)) (name : ℕ) (place : place_of v.account i ≡ name) (link : Link) (fits : IsLink link) (is : IsLinkTo v i main link)
@@ -85,8 +85,8 @@ module _ (v : View) (i main former : Ref) (p : IsAt v (act.Restore i main former
     abbrev link_is : (h : IsThere v s kept id at i) × (generation : ℕ) × (current : Ref) × (h.slot.node ≡ Indirection generation current)
     link_is = i_there v word found m does p i main link_in main_in its_word link fits is
 
-    pub is_elsewhere : word ≢ epoch_word
-    is_elsewhere = not_epoch v s kept id at i link_is.0 word its_word
+    pub is_elsewhere : Apart v.sizes word
+    is_elsewhere = node_apart v s kept id at i link_is.0 word its_word
 
     found_old : main_at state.heap i ≡ main → found ≡ old
     found_old = hit v word found m does p i main link_in main_in its_word link fits is

@@ -36,6 +36,7 @@ use Rattle.lock_free.specs.Publishing.{with_main_of}
 use Rattle.lock_free.specs.Restoring.{Restores}
 use Rattle.lock_free.specs.Roots.{MeansRoot, second_of, fate}
 use Rattle.lock_free.specs.Rules.{Standing, Stands, NodesStand, RootsStand, IsSpare, IsKept}
+use Rattle.lock_free.proofs.OwnBits.{own_longer}
 use Rattle.lock_free.proofs.Assembling.{AllStand, all_stand}
 use Rattle.lock_free.proofs.Framing.{below_word, stands_over, still_taken, have_still, roots_still, class_small, first_word, node_far, node_inside, not_of_other, not_of_any_offer}
 use Rattle.lock_free.specs.Trying.{as_before}
@@ -195,6 +196,7 @@ module _ (sizes : Sizes) (account : Account) (actor : ℕ) (operation : Operatio
     written = λ k slot h. written_by k slot h.0 (which k slot h.1);
     inside = λ k slot e. (let b = before k slot (which k slot e) in subst (λ c. 2 * place_at account k + words_in c ≤ words_of sizes) (sym b.2) (all.nodes.inside k b.0 b.1));
     owners = owners_kept account account_then now next refl refl restores.aheads all.nodes.owners;
+    owned = own_longer sizes account account_then (step.Go actor ∷ []) refl refl all.nodes.owned;
     live = λ r h. all.nodes.live r (restores.live r h);
     reached = reached_kept sizes account account_then (step.Go actor) refl stands stands all.nodes.reached (λ r h. all.nodes.live r (restores.live r h)) (λ r was h. h);
   }

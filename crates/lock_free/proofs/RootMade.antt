@@ -21,6 +21,7 @@ use Rattle.machine_model.specs.declared.operations.Operation.{Operation}
 use Rattle.machine_model.specs.Acting.{operation_after}
 use Rattle.machine_model.specs.Operations.{action_of}
 use Rattle.machine_model.specs.States.{State}
+use Rattle.lock_free.proofs.CountWords.{before_apart}
 use Rattle.lock_free.proofs.EpochStays.{rest_of}
 use Rattle.lock_free.specs.declared.accounts.Account.{Account}
 use Rattle.lock_free.specs.declared.rules.View.{View}
@@ -39,7 +40,7 @@ use Rattle.lock_free.proofs.Moments.{after_it, allowed, waited_so, same_place, f
 use Rattle.lock_free.proofs.OneStep.Makes as making
 use Rattle.lock_free.proofs.Pools.{pool_else}
 
-module _ (v : View) (generation : ℕ) (main : Ref) (rest : List ℕ) (name : ℕ) (own : Bool) (p : IsAt v (act.MakeRoot main)) (w : WritesRoot v generation main rest name own)
+module _ (v : View) (generation : ℕ) (main : Ref) (rest : List ℕ) (name : ℕ) (own : Bool) (p : IsAt v (act.MakeRoot main)) (w : WritesRoot v p.operation.line generation main rest name own)
     (s : Table.State Call View) (kept : IsKept v.sizes s) (id : ℕ) (at : get_elem? s.views id ≡ some v) where
   abbrev there : Account
   there = kept.account
@@ -81,7 +82,7 @@ module _ (v : View) (generation : ℕ) (main : Ref) (rest : List ℕ) (name : �
     unopened handle is e = absurd (omega (arith, e))
 
     pub kept_after : IsKept v.sizes (record { words = set s.words generation_word (slice_index s.words generation_word + 1); homes = s.homes; views = set s.views id after })
-    kept_after = make_root_kept v.sizes s kept id v at o stays.1 name own root rest w.last (omega arith) unopened makes drafted
+    kept_after = make_root_kept v.sizes s kept id v at o stays.1 name own root rest w.last (omega arith) unopened makes drafted w.owns
 
     was_free : (b n : ℕ) → IsFree after b n → IsFree v b n
     was_free b n free = elim (cases_eq b 0) [
@@ -93,7 +94,7 @@ module _ (v : View) (generation : ℕ) (main : Ref) (rest : List ℕ) (name : �
 
     pub sound_after : IsSound (words_of v.sizes) after
     sound_after =
-        let all = root_made v.sizes s kept id v at o stays.1 name own root rest w.last (omega arith) unopened makes drafted in
+        let all = root_made v.sizes s kept id v at o stays.1 name own root rest w.last (omega arith) unopened makes drafted w.owns in
         record {
           size = refl;
           range = kept.range.within;
@@ -116,7 +117,7 @@ AllowsRoot sizes size id me generation =
 
 -- by what was found
 module _ (sizes : Sizes) (size id : ℕ) (me : Me Call View) (generation : ℕ) (main : Ref) (rest : List ℕ) (name : ℕ) (own : Bool) (p : IsAt me.0 (act.MakeRoot main))
-    (w : WritesRoot me.0 generation main rest name own) where
+    (w : WritesRoot me.0 p.operation.line generation main rest name own) where
   abbrev then : ℕ → Me Call View → Type 0
   then = has_made_root (step size generation_word generation (generation + 1) none) me
 
@@ -169,6 +170,6 @@ module _ (sizes : Sizes) (size id : ℕ) (me : Me Call View) (generation : ℕ) 
 pub root_allowed : (sizes : Sizes) (size id : ℕ) (me : Me Call View) (some_seats : 1 ≤ me.0.sizes.seats) (generation : ℕ) → IsAtMakeRoot me.0 generation → AllowsRoot sizes size id me generation
 root_allowed sizes size id me some_seats generation (main, rest, name, own, p, w) =
     allowed sizes size id me generation_word (λ n. either (n == generation) (generation + 1) n) (has_made_root (step size generation_word generation (generation + 1) none) me) some_seats
-    (λ s kept at. inl (λ e. omega (arith, e)))
+    (λ s kept at. inl (before_apart me.0.sizes generation_word (λ e. omega (arith, e)) (omega arith)))
     (λ s kept at. (let x = made_or_not sizes size id me generation main rest name own p w s kept at in (x.0, x.2, x.3)))
     (λ s kept at. (made_or_not sizes size id me generation main rest name own p w s kept at).1)

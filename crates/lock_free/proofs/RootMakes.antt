@@ -13,6 +13,7 @@ use Rattle.machine_model.specs.declared.copying.CopyLine.TheVariants as copy
 use Rattle.machine_model.specs.Copying.{copy_action}
 use Rattle.machine_model.specs.Operations.{action_of}
 use Rattle.proof_memory.specs.Making.{made_node}
+use Rattle.machine_model.specs.declared.lines.Line.TheVariants as line
 use Rattle.lock_free.specs.declared.accounts.Account.{Account}
 use Rattle.lock_free.specs.declared.rules.View.{View}
 use Rattle.lock_free.specs.Becoming.{HasNew, line_made}
@@ -21,6 +22,7 @@ use Rattle.lock_free.specs.Loading.{now, seen, IsAt, IsSound, Runs, Waited, Took
 use Rattle.lock_free.specs.Making.{made_by}
 use Rattle.lock_free.specs.Rules.{pool_of}
 use Rattle.lock_free.specs.Stocks.{Stocked, IsStock, NotesLast, HasSlot}
+use Rattle.lock_free.specs.Owning.{IsBuilding}
 use Rattle.lock_free.specs.Storing.{IsAdded, IsAtMakeRoot, IsOwnWord, drafted}
 use Rattle.lock_free.proofs.CopyReads.{copy_line}
 use Rattle.lock_free.proofs.EntryLooks.{slot_small}
@@ -42,9 +44,14 @@ at_root v l main (o, (mark, runs), on) e = record {
   acts = subst (λ x. action_of (now v) (record o { is_marked = mark; line = x }) ≡ act.MakeRoot main) (sym on) (main_acts l main e);
 }
 
+-- its main node is the operation's own
+root_building : (v : View) (l : CopyLine) (main : Ref) (h : IsAtCopy v l) (e : main_for l ≡ Some main) → IsBuilding (line.Copy l) main → IsBuilding (at_root v l main h e).operation.line main
+unfolding at_root
+root_building v l main (o, (mark, runs), on) e own = subst (λ x. IsBuilding x main) (sym on) own
+
 -- ---- it is written
 
-module _ (n : ℕ) (before : View) (sound : IsSound n before) (slot : ℕ) (last : (rest : List ℕ) × (pool_of before.pool 0 ≡ rest ++ slot ∷ [])) (main : Name) (at : IsAtNewRoot before main.slot) where
+module _ (n : ℕ) (before : View) (sound : IsSound n before) (slot : ℕ) (last : (rest : List ℕ) × (pool_of before.pool 0 ≡ rest ++ slot ∷ [])) (main : Name) (at : IsAtNewRoot before main) where
   abbrev r : Ref
   r = at.1
 
@@ -75,6 +82,7 @@ module _ (n : ℕ) (before : View) (sound : IsSound n before) (slot : ℕ) (last
                 subst (λ x. Contains (drafted (record before { drafts = d.drafts }) (2 * slot) value).drafts (2 * slot, x))
                 (value_is ∙ ap (λ k. link_code (record { generation = generation; main = record { slot = k; own = main.own } })) (sym at.4.1)) (first_there (2 * slot, value) _);
             used = at.4.0;
+            owns = λ own. root_building before at.0 r at.2 at.3 (at.5 own);
           },
         )
 

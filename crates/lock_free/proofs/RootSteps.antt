@@ -19,6 +19,7 @@ use Rattle.lock_free.specs.Places.{first_slot_word, slots_in, IsTaken, HaveTaken
 use Rattle.lock_free.specs.Roots.{MeansRoot, IsWritten, IsPending, AreMarked, fate, undecided}
 use Rattle.lock_free.specs.Rules.{Standing, Stands, NodesStand}
 use Rattle.lock_free.specs.Steps.{nothing}
+use Rattle.lock_free.proofs.OwnBits.{own_longer}
 use Rattle.lock_free.proofs.Assembling.{AllStand}
 use Rattle.lock_free.proofs.Fates.{fate_kept, fate_said, words_same}
 use Rattle.lock_free.proofs.Framing.{else_word, nodes_below, roots_below, no_slot, meaning_below, written_below, first_of_offer, no_offer, marks_over}
@@ -43,9 +44,10 @@ module _ (sizes : Sizes) (account : Account) (steps : List Step) (offers : List 
   stood : (k : ℕ) (slot : Slot) → Stands stands next k slot → Stands stands now k slot
   stood k slot h = (h.0, sym (leaves.nodes k) ∙ h.1)
 
-  pub nodes_left : ((x : Known) → Contains offers x → (k : ℕ) (slot : Slot) → Stands stands now k slot → place_at account k ≢ x.slot) → NodesStand sizes account stands words → NodesStand sizes
-      later stands words
-  nodes_left apart nodes = record {
+  pub nodes_left : (more : List Step) → steps ≡ account.steps ++ more →
+      ((x : Known) → Contains offers x → (k : ℕ) (slot : Slot) → Stands stands now k slot → place_at account k ≢ x.slot) → NodesStand sizes account stands words →
+      NodesStand sizes later stands words
+  nodes_left more goes_on apart nodes = record {
     within = λ k slot h. nodes.within k slot (stood k slot h);
     small = λ k slot h. nodes.small k slot (stood k slot h);
     apart = λ j k x y a b same. nodes.apart j k x y (stood j x a) (stood k y b) same;
@@ -56,6 +58,7 @@ module _ (sizes : Sizes) (account : Account) (steps : List Step) (offers : List 
         (nodes.written k slot was));
     inside = λ k slot e. nodes.inside k slot (sym (leaves.nodes k) ∙ e);
     owners = owners_kept account later now next refl refl leaves.aheads nodes.owners;
+    owned = own_longer sizes account later more goes_on refl nodes.owned;
     live = λ r h. nodes.live r (leaves.live r h);
     reached = λ r h. elim (leaves.reached r h) [
       | inl was ↦ nodes.reached r was
@@ -80,7 +83,7 @@ module _ (sizes : Sizes) (account : Account) (s : Step) (leaves : LeavesNodes si
     size = all.size;
     taken = all.taken;
     generations = all.generations ∙ sym leaves.generations;
-    nodes = nodes_left sizes account (account.steps ++ s ∷ []) account.offers leaves stands words all.nodes.offers all.nodes;
+    nodes = nodes_left sizes account (account.steps ++ s ∷ []) account.offers leaves stands words (s ∷ []) refl all.nodes.offers all.nodes;
     roots = record {
       means = λ handle low.
           meaning_kept account (account.steps ++ s ∷ []) words handle _ _

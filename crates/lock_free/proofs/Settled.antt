@@ -126,12 +126,13 @@ module _ (sizes : Sizes) (s : Table.State Call View) (kept : IsKept sizes s) (id
         (slot_apart (class_of slot.node) (place_at kept.account m) (class_small slot.node) (kept.nodes.within m slot h) (kept.nodes.offers k here m slot h)) (kept.nodes.written m slot h);
     inside = kept.nodes.inside;
     owners = kept.nodes.owners;
+    owned = kept.nodes.owned;
     live = kept.nodes.live;
     reached = kept.nodes.reached;
   }
 
   nodes_then : NodesStand sizes account_then kept.stands words_then
-  nodes_then = root.nodes_left sizes kept.account account_then.steps kept.account.offers settles.leaves kept.stands words_then kept.nodes.offers nodes_over
+  nodes_then = root.nodes_left sizes kept.account account_then.steps kept.account.offers settles.leaves kept.stands words_then (step.Go v.actor ∷ []) refl kept.nodes.offers nodes_over
 
   -- ---- what words of handles mean
 

@@ -1,7 +1,8 @@
 -- A seat is split: its last actor gets a seat of its own.
-use Rattle.std.proofs.Common.{◌≡◌, ◌≢◌, ℕ, zero, suc, ◌<◌, ◌≤◌, ◌⊎◌, Contains, inl, inr, List, [], ◌∷◌, ◌++◌, Some, length, set, length-set, refl, sym, ap, subst, ◌∙◌, arith}
+use Rattle.std.proofs.Common.{◌≡◌, ◌≢◌, ◌+◌, ℕ, zero, suc, ◌<◌, ◌≤◌, ◌⊎◌, Contains, inl, inr, List, [], ◌∷◌, ◌++◌, Some, length, set, length-set, refl, sym, ap, subst, ◌∙◌, arith}
 use Rattle.std.proofs.lemmas.Bool.{cases_eq}
 use Rattle.std.proofs.lemmas.Option.{none-some}
+use Rattle.std.proofs.lemmas.List.Sums.{sum_by_push}
 use mathlib.Core.Option.{some, some-injective, some-ne-none}
 use lib.ListN.{get_elem?}
 use Rattle.atomic_table.specs.Table.{Splits}
@@ -15,8 +16,10 @@ use Rattle.lock_free.specs.declared.rules.View.{View}
 use Rattle.lock_free.specs.declared.sizes.Sizes.{Sizes}
 use Rattle.lock_free.specs.Accounts.{state_of}
 use Rattle.lock_free.specs.Loading.{IsSound}
+use Rattle.lock_free.specs.Counts.{AreCounted, IsCount, extra, how_often, owed_on}
 use Rattle.lock_free.specs.Rules.{AreEpochs, AreRetired, latest, IsClosing, IsOpening, IsFree, Reserves, HasActor, HasSeat, IsSeat, IsKept, IsRuled, WasGivenUp}
 use Rattle.lock_free.specs.Splitting.{without_last, of_last}
+use Rattle.lock_free.proofs.CountsStay.{counts_stay, owed_set}
 use Rattle.lock_free.proofs.EpochStays.{IsAsWas, Was as Before, as_was, epochs_stay, is_new, was_one}
 use Rattle.lock_free.proofs.Idle.{empty_has, none_free, none_twice}
 use Rattle.lock_free.proofs.RetiredStay.{Retires, retired_stay, retires_as, retires_none, retires_self}
@@ -255,16 +258,22 @@ module _ (sizes : Sizes) (s : Table.State Call View) (kept : IsKept sizes s) (id
     retires_before k x (was_other e p) = retires_self s.views k x p
     retires_before k x (was_second e p) = retires_none (ap (λ (y : View). y.retired) (sym p)) (ap (λ (y : View). y.pin) (sym p))
 
-    pub split_ruled : AreEpochs s.words s.views → AreRetired sizes s.words s.views → IsRuled sizes (record { words = s.words; homes = s.homes; views = split_views })
-    split_ruled epochs retired = record {
+    split_balance : (c : ℕ) → IsCount sizes c → owed_on c split_views + extra s.words c ≤ owed_on c s.views + extra s.words c
+    split_balance c is =
+        let both = sum_by_push (λ (x : View). how_often c x.owed) (set s.views id first) second in
+        let one = owed_set c s.views id v at first in omega (arith, both, one)
+
+    pub split_ruled : AreEpochs s.words s.views → AreRetired sizes s.words s.views → AreCounted sizes s.words s.views → IsRuled sizes (record { words = s.words; homes = s.homes; views = split_views })
+    split_ruled epochs retired counted = record {
       kept = split_kept;
       epochs = epochs_stay s.words s.words s.views split_views refl (λ k x e. was_before k x (was k x e)) epochs;
       retired = retired_stay sizes s.words s.words s.views split_views (omega arith) (λ k x e. retires_before k x (was k x e)) retired;
+      counted = counts_stay sizes s.words s.words s.views split_views split_balance counted;
       heard = λ k x e h c. heard_by k x (was k x e) h c;
     }
 
 pub splits : (sizes : Sizes) (id : ℕ) (v : View) → 1 ≤ v.sizes.seats → v.actor < v.last → Splits (IsRuled sizes) id v (without_last v) (of_last v)
-splits sizes id v some_seats more s ruled at = split_ruled sizes s ruled.kept id v at more some_seats ruled.heard ruled.epochs ruled.retired
+splits sizes id v some_seats more s ruled at = split_ruled sizes s ruled.kept id v at more some_seats ruled.heard ruled.epochs ruled.retired ruled.counted
 
 pub left_sound : (words : ℕ) (v : View) → IsSound words v → IsSound words (without_last v)
 left_sound words v h = record { size = h.size; range = h.range; bounds = h.bounds; keys = h.keys; counted = h.counted; inside = h.inside; free = h.free }

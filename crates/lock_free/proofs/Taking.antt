@@ -12,7 +12,7 @@ use Rattle.lock_free.specs.declared.sizes.Sizes.{Sizes}
 use Rattle.lock_free.specs.Accounts.{state_of}
 use Rattle.lock_free.specs.Making.{with_slot}
 use Rattle.lock_free.specs.Nodes.{class_of}
-use Rattle.lock_free.specs.Places.{words_in, slots_in, part_of, first_slot_word, taken_word, generation_word, pin_word, root_word, IsTaken, HaveTaken}
+use Rattle.lock_free.specs.Places.{stride, slots_in, part_of, first_slot_word, taken_word, generation_word, pin_word, root_word, IsTaken, HaveTaken}
 use Rattle.lock_free.specs.Rules.{IsClosing, SaysClosing, IsFree, IsSpare, AreDrafts, IsSeat, IsKept}
 use Rattle.lock_free.proofs.Meanings.{no_tries}
 use Rattle.lock_free.proofs.Assembling.{AllStand, closing_stays, numbers_stay, assembled}
@@ -25,7 +25,7 @@ pub same_class : (b c : ℕ) → taken_word b ≡ taken_word c → b ≡ c
 same_class b c e = omega (arith, e)
 
 module _ (sizes : Sizes) (s : Table.State Call View) (kept : IsKept sizes s) (id : ℕ) (v : View) (at : get_elem? s.views id ≡ some v) (class : ℕ) (small : class < 3)
-    (few : slice_index s.words (taken_word class) < slots_in sizes class) (name : ℕ) (first : 2 * name ≡ part_of sizes class + words_in class * slice_index s.words (taken_word class)) where
+    (few : slice_index s.words (taken_word class) < slots_in sizes class) (name : ℕ) (first : 2 * name ≡ part_of sizes class + stride class * slice_index s.words (taken_word class)) where
   abbrev pub number : ℕ
   number = slice_index s.words (taken_word class)
 
@@ -72,7 +72,7 @@ module _ (sizes : Sizes) (s : Table.State Call View) (kept : IsKept sizes s) (id
   new_taken = record { number = number; few = omega (arith, counts); first = first }
 
   -- no slot that was handed out before is it
-  numbers : (c n m : ℕ) → c < 3 → 2 * name ≡ part_of sizes c + words_in c * n → 2 * name ≡ part_of sizes c + words_in c * m → n ≡ m
+  numbers : (c n m : ℕ) → c < 3 → 2 * name ≡ part_of sizes c + stride c * n → 2 * name ≡ part_of sizes c + stride c * m → n ≡ m
   numbers zero n m low a b = omega (arith, a, b)
   numbers (suc zero) n m low a b = omega (arith, a, b)
   numbers (suc (suc zero)) n m low a b = omega (arith, a, b)

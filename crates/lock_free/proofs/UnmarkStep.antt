@@ -12,7 +12,7 @@ use Rattle.trie_words.specs.Codes.{root_code, IsRootWord}
 use Rattle.trie_words.specs.declared.roots.RootWord.{RootWord}
 use Rattle.trie_words.specs.declared.roots.RootWord.TheVariants as word
 use Rattle.machine_model.specs.States.{root_at}
-use Rattle.lock_free.proofs.Geometry.{root_not_epoch}
+use Rattle.lock_free.proofs.CountWords.{handle_apart}
 use Rattle.lock_free.specs.declared.rules.View.{View}
 use Rattle.lock_free.specs.declared.sizes.Sizes.{Sizes}
 use Rattle.lock_free.specs.Accounts.{place_of, state_of}
@@ -80,6 +80,6 @@ pub unmark_allowed : (sizes : Sizes) (size id : ℕ) (me : Me Call View) (some_s
 unmark_allowed sizes size id me some_seats handle low w fits marked =
     allowed sizes size id me (root_word handle) (λ n. either (n == root_code w) (root_code (without_mark w)) n)
     (has_unmarked (step size (root_word handle) (root_code w) (root_code (without_mark w)) none) me)
-    some_seats (λ s kept at. inl (root_not_epoch handle))
+    some_seats (λ s kept at. inl (handle_apart me.0.sizes handle low))
     (λ s kept at. (me.0, unmarks me.0 handle low s kept id at w fits marked, refl))
     (λ s kept at. refl)

@@ -41,10 +41,10 @@ module _ (words : ℕ) (v : View) (sound : IsSound words v) where
       (omega (arith, h, two, place), omega (arith, h, two, place))
 
   room : (n position : ℕ) → position < n → position < 32 → 1 + position / 2 < words_in (class_for n)
-  room n position low small = by (nat_le n 2) (nat_le n 14) (λ e. leb-true n 2 e) (λ e. leb-true n 14 e)
+  room n position low small = by (nat_le n 2) (nat_le n 12) (λ e. leb-true n 2 e) (λ e. leb-true n 12 e)
     where
-      by : (two fourteen : Bool) → (two ≡ true → n ≤ 2) → (fourteen ≡ true → n ≤ 14) → 1 + position / 2 < words_in (if two then 0 else (if fourteen then 1 else 2))
-      by true fourteen few some = let most = few refl in omega (arith, low, most)
+      by : (two twelve : Bool) → (two ≡ true → n ≤ 2) → (twelve ≡ true → n ≤ 12) → 1 + position / 2 < words_in (if two then 0 else (if twelve then 1 else 2))
+      by true twelve few some = let most = few refl in omega (arith, low, most)
       by false true few some = let most = some refl in omega (arith, low, most)
       by false false few some = omega (arith, small)
 

@@ -16,10 +16,13 @@ use Rattle.lock_free.specs.declared.attempts.Attempt.TheVariants as attempt
 use Rattle.lock_free.specs.declared.parking.Came.TheVariants as came
 use Rattle.lock_free.specs.declared.reading.Given.{Given}
 use Rattle.lock_free.specs.declared.rules.View.{View}
+use Rattle.lock_free.specs.declared.seeking.Sought.{Sought}
+use Rattle.lock_free.specs.declared.seeking.Sought.TheVariants as sought
 use Rattle.lock_free.specs.declared.swapping.Swapped.{Swapped}
 use Rattle.lock_free.specs.declared.swapping.Swapped.TheVariants.{Commits, Fails, Misses}
+use Rattle.lock_free.specs.declared.tasks.Task.{Task}
 use Rattle.lock_free.specs.Climbs.{IsClimbing}
-use Rattle.lock_free.specs.Descending.{IsPlace, KnowsUpdate, line_updated}
+use Rattle.lock_free.specs.Descending.{IsPlace, IsTask, KnowsUpdate, line_updated}
 use Rattle.lock_free.specs.Holding.{IsOn}
 use Rattle.lock_free.specs.Loading.{IsAt}
 use Rattle.lock_free.specs.Parking.{HasRunTo}
@@ -66,6 +69,13 @@ attempted (Some Fails) call former = attempt.Again
 attempted (Some Misses) call former = attempt.Again
 
 -- ---- a try
+
+-- its way has come to this at the end of its path
+abbrev pub IsSought : View → List ℕ → Task → Sought → Type 0
+IsSought v slots task (sought.Answers answer) = IsOn v (line.End answer)
+IsSought v slots task (sought.Changes change given) = IsTask v task × IsToChange v slots given change
+IsSought v slots task sought.Again = IsOn v new_try
+IsSought v slots task sought.Full = MayAnswer v reply.NoSlots
 
 -- it begins a new try, or comes to this
 abbrev pub HasAttempted : View → Attempt → View → Type 0

@@ -29,6 +29,8 @@ use Rattle.lock_free.specs.Becoming.{Follows, HasBecome}
 use Rattle.lock_free.specs.GoingDown.{HasMoved}
 use Rattle.lock_free.specs.HandleWords.{HasOffer}
 use Rattle.lock_free.specs.Loading.{Runs}
+use Rattle.trie_words.specs.declared.names.Name.{Name}
+use Rattle.lock_free.specs.Owning.{IsBuilding}
 use Rattle.lock_free.specs.Passing.{IsPlaced, KnowsLink, KnowsMain}
 use Rattle.lock_free.specs.RootOffers.{IsToOffer}
 use Rattle.lock_free.specs.RootWords.{IsToOpen}
@@ -73,8 +75,9 @@ main_for (copy.Second root main successor) = Some main
 main_for (copy.Cleared root main branch) = Some branch
 main_for l = None
 
-abbrev pub IsAtNewRoot : View → ℕ → Type 0
-IsAtNewRoot v name = (l : CopyLine) × (main : Ref) × IsAtCopy v l × (main_for l ≡ Some main) × IsPlaced v main name
+-- which is the root's own only where it has made that one too
+abbrev pub IsAtNewRoot : View → Name → Type 0
+IsAtNewRoot v name = (l : CopyLine) × (main : Ref) × IsAtCopy v l × (main_for l ≡ Some main) × IsPlaced v main name.slot × (name.own ≡ true → IsBuilding (line.Copy l) main)
 
 -- it has tried to make it in the last of its free slots, by a generation that was the next one or not
 abbrev pub HasTriedRoot : View → Bool → View → Type 0

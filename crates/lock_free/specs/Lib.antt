@@ -5,7 +5,11 @@ pub mod Nodes
 pub mod Roots
 pub mod Trying
 pub mod Fates
+pub mod Owning
+pub mod Counts
+pub mod Counting
 pub mod Rules
+pub mod Claims
 pub mod Steps
 pub mod Loading
 pub mod Making
@@ -69,3 +73,4 @@ pub mod UnderWay
 pub mod TriedCalls
 pub mod KeyReplies
 pub mod Naming
+pub mod GetRuns

@@ -32,7 +32,7 @@ use Rattle.lock_free.specs.declared.accounts.Known.{Known}
 use Rattle.lock_free.specs.declared.rules.Pool.{Pool}
 use Rattle.lock_free.specs.declared.rules.View.{View}
 use Rattle.lock_free.specs.declared.sizes.Sizes.{Sizes}
-use Rattle.lock_free.specs.Accounts.{bounds_for, state_of, place_of, IsOwn}
+use Rattle.lock_free.specs.Accounts.{bounds_for, state_of, place_of, running, IsOwn}
 use Rattle.lock_free.specs.Live.{IsLive}
 use Rattle.lock_free.specs.Trying.{SameTries}
 use Rattle.lock_free.specs.Nodes.{Has, IsAhead, AreEntries}
@@ -119,6 +119,7 @@ pub record NamesNot (k : ℕ) (account : Account) (state : State) : Type 0 where
 -- the actor's operation makes this node; its number is that of the nodes made before; and so many generations more are given out: one with the root of a copy
 pub record Makes (sizes : Sizes) (account after : Account) (actor : ℕ) (operation : Operation) (node : Node) (more : ℕ) : Type 0 where
   pub bounds : AreBounds (bounds_for sizes after.steps)
+  pub runs : running sizes account actor operation
   pub names_not : NamesNot (length account.names) account (state_of sizes account)
   -- what it names was made, and isn't about to be swapped in
   pub refs : (r : Ref) → Contains (refs_of_node node) r → slot_of r < length account.names
@@ -126,6 +127,7 @@ pub record Makes (sizes : Sizes) (account after : Account) (actor : ℕ) (operat
   pub made : Slot
   pub stands : slice_index_or (state_of sizes after).heap.slots (length account.names) None ≡ Some made
   pub node_is : made.node ≡ node
+  pub birth : made.birth ≡ length account.names + 1
   pub prev_is : made.prev ≡ prev.None
   pub nodes : (k : ℕ) → k ≢ length account.names → slice_index_or (state_of sizes after).heap.slots k None ≡ slice_index_or (state_of sizes account).heap.slots k None
   pub births : (state_of sizes after).heap.births ≡ (state_of sizes account).heap.births + 1

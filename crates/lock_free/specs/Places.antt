@@ -22,12 +22,17 @@ pin_word actor = 336 + 16 * actor
 
 -- ---- slots
 
--- three classes: what is small, branches of up to 14 entries, and those of up to 32
+-- three classes: what is small, branches of up to 12 entries, and those of up to 32
 abbrev pub small_class : ℕ
 small_class = 0
 
+-- a slot takes so many words
+abbrev pub stride : ℕ → ℕ
+stride class = if class == 0 then 2 else (if class == 1 then 8 else 24)
+
+-- so many of them a node or an offer has: the last word of a medium or wide slot is its count's
 abbrev pub words_in : ℕ → ℕ
-words_in class = if class == 0 then 2 else (if class == 1 then 8 else 24)
+words_in class = if class == 0 then 2 else (if class == 1 then 7 else 23)
 
 abbrev pub slots_in : Sizes → ℕ → ℕ
 slots_in sizes class = if class == 0 then sizes.small else (if class == 1 then sizes.medium else sizes.wide)
@@ -40,14 +45,26 @@ part_of sizes class =
     if class == 0 then first_slot_word sizes
     else (if class == 1 then first_slot_word sizes + 2 * sizes.small else first_slot_word sizes + 2 * sizes.small + 8 * sizes.medium)
 
+-- small slots have no room for counts: these have a part of their own
 abbrev pub words_of : Sizes → ℕ
-words_of sizes = first_slot_word sizes + 2 * sizes.small + 8 * sizes.medium + 24 * sizes.wide
+words_of sizes = first_slot_word sizes + 3 * sizes.small + 8 * sizes.medium + 24 * sizes.wide
+
+-- there is a slot of this class with this name
+pub record IsSlot (sizes : Sizes) (class : ℕ) (name : ℕ) : Type 0 where
+  pub number : ℕ
+  pub few : number < slots_in sizes class
+  pub first : 2 * name ≡ part_of sizes class + stride class * number
+
+-- the word that counts references to what stands in the slot
+abbrev pub count_word : Sizes → ℕ → ℕ → ℕ
+count_word sizes class name =
+    if class == 0 then 176 + 8 * sizes.seats + 2 * sizes.small + 8 * sizes.medium + 24 * sizes.wide + name else 2 * name + words_in class
 
 -- the name of a slot of this class that was handed out
 pub record IsTaken (sizes : Sizes) (words : List ℕ) (class : ℕ) (name : ℕ) : Type 0 where
   pub number : ℕ
   pub few : number < slice_index words (taken_word class)
-  pub first : 2 * name ≡ part_of sizes class + words_in class * number
+  pub first : 2 * name ≡ part_of sizes class + stride class * number
 
 -- no more were handed out than there are
 abbrev pub HaveTaken : Sizes → List ℕ → Type 0
@@ -55,7 +72,7 @@ HaveTaken sizes words = (class : ℕ) → class < 3 → slice_index words (taken
 
 -- the class of a main node with so many entries, and of what is no main node
 abbrev pub class_for : ℕ → ℕ
-class_for entries = if nat_le entries 2 then 0 else (if nat_le entries 14 then 1 else 2)
+class_for entries = if nat_le entries 2 then 0 else (if nat_le entries 12 then 1 else 2)
 
 -- the first small slots have the first branch and the root over it
 abbrev pub branch_slot : Sizes → ℕ

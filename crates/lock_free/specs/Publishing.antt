@@ -4,18 +4,21 @@ use Rattle.machine_model.specs.Beneath.slot_arena.specs.declared.refs.Ref.{Ref}
 use Rattle.machine_model.specs.Beneath.slot_arena.specs.declared.nodes.Node.TheVariants.{Indirection}
 use Rattle.machine_model.specs.Beneath.slot_arena.specs.declared.nodes.Prev.TheVariants as prev
 use Rattle.machine_model.specs.Beneath.slot_arena.specs.declared.nodes.Slot.{Slot}
-use Rattle.machine_model.specs.Beneath.slot_arena.specs.Refs.{slot_of}
+use Rattle.machine_model.specs.Beneath.slot_arena.specs.Refs.{birth_of, slot_of}
 use Rattle.machine_model.specs.Beneath.slot_arena.specs.Heaps.{main_at}
+use Rattle.machine_model.specs.declared.lines.Line.TheVariants as line
+use Rattle.machine_model.specs.declared.lines.Purpose.{Purpose}
 use Rattle.machine_model.specs.declared.operations.Operation.{Operation}
 use Rattle.machine_model.specs.declared.steps.Step.TheVariants as step
 use Rattle.machine_model.specs.Acting.{operation_after}
 use Rattle.machine_model.specs.Machine.{AreBounds}
 use Rattle.machine_model.specs.States.{operation_of}
+use Rattle.machine_model.specs.Swapping.{swapping}
 use Rattle.proof_memory.specs.Wants.{is_main_node}
 use Rattle.lock_free.specs.declared.accounts.Account.{Account}
 use Rattle.lock_free.specs.declared.accounts.Owned.{Owned}
 use Rattle.lock_free.specs.declared.sizes.Sizes.{Sizes}
-use Rattle.lock_free.specs.Accounts.{bounds_for, state_of}
+use Rattle.lock_free.specs.Accounts.{bounds_for, state_of, running}
 use Rattle.lock_free.specs.Live.{IsLive}
 use Rattle.lock_free.specs.Nodes.{IsAhead}
 use Rattle.lock_free.specs.Trying.{SameTries}
@@ -38,10 +41,13 @@ over slot replaced = record slot { prev = prev.Pending replaced }
 -- the operation of this actor swaps the fresh main node in, over the one that stands there
 pub record Publishes (sizes : Sizes) (account after : Account) (actor : ℕ) (operation : Operation) (i a f : Ref) : Type 0 where
   pub bounds : AreBounds (bounds_for sizes after.steps)
+  pub runs : running sizes account actor operation
+  pub on : (why : Purpose) × (operation.line ≡ line.Swap why (swapping i a f))
   pub generation : ℕ
   pub link : Slot
   pub link_is : slice_index_or (state_of sizes account).heap.slots (slot_of i) None ≡ Some link
   pub link_node : link.node ≡ Indirection generation a
+  pub link_birth : link.birth ≡ birth_of i
   pub link_then : slice_index_or (state_of sizes after).heap.slots (slot_of i) None ≡ Some (with_main_of link generation f)
   pub fresh : Slot
   pub fresh_is : slice_index_or (state_of sizes account).heap.slots (slot_of f) None ≡ Some fresh

@@ -1,7 +1,7 @@
 -- The rule: the words say what the definition's machine comes to by a list of its steps, and each seat knows how this list was at its last access, since when its
 -- actor has taken no step.
 use Rattle.history.specs.declared.calls.Call.{Call}
-use Rattle.std.specs.Prelude.{◌≡◌, ℕ, ◌+◌, ◌*◌, ◌<◌, ◌≤◌, ◌≢◌, ◌⊎◌, ◌==◌, Bool, true, false, is_some, if◌then◌else◌, List, [], ◌∷◌, length, Option, Some, None, slice_index, slice_index_or}
+use Rattle.std.specs.Prelude.{◌≡◌, ℕ, ◌+◌, ◌*◌, ◌<◌, ◌≤◌, ◌≢◌, ◌⊎◌, ◌==◌, Bool, true, false, is_some, if◌then◌else◌, List, [], ◌∷◌, ◌++◌, length, Option, Some, None, slice_index, slice_index_or}
 use Rattle.std.specs.Prelude.{Contains, map}
 use mathlib.Core.Option.{some}
 use lib.ListN.{get_elem?}
@@ -15,7 +15,7 @@ use Rattle.lock_free.specs.declared.rules.Pool.{Pool}
 use Rattle.lock_free.specs.declared.rules.Retired.{Retired}
 use Rattle.proof_waiting.specs.Beneath.proof_slots.specs.Unswept.{HasNoSweeps}
 use Rattle.proof_garbage.specs.Grace.{HaveEnded}
-use Rattle.proof_reuse.specs.Laws.{IsGarbage}
+use Rattle.proof_reuse.specs.Laws.{HasReplaced, IsGarbage}
 use Rattle.lock_free.specs.Live.{IsLive}
 use Rattle.machine_model.specs.Beneath.slot_arena.specs.declared.refs.Ref.{Ref}
 use Rattle.machine_model.specs.Beneath.slot_arena.specs.declared.nodes.Slot.{Slot}
@@ -24,15 +24,19 @@ use Rattle.machine_model.specs.Beneath.slot_arena.specs.Heaps.{entries_of}
 use Rattle.machine_model.specs.declared.operations.Operation.{Operation}
 use Rattle.machine_model.specs.Calls.{handle_of}
 use Rattle.machine_model.specs.Keys.{KeysFit}
-use Rattle.machine_model.specs.Machine.{AreBounds}
+use Rattle.machine_model.specs.Machine.{AreBounds, run}
+use Rattle.machine_model.specs.declared.steps.Step.{Step}
+use Rattle.machine_model.specs.declared.steps.Step.TheVariants as step
 use Rattle.machine_model.specs.States.{State, root_at, operation_of, handle_limit}
 use Rattle.lock_free.specs.declared.accounts.Account.{Account}
 use Rattle.lock_free.specs.declared.accounts.Known.{Known}
 use Rattle.lock_free.specs.declared.rules.View.{View}
 use Rattle.lock_free.specs.declared.sizes.Sizes.{Sizes}
+use Rattle.lock_free.specs.Counts.{AreCounted}
 use Rattle.lock_free.specs.Accounts.{bounds_for, state_of, place_at, HasGrown, HasWaited, HasStood, WasRoot}
 use Rattle.lock_free.specs.Fates.{TellsFate}
 use Rattle.lock_free.specs.Nodes.{StandsAs, InTable, AreOwners, class_of}
+use Rattle.lock_free.specs.Owning.{AreOwn, IsOwnBy}
 use Rattle.lock_free.specs.Places.{AreSizes, branch_slot, root_slot, words_of, words_in, IsTaken, HaveTaken, epoch_word, generation_word, pin_word, root_word}
 use Rattle.lock_free.specs.Roots.{MeansRoot, IsWritten, NoOffer, AreMarked, IsPending, fate, undecided}
 
@@ -63,6 +67,7 @@ idle_view sizes actor last account = record {
   pool = record { small = []; medium = []; wide = [] };
   drafts = [];
   retired = [];
+  owed = [];
   heard = [];
 }
 
@@ -94,6 +99,7 @@ pub record NodesStand (sizes : Sizes) (account : Account) (stands : Standing) (w
   -- the slot of what is in use is one of the table, whether it stands there still or not
   pub inside : (k : ℕ) (slot : Slot) → slice_index_or (state_of sizes account).heap.slots k None ≡ Some slot → 2 * place_at account k + words_in (class_of slot.node) ≤ words_of sizes
   pub owners : AreOwners account (state_of sizes account)
+  pub owned : AreOwn sizes account
   -- what a root or an operation leads to stands there
   pub live : (r : Ref) → IsLive (state_of sizes account) r → stands (slot_of r) ≡ true
   -- and what was a root once
@@ -177,11 +183,22 @@ pub record Names (words : List ℕ) (v : View) (handle slot : ℕ) : Type 0 wher
 
 -- ---- slots that were retired
 
+-- The node was an indirection's own main node, in whose place a SWAP put another one; the last step of this SWAP retired it.
+pub record WasReplaced (sizes : Sizes) (x : Retired) (m : Ref) : Type 0 where
+  pub before : List Step
+  pub actor : ℕ
+  pub goes_on : x.account.steps ≡ before ++ step.Go actor ∷ []
+  pub link : Ref
+  pub fresh : Ref
+  pub replaced : HasReplaced (run (bounds_for sizes before) before) actor link m fresh
+  pub own : IsOwnBy sizes x.account (slot_of link) (slot_of m)
+
 -- when the seat retired the slot its node was garbage, and stood there
 pub record WasGarbage (sizes : Sizes) (x : Retired) : Type 0 where
   pub node : Ref
   pub number : slot_of node ≡ x.number
   pub garbage : IsGarbage (state_of sizes x.account) node
+  pub replaced : WasReplaced sizes x node
   -- roots aren't retired: who has found one may look at it later
   pub unrooted : ¬ WasRoot sizes x.account node
   pub slot : Slot
@@ -326,4 +343,5 @@ pub record IsRuled (sizes : Sizes) (s : Table.State Call View) : Type 0 where
   pub kept : IsKept sizes s
   pub epochs : AreEpochs s.words s.views
   pub retired : AreRetired sizes s.words s.views
+  pub counted : AreCounted sizes s.words s.views
   pub heard : (id : ℕ) (v : View) → get_elem? s.views id ≡ some v → (h : Heard) → Contains v.heard h → WasGivenUp s.views h

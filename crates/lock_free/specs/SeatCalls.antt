@@ -52,11 +52,12 @@ abbrev pub IsTold : {A : Type 0} → (A → Reply) → View → Call → Result 
 IsTold {A} reply_of before call (Ok told) after = HasAnswered before call None (reply_of told) after
 IsTold {A} reply_of before call (Err why) after = WasRefused before call None why after
 
--- why an operation has given up: no slot was had, or it is out of tries
-abbrev pub LacksSlots : CallError → Type 0
-LacksSlots error.Full = Unit {0}
-LacksSlots error.Spent = Unit {0}
-LacksSlots why = ⊥
+-- why an operation has given up: no slot or no generation was had, or it is out of tries
+abbrev pub IsLack : CallError → Type 0
+IsLack error.Full = Unit {0}
+IsLack error.WornOut = Unit {0}
+IsLack error.Spent = Unit {0}
+IsLack why = ⊥
 
 -- what the caller is told of this reply, with what was lacked where that is a refusal
 abbrev pub told_by : Reply → CallError → Result Reply CallError

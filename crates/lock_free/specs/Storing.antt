@@ -19,7 +19,8 @@ use Rattle.lock_free.specs.declared.stores.Tried.TheVariants as tried
 use Rattle.lock_free.specs.Loading.{now, seen, IsAt, IsUsed, IsSound, Waited, Took}
 use Rattle.lock_free.specs.Making.{over_of, with_draft, with_slot, Drafted, DraftsNode, made_by}
 use Rattle.lock_free.specs.Nodes.{class_of}
-use Rattle.lock_free.specs.Places.{words_in, words_of, part_of, taken_word}
+use Rattle.lock_free.specs.Owning.{MayOwn}
+use Rattle.lock_free.specs.Places.{stride, words_in, words_of, part_of, taken_word}
 use Rattle.lock_free.specs.Rules.{IsFree, pool_of}
 
 -- ---- a word of a free slot is written
@@ -41,7 +42,7 @@ with_free v class name = record v { pool = with_slot v.pool class name }
 
 -- the slot of this number in its class's part
 abbrev pub IsSlotOf : View → ℕ → ℕ → ℕ → Type 0
-IsSlotOf v class number name = 2 * name ≡ part_of v.sizes class + words_in class * number
+IsSlotOf v class number name = 2 * name ≡ part_of v.sizes class + stride class * number
 
 abbrev pub has_taken : Step Call → Me Call View → ℕ → Me Call View → Type 0
 has_taken step before found after =
@@ -63,6 +64,7 @@ pub record Writes (v : View) (line : Line) (word value : ℕ) (node : Node) (res
   pub low : 2 * name ≤ word
   pub high : word < 2 * name + words_in (class_of node)
   pub drafts : DraftsNode v.account (now v).heap (over_of line) (Drafted v.drafts word value) name own node
+  pub owns : MayOwn line node own
 
 -- the next step makes it
 abbrev pub IsAtMake : View → ℕ → ℕ → Type 0
@@ -95,19 +97,20 @@ has_made step before found after =
 -- ---- the root of a copy is made
 
 -- The seat has written the indirection in the last of its free slots, with this generation: it is made where that is the next one to be given out.
-pub record WritesRoot (v : View) (generation : ℕ) (main : Ref) (rest : List ℕ) (name : ℕ) (own : Bool) : Type 0 where
+pub record WritesRoot (v : View) (line : Line) (generation : ℕ) (main : Ref) (rest : List ℕ) (name : ℕ) (own : Bool) : Type 0 where
   pub last : pool_of v.pool 0 ≡ rest ++ name ∷ []
   pub small : generation < 2 ^ 36
   pub drafts : Contains v.drafts (2 * name, link_code (record { generation = generation; main = record { slot = place_of v.account main; own = own } }))
   pub used : (slot : Slot) × IsUsed v main slot
+  pub owns : MayOwn line (Indirection generation main) own
 
 abbrev pub IsAtMakeRoot : View → ℕ → Type 0
-IsAtMakeRoot v generation = (main : Ref) × (rest : List ℕ) × (name : ℕ) × (own : Bool) × IsAt v (act.MakeRoot main) × WritesRoot v generation main rest name own
+IsAtMakeRoot v generation = (main : Ref) × (rest : List ℕ) × (name : ℕ) × (own : Bool) × (p : IsAt v (act.MakeRoot main)) × WritesRoot v p.operation.line generation main rest name own
 
 -- it was made, where that was the next generation, or nothing has happened
 abbrev pub IsRootMade : View → ℕ → Account → View → Type 0
 IsRootMade before generation account after =
-    (main : Ref) × (rest : List ℕ) × (name : ℕ) × (own : Bool) × IsAt before (act.MakeRoot main) × WritesRoot before generation main rest name own
+    (main : Ref) × (rest : List ℕ) × (name : ℕ) × (own : Bool) × (p : IsAt before (act.MakeRoot main)) × WritesRoot before p.operation.line generation main rest name own
     × (after ≡ made_by before 0 name rest own (Indirection generation main) account) × IsAdded before account (Indirection generation main) after
     × ((now (seen before account)).generations ≡ generation)
 

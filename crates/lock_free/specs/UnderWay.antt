@@ -14,7 +14,7 @@ use Rattle.lock_free.specs.Attempts.{HasEndedWith}
 use Rattle.lock_free.specs.Loading.{IsAt, IsSound}
 use Rattle.lock_free.specs.Parking.{IsParked}
 use Rattle.lock_free.specs.RunningOn.{RunsOn}
-use Rattle.lock_free.specs.SeatCalls.{told_by, IsNoRefusal, IsTold, LacksSlots}
+use Rattle.lock_free.specs.SeatCalls.{told_by, IsLack, IsNoRefusal, IsTold}
 use Rattle.lock_free.specs.SeatWords.{HasEnded}
 use Rattle.lock_free.specs.Seated.{HasActors}
 use Rattle.lock_free.specs.Seeking.{IsCalled}
@@ -37,7 +37,7 @@ HasRunOn v result after = (before : View) (call : Call) → IsUnderWay before ca
 
 -- its operation has ended, and this is told of it
 abbrev pub HasFinished : View → Result Reply CallError → View → Type 0
-HasFinished v told after = (answer : Reply) × (lack : CallError) × LacksSlots lack × (told ≡ told_by answer lack) × HasEndedWith v answer after
+HasFinished v told after = (answer : Reply) × (lack : CallError) × IsLack lack × (told ≡ told_by answer lack) × HasEndedWith v answer after
 
 -- or it is where it was
 abbrev pub HasComeOut : View → Access → Ran → View → Type 0

@@ -91,12 +91,6 @@ abbrev pub IsToldCopy : View → Call → Result ℕ CallError → View → Type
 IsToldCopy before call (Ok number) after = HasAnswered before call (Some number) (reply.Opened number) after
 IsToldCopy before call (Err why) after = WasRefusedCopy before call why after
 
--- why a copy wasn't made that had begun
-abbrev pub IsLack : CallError → Type 0
-IsLack error.Full = Unit {0}
-IsLack error.WornOut = Unit {0}
-IsLack why = ⊥
-
 -- ---- a walk
 
 -- the operation of a call of this kind is to begin with the root

@@ -8,9 +8,9 @@ ghost use Rattle.lock_free.specs.Holding.{IsOn};
 ghost use Rattle.lock_free.specs.declared.attempts.Attempt.TheVariants as attempt;
 ghost use Rattle.lock_free.specs.declared.descending.Update.TheVariants as update;
 ghost use Rattle.lock_free.specs.declared.parking.Came.TheVariants as came;
-ghost use Rattle.lock_free.specs.Attempts.{attempted, HasAttempted, IsToChange, IsToClimb};
+ghost use Rattle.lock_free.specs.Attempts.{attempted, HasAttempted, IsSought, IsToChange, IsToClimb};
 ghost use Rattle.lock_free.specs.Loading.{IsSound};
-ghost use Rattle.lock_free.specs.Parking.{HasRunTo, IsOwnLeft, left_so};
+ghost use Rattle.lock_free.specs.Parking.{HasRunTo};
 ghost use Rattle.lock_free.specs.RunningOn.{MayAnswer};
 ghost use Rattle.lock_free.specs.Seeking.{IsCalled};
 ghost use Rattle.lock_free.specs.Stocks.{IsStock};
@@ -22,9 +22,8 @@ use crate::cleaning::single_in;
 use crate::climbs::climb_within;
 use crate::descending::{Path, Update};
 use crate::key_tries::try_key_within;
-use crate::leaving::Left;
 use crate::loads::{Actor, Words};
-use crate::parking::{Came, Parked};
+use crate::parking::{Came, Parked, left_so};
 use crate::reading::Given;
 use crate::seeking::Sought;
 use crate::stock::Stock;
@@ -309,15 +308,33 @@ fn change(
     }
 }
 
-/// What a try comes to that is out of tries, or has no slot.
-fn left_so(left: Left) -> Came
-    requires { IsOwnLeft left }
-    ensures { result ≡ left_so left }
+/// Makes of a try what its way has come to, at the end of this path.
+pub(crate) fn conclude(
+    tries: u64,
+    words: &Words,
+    actor: &mut Actor,
+    stock: &mut Stock,
+    path: &Path,
+    task: &Task,
+    sought: Sought,
+) -> Attempt
+    requires table { actor.old.table_id ≡ words.now.table_id }
+    requires sound { IsSound words.now.table_id.words actor.old.me.0 }
+    requires stock { IsStock stock.old actor.old.me.0 }
+    requires small { task.now.start < 2 ^ 36 }
+    requires at { IsSought actor.old.me.0 path.now.items task.now sought }
+    ensures table { actor.new.table_id ≡ actor.old.table_id }
+    ensures sound { IsSound words.now.table_id.words actor.new.me.0 }
+    ensures stock { IsStock stock.new actor.new.me.0 }
+    ensures attempted { HasAttempted actor.old.me.0 result actor.new.me.0 }
 {
-    match left {
-        Left::MayGiveUp => Came::Spent,
-        Left::Swapping(swapping) => Came::Parked(Parked::Repairs(swapping)),
-        Left::Completing(_) => unreachable!(),
+    match sought {
+        Sought::Answers(reply) => Attempt::Comes(Came::Answered(reply)),
+        Sought::Changes { update, given } => change(
+            tries, words, actor, stock, task, path, given, update,
+        ),
+        Sought::Again => Attempt::Again,
+        Sought::Full => Attempt::Comes(Came::Spent),
     }
 }
 
@@ -343,19 +360,9 @@ fn try_once(
     ensures attempted { HasAttempted actor.old.me.0 result actor.new.me.0 }
 {
     let hashes = stock.sizes().hash;
-    let (task, sought) = match try_key_within(
-        tries, words, actor, stock, call, access, hashes, path,
-    ) {
-        Ok(tried) => tried,
-        Err(left) => return Attempt::Comes(left_so(left)),
-    };
-    match sought {
-        Sought::Answers(reply) => Attempt::Comes(Came::Answered(reply)),
-        Sought::Changes { update, given } => change(
-            tries, words, actor, stock, &task, path, given, update,
-        ),
-        Sought::Again => Attempt::Again,
-        Sought::Full => Attempt::Comes(Came::Spent),
+    match try_key_within(tries, words, actor, stock, call, access, hashes, path) {
+        Ok((task, sought)) => conclude(tries, words, actor, stock, path, &task, sought),
+        Err(left) => Attempt::Comes(left_so(left)),
     }
 }
 

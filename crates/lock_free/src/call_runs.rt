@@ -1,22 +1,26 @@
 //! Whole calls on keys, and clears, in a number of tries.
 
-ghost use Rattle.std.specs.Prelude.{◌≡◌, ◌≤◌, None};
+ghost use Rattle.std.specs.Prelude.{◌≡◌, ◌<◌, ◌≤◌, None};
 ghost use Rattle.lock_free.specs.declared.call_runs.Ran.TheVariants as ran;
 ghost use Rattle.lock_free.specs.Attempts.{IsEnding, IsKeyed, IsTried};
+ghost use Rattle.lock_free.specs.Calling.{IsRunning};
 ghost use Rattle.lock_free.specs.Loading.{IsSound};
 ghost use Rattle.lock_free.specs.Parking.{IsCome};
-ghost use Rattle.lock_free.specs.SeatCalls.{told_by, IsNoRefusal, IsTold, LacksSlots};
+ghost use Rattle.lock_free.specs.SeatCalls.{told_by, IsLack, IsNoRefusal, IsTold};
+ghost use Rattle.lock_free.specs.Seeking.{IsCalled};
 ghost use Rattle.lock_free.specs.Stocks.{IsStock};
 ghost use Rattle.lock_free.specs.UnderWay.{HasComeOut, HasFinished, HasLeftBy, HasRun, HasRunOn, IsGoing};
 ghost use Rattle.lock_free.specs.WholeCalls.{HasLeft, RestsWith};
 
 use crate::call_errors::CallError;
 use crate::calling::start_within;
-use crate::copy_runs::run_tried;
+use crate::copy_roots::GENERATIONS;
+use crate::copy_runs::{is_copy, run_tried};
 use crate::loads::{Actor, Words};
 use crate::parking::{Came, Parked, go_on};
 use crate::seating::end_with;
 use crate::stock::Stock;
+use crate::stores::GENERATION;
 use history::{Access, Call, Reply};
 use std::sync::Wait;
 
@@ -46,23 +50,27 @@ fn told_by(reply: Reply, lack: CallError) -> Result<Reply, CallError>
     }
 }
 
-/// Why an operation has given up.
-fn lack_of(stock: &Stock) -> CallError
-    ensures { LacksSlots result }
+/// What an operation of this call lacked that has given up.
+pub(crate) fn lack_of(words: &Words, stock: &Stock, call: Call) -> CallError
+    requires { 16 < words.now.table_id.words }
+    ensures { IsLack result }
 {
     if stock.lacks() {
         CallError::Full
+    } else if is_copy(call) && words.peek(GENERATION) >= GENERATIONS {
+        CallError::WornOut
     } else {
         CallError::Spent
     }
 }
 
-/// Ends the operation of this seat, `seat`, with this reply, or as one that gives up.
+/// Ends the operation of this call by this seat, `seat`, with this reply, or as one that gives up.
 fn finish_call(
     words: &Words,
     actor: &mut Actor,
     stock: &mut Stock,
     seat: u8,
+    call: Call,
     answered: Option<Reply>,
 ) -> Result<Reply, CallError>
     requires table { actor.old.table_id ≡ words.now.table_id }
@@ -77,15 +85,16 @@ fn finish_call(
     ensures finished { HasFinished actor.old.me.0 result actor.new.me.0 }
 {
     let reply = end_with(words, actor, stock, seat, answered);
-    told_by(reply, lack_of(stock))
+    told_by(reply, lack_of(words, stock, call))
 }
 
-/// Ends the operation of this seat, `seat`, on a handle that allows this, unless something of it is under way.
+/// Ends the operation of this call by this seat, `seat`, on a handle that allows this, unless something of it is under way.
 fn come_out(
     words: &Words,
     actor: &mut Actor,
     stock: &mut Stock,
     seat: u8,
+    call: Call,
     access: Access,
     came: Came,
 ) -> Ran
@@ -101,8 +110,11 @@ fn come_out(
     ensures out { HasComeOut actor.old.me.0 access result actor.new.me.0 }
 {
     match came {
-        Came::Answered(reply) => Ran::Told(finish_call(words, actor, stock, seat, Some(reply))),
-        Came::Spent => Ran::Told(finish_call(words, actor, stock, seat, None)),
+        Came::Answered(reply) => {
+            let answered = Some(reply);
+            Ran::Told(finish_call(words, actor, stock, seat, call, answered))
+        }
+        Came::Spent => Ran::Told(finish_call(words, actor, stock, seat, call, None)),
         Came::Parked(parked) => Ran::UnderWay(access, parked),
     }
 }
@@ -139,7 +151,7 @@ pub(crate) fn run_within(
         Err(denial) => return Ran::Told(Err(CallError::from(denial))),
     };
     let came = run_tried(tries, words, actor, stock, call, way);
-    come_out(words, actor, stock, seat, way.access, came)
+    come_out(words, actor, stock, seat, call, way.access, came)
 }
 
 /// What is under way of a call by this seat, `seat`, goes on in so many tries.
@@ -166,7 +178,7 @@ pub(crate) fn run_on_within(
     ensures left { HasLeftBy actor.old.me.0 call result actor.new.me.0 }
 {
     let came = go_on(tries, words, actor, call, access, parked);
-    come_out(words, actor, stock, seat, access, came)
+    come_out(words, actor, stock, seat, call, access, came)
 }
 
 /// The same, until the call is over.
@@ -203,6 +215,40 @@ fn run_on<R: Wait>(
         }
     }
     unreachable!()
+}
+
+/// A call whose tries have come to this is brought to its end, as long as it takes.
+pub(crate) fn end_call<R: Wait>(
+    rt: &R,
+    words: &Words,
+    actor: &mut Actor,
+    stock: &mut Stock,
+    seat: u8,
+    call: Call,
+    access: Access,
+    came: Came,
+) -> Result<Reply, CallError>
+    requires table { actor.old.table_id ≡ words.now.table_id }
+    requires sound { IsSound words.now.table_id.words actor.old.me.0 }
+    requires stock { IsStock stock.old actor.old.me.0 }
+    requires its { actor.old.me.0.actor ≡ seat }
+    requires few { actor.old.me.0.actor ≤ actor.old.me.0.sizes.seats }
+    requires running { IsRunning actor.old.me.0 }
+    requires called { IsCalled actor.old.me.0 call access }
+    requires none { actor.old.me.0.opens ≡ None }
+    requires come { IsCome actor.old.me.0 came }
+    ensures table { actor.new.table_id ≡ actor.old.table_id }
+    ensures sound { IsSound words.now.table_id.words actor.new.me.0 }
+    ensures stock { IsStock stock.new actor.new.me.0 }
+    ensures run { HasRunOn actor.old.me.0 (ran.Told result) actor.new.me.0 }
+    ensures left { HasLeft actor.old.me.0 actor.new.me.0 }
+{
+    match come_out(words, actor, stock, seat, call, access, came) {
+        Ran::Told(told) => told,
+        Ran::UnderWay(allowed, parked) => run_on(
+            rt, words, actor, stock, seat, call, allowed, parked,
+        ),
+    }
 }
 
 /// A call on a key by this seat, `seat`, as long as it takes.

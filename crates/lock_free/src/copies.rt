@@ -9,10 +9,10 @@ ghost use Rattle.lock_free.specs.Stocks.{IsStock};
 
 use crate::copy_roots::CopyKind;
 use crate::copying::{Copied, open_copy, prepare};
-use crate::leaving::{Completing, Left, read_on};
+use crate::leaving::{Completing, Left};
 use crate::loads::{Actor, Words};
 use crate::offers::see_olds;
-use crate::reading::{Given, Passed, ReadFrom, Way};
+use crate::reading::{Given, Passed, ReadFrom, Way, read_on};
 use crate::root_offers::offer_within;
 use crate::rooting::{complete_on, root_within};
 use crate::stock::Stock;

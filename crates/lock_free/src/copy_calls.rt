@@ -9,20 +9,19 @@ ghost use Rattle.lock_free.specs.Loading.{IsSound};
 ghost use Rattle.lock_free.specs.Passing.{IsOnWay};
 ghost use Rattle.lock_free.specs.SeatCalls.{IsTold};
 ghost use Rattle.lock_free.specs.Stocks.{IsStock};
-ghost use Rattle.lock_free.specs.WholeCalls.{HasCopiedOnce, HasLeft, IsCopyCall, IsLack, IsToldCopy, RestsWith};
+ghost use Rattle.lock_free.specs.WholeCalls.{HasCopiedOnce, HasLeft, IsCopyCall, IsToldCopy, RestsWith};
 
 use crate::call_errors::CallError;
-use crate::call_runs::{EPOCH, HANDLES};
+use crate::call_runs::{EPOCH, HANDLES, lack_of};
 use crate::calling::{Denial, start};
 use crate::copies::{copy_on, make_copy_within};
-use crate::copy_roots::{CopyKind, GENERATIONS};
+use crate::copy_roots::CopyKind;
 use crate::leaving::Left;
 use crate::loads::{Actor, Words};
 use crate::numbers::{give_back, reserve};
 use crate::reading::Way;
 use crate::seating::{Seat, end, refuse};
 use crate::stock::Stock;
-use crate::stores::GENERATION;
 use history::Call;
 use std::sync::Wait;
 
@@ -66,7 +65,7 @@ fn copy_through<R: Wait>(
 }
 
 /// A copy or a clear as a whole, for which this seat, `seat`, has reserved the number of the handle that it opens, if it opens one.
-/// Returns whether it was made: then the number isn't the seat's any more. Else a slot was missing, or a generation.
+/// Returns whether it was made: then the number isn't the seat's any more. Else a slot was missing, or a generation, or it was out of tries.
 fn copy_once<R: Wait>(
     rt: &R,
     words: &Words,
@@ -90,6 +89,7 @@ fn copy_once<R: Wait>(
     ensures stock { IsStock stock.new actor.new.me.0 }
     ensures copied { HasCopiedOnce actor.old.me.0 call.now opens result actor.new.me.0 }
 {
+    stock.begin();
     let way = match start(rt, words, actor, seat, EPOCH, call) {
         Ok(way) => way,
         Err(denial) => return Err(denial),
@@ -101,18 +101,6 @@ fn copy_once<R: Wait>(
         refuse(words, actor, stock, seat);
     }
     Ok(made)
-}
-
-/// Why a copy or a clear wasn't made that had begun.
-fn lack(words: &Words) -> CallError
-    requires { 16 < words.now.table_id.words }
-    ensures { IsLack result }
-{
-    if words.peek(GENERATION) < GENERATIONS {
-        CallError::Full
-    } else {
-        CallError::WornOut
-    }
 }
 
 /// A copy, by this seat, `seat`. Returns the handle that it opens.
@@ -147,7 +135,7 @@ fn open_copy<R: Wait>(
     let opens = Some(number);
     let error = match copy_once(rt, words, actor, stock, seat, call, which, opens) {
         Ok(true) => return Ok(number),
-        Ok(false) => lack(words),
+        Ok(false) => lack_of(words, stock, *call),
         Err(denial) => CallError::from(denial),
     };
     give_back(words, actor, number);
@@ -182,7 +170,7 @@ fn clear_all<R: Wait>(
     let which = CopyKind::Clear;
     match copy_once(rt, words, actor, stock, seat, &call, which, None) {
         Ok(true) => Ok(()),
-        Ok(false) => Err(lack(words)),
+        Ok(false) => Err(lack_of(words, stock, call)),
         Err(denial) => Err(CallError::from(denial)),
     }
 }
@@ -194,7 +182,7 @@ impl Seat {
     ///
     /// # Errors
     ///
-    /// `NoHandle`, `ReadOnly`, `HandlesFull`, `Full` and `WornOut`.
+    /// `NoHandle`, `ReadOnly`, `HandlesFull`, `Full` and `WornOut`; and `Spent`, after 2^64 - 1 tries alone.
     pub fn snapshot<R: Wait>(
         &mut self,
         rt: &R,
@@ -215,7 +203,7 @@ impl Seat {
     ///
     /// # Errors
     ///
-    /// `NoHandle`, `ReadOnly`, `HandlesFull`, `Full` and `WornOut`.
+    /// `NoHandle`, `ReadOnly`, `HandlesFull`, `Full` and `WornOut`; and `Spent`, after 2^64 - 1 tries alone.
     pub fn freeze<R: Wait>(&mut self, rt: &R, words: &Words, handle: u16) -> Result<u16, CallError>
         requires table { self.old.table ≡ words.now.table_id }
         ensures seat { HasGoneOn self.old self.new }
@@ -231,7 +219,7 @@ impl Seat {
     ///
     /// # Errors
     ///
-    /// `NoHandle`, `ReadOnly`, `Full` and `WornOut`.
+    /// `NoHandle`, `ReadOnly`, `Full` and `WornOut`; and `Spent`, after 2^64 - 1 tries alone.
     pub fn clear<R: Wait>(&mut self, rt: &R, words: &Words, handle: u16) -> Result<(), CallError>
         requires table { self.old.table ≡ words.now.table_id }
         ensures seat { HasGoneOn self.old self.new }

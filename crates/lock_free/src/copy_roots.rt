@@ -44,7 +44,7 @@ fn try_roots(tries: u64, words: &Words, actor: &mut Actor, slot: u32, main: Name
     requires table { actor.old.table_id ≡ words.now.table_id }
     requires sound { IsSound words.now.table_id.words actor.old.me.0 }
     requires last { (rest : List ℕ) × (pool_of actor.old.me.0.pool 0 ≡ rest ++ slot ∷ []) }
-    requires making { IsAtNewRoot actor.old.me.0 main.slot }
+    requires making { IsAtNewRoot actor.old.me.0 main }
     ensures table { actor.new.table_id ≡ actor.old.table_id }
     ensures sound { IsSound words.now.table_id.words actor.new.me.0 }
     ensures tried { HasTriedRoot actor.old.me.0 result actor.new.me.0 }
@@ -74,7 +74,7 @@ fn make_new_root(
     requires table { actor.old.table_id ≡ words.now.table_id }
     requires sound { IsSound words.now.table_id.words actor.old.me.0 }
     requires stock { IsStock stock.old actor.old.me.0 }
-    requires making { IsAtNewRoot actor.old.me.0 main.slot }
+    requires making { IsAtNewRoot actor.old.me.0 main }
     ensures table { actor.new.table_id ≡ actor.old.table_id }
     ensures sound { IsSound words.now.table_id.words actor.new.me.0 }
     ensures stock { IsStock stock.new actor.new.me.0 }

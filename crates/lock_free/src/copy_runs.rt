@@ -141,7 +141,7 @@ pub(crate) fn run_copy(
 }
 
 /// Whether the call is a copy or a clear.
-fn is_copy(call: Call) -> bool
+pub(crate) fn is_copy(call: Call) -> bool
     ensures { result ≡ copies call }
 {
     matches!(

@@ -7,10 +7,8 @@ ghost use Rattle.lock_free.specs.LinkReads.{HasReadOn};
 ghost use Rattle.lock_free.specs.Loading.{IsSound};
 ghost use Rattle.lock_free.specs.Passing.{IsOnWay};
 
-use crate::leaving::read_first;
-use crate::licensing::LimitedAsker;
 use crate::loads::{Actor, Words, look_at_key, look_at_link, look_at_main, look_at_value, see_key};
-use crate::reading::{Given, Passed, ReadFrom, Way, read_link_within};
+use crate::reading::{Given, Passed, ReadFrom, Way, read_first, read_link_within};
 use nodes::{has_flag, position_of};
 use trie_words::{Link, Shape};
 
@@ -142,8 +140,7 @@ pub fn read_link_turn_within(
     ensures turned { OrSpent (λ read. HasReadOn actor.old.me.0 read actor.new.me.0) result actor.old.me.0 actor.new.me.0 }
     ensures within { IfSome result (λ read. IsWithin read.1) }
 {
-    let asker = LimitedAsker::new(tries);
-    let Some(link) = read_link_within(&asker, words, actor, way, indirection, tries) else {
+    let Some(link) = read_link_within(tries, words, actor, way, indirection) else {
         return None;
     };
     let turn = turn_at(words, actor, link.main.slot, flag);

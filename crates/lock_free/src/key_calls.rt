@@ -4,26 +4,16 @@ ghost use Rattle.std.specs.Prelude.{◌≡◌, IfOk};
 ghost use Rattle.history.specs.declared.calls.Call.TheVariants.{Get, Put, PutIfAbsent, Remove, RemoveIf, Replace, ReplaceIf};
 ghost use Rattle.history.specs.declared.replies.Reply.TheVariants as reply;
 ghost use Rattle.lock_free.specs.Attempts.{IsKeyed};
-ghost use Rattle.lock_free.specs.KeyReplies.{FitsCall, TellsTruth, TellsValue};
+ghost use Rattle.lock_free.specs.KeyReplies.{FitsCall, TellsTruth};
 
 use crate::call_errors::CallError;
 use crate::call_runs::run;
+use crate::get_runs::{run_get, value_in};
 use crate::laws::seats_are_explained;
 use crate::loads::Words;
 use crate::seating::Seat;
 use history::{Call, Reply};
 use std::sync::Wait;
-
-/// The value in the reply to a call on a key that is answered by one.
-fn value_in(answer: Reply) -> Option<u64>
-    requires { TellsValue answer }
-    ensures { answer ≡ reply.Found result }
-{
-    match answer {
-        Reply::Found(value) => value,
-        _ => unreachable!(),
-    }
-}
 
 /// Whether the value was the one asked for, by the reply to a call that asks so.
 fn truth_in(answer: Reply) -> bool
@@ -62,7 +52,7 @@ impl Seat {
     ///
     /// # Errors
     ///
-    /// `NoHandle`; and `Full`, where the way to the key has to be renewed first.
+    /// `NoHandle`; and `Full`, where the way to the key has to be renewed first; and `Spent`, after 2^64 - 1 tries alone.
     pub fn get<R: Wait>(
         &mut self,
         rt: &R,
@@ -74,14 +64,15 @@ impl Seat {
         ensures seat { HasGoneOn self.old self.new }
         ensures told { IsTold reply.Found self.old.view (Get handle key) result self.new.view }
     {
-        Ok(value_in(self.call_key(rt, words, Call::Get { handle, key })?))
+        let (actor, stock) = (&mut self.actor, &mut self.stock);
+        run_get(rt, words, actor, stock, self.number, handle, key)
     }
 
     /// Whether this key has a value.
     ///
     /// # Errors
     ///
-    /// `NoHandle`; and `Full`, where the way to the key has to be renewed first.
+    /// `NoHandle`; and `Full`, where the way to the key has to be renewed first; and `Spent`, after 2^64 - 1 tries alone.
     pub fn contains<R: Wait>(
         &mut self,
         rt: &R,
@@ -100,7 +91,7 @@ impl Seat {
     ///
     /// # Errors
     ///
-    /// `NoHandle`, `ReadOnly`, `Crowded` and `Full`.
+    /// `NoHandle`, `ReadOnly`, `Crowded` and `Full`; and `Spent`, after 2^64 - 1 tries alone.
     pub fn put<R: Wait>(
         &mut self,
         rt: &R,
@@ -120,7 +111,7 @@ impl Seat {
     ///
     /// # Errors
     ///
-    /// `NoHandle`, `ReadOnly`, `Crowded` and `Full`.
+    /// `NoHandle`, `ReadOnly`, `Crowded` and `Full`; and `Spent`, after 2^64 - 1 tries alone.
     pub fn put_if_absent<R: Wait>(
         &mut self,
         rt: &R,
@@ -140,7 +131,7 @@ impl Seat {
     ///
     /// # Errors
     ///
-    /// `NoHandle`, `ReadOnly` and `Full`.
+    /// `NoHandle`, `ReadOnly` and `Full`; and `Spent`, after 2^64 - 1 tries alone.
     pub fn replace<R: Wait>(
         &mut self,
         rt: &R,
@@ -160,7 +151,7 @@ impl Seat {
     ///
     /// # Errors
     ///
-    /// `NoHandle`, `ReadOnly` and `Full`.
+    /// `NoHandle`, `ReadOnly` and `Full`; and `Spent`, after 2^64 - 1 tries alone.
     pub fn replace_if<R: Wait>(
         &mut self,
         rt: &R,
@@ -187,7 +178,7 @@ impl Seat {
     ///
     /// # Errors
     ///
-    /// `NoHandle`, `ReadOnly` and `Full`.
+    /// `NoHandle`, `ReadOnly` and `Full`; and `Spent`, after 2^64 - 1 tries alone.
     pub fn remove<R: Wait>(
         &mut self,
         rt: &R,
@@ -206,7 +197,7 @@ impl Seat {
     ///
     /// # Errors
     ///
-    /// `NoHandle`, `ReadOnly` and `Full`.
+    /// `NoHandle`, `ReadOnly` and `Full`; and `Spent`, after 2^64 - 1 tries alone.
     pub fn remove_if<R: Wait>(
         &mut self,
         rt: &R,

@@ -8,7 +8,6 @@ ghost use Rattle.lock_free.specs.Passing.{HasAskedAgain, HasAskedOrNot, IsAsking
 use crate::asking::{Named, ask_word, see_generation};
 use crate::loads::{Actor, Words};
 use crate::offers::{Fate, abort, meet_offer};
-use crate::reading::AsksRoot;
 use crate::rooting::clean_settled;
 
 /// Takes the offer in this slot back, if it stands still, and out of the word of its handle, if it is settled.
@@ -31,7 +30,7 @@ fn put_aside(words: &Words, actor: &mut Actor, handle: u16, offer: u32)
 }
 
 /// The generation of the root of this handle, once no offer stands there, within so many looks: none where it is still to be asked.
-fn ask_within(tries: u64, words: &Words, actor: &mut Actor, handle: u16) -> Option<u64>
+pub fn ask_within(tries: u64, words: &Words, actor: &mut Actor, handle: u16) -> Option<u64>
     requires table { actor.old.table_id ≡ words.now.table_id }
     requires sound { IsSound words.now.table_id.words actor.old.me.0 }
     requires asking { IsAsking actor.old.me.0 handle }
@@ -47,23 +46,4 @@ fn ask_within(tries: u64, words: &Words, actor: &mut Actor, handle: u16) -> Opti
         }
     }
     None
-}
-
-/// What tells a READ the generation of its handle's root, within so many looks.
-#[derive(Clone, Copy, Drop)]
-pub struct LimitedAsker {
-    tries: u64,
-}
-
-impl LimitedAsker {
-    /// One that looks so often at most.
-    pub fn new(tries: u64) -> Self {
-        LimitedAsker { tries }
-    }
-}
-
-impl AsksRoot for LimitedAsker {
-    fn ask(&self, words: &Words, actor: &mut Actor, handle: u16) -> Option<u64> {
-        ask_within(self.tries, words, actor, handle)
-    }
 }

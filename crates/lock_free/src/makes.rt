@@ -1,11 +1,12 @@
 //! Nodes of an operation's own: each is written in a slot of its seat's own, and then made.
 
-ghost use Rattle.std.specs.Prelude.{◌≡◌, ◌<◌, ◌^◌, ◌≤◌, length};
+ghost use Rattle.std.specs.Prelude.{◌≡◌, ◌<◌, ◌^◌, ◌≤◌, length, true};
 ghost use Rattle.machine_model.specs.declared.actions.Action.TheVariants as act;
 ghost use Rattle.machine_model.specs.Beneath.slot_arena.specs.declared.refs.Ref.{Ref as ARef};
 ghost use Rattle.machine_model.specs.Beneath.slot_arena.specs.declared.nodes.Node.TheVariants.{Indirection, Single, Tomb};
 ghost use Rattle.lock_free.specs.Halves.{entries_of_halves, AreHalves};
 ghost use Rattle.lock_free.specs.Loading.{IsAt, IsSound};
+ghost use Rattle.lock_free.specs.Owning.{IsBuilding};
 ghost use Rattle.lock_free.specs.Passing.{IsPlaced};
 ghost use Rattle.lock_free.specs.Places.{class_for};
 ghost use Rattle.lock_free.specs.SeenEntries.{half_at, HasMadeNext, HasWritten, IsAtBranch, IsAtList, IsAtMain, IsOver, IsOwnSlot};
@@ -24,7 +25,7 @@ fn class_for(entries: usize) -> u32
 {
     match entries {
         0..=2 => 0,
-        3..=14 => 1,
+        3..=12 => 1,
         _ => 2,
     }
 }
@@ -54,8 +55,8 @@ pub fn make_single(
     Some(slot)
 }
 
-/// Makes an indirection of this generation, to the main node of this name. Returns its slot, or none where no slot is had: then
-/// nothing has changed.
+/// Makes an indirection of this generation, to the main node of this name, which is its own only where the operation has made that one
+/// too. Returns its slot, or none where no slot is had: then nothing has changed.
 pub fn make_link(
     tries: u64,
     words: &Words,
@@ -68,7 +69,7 @@ pub fn make_link(
     requires sound { IsSound words.now.table_id.words actor.old.me.0 }
     requires stock { IsStock stock.old actor.old.me.0 }
     requires generation { generation < 2 ^ 36 }
-    requires making { (r : ARef) × IsAt actor.old.me.0 (act.Make (Indirection generation r)) × IsPlaced actor.old.me.0 r main.slot }
+    requires making { (r : ARef) × (p : IsAt actor.old.me.0 (act.Make (Indirection generation r))) × IsPlaced actor.old.me.0 r main.slot × (main.own ≡ true → IsBuilding p.operation.line r) }
     ensures table { actor.new.table_id ≡ actor.old.table_id }
     ensures sound { IsSound words.now.table_id.words actor.new.me.0 }
     ensures stock { IsStock stock.new actor.new.me.0 }

@@ -4,13 +4,13 @@ ghost use Rattle.std.specs.Prelude.{◌≡◌, Option};
 ghost use Rattle.machine_model.specs.Calls.{changed_reply};
 ghost use Rattle.lock_free.specs.Leaving.{EndsOrMay, IsClimbAfter, IsRepair, IsUpdate};
 ghost use Rattle.lock_free.specs.Loading.{IsSound};
-ghost use Rattle.lock_free.specs.Parking.{HasRunTo, HasWoundUp, IsBare, IsParked, IsSwapFor, StillOwns};
+ghost use Rattle.lock_free.specs.Parking.{HasRunTo, HasWoundUp, IsBare, IsOwnLeft, IsParked, IsSwapFor, StillOwns, left_so};
 ghost use Rattle.lock_free.specs.Seeking.{IsCalled};
 ghost use Rattle.lock_free.specs.declared.parking.Came.TheVariants as came;
 
 use crate::calling::cut_short;
 use crate::copy_runs::copy_goes_on;
-use crate::leaving::{Completing, Swapping};
+use crate::leaving::{Completing, Left, Swapping};
 use crate::loads::{Actor, Words};
 use crate::reading::Way;
 use crate::swapping::swap_on;
@@ -39,6 +39,18 @@ pub enum Came {
     Spent,
     /// It is out of tries, and this is under way.
     Parked(Parked),
+}
+
+/// What a try comes to that is out of tries, or has no slot.
+pub(crate) fn left_so(left: Left) -> Came
+    requires { IsOwnLeft left }
+    ensures { result ≡ left_so left }
+{
+    match left {
+        Left::MayGiveUp => Came::Spent,
+        Left::Swapping(swapping) => Came::Parked(Parked::Repairs(swapping)),
+        Left::Completing(_) => unreachable!(),
+    }
 }
 
 /// The SWAP of a repair goes on. Once it has come to its end the operation may give up.

@@ -8,6 +8,7 @@ ghost use Rattle.lock_free.specs.LinkReads.{CanGoOn, HasLinkAfter, HasReadTo};
 ghost use Rattle.lock_free.specs.Passing.{HasAskedOrNot, HasLicenseOrNot, HasPassed, IsAsking, IsDeciding, IsFailed, IsOnWay, IsPassing, IsPending};
 
 use crate::exchanges::{decide, restore};
+use crate::licensing::ask_within;
 use crate::loads::{Actor, Words, read_header, read_link, see_main};
 use history::Access;
 use trie_words::{Header, Link, Name, Previous};
@@ -50,26 +51,8 @@ pub enum Passed {
     Again(ReadFrom),
 }
 
-/// What tells the generation of a handle's root.
-pub trait AsksRoot {
-    /// The generation of the root of this handle, once no offer stands there; none where it is still to be asked.
-    fn ask(&self, words: &Words, actor: &mut Actor, handle: u16) -> Option<u64>
-        requires table { actor.old.table_id ≡ words.now.table_id }
-        requires sound { IsSound words.now.table_id.words actor.old.me.0 }
-        requires asking { IsAsking actor.old.me.0 handle }
-        ensures table { actor.new.table_id ≡ actor.old.table_id }
-        ensures sound { IsSound words.now.table_id.words actor.new.me.0 }
-        ensures asked { HasAskedOrNot actor.old.me.0 result actor.new.me.0 };
-}
-
 /// Whether a main node that is pending in this indirection may be committed; none where that is still to be asked.
-fn is_licensed<A: AsksRoot>(
-    asker: &A,
-    words: &Words,
-    actor: &mut Actor,
-    way: Way,
-    link: Link,
-) -> Option<bool>
+fn is_licensed(tries: u64, words: &Words, actor: &mut Actor, way: Way, link: Link) -> Option<bool>
     requires table { actor.old.table_id ≡ words.now.table_id }
     requires sound { IsSound words.now.table_id.words actor.old.me.0 }
     requires way { IsOnWay actor.old.me.0 way }
@@ -79,7 +62,7 @@ fn is_licensed<A: AsksRoot>(
     ensures licensed { HasLicenseOrNot actor.old.me.0 way link result actor.new.me.0 }
 {
     match way.access {
-        Access::Writable => match asker.ask(words, actor, way.handle) {
+        Access::Writable => match ask_within(tries, words, actor, way.handle) {
             Some(generation) => Some(generation == link.generation),
             None => None,
         },
@@ -113,8 +96,8 @@ fn settle_by(words: &Words, actor: &mut Actor, link: Link, header: Header, licen
 /// Decides the main node that is pending in this indirection, once the root is asked.
 #[cold]
 #[inline(never)]
-fn settle<A: AsksRoot>(
-    asker: &A,
+fn settle(
+    tries: u64,
     words: &Words,
     actor: &mut Actor,
     way: Way,
@@ -129,7 +112,7 @@ fn settle<A: AsksRoot>(
     ensures sound { IsSound words.now.table_id.words actor.new.me.0 }
     ensures passed { HasPassed actor.old.me.0 result actor.new.me.0 }
 {
-    match is_licensed(asker, words, actor, way, link) {
+    match is_licensed(tries, words, actor, way, link) {
         Some(licensed) => settle_by(words, actor, link, header, licensed),
         None => Passed::Again(ReadFrom::Asking(link, header)),
     }
@@ -162,8 +145,8 @@ fn put_back(words: &Words, actor: &mut Actor, indirection: u32, link: Link, form
 
 /// The rest of a pass, from the header of the main node to which this link of the indirection leads.
 #[inline(always)]
-fn pass_header<A: AsksRoot>(
-    asker: &A,
+fn pass_header(
+    tries: u64,
     words: &Words,
     actor: &mut Actor,
     way: Way,
@@ -182,14 +165,14 @@ fn pass_header<A: AsksRoot>(
     match header.previous {
         Previous::None => Passed::Gives(Given { link, header }),
         Previous::Failed(former) => put_back(words, actor, indirection, link, former),
-        Previous::Pending(_) => settle(asker, words, actor, way, link, header),
+        Previous::Pending(_) => settle(tries, words, actor, way, link, header),
     }
 }
 
 /// A pass of the READ of the indirection in this slot.
 #[inline(always)]
-fn pass<A: AsksRoot>(
-    asker: &A,
+fn pass(
+    tries: u64,
     words: &Words,
     actor: &mut Actor,
     way: Way,
@@ -207,25 +190,23 @@ fn pass<A: AsksRoot>(
     match from {
         ReadFrom::Start => {
             let link = read_link(words, actor, indirection);
-            pass_header(asker, words, actor, way, indirection, link)
+            pass_header(tries, words, actor, way, indirection, link)
         }
-        ReadFrom::Header(link) => pass_header(asker, words, actor, way, indirection, link),
-        ReadFrom::Asking(link, header) => settle(asker, words, actor, way, link, header),
+        ReadFrom::Header(link) => pass_header(tries, words, actor, way, indirection, link),
+        ReadFrom::Asking(link, header) => settle(tries, words, actor, way, link, header),
     }
 }
 
-/// The READ of the indirection in this slot, of which so many passes are made at most. Where it gives nothing it goes on from what
-/// is returned.
+/// The READ of the indirection in this slot, from there on, within so many tries. Where it gives nothing it goes on from what is returned.
 #[cold]
 #[inline(never)]
-pub fn read_within<A: AsksRoot>(
-    asker: &A,
+pub fn read_on(
+    tries: u64,
     words: &Words,
     actor: &mut Actor,
     way: Way,
     indirection: u32,
     from: ReadFrom,
-    passes: u64,
 ) -> Passed
     requires table { actor.old.table_id ≡ words.now.table_id }
     requires sound { IsSound words.now.table_id.words actor.old.me.0 }
@@ -236,8 +217,8 @@ pub fn read_within<A: AsksRoot>(
     ensures passed { HasPassed actor.old.me.0 result actor.new.me.0 }
 {
     let mut next = from;
-    for _ in 0..passes {
-        match pass(asker, words, actor, way, indirection, next) {
+    for _ in 0..tries {
+        match pass(tries, words, actor, way, indirection, next) {
             Passed::Gives(given) => return Passed::Gives(given),
             Passed::Again(from) => next = from,
         }
@@ -245,17 +226,16 @@ pub fn read_within<A: AsksRoot>(
     Passed::Again(next)
 }
 
-/// What this pass of a READ, or further ones, come to: the link of the decided main node, or none after so many more.
+/// What this pass of a READ, or further ones, come to: the link of the decided main node, or none within so many tries.
 #[cold]
 #[inline(never)]
-fn link_after<A: AsksRoot>(
-    asker: &A,
+fn link_after(
+    tries: u64,
     words: &Words,
     actor: &mut Actor,
     way: Way,
     indirection: u32,
     passed: Passed,
-    passes: u64,
 ) -> Option<Link>
     requires table { actor.old.table_id ≡ words.now.table_id }
     requires sound { IsSound words.now.table_id.words actor.old.me.0 }
@@ -267,7 +247,7 @@ fn link_after<A: AsksRoot>(
     match passed {
         Passed::Gives(given) => Some(given.link),
         Passed::Again(from) => {
-            match read_within(asker, words, actor, way, indirection, from, passes) {
+            match read_on(tries, words, actor, way, indirection, from) {
                 Passed::Gives(given) => Some(given.link),
                 Passed::Again(_) => None,
             }
@@ -276,15 +256,14 @@ fn link_after<A: AsksRoot>(
 }
 
 /// A READ from its first line on, where one look at the main node is mostly enough: the link of the decided main node, or none where it gives
-/// nothing in so many further passes.
+/// nothing within so many tries.
 #[inline(always)]
-pub fn read_link_within<A: AsksRoot>(
-    asker: &A,
+pub fn read_link_within(
+    tries: u64,
     words: &Words,
     actor: &mut Actor,
     way: Way,
     indirection: u32,
-    passes: u64,
 ) -> Option<Link>
     requires table { actor.old.table_id ≡ words.now.table_id }
     requires sound { IsSound words.now.table_id.words actor.old.me.0 }
@@ -300,24 +279,23 @@ pub fn read_link_within<A: AsksRoot>(
         Previous::None => Some(link),
         Previous::Failed(former) => {
             let passed = put_back(words, actor, indirection, link, former);
-            link_after(asker, words, actor, way, indirection, passed, passes)
+            link_after(tries, words, actor, way, indirection, passed)
         }
         Previous::Pending(_) => {
-            let passed = settle(asker, words, actor, way, link, header);
-            link_after(asker, words, actor, way, indirection, passed, passes)
+            let passed = settle(tries, words, actor, way, link, header);
+            link_after(tries, words, actor, way, indirection, passed)
         }
     }
 }
 
 /// The same from its first line on, where one pass is mostly enough.
 #[inline(always)]
-pub fn read_afresh<A: AsksRoot>(
-    asker: &A,
+pub fn read_first(
+    tries: u64,
     words: &Words,
     actor: &mut Actor,
     way: Way,
     indirection: u32,
-    passes: u64,
 ) -> Passed
     requires table { actor.old.table_id ≡ words.now.table_id }
     requires sound { IsSound words.now.table_id.words actor.old.me.0 }
@@ -327,8 +305,8 @@ pub fn read_afresh<A: AsksRoot>(
     ensures sound { IsSound words.now.table_id.words actor.new.me.0 }
     ensures passed { HasPassed actor.old.me.0 result actor.new.me.0 }
 {
-    match pass(asker, words, actor, way, indirection, ReadFrom::Start) {
+    match pass(tries, words, actor, way, indirection, ReadFrom::Start) {
         Passed::Gives(given) => Passed::Gives(given),
-        Passed::Again(from) => read_within(asker, words, actor, way, indirection, from, passes),
+        Passed::Again(from) => read_on(tries, words, actor, way, indirection, from),
     }
 }

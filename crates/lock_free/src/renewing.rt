@@ -8,10 +8,10 @@ ghost use Rattle.lock_free.specs.Repairing.{HasLookedOld, HasRenewed, HasRenewed
 ghost use Rattle.lock_free.specs.Stocks.{IsStock};
 
 use crate::entries::see_entries;
-use crate::leaving::{Swapping, read_on};
+use crate::leaving::Swapping;
 use crate::loads::{Actor, Words, look_at_key, look_at_link};
 use crate::makes::{make_branch, make_link};
-use crate::reading::{Passed, ReadFrom, Way};
+use crate::reading::{Passed, ReadFrom, Way, read_on};
 use crate::stock::Stock;
 use crate::swapping::{Swapped, swap_made_within};
 use arrayvec::ArrayVec;

@@ -11,10 +11,10 @@ ghost use Rattle.lock_free.specs.Rooting.{HasHelped, HasRooted, IsAtRoot, IsComp
 
 use crate::asking::{Named, ask_word, see_generation};
 use crate::handles::{clean, open_number};
-use crate::leaving::{Completing, Left, read_on};
+use crate::leaving::{Completing, Left};
 use crate::loads::{Actor, Words};
 use crate::offers::{Fate, complete, meet_offer, see_fate, see_news, see_olds};
-use crate::reading::{Passed, ReadFrom, Way};
+use crate::reading::{Passed, ReadFrom, Way, read_on};
 use trie_words::RootWord;
 
 /// The root that a ROOT gives.

@@ -4,13 +4,14 @@ ghost use Rattle.lock_free.specs.declared.rules.View.{View};
 ghost use Rattle.lock_free.specs.Rules.{IsRuled, first_view};
 ghost use Rattle.lock_free.specs.Loading.{has_seen, has_gone};
 ghost use Rattle.lock_free.specs.Calling.{has_cut_short, has_given_up, has_started};
+ghost use Rattle.lock_free.specs.Counting.{has_lowered, has_raised};
 ghost use Rattle.lock_free.specs.Epochs.{has_advanced, has_checked, has_seen_epoch};
 ghost use Rattle.lock_free.specs.Exchanging.{has_published};
 ghost use Rattle.lock_free.specs.Finishing.{has_emptied, hearing, no_view};
 ghost use Rattle.lock_free.specs.HandleWords.{has_closed, has_marked, has_unmarked};
 ghost use Rattle.lock_free.specs.Numbers.{has_given_back, has_named, has_reserved};
 ghost use Rattle.lock_free.specs.OfferWords.{has_completed};
-ghost use Rattle.lock_free.specs.Reclaiming.{has_reclaimed};
+ghost use Rattle.lock_free.specs.Reclaiming.{has_reclaimed, has_retired};
 ghost use Rattle.lock_free.specs.RootOffers.{has_proposed, has_yielded};
 ghost use Rattle.lock_free.specs.RootWords.{has_asked, has_cleaned, has_met};
 ghost use Rattle.lock_free.specs.SeatWords.{has_ended, has_passed, has_pinned, has_unpinned};
@@ -96,6 +97,8 @@ pub struct View {
     pub drafts: LinkedList<(u64, u64)>,
     /// The slots that it has retired, and that aren't free again yet.
     pub retired: LinkedList<Retired>,
+    /// The nodes to which it holds a reference itself, the latest first, by the words of their counts.
+    pub owed: LinkedList<u64>,
     /// The seats of which it has heard.
     pub heard: LinkedList<Heard>,
 }
@@ -228,11 +231,32 @@ impl Play<Call, View> for Advances {
     ghost then = { has_advanced };
 }
 
+/// A SWAP's last step is taken, and the slot of the main node that it has replaced is retired, or isn't.
+pub struct Retires;
+
+impl Play<Call, View> for Retires {
+    ghost then = { has_retired };
+}
+
 /// A seat's oldest retired slot is free for it again, or isn't.
 pub struct Reclaims;
 
 impl Play<Call, View> for Reclaims {
     ghost then = { has_reclaimed };
+}
+
+/// A reference more is counted, which the seat holds, or isn't.
+pub struct Raises;
+
+impl Play<Call, View> for Raises {
+    ghost then = { has_raised };
+}
+
+/// A reference less is counted, which the seat held, or isn't.
+pub struct Lowers;
+
+impl Play<Call, View> for Lowers {
+    ghost then = { has_lowered };
 }
 
 /// The operation begins for which a seat has pinned itself, if its handle is open for it.

@@ -1,7 +1,7 @@
 //! How many words there are, and for what.
 
 ghost use Rattle.std.specs.Prelude.{◌≡◌, ◌+◌, ◌*◌, ◌<◌, ◌≤◌, ◌^◌, ◌↔◌, IsTrue};
-ghost use Rattle.lock_free.specs.Places.{part_of, slots_in, words_in, words_of, AreSizes};
+ghost use Rattle.lock_free.specs.Places.{count_word, part_of, slots_in, stride, words_of, AreSizes};
 
 use nodes::HashKind;
 
@@ -25,7 +25,7 @@ impl Sizes {
     pub fn words(&self) -> u64
         ensures { result ≡ words_of self.now }
     {
-        self.part(2) + 24 * u64::from(self.wide)
+        self.part(2) + 24 * u64::from(self.wide) + u64::from(self.small)
     }
 
     /// Whether they are in range: there are seats, two small slots at least, and 2^28 words at most.
@@ -63,7 +63,7 @@ impl Sizes {
         requires range { words_of self.now ≤ 2 ^ 28 }
         requires class { class < 3 }
         requires number { number < slots_in self.now class }
-        ensures { 2 * result ≡ part_of self.now class + words_in class * number }
+        ensures { 2 * result ≡ part_of self.now class + stride class * number }
     {
         let words = match class {
             0 => 2,
@@ -71,5 +71,22 @@ impl Sizes {
             _ => 24,
         };
         ((self.part(class) + words * u64::from(number)) / 2) as u32
+    }
+
+    /// The word that counts references to the node in this slot of the class.
+    pub fn count_word(&self, class: u32, slot: u32) -> usize
+        ensures { result ≡ count_word self.now class slot }
+    {
+        let name = slot as usize;
+        match class {
+            0 => 176
+                + 8 * self.seats as usize
+                + 2 * self.small as usize
+                + 8 * self.medium as usize
+                + 24 * self.wide as usize
+                + name,
+            1 => 2 * name + 7,
+            _ => 2 * name + 23,
+        }
     }
 }

@@ -8,9 +8,9 @@ ghost use Rattle.lock_free.specs.Swaps.{HasSwapDone, IsAtSwap, swapped_by};
 ghost use Rattle.lock_free.specs.Stocks.{IsStock, HasSwapped, settled_pool};
 
 use crate::exchanges::publish;
-use crate::leaving::{Swapping, read_on};
+use crate::leaving::Swapping;
 use crate::loads::{Actor, Words, read_header};
-use crate::reading::{Passed, ReadFrom, Way};
+use crate::reading::{Passed, ReadFrom, Way, read_on};
 use crate::stock::Stock;
 use trie_words::{Link, Name, Previous};
 

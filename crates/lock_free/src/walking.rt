@@ -8,9 +8,8 @@ ghost use Rattle.lock_free.specs.Walks.{FoundStartOrNot, HasBegunWalk, HasEntere
 
 use crate::asking::{Named, ask_word};
 use crate::entries::see_entries;
-use crate::leaving::read_on;
 use crate::loads::{Actor, Words, look_at_link, look_at_main, look_at_value, see_key};
-use crate::reading::{Given, Passed, ReadFrom, Way};
+use crate::reading::{Given, Passed, ReadFrom, Way, read_on};
 use arrayvec::ArrayVec;
 use std::alloc::{AllocError, Global};
 use std::marker::Model;

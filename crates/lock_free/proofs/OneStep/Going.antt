@@ -40,11 +40,11 @@ pub first_none : (limits : Bounds) → (first_state limits).steps ≡ 0
 unfolding first_state
 first_none limits = refl
 
-no_denial : (own running spent : Bool) → own ≡ true → running ≡ true → spent ≡ false →
+pub no_denial : (own running spent : Bool) → own ≡ true → running ≡ true → spent ≡ false →
     first_reason ((not own, refuse.NoActor) ∷ (not running, refuse.Idle) ∷ (spent, refuse.Spent) ∷ []) ≡ None
 no_denial own running spent a b c = grind (arith, a, b, c)
 
-goes_by : (state : State) (actor : ℕ) (operation : Operation) → go_denial state actor ≡ None → operation_of state actor ≡ Some operation →
+pub goes_by : (state : State) (actor : ℕ) (operation : Operation) → go_denial state actor ≡ None → operation_of state actor ≡ Some operation →
     next state (step.Go actor) ≡ step_by state actor operation (action_of state operation)
 unfolding next
 goes_by state actor operation d runs = ap (go_unless state actor) d ∙ ap (go_on state actor) runs
@@ -53,7 +53,7 @@ going : (state : State) (actor : ℕ) (operation : Operation) (action : Action) 
 going state actor operation (act.End answer) g = absurd g
 going state actor operation action g = refl
 
-going_ok : (state : State) (actor : ℕ) (operation : Operation) (action : Action) → GoesOn action →
+pub going_ok : (state : State) (actor : ℕ) (operation : Operation) (action : Action) → GoesOn action →
     step_by state actor operation action ≡ Ok (outcome.Went (kind_of action), settled state (gone state actor operation))
 going_ok state actor operation (act.End answer) g = absurd g
 going_ok state actor operation action g = refl

@@ -246,12 +246,14 @@ module _ (sizes : Sizes) (account : Account) (bounds : AreBounds (bounds_for siz
         let tries = makes_tries state (action_of state operation) node made_is operation.attempt operation.is_marked in
         record {
           bounds = bounds_after sizes account bounds actor operation runs g;
+          runs = runs;
           names_not = names_not;
           refs = λ r c. used_low r (live_named r c);
           unmet = unmet;
           made = fresh_slot state.heap node;
           stands = stands_then;
           node_is = refl;
+          birth = ap (λ n. n + 1) (sym counted);
           prev_is = refl;
           nodes = λ k apart.
               slot_then sizes account bounds actor operation runs g heap_then heap_is k ∙ taking.elsewhere sizes account.steps bounds quiet (step.Go actor) node k (λ e. apart (e ∙ sym counted));

@@ -45,7 +45,7 @@ use Rattle.machine_model.specs.States.{State, operation_of, with_operation}
 use Rattle.machine_model.specs.Swapping.{swapping, action_at, complete_action_at, root_action}
 use Rattle.machine_model.specs.declared.steps.Bounds.{Bounds}
 use Rattle.machine_model.proofs.Fates.{place_of_actor}
-use Rattle.machine_model.proofs.Grown.{node_standing, prev_standing}
+use Rattle.machine_model.proofs.Grown.{standing_parts, node_standing, prev_standing}
 use Rattle.proof_memory.specs.Laws.{IsInUse}
 use Rattle.proof_memory.specs.Wants.{AnIndirection, AMain, AllHold, meets, is_main_node, action_wants}
 use Rattle.proof_memory.proofs.Claims.Uses.{safe_of, meets_of}
@@ -337,10 +337,13 @@ module _ (sizes : Sizes) (account : Account) (bounds : AreBounds (bounds_for siz
     pub publishes : Publishes sizes account (swapped_in actor i f account) actor operation i a f
     publishes = record {
       bounds = bounds_after sizes account bounds actor operation runs g;
+      runs = runs;
+      on = its_line;
       generation = link_node.0;
       link = used_i.0;
       link_is = slot_at state.heap i used_i.0 used_i.1;
       link_node = link_node.1;
+      link_birth = (standing_parts state.heap i used_i.0 used_i.1).1;
       link_then = slot_then sizes account bounds actor operation runs g heap_then heap_is (slot_of i)
           ∙ prev_elsewhere (with_main state.heap i f) f (prev.Pending a) (slot_of i) (λ same. slots_differ (sym same))
           ∙ slot_at (with_main state.heap i f) i _ (main_here state.heap i f used_i.0 used_i.1) ∙ ap (λ n. Some (record used_i.0 { node = with_main_word f n })) link_node.1;

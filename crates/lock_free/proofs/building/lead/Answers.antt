@@ -2,13 +2,18 @@ use Rattle.std.proofs.Common.{sym, ap, subst, ◌∙◌, arith}
 use Rattle.nodes.specs.Levels.{flag_of}
 use Rattle.lock_free.specs.BuildingUp.{HasLinked}
 use Rattle.lock_free.specs.Passing.{IsPlaced}
-use Rattle.lock_free.proofs.Leads.{first_none, first_leads, last_led, makes_rung, rung_none, next_link, next_none, next_leads, link_at}
+use Rattle.lock_free.proofs.Leads.{first_none, first_leads, last_led, makes_rung, rung_none, next_link, next_none, next_leads, link_at, link_building}
 use Rattle.lock_free.proofs.building.lead.Goals as goal
 
 pub make_link-requires-clause-making : goal.make_link-requires-clause-making
 make_link-requires-clause-making c =
-    let (path, main, position, below, on, b, placed, deep) = c.requires.at in
-    (below, link_at c.args.actor.now.me.0 c.args.by path main position below c.args.depth on b, subst (IsPlaced c.args.actor.now.me.0 below) (sym c.owned.ensures) placed)
+    let (path, main, position, below, on, b, placed, deep) = c.requires.at in (
+      below,
+      link_at c.args.actor.now.me.0 c.args.by path main position below c.args.depth on b,
+      subst (IsPlaced c.args.actor.now.me.0 below) (sym c.owned.ensures) placed,
+      λ own.
+          link_building c.args.actor.now.me.0 c.args.by path main position below c.args.depth on b,
+    )
 
 pub returns-in_err-link-clause-led : goal.returns-in_err-link-clause-led
 returns-in_err-link-clause-led c =
@@ -46,9 +51,10 @@ pub make_link-requires-in-loop-n-clause-making : goal.make_link-requires-in-loop
 make_link-requires-in-loop-n-clause-making c =
     let (t, sound, stock, leads, low, top) = c.loop-n.invariant in
     let more = c.loop-n-test.true in
-    let (r, at, placed) = next_link c.args.words.now.table_id.words c.args.actor.now.me.0 c.args.by c.args.depth c.args.main c.requires.at c.loop-n.actor.me.0 c.loop-n.n c.loop-n.link leads low more
+    let (r, at, placed, building) =
+    next_link c.args.words.now.table_id.words c.args.actor.now.me.0 c.args.by c.args.depth c.args.main c.requires.at c.loop-n.actor.me.0 c.loop-n.n c.loop-n.link leads low more
     c.make_rung.new.actor.me.0 c.in_ok-rung.rung (c.in_ok-rung.ensures {u = tt}).made in
-    (r, at, subst (IsPlaced c.make_rung.new.actor.me.0 r) (sym c.owned-in-loop-n.ensures) placed)
+    (r, at, subst (IsPlaced c.make_rung.new.actor.me.0 r) (sym c.owned-in-loop-n.ensures) placed, λ own. building)
 
 pub returns-in_err-link-2-clause-led : goal.returns-in_err-link-2-clause-led
 returns-in_err-link-2-clause-led c =

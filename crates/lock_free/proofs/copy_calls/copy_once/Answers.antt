@@ -1,5 +1,6 @@
 use Rattle.std.proofs.Common.{Ok, sym, subst}
 use Rattle.lock_free.specs.CopySteps.{HasRunCopy}
+use Rattle.lock_free.specs.Stocks.{IsStock}
 use Rattle.lock_free.specs.WholeCalls.{HasCopiedOnce}
 use Rattle.lock_free.proofs.CallBegins.{denied_stock}
 use Rattle.lock_free.proofs.CopiesWhole.{at_try, came_denied, came_false, came_true, ends_copied, low_way}
@@ -7,7 +8,8 @@ use Rattle.lock_free.proofs.copy_calls.copy_once.Goals as goal
 
 pub returns-in-Err-clause-stock : goal.returns-in-Err-clause-stock
 returns-in-Err-clause-stock g c =
-    denied_stock c.args.actor.now.me.0 c.args.opens c.requires.ready c.args.call.now c.in-Err.denial c.start.new.actor.me.0 (c.in-Err.ensures {u = tt}).called c.args.stock.now c.requires.stock
+    denied_stock c.args.actor.now.me.0 c.args.opens c.requires.ready c.args.call.now c.in-Err.denial c.start.new.actor.me.0 (c.in-Err.ensures {u = tt}).called c.begin.new.self
+    (subst (λ s. IsStock s c.args.actor.now.me.0) (sym c.begin.ensures) c.requires.stock)
 
 pub returns-in-Err-clause-copied : goal.returns-in-Err-clause-copied
 returns-in-Err-clause-copied g c =

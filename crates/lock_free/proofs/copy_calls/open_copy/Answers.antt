@@ -22,7 +22,7 @@ returns-clause-told g c =
     let told : IsToldCopy v call (Err c.match-copy_once.error) (without_number w) = elim c.match-copy_once.branch [
       | in-Ok-false b ↦
           subst (λ e. IsToldCopy v call (Err e) (without_number w)) (sym b.error-is)
-          (lacking_told v c.requires.ready call n w b.lack-error.result b.lack-error.ensures (subst (λ (u : View). HasCopiedOnce u call (Some n) (Ok false) w) first
+          (lacking_told v c.requires.ready call n w b.lack_of-error.result b.lack_of-error.ensures (subst (λ (u : View). HasCopiedOnce u call (Some n) (Ok false) w) first
           (subst (λ k. HasCopiedOnce c.reserve.new.actor.me.0 call (Some n) (Ok k) w) b.in-Ok-false.field-0-test (b.in-Ok-false.ensures {u = tt}).copied)))
       | in-Err b ↦
           subst (λ e. IsToldCopy v call (Err e) (without_number w)) (sym (b.error-is ∙ b.from-error.ensures))

@@ -5,11 +5,12 @@ use Rattle.lock_free.proofs.makes.make_link.Goals as goal
 
 pub to_word-requires : goal.to_word-requires
 to_word-requires c = link_fits c.args.words.now.table_id.words c.args.actor.now.me.0 c.requires.sound c.in_ok-slot.slot c.take.new.actor.me.0 (c.in_ok-slot.ensures {u = tt}).slot
-    c.args.generation c.requires.generation c.args.main c.requires.making.0 c.requires.making.1 c.requires.making.2
+    c.args.generation c.requires.generation c.args.main c.requires.making.0 c.requires.making.1 c.requires.making.2 c.requires.making.3
 
 pub make-requires-clause-making : goal.make-requires-clause-making
 make-requires-clause-making c = link_ready c.args.words.now.table_id.words c.args.actor.now.me.0 c.requires.sound c.in_ok-slot.slot c.take.new.actor.me.0
-    (c.in_ok-slot.ensures {u = tt}).slot c.args.generation c.requires.generation c.args.main c.requires.making.0 c.requires.making.1 c.requires.making.2 c.to_word.result c.to_word.ensures
+    (c.in_ok-slot.ensures {u = tt}).slot c.args.generation c.requires.generation c.args.main c.requires.making.0 c.requires.making.1 c.requires.making.2 c.requires.making.3
+    c.to_word.result c.to_word.ensures
 
 pub returns-clause-stock : goal.returns-clause-stock
 returns-clause-stock c = stock_there c.args.actor.now.me.0 0 c.in_ok-slot.slot c.take.new.actor.me.0 (c.in_ok-slot.ensures {u = tt}).slot c.take.new.actor.me.0 refl

@@ -1,0 +1,85 @@
+-- Words of counts are apart from each other, and from all words that nodes, offers, handles and seats have.
+use Rattle.std.proofs.Common.{◌≡◌, ◌≢◌, ◌<◌, ◌≤◌, ◌⊎◌, inl, inr, ℕ, zero, suc, List, set, slice_index, sym, ap, subst, ◌∙◌, arith}
+use Rattle.std.proofs.lemmas.List.{get_or-set_other, set-get_or}
+use Rattle.lock_free.specs.declared.sizes.Sizes.{Sizes}
+use Rattle.lock_free.specs.Counts.{IsCount}
+use Rattle.lock_free.specs.Places.{count_word, epoch_word, first_slot_word, pin_word, root_word, words_of, IsSlot, IsTaken, HaveTaken}
+use Rattle.lock_free.proofs.EpochStays.{Elsewhere}
+use Rattle.lock_free.proofs.Geometry.{IsWordOf, above, root_below, root_not_epoch}
+
+module _ (sizes : Sizes) where
+  slot_count_above : (class name : ℕ) → class < 3 → IsSlot sizes class name → first_slot_word sizes ≤ count_word sizes class name
+  slot_count_above zero name low h = omega (arith, h.first)
+  slot_count_above (suc zero) name low h = omega (arith, h.first)
+  slot_count_above (suc (suc zero)) name low h = omega (arith, h.first)
+  slot_count_above (suc (suc (suc class))) name low h = absurd (omega (arith, low))
+
+  pub count_above : (word : ℕ) → IsCount sizes word → first_slot_word sizes ≤ word
+  count_above word h = let far = slot_count_above h.class h.name h.small h.slot in subst (λ n. first_slot_word sizes ≤ n) (sym h.is) far
+
+  slot_count_inside : (class name : ℕ) → class < 3 → IsSlot sizes class name → count_word sizes class name < words_of sizes
+  slot_count_inside zero name low h = omega (arith, h.first, h.few)
+  slot_count_inside (suc zero) name low h = omega (arith, h.first, h.few)
+  slot_count_inside (suc (suc zero)) name low h = omega (arith, h.first, h.few)
+  slot_count_inside (suc (suc (suc class))) name low h = absurd (omega (arith, low))
+
+  pub count_inside : (word : ℕ) → IsCount sizes word → word < words_of sizes
+  count_inside word h = subst (λ n. n < words_of sizes) (sym h.is) (slot_count_inside h.class h.name h.small h.slot)
+
+  -- no word of a slot's is a count's
+  slot_count_beside : (b x c y j : ℕ) → b < 3 → c < 3 → IsSlot sizes b x → IsSlot sizes c y → IsWordOf c y j → count_word sizes b x ≢ j
+  slot_count_beside zero x zero y j p q g h w e = omega (arith, g.first, h.first, h.few, w.high, e)
+  slot_count_beside zero x (suc zero) y j p q g h w e = omega (arith, g.first, h.first, h.few, w.high, e)
+  slot_count_beside zero x (suc (suc zero)) y j p q g h w e = omega (arith, g.first, h.first, h.few, w.high, e)
+  slot_count_beside (suc zero) x zero y j p q g h w e = omega (arith, g.first, h.first, h.few, w.high, e)
+  slot_count_beside (suc zero) x (suc zero) y j p q g h w e = omega (arith, g.first, h.first, w.low, w.high, e)
+  slot_count_beside (suc zero) x (suc (suc zero)) y j p q g h w e = omega (arith, g.first, g.few, h.first, w.low, e)
+  slot_count_beside (suc (suc zero)) x zero y j p q g h w e = omega (arith, g.first, h.first, h.few, w.high, e)
+  slot_count_beside (suc (suc zero)) x (suc zero) y j p q g h w e = omega (arith, g.first, h.first, h.few, w.high, e)
+  slot_count_beside (suc (suc zero)) x (suc (suc zero)) y j p q g h w e = omega (arith, g.first, h.first, w.low, w.high, e)
+  slot_count_beside (suc (suc (suc b))) x c y j p q g h w e = absurd (omega (arith, p))
+  slot_count_beside b x (suc (suc (suc c))) y j p q g h w e = absurd (omega (arith, q))
+
+  pub slot_taken : (words : List ℕ) → HaveTaken sizes words → (class name : ℕ) → class < 3 → IsTaken sizes words class name → IsSlot sizes class name
+  slot_taken words have class name low h = record { number = h.number; few = (let most = have class low in omega (arith, h.few, most)); first = h.first }
+
+  pub count_beside : (words : List ℕ) → HaveTaken sizes words → (word : ℕ) → IsCount sizes word → (class name j : ℕ) → class < 3 → IsTaken sizes words class name → IsWordOf class name j → j ≢ word
+  count_beside words have word h class name j low taken its e =
+      slot_count_beside h.class h.name class name j h.small low h.slot (slot_taken words have class name low taken) its (sym h.is ∙ sym e)
+
+  pub count_not_epoch : (word : ℕ) → IsCount sizes word → word ≢ epoch_word
+  count_not_epoch word h e = let far = count_above word h in omega (arith, far, e)
+
+-- ---- where an access leaves all counts
+
+-- the word is no count's, nor the epoch's
+abbrev pub Apart : Sizes → ℕ → Type 0
+Apart sizes word = (word ≢ epoch_word) × ((c : ℕ) → IsCount sizes c → c ≢ word)
+
+pub before_apart : (sizes : Sizes) (word : ℕ) → word ≢ epoch_word → word < first_slot_word sizes → Apart sizes word
+before_apart sizes word differs low = (differs, λ c is same. (let far = count_above sizes c is in omega (arith, low, far, same)))
+
+pub handle_apart : (sizes : Sizes) (handle : ℕ) → handle < 256 → Apart sizes (root_word handle)
+handle_apart sizes handle low = before_apart sizes (root_word handle) (root_not_epoch handle) (let where_it_is = root_below handle low in omega (arith, where_it_is.1))
+
+pub pin_apart : (sizes : Sizes) (actor : ℕ) → actor ≤ sizes.seats → Apart sizes (pin_word actor)
+pin_apart sizes actor most = before_apart sizes (pin_word actor) (λ e. omega (arith, e)) (omega (arith, most))
+
+pub slot_apart : (sizes : Sizes) (words : List ℕ) → HaveTaken sizes words → (class name j : ℕ) → class < 3 → IsTaken sizes words class name → IsWordOf class name j → Apart sizes j
+slot_apart sizes words have class name j low taken its = (
+  (λ e. (let far = above sizes words have class name j low taken its in omega (arith, far, e))),
+  λ c is same. count_beside sizes words have c is class name j low taken its (sym same),
+)
+
+-- an access of this word, which leaves f of what it has, leaves the epoch and all counts
+abbrev pub Beside : Sizes → ℕ → (ℕ → ℕ) → List ℕ → Type 0
+Beside sizes word f words = Apart sizes word ⊎ (f (slice_index words word) ≡ slice_index words word)
+
+pub elsewhere_so : (sizes : Sizes) (word : ℕ) (f : ℕ → ℕ) (words : List ℕ) → Beside sizes word f words → Elsewhere word f words
+elsewhere_so sizes word f words (inl apart) = inl apart.0
+elsewhere_so sizes word f words (inr same) = inr same
+
+pub count_same : (sizes : Sizes) (word : ℕ) (f : ℕ → ℕ) (words : List ℕ) → Beside sizes word f words → (c : ℕ) → IsCount sizes c →
+    slice_index (set words word (f (slice_index words word))) c ≡ slice_index words c
+count_same sizes word f words (inl apart) c is = get_or-set_other words word c (f (slice_index words word)) 0 (apart.1 c is)
+count_same sizes word f words (inr same) c is = ap (λ n. slice_index (set words word n) c) same ∙ ap (λ ws. slice_index ws c) (set-get_or words word 0)

@@ -1,0 +1,90 @@
+-- A get as a whole: answered by its first try, or as a call of any kind.
+use Rattle.std.proofs.Common.{◌≡◌, ◌<◌, ◌^◌, ℕ, List, Option, None, Ok, Err, refl, ◌∙◌}
+use Rattle.history.specs.declared.calls.Access.{Access}
+use Rattle.history.specs.declared.calls.Call.{Call}
+use Rattle.history.specs.declared.replies.Reply.TheVariants as reply
+use Rattle.history.specs.declared.replies.Reply.{Reply}
+use Rattle.machine_model.specs.declared.actions.Action.TheVariants as act
+use Rattle.machine_model.specs.Lines.{new_try}
+use Rattle.lock_free.specs.declared.call_errors.CallError.TheVariants as error
+use Rattle.lock_free.specs.declared.call_runs.Ran.TheVariants as ran
+use Rattle.lock_free.specs.declared.leaving.Left.{Left}
+use Rattle.lock_free.specs.declared.rules.View.{View}
+use Rattle.lock_free.specs.declared.seeking.Sought.{Sought}
+use Rattle.lock_free.specs.declared.seeking.Sought.TheVariants as sought
+use Rattle.lock_free.specs.declared.tasks.Task.{Task}
+use Rattle.lock_free.specs.Calling.{IsRunning}
+use Rattle.lock_free.specs.GetRuns.{HasGotten, IsGotten}
+use Rattle.lock_free.specs.Holding.{IsOn}
+use Rattle.lock_free.specs.Leaving.{IsRepair, Leaves}
+use Rattle.lock_free.specs.Loading.{IsAt}
+use Rattle.lock_free.specs.RunningOn.{RunsOn}
+use Rattle.lock_free.specs.SeatWords.{HasEnded, IsAtEnd}
+use Rattle.lock_free.specs.Seeking.{HasTried, IsCalled}
+use Rattle.lock_free.specs.UnderWay.{HasComeOut, IsUnderWay}
+use Rattle.lock_free.specs.WholeCalls.{HasLeft}
+use Rattle.lock_free.proofs.CallBegins.{opens_run, same_run}
+use Rattle.lock_free.proofs.CallsRunOn.{at_end, tried_answers, tried_runs_on}
+use Rattle.lock_free.proofs.CallsUnderWay.{left_both, left_out, run_out, under_way_on}
+use Rattle.lock_free.proofs.KeyTries.{called_on, left_run, own_left, try_sought}
+use Rattle.lock_free.proofs.RunningOn.{runs_on_self}
+use Rattle.std.specs.Prelude.{Result}
+use Rattle.lock_free.specs.declared.call_errors.CallError.{CallError}
+
+module _ (v : View) (on : IsOn v new_try) (slots : List ℕ) (w : View) where
+  -- ---- its first try has found the value
+
+  module _ (task : Task) (value : Option ℕ) (h : HasTried v slots (task, sought.Answers (reply.Found value)) w) where
+    is_at_end : IsAt w (act.End (reply.Found value))
+    is_at_end = at_end w (reply.Found value) (tried_answers v w slots task on.0 on.1 (reply.Found value) h)
+
+    pub value_ends : IsAtEnd w
+    value_ends = (reply.Found value, is_at_end)
+
+    module _ (access : Access) (x : View) (ended : (answer : Reply) → IsAt w (act.End answer) → HasEnded w answer x) where
+      value_out : HasComeOut w access (ran.Told (Ok (reply.Found value))) x
+      value_out = (
+        reply.Found value,
+        error.Full,
+        tt,
+        refl,
+        record { late = w; on = runs_on_self w; at = is_at_end; ended = ended (reply.Found value) is_at_end },
+      )
+
+      abbrev r : RunsOn v w
+      r = tried_runs_on v w slots task (sought.Answers (reply.Found value)) h
+
+      pub value_told : (c : Call) → HasGotten v c (Ok value) x
+      value_told c before under = (run_out before c v w under r access (ran.Told (Ok (reply.Found value))) x value_out).0
+
+      pub value_left : (c : Call) → IsCalled v c access → v.opens ≡ None → HasLeft v x
+      value_left c called none = left_out c access v on.0 on.1 called none w r (ran.Told (Ok (reply.Found value))) x value_out
+
+  -- ---- or something else
+
+  pub sought_gotten : (task : Task) (s : Sought) → task.start < 2 ^ 36 → HasTried v slots (task, s) w → IsGotten w slots (Ok (task, s))
+  sought_gotten task s small h = (small, try_sought v on slots task w s h)
+
+  pub left_gotten : (left : Left) → Leaves (λ call. reply.NoSlots) IsRepair v left w → IsGotten w slots (Err left)
+  left_gotten left l = (own_left v left w l, (left_run v on left w l).1)
+
+-- and goes on from there
+module _ (v : View) (on : IsOn v new_try) (w : View) (r : RunsOn v w) where
+  pub still_running : IsRunning w
+  still_running = let x = r.runs on.0 on.1 in (x.0, x.1)
+
+  pub still_called : (c : Call) (access : Access) → IsCalled v c access → IsCalled w c access
+  still_called = called_on v w on.0 on.1 r
+
+module _ (v w : View) (r : RunsOn v w) where
+  pub still_none : v.opens ≡ None → w.opens ≡ None
+  still_none none = opens_run v w r ∙ none
+
+  pub still_under : (c : Call) → (before : View) × IsUnderWay before c None v → (before : View) × IsUnderWay before c None w
+  still_under c (before, under) = (before, under_way_on before c v w under r)
+
+  pub gotten_since : (c : Call) (result : Result (Option ℕ) CallError) (x : View) → HasGotten w c result x → HasGotten v c result x
+  gotten_since c result x h before under = h before (under_way_on before c v w under r)
+
+  pub left_since_then : (x : View) → HasLeft w x → HasLeft v x
+  left_since_then x left = left_both v w x (same_run v w r) left

@@ -1,0 +1,22 @@
+-- A get as a whole: its first try, and what it is told.
+use Rattle.std.specs.Prelude.{◌<◌, ◌^◌, ℕ, List, Option, None, Result, Ok, Err}
+use Rattle.history.specs.declared.calls.Call.{Call}
+use Rattle.history.specs.declared.replies.Reply.TheVariants as reply
+use Rattle.lock_free.specs.declared.call_errors.CallError.{CallError}
+use Rattle.lock_free.specs.declared.leaving.Left.{Left}
+use Rattle.lock_free.specs.declared.rules.View.{View}
+use Rattle.lock_free.specs.declared.seeking.Sought.{Sought}
+use Rattle.lock_free.specs.declared.tasks.Task.{Task}
+use Rattle.lock_free.specs.Attempts.{IsSought}
+use Rattle.lock_free.specs.Parking.{left_so, IsCome, IsOwnLeft}
+use Rattle.lock_free.specs.SeatCalls.{IsTold}
+use Rattle.lock_free.specs.UnderWay.{IsUnderWay}
+
+-- the way of its first try has come to this at the end of this path, or is out of tries
+abbrev pub IsGotten : View → List ℕ → Result (Task × Sought) Left → Type 0
+IsGotten v slots (Ok (task, sought)) = (task.start < 2 ^ 36) × IsSought v slots task sought
+IsGotten v slots (Err left) = IsOwnLeft left × IsCome v (left_so left)
+
+-- whoever has it under way is told this
+abbrev pub HasGotten : View → Call → Result (Option ℕ) CallError → View → Type 0
+HasGotten v call result after = (before : View) → IsUnderWay before call None v → IsTold reply.Found before call result after
