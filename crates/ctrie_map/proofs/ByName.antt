@@ -1,7 +1,7 @@
 -- What a call on a named handle comes to, by what the call of the core comes to.
 use Rattle.std.specs.Prelude.{◌≡◌, ◌≢◌, ◌<◌, ℕ, Bool, true, false, nat_le, if◌then◌else◌, is_some, Option, Some, None, option_map, option_and_then, Result, Ok, Err}
 use Rattle.std.specs.FinMap as map
-use Rattle.std.proofs.Common.{refl, sym, ap, subst, arith, ◌∙◌}
+use Rattle.std.proofs.Common.{refl, sym, ap, subst, ◌∙◌}
 use Rattle.std.proofs.lemmas.Option.{same_Some}
 use Rattle.ctrie_map.specs.Vocabulary.{hash_of, Access, Writable, ReadOnly, Call, Reply, Closed, Cleared, Crowded, Found, NoSlots, Opened, changing, copying, effect, is_crowded, naming}
 use Rattle.ctrie_map.specs.Vocabulary.{put_if_absent_in, remove_in, remove_if_in, replace_in, replace_if_in, with_access, writable_map_of, HandleMap, HandleState, KeyMap, handle_of, needs_writable}
@@ -357,10 +357,6 @@ module _ (before : State) (names : NameTable) (whole : IsWhole (map_with before 
         let is =
         ap (λ o. option_and_then {U = Reply × HandleMap} (λ m. Some (Closed, map.remove world name.core)) (option_and_then (λ s. Some s.pairs) o)) there in
         let same = same_Some (Closed, map.remove world name.core) (answer, next) (sym is ∙ e) in (ap (λ p. p.0) (sym same), ap (λ p. p.1) (sym same))
-
-    pub not_closed : (answer : Reply) (after : State) → answer ≢ Closed → Carries (Ok answer) before (call.Close name.core) after → Comes closes (Ok answer) after names
-    not_closed NoSlots after none (life, (lacks, turns)) = let tight = lacks.1 in absurd (omega (arith, tight))
-    not_closed answer after none p = absurd (none (closed_core answer p.1.1 p.1.2).0)
 
     pub closed : (after : State) → Carries (Ok Closed) before (call.Close name.core) after → Comes closes (Ok Closed) after (with_name names h None)
     closed after p =

@@ -1,17 +1,14 @@
 -- Which calls are never full while one handle alone is open, and which are where no slot is free.
 use Rattle.std.specs.Prelude.{◌≡◌, ◌≢◌, ◌≤◌, ℕ, Bool, true, false, not, Option, Some, None, Result, Ok, Err, IfErr}
 use Rattle.std.specs.FinMap as map
-use Rattle.std.proofs.Common.{refl, sym, ap, subst, arith, ◌∙◌}
+use Rattle.std.proofs.Common.{refl, ap, subst, arith, ◌∙◌}
 use Rattle.ctrie_map.specs.Vocabulary.{Call, Reply, NoSlots, State}
-use Rattle.history.specs.declared.calls.Call.TheVariants as call
 use Rattle.ctrie_map.specs.declared.errors.MapError.{MapError}
 use Rattle.ctrie_map.specs.declared.errors.MapError.TheVariants as error
-use Rattle.ctrie_map.specs.Changes.{HasKey, IsAlone, IsFullFor, OneHandleHasSlots, Refuses, core_call}
+use Rattle.ctrie_map.specs.Changes.{HasKey, IsAlone, OneHandleHasSlots, Refuses, core_call}
 use Rattle.ctrie_map.specs.Cores.{LacksSlotsBy, adds, is_without}
 use Rattle.ctrie_map.specs.Maps.{MapState, handles_of}
-use Rattle.ctrie_map.specs.Popping.{RefusesPop, key_in}
-use Rattle.ctrie_map.specs.Updating.{IsDenied, giving}
-use Rattle.ctrie_map.proofs.Changing.{told_of}
+use Rattle.ctrie_map.specs.Updating.{giving}
 
 -- a call that adds nothing lacks slots only where other handles are open
 others_open : (b : Bool) (many : ℕ) (core : State) (c : Call) → LacksSlotsBy b many core c → b ≡ false → 2 ≤ many
@@ -38,12 +35,6 @@ adds_none before handle key (shown, at, has) = ap (λ o. is_without o key) at �
 pub gives_none : (before : MapState) (handle key : ℕ) (value : Option ℕ) → HasKey before handle key → adds (handles_of before) (giving handle key value) ≡ false
 gives_none before handle key None has = refl
 gives_none before handle key (Some value) has = adds_none before handle key has
-
-pub denied_full : (before : MapState) (handle key : ℕ) → IsDenied before handle key error.Full → ⊥
-denied_full before handle key e = told_of before (call.Remove handle key) error.Full e
-
-pub pop_goes_on : (before : MapState) (handle : ℕ) (after : MapState) → IsAlone before → RefusesPop before handle after error.Full → ⊥
-pop_goes_on before handle after alone (found, reads, refuses) = never_full before (call.Remove handle (key_in found)) ⊥ after alone refl refuses
 
 -- what is told of a call that has no slots
 pub is_full : {A : Type 0} (said : Result Reply MapError → Result A MapError) (told : Result A MapError) (result : Result Reply MapError) → told ≡ said result → result ≡ Ok NoSlots →

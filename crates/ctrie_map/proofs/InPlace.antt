@@ -1,5 +1,5 @@
 -- Keys that are taken out of a map itself, where no other handle is open.
-use Rattle.std.specs.Prelude.{◌≡◌, ◌≤◌, ◌*◌, ℕ, false, is_some, List, [], ◌∷◌, Some, Result, Ok, Err, IfOk, IfErr}
+use Rattle.std.specs.Prelude.{◌≡◌, ◌≤◌, ℕ, is_some, List, [], ◌∷◌, Some, Result, Ok, Err, IfOk, IfErr}
 use Rattle.std.specs.FinMap as map
 use Rattle.std.proofs.Common.{refl, sym, ap, subst, inl, inr, arith, ◌∙◌}
 use Rattle.ctrie_map.specs.Vocabulary.{hash_of, Writable, naming, KeyMap, State}
@@ -8,11 +8,10 @@ use Rattle.ctrie_map.specs.declared.batches.Batch.TheVariants.{Removes}
 use Rattle.ctrie_map.specs.declared.errors.MapError.{MapError}
 use Rattle.ctrie_map.specs.declared.errors.MapError.TheVariants as error
 use Rattle.ctrie_map.specs.declared.names.Name.{Name}
-use Rattle.ctrie_map.specs.Batches.{CanCopy, ChangesAll, ChangesEach, FindsNoneAmong, HasLifeFor, Stops, changed_all, work_of_changes}
-use Rattle.ctrie_map.specs.Costs.{work_of_a_change}
-use Rattle.ctrie_map.specs.Drafts.{HasMap, is_worn_out_by}
+use Rattle.ctrie_map.specs.Batches.{CanCopy, ChangesAll, ChangesEach, FindsNoneAmong, HasLifeFor, Stops, changed_all}
+use Rattle.ctrie_map.specs.Drafts.{HasMap}
 use Rattle.ctrie_map.specs.Maps.{IsWhole, MapState, handles_of, map_with}
-use Rattle.ctrie_map.specs.Names.{AreNamesOf, NameTable, handles_under, how_many, name_at}
+use Rattle.ctrie_map.specs.Names.{AreNamesOf, NameTable, handles_under, how_many}
 use Rattle.ctrie_map.proofs.ByName.{shown_with}
 use Rattle.ctrie_map.proofs.Leaving.{some_open}
 use Rattle.ctrie_map.proofs.Named.{len_there, state_of}
@@ -108,7 +107,3 @@ module _ (before : State) (names : NameTable) (whole : IsWhole (map_with before 
 pub others_if : (told : Result (Unit {0}) MapError) (Full : MapError → Type 0) (many : ℕ) → 2 ≤ many → IfErr told (λ why. Full why → 2 ≤ many)
 others_if (Ok done) Full many two = tt
 others_if (Err why) Full many two = λ full. two
-
--- a copy more would want no less life
-pub lives_in_place : (many : ℕ) (before : State) → is_worn_out_by (work_of_changes many) before ≡ false → is_worn_out_by (work_of_a_change * many) before ≡ false
-lives_in_place many before left = grind (arith, left)

@@ -20,7 +20,6 @@ use Rattle.proof_sizes.specs.Growth.{CallsGrowLittle, CopiesAreNoLarger, SweepsK
 use Rattle.proof_sizes.specs.Nodes.{HandlesUseSlots, OneHandleUsesAll, nodes_of}
 use Rattle.ctrie_map.specs.Cores.{IsCalm, IsTight, Lacks, LacksSlotsBy, LeavesRoom, adds, core_denial, free_in, is_without, reserve, the_actor}
 use Rattle.ctrie_map.specs.Denials.{denial_by}
-use Rattle.ctrie_map.specs.declared.errors.MapError.{MapError}
 use Rattle.ctrie_map.proofs.Changing.{says}
 use Rattle.ctrie_map.proofs.Named.{gone_other, len_gone}
 

@@ -1,20 +1,18 @@
 -- A restore, by its names.
 use Rattle.std.specs.Prelude.{◌≡◌, ◌≢◌, ◌<◌, ◌≤◌, ℕ, Bool, true, false, not, ◌&&◌, nat_eq, nat_le, if◌then◌else◌, Option, Some, None, Result, Ok, Err, IfOk, IfErr}
 use Rattle.std.specs.FinMap as map
-use Rattle.std.proofs.Common.{refl, sym, ap, subst, arith, ne_eqb, ◌∙◌}
-use Rattle.ctrie_map.specs.Vocabulary.{Access, Writable, ReadOnly, Snapshot, KeyMap, State, handle_limit}
-use Rattle.proof_alone.specs.Calls.{RunsOut}
+use Rattle.std.proofs.Common.{refl, sym, ap, arith, ne_eqb, ◌∙◌}
+use Rattle.ctrie_map.specs.Vocabulary.{Access, Writable, ReadOnly, KeyMap, State, handle_limit}
 use Rattle.ctrie_map.specs.Beneath.map_worlds.specs.Worlds.{world_of}
 use Rattle.ctrie_map.specs.declared.errors.MapError.{MapError}
 use Rattle.ctrie_map.specs.declared.errors.MapError.TheVariants as error
 use Rattle.ctrie_map.specs.declared.names.Name.{Name}
-use Rattle.ctrie_map.specs.Cores.{the_actor}
 use Rattle.ctrie_map.specs.Denials.{is_frozen}
 use Rattle.ctrie_map.specs.Drafts.{RefusesDraft, TakesMap}
 use Rattle.ctrie_map.specs.Maps.{IsWhole, MapState, handles_of, map_with}
 use Rattle.ctrie_map.specs.Names.{NameTable, handles_under, how_many, name_at, shown_by}
 use Rattle.ctrie_map.specs.Restoring.{HasLifeIfTried, RefusesRestore, Restores, is_worn_out_to_restore, restore_denial, restore_denial_by}
-use Rattle.ctrie_map.proofs.ByName.{core_call_so, shown_with}
+use Rattle.ctrie_map.proofs.ByName.{shown_with}
 use Rattle.ctrie_map.proofs.Changing.{naming_same}
 use Rattle.ctrie_map.proofs.Named.{as_many, shows, state_of}
 

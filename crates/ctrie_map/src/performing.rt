@@ -127,7 +127,7 @@ fn carry_out(core: &mut Core, call: Call) -> Reply
     requires { CanCall core.old.state the_actor call }
     ensures { (n : ℕ) × Comes core.old.state the_actor call n result core.new.state }
 {
-    match core.at_once(ACTOR, call) {
+    match core.at_once(call) {
         Some(reply) => reply,
         None => step_through(core, call),
     }

@@ -127,14 +127,3 @@ module _ {O C A : Type 0} (answers : ℕ → O → C → A → O → Type 0) (nu
         legal = out.legal;
         called = subst (λ b. HasCalled answers number call answer y b) (sym mark) called;
       })
-
-  pub has_heard : (id other : TableId) (y marked : Logged O C A) (before : Seated O C A) (after : Place (Logged O C A) O C A) →
-      record { gate = id; number = number; seen = seen } ≡ before → other ≡ id → IsOut y y after → marked ≡ y →
-      HasHeard answers before (record { gate = other; number = number; seen = marked })
-  has_heard id other y marked before after is same out mark =
-      subst (λ (b : Seated O C A). HasHeard answers b (record { gate = other; number = number; seen = marked })) is (record {
-        gate = same;
-        number = refl;
-        followed = subst (λ b. HasFollowed answers number seen b) (sym mark) out.followed;
-        legal = subst (λ b. IsLegal answers b) (sym mark) out.legal;
-      })

@@ -5,13 +5,13 @@ ghost use Rattle.slot_arena.specs.Heaps.{in_use};
 ghost use Rattle.machine_model.specs.declared.steps.Step.TheVariants as steps;
 ghost use Rattle.machine_model.specs.States.{first_state, root_at};
 ghost use Rattle.machine_model.specs.Contents.{content_at};
-ghost use Rattle.machine_model.specs.Machine.{next, is_running, is_busy, next_kind, runs_on, begin_denial, denial_of, is_access, is_spent, access_of, handles_taken};
+ghost use Rattle.machine_model.specs.Machine.{next, is_running, is_busy, next_kind, runs_on, denial_of, is_access, is_spent, access_of, handles_taken};
 ghost use Rattle.machine_model.specs.Refusing.{RefusesContent};
 ghost use Rattle.proof_core.specs.Bounds.{Answers, Applies, AreInRange, RefusesBounds};
 ghost use Rattle.machine_core.specs.Beneath.proof_straight.specs.Resting.{IsOfRun};
 ghost use Rattle.machine_core.specs.Asking.{asked};
 ghost use Rattle.machine_core.specs.Finding.{found_along};
-ghost use Rattle.machine_core.specs.Straight.{CarriesOut};
+ghost use Rattle.machine_core.specs.Straight.{CarriesOutForAny, MayBegin};
 ghost use Rattle.machine_core.specs.Sweeping.{Reclaims};
 ghost use Rattle.machine_core.specs.Work.{ticks_of_a_start};
 ghost use Rattle.machine_core.specs.Told.{began, ended, published_in, reply_in, stepped, TellsBegin, TellsEnd, TellsStep};
@@ -161,12 +161,12 @@ impl Core {
         }
     }
 
-    /// Carries a call out at once that its actor would carry out alone, from its begin to its end; or gives none, and nothing
-    /// has changed. Which of the two no clause says.
-    pub fn at_once(&mut self, _actor: u8, call: Call) -> Option<Reply>
+    /// Carries a call out at once that an actor would carry out alone, whichever it is, from its begin to its end; or gives
+    /// none, and nothing has changed. Which of the two no clause says.
+    pub fn at_once(&mut self, call: Call) -> Option<Reply>
         requires rest { is_busy self.old.state ≡ false }
-        requires allowed { begin_denial self.old.state _actor call None ≡ None }
-        ensures done { IfSome result (λ reply. CarriesOut self.old.state _actor call reply self.new.state) }
+        requires allowed { MayBegin self.old.state call }
+        ensures done { IfSome result (λ reply. CarriesOutForAny self.old.state call reply self.new.state) }
         ensures none { IfNone result (self.new ≡ self.old) }
     {
         at_once(&mut self.parts, call)

@@ -25,10 +25,6 @@ pub record IsFramed (before after : State) : Type 0 where
   pub begun : after.begun ≡ before.begun
   pub steps : after.steps ≡ before.steps
 
--- a state has its own frame
-framed : (state : State) → IsFramed state state
-framed state = record { limits = refl; limbo = refl; epoch = refl; cursor = refl; begun = refl; steps = refl }
-
 -- taking an offer back leaves the frame
 aborted_framed : (state : State) (handle : ℕ) (offer : Descriptor) → IsFramed state (aborted state handle offer)
 aborted_framed state handle offer = grind arith

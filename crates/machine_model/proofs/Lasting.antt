@@ -43,10 +43,6 @@ module _ (m : ℕ) where
   if_lasting true x y = refl
   if_lasting false x y = refl
 
-  opened_lasting : (state : State) (offer : Descriptor) (o : Option ℕ) → opened (lasting m state) offer o ≡ lasting m (opened state offer o)
-  opened_lasting state offer None = refl
-  opened_lasting state offer (Some handle) = refl
-
   marked_lasting : (state : State) (offer : Descriptor) (o : Option ℕ) →
       record (opened (lasting m state) offer o) { actors = map (marked offer.operation) (opened (lasting m state) offer o).actors }
       ≡ lasting m (record (opened state offer o) { actors = map (marked offer.operation) (opened state offer o).actors })

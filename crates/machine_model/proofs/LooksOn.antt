@@ -27,11 +27,11 @@ use Rattle.machine_model.specs.declared.operations.Operation.{Operation}
 use Rattle.machine_model.specs.Paths.{flag_in, hash_in, is_below_root}
 use Rattle.machine_model.specs.States.{State}
 use Rattle.machine_model.specs.Finding.{key_action}
-use Rattle.machine_model.specs.Building.{build_action, changed, key_in, old_hash}
+use Rattle.machine_model.specs.Building.{build_action, changed, key_in}
 use Rattle.machine_model.specs.Renewing.{renew_action}
 use Rattle.machine_model.specs.Cleaning.{clean_action}
 use Rattle.machine_model.specs.Cleaning.{is_single, leaves_single}
-use Rattle.machine_model.specs.Climbing.{climb_action, place_in}
+use Rattle.machine_model.specs.Climbing.{climb_action}
 use Rattle.machine_model.specs.Operations.{action_of, line_action}
 use Rattle.machine_model.specs.Words.{content_of, HoldsMain, SameContents}
 use Rattle.machine_model.proofs.Looks.{bitmaps, by_content, entries, generations, keys, singles}
@@ -74,9 +74,6 @@ module _ (one other : State) (same : SameContents one other) (operation : Operat
 
   flag_same : (path : List Ref) → flag_in one operation path ≡ flag_in other operation path
   flag_same path = simp hash
-
-  old_same : (main : Ref) (position : ℕ) → old_hash one main position ≡ old_hash other main position
-  old_same main position = simp (hash, entry_same, key_of_single)
 
   -- ---- what the step does
 
@@ -124,9 +121,6 @@ module _ (one other : State) (same : SameContents one other) (operation : Operat
   clean_acts (clean.Contracted path main done) =
       ap (λ b. act.Make (contracted (is_below_root path && b) (bitmap_of (node_at one.heap main)) done)) (leaves_same done)
       ∙ ap (λ b. act.Make (contracted (is_below_root path && leaves_single other done) b done)) (bitmap_in main)
-
-  place_same : (c : Climb) (main : Ref) → place_in one operation c main ≡ place_in other operation c main
-  place_same c main = simp (flag_same, bitmap_in)
 
   climb_acts : (l : ClimbLine) → climb_action one operation l ≡ climb_action other operation l
   climb_acts (climb.Read c r) = refl

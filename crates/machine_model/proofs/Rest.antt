@@ -1,5 +1,5 @@
 -- The free slots are the rest: each slot is either flagged as used or stands in the free list, once.
-use Rattle.std.proofs.Common.{◌≡◌, ℕ, zero, suc, ◌+◌, ◌<◌, ◌≤◌, ◌==◌, Bool, true, false, cond, nat_lt, nat_le, ◌&&◌, List, ◌∷◌, length, get_or, set, replicate, count_by, refl, sym}
+use Rattle.std.proofs.Common.{◌≡◌, ℕ, zero, suc, ◌+◌, ◌<◌, ◌==◌, Bool, true, false, cond, nat_lt, nat_le, ◌&&◌, List, ◌∷◌, length, get_or, set, replicate, count_by, refl, sym}
 use Rattle.std.proofs.Common.{◌⊎◌, inl, inr, arith, leb-true, leb-false, ltb-true, ltb-false, lt-ltb, eqb-true, eq-eqb, ne_eqb, get_or-set_same, get_or-set_other, length-set}
 use Rattle.std.proofs.lemmas.Bool.{cases_eq, eqb-false}
 use Rattle.std.proofs.lemmas.List.{get_or_past, length-replicate}
@@ -32,10 +32,6 @@ times_cons k slot free = sum_by-cons (λ q. cond (q == k) 1 0) slot free
 -- how many are used after one flag is written
 used_set : (flags : List Bool) (slot : ℕ) (b : Bool) → slot < length flags → used (set flags slot b) + one_if (get_or flags slot false) ≡ used flags + one_if b
 used_set flags slot b h = sum_by-set (λ x. cond x 1 0) flags slot b false h
-
--- at most 1
-one_if_most : (b : Bool) → one_if b ≤ 1
-one_if_most b = grind arith
 
 -- the first free slot is unused
 pub first_free : (flags : List Bool) (slot : ℕ) (free : List ℕ) → IsRest flags (slot ∷ free) → (slot < length flags) × (get_or flags slot false ≡ false)

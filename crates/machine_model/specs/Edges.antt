@@ -1,5 +1,4 @@
 -- The ways from each line of a running operation to the next one: a type for each program, a constructor for each way, with what was seen there.
-pub mod Reading
 pub mod Key
 pub mod Roots
 pub mod Repairs

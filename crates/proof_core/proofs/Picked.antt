@@ -1,5 +1,5 @@
 -- The first pair that is reached.
-use Rattle.std.proofs.Common.{◌≡◌, ℕ, ◌+◌, ◌<◌, ◌≤◌, List, [], ◌∷◌, ◌++◌, Option, Some, None, length, drop, get_or, arith, ap, refl, ◌∙◌}
+use Rattle.std.proofs.Common.{◌≡◌, ℕ, ◌+◌, ◌<◌, ◌≤◌, List, [], ◌∷◌, ◌++◌, Some, None, length, drop, get_or, arith, ap, refl, ◌∙◌}
 use Rattle.std.specs.List.{flat_map}
 use Rattle.proof_core.specs.Vocabulary.{by_key, comes_before, Ref}
 use Rattle.proof_core.specs.Reading.{IsOneOf, first_of}

@@ -105,20 +105,11 @@ module _ (limits : Bounds) (states : ℕ → State) (steps : ℕ → Step) (t : 
   main_turn : MainStep limits states run.records (suc t) (assigned_at states (suc t)) t s
   main_turn = main_step limits states steps t run takes keys s o m notes
 
-  size_now : Ref → ℕ
-  size_now r = size_from trie.node (trie.main (suc t)) most_levels r
-
-  size_was : Ref → ℕ
-  size_was r = size_from trie.node (trie.main t) most_levels r
-
   -- ---- below a root that stood before
 
   module _ (handle : ℕ) (root : Root) (at : root_at (states t) handle ≡ Some root) where
     abbrev r : Ref
     r = root_of root.word
-
-    size_at : length (nodes_of (states t) handle) ≡ size_from trie.node (trie.main t) most_levels (root_of root.word)
-    size_at = handle_size steps run takes keys t (omega arith) handle root at
 
     -- one node more heavy
     heavy_at : (i : Ref) (more : ℕ) → weight_from (heavier i more) trie.node (trie.main t) most_levels (root_of root.word) ≤ length (nodes_of (states t) handle) + more

@@ -67,7 +67,7 @@ fn at_once(core: &mut Core, call: Call) -> Result<Option<Reply>, Refusal> {
     }
     match core.denial(Step::Begin { actor: ACTOR, call }) {
         Some(refusal) => Err(refusal),
-        None => Ok(core.at_once(ACTOR, call)),
+        None => Ok(core.at_once(call)),
     }
 }
 

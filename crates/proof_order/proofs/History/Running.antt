@@ -6,8 +6,10 @@ use Rattle.proof_order.specs.Vocabulary.{told_in, gave_up}
 use Rattle.proof_order.specs.Beneath.machine_model.specs.declared.actions.Action.TheVariants as act
 use Rattle.proof_order.specs.Beneath.machine_model.specs.declared.steps.Step.TheVariants as step
 use Rattle.proof_order.specs.Beneath.machine_model.specs.Moves.{Goes}
-use Rattle.proof_order.specs.Beneath.machine_model.proofs.Actors.{IsOf, is_of, mark_one, mark_only, marks_by, after_marks, of_others, of_itself, of_begin, of_end, gone_actors, of_giving_up}
+use Rattle.proof_order.specs.Beneath.machine_model.proofs.Actors.{mark_one, mark_only, marks_by, after_marks, gone_actors}
 use Rattle.proof_order.specs.Beneath.machine_model.proofs.Actors.{begin_actors, go_counts, begin_counts}
+use Rattle.proof_order.specs.Beneath.machine_model.proofs.Fates as came
+use Rattle.proof_order.specs.Beneath.machine_model.proofs.Fates.{Comes, comes}
 use Rattle.proof_generations.proofs.Handles.Running.{one_at, at_place, write_cases, begin_not_running}
 use Rattle.proof_order.specs.Facts.{Runs}
 use Rattle.proof_order.specs.Running.{IsSame}
@@ -40,27 +42,16 @@ pub record IsBegun (state : State) (s : Step) (k : ℕ) (found : Operation) : Ty
   pub is_step : s ≡ step.Begin (suc k) call number
   pub is_it : found ≡ begun_operation state call number
 
-pub own_step : (actor k : ℕ) (call : Call) (number : Option ℕ) → actor ≡ suc k → step.Begin actor call number ≡ step.Begin (suc k) call number
-own_step actor k call number own = ap (λ a. step.Begin a call number) own
-
-ran_by : (state : State) (s : Step) (o : Outcome) (after : State) → Moves state s o after → (k : ℕ) (found : Operation) → Runs after k found →
-    Dec (IsOf (suc k) s) → IsBegun state s k found ⊎ ((operation : Operation) × Runs state k operation × IsSame operation found)
-ran_by state s o after m k found at_k (no other) =
-    let (was, at_was, same) = of_others state s o after m k other found at_k in
-    inr (was, at_was, subst (λ f. IsSame was f) (sym same) (marked_same _ was))
-ran_by state s o after (Begins {actor} {call} {number} d) k found at_k (yes own) =
-    inl (record { call = call; number = number; is_step = own_step actor k call number own; is_it = of_begin state actor call (begun_operation state call number) k own found at_k })
-ran_by state s o after (Goes {actor} {operation} d is a g) k found at_k (yes own) =
-    inr (operation, at_place state actor k operation own is, subst (λ f. IsSame operation f) (sym (of_itself state actor operation k own found at_k)) (after_same state _ operation))
-ran_by state s o after (Ends {actor} d is a) k found at_k (yes own) = absurd (of_end state actor k own found at_k)
-ran_by state s o after (GivesUp {actor} {operation} {answer} d is a) k found at_k (yes own) =
-    inr (operation, at_place state actor k operation own is, subst (λ f. IsSame operation f) (of_giving_up state actor operation answer k own found at_k) (gave_up_same operation answer))
-ran_by state s o after (Sweeps spent) k found at_k (yes own) = absurd own
+ran_of : (state : State) (s : Step) (k : ℕ) (found : Operation) → Comes state s k found → IsBegun state s k found ⊎ ((operation : Operation) × Runs state k operation × IsSame operation found)
+ran_of state s k found (came.began call number is d it) = inl (record { call = call; number = number; is_step = is; is_it = it })
+ran_of state s k found (came.rested was at same other) = inr (was, at, subst (λ f. IsSame was f) (sym same) (marked_same _ was))
+ran_of state s k found (came.went was is at g it) = inr (was, at, subst (λ f. IsSame was f) (sym it) (after_same state _ was))
+ran_of state s k found (came.gave was answer is at a it) = inr (was, at, subst (λ f. IsSame was f) (sym it) (gave_up_same was answer))
 
 -- what runs after a step ran before, or begins with it
 pub ran_before : (state : State) (s : Step) (o : Outcome) (after : State) → Moves state s o after → (k : ℕ) (found : Operation) → Runs after k found →
     IsBegun state s k found ⊎ ((operation : Operation) × Runs state k operation × IsSame operation found)
-ran_before state s o after m k found at_k = ran_by state s o after m k found at_k (is_of (suc k) s)
+ran_before state s o after m k found at_k = ran_of state s k found (comes state s o after m k found at_k)
 
 -- ---- forwards
 

@@ -1,6 +1,5 @@
 -- A SWAP that has swapped its node in, along a run: a commit is of a pending node, a committed one stays so and is seen so, and it is one actor's.
-use Rattle.std.proofs.Common.{◌≡◌, ℕ, suc, ◌<◌, ◌≤◌, inl, inr, Some, sym, ap, ◌∙◌, subst, arith}
-use Rattle.std.proofs.lemmas.Bool.{cases_eq}
+use Rattle.std.proofs.Common.{◌≡◌, ℕ, suc, ◌<◌, ◌≤◌, Some, sym, ap, ◌∙◌, subst, arith}
 use Rattle.proof_order.specs.Beneath.slot_arena.specs.declared.nodes.Prev.TheVariants as prev
 use Rattle.proof_order.specs.Vocabulary.{Ref, prev_at, prev_of, Purpose, Operation, Swap, SwapLine, Bounds, Outcome, State, operation_of, action_of, line_action, Moves, grown, prev_word, IsRun}
 use Rattle.proof_order.specs.Vocabulary.{committed_now, Protocol, stage_of, stage_of_actor, stage_of_swap}
@@ -10,7 +9,7 @@ use Rattle.proof_order.specs.Beneath.machine_model.specs.declared.reading.SwapLi
 use Rattle.proof_order.specs.Beneath.machine_model.specs.declared.steps.Step.TheVariants as step
 use Rattle.proof_order.specs.Beneath.proof_memory.proofs.Safety.AtTimes.{prev_found}
 use Rattle.proof_order.specs.Beneath.proof_commits.proofs.Words.Stood.{Stood}
-use Rattle.proof_order.specs.Beneath.proof_commits.proofs.Known.Owners.{Staged, HasFresh}
+use Rattle.proof_order.specs.Beneath.proof_commits.proofs.Known.Owners.{Staged}
 use Rattle.proof_order.specs.Beneath.proof_commits.proofs.Known.Sounds.{sound_at}
 use Rattle.proof_order.specs.Beneath.proof_commits.proofs.Course.Finals.{none_final}
 use Rattle.proof_order.specs.Beneath.proof_commits.proofs.Known.Given.{Known, Decided, ActsOn}
@@ -70,13 +69,6 @@ module _ {limits : Bounds} {states : ℕ → State} {last : ℕ} (run : IsRun li
         ap (line_action (states t) operation) at ∙ ap (λ l. line_action (states t) operation (line.Swap why (record s { line = l }))) is in
         let h : HasMain (states t) s.fresh = subst (Finds (states t)) does (finds run t lt (suc k) operation runs) in
         prev_found states t s.fresh (h.slot, h.stands)
-
-  -- two actors have different nodes
-  pub one_fresh : (t j k : ℕ) → t ≤ last → (f : Ref) → HasFresh (run_words.words.stage t (suc j)) f → HasFresh (run_words.words.stage t (suc k)) f → j ≡ k
-  one_fresh t j k within f a b = elim (cases_eq j k) [
-    | inl same ↦ same
-    | inr apart ↦ absurd ((sound_at run_words t within).apart (suc j) (suc k) f (λ e. apart (omega (arith, e))) a b)
-  ]
 
   -- ---- a commit
 

@@ -32,7 +32,7 @@ use Rattle.proof_straight.proofs.Change.SwapsIn.{swaps_in}
 use Rattle.proof_straight.proofs.Way.Unchanged.{fits_at}
 use Rattle.std.proofs.lemmas.List.{append-nil}
 use Rattle.machine_model.specs.declared.reading.ReadLine.TheVariants as read
-use Rattle.proof_straight.specs.Renewals.{renewed_record, renewed_state}
+use Rattle.proof_straight.specs.Renewals.{renewed_state}
 use Rattle.proof_straight.specs.Running.{IsAtRest}
 use Rattle.proof_straight.proofs.Change.Contracted.{fits_longer}
 use Rattle.proof_straight.proofs.Steps.Going.{reads}
@@ -266,9 +266,6 @@ module _ (state : State) (past : Record) (k : ℕ) (call : Call) (root : Ref) (r
 
   abbrev pub now : State
   now = renewed_state state root indirection bitmap entries
-
-  abbrev pub now_past : Record
-  now_past = renewed_record past (state.steps + suc (suc (suc (suc (suc steps_here))))) fresh
 
   pub now_rests : IsAtRest now
   now_rests = record {
