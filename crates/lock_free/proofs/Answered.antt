@@ -19,20 +19,20 @@ use Rattle.machine_model.specs.Operations.{action_of}
 use Rattle.proof_linearizable.specs.Beneath.proof_order.proofs.Views.Unconditional.{books_of}
 use Rattle.lock_free.specs.declared.accounts.Account.{Account}
 use Rattle.lock_free.specs.declared.rules.Pool.{Pool}
+use Rattle.lock_free.specs.declared.rules.Retired.{Retired}
 use Rattle.lock_free.specs.declared.rules.View.{View}
 use Rattle.lock_free.specs.Accounts.{bounds_for, state_of, running, gone_on, HasWaited}
-use Rattle.lock_free.specs.Answering.{CallsAreAnswered, ClosesAreAnswered, RefusalsAreAnswered, Continues, HasAnswered, IsOfOthers}
+use Rattle.lock_free.specs.Answering.{CallsAreAnswered, ClosesAreAnswered, RefusalsAreAnswered, HasAnswered, IsOfOthers}
 use Rattle.lock_free.specs.Answers.{Begun, Talk, after_event, answers_of, talk_of}
 use Rattle.lock_free.specs.Beginning.{closed_by}
 use Rattle.lock_free.specs.Calling.{first_operation, once_begun, HasBegun}
 use Rattle.lock_free.specs.HandleWords.{ShutBy}
 use Rattle.lock_free.specs.Loading.{IsAt, IsSound, Runs}
-use Rattle.lock_free.specs.Passing.{Later}
-use Rattle.lock_free.specs.RunningOn.{IsStill, RunsOn}
+use Rattle.lock_free.specs.RunningOn.{RunsOn}
 use Rattle.lock_free.specs.SeatWords.{HasEnded, once_ended, pinned_for}
 use Rattle.lock_free.specs.Telling.{history_of, GoesOn}
 use Rattle.lock_free.proofs.AnswersTold.{begins_tell_nothing, ends_are_told, others_tell_nothing, runs_told}
-use Rattle.lock_free.proofs.Followings.{goes_both, goes_self}
+use Rattle.lock_free.proofs.Followings.{goes_both}
 use Rattle.lock_free.proofs.HistoriesOn.{histories_go_on}
 use Rattle.lock_free.proofs.Meanwhile.{only_others}
 use Rattle.lock_free.proofs.RunningOn.{runs_on_both, runs_on_given_up}
@@ -46,22 +46,6 @@ put_together h x y z a b more e f g =
 
 -- ---- how a seat goes on
 
-pub continues_self : (v : View) → Continues v v
-continues_self v = record { sizes = refl; actor = refl; goes_on = goes_self v.account.steps }
-
-pub continues_both : (u v w : View) → Continues u v → Continues v w → Continues u w
-continues_both u v w p q = record {
-  sizes = q.sizes ∙ p.sizes;
-  actor = q.actor ∙ p.actor;
-  goes_on = goes_both u.account.steps v.account.steps w.account.steps p.goes_on q.goes_on;
-}
-
-pub continues_later : (v w : View) → Later v w → Continues v w
-continues_later v w l = record { sizes = ap (λ (x : View). x.sizes) l.is; actor = ap (λ (x : View). x.actor) l.is; goes_on = l.goes_on }
-
-pub continues_still : (v w : View) → IsStill v w → Continues v w
-continues_still v w s = record { sizes = ap (λ (x : View). x.sizes) s.is; actor = ap (λ (x : View). x.actor) s.is; goes_on = s.goes_on }
-
 -- ---- what a begin leaves
 
 begun_talk : (actor id : ℕ) (call : Call) (opens : Option ℕ) (history : List Event) →
@@ -72,13 +56,14 @@ begun_talk actor id call opens history =
 
 -- ---- from the begin to the end
 
-module _ (words : ℕ) (before : View) (call : Call) (sound : IsSound words before) (account : Account) (pool : Pool) (drafts : List (ℕ × ℕ)) (opening : Option ℕ) (begun : Account)
+module _ (words : ℕ) (before : View) (call : Call) (sound : IsSound words before) (account : Account) (pool : Pool) (drafts : List (ℕ × ℕ)) (opening : Option ℕ) (retired : List Retired)
+    (begun : Account)
     (waited : HasWaited before.actor before.account begun) (bounds_begun : AreBounds (bounds_for before.sizes begun.steps)) where
   abbrev started : View
   started = once_begun before call begun
 
   abbrev late : View
-  late = record started { account = account; pool = pool; drafts = drafts; opening = opening }
+  late = record started { account = account; pool = pool; drafts = drafts; opening = opening; retired = retired }
 
   abbrev first : Operation
   first = first_operation before begun call
@@ -181,8 +166,8 @@ module _ (words : ℕ) (before begun late after : View) (call : Call) (found : _
   begun_is : begun ≡ once_begun before call b.account
   begun_is = b.after_is
 
-  late_is : late ≡ record (once_begun before call b.account) { account = late.account; pool = late.pool; drafts = late.drafts; opening = late.opening }
-  late_is = on.still.is ∙ ap (λ (x : View). record x { account = late.account; pool = late.pool; drafts = late.drafts; opening = late.opening }) b.after_is
+  late_is : late ≡ record (once_begun before call b.account) { account = late.account; pool = late.pool; drafts = late.drafts; opening = late.opening; retired = late.retired }
+  late_is = on.still.is ∙ ap (λ (x : View). record x { account = late.account; pool = late.pool; drafts = late.drafts; opening = late.opening; retired = late.retired }) b.after_is
 
   abbrev first_one : Operation
   first_one = first_operation before b.account call
@@ -192,7 +177,7 @@ module _ (words : ℕ) (before begun late after : View) (call : Call) (found : _
 
   pub begun_answered : HasAnswered before call before.opens answer after
   begun_answered =
-      answered_so words before call sound late.account late.pool late.drafts late.opening b.account b.waited.waited b.waited.sound.bounds
+      answered_so words before call sound late.account late.pool late.drafts late.opening late.retired b.account b.waited.waited b.waited.sound.bounds
       (subst (λ (x : View). running x.sizes x.account x.actor first_one) begun_is b.runs)
       (subst (λ (x : View). history_of x.sizes x.account ≡ history_of before.sizes b.account ++ event.Begin first_one.id before.actor call before.opens ∷ []) begun_is b.told)
       (subst (λ (x : View). AreBounds (bounds_for x.sizes x.account.steps)) begun_is then.bounds)

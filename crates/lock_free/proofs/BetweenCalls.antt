@@ -30,9 +30,6 @@ gone_on table after v w e s = record { table = e; sizes = s.sizes; actor = s.act
 
 -- ---- at rest
 
-pub rests_with : (v : View) → IsResting v → RestsWith v None
-rests_with v r = record { idle = r.idle; pin = r.pin; entered = r.entered; opens_it = r.opens }
-
 pub resting : (v : View) → RestsWith v None → IsResting v
 resting v r = record { idle = r.idle; pin = r.pin; entered = r.entered; opens = r.opens_it }
 

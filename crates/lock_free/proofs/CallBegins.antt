@@ -5,24 +5,21 @@ use Rattle.std.proofs.Common.{◌≡◌, ℕ, Bool, true, false, [], ◌∷◌, 
 use Rattle.machine_model.specs.declared.actions.Action.TheVariants as act
 use Rattle.machine_model.specs.declared.operations.Operation.{Operation}
 use Rattle.machine_model.specs.declared.steps.Step.TheVariants as step
-use Rattle.machine_model.specs.GivingUp.{gave_up}
 use Rattle.lock_free.specs.declared.calling.Denial.{Denial}
 use Rattle.lock_free.specs.declared.reading.Way.{Way}
 use Rattle.lock_free.specs.declared.rules.Pinned.{Pinned}
 use Rattle.lock_free.specs.declared.rules.View.{View}
 use Rattle.lock_free.specs.Accounts.{HasWaited}
 use Rattle.lock_free.specs.Answering.{HasAnswered}
-use Rattle.lock_free.specs.Calling.{first_operation, is_denied, is_opening, GaveUp, HasBegun, HasCalled, IsRefused}
+use Rattle.lock_free.specs.Calling.{first_operation, is_denied, is_opening, HasBegun, HasCalled, IsRefused}
 use Rattle.lock_free.specs.Loading.{IsAt, IsSound, Runs, Saw}
-use Rattle.lock_free.specs.RunningOn.{MayAnswer, RunsOn}
+use Rattle.lock_free.specs.RunningOn.{RunsOn}
 use Rattle.lock_free.specs.SeatWords.{left_by, pinned_for, unpinned, HasEnded, IsIdle}
 use Rattle.lock_free.specs.Stocks.{made_of, own_of, IsStock, Stocked}
 use Rattle.lock_free.specs.WholeCalls.{RestsWith, SameSeat}
 use Rattle.lock_free.proofs.Answered.{calls_are_answered}
 use Rattle.lock_free.proofs.BetweenCalls.{idle_stock, none_own, same_seats}
-use Rattle.lock_free.proofs.Comings.{runs_one}
 use Rattle.lock_free.proofs.Followings.{goes_both}
-use Rattle.lock_free.proofs.RunningOn.{runs_on_both, runs_on_given_up}
 use Rattle.lock_free.proofs.Shutting.{idle_seen}
 
 -- ---- it runs on
@@ -91,9 +88,6 @@ module _ (v : View) (opens : Option ℕ) (rests : RestsWith v opens) (call : Cal
     made = is.made ∙ ap (map (made_of v)) (none_own v rests.idle) ∙ ap (map (made_of u)) (sym (ap own_of b.runs));
   }
 
-  pub call_run : (w : View) → RunsOn u w → (o : Operation) → Runs w o → o.call ≡ call
-  call_run w r o s = let x = r.runs first runs_first in ap (λ (z : Operation). z.call) (runs_one w o x.0 s x.1) ∙ ap (λ (z : Operation). z.call) x.2
-
   -- and ends
   module _ (w : View) (r : RunsOn u w) (answer : Reply) (at : IsAt w (act.End answer)) (x : View) (e : HasEnded w answer x) where
     pub answered : (n : ℕ) → IsSound n v → IsSound n u → HasAnswered v call opens answer x
@@ -104,14 +98,6 @@ module _ (v : View) (opens : Option ℕ) (rests : RestsWith v opens) (call : Cal
 
     pub rests_then : RestsWith x (left_by e.operation.is_marked opens)
     rests_then = rests_ended w x answer opens (opens_run u w r ∙ opens_begun) e
-
--- ---- where it has given up
-
-pub gave_on : (u w at : View) → RunsOn u w → (answer : Reply) (may : MayAnswer w answer) → GaveUp w may.0 answer at → RunsOn u at
-gave_on u w at r answer may g = runs_on_both u w at r (runs_on_given_up w at may.0 answer may.1 g)
-
-pub gave_end : (w at : View) (o : Operation) (answer : Reply) → GaveUp w o answer at → IsAt at (act.End answer)
-gave_end w at o answer g = record { operation = record (gave_up o answer) { is_marked = g.runs.0 }; runs = g.runs.1; acts = refl }
 
 -- ---- it has not begun
 

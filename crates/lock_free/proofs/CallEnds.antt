@@ -60,9 +60,9 @@ cancelled_stock n v after sound answer (o, runs, may) cancelled stock next is si
 -- ---- its reply
 
 pub ended_with : (v after : View) (answer : Reply) → IsOn v (line.End answer) → ((other : Reply) → IsAt v (act.End other) → HasEnded v other after) → HasEndedWith v answer after
-ended_with v after answer on ends = record { late = v; on = runs_on_self v; at = at_end v answer on; ended = ends answer (at_end v answer on) }
+ended_with v after answer on ends = record { late = v; on = runs_on_self v; ends = on; ended = ends answer (at_end v answer on) }
 
 pub cancelled_with : (v after : View) (answer : Reply) → MayAnswer v answer → IsCancelled v after → HasEndedWith v answer after
 cancelled_with v after answer (o, runs, may) cancelled =
     let (at, g, e) = cancelled o answer runs may in
-    record { late = at; on = runs_on_given_up v at o answer runs g; at = at_end at answer (gave_up o answer, g.runs, refl); ended = e }
+    record { late = at; on = runs_on_given_up v at o answer runs g; ends = (gave_up o answer, g.runs, refl); ended = e }

@@ -36,6 +36,7 @@ use Rattle.lock_free.specs.Seeking.{HasSought, HasTried}
 use Rattle.lock_free.specs.Updating.{HasChanged, HasUpdated, changed_by, changed_to, updated}
 use Rattle.lock_free.specs.Walks.{HasAllPairs, IsLeft}
 use Rattle.lock_free.proofs.RunningOn.{runs_on_become, runs_on_both, runs_on_ended, runs_on_left, runs_on_moved, runs_on_rooted, runs_on_stayed}
+use Rattle.lock_free.specs.declared.reclaiming.Retiree.{Retiree}
 
 -- ---- it is to end, or may give up
 
@@ -87,7 +88,7 @@ module _ (v w : View) (slots : List ℕ) (task : Task) where
 -- ---- a change with a new single
 
 updated_same : (former : Option ℕ) (result : Swapped) (o : Operation) → IsSame o (updated former result o)
-updated_same former Commits o = refl
+updated_same former (Commits had) o = refl
 updated_same former Fails o = refl
 updated_same former Misses o = refl
 
@@ -100,8 +101,8 @@ module _ (v w : View) (former : Option ℕ) where
     pub updated_full : HasUpdated v former None w → MayAnswer w reply.NoSlots
     updated_full (l, reached) = (grown reached.more (line.Build l) o, reached.become.comes o r, refl)
 
-    pub updated_commits : HasUpdated v former (Some Commits) w → IsOn w (line.End (changed_reply o.call former))
-    updated_commits h = (updated former Commits o, h.comes o r, refl)
+    pub updated_commits : (had : Option Retiree) → HasUpdated v former (Some (Commits had)) w → IsOn w (line.End (changed_reply o.call former))
+    updated_commits had h = (updated former (Commits had) o, h.comes o r, refl)
 
     pub updated_fails : HasUpdated v former (Some Fails) w → IsOn w new_try
     updated_fails h = (updated former Fails o, h.comes o r, refl)
@@ -112,7 +113,7 @@ module _ (v w : View) (former : Option ℕ) where
 -- ---- a change of one main node alone
 
 changed_same : (path : List Ref) (former : Option ℕ) (c : Change) (result : Swapped) (o : Operation) → IsSame o (changed_by path former c result o)
-changed_same path former c Commits o = refl
+changed_same path former c (Commits had) o = refl
 changed_same path former c Fails o = refl
 changed_same path former c Misses o = refl
 
@@ -126,8 +127,8 @@ module _ (v w : View) (path : List Ref) (main : Ref) (its : Change) (former : Op
 
   module _ (o : Operation) (r : Runs v o) where
     -- it is to be answered, or to climb
-    pub changed_commits : HasChanged v (Some Commits) w → IsOn w (changed_to path former its o)
-    changed_commits h = (changed_by path former its Commits o, (h path main its former on).comes o r, refl)
+    pub changed_commits : (had : Option Retiree) → HasChanged v (Some (Commits had)) w → IsOn w (changed_to path former its o)
+    changed_commits had h = (changed_by path former its (Commits had) o, (h path main its former on).comes o r, refl)
 
     pub changed_fails : HasChanged v (Some Fails) w → IsOn w new_try
     changed_fails h = (changed_by path former its Fails o, (h path main its former on).comes o r, refl)

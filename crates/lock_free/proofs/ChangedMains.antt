@@ -31,7 +31,6 @@ use Rattle.lock_free.specs.Halves.{FitsHalf}
 use Rattle.lock_free.specs.Live.{IsLive, refs_of_claims, line_claims}
 use Rattle.lock_free.specs.Loading.{now, Runs, IsAt, IsSound, Holds}
 use Rattle.lock_free.specs.Making.{over_of, IsOverBy}
-use Rattle.lock_free.specs.Passing.{IsPlaced}
 use Rattle.lock_free.specs.SeenEntries.{entry_to, unowned, AreEntriesTo, HasEntries, HasMadeNext, HasSeenEntries, IsOver}
 use Rattle.lock_free.specs.Stocks.{Stocked, IsStock}
 use Rattle.lock_free.proofs.AllEntries.{entry_same}
@@ -102,9 +101,6 @@ module _ (n : ℕ) (v : View) (sound : IsSound n v) (name : Name) (what : Shape)
   over_it p r =
       subst (λ x. IsOverBy v.account (over_of x) (previous.Pending name)) (sym (line_is v l h.on p r))
       (name.own, h.names.is_own, ap (λ k. previous.Pending (record { slot = k; own = name.own })) (sym h.names.place))
-
-  pub main_placed : IsPlaced v h.main name.slot
-  main_placed = ((h.known.slot, h.known.used), h.names.place)
 
   -- what the change names is in use
   pub change_on : (w : View) (s : HasStayed v w) (d : Edit) (c : Change) (former : Option ℕ) → AllHold (IsLive (now v)) (now v).heap

@@ -40,6 +40,9 @@ use Rattle.lock_free.specs.Leaving.{HasLeftSwap, IsUpdate, LeavesChange, LeavesS
 use Rattle.lock_free.specs.declared.leaving.Swapping.{Swapping}
 use Rattle.lock_free.proofs.RunningOn.{runs_on_become}
 use Rattle.lock_free.proofs.SwapsBegun.{leaves_swap}
+use Rattle.lock_free.specs.Classes.{shape_class}
+use Rattle.lock_free.proofs.MainClasses.{class_known}
+use Rattle.lock_free.proofs.NewNodes.{class_on}
 
 parts_in : Line → List Ref × Change × Option ℕ
 parts_in (line.Build (build.Main path main its former)) = (path, its, former)
@@ -74,8 +77,8 @@ module _ (n : ℕ) (v w : View) (sound : IsSound n v) (indirection : ℕ) (given
     swaps : IsSwapping w (purpose.Update h.path h.former) (current h.path) h.main new.made
     swaps = (grown reached.more next h.on.0, reached.become.comes h.on.0 h.on.1, refl)
 
-    pub change_ready : IsAtSwap w indirection given.link name
-    change_ready = (
+    pub change_ready : (class : ℕ) → class ≡ shape_class given.header.shape → IsAtSwap w indirection given.link class name
+    change_ready class is = (
       purpose.Update h.path h.former,
       current h.path,
       h.main,
@@ -84,10 +87,11 @@ module _ (n : ℕ) (v w : View) (sound : IsSound n v) (indirection : ℕ) (given
       placed_on v w new.become.follows (current h.path) indirection at.placed,
       link_on v w new.become.follows (current h.path) h.main given.link at.link,
       new.placed,
+      class_on v w new.become.follows h.main at.link.main_used ∙ class_known n v sound h.main h.header h.known ∙ ap shape_class h.is_shape ∙ sym is,
     )
 
     comes_by : (s : Swapped) (o : Operation) → swap_done (purpose.Update h.path h.former) (node_at (now w).heap new.made) (is_done s) (grown reached.more next o) ≡ changed_by h.path h.former h.its s o
-    comes_by Commits o =
+    comes_by (Commits had) o =
         ap (λ l. record o { private = []; line = l })
         (ap (after_update (grown reached.more next o) h.path h.former) new.node_is
         ∙ after_changed (grown reached.more next o) h.path h.former (flag_in (now v) (record h.on.0 { is_marked = h.on.1.0 }) h.path) (node_at (now v).heap h.main) h.its

@@ -49,6 +49,9 @@ use Rattle.lock_free.specs.Leaving.{HasLeftSwap, IsRepair, IsSpent, LeavesSwap}
 use Rattle.lock_free.proofs.Leavings.{halts_gives, halts_later, halts_stock}
 use Rattle.lock_free.proofs.RunningOn.{runs_on_become, runs_on_both, runs_on_moved}
 use Rattle.lock_free.proofs.SwapsBegun.{leaves_swap}
+use Rattle.lock_free.specs.Places.{class_for}
+use Rattle.lock_free.proofs.MainClasses.{branch_class}
+use Rattle.lock_free.proofs.NewNodes.{class_on}
 
 single_kinds : (node : Node) → is_a_single node ≡ is_single node
 single_kinds (Single k v) = refl
@@ -208,9 +211,10 @@ module _ (n : ℕ) (v0 : View) (sound0 : IsSound n v0) (name : ℕ) (link : Link
             it : HasNew v2 node fresh v3
             it = subst (λ r. HasNewOrNone v2 node r v3) some new
 
-            pub clean_swap : IsAtSwap v3 name link fresh
-            clean_swap =
-                at_swap v2 l2 at2 purpose.Clean (current path) main node v3 fresh it (λ o. refl) name link (placed_later v0 v2 come2.later (current path) name b.placed) link2
+            pub clean_swap : (class : ℕ) → class ≡ class_for (count_ones bitmap) → IsAtSwap v3 name link class fresh
+            clean_swap class is =
+                at_swap v2 l2 at2 purpose.Clean (current path) main node v3 fresh it (λ o. refl) name link class (placed_later v0 v2 come2.later (current path) name b.placed) link2
+                (class_on v0 v2 (follows_later v0 v2 come2.later) main (b.branch.0, b.branch.2) ∙ branch_class n v0 sound0 main bitmap b.branch ∙ sym is)
 
             pub clean_swap_way : (way : Way) → IsOnWay v0 way → IsOnWay v3 way
             clean_swap_way way on = swap_way v2 l2 at2 purpose.Clean (current path) main node v3 fresh it (λ o. refl) way (way_on v0 v2 l0 (λ o. l2) way at0 come2 on)

@@ -1,5 +1,5 @@
 -- CLIMB makes the parent's main node anew.
-use Rattle.std.proofs.Common.{◌≡◌, ◌<◌, ◌==◌, ◌&&◌, ℕ, Bool, true, false, List, [], ◌∷◌, length, length-set, slice_set, Option, None, Some, refl, sym, ap, ap₂, subst, ◌∙◌, arith, eqb-true}
+use Rattle.std.proofs.Common.{◌≡◌, ◌<◌, ◌==◌, ◌&&◌, ℕ, Bool, true, false, List, [], ◌∷◌, length, length-set, slice_set, count_ones, Option, None, Some, refl, sym, ap, ap₂, subst, ◌∙◌, arith, eqb-true}
 use Rattle.std.proofs.lemmas.Bool.{true≢false}
 use Rattle.nodes.specs.Builders.{contracted, renewed}
 use Rattle.trie_words.specs.declared.entries.Entry.{Entry}
@@ -53,6 +53,10 @@ use Rattle.lock_free.specs.Climbs.{AskedOrSpent, HasAskedWithin, HasLeftContract
 use Rattle.lock_free.specs.Leaving.{HasLeftSwap, IsClimbAfter}
 use Rattle.lock_free.proofs.RunningOn.{runs_on_become}
 use Rattle.lock_free.proofs.SwapsBegun.{leaves_swap}
+use Rattle.lock_free.specs.declared.reclaiming.Retiree.{Retiree}
+use Rattle.lock_free.specs.Places.{class_for}
+use Rattle.lock_free.proofs.MainClasses.{branch_class}
+use Rattle.lock_free.proofs.GivenBack.{node_is}
 
 abbrev contracted_parts : Line → Climb × Ref
 contracted_parts (line.Climb (climb.Contracted c main)) = (c, main)
@@ -162,8 +166,11 @@ module _ (n : ℕ) (v0 : View) (sound0 : IsSound n v0) (parent : ℕ) (link : Li
       it : HasNew v0 node fresh v1
       it = subst (λ r. HasNewOrNone v0 node r v1) had new
 
-      pub its_swap : IsAtSwap v1 parent link fresh
-      its_swap = at_swap v0 l0 at0 (purpose.Climb c) (current (above c.path)) main node v1 fresh it (λ o. refl) parent link k.parent_at k.link_is
+      pub its_swap : (class : ℕ) → class ≡ class_for (count_ones bitmap) → IsAtSwap v1 parent link class fresh
+      its_swap class is =
+          at_swap v0 l0 at0 (purpose.Climb c) (current (above c.path)) main node v1 fresh it (λ o. refl) parent link class k.parent_at k.link_is
+          (branch_class n v0 sound0 main bitmap
+          (k.link_is.main_used.0, k.refs, k.link_is.main_used.1, sym (node_is (now v0) main k.link_is.main_used.0 k.link_is.main_used.1) ∙ k.node) ∙ sym is)
 
       pub its_way : (way : Way) → IsOnWay v0 way → IsOnWay v1 way
       its_way way on = swap_way v0 l0 at0 (purpose.Climb c) (current (above c.path)) main node v1 fresh it (λ o. refl) way on
@@ -178,7 +185,7 @@ module _ (n : ℕ) (v0 : View) (sound0 : IsSound n v0) (parent : ℕ) (link : Li
         ends : (next : Operation → Line) → ((o : Operation) → swapped o node (purpose.Climb c) (is_done r) ≡ next o) → HasEndedBy next v0 v2
         ends next same = record { follows = follows2; comes = λ o runs. ([], subst (λ x. Runs v2 (record o { private = []; line = x })) (same o) (comes2 o runs)) }
 
-        module _ (commits : r ≡ Commits) where
+        module _ (retired : Option Retiree) (commits : r ≡ Commits retired) where
           done_so : (o : Operation) → swapped o node (purpose.Climb c) (is_done r) ≡ climbed_on o c node
           done_so o = ap (λ q. swapped o node (purpose.Climb c) (is_done q)) commits
 

@@ -1,8 +1,5 @@
 -- What COPY of a call comes to in a number of tries.
-use Rattle.std.proofs.Common.{◌≡◌, ◌<◌, ℕ, Bool, true, false, Option, Some, None, Ok, refl, sym, ap, subst, ◌∙◌}
-use Rattle.std.proofs.lemmas.Bool.{false≢true}
-use Rattle.std.proofs.lemmas.Option.{none-some}
-use Rattle.std.specs.Prelude.{if◌then◌else◌}
+use Rattle.std.proofs.Common.{◌≡◌, ◌<◌, ℕ, Bool, true, false, is_some, Option, Some, Ok, refl, sym, ap, subst, ◌∙◌}
 use Rattle.history.specs.declared.calls.Access.{Access}
 use Rattle.history.specs.declared.calls.Call.{Call}
 use Rattle.machine_model.specs.declared.lines.Line.TheVariants as line
@@ -10,8 +7,7 @@ use Rattle.machine_model.specs.declared.operations.Operation.{Operation}
 use Rattle.machine_model.specs.Calls.{copies, handle_of, opens_handle}
 use Rattle.machine_model.specs.Copying.{copied_reply}
 use Rattle.machine_model.specs.Lines.{new_try}
-use Rattle.machine_model.specs.Machine.{number_for}
-use Rattle.machine_model.specs.States.{handle_limit, State}
+use Rattle.machine_model.specs.States.{handle_limit}
 use Rattle.lock_free.specs.declared.copy_roots.CopyKind.{CopyKind}
 use Rattle.lock_free.specs.declared.leaving.Completing.{Completing}
 use Rattle.lock_free.specs.declared.leaving.Left.TheVariants as left
@@ -23,15 +19,15 @@ use Rattle.lock_free.specs.Calling.{HasCalled}
 use Rattle.lock_free.specs.CopySteps.{copied_line, copy_kind, HasCopied, HasLeftCopy, HasMadeCopy, HasSettledCopy, IsAtTry, IsCopying, IsOwnCompleting, IsToOpenAll, LeavesCopy}
 use Rattle.lock_free.specs.Holding.{IsOn}
 use Rattle.lock_free.specs.Loading.{IsSound, Runs, Saw}
-use Rattle.lock_free.specs.Parking.{HasRunTo, IsCopyLeft, OpensNone}
+use Rattle.lock_free.specs.Parking.{HasRunTo, IsCopyLeft, IsToOpenAs}
 use Rattle.lock_free.specs.Passing.{IsOnWay}
 use Rattle.lock_free.specs.RunningOn.{RunsOn}
 use Rattle.lock_free.specs.Seeking.{IsCalled}
 use Rattle.lock_free.specs.WholeCalls.{RestsWith}
 use Rattle.lock_free.proofs.CallBegins.{first, opens_begun, runs_first}
+use Rattle.lock_free.proofs.CallNumbers.{opens_first}
 use Rattle.lock_free.proofs.CallsRunOn.{copied_runs_on, copy_full}
 use Rattle.lock_free.proofs.Comings.{runs_one, saw_runs}
-use Rattle.lock_free.proofs.CopiesOn.{left_may}
 use Rattle.lock_free.proofs.Laters.{saw_later}
 use Rattle.lock_free.proofs.RunningOn.{still_both, still_later}
 
@@ -71,7 +67,7 @@ module _ (v : View) (o : Operation) (r : Runs v o) (call : Call) (its : o.call �
   made_spent m = (copied_runs_on v w false m, copy_full v w o r m)
 
   pub left_spent : (k : CopyKind) (handle : ℕ) → HasLeftCopy v k handle opens left.MayGiveUp w → HasRunTo v came.Spent w
-  left_spent k handle l = left_may v o r k handle opens w l
+  left_spent k handle (on, may) = let (p, rp, is) = on.runs o r in (on, (p, rp, may p rp))
 
   pub left_parked : (k : CopyKind) → k ≡ copy_kind call → (handle : ℕ) (s : Completing) → LeavesCopy v k handle opens s w → HasRunTo v (came.Parked (parked.Copies s opens)) w
   left_parked k kind handle s l =
@@ -101,35 +97,29 @@ module _ (v : View) (s : Completing) (opens : Option ℕ) (p : IsCopyLeft v s op
   pub its_opening : (k : CopyKind) → k ≡ copy_kind call → IsToOpenAll v k opens s.offer
   its_opening k is = subst (λ z. IsToOpenAll v z opens s.offer) (ap copy_kind its_call ∙ sym is) p.opening
 
--- ---- one that opens nothing
+-- ---- it begins
 
-pub copying_none : (v : View) (call : Call) (way : Way) → IsCalled v call way.access → IsOnWay v way → OpensNone v → IsCopying v (copy_kind call) way.handle None
-copying_none v call way called on (seat, none) = record {
-  reserved = seat;
-  low = λ n e. absurd (none-some n e);
+pub copying_so : (v : View) (call : Call) (way : Way) (opens : Option ℕ) → IsCalled v call way.access → IsOnWay v way → IsToOpenAs v opens → IsCopying v (copy_kind call) way.handle opens
+copying_so v call way opens called on is = record {
+  reserved = is.seat;
+  low = is.low;
   which = λ o r. ap copy_kind (called o r).0;
-  on = λ o r. ((on o r).1, none o r);
+  on = λ o r. ((on o r).1, is.operation o r);
 }
 
 pub copy_at : (v : View) (call : Call) (access : Access) → IsCalled v call access → copies call ≡ true → IsOn v new_try → IsAtTry v
 copy_at v call access called is at = (at.0, at.1, at.2, ap copies (called at.0 at.1).0 ∙ is)
 
--- ---- a call that has begun and opens nothing
+-- ---- a call that has begun
 
-no_number : (state : State) (b : Bool) (p : Option ℕ) → b ≡ false → (if b then Some (number_for state p) else None) ≡ None
-no_number state false p e = refl
-no_number state true p e = absurd (false≢true (sym e))
+module _ (v : View) (opens : Option ℕ) (rests : RestsWith v opens) (c : Call) (way : Way) (u : View) (h : HasCalled v c (Ok way) u) where
+  pub begun_low : handle_of c < handle_limit → way.handle < 256
+  begun_low low = subst (λ k. k < 256) (h.3 (first v opens rests c way u h) (runs_first v opens rests c way u h)).1 low
 
-module _ (v : View) (rests : RestsWith v None) (c : Call) where
-  module _ (way : Way) (u : View) (h : HasCalled v c (Ok way) u) where
-    pub begun_low : handle_of c < handle_limit → way.handle < 256
-    begun_low low = subst (λ k. k < 256) (h.3 (first v None rests c way u h) (runs_first v None rests c way u h)).1 low
-
-  pub begun_none : opens_handle c ≡ false → (way : Way) (u : View) → HasCalled v c (Ok way) u → OpensNone u
-  begun_none plain way u h = (
-    opens_begun v None rests c way u h,
-    λ o r.
-        (let begun = first v None rests c way u h in
-        let opens_is : begun.opens ≡ None = no_number _ (opens_handle c) v.opens plain in
-        ap (λ (z : Operation). z.opens) (runs_one u o begun r (runs_first v None rests c way u h)) ∙ opens_is),
-  )
+  pub begun_opens : opens_handle c ≡ is_some opens → ((n : ℕ) → opens ≡ Some n → n < 256) → IsToOpenAs u opens
+  begun_opens number low = record {
+    seat = opens_begun v opens rests c way u h;
+    operation = λ o r.
+        ap (λ (z : Operation). z.opens) (runs_one u o (first v opens rests c way u h) r (runs_first v opens rests c way u h)) ∙ opens_first v opens rests c number way u h;
+    low = low;
+  }

@@ -1,4 +1,4 @@
--- Where a copy or a clear is to end it is marked just where it answers that it was carried out.
+-- Where a copy or a clear is to end it answers that it was carried out, and is marked, or that no slot was had.
 use Rattle.std.proofs.Common.{◌≡◌, ℕ, suc, ◌||◌, Bool, true, false, cond, inl, inr, List, Option, Some, None, refl, sym, ap, ◌∙◌, subst}
 use Rattle.std.proofs.lemmas.Bool.{cases_Bool, false≢true}
 use Rattle.std.proofs.lemmas.Option.{none-some, same_Some}
@@ -47,17 +47,24 @@ use Rattle.proof_linearizable.specs.Beneath.proof_order.proofs.Offers.Standing.{
 
 -- ---- on its lines
 
+-- a copy or a clear is answered so
+abbrev pub EndsCopies : Reply → Type 0
+EndsCopies (reply.Opened number) = Unit {0}
+EndsCopies reply.Cleared = Unit {0}
+EndsCopies reply.NoSlots = Unit {0}
+EndsCopies answer = ⊥
+
 -- a line of ROOT or COPY, or the end, where it is marked if it answers that it was carried out
-abbrev Fits : Call → Bool → Line → Type 0
+abbrev pub Fits : Call → Bool → Line → Type 0
 Fits call mark (line.Root l) = Unit {0}
 Fits call mark (line.Copy l) = Unit {0}
-Fits call mark (line.End answer) = tells_effect call answer ≡ true → mark ≡ true
+Fits call mark (line.End answer) = (tells_effect call answer ≡ true → mark ≡ true) × EndsCopies answer
 Fits call mark l = ⊥
 
 fits_more : (call : Call) (a b : Bool) (l : Line) → (a ≡ true → b ≡ true) → Fits call a l → Fits call b l
 fits_more call a b (line.Root l) more h = tt
 fits_more call a b (line.Copy l) more h = tt
-fits_more call a b (line.End answer) more h = λ tells. more (h tells)
+fits_more call a b (line.End answer) more h = ((λ tells. more (h.0 tells)), h.1)
 fits_more call a b l more h = absurd h
 
 first_fits : (call : Call) → copies call ≡ true → (mark : Bool) → Fits call mark (first_line call)
@@ -81,11 +88,15 @@ given_fits (Clear h) c mark root main = tt
 given_fits call c mark root main = tt
 
 refused_fits : (call : Call) (mark : Bool) → Fits call mark (line.End reply.NoSlots)
-refused_fits call mark = λ tells. absurd (false≢true tells)
+refused_fits call mark = ((λ tells. absurd (false≢true tells)), tt)
+
+copied_ends : (call : Call) (opens : Option ℕ) → EndsCopies (copied_reply call opens)
+copied_ends (Clear h) opens = tt
+copied_ends call opens = tt
 
 -- once COMPLETE has told whether it carried the offer out
 ended_fits : (o : Operation) (mark b : Bool) → (b ≡ true → mark ≡ true) → Fits o.call mark (cond b (line.End (copied_reply o.call o.opens)) new_try)
-ended_fits o mark true marked = λ tells. marked refl
+ended_fits o mark true marked = ((λ tells. marked refl), copied_ends o.call o.opens)
 ended_fits o mark false marked = tt
 
 never_gives : (done : Bool) (a : After ReadLine Ref) → after_reading a ≡ Gives done → ⊥
@@ -212,6 +223,14 @@ ending_of limits =
       fit = λ k found at_k. fits_by (run limits steps) h s k found (comes (run limits steps) s o after m k found at_k);
     })
 
+-- ---- so it is on such a line
+pub copy_fits_line : (limits : Bounds) (steps : List Step) (actor : ℕ) (o : Operation) → operation_of (run limits steps) actor ≡ Some o → copies o.call ≡ true →
+    Fits o.call o.is_marked o.line
+unfolding AllFit
+copy_fits_line limits steps actor o runs is =
+    let at : (k : ℕ) × (actor ≡ suc k) × Runs (run limits steps) k o = place_of_actor (run limits steps) actor o runs in
+    (ending_of limits steps).fit at.0 o at.2 is
+
 -- ---- it is marked just where it is to answer so
 pub ends_marked : (limits : Bounds) (steps : List Step) (actor : ℕ) (o : Operation) (answer : Reply) → operation_of (run limits steps) actor ≡ Some o → copies o.call ≡ true →
     o.line ≡ line.End answer → o.is_marked ≡ tells_effect o.call answer
@@ -234,7 +253,7 @@ ends_marked limits steps actor o answer runs is on = by (tells_effect o.call ans
     ]
 
     by : (b : Bool) → tells_effect o.call answer ≡ b → o.is_marked ≡ b
-    by true tells = subst (λ l. Fits o.call o.is_marked l) on (h.fit at.0 o at.2 is) tells
+    by true tells = (subst (λ l. Fits o.call o.is_marked l) on (h.fit at.0 o at.2 is)).0 tells
     by false tells = elim (cases_Bool o.is_marked) [
       | inl marked ↦ absurd (false≢true (sym tells ∙ answers marked))
       | inr not_yet ↦ not_yet

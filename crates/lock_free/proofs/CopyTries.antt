@@ -162,7 +162,7 @@ module _ (n : ℕ) (u : View) (sound : IsSound n u) (k : CopyKind) (handle : ℕ
       none_own = ap own_of (took_so o at.1.1).1
 
     -- by its step the seat stays what it was
-    still_step : (x : View) (account : Account) → Waited w account → (y : View) → x ≡ record w { account = y.account; pool = y.pool; drafts = y.drafts; opening = y.opening } →
+    still_step : (x : View) (account : Account) → Waited w account → (y : View) → x ≡ record w { account = y.account; pool = y.pool; drafts = y.drafts; opening = y.opening; retired = y.retired } →
         y.account.steps ≡ account.steps ++ step.Go w.actor ∷ [] → IsStill u x
     still_step x account waited y is more =
         still_both u w x still_w

@@ -1,4 +1,4 @@
--- A count changes, and what its seat holds: the rest of the rule holds still.
+-- The word of a count changes, and what its seat holds, and which links it knows: the rest of the rule holds still.
 use Rattle.history.specs.declared.calls.Call.{Call}
 use Rattle.std.proofs.Common.{◌≡◌, ◌≢◌, ℕ, ◌<◌, ◌≤◌, inl, List, Contains, set, slice_index, refl, subst, ◌∙◌, arith, length-set}
 use mathlib.Core.Option.{some}
@@ -10,7 +10,6 @@ use Rattle.lock_free.specs.declared.accounts.Known.{Known}
 use Rattle.lock_free.specs.declared.rules.View.{View}
 use Rattle.lock_free.specs.declared.sizes.Sizes.{Sizes}
 use Rattle.lock_free.specs.Accounts.{state_of, place_at}
-use Rattle.lock_free.specs.Counting.{owing}
 use Rattle.lock_free.specs.Counts.{IsCount}
 use Rattle.lock_free.specs.Nodes.{class_of}
 use Rattle.lock_free.specs.Places.{first_slot_word, generation_word, pin_word, root_word, IsTaken}
@@ -22,12 +21,13 @@ use Rattle.lock_free.proofs.Geometry.{IsWordOf, root_below}
 use Rattle.lock_free.proofs.Meanings.{no_tries}
 use Rattle.lock_free.proofs.Seats.{ran_so, numbers_so, Stays, other_kept, own_still}
 
-module _ (sizes : Sizes) (s : Table.State Call View) (kept : IsKept sizes s) (id : ℕ) (v : View) (at : get_elem? s.views id ≡ some v) (c : ℕ) (is : IsCount sizes c) (x : ℕ) (owed : List ℕ) where
+module _ (sizes : Sizes) (s : Table.State Call View) (kept : IsKept sizes s) (id : ℕ) (v : View) (at : get_elem? s.views id ≡ some v) (c : ℕ) (is : IsCount sizes c) (x : ℕ) (owed : List ℕ)
+    (links : List (ℕ × ℕ)) where
   abbrev words_then : List ℕ
   words_then = set s.words c x
 
   abbrev view_then : View
-  view_then = owing v owed
+  view_then = record v { owed = owed; links = links }
 
   far : first_slot_word sizes ≤ c
   far = count_above sizes c is

@@ -12,6 +12,7 @@ use Rattle.atomic_table.proofs.Lists.{set_again}
 use Rattle.lock_free.specs.declared.rules.View.{View}
 use Rattle.lock_free.specs.declared.sizes.Sizes.{Sizes}
 use Rattle.lock_free.specs.Counting.{has_lowered, has_raised, owing}
+use Rattle.lock_free.specs.Links.{AreLinked, link_in}
 use Rattle.lock_free.specs.Counts.{AreCounted, IsCount, extra, how_often, owed_on}
 use Rattle.lock_free.specs.Loading.{IsSound}
 use Rattle.lock_free.specs.Places.{count_word, IsSlot}
@@ -21,11 +22,13 @@ use Rattle.lock_free.proofs.CountWords.{count_inside, count_not_epoch}
 use Rattle.lock_free.proofs.CountsStay.{counts_stay, often_first, often_other, owed_set}
 use Rattle.lock_free.proofs.EpochStays.{epoch_in, epochs_stay, stays_elsewhere, was_then}
 use Rattle.lock_free.proofs.Exchanged.{either_hit, words_hit, words_miss}
+use Rattle.lock_free.proofs.LinksStay.{SameLinks, linked_then}
 use Rattle.lock_free.proofs.Moments.{allowed_by}
 use Rattle.lock_free.proofs.RetiredStay.{epoch_still, retired_then}
 
 module _ (me : Me Call View) (s : Table.State Call View) (kept : IsKept me.0.sizes s) (epochs : AreEpochs s.words s.views) (retired : AreRetired me.0.sizes s.words s.views)
-    (counted : AreCounted me.0.sizes s.words s.views) (id : ℕ) (at : get_elem? s.views id ≡ some me.0) (word : ℕ) (is : IsCount me.0.sizes word) (count new : ℕ) where
+    (counted : AreCounted me.0.sizes s.words s.views) (linked : AreLinked me.0.sizes s.words s.views) (id : ℕ) (at : get_elem? s.views id ≡ some me.0) (word : ℕ) (is : IsCount me.0.sizes word)
+    (count new : ℕ) where
   abbrev v : View
   v = me.0
 
@@ -39,13 +42,13 @@ module _ (me : Me Call View) (s : Table.State Call View) (kept : IsKept me.0.siz
   abbrev pub Leaves : View → Type 0
   Leaves w =
       IsKept v.sizes (record { words = words_then; homes = s.homes; views = set s.views id w }) × AreEpochs words_then (set s.views id w) × AreRetired v.sizes words_then (set s.views id w)
-      × AreCounted v.sizes words_then (set s.views id w)
+      × AreCounted v.sizes words_then (set s.views id w) × AreLinked v.sizes words_then (set s.views id w)
 
   same_epoch : epoch_in words_then ≡ epoch_in s.words
   same_epoch = stays_elsewhere s.words word (λ n. either (n == count) new n) (inl (count_not_epoch v.sizes word is))
 
   -- where it has what is exchanged
-  module _ (hit : found ≡ count) (owed : List ℕ)
+  module _ (hit : found ≡ count) (high : link_in new ≡ link_in count) (owed : List ℕ)
       (grows : how_often word owed + count % 2 ^ 32 ≤ how_often word v.owed + new % 2 ^ 32) (others : (c : ℕ) → c ≢ word → how_often c owed ≡ how_often c v.owed) where
     abbrev w : View
     w = owing v owed
@@ -53,6 +56,13 @@ module _ (me : Me Call View) (s : Table.State Call View) (kept : IsKept me.0.siz
     is_new : slice_index words_then word ≡ new
     is_new =
         get_or-set_same s.words word (either (found == count) new found) 0 (subst (λ n. word < n) (sym kept.size) (count_inside v.sizes word is)) ∙ either_hit found count new hit
+
+    same_links : SameLinks v.sizes s.words words_then
+    same_links c is_c = elim (cases_eq c word) [
+      | inl same ↦
+          subst (λ n. link_in (slice_index words_then n) ≡ link_in (slice_index s.words n)) (sym same) (ap link_in is_new ∙ high ∙ ap link_in (sym hit))
+      | inr differs ↦ ap link_in (get_or-set_other s.words word c (either (found == count) new found) 0 differs)
+    ]
 
     balance : (c : ℕ) → IsCount v.sizes c → owed_on c (set s.views id w) + extra s.words c ≤ owed_on c s.views + extra words_then c
     balance c is_c = elim (cases_eq c word) [
@@ -70,10 +80,11 @@ module _ (me : Me Call View) (s : Table.State Call View) (kept : IsKept me.0.siz
     pub leaves : Leaves w
     leaves = (
       subst (λ ws. IsKept v.sizes (record { words = ws; homes = s.homes; views = set s.views id w })) (words_hit v s kept id at word count new hit word refl)
-          (count_kept v.sizes s kept id v at word is new owed),
+          (count_kept v.sizes s kept id v at word is new owed v.links),
       epochs_stay s.words words_then s.views (set s.views id w) same_epoch (was_then s.views id v at w (record { actor = refl; epoch = refl; passed = refl; pinned = λ p e. e })) epochs,
       retired_then s.views id v at w refl (λ p e. e) v.sizes s.words words_then (epoch_still s.words words_then same_epoch) retired,
       counts_stay v.sizes s.words words_then s.views (set s.views id w) balance counted,
+      linked_then s.views id v at w refl (λ y c. c) v.sizes s.words words_then same_links linked,
     )
 
   -- and where it hasn't
@@ -86,6 +97,7 @@ module _ (me : Me Call View) (s : Table.State Call View) (kept : IsKept me.0.siz
         subst (λ ws. AreEpochs ws (set s.views id v)) same (subst (AreEpochs s.words) again epochs),
         subst (λ ws. AreRetired v.sizes ws (set s.views id v)) same (subst (AreRetired v.sizes s.words) again retired),
         subst (λ ws. AreCounted v.sizes ws (set s.views id v)) same (subst (AreCounted v.sizes s.words) again counted),
+        subst (λ ws. AreLinked v.sizes ws (set s.views id v)) same (subst (AreLinked v.sizes s.words) again linked),
       )
 
 -- ---- where a count stands
@@ -103,16 +115,16 @@ pub raise_allowed : (sizes : Sizes) (size id : ℕ) (me : Me Call View) (some_se
 raise_allowed sizes size id me some_seats word is count room =
     allowed_by sizes size id me word (λ n. either (n == count) (count + 1) n) (has_raised (step size word count (count + 1) none) me)
     some_seats
-    (λ s kept epochs retired counted at. elim (cases_eq (slice_index s.words word) count) [
+    (λ s kept epochs retired counted linked at. elim (cases_eq (slice_index s.words word) count) [
       | inl hit ↦
           (let v = me.0 in
           let first = often_first word v.owed in
-          let x = leaves me s kept epochs retired counted id at word is count (count + 1) hit (word ∷ v.owed) (omega (arith, first, room))
+          let x = leaves me s kept epochs retired counted linked id at word is count (count + 1) hit (omega (arith, room)) (word ∷ v.owed) (omega (arith, first, room))
           (λ c differs. often_other c word v.owed (λ e. differs (sym e))) in
-          (owing v (word ∷ v.owed), x.0, x.1, x.2, x.3, refl, (λ e. refl, λ other. absurd (other hit))))
+          (owing v (word ∷ v.owed), x.0, x.1, x.2, x.3, x.4, refl, (λ e. refl, λ other. absurd (other hit))))
       | inr differs ↦
-          (let x = missed me s kept epochs retired counted id at word is count (count + 1) differs in
-          (me.0, x.0, x.1, x.2, x.3, refl, (λ e. absurd (differs e), λ other. refl)))
+          (let x = missed me s kept epochs retired counted linked id at word is count (count + 1) differs in
+          (me.0, x.0, x.1, x.2, x.3, x.4, refl, (λ e. absurd (differs e), λ other. refl)))
     ])
 
 pub held_sound : (words : ℕ) (v : View) (owed : List ℕ) → IsSound words v → IsSound words (owing v owed)
@@ -129,14 +141,14 @@ pub lower_allowed : (sizes : Sizes) (size id : ℕ) (me : Me Call View) (some_se
 lower_allowed sizes size id me some_seats word is rest its count some_count =
     allowed_by sizes size id me word (λ n. either (n == count) (count - 1) n) (has_lowered (step size word count (count - 1) none) me)
     some_seats
-    (λ s kept epochs retired counted at. elim (cases_eq (slice_index s.words word) count) [
+    (λ s kept epochs retired counted linked at. elim (cases_eq (slice_index s.words word) count) [
       | inl hit ↦
           (let v = me.0 in
           let first = ap (how_often word) its ∙ often_first word rest in
-          let x = leaves me s kept epochs retired counted id at word is count (count - 1) hit rest (omega (arith, first, some_count))
+          let x = leaves me s kept epochs retired counted linked id at word is count (count - 1) hit (omega (arith, some_count)) rest (omega (arith, first, some_count))
           (λ c differs. sym (ap (how_often c) its ∙ often_other c word rest (λ e. differs (sym e)))) in
-          (owing v rest, x.0, x.1, x.2, x.3, refl, (λ e other same. ap (λ xs. (owing v xs, me.1)) (rest_is word rest other (sym its ∙ same)), λ other. absurd (other hit))))
+          (owing v rest, x.0, x.1, x.2, x.3, x.4, refl, (λ e other same. ap (λ xs. (owing v xs, me.1)) (rest_is word rest other (sym its ∙ same)), λ other. absurd (other hit))))
       | inr differs ↦
-          (let x = missed me s kept epochs retired counted id at word is count (count - 1) differs in
-          (me.0, x.0, x.1, x.2, x.3, refl, (λ e. absurd (differs e), λ other. refl)))
+          (let x = missed me s kept epochs retired counted linked id at word is count (count - 1) differs in
+          (me.0, x.0, x.1, x.2, x.3, x.4, refl, (λ e. absurd (differs e), λ other. refl)))
     ])

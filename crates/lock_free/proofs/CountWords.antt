@@ -1,5 +1,5 @@
 -- Words of counts are apart from each other, and from all words that nodes, offers, handles and seats have.
-use Rattle.std.proofs.Common.{◌≡◌, ◌≢◌, ◌<◌, ◌≤◌, ◌⊎◌, inl, inr, ℕ, zero, suc, List, set, slice_index, sym, ap, subst, ◌∙◌, arith}
+use Rattle.std.proofs.Common.{◌≡◌, ◌≢◌, ◌<◌, ◌≤◌, ◌⊎◌, inl, inr, ℕ, zero, suc, List, set, slice_index, refl, sym, ap, subst, ◌∙◌, arith}
 use Rattle.std.proofs.lemmas.List.{get_or-set_other, set-get_or}
 use Rattle.lock_free.specs.declared.sizes.Sizes.{Sizes}
 use Rattle.lock_free.specs.Counts.{IsCount}
@@ -39,6 +39,34 @@ module _ (sizes : Sizes) where
   slot_count_beside (suc (suc zero)) x (suc (suc zero)) y j p q g h w e = omega (arith, g.first, h.first, w.low, w.high, e)
   slot_count_beside (suc (suc (suc b))) x c y j p q g h w e = absurd (omega (arith, p))
   slot_count_beside b x (suc (suc (suc c))) y j p q g h w e = absurd (omega (arith, q))
+
+  -- two slots don't have one count
+  pub count_once : (b x c y : ℕ) → b < 3 → c < 3 → IsSlot sizes b x → IsSlot sizes c y → count_word sizes b x ≡ count_word sizes c y → (b ≡ c) × (x ≡ y)
+  count_once zero x zero y p q g h e = (refl, omega (arith, e))
+  count_once zero x (suc zero) y p q g h e = absurd (omega (arith, g.first, h.first, h.few, e))
+  count_once zero x (suc (suc zero)) y p q g h e = absurd (omega (arith, g.first, h.first, h.few, e))
+  count_once (suc zero) x zero y p q g h e = absurd (omega (arith, g.first, g.few, h.first, e))
+  count_once (suc zero) x (suc zero) y p q g h e = (refl, omega (arith, e))
+  count_once (suc zero) x (suc (suc zero)) y p q g h e = absurd (omega (arith, g.first, g.few, h.first, e))
+  count_once (suc (suc zero)) x zero y p q g h e = absurd (omega (arith, g.first, g.few, h.first, e))
+  count_once (suc (suc zero)) x (suc zero) y p q g h e = absurd (omega (arith, g.first, h.first, h.few, e))
+  count_once (suc (suc zero)) x (suc (suc zero)) y p q g h e = (refl, omega (arith, e))
+  count_once (suc (suc (suc b))) x c y p q g h e = absurd (omega (arith, p))
+  count_once b x (suc (suc (suc c))) y p q g h e = absurd (omega (arith, q))
+
+  -- a slot has one class
+  pub one_class : (b c x : ℕ) → b < 3 → c < 3 → IsSlot sizes b x → IsSlot sizes c x → b ≡ c
+  one_class zero zero x p q g h = refl
+  one_class zero (suc zero) x p q g h = absurd (omega (arith, g.first, g.few, h.first))
+  one_class zero (suc (suc zero)) x p q g h = absurd (omega (arith, g.first, g.few, h.first))
+  one_class (suc zero) zero x p q g h = absurd (omega (arith, g.first, h.few, h.first))
+  one_class (suc zero) (suc zero) x p q g h = refl
+  one_class (suc zero) (suc (suc zero)) x p q g h = absurd (omega (arith, g.first, g.few, h.first))
+  one_class (suc (suc zero)) zero x p q g h = absurd (omega (arith, g.first, h.few, h.first))
+  one_class (suc (suc zero)) (suc zero) x p q g h = absurd (omega (arith, g.first, h.few, h.first))
+  one_class (suc (suc zero)) (suc (suc zero)) x p q g h = refl
+  one_class (suc (suc (suc b))) c x p q g h = absurd (omega (arith, p))
+  one_class b (suc (suc (suc c))) x p q g h = absurd (omega (arith, q))
 
   pub slot_taken : (words : List ℕ) → HaveTaken sizes words → (class name : ℕ) → class < 3 → IsTaken sizes words class name → IsSlot sizes class name
   slot_taken words have class name low h = record { number = h.number; few = (let most = have class low in omega (arith, h.few, most)); first = h.first }

@@ -1,14 +1,12 @@
 -- What the proof on words asks of the definition: what a step that only reads leaves, and what stays while others take steps.
-use Rattle.std.proofs.Common.{◌≡◌, ◌++◌, ℕ, Bool, true, [], ◌∷◌, Contains, Some, None, refl, sym, ap, ◌∙◌, subst, length, get_or, append-nil, arith}
+use Rattle.std.proofs.Common.{◌≡◌, ◌++◌, ℕ, Bool, true, [], ◌∷◌, Contains, Some, refl, sym, ap, ◌∙◌, subst, length, append-nil, arith}
 use Rattle.std.proofs.lemmas.List.Elements.{Contains-get_or}
 use Rattle.machine_model.specs.Beneath.slot_arena.specs.declared.refs.Ref.{Ref}
-use Rattle.machine_model.specs.Beneath.slot_arena.specs.declared.nodes.Slot.{Slot}
-use Rattle.machine_model.specs.Beneath.slot_arena.specs.Refs.{slot_of}
 use Rattle.machine_model.specs.declared.actions.Action.{Action}
 use Rattle.machine_model.specs.declared.actions.Action.TheVariants as act
 use Rattle.machine_model.specs.declared.operations.Operation.{Operation}
 use Rattle.machine_model.specs.Operations.{action_of}
-use Rattle.machine_model.specs.Beneath.slot_arena.specs.Heaps.{stored, node_at}
+use Rattle.machine_model.specs.Beneath.slot_arena.specs.Heaps.{node_at}
 use Rattle.machine_model.specs.declared.lines.Line.{Line}
 use Rattle.machine_model.specs.Acting.{acted, gone, operation_after, attempt_after, mark_after}
 use Rattle.machine_model.specs.Calls.{handle_of}
@@ -16,7 +14,6 @@ use Rattle.machine_model.specs.Machine.{AreBounds, run}
 use Rattle.machine_model.specs.Moves.{GoesOn}
 use Rattle.machine_model.specs.Operations.{line_action}
 use Rattle.machine_model.specs.States.{State, operation_of, with_operation}
-use Rattle.machine_model.proofs.Grown.{standing_parts, node_standing}
 use Rattle.proof_memory.specs.Laws.{IsInUse}
 use Rattle.proof_memory.specs.Wants.{AMain, AllHold, meets, action_wants}
 use Rattle.proof_memory.proofs.Claims.Uses.{safe_of, meets_of}
@@ -26,7 +23,6 @@ use Rattle.proof_memory.proofs.Safety.States.{IsSafe}
 use Rattle.proof_garbage.proofs.Known.{named_known}
 use Rattle.proof_waiting.specs.Beneath.proof_slots.proofs.Padded.Lines.{acts_wide}
 use Rattle.proof_waiting.proofs.Operations.{operations_wait}
-use Rattle.proof_memory.specs.Wants.{is_main_node}
 use Rattle.lock_free.specs.declared.accounts.Account.{Account}
 use Rattle.lock_free.specs.declared.sizes.Sizes.{Sizes}
 use Rattle.lock_free.specs.Accounts.{bounds_for, state_of, HasWaited, running}
@@ -105,12 +101,6 @@ module _ (sizes : Sizes) (account : Account) (bounds : AreBounds (bounds_for siz
 
     named : IsLive state m
     named = named_known state safe (λ id. Unit {0}) actor operation runs tt m (subst (λ action. Contains (refs_of_claims (action_wants action)) m) (sym h) (Contains-get_or (m ∷ []) 0 m (omega arith)))
-
-    slot_found : (slot : Slot) × (get_or state.heap.slots (slot_of m) None ≡ Some slot) × (is_main_node slot.node ≡ true)
-    unfolding stored
-    slot_found =
-        let (slot, stands) = found.0 in
-        (slot, (standing_parts state.heap m slot stands).0, subst (λ n. is_main_node n ≡ true) (node_standing state.heap m slot stands) found.1)
 
 -- while others take steps the operation stays, but for its mark, and so does what it is to do
 pub waits : (sizes : Sizes) (actor : ℕ) (before after : Account) → HasWaited actor before after → AreBounds (bounds_for sizes after.steps) → (operation : Operation) →

@@ -1,8 +1,6 @@
 -- A seat writes a word in a free slot of its own.
 use Rattle.history.specs.declared.calls.Call.{Call}
-use Rattle.std.proofs.Common.{◌≡◌, ◌≢◌, ◌⊎◌, ℕ, zero, suc, ◌<◌, ◌≤◌, inl, inr, Bool, true, List, Contains, set, get_or, slice_index, refl, sym, ap, subst, ◌∙◌, arith, length, not, ◌==◌}
-use Rattle.std.proofs.lemmas.Bool.{eq-eqb, false≢true}
-use Rattle.std.proofs.lemmas.List.Elements.{All-contains, All-filter, All-contains_itself, filter_passes}
+use Rattle.std.proofs.Common.{◌≡◌, ◌≢◌, ◌⊎◌, ℕ, ◌<◌, ◌≤◌, inl, inr, List, Contains, set, slice_index, refl, sym, subst, ◌∙◌, arith}
 use Rattle.std.proofs.lemmas.List.{get_or-set_same}
 use mathlib.Core.Option.{some}
 use lib.ListN.{get_elem?}
@@ -10,34 +8,16 @@ use Rattle.atomic_table.specs.Table as Table
 use Rattle.machine_model.specs.States.{handle_limit}
 use Rattle.lock_free.specs.declared.rules.View.{View}
 use Rattle.lock_free.specs.declared.sizes.Sizes.{Sizes}
-use Rattle.lock_free.specs.Making.{with_draft, others_than}
+use Rattle.lock_free.specs.Making.{with_draft}
 use Rattle.lock_free.specs.Places.{pin_word, root_word, IsTaken}
 use Rattle.lock_free.specs.Rules.{IsClosing, SaysClosing, IsFree, IsSpare, AreDrafts, IsSeat, IsKept}
 use Rattle.lock_free.specs.Accounts.{state_of}
 use Rattle.lock_free.proofs.Meanings.{no_tries}
 use Rattle.lock_free.proofs.Assembling.{AllStand, all_stand, closing_stays, numbers_stay, assembled}
+use Rattle.lock_free.proofs.Drafts.{which}
 use Rattle.lock_free.proofs.Framing.{other_word, low_word, taken_over, all_over}
 use Rattle.lock_free.proofs.Geometry.{IsWordOf, slots_apart, inside, root_below}
 use Rattle.lock_free.proofs.Seats.{ran_so, numbers_so, Stays, other_kept, own_still}
-
--- what is among the drafts then is the new one, or one of another word
-which : (j x : ℕ) (drafts : List (ℕ × ℕ)) (d : ℕ × ℕ) → Contains (with_draft drafts j x) d → (d ≡ (j, x)) ⊎ ((d.0 ≢ j) × Contains drafts d)
-which j x drafts d c = by c.0 c.1 c.2
-  where
-    differs : (ℕ × ℕ) → Bool
-    differs e = not (e.0 == j)
-
-    passed : (n : ℕ) → not (n == j) ≡ true → n ≢ j
-    passed n e same = false≢true (sym (ap not (eq-eqb n j same)) ∙ e)
-
-    by : (k : ℕ) → k < length (with_draft drafts j x) → get_or (with_draft drafts j x) k d ≡ d → (d ≡ (j, x)) ⊎ ((d.0 ≢ j) × Contains drafts d)
-    by zero low e = inl (sym e)
-    by (suc k) low e =
-        let inside : Contains (others_than j drafts) d = (k, omega (arith, low), e) in
-        inr (
-          passed d.0 (All-contains (λ y. differs y ≡ true) (others_than j drafts) d (filter_passes differs drafts) inside),
-          All-contains (Contains drafts) (others_than j drafts) d (All-filter differs (Contains drafts) drafts (All-contains_itself drafts)) inside,
-        )
 
 module _ (sizes : Sizes) (s : Table.State Call View) (kept : IsKept sizes s) (id : ℕ) (v : View) (at : get_elem? s.views id ≡ some v) (class name : ℕ) (free : IsFree v class name) (j : ℕ)
     (its : IsWordOf class name j)

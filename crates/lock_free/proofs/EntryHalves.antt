@@ -1,6 +1,5 @@
 -- Halves of words, and the entries that they are.
-use Rattle.std.proofs.Common.{◌≡◌, ◌<◌, ◌≤◌, ◌+◌, ◌*◌, ◌/◌, ◌%◌, ◌^◌, ◌==◌, ◌≢◌, ℕ, suc, Bool, true, false, List, [], ◌∷◌, ◌++◌, refl, sym, ap, ap₂, subst, ◌∙◌, arith, take, drop, get_or, length}
-use Rattle.std.proofs.lemmas.Bool.{eqb-true, eqb-false}
+use Rattle.std.proofs.Common.{◌≡◌, ◌<◌, ◌≤◌, ◌+◌, ◌*◌, ◌^◌, ℕ, suc, Bool, true, false, List, [], ◌∷◌, ◌++◌, refl, sym, ap, ap₂, subst, ◌∙◌, arith, take, drop, get_or, length}
 use Rattle.std.proofs.lemmas.List.{map-append, map-set, length-map, take_more}
 use Rattle.std.proofs.lemmas.List.Elements.{All-cons, All-nil, All-head, All-tail, All-append, All-take, All-drop, All-set}
 use Rattle.trie_words.specs.Codes.{bit, entry_code, entry_of, IsEntry}
@@ -10,21 +9,10 @@ use Rattle.lock_free.specs.declared.changing.Edit.{Edit}
 use Rattle.lock_free.specs.declared.changing.Edit.TheVariants as edit
 use Rattle.lock_free.specs.Changing.{edited, CanEdit}
 use Rattle.lock_free.specs.Halves.{entries_of_halves, halves_edited, halves_of, AreHalves, FitsHalf, IsHalf}
-use Rattle.lock_free.specs.SeenEntries.{unowned, AreFit}
+use Rattle.lock_free.specs.SeenEntries.{AreFit}
 use Rattle.lock_free.proofs.MainChanges.{map_insert, map_remove}
 
 -- ---- one
-
-bit_odd : (n : ℕ) → bit (n % 2 == 1) ≡ n % 2
-bit_odd n = by (n % 2 == 1) refl
-  where
-    by : (b : Bool) → (n % 2 == 1) ≡ b → bit (n % 2 == 1) ≡ n % 2
-    by true e = ap bit e ∙ sym (eqb-true (n % 2) 1 e)
-    by false e = let odd : n % 2 ≢ 1 = eqb-false (n % 2) 1 e in ap bit e ∙ omega (arith, odd)
-
-pub half_back : (half : ℕ) → IsHalf half → entry_code (entry_of half) ≡ half
-half_back half small =
-    ap₂ (λ a b. half % 2 ^ 27 + 2 ^ 27 * a + 2 ^ 28 * b) (bit_odd (half / 2 ^ 27)) (bit_odd (half / 2 ^ 28)) ∙ omega (arith, small)
 
 pub code_small : (entry : Entry) → IsEntry entry → IsHalf (entry_code entry)
 code_small entry small = by entry.own entry.is_single
@@ -34,10 +22,6 @@ code_small entry small = by entry.own entry.is_single
     by true false = omega (arith, small)
     by false true = omega (arith, small)
     by false false = omega (arith, small)
-
--- but for its own mark
-pub same_unowned : (a b : ℕ) → a % 2 ^ 27 ≡ b % 2 ^ 27 → (a / 2 ^ 28) % 2 ≡ (b / 2 ^ 28) % 2 → unowned (entry_of a) ≡ unowned (entry_of b)
-same_unowned a b slot single = ap₂ (λ s k. record { slot = s; own = false; is_single = k == 1 }) slot single
 
 -- ---- all
 

@@ -71,12 +71,12 @@ module _ (views : List View) (id : ℕ) (v : View) (at : get_elem? views id ≡ 
   ]
 
 -- all that no access changes but those that are about it
-abbrev pub rest_of : View → List Heard × ℕ × ℕ × ℕ × Option Pinned × List Retired × List ℕ
-rest_of v = (v.heard, v.actor, v.epoch, v.passed, v.pin, v.retired, v.owed)
+abbrev pub rest_of : View → List Heard × ℕ × ℕ × ℕ × Option Pinned × List Retired × List ℕ × List (ℕ × ℕ)
+rest_of v = (v.heard, v.actor, v.epoch, v.passed, v.pin, v.retired, v.owed, v.links)
 
 -- of one that isn't pinned then
-abbrev pub rest_unpinned : View → List Heard × ℕ × ℕ × ℕ × Option Pinned × List Retired × List ℕ
-rest_unpinned v = (v.heard, v.actor, v.epoch, v.passed, None, v.retired, v.owed)
+abbrev pub rest_unpinned : View → List Heard × ℕ × ℕ × ℕ × Option Pinned × List Retired × List ℕ × List (ℕ × ℕ)
+rest_unpinned v = (v.heard, v.actor, v.epoch, v.passed, None, v.retired, v.owed, v.links)
 
 pub rest_as_was : (v w : View) → rest_of w ≡ rest_of v → IsAsWas v w
 rest_as_was v w same = record {

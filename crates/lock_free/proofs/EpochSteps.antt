@@ -17,16 +17,19 @@ use Rattle.lock_free.specs.Epochs.{HasAdvanced, HasChecked, going_by, has_advanc
 use Rattle.lock_free.specs.Loading.{IsSound}
 use Rattle.lock_free.specs.Places.{epoch_word, pin_word}
 use Rattle.lock_free.specs.Counts.{AreCounted}
+use Rattle.lock_free.specs.Links.{AreLinked, link_in}
 use Rattle.lock_free.specs.Rules.{AreEpochs, AreRetired, IsKept, IsPinned, IsRuled, pin_word_of}
 use Rattle.lock_free.proofs.Assembling.{here}
 use Rattle.lock_free.proofs.CountWords.{count_not_epoch}
 use Rattle.lock_free.proofs.CountsStay.{counted_then}
+use Rattle.lock_free.proofs.LinksStay.{linked_then}
 use Rattle.lock_free.proofs.EpochStays.{epoch_in}
 use Rattle.lock_free.proofs.EpochWord.{grown, grown_kept}
 use Rattle.lock_free.proofs.Exchanged.{either_hit, either_miss}
 use Rattle.lock_free.proofs.Moments.{allowed_by}
 use Rattle.lock_free.proofs.PinnedFor.{asks_kept}
 use Rattle.lock_free.proofs.PinStep.{pin_back}
+use Rattle.lock_free.proofs.RetiredSlots.{its_slots}
 use Rattle.lock_free.proofs.RetiredStay.{retired_then}
 
 -- what a seat knows of the epoch isn't what it is sound by
@@ -143,15 +146,16 @@ pub see_allowed : (sizes : Sizes) (size id : ℕ) (me : Me Call View) (some_seat
 see_allowed sizes size id me some_seats =
     allowed_by sizes size id me epoch_word (λ n. n) (has_seen_epoch (step size epoch_word 0 0 none) me)
     some_seats
-    (λ s kept epochs retired counted at. (let v = knowing me.0 (epoch_in s.words) in let same = sym (set-get_or s.words epoch_word 0) in (
+    (λ s kept epochs retired counted linked at. (let v = knowing me.0 (epoch_in s.words) in let same = sym (set-get_or s.words epoch_word 0) in (
       v,
       subst (λ ws. IsKept me.0.sizes (record { words = ws; homes = s.homes; views = set s.views id v })) same (known_kept me.0 s kept id at (epoch_in s.words) 0),
       subst (λ ws. AreEpochs ws (set s.views id v)) same
           (known_epochs me.0 s kept id at epochs (epoch_in s.words) 0 (omega arith) (λ j w e none p is. (let low = (kept.seats j w e).low in absurd (omega (arith, none, low))))),
       subst (λ ws. AreRetired me.0.sizes ws (set s.views id v)) same (retired_then s.views id me.0 at v refl (λ p is. is) me.0.sizes s.words s.words (omega arith) retired),
       subst (λ ws. AreCounted me.0.sizes ws (set s.views id v)) same (counted_then s.views id me.0 at v refl me.0.sizes s.words s.words (λ c is. refl) counted),
+      subst (λ ws. AreLinked me.0.sizes ws (set s.views id v)) same (linked_then s.views id me.0 at v refl (λ x c. c) me.0.sizes s.words s.words (λ c is. refl) linked),
       refl,
-      (epochs.seen id me.0 at, refl),
+      (epochs.seen id me.0 at, refl, its_slots me.0.sizes s kept id me.0 at retired refl),
     )))
 
 module _ (me : Me Call View) (s : Table.State Call View) (kept : IsKept me.0.sizes s) (id : ℕ) (at : get_elem? s.views id ≡ some me.0) (h : AreEpochs s.words s.views) where
@@ -161,7 +165,7 @@ module _ (me : Me Call View) (s : Table.State Call View) (kept : IsKept me.0.siz
   abbrev Leaves : View → Bool → Type 0
   Leaves w b =
       IsKept me.0.sizes (record { words = s.words; homes = s.homes; views = set s.views id w }) × AreEpochs s.words (set s.views id w)
-      × ((w.retired ≡ me.0.retired) × (w.pin ≡ me.0.pin) × (w.owed ≡ me.0.owed)) × (w.heard ≡ me.0.heard) × HasChecked me.0 b w
+      × ((w.retired ≡ me.0.retired) × (w.pin ≡ me.0.pin) × (w.owed ≡ me.0.owed) × (w.links ≡ me.0.links)) × (w.heard ≡ me.0.heard) × HasChecked me.0 b w
 
   same_epoch : (epoch : ℕ) (p : Pinned) → is_in epoch (Some p.pin) ≡ true → p.pin.epoch ≡ epoch
   same_epoch epoch p e = elim (cases_eq p.pin.epoch epoch) [ inl same ↦ same | inr differs ↦ absurd (true≢false (sym e ∙ ne_eqb p.pin.epoch epoch differs)) ]
@@ -185,7 +189,7 @@ module _ (me : Me Call View) (s : Table.State Call View) (kept : IsKept me.0.siz
             | inl its ↦ next_since e j w at_w its p pinned
             | inr differs ↦ h.passed id j me.0 w at at_w (omega (arith, below, differs)) p pinned
           ]),
-      (refl, refl, refl),
+      (refl, refl, refl, refl),
       refl,
       (λ x. refl, λ x. absurd (true≢false x)),
     ),
@@ -195,7 +199,7 @@ module _ (me : Me Call View) (s : Table.State Call View) (kept : IsKept me.0.siz
     (
       known_kept me.0 s kept id at me.0.epoch me.0.passed,
       subst (AreEpochs s.words) (sym (set_again s.views id me.0 at)) h,
-      (refl, refl, refl),
+      (refl, refl, refl, refl),
       refl,
       (λ x. absurd (true≢false (sym x)), λ x. refl),
     ),
@@ -207,7 +211,7 @@ check_allowed sizes size id me some_seats =
     let word = pin_word (me.0.passed + 1) in
     allowed_by sizes size id me word (λ n. n) (has_checked (step size word 0 0 none) me)
     some_seats
-    (λ s kept epochs retired counted at. (
+    (λ s kept epochs retired counted linked at. (
     let x = goes_by me s kept id at epochs (is_in me.0.epoch (pin_of (slice_index s.words word))) refl in
     let same = sym (set-get_or s.words word 0) in (
       x.0,
@@ -217,6 +221,8 @@ check_allowed sizes size id me some_seats =
           (retired_then s.views id me.0 at x.0 x.1.2.0 (λ p is. sym x.1.2.1 ∙ is) me.0.sizes s.words s.words (omega arith) retired),
       subst (λ ws. AreCounted me.0.sizes ws (set s.views id x.0)) same
           (counted_then s.views id me.0 at x.0 x.1.2.2 me.0.sizes s.words s.words (λ c is. refl) counted),
+      subst (λ ws. AreLinked me.0.sizes ws (set s.views id x.0)) same
+          (linked_then s.views id me.0 at x.0 x.1.2.3 (λ y c. subst (λ xs. Contains xs y) (sym x.1.2.0) c) me.0.sizes s.words s.words (λ c is. refl) linked),
       x.1.3,
       (x.1.4, refl),
     )))
@@ -227,7 +233,8 @@ module _ (me : Me Call View) (all : me.0.passed ≡ me.0.sizes.seats) (s : Table
   Grows w =
       let words = set s.words epoch_word (either (epoch_in s.words == me.0.epoch) (me.0.epoch + 1) (epoch_in s.words)) in
       IsKept me.0.sizes (record { words = words; homes = s.homes; views = set s.views id w }) × AreEpochs words (set s.views id w)
-      × ((epoch_in s.words ≤ epoch_in words) × (w.retired ≡ me.0.retired) × (w.pin ≡ me.0.pin) × (w.owed ≡ me.0.owed)) × (w.heard ≡ me.0.heard) × HasAdvanced me.0 (epoch_in s.words == me.0.epoch) w
+      × ((epoch_in s.words ≤ epoch_in words) × (w.retired ≡ me.0.retired) × (w.pin ≡ me.0.pin) × (w.owed ≡ me.0.owed) × (w.links ≡ me.0.links)) × (w.heard ≡ me.0.heard)
+      × HasAdvanced me.0 (epoch_in s.words == me.0.epoch) w
 
   grows_or_not : (w : View) × Grows w
   grows_or_not = elim (cases_eq (epoch_in s.words) me.0.epoch) [
@@ -238,7 +245,7 @@ module _ (me : Me Call View) (all : me.0.passed ≡ me.0.sizes.seats) (s : Table
           (
             subst (λ ws. IsKept me.0.sizes (record { words = ws; homes = s.homes; views = set s.views id w })) same (grown_so me.0 s kept id at (me.0.epoch + 1)),
             subst (λ ws. AreEpochs ws (set s.views id w)) same (grown_epochs me.0 s kept id at h is all),
-            (subst (λ ws. epoch_in s.words ≤ epoch_in ws) same (let more = grows me.0 s kept id at h is all in omega (arith, more, is)), refl, refl, refl),
+            (subst (λ ws. epoch_in s.words ≤ epoch_in ws) same (let more = grows me.0 s kept id at h is all in omega (arith, more, is)), refl, refl, refl, refl),
             refl,
             (λ x. refl, λ x. absurd (true≢false (sym (eq-eqb (epoch_in s.words) me.0.epoch is) ∙ x))),
           ),
@@ -249,7 +256,7 @@ module _ (me : Me Call View) (all : me.0.passed ≡ me.0.sizes.seats) (s : Table
           (
             subst (λ ws. IsKept me.0.sizes (record { words = ws; homes = s.homes; views = set s.views id me.0 })) same (known_kept me.0 s kept id at me.0.epoch me.0.passed),
             subst (λ ws. AreEpochs ws (set s.views id me.0)) same (subst (AreEpochs s.words) (sym (set_again s.views id me.0 at)) h),
-            (subst (λ ws. epoch_in s.words ≤ epoch_in ws) same (omega arith), refl, refl, refl),
+            (subst (λ ws. epoch_in s.words ≤ epoch_in ws) same (omega arith), refl, refl, refl, refl),
             refl,
             (λ x. absurd (true≢false (sym x ∙ ne_eqb (epoch_in s.words) me.0.epoch differs)), λ x. refl),
           ),
@@ -262,13 +269,15 @@ advance_allowed sizes size id me some_seats epoch its all =
     subst (λ e. Allows (IsRuled sizes) size id me epoch_word (λ n. either (n == e) (e + 1) n) (has_advanced (step size epoch_word e (e + 1) none) me)) its
     (allowed_by sizes size id me epoch_word (λ n. either (n == me.0.epoch) (me.0.epoch + 1) n) (has_advanced (step size epoch_word me.0.epoch (me.0.epoch + 1) none) me)
     some_seats
-    (λ s kept epochs retired counted at. (let x = grows_or_not me all s kept id at epochs in (
+    (λ s kept epochs retired counted linked at. (let x = grows_or_not me all s kept id at epochs in (
       x.0,
       x.1.0,
       x.1.1,
       retired_then s.views id me.0 at x.0 x.1.2.1 (λ p is. sym x.1.2.2 ∙ is) me.0.sizes s.words _ x.1.2.0 retired,
       counted_then s.views id me.0 at x.0 x.1.2.3 me.0.sizes s.words _
           (λ c is. get_or-set_other s.words epoch_word c _ 0 (count_not_epoch me.0.sizes c is)) counted,
+      linked_then s.views id me.0 at x.0 x.1.2.4 (λ y c. subst (λ xs. Contains xs y) (sym x.1.2.1) c) me.0.sizes s.words _
+          (λ c is. ap link_in (get_or-set_other s.words epoch_word c _ 0 (count_not_epoch me.0.sizes c is))) linked,
       x.1.3,
       (x.1.4, refl),
     ))))

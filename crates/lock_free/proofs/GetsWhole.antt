@@ -5,6 +5,7 @@ use Rattle.history.specs.declared.calls.Call.{Call}
 use Rattle.history.specs.declared.replies.Reply.TheVariants as reply
 use Rattle.history.specs.declared.replies.Reply.{Reply}
 use Rattle.machine_model.specs.declared.actions.Action.TheVariants as act
+use Rattle.machine_model.specs.declared.lines.Line.TheVariants as line
 use Rattle.machine_model.specs.Lines.{new_try}
 use Rattle.lock_free.specs.declared.call_errors.CallError.TheVariants as error
 use Rattle.lock_free.specs.declared.call_runs.Ran.TheVariants as ran
@@ -25,18 +26,22 @@ use Rattle.lock_free.specs.UnderWay.{HasComeOut, IsUnderWay}
 use Rattle.lock_free.specs.WholeCalls.{HasLeft}
 use Rattle.lock_free.proofs.CallBegins.{opens_run, same_run}
 use Rattle.lock_free.proofs.CallsRunOn.{at_end, tried_answers, tried_runs_on}
-use Rattle.lock_free.proofs.CallsUnderWay.{left_both, left_out, run_out, under_way_on}
+use Rattle.lock_free.proofs.CallsUnderWay.{left_both, left_told, replied_told, run_out, under_way_on}
 use Rattle.lock_free.proofs.KeyTries.{called_on, left_run, own_left, try_sought}
 use Rattle.lock_free.proofs.RunningOn.{runs_on_self}
 use Rattle.std.specs.Prelude.{Result}
 use Rattle.lock_free.specs.declared.call_errors.CallError.{CallError}
+use Rattle.std.proofs.lemmas.Option.{none-some}
 
 module _ (v : View) (on : IsOn v new_try) (slots : List ℕ) (w : View) where
   -- ---- its first try has found the value
 
   module _ (task : Task) (value : Option ℕ) (h : HasTried v slots (task, sought.Answers (reply.Found value)) w) where
+    is_on_end : IsOn w (line.End (reply.Found value))
+    is_on_end = tried_answers v w slots task on.0 on.1 (reply.Found value) h
+
     is_at_end : IsAt w (act.End (reply.Found value))
-    is_at_end = at_end w (reply.Found value) (tried_answers v w slots task on.0 on.1 (reply.Found value) h)
+    is_at_end = at_end w (reply.Found value) is_on_end
 
     pub value_ends : IsAtEnd w
     value_ends = (reply.Found value, is_at_end)
@@ -48,17 +53,19 @@ module _ (v : View) (on : IsOn v new_try) (slots : List ℕ) (w : View) where
         error.Full,
         tt,
         refl,
-        record { late = w; on = runs_on_self w; at = is_at_end; ended = ended (reply.Found value) is_at_end },
+        record { late = w; on = runs_on_self w; ends = is_on_end; ended = ended (reply.Found value) is_at_end },
       )
 
       abbrev r : RunsOn v w
       r = tried_runs_on v w slots task (sought.Answers (reply.Found value)) h
 
       pub value_told : (c : Call) → HasGotten v c (Ok value) x
-      value_told c before under = (run_out before c v w under r access (ran.Told (Ok (reply.Found value))) x value_out).0
+      value_told c before under = (replied_told before c (Ok (reply.Found value)) x (run_out before c None v w under r access (ran.Told (Ok (reply.Found value))) x value_out)).0
 
       pub value_left : (c : Call) → IsCalled v c access → v.opens ≡ None → HasLeft v x
-      value_left c called none = left_out c access v on.0 on.1 called none w r (ran.Told (Ok (reply.Found value))) x value_out
+      value_left c called none =
+          let left = left_told c access v on.0 on.1 called None none w r (λ n e. absurd (none-some n e)) (Ok (reply.Found value)) x value_out in
+          record { same = left.0; rests = left.1 }
 
   -- ---- or something else
 
@@ -81,10 +88,10 @@ module _ (v w : View) (r : RunsOn v w) where
   still_none none = opens_run v w r ∙ none
 
   pub still_under : (c : Call) → (before : View) × IsUnderWay before c None v → (before : View) × IsUnderWay before c None w
-  still_under c (before, under) = (before, under_way_on before c v w under r)
+  still_under c (before, under) = (before, under_way_on before c None v w under r)
 
   pub gotten_since : (c : Call) (result : Result (Option ℕ) CallError) (x : View) → HasGotten w c result x → HasGotten v c result x
-  gotten_since c result x h before under = h before (under_way_on before c v w under r)
+  gotten_since c result x h before under = h before (under_way_on before c None v w under r)
 
   pub left_since_then : (x : View) → HasLeft w x → HasLeft v x
   left_since_then x left = left_both v w x (same_run v w r) left

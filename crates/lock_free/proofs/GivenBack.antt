@@ -97,9 +97,6 @@ module _ (v : View) (s : Table.State Call View) (kept : IsKept v.sizes s) (id : 
       | inr w ↦ new w.node w.one (kept.nodes.apart (slot_of w.node) (slot_of r) w.slot slot w.stood stood w.place)
     ]
 
-    Too : Ref → Type 0
-    Too q = P q ⊎ (r ≡ q)
-
   put_one : (P : Ref → Type 0) (pool : Pool) (fits : Fits P pool) (r : Ref) (slot : Slot) (stood : Stands kept.stands state (slot_of r) slot) (new : (q : Ref) → P q → slot_of q ≢ slot_of r) →
       Fits (λ q. P q ⊎ (r ≡ q)) (with_slot pool (class_of (node_at state.heap r)) (place_of kept.account r))
   put_one P pool fits r slot stood new =

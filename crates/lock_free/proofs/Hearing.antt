@@ -9,6 +9,8 @@ use Rattle.atomic_table.specs.Table.{Me, Act, gives, keeps, chain, carried_after
 use Rattle.atomic_table.proofs.Lists.{at_set, set_else}
 use Rattle.lock_free.proofs.CountWords.{count_same}
 use Rattle.lock_free.proofs.CountsStay.{counted_then}
+use Rattle.lock_free.proofs.LinksStay.{linked_then}
+use Rattle.lock_free.specs.Links.{link_in}
 use Rattle.lock_free.proofs.EpochStays.{IsAsWas, Was, epochs_stay, stays_elsewhere, was_one, was_then}
 use Rattle.lock_free.specs.declared.rules.Heard.{Heard}
 use Rattle.lock_free.specs.declared.rules.View.{View}
@@ -146,6 +148,9 @@ module _ (sizes : Sizes) (id : ℕ) (v : View) (some_v : 1 ≤ v.sizes.seats) (o
     counted =
         counted_then (set s.views id (hearing v w)) other w e (gone w) refl sizes s.words s.words (λ c is. refl)
         (counted_then s.views id v at (hearing v w) refl sizes s.words s.words (λ c is. refl) ruled.counted);
+    linked =
+        linked_then (set s.views id (hearing v w)) other w e (gone w) refl (λ x c. c) sizes s.words s.words (λ c is. refl)
+        (linked_then s.views id v at (hearing v w) refl (λ x c. c) sizes s.words s.words (λ c is. refl) ruled.linked);
     heard = heard_then;
   }
     where
@@ -198,6 +203,9 @@ module _ (sizes : Sizes) (size id : ℕ) (me : Me Call View) (word : ℕ) (some_
           counted =
               counted_then s.views id me.0 at view refl sizes s.words (set s.words word (slice_index s.words word))
               (count_same sizes word (λ n. n) s.words (inr refl)) ruled.counted;
+          linked =
+              linked_then s.views id me.0 at view refl (λ x c. c) sizes s.words (set s.words word (slice_index s.words word))
+              (λ c is. ap link_in (count_same sizes word (λ n. n) s.words (inr refl) c is)) ruled.linked;
           heard = heard_still s.views id me.0 at some_seats view refl ruled.heard;
         },
         ((record { table = s; kept = own; id = id; at = at; finds = refl }, refl), none_left me.1),
@@ -224,9 +232,6 @@ has_heard_more v left after heard = record {
 }
 
 -- ---- more and more
-
-pub heard_none : (v : View) → HasHeardMore v v
-heard_none v = record { is = refl; all = λ h c. c }
 
 pub heard_both : (u v w : View) → HasHeardMore u v → HasHeardMore v w → HasHeardMore u w
 heard_both u v w p q = record { is = q.is ∙ ap (λ (x : View). record x { heard = w.heard }) p.is; all = λ h c. q.all h (p.all h c) }

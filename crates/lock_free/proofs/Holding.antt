@@ -11,13 +11,6 @@ use Rattle.lock_free.specs.Loading.{now, seen, Holds, Waited}
 use Rattle.lock_free.proofs.Asked.{nodes_stay}
 use Rattle.lock_free.proofs.Moments.{entry_lives, hand_by, same_hash, same_entries}
 
-pub hand_lives : (v : View) (o : Operation) → running v.sizes v.account v.actor o → (r : Ref) → Contains (at_hand (now v) o) r → IsLive (now v) r
-hand_lives v o runs r c = from_operation v.actor o r runs tt c
-
-pub held_lives : (v : View) (r : Ref) → Holds v r → IsLive (now v) r
-held_lives v r (o, runs, inl c) = hand_lives v o runs r c
-held_lives v r (o, runs, inr (main, slot, c, is, e)) = entry_lives v.sizes v.account main r slot (hand_lives v o runs main c) is e
-
 module _ (v : View) (account : Account) (w : Waited v account) where
   hand_then : (o : Operation) → running v.sizes v.account v.actor o → (r : Ref) → Contains (at_hand (now v) o) r → IsLive (now (seen v account)) r
   hand_then o runs r c =

@@ -89,8 +89,9 @@ module _ (v : View) (task : Task) (t : IsTask v task) (slots : List ℕ) (some :
 
     pub gave : (w : View) (result : Option Swapped) → HasUpdated v former result w → HasAttempted v (attempted result task.call former) w
     gave w None h = (updated_runs_on v w former None h, updated_full v w former at.on.0 at.on.1 h)
-    gave w (Some Commits) h =
-        (updated_runs_on v w former (Some Commits) h, subst (λ call. IsOn w (line.End (changed_reply call former))) (t.calls at.on.0 at.on.1).0 (updated_commits v w former at.on.0 at.on.1 h))
+    gave w (Some (Commits had)) h =
+        (updated_runs_on v w former (Some (Commits had)) h, subst (λ call. IsOn w (line.End (changed_reply call former))) (t.calls at.on.0 at.on.1).0
+        (updated_commits v w former at.on.0 at.on.1 had h))
     gave w (Some Fails) h = (updated_runs_on v w former (Some Fails) h, updated_fails v w former at.on.0 at.on.1 h)
     gave w (Some Misses) h = (updated_runs_on v w former (Some Misses) h, updated_misses v w former at.on.0 at.on.1 h)
 
@@ -127,10 +128,10 @@ module _ (v : View) (task : Task) (t : IsTask v task) (slots : List ℕ) (some :
     pub removed : (w : View) (result : Option Swapped) → HasChanged v result w → HasAttempted v (attempted result task.call (Some former)) w
     removed w None h =
         (changed_runs_on v w at.path at.main (change.Remove position) (Some former) at.on None h, changed_full v w at.path at.main (change.Remove position) (Some former) at.on h)
-    removed w (Some Commits) h = (
-      changed_runs_on v w at.path at.main (change.Remove position) (Some former) at.on (Some Commits) h,
+    removed w (Some (Commits had)) h = (
+      changed_runs_on v w at.path at.main (change.Remove position) (Some former) at.on (Some (Commits had)) h,
       subst (λ call. IsOn w (line.End (changed_reply call (Some former)))) (t.calls at.on.0 at.on.1).0
-          (changed_commits v w at.path at.main (change.Remove position) (Some former) at.on at.on.0 at.on.1 h),
+          (changed_commits v w at.path at.main (change.Remove position) (Some former) at.on at.on.0 at.on.1 had h),
     )
     removed w (Some Fails) h = (
       changed_runs_on v w at.path at.main (change.Remove position) (Some former) at.on (Some Fails) h,

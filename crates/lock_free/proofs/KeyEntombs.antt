@@ -51,6 +51,7 @@ use Rattle.lock_free.proofs.OnLines.{finds_now}
 use Rattle.lock_free.proofs.RunningOn.{runs_on_both, runs_on_given_up}
 use Rattle.lock_free.proofs.Seekings.{are_at_on}
 use Rattle.lock_free.proofs.TombSingles.{same_kind}
+use Rattle.lock_free.specs.declared.reclaiming.Retiree.{Retiree}
 
 -- ---- a tomb
 
@@ -91,11 +92,11 @@ module _ (n : ℕ) (v : View) (sound : IsSound n v) (task : Task) (t : IsTask v 
     tomb_parked s h = let l = h at.path at.main (change.Entomb at.other) (Some former) at.on in (l.on, (l.its, l.aim))
 
     -- it is committed
-    module _ (h : HasChanged v (Some Commits) w) where
+    module _ (had : Option Retiree) (h : HasChanged v (Some (Commits had)) w) where
       abbrev climb : Climb
       climb = record { path = at.path; single = at.other; former = Some former }
 
-      become : HasBecome (changed_by at.path (Some former) (change.Entomb at.other) Commits) v w
+      become : HasBecome (changed_by at.path (Some former) (change.Entomb at.other) (Commits had)) v w
       become = h at.path at.main (change.Entomb at.other) (Some former) at.on
 
       abbrev then : Operation
@@ -132,7 +133,7 @@ module _ (n : ℕ) (v : View) (sound : IsSound n v) (task : Task) (t : IsTask v 
 
       pub climbed_from : (after : View) (result : Came) → HasRunTo w result after → HasAttempted v (attempt.Comes result) after
       climbed_from after result a =
-          (runs_on_both v w after (changed_runs_on v w at.path at.main (change.Entomb at.other) (Some former) at.on (Some Commits) h) a.0, a.1)
+          (runs_on_both v w after (changed_runs_on v w at.path at.main (change.Entomb at.other) (Some former) at.on (Some (Commits had)) h) a.0, a.1)
 
 -- ---- the climb
 

@@ -1,5 +1,5 @@
 -- The indirections and branches between two singles and the main node where one of them stood.
-use Rattle.std.proofs.Common.{◌≡◌, ◌<◌, ◌≤◌, ◌+◌, ◌-◌, ◌∷◌, ℕ, Bool, false, List, [], Option, Some, None, refl, sym, ap, ap₂, subst, ◌∙◌, if◌then◌else◌, eq-eqb, ne_eqb, arith}
+use Rattle.std.proofs.Common.{◌≡◌, ◌<◌, ◌≤◌, ◌+◌, ◌-◌, ◌∷◌, ℕ, Bool, false, List, [], Some, None, refl, sym, ap, ap₂, subst, ◌∙◌, if◌then◌else◌, eq-eqb, ne_eqb, arith}
 use Rattle.trie_words.specs.declared.headers.Previous.TheVariants as previous
 use Rattle.machine_model.specs.Beneath.slot_arena.specs.declared.refs.Ref.{Ref}
 use Rattle.machine_model.specs.Beneath.slot_arena.specs.declared.nodes.Node.TheVariants.{Indirection, Branch}
@@ -144,9 +144,6 @@ module _ (size : ℕ) (before : View) (by : Builder) (depth name0 : ℕ) (at : I
   elsewhere P h q m c k other =
       let same = ap parts_in (sym (line_is before (line.Build (build.Link path main position below depth)) on other.0 other.1) ∙ other.2) in
       subst (λ (x : List Ref × Ref × ℕ × Ref). P x.0 x.1 x.2) same h
-
-  pub first_link : (link : Option ℕ) → IsAt before (act.Make (Indirection by.start below))
-  first_link link = link_at before by path main position below depth on b
 
   pub first_none : (w : View) → HasMadeNext before None w → HasLinked before depth None w
   first_none w made q m c k other = no_link before by path main position below depth on b w made

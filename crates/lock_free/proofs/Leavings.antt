@@ -95,9 +95,6 @@ module _ (v : View) (i : Ref) (x y : ReadLine) (reading : IsReading v i x) (w : 
 pub left_off : (answers : Call → Reply) (aims : Purpose → Type 0) (v : View) (result : Left) (w : View) → HasLeftOff v result w → MayLeave answers v → Leaves answers aims v result w
 left_off answers aims v result w h may = record { on = runs_on_moved v w h.next h.moved; is = subst (λ l. IsLeft answers aims l w) (sym h.is) (h.leaves answers may) }
 
-pub leaves_on : (answers : Call → Reply) (aims : Purpose → Type 0) (u v w : View) (result : Left) → RunsOn u v → Leaves answers aims v result w → Leaves answers aims u result w
-leaves_on answers aims u v w result on h = record { on = runs_on_both u v w on h.on; is = h.is }
-
 pub left_stock : (n : ℕ) (v : View) (sound : IsSound n v) (l : Line) → IsOn v l → (result : Left) (w : View) → HasLeftOff v result w → (stock : Stocked) → IsStock stock v → IsStock stock w
 left_stock n v sound l at result w h stock is = stock_moved n v w sound l at h.next h.moved stock is
 

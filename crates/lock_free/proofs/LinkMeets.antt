@@ -7,7 +7,6 @@ use Rattle.machine_model.specs.Beneath.slot_arena.specs.declared.nodes.Node.{Nod
 use Rattle.machine_model.specs.Beneath.slot_arena.specs.declared.nodes.Node.TheVariants.{Indirection, Branch, Single, Tomb, List as Listed}
 use Rattle.machine_model.specs.Beneath.slot_arena.specs.declared.nodes.Slot.{Slot}
 use Rattle.machine_model.specs.Beneath.slot_arena.specs.Heaps.{no_ref, node_at, entry_at, entries_of, with_main_word}
-use Rattle.machine_model.specs.declared.actions.Action.TheVariants as act
 use Rattle.machine_model.specs.declared.finding.KeyLine.TheVariants as key
 use Rattle.machine_model.specs.declared.lines.Line.{Line}
 use Rattle.machine_model.specs.declared.lines.Line.TheVariants as line
@@ -20,7 +19,7 @@ use Rattle.lock_free.specs.declared.accounts.Account.{Account}
 use Rattle.lock_free.specs.declared.rules.View.{View}
 use Rattle.lock_free.specs.Entries.{entry_in}
 use Rattle.lock_free.specs.GoingDown.{IsAtKey, HasMoved, IsAtBelow, line_below, HasMetLink}
-use Rattle.lock_free.specs.Loading.{now, seen, IsUsed, IsSound, IsAtSlot, HasLink, HasLookedAtLink}
+use Rattle.lock_free.specs.Loading.{now, seen, IsUsed, IsSound, HasLink, HasLookedAtLink}
 use Rattle.lock_free.specs.Nodes.{is_single}
 use Rattle.lock_free.specs.Passing.{Later}
 use Rattle.lock_free.proofs.EntryLooks.{node_stays}
@@ -58,9 +57,6 @@ module _ (n : ℕ) (before after : View) (sound : IsSound n before) (name : ℕ)
 
   abbrev e : Ref
   e = entry_in before main position
-
-  pub link_ready : IsAtSlot before act.Look name
-  link_ready = (e, at_look before (line.Key (key.Entry path main position)) at e (λ o. refl), is_at.4.placed.1)
 
   is_link : (generation : ℕ) × (word : Ref) × (node_at (now before).heap e ≡ Indirection generation word)
   is_link =

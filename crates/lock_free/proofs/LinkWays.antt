@@ -10,6 +10,7 @@ use Rattle.lock_free.specs.declared.lookups.Level.TheVariants as level
 use Rattle.lock_free.specs.declared.lookups.Looked.{Looked}
 use Rattle.lock_free.specs.declared.lookups.Looked.TheVariants as looked
 use Rattle.history.specs.declared.replies.Reply.TheVariants as reply
+use Rattle.lock_free.specs.declared.reading.Given.{Given}
 use Rattle.lock_free.specs.declared.reading.Passed.{Passed}
 use Rattle.lock_free.specs.declared.reading.Passed.TheVariants as passed
 use Rattle.lock_free.specs.declared.reading.ReadFrom.{ReadFrom}
@@ -17,7 +18,7 @@ use Rattle.lock_free.specs.declared.reading.ReadFrom.TheVariants as resume
 use Rattle.lock_free.specs.declared.reading.Way.{Way}
 use Rattle.lock_free.specs.declared.rules.View.{View}
 use Rattle.lock_free.specs.Descending.{HasFound, HasPassedLevel}
-use Rattle.lock_free.specs.LinkReads.{given_by, CanGoOn, HasLinkAfter, HasReadTo}
+use Rattle.lock_free.specs.LinkReads.{given_by, CanGoOn, HasGivenAfter, HasLinkAfter, HasReadGiven, HasReadOut, HasReadTo}
 use Rattle.lock_free.specs.Loading.{IsSound}
 use Rattle.lock_free.specs.Lookups.{HasLooked, HasLookedThrough}
 use Rattle.lock_free.specs.Passing.{HasPassed, HasPassedSome, IsOnWay, IsPassing}
@@ -31,11 +32,23 @@ module _ (n : ℕ) (way : Way) (name : ℕ) (before : View) (sound : IsSound n b
   can_go_on (passed.Gives given) p = tt
   can_go_on (passed.Again from) p = let s = some from p in (s.on, s.passing)
 
+  pub given_told : (q : Passed) → HasPassed before q w → (result : Option Given) (z : View) → HasGivenAfter w q result z → HasReadGiven before result z
+  given_told (passed.Gives given) p result z (is, same) =
+      subst (λ r. HasReadGiven before r z) (sym is) (subst (λ x. HasPassed before (passed.Gives given) x) (sym same) p)
+  given_told (passed.Again from) p (Some given) z q = more n way name before w from (some from p) z (passed.Gives given) q
+  given_told (passed.Again from) p None z (next, q) = (next, more n way name before w from (some from p) z (passed.Again next) q)
+
   pub link_told : (q : Passed) → HasPassed before q w → (result : Option Link) (z : View) → HasLinkAfter w q result z → HasReadTo before result z
   link_told (passed.Gives given) p result z (is, same) =
       subst (λ r. HasReadTo before r z) (sym is) (given.header, subst (λ x. HasPassed before (passed.Gives given) x) (sym same) p)
   link_told (passed.Again from) p (Some link) z (header, q) = (header, more n way name before w from (some from p) z (passed.Gives (given_by link header)) q)
   link_told (passed.Again from) p None z (next, q) = (next, more n way name before w from (some from p) z (passed.Again next) q)
+
+-- a READ that goes on after some passes
+pub out_after : (n : ℕ) (way : Way) (name : ℕ) (before w : View) (from : ReadFrom) → HasPassedSome n way name before w from → (z : View) (result : Option ReadFrom) → HasReadOut w result z →
+    HasReadOut before result z
+out_after n way name before w from some z None (given, q) = (given, more n way name before w from some z (passed.Gives given) q)
+out_after n way name before w from some z (Some next) q = more n way name before w from some z (passed.Again next) q
 
 -- ---- what the way down comes to, from further back
 

@@ -222,14 +222,8 @@ module _ (before : View) (name word found : ℕ) (after : View) (h : HasSeen bef
   pub seen_main : word ≡ 2 * name → held_at (λ account state r. SaysMain account state r (header_of found))
   seen_main its r holds place = says_main before word found h.0 r (held r holds) (its ∙ ap (λ n. 2 * n) (sym place))
 
-  pub seen_link : word ≡ 2 * name → held_at (λ account state r. SaysLink account state r (link_of found))
-  seen_link its r holds place = says_link before word found h.0 r (held r holds) (its ∙ ap (λ n. 2 * n) (sym place))
-
   pub seen_key : word ≡ 2 * name → held_at (λ account state r. SaysKey state r found)
   seen_key its r holds place = says_key before word found h.0 r (held r holds) (its ∙ ap (λ n. 2 * n) (sym place))
-
-  pub seen_value : word ≡ 2 * name + 1 → held_at (λ account state r. SaysValue state r found)
-  seen_value its r holds place = says_value before word found h.0 r (held r holds) (its ∙ ap (λ n. 2 * n + 1) (sym place))
 
   pub seen_pair : (position : ℕ) → word ≡ 2 * name + 1 + position / 2 → held_at (λ account state r. SaysPair account state r position (pair_of found))
   seen_pair position its r holds place = says_pair before word found h.0 r (held r holds) position (its ∙ ap (λ n. 2 * n + 1 + position / 2) (sym place))

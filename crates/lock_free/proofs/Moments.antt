@@ -1,6 +1,6 @@
 -- What the rule says at the moment of an access: of the seat's operation, of nodes, and what a load leaves.
 use Rattle.history.specs.declared.calls.Call.{Call}
-use Rattle.std.proofs.Common.{◌≡◌, ◌≢◌, ◌+◌, ◌*◌, ◌<◌, ◌≤◌, ℕ, suc, zero, inl, inr, Bool, List, [], ◌∷◌, ◌++◌, Contains, set, get_or, slice_index, length, Some, None, refl, sym, ap, subst, ◌∙◌, arith}
+use Rattle.std.proofs.Common.{◌≡◌, ◌+◌, ◌*◌, ◌<◌, ◌≤◌, ℕ, suc, zero, inl, inr, Bool, List, [], ◌∷◌, ◌++◌, Contains, set, get_or, slice_index, length, Some, None, refl, sym, ap, subst, ◌∙◌, arith}
 use Rattle.std.proofs.lemmas.List.{set-get_or}
 use Rattle.std.proofs.lemmas.List.Elements.{Contains-append_left}
 use Rattle.std.proofs.lemmas.Option.{same_Some}
@@ -30,10 +30,11 @@ use Rattle.lock_free.specs.declared.rules.View.{View}
 use Rattle.lock_free.specs.declared.sizes.Sizes.{Sizes}
 use Rattle.lock_free.specs.Accounts.{bounds_for, state_of, place_at, place_of, running, gone_on, OwnIs, later}
 use Rattle.lock_free.specs.Counts.{AreCounted}
+use Rattle.lock_free.specs.Links.{AreLinked, link_in}
 use Rattle.lock_free.specs.Live.{refs_of_claims, at_hand, from_operation, from_slot, IsLive}
 use Rattle.lock_free.specs.Loading.{now, IsUsed, IsSound, seen, Waited, Took, has_seen, has_gone, Holds}
 use Rattle.lock_free.specs.Nodes.{StandsAs, InTable, class_of}
-use Rattle.lock_free.specs.Places.{epoch_word, first_slot_word, words_in, words_of}
+use Rattle.lock_free.specs.Places.{words_in, words_of}
 use Rattle.lock_free.specs.Rules.{AreEpochs, AreRetired, IsFree, IsSeat, IsKept, IsRuled}
 use Rattle.lock_free.specs.Steps.{Reads}
 use Rattle.lock_free.proofs.Asked.{in_use_made, live_in_use, nodes_stay}
@@ -41,9 +42,10 @@ use Rattle.lock_free.proofs.Assembling.{all_stand, closing_stays, numbers_stay, 
 use Rattle.lock_free.proofs.Meanings.{no_tries}
 use Rattle.lock_free.proofs.Definition.{IsReading, reads_of, waits, bounds_before}
 use Rattle.lock_free.proofs.Framing.{class_small, first_word}
-use Rattle.lock_free.proofs.Geometry.{above, end_inside}
+use Rattle.lock_free.proofs.Geometry.{end_inside}
 use Rattle.lock_free.proofs.CountWords.{Apart, Beside, count_same, elsewhere_so, slot_apart}
 use Rattle.lock_free.proofs.CountsStay.{counted_then}
+use Rattle.lock_free.proofs.LinksStay.{linked_then}
 use Rattle.lock_free.proofs.EpochStays.{Elsewhere, IsAsWas, epochs_stay, rest_as_was, rest_of, rest_unpinned, stays_elsewhere, unpinned_as_was, was_then}
 use Rattle.lock_free.proofs.GoneSeats.{heard_still}
 use Rattle.lock_free.proofs.RetiredStay.{epoch_still, retired_then, same_pin, same_retired}
@@ -65,15 +67,16 @@ module _ (sizes : Sizes) (size id : ℕ) (me : Me Call View) (word : ℕ) (f : �
   -- The seat wasn't given up, has heard of nobody more, and what the rule says of the epoch and of retired slots holds after it too.
   abbrev pub CanBeBy : Type 0
   CanBeBy = (s : Table.State Call View) → IsKept me.0.sizes s → AreEpochs s.words s.views → AreRetired me.0.sizes s.words s.views → AreCounted me.0.sizes s.words s.views →
-      get_elem? s.views id ≡ some me.0 →
+      AreLinked me.0.sizes s.words s.views → get_elem? s.views id ≡ some me.0 →
       (w : View) × IsKept me.0.sizes (after_it s w) × AreEpochs (after_it s w).words (after_it s w).views × AreRetired me.0.sizes (after_it s w).words (after_it s w).views
-      × AreCounted me.0.sizes (after_it s w).words (after_it s w).views × (w.heard ≡ me.0.heard) × then (slice_index s.words word) (w, me.1)
+      × AreCounted me.0.sizes (after_it s w).words (after_it s w).views × AreLinked me.0.sizes (after_it s w).words (after_it s w).views × (w.heard ≡ me.0.heard)
+      × then (slice_index s.words word) (w, me.1)
 
   pub allowed_by : 1 ≤ me.0.sizes.seats → CanBeBy → Allows (IsRuled sizes) size id me word f then
   allowed_by some_seats h s ruled length_is at low =
       let its = (ruled.kept.seats id me.0 at).same some_seats in
       let x = h s (subst (λ z. IsKept z s) (sym its) ruled.kept) ruled.epochs (subst (λ z. AreRetired z s.words s.views) (sym its) ruled.retired)
-      (subst (λ z. AreCounted z s.words s.views) (sym its) ruled.counted) at in (
+      (subst (λ z. AreCounted z s.words s.views) (sym its) ruled.counted) (subst (λ z. AreLinked z s.words s.views) (sym its) ruled.linked) at in (
         x.0,
         keeps,
         tt,
@@ -82,9 +85,10 @@ module _ (sizes : Sizes) (size id : ℕ) (me : Me Call View) (word : ℕ) (f : �
           epochs = x.2;
           retired = subst (λ z. AreRetired z (after_it s x.0).words (after_it s x.0).views) its x.3;
           counted = subst (λ z. AreCounted z (after_it s x.0).words (after_it s x.0).views) its x.4;
-          heard = heard_still s.views id me.0 at some_seats x.0 x.5 ruled.heard;
+          linked = subst (λ z. AreLinked z (after_it s x.0).words (after_it s x.0).views) its x.5;
+          heard = heard_still s.views id me.0 at some_seats x.0 x.6 ruled.heard;
         },
-        x.6,
+        x.7,
       )
 
   -- where the word isn't the epoch's, or has what it had
@@ -105,16 +109,24 @@ module _ (sizes : Sizes) (size id : ℕ) (me : Me Call View) (word : ℕ) (f : �
   counts_then s at beside w owed h =
       counted_then s.views id me.0 at w owed me.0.sizes s.words (after_it s w).words (count_same me.0.sizes word f s.words beside) h
 
+  -- and where it knows the links that it knew
+  links_then : (s : Table.State Call View) → get_elem? s.views id ≡ some me.0 → Beside me.0.sizes word f s.words → (w : View) → w.retired ≡ me.0.retired → w.links ≡ me.0.links →
+      AreLinked me.0.sizes s.words s.views → AreLinked me.0.sizes (after_it s w).words (after_it s w).views
+  links_then s at beside w retired links h =
+      linked_then s.views id me.0 at w links (λ x c. subst (λ xs. Contains xs x) (sym retired) c) me.0.sizes s.words (after_it s w).words
+      (λ c is. ap link_in (count_same me.0.sizes word f s.words beside c is)) h
+
   pub allowed : 1 ≤ me.0.sizes.seats → Always (λ s kept at. Beside me.0.sizes word f s.words) → (h : CanBe) → Always (λ s kept at. rest_of (h s kept at).0 ≡ rest_of me.0) →
       Allows (IsRuled sizes) size id me word f then
   allowed some_seats beside h same =
       allowed_by some_seats
-      (λ s kept epochs retired counted at. (let x = h s kept at in (
+      (λ s kept epochs retired counted linked at. (let x = h s kept at in (
         x.0,
         x.1,
         epochs_then s at (elsewhere_so me.0.sizes word f s.words (beside s kept at)) x.0 (rest_as_was me.0 x.0 (same s kept at)) epochs,
         slots_then s at (elsewhere_so me.0.sizes word f s.words (beside s kept at)) x.0 (same_retired me.0 x.0 (same s kept at)) (same_pin me.0 x.0 (same s kept at)) retired,
         counts_then s at (beside s kept at) x.0 (ap (λ r. r.6) (same s kept at)) counted,
+        links_then s at (beside s kept at) x.0 (ap (λ r. r.5) (same s kept at)) (ap (λ r. r.7) (same s kept at)) linked,
         ap (λ r. r.0) (same s kept at),
         x.2,
       )))
@@ -124,12 +136,13 @@ module _ (sizes : Sizes) (size id : ℕ) (me : Me Call View) (word : ℕ) (f : �
       Always (λ s kept at. rest_of (h s kept at).0 ≡ rest_unpinned me.0) → Allows (IsRuled sizes) size id me word f then
   allowed_unpinned some_seats beside h same =
       allowed_by some_seats
-      (λ s kept epochs retired counted at. (let x = h s kept at in (
+      (λ s kept epochs retired counted linked at. (let x = h s kept at in (
         x.0,
         x.1,
         epochs_then s at (elsewhere_so me.0.sizes word f s.words (beside s kept at)) x.0 (unpinned_as_was me.0 x.0 (same s kept at)) epochs,
         slots_then s at (elsewhere_so me.0.sizes word f s.words (beside s kept at)) x.0 (ap (λ r. r.5) (same s kept at)) (unpinned_as_was me.0 x.0 (same s kept at)).pinned retired,
         counts_then s at (beside s kept at) x.0 (ap (λ r. r.6) (same s kept at)) counted,
+        links_then s at (beside s kept at) x.0 (ap (λ r. r.5) (same s kept at)) (ap (λ r. r.7) (same s kept at)) linked,
         ap (λ r. r.0) (same s kept at),
         x.2,
       )))
@@ -224,18 +237,9 @@ module _ (v : View) (s : Table.State Call View) (kept : IsKept v.sizes s) (id : 
       let is = live_in_use v.sizes there kept.bounds r second in
       record { was = was.0; was_used = was.1; was_live = first; lives = second; slot = is.0; used = is.1 }
 
-  -- no word of its slot is one of the first
-  pub above_first : (r : Ref) (h : IsThere r) → first_slot_word v.sizes ≤ 2 * place_of there r
-  above_first r h =
-      above v.sizes s.words kept.taken (class_of h.slot.node) (place_of there r) (2 * place_of there r) (class_small h.slot.node)
-      (kept.nodes.within (slot_of r) h.slot (kept.nodes.live r h.lives, h.used)) (first_word h.slot.node (place_of there r))
-
   -- its place is the one that the seat knows
   pub its_place : (r : Ref) → IsThere r → place_of there r ≡ place_of v.account r
   its_place r h = same_place (slot_of r) h.was h.was_used
-
-  pub not_epoch : (r : Ref) → IsThere r → (word : ℕ) → word ≡ 2 * place_of v.account r → word ≢ epoch_word
-  not_epoch r h word is e = let first = above_first r h in let same = its_place r h in omega (arith, is, e, first, same)
 
   pub node_apart : (r : Ref) → IsThere r → (word : ℕ) → word ≡ 2 * place_of v.account r → Apart v.sizes word
   node_apart r h word is =

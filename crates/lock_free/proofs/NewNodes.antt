@@ -66,10 +66,14 @@ class_same (Listed singles) after same = ap class_of same.1
 -- ---- what was made stays where it is
 
 module _ (v w : View) (f : Follows v w) where
+  pub class_on : (r : Ref) → (slot : Slot) × IsUsed v r slot → class_of (node_at (now w).heap r) ≡ class_of (node_at (now v).heap r)
+  class_on r (slot, used) =
+      let y = f.nodes r slot used in
+      ap class_of (node_is (now w) r y.0 y.1) ∙ class_same slot.node y.0.node y.2 ∙ sym (ap class_of (node_is (now v) r slot used))
+
   pub made_same : (r : Ref) → (slot : Slot) × IsUsed v r slot → made_of w r ≡ made_of v r
   made_same r (slot, used) =
-      let y = f.nodes r slot used in
-      ap (λ c. one c (place w r)) (ap class_of (node_is (now w) r y.0 y.1) ∙ class_same slot.node y.0.node y.2 ∙ sym (ap class_of (node_is (now v) r slot used)))
+      ap (λ c. one c (place w r)) (class_on r (slot, used))
       ∙ ap (λ p. one (class_of (node_at (now v).heap r)) p) (f.places r slot used)
     where
       one : ℕ → ℕ → OwnNode

@@ -9,7 +9,7 @@ use Rattle.lock_free.specs.Rules.{IsFree}
 use Rattle.lock_free.specs.Roots.{undecided}
 use Rattle.lock_free.specs.Storing.{IsOwnWord, drafted}
 use Rattle.lock_free.proofs.Pools.{first_there}
-use Rattle.lock_free.proofs.WrittenEntries.{written_still}
+use Rattle.lock_free.proofs.Drafts.{written_still}
 
 -- a word of the slot is the seat's own
 pub own_offer_word : (v w : View) (slot word : ℕ) → w ≡ record v { drafts = w.drafts } → IsFree v 1 slot → 2 * slot ≤ word → word < 2 * slot + 7 → IsOwnWord w word

@@ -44,9 +44,6 @@ module _ (v : View) (offer : Descriptor) (p : IsAt v (act.Offer offer)) (s : Tab
   abbrev state : State
   state = state_of v.sizes kept.account
 
-  abbrev handle : ℕ
-  handle = handle_of p.operation.call
-
   pub stays : (mark : Bool) × running v.sizes there v.actor (record p.operation { is_marked = mark }) × (action_of state (record p.operation { is_marked = mark }) ≡ action_of (now v) p.operation)
   stays = (waited_so v s kept id at).stays p.operation p.runs
 

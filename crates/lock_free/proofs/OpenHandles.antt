@@ -99,9 +99,6 @@ not_closing w who fits unmarked (inr h) = let same = same_kind w (word.ClosingRe
 module _ (sizes : Sizes) (s : Table.State Call View) (kept : IsKept sizes s) (id : ℕ) (v : View) (at : get_elem? s.views id ≡ some v) (handle : ℕ) (low : handle < handle_limit) (access : Access)
     (q : Ref)
     (plain : root_at (state_of sizes kept.account) handle ≡ open_with access (Plain q)) (w : HandleWord) (fits : IsRootWord w) (is : IsPlainWord access (place_of kept.account q) w) where
-  abbrev state : State
-  state = state_of sizes kept.account
-
   abbrev pub words_then : List ℕ
   words_then = set s.words (root_word handle) (root_code w)
 

@@ -326,6 +326,7 @@ module _ (sizes : Sizes) where
         apart = λ i j v w ei ej x y c d same. absurd (none_retired i v ei x c);
       };
       counted = record { claims = []; counted = λ c is. omega arith };
+      linked = record { linked = λ id v e d c. absurd (empty_has d (subst (λ ds. Contains ds d) (ap (λ (x : View). x.links) (sym (its v id e).1)) c)) };
       heard = λ id v e h c. (let none = (subst (λ hs. Contains hs h) (ap (λ (x : View). x.heard) (sym (its v id e).1)) c).1 in absurd (omega (arith, none)));
     }
 

@@ -49,9 +49,6 @@ timed_lower history actor (a ∷ ts) low high least less (b, rest) =
     (record { begins = b.begins; ends = b.ends; begun = b.begun; ended = b.ended; after = omega (arith, less, b.after); before = b.before; within = b.within }, rest)
 
 module _ (history : List Event) (actor handle key : ℕ) where
-  on_them : List Answer → List Answer
-  on_them ts = filter (is_on handle key) ts
-
   timed_on : (ts : List Answer) (low high : ℕ) → AreTimed history actor ts low high → AreTimed history actor (filter (is_on handle key) ts) low high
   timed_on [] low high h = h
   timed_on (a ∷ ts) low high (b, rest) = by (is_on handle key a) (timed_on ts (b.ends + 1) high rest)

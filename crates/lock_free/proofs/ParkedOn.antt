@@ -12,6 +12,7 @@ use Rattle.machine_model.specs.GivingUp.{gave_up}
 use Rattle.lock_free.specs.declared.leaving.Swapping.{Swapping}
 use Rattle.lock_free.specs.declared.parking.Came.TheVariants as came
 use Rattle.lock_free.specs.declared.rules.View.{View}
+use Rattle.lock_free.specs.declared.swapping.Decided.{Decided}
 use Rattle.lock_free.specs.Calling.{cut_short, CutBy, GaveUp, HasCutShort}
 use Rattle.lock_free.specs.Exchanging.{given_back}
 use Rattle.lock_free.specs.Leaving.{EndsOrMay, HasDecidedSwap, HasSwappedOn, IsClimbAfter, IsRepair, IsSwapLeft, IsUpdate}
@@ -20,8 +21,9 @@ use Rattle.lock_free.specs.Parking.{HasRunTo, HasWoundUp, IsBare, IsSwapFor, Sti
 use Rattle.lock_free.specs.Passing.{IsOnWay}
 use Rattle.lock_free.specs.Seeking.{IsCalled}
 use Rattle.lock_free.specs.Stocks.{made_of, own_of}
-use Rattle.lock_free.specs.Swaps.{swap_done}
+use Rattle.lock_free.specs.Swaps.{is_done, retired_by, swap_done, swapped_by}
 use Rattle.lock_free.proofs.Comings.{saw_runs}
+use Rattle.lock_free.proofs.Retirings.{retiring_pool, retiring_sizes}
 use Rattle.lock_free.proofs.RunningOn.{runs_on_both}
 use Rattle.lock_free.proofs.SwapsEnd.{climb_ends, decided_runs_on, repair_ends, update_again, update_ends}
 
@@ -65,37 +67,41 @@ module _ (aims : Purpose → Type 0) (v : View) (s next : Swapping) (w : View) (
 
 -- ---- it has come to its end
 
-module _ (v : View) (s : Swapping) (left : IsSwapLeft v s) (done : Bool) (w : View) (h : HasDecidedSwap v s done w) where
+module _ (v : View) (s : Swapping) (left : IsSwapLeft v s) (result : Decided) (w : View) (h : HasDecidedSwap v s result w) where
+  abbrev done : Bool
+  done = is_done (swapped_by result)
+
   abbrev first : Operation
   first = left.its.operation
 
   decided_bare : IsBare w
-  decided_bare = is_bare w (swap_done left.why (node_at (now v).heap left.made) done first) (h.1 left.why left.i left.replaced left.made left.its first left.its.runs) refl
+  decided_bare = is_bare w (swap_done left.why (node_at (now v).heap left.made) done first) (h.comes left.why left.i left.replaced left.made left.its first left.its.runs) refl
 
   pub decided_owns : StillOwns v w
-  decided_owns = bare_owns v w (ap (λ (z : View). z.sizes) h.0.is) (ap (λ (z : View). z.pool) h.0.is) (is_bare v first left.its.runs left.its.none) decided_bare
+  decided_owns = bare_owns v w (retiring_sizes (retired_by (swapped_by result)) v w h.later) (retiring_pool (retired_by (swapped_by result)) v w h.later)
+      (is_bare v first left.its.runs left.its.none) decided_bare
 
   pub then_bare : IsBare w
   then_bare = decided_bare
 
   pub repaired : IsRepair left.why → HasRunTo v came.Spent w
-  repaired aim = (decided_runs_on v s left done w h, repair_ends v s left done w h first left.its.runs aim)
+  repaired aim = (decided_runs_on v s left result w h, repair_ends v s left result w h first left.its.runs aim)
 
   pub refused : (former : Option ℕ) → IsUpdate former left.why → done ≡ false → HasRunTo v came.Spent w
-  refused former aim is = (decided_runs_on v s left done w h, update_again v s left done w h first left.its.runs former aim is)
+  refused former aim is = (decided_runs_on v s left result w h, update_again v s left result w h first left.its.runs former aim is)
 
   module _ (call : Call) (access : Access) (called : IsCalled v call access) (former : Option ℕ) where
     by_call : EndsOrMay w (changed_reply first.call former) → EndsOrMay w (changed_reply call former)
     by_call e = subst (λ c. EndsOrMay w (changed_reply c former)) (called first left.its.runs).0 e
 
     pub changed_ends : IsUpdate former left.why → done ≡ true → EndsOrMay w (changed_reply call former)
-    changed_ends aim is = by_call (update_ends v s left done w h first left.its.runs former aim is)
+    changed_ends aim is = by_call (update_ends v s left result w h first left.its.runs former aim is)
 
     pub climbed_ends : IsClimbAfter former left.why → EndsOrMay w (changed_reply call former)
-    climbed_ends aim = by_call (climb_ends v s left done w h first left.its.runs former aim)
+    climbed_ends aim = by_call (climb_ends v s left result w h first left.its.runs former aim)
 
   pub wound_on : (answer : Reply) (x : View) → HasWoundUp w answer x → HasRunTo v (came.Answered answer) x
-  wound_on answer x wound = (runs_on_both v w x (decided_runs_on v s left done w h) wound.0, wound.1)
+  wound_on answer x wound = (runs_on_both v w x (decided_runs_on v s left result w h) wound.0, wound.1)
 
 -- ---- it is cut short
 

@@ -30,6 +30,8 @@ use Rattle.lock_free.proofs.PinnedFor.{asks_kept}
 use Rattle.lock_free.proofs.Assembling.{here}
 use Rattle.lock_free.proofs.CountWords.{count_same, pin_apart}
 use Rattle.lock_free.proofs.CountsStay.{counted_then}
+use Rattle.lock_free.proofs.LinksStay.{linked_then}
+use Rattle.lock_free.specs.Links.{link_in}
 use Rattle.lock_free.proofs.EpochStays.{epoch_in, pinned_still, stays_elsewhere}
 use Rattle.lock_free.proofs.Exchanged.{words_hit}
 use Rattle.lock_free.proofs.Moments.{allowed_by, allowed_unpinned}
@@ -183,7 +185,7 @@ pub pin_allowed : (sizes : Sizes) (size id : ℕ) (me : Me Call View) (some_seat
 pin_allowed sizes size id me some_seats pin call fits late idle free =
     allowed_by sizes size id me (pin_word me.0.actor) (λ n. either (n == 0) (pin_code pin) n) (has_pinned (step size (pin_word me.0.actor) 0 (pin_code pin) (some call)) me)
     some_seats
-    (λ s kept epochs retired counted at. (
+    (λ s kept epochs retired counted linked at. (
       pinning me.0 pin fits late call s kept,
       subst (λ ws. IsKept me.0.sizes (record { words = ws; homes = s.homes; views = set s.views id (pinning me.0 pin fits late call s kept) }))
           (words_hit me.0 s kept id at (pin_word me.0.actor) 0 (pin_code pin) ((kept.seats id me.0 at).pinned ∙ ap pin_word_of free) (pin_word me.0.actor) refl)
@@ -198,6 +200,10 @@ pin_allowed sizes size id me some_seats pin call fits late idle free =
           (set s.words (pin_word me.0.actor) (either (slice_index s.words (pin_word me.0.actor) == 0) (pin_code pin) (slice_index s.words (pin_word me.0.actor))))
           (count_same me.0.sizes (pin_word me.0.actor) (λ n. either (n == 0) (pin_code pin) n) s.words
           (inl (pin_apart me.0.sizes me.0.actor (let seat = kept.seats id me.0 at in omega (arith, seat.top, seat.most))))) counted,
+      linked_then s.views id me.0 at (pinning me.0 pin fits late call s kept) refl (λ x c. c) me.0.sizes s.words
+          (set s.words (pin_word me.0.actor) (either (slice_index s.words (pin_word me.0.actor) == 0) (pin_code pin) (slice_index s.words (pin_word me.0.actor))))
+          (λ c is. ap link_in (count_same me.0.sizes (pin_word me.0.actor) (λ n. either (n == 0) (pin_code pin) n) s.words
+          (inl (pin_apart me.0.sizes me.0.actor (let seat = kept.seats id me.0 at in omega (arith, seat.top, seat.most)))) c is)) linked,
       refl,
       λ other said back is. (
         pinned_at me.0 pin fits late call s kept,

@@ -1,6 +1,8 @@
 -- The slots that are free for a seat.
-use Rattle.std.proofs.Common.{◌≡◌, ◌≢◌, ◌⊎◌, ℕ, zero, suc, ◌<◌, inl, inr, List, [], ◌∷◌, ◌++◌, Contains, get_or, refl, sym, ap, ◌∙◌, subst, arith}
+use Rattle.std.proofs.Common.{◌≡◌, ◌≢◌, ◌⊎◌, ℕ, zero, suc, ◌<◌, inl, inr, List, [], ◌∷◌, ◌++◌, Contains, get_or, map, refl, sym, ap, ◌∙◌, subst, arith}
+use Rattle.std.proofs.Math.ListN.{get_or-map}
 use Rattle.std.proofs.lemmas.Bool.{cases_eq}
+use Rattle.std.proofs.lemmas.List.{length-map}
 use Rattle.std.proofs.lemmas.List.Elements.{Contains-append_left, Contains-append_right, Contains-append_cases, Contains-push, Contains-push_cases}
 use Rattle.lock_free.specs.declared.rules.Pool.{Pool}
 use Rattle.lock_free.specs.Making.{with_slots, with_slot}
@@ -28,6 +30,15 @@ first_there x xs = (0, omega arith, refl)
 
 pub more_there : {X : Type 0} (x : X) (xs : List X) (n : X) → Contains xs n → Contains (x ∷ xs) n
 more_there x xs n c = Contains-append_right (x ∷ []) xs n c
+
+pub contains_map : {X Y : Type 0} (f : X → Y) (xs : List X) (x : X) → Contains xs x → Contains (map f xs) (f x)
+contains_map f xs x (k, within, at_k) = (k, omega (arith, within, length-map xs f), get_or-map f xs k x ∙ ap f at_k)
+
+-- what stands there comes from one of them
+pub mapped : {X Y : Type 0} (f : X → Y) (xs : List X) (y : Y) → Contains (map f xs) y → (x : X) × Contains xs x × (f x ≡ y)
+mapped f [] y c = absurd (none_there y c)
+mapped f (x ∷ xs) y (zero, within, is) = (x, first_there x xs, is)
+mapped f (x ∷ xs) y (suc k, within, is) = let (z, c, e) = mapped f xs y (k, omega (arith, within), is) in (z, more_there x xs z c, e)
 
 -- no number stands twice in what is left of a pool, and the last one isn't among them
 pub once_rest : (xs : List ℕ) (n : ℕ) → Once (xs ++ n ∷ []) → Once xs × (Contains xs n → ⊥)

@@ -1,13 +1,10 @@
 -- Once the epoch has grown three times since a slot was retired nobody is on its node, and nobody comes to be.
 use Rattle.history.specs.declared.calls.Call.{Call}
-use Rattle.std.proofs.Common.{◌≡◌, ◌≢◌, ◌⊎◌, ◌+◌, ◌≤◌, ◌++◌, inl, inr, ℕ, List, [], ◌∷◌, Contains, get_or, length, Some, None, true, refl, sym, ap, subst, ◌∙◌, append-nil, arith}
+use Rattle.std.proofs.Common.{◌≡◌, ◌≢◌, ◌⊎◌, ◌+◌, ◌≤◌, ◌++◌, inl, inr, ℕ, List, [], ◌∷◌, Contains, length, Some, refl, sym, ap, subst, ◌∙◌, append-nil, arith}
 use mathlib.Core.Option.{some}
 use lib.ListN.{get_elem?}
 use Rattle.atomic_table.specs.Table as Table
 use Rattle.machine_model.specs.Beneath.slot_arena.specs.Refs.{slot_of}
-use Rattle.machine_model.specs.Beneath.slot_arena.specs.declared.nodes.Node.{Node}
-use Rattle.machine_model.specs.Beneath.slot_arena.specs.declared.nodes.Node.TheVariants.{Indirection, Branch, Single, Tomb, List as Listed}
-use Rattle.machine_model.specs.Beneath.slot_arena.specs.declared.nodes.Slot.{Slot}
 use Rattle.machine_model.specs.Beneath.slot_arena.specs.declared.refs.Ref.{Ref}
 use Rattle.machine_model.specs.Calls.{handle_of}
 use Rattle.machine_model.specs.Machine.{AreBounds, run}
@@ -17,8 +14,7 @@ use Rattle.machine_model.specs.declared.roots.RootWord.TheVariants.{Plain}
 use Rattle.machine_model.specs.declared.steps.Bounds.{Bounds}
 use Rattle.machine_model.specs.declared.steps.Step.{Step}
 use Rattle.proof_garbage.specs.Grace.{HaveEnded}
-use Rattle.proof_memory.specs.Laws.{IsInUse, SameNode}
-use Rattle.proof_memory.proofs.Safety.AtEachTime.{safe_along}
+use Rattle.proof_memory.specs.Laws.{IsInUse}
 use Rattle.proof_reuse.proofs.SwapIns.{none_swapped_back}
 use Rattle.proof_reuse.proofs.Unknown.{unknown_after_grace}
 use Rattle.proof_reuse.specs.Beneath.proof_followed.proofs.Grace.{dies}
@@ -34,19 +30,16 @@ use Rattle.lock_free.specs.declared.rules.Pinned.{Pinned}
 use Rattle.lock_free.specs.declared.rules.Retired.{Retired}
 use Rattle.lock_free.specs.declared.rules.View.{View}
 use Rattle.lock_free.specs.declared.sizes.Sizes.{Sizes}
-use Rattle.lock_free.specs.Accounts.{bounds_for, state_of, place_at, running, HasGrown, WasRoot}
+use Rattle.lock_free.specs.Accounts.{bounds_for, state_of, running, HasGrown, WasRoot}
 use Rattle.lock_free.specs.Live.{IsKnown, IsLive, from_root, from_operation, from_slot}
-use Rattle.lock_free.specs.Nodes.{class_of}
 use Rattle.lock_free.specs.Rules.{AreEpochs, AreRetired, IsKept, IsRetired, WasGarbage}
 use Rattle.lock_free.proofs.BegunSince.{begun_grown, begun_since, first_bounds}
 use Rattle.lock_free.proofs.EpochStays.{epoch_in}
-use Rattle.lock_free.proofs.Moments.{place_stays}
-use Rattle.lock_free.proofs.OneStep.Found.{live_used, ref_at, slot_at}
+use Rattle.lock_free.proofs.OneStep.Found.{live_used}
 use Rattle.lock_free.proofs.OneStep.GarbageWide.{garbage_wide}
 use Rattle.lock_free.proofs.OneStep.Longer.{run_longer, bounds_less}
 use Rattle.lock_free.proofs.OneStep.Reached.{reached_used}
 use Rattle.lock_free.proofs.OneStep.Retired.{retired_used}
-use Rattle.lock_free.proofs.OneStep.Widened.{slot_in}
 use Rattle.lock_free.proofs.Waiting.{grown_both, grown_none}
 
 -- ---- who is on a node
@@ -226,36 +219,3 @@ module _ (sizes : Sizes) (s : Table.State Call View) (kept : IsKept sizes s) (ep
   not_root r h same =
       let one = one_ref state.heap r is.was.node (reached_used sizes kept.account kept.bounds kept.quiet r h) in_use (same ∙ sym is.was.number) in
       never_root (subst (WasRoot sizes kept.account) one h)
-
-  -- ---- its slot
-
-  found : get_or (run (bounds_for sizes kept.account.steps) x.account.steps).heap.slots x.number None ≡ Some is.was.slot
-  found =
-      ap (λ (z : State). get_or z.heap.slots x.number None) (prefix_is sizes kept.account kept.bounds x.account is.grown)
-      ∙ slot_in (length is.grown.steps) (length kept.account.steps + 1) (state_of sizes x.account) x.number ∙ is.was.stored
-
-  same_class : (was now : Node) → SameNode was now → class_of now ≡ class_of was
-  same_class (Indirection generation main) now same = ap class_of same.1
-  same_class (Branch bitmap entries) now same = ap class_of same.1
-  same_class (Single key value) now same = ap class_of same.1
-  same_class (Tomb single) now same = ap class_of same.1
-  same_class (Listed singles) now same = ap class_of same.1
-
-  -- the node stands there still
-  pub stands_still : (slot : Slot) × (get_or state.heap.slots x.number None ≡ Some slot) × (class_of slot.node ≡ x.class)
-  stands_still =
-      let limits = bounds_for sizes kept.account.steps in
-      let (r, place, stands) = ref_at _ (safe_along limits kept.bounds x.account.steps) x.number is.was.slot found in
-      let (later, then, same) = nothing_is_freed limits x.account.steps is.grown.steps r is.was.slot kept.bounds
-      (unswept_behind x.account.steps is.grown.steps (subst HasNoSweeps is.grown.goes_on kept.quiet)) stands in (
-        later,
-        ap (λ l. get_or (run limits l).heap.slots x.number None) is.grown.goes_on
-            ∙ ap (λ j. get_or (run limits (x.account.steps ++ is.grown.steps)).heap.slots j None) (sym place) ∙ slot_at _ r later then,
-        same_class is.was.slot.node later.node same ∙ is.was.class,
-      )
-
-  pub place_still : place_at kept.account x.number ≡ x.name
-  place_still = ap (λ xs. get_or xs x.number 0) is.grown.more_names ∙ place_stays x.account.names is.grown.names x.number is.was.made ∙ is.was.place
-
-  pub was_standing : kept.stands x.number ≡ true
-  was_standing = is.still

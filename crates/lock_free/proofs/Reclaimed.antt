@@ -1,10 +1,9 @@
 -- A retired slot on whose node nobody is any more is free for its seat: the rule is kept.
 use Rattle.history.specs.declared.calls.Call.{Call}
-use Rattle.std.proofs.Common.{◌≡◌, ◌≢◌, ◌⊎◌, ◌==◌, ◌+◌, ◌<◌, ◌≤◌, inl, inr, ℕ, Bool, true, false, List, ◌∷◌, Contains, get_or, map, set, if◌then◌else◌, Some, None}
-use Rattle.std.proofs.Common.{refl, sym, ap, subst, ◌∙◌, eq-eqb, ne_eqb, arith}
-use Rattle.std.proofs.Math.ListN.{get_or-map}
+use Rattle.std.proofs.Common.{◌≡◌, ◌≢◌, ◌⊎◌, ◌==◌, ◌+◌, ◌<◌, ◌≤◌, inl, inr, ℕ, Bool, true, false, not, List, [], ◌∷◌, Contains, cond, filter, get_or, map, set, if◌then◌else◌, Some, None}
+use Rattle.std.proofs.Common.{refl, sym, ap, subst, ◌∙◌, eq-eqb, ne_eqb}
+use Rattle.std.proofs.lemmas.List.Elements.{All-contains, All-filter, All-contains_itself}
 use Rattle.std.proofs.lemmas.Bool.{true≢false}
-use Rattle.std.proofs.lemmas.List.{length-map}
 use mathlib.Core.Option.{some}
 use lib.ListN.{get_elem?}
 use Rattle.atomic_table.proofs.Lists.{at_set}
@@ -18,36 +17,54 @@ use Rattle.lock_free.specs.declared.rules.View.{View}
 use Rattle.lock_free.specs.declared.sizes.Sizes.{Sizes}
 use Rattle.lock_free.specs.Accounts.{state_of, place_at}
 use Rattle.lock_free.specs.Nodes.{class_of}
-use Rattle.lock_free.specs.Places.{IsTaken}
-use Rattle.lock_free.specs.Reclaiming.{reclaiming}
+use Rattle.lock_free.specs.Links.{AreLinked, IsLinked}
+use Rattle.lock_free.specs.Places.{count_word, IsSlot, IsTaken}
+use Rattle.lock_free.specs.Reclaiming.{reclaiming, without}
 use Rattle.lock_free.specs.Rules.{AreDrafts, AreEpochs, AreRetired, IsFree, IsKept, IsSeat, IsSpare, NodesStand, Once, Standing, Stands, pool_of}
 use Rattle.lock_free.proofs.Assembling.{AllStand, all_stand, assembled, closing_stays, numbers_stay}
+use Rattle.lock_free.proofs.CountWords.{one_class}
+use Rattle.lock_free.proofs.Drafts.{left, others_left}
 use Rattle.lock_free.proofs.EpochStays.{epoch_in}
-use Rattle.lock_free.proofs.Framing.{class_small}
 use Rattle.lock_free.proofs.Meanings.{no_tries}
-use Rattle.lock_free.proofs.Pools.{first_there, free_still, more_there, once_with, was_free}
-use Rattle.lock_free.proofs.Reclaimable.{not_live, not_root, place_still, stands_still, was_standing}
+use Rattle.lock_free.proofs.Pools.{contains_map, free_still, mapped, once_with, was_free}
+use Rattle.lock_free.proofs.Reclaimable.{not_live, not_root}
+use Rattle.lock_free.proofs.RetiredSlots.{it_stands, place_still, retired_slot, retired_small, retired_taken, stands_still}
 
-contains_map : {X Y : Type 0} (f : X → Y) (xs : List X) (x : X) → Contains xs x → Contains (map f xs) (f x)
-contains_map f xs x (k, within, at_k) = (k, omega (arith, within, length-map xs f), get_or-map f xs k x ∙ ap f at_k)
+abbrev numbers : List Retired → List ℕ
+numbers xs = map (λ (x : Retired). x.number) xs
+
+-- no number stands twice in what is left
+once_left : (f : Retired → Bool) (xs : List Retired) → Once (numbers xs) → Once (numbers (filter f xs))
+once_left f [] h = tt
+once_left f (x ∷ xs) h = by (f x) (once_left f xs h.1)
+  where
+    fewer : (n : ℕ) → Contains (numbers (filter f xs)) n → Contains (numbers xs) n
+    fewer n c =
+        let (y, there, is) = mapped (λ (z : Retired). z.number) (filter f xs) n c in
+        subst (Contains (numbers xs)) is (contains_map (λ (z : Retired). z.number) xs y (All-contains (Contains xs) (filter f xs) y (All-filter f (Contains xs) xs (All-contains_itself xs)) there))
+
+    by : (b : Bool) → Once (numbers (filter f xs)) → Once (numbers (cond b (x ∷ filter f xs) (filter f xs)))
+    by true rest = ((λ c. h.0 (fewer x.number c)), rest)
+    by false rest = rest
 
 gone_by : (gone stood : Bool) → (if gone then false else stood) ≡ true → (gone ≡ false) × (stood ≡ true)
 gone_by true stood e = absurd (true≢false (sym e))
 gone_by false stood e = (refl, e)
 
 module _ (sizes : Sizes) (s : Table.State Call View) (kept : IsKept sizes s) (epochs : AreEpochs s.words s.views) (old : AreRetired sizes s.words s.views)
-    (id : ℕ) (v : View) (at : get_elem? s.views id ≡ some v) (x : Retired) (rest : List Retired) (its : v.retired ≡ x ∷ rest) (ripe : x.stamp + 3 ≤ epoch_in s.words) where
+    (id : ℕ) (v : View) (at : get_elem? s.views id ≡ some v) (x : Retired) (here : Contains v.retired x) (ripe : x.stamp + 3 ≤ epoch_in s.words) where
   abbrev state : State
   state = state_of sizes kept.account
-
-  here : Contains v.retired x
-  here = subst (λ xs. Contains xs x) (sym its) (first_there x rest)
 
   abbrev pub stands_then : Standing
   stands_then k = if k == x.number then false else kept.stands k
 
   abbrev pub view_then : View
-  view_then = reclaiming v x rest
+  view_then = reclaiming v x.class x.name
+
+  -- what it has retired then
+  abbrev rest : List Retired
+  rest = without x.name v.retired
 
   seat : IsSeat sizes kept.account kept.stands s.words v
   seat = kept.seats id v at
@@ -91,45 +108,43 @@ module _ (sizes : Sizes) (s : Table.State Call View) (kept : IsKept sizes s) (ep
 
   -- ---- the slot
 
-  its_slot : (slot : Slot) × (get_or state.heap.slots x.number None ≡ Some slot) × (class_of slot.node ≡ x.class)
-  its_slot = stands_still sizes s kept epochs old id v at x here ripe
+  abbrev its_slot : (slot : Slot) × (get_or state.heap.slots x.number None ≡ Some slot) × (class_of slot.node ≡ x.class)
+  its_slot = stands_still sizes s kept id v at x here
 
-  it_stands : Stands kept.stands state x.number its_slot.0
-  it_stands = (was_standing sizes s kept epochs old id v at x here ripe, its_slot.1)
+  stands_there : Stands kept.stands state x.number its_slot.0
+  stands_there = it_stands sizes s kept id v at x here
 
   place : place_at kept.account x.number ≡ x.name
-  place = place_still sizes s kept epochs old id v at x here ripe
+  place = place_still sizes s kept id v at x here
 
   small : x.class < 3
-  small = subst (λ n. n < 3) its_slot.2 (class_small its_slot.0.node)
+  small = retired_small sizes s kept id v at x here
 
   spare_then : (name : ℕ) → IsSpare sizes kept.account kept.stands name → IsSpare sizes kept.account stands_then name
   spare_then name h = (λ k slot e. h.0 k slot (stood k slot e).0, h.1)
 
   -- it is nobody's
   not_free : (w : View) (b name : ℕ) → IsTaken sizes s.words b name × IsSpare sizes kept.account kept.stands name → x.name ≢ name
-  not_free w b name h same = h.1.0 x.number its_slot.0 it_stands (place ∙ same)
+  not_free w b name h same = h.1.0 x.number its_slot.0 stands_there (place ∙ same)
 
   given : IsTaken sizes s.words x.class x.name × IsSpare sizes kept.account stands_then x.name
   given = (
-    subst (λ c. IsTaken sizes s.words c x.name) its_slot.2
-        (subst (λ n. IsTaken sizes s.words (class_of its_slot.0.node) n) place (kept.nodes.within x.number its_slot.0 it_stands)),
+    retired_taken sizes s kept id v at x here,
     (
-      λ k slot e same. (let was = stood k slot e in was.1 (kept.nodes.apart k x.number slot its_slot.0 was.0 it_stands (same ∙ sym place))),
-      λ k c same. kept.nodes.offers k c x.number its_slot.0 it_stands (place ∙ sym same),
+      λ k slot e same. (let was = stood k slot e in was.1 (kept.nodes.apart k x.number slot its_slot.0 was.0 stands_there (same ∙ sym place))),
+      λ k c same. kept.nodes.offers k c x.number its_slot.0 stands_there (place ∙ sym same),
     ),
   )
 
   -- ---- seats
 
-  numbered : Once (x.number ∷ map (λ (y : Retired). y.number) rest)
-  numbered = subst (λ xs. Once (map (λ (y : Retired). y.number) xs)) its (old.once id v at)
+  was_mine : (y : Retired) → Contains rest y → Contains v.retired y
+  was_mine y c = (left (λ (z : Retired). z.name) x.name v.retired y c).1
 
   mine : (y : Retired) → Contains rest y → y.number ≢ x.number
-  mine y c same = numbered.0 (subst (Contains (map (λ (z : Retired). z.number) rest)) same (contains_map (λ (z : Retired). z.number) rest y c))
-
-  was_mine : (y : Retired) → Contains rest y → Contains v.retired y
-  was_mine y c = subst (λ xs. Contains xs y) (sym its) (more_there x rest y c)
+  mine y c same =
+      (left (λ (z : Retired). z.name) x.name v.retired y c).0
+      (sym (place_still sizes s kept id v at y (was_mine y c)) ∙ ap (place_at kept.account) same ∙ place)
 
   theirs : (other : ℕ) (w : View) → get_elem? s.views other ≡ some w → (other ≡ id → ⊥) → (y : Retired) → Contains w.retired y → y.number ≢ x.number
   theirs other w e apart y c same = apart (old.apart other id w v e at y x c here same)
@@ -229,8 +244,39 @@ module _ (sizes : Sizes) (s : Table.State Call View) (kept : IsKept sizes s) (ep
     stamps = λ k w e y c. (let b = had k w e y c in subst (λ n. y.stamp ≤ n) (sym same) (old.stamps k b.0 b.1 y b.2));
     pins = λ i j u w ei ej y c p is. (let b = had i u ei y c in let d = pins_had j w ej p is in old.pins i j b.0 d.0 b.1 d.1 y b.2 p d.2);
     once = λ k w e. elim (at_set s.views id k view_then w e) [
-      | inl p ↦ subst (λ (u : View). Once (map (λ (y : Retired). y.number) u.retired)) p.1 numbered.1
+      | inl p ↦ subst (λ (u : View). Once (map (λ (y : Retired). y.number) u.retired)) p.1 (once_left (λ (y : Retired). not (y.name == x.name)) v.retired (old.once id v at))
       | inr p ↦ old.once k w p.1
     ];
     apart = λ i j u w ei ej y z cy cz eq. (let b = had i u ei y cy in let d = had j w ej z cz in old.apart i j b.0 d.0 b.1 d.1 y z b.2 d.2 eq);
+  }
+
+  -- ---- links
+
+  -- a link that it knows then is another slot's
+  own_link : sizes ≡ v.sizes → (d : ℕ × ℕ) → Contains view_then.links d → IsLinked sizes s.words v d → IsLinked sizes s.words view_then d
+  own_link its_sizes d has z = record {
+    count = z.count;
+    item = z.item;
+    its = others_left (λ (y : Retired). y.name) x.name v.retired z.item apart z.its;
+    word = z.word;
+    is = z.is;
+  }
+    where
+      apart : z.item.name ≢ x.name
+      apart same =
+          let class : z.item.class ≡ x.class =
+          one_class sizes z.item.class x.class x.name (retired_small sizes s kept id v at z.item z.its) small
+          (subst (IsSlot sizes z.item.class) same (retired_slot sizes s kept id v at z.item z.its)) (retired_slot sizes s kept id v at x here) in
+          (left (λ (e : ℕ × ℕ). e.0) (count_word v.sizes x.class x.name) v.links d has).0
+          (z.word ∙ ap (λ n. count_word sizes n z.item.name) class ∙ ap (count_word sizes x.class) same ∙ ap (λ z. count_word z x.class x.name) its_sizes)
+
+  pub reclaim_linked : sizes ≡ v.sizes → AreLinked sizes s.words s.views → AreLinked sizes s.words (set s.views id view_then)
+  reclaim_linked its_sizes h = record {
+    linked = λ k w e d has. elim (at_set s.views id k view_then w e) [
+      | inl p ↦
+          (let has_own = subst (λ (u : View). Contains u.links d) (sym p.1) has in
+          subst (λ u. IsLinked sizes s.words u d) p.1
+          (own_link its_sizes d has_own (h.linked id v at d (left (λ (e : ℕ × ℕ). e.0) (count_word v.sizes x.class x.name) v.links d has_own).1)))
+      | inr p ↦ h.linked k w p.1 d has
+    ];
   }

@@ -46,6 +46,10 @@ use Rattle.lock_free.specs.declared.leaving.Swapping.{Swapping}
 use Rattle.lock_free.specs.Leaving.{HasLeftSwap, IsRepair, LeavesSwap}
 use Rattle.lock_free.proofs.RunningOn.{runs_on_become, runs_on_both, runs_on_stayed}
 use Rattle.lock_free.proofs.SwapsBegun.{leaves_swap}
+use Rattle.lock_free.specs.declared.reclaiming.Retiree.{Retiree}
+use Rattle.lock_free.specs.Places.{class_for}
+use Rattle.lock_free.proofs.MainClasses.{branch_class}
+use Rattle.lock_free.proofs.NewNodes.{class_on}
 
 module _ (n : ℕ) (v0 : View) (sound0 : IsSound n v0) (name : ℕ) (link : Link) (bitmap : ℕ) (is_at : IsAtRenew v0 name link bitmap) where
   abbrev path : List Ref
@@ -158,9 +162,10 @@ module _ (n : ℕ) (v0 : View) (sound0 : IsSound n v0) (name : ℕ) (link : Link
             its : HasNew v2 node fresh v3
             its = subst (λ r. HasNewOrNone v2 node r v3) had new
 
-            pub renew_swap : IsAtSwap v3 name link fresh
-            renew_swap =
-                at_swap v2 l2 at2 (purpose.Renew path) (current path) main node v3 fresh its (λ o. refl) name link (placed_on v0 v2 second (current path) name b.placed) link2
+            pub renew_swap : (class : ℕ) → class ≡ class_for (count_ones bitmap) → IsAtSwap v3 name link class fresh
+            renew_swap class is =
+                at_swap v2 l2 at2 (purpose.Renew path) (current path) main node v3 fresh its (λ o. refl) name link class (placed_on v0 v2 second (current path) name b.placed) link2
+                (class_on v0 v2 second main (b.branch.0, b.branch.2) ∙ branch_class n v0 sound0 main bitmap b.branch ∙ sym is)
 
             pub renew_swap_way : (way : Way) → IsOnWay v0 way → IsOnWay v3 way
             renew_swap_way way on =
@@ -178,8 +183,8 @@ module _ (n : ℕ) (v0 : View) (sound0 : IsSound n v0) (name : ℕ) (link : Link
             }
 
             module _ (r : Swapped) (x : View) (s : HasSwapped v3 r x) where
-              pub swap_commits : r ≡ Commits → HasRenewedBranch v0 outcome.Reads x
-              swap_commits e = elsewhere outcome.Reads x (ends r x s _ (λ o. ap (λ q. swapped o node (purpose.Renew path) (is_done q)) e))
+              pub swap_commits : (had : Option Retiree) → r ≡ Commits had → HasRenewedBranch v0 outcome.Reads x
+              swap_commits had e = elsewhere outcome.Reads x (ends r x s _ (λ o. ap (λ q. swapped o node (purpose.Renew path) (is_done q)) e))
 
               pub swap_fails : r ≡ Fails → HasRenewedBranch v0 outcome.Again x
               swap_fails e = elsewhere outcome.Again x (ends r x s _ (λ o. ap (λ q. swapped o node (purpose.Renew path) (is_done q)) e))
@@ -188,7 +193,7 @@ module _ (n : ℕ) (v0 : View) (sound0 : IsSound n v0) (name : ℕ) (link : Link
               swap_misses e = elsewhere outcome.Again x (ends r x s _ (λ o. ap (λ q. swapped o node (purpose.Renew path) (is_done q)) e))
 
               by_kind : (q : Swapped) → r ≡ q → HasRenewedBranch v0 (renewed_by q) x
-              by_kind Commits e = swap_commits e
+              by_kind (Commits had) e = swap_commits had e
               by_kind Fails e = swap_fails e
               by_kind Misses e = swap_misses e
 

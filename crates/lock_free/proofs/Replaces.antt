@@ -5,7 +5,7 @@ use Rattle.trie_words.specs.declared.headers.Previous.TheVariants as previous
 use Rattle.trie_words.specs.declared.links.Link.{Link}
 use Rattle.machine_model.specs.Beneath.slot_arena.specs.declared.refs.Ref.{Ref}
 use Rattle.machine_model.specs.Beneath.slot_arena.specs.declared.nodes.Node.{Node}
-use Rattle.machine_model.specs.Beneath.slot_arena.specs.Heaps.{entries_of}
+use Rattle.machine_model.specs.Beneath.slot_arena.specs.Heaps.{entries_of, node_at}
 use Rattle.machine_model.specs.declared.actions.Action.{Action}
 use Rattle.machine_model.specs.declared.lines.Line.{Line}
 use Rattle.machine_model.specs.declared.lines.Line.TheVariants as line
@@ -22,6 +22,7 @@ use Rattle.lock_free.specs.Becoming.{Follows, HasNew, line_made, made_on}
 use Rattle.lock_free.specs.Holding.{IsOn}
 use Rattle.lock_free.specs.Loading.{now, Runs, IsAt, IsSound, Holds}
 use Rattle.lock_free.specs.Making.{over_of, IsOverBy}
+use Rattle.lock_free.specs.Nodes.{class_of}
 use Rattle.lock_free.specs.Passing.{KnowsLink, IsPlaced, IsOnWay}
 use Rattle.lock_free.specs.Repairing.{IsBranch}
 use Rattle.lock_free.specs.SeenEntries.{AreEntriesTo, HasEntries, HasSeenEntries, IsOver}
@@ -30,6 +31,7 @@ use Rattle.lock_free.specs.Swaps.{is_done, IsSwapping, IsAtSwap}
 use Rattle.lock_free.proofs.BecomesOn.{way_become}
 use Rattle.lock_free.proofs.Counts.{entries_counted, entries_few}
 use Rattle.lock_free.proofs.Followings.{follows_both, placed_on, link_on}
+use Rattle.lock_free.proofs.NewNodes.{class_on}
 use Rattle.lock_free.proofs.OnLines.{line_is}
 
 -- ---- the entries of a branch are seen
@@ -76,9 +78,18 @@ module _ (v : View) (l : Line) (at : IsOn v l) where
     pub is_swapping : IsSwapping w why i main new.made
     is_swapping = (made_on (now v) new.made at.0, new.become.comes at.0 at.1, ap (λ x. line_made (now v) at.0 x new.made) at.2 ∙ leads at.0)
 
-    pub at_swap : (place : ℕ) (link : Link) → IsPlaced v i place → KnowsLink v i main link → IsAtSwap w place link name
-    at_swap place link p k =
-        (why, i, main, new.made, is_swapping, placed_on v w new.become.follows i place p, link_on v w new.become.follows i main link k, new.placed)
+    pub at_swap : (place : ℕ) (link : Link) (class : ℕ) → IsPlaced v i place → KnowsLink v i main link → class_of (node_at (now v).heap main) ≡ class → IsAtSwap w place link class name
+    at_swap place link class p k is = (
+      why,
+      i,
+      main,
+      new.made,
+      is_swapping,
+      placed_on v w new.become.follows i place p,
+      link_on v w new.become.follows i main link k,
+      new.placed,
+      class_on v w new.become.follows main k.main_used ∙ is,
+    )
 
     pub swap_way : (way : Way) → IsOnWay v way → IsOnWay w way
     swap_way way on = way_become v w (made_on (now v) new.made) new.become l at way (λ o. refl) (λ o. refl) on

@@ -9,7 +9,6 @@ use Rattle.machine_model.specs.Beneath.slot_arena.specs.Heaps.{node_at}
 use Rattle.machine_model.specs.Beneath.slot_arena.specs.Refs.{slot_of}
 use Rattle.machine_model.specs.declared.reading.SwapLine.TheVariants as swap
 use Rattle.machine_model.specs.declared.roots.RootWord.TheVariants.{Plain}
-use Rattle.machine_model.specs.declared.steps.Bounds.{Bounds}
 use Rattle.machine_model.specs.declared.steps.Step.{Step}
 use Rattle.machine_model.specs.declared.steps.Step.TheVariants as step
 use Rattle.machine_model.specs.Grown.{standing}
@@ -81,9 +80,6 @@ both_kinds (Listed singles) link main_node = true≢false (sym link)
 
 module _ (sizes : Sizes) (account : Account) (bounds : AreBounds (bounds_for sizes account.steps)) (quiet : HasNoSweeps account.steps) (actor : ℕ) (i m f : Ref)
     (h : HasReplaced (state_of sizes account) actor i m f) (own : IsOwnBy sizes account (slot_of i) (slot_of m)) where
-  abbrev limits : Bounds
-  limits = bounds_for sizes account.steps
-
   link_now : HasIndirection (state_of sizes account) i
   link_now = replaced_link sizes account.steps bounds actor i m f h
 

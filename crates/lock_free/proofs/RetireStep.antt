@@ -1,11 +1,12 @@
 -- The load that is the last step of a SWAP retires the slot of the main node that was replaced, if that one was the indirection's own.
 use Rattle.history.specs.declared.calls.Call.{Call}
-use Rattle.std.proofs.Common.{◌≡◌, ◌≢◌, ◌*◌, ◌≤◌, ◌&&◌, inl, inr, ℕ, Bool, true, false, Contains, set, slice_index, refl, sym, ap, subst, ◌∙◌, arith}
+use Rattle.std.proofs.Common.{◌≡◌, ◌≢◌, ◌*◌, ◌≤◌, ◌&&◌, inl, inr, ℕ, Bool, true, false, [], ◌∷◌, Contains, set, slice_index, refl, sym, ap, subst, ◌∙◌, arith}
 use Rattle.std.proofs.lemmas.Bool.{true≢false}
 use Rattle.std.proofs.lemmas.List.{set-get_or}
 use Rattle.std.proofs.lemmas.Option.{same_Some}
 use mathlib.Core.Option.{some, none}
 use lib.ListN.{get_elem?}
+use Rattle.std.proofs.lemmas.List.Elements.{Contains-append_left}
 use Rattle.atomic_table.proofs.Lists.{at_set, set_else}
 use Rattle.atomic_table.specs.Table as Table
 use Rattle.atomic_table.specs.Table.{Allows, Me, step}
@@ -33,8 +34,9 @@ use Rattle.lock_free.specs.declared.rules.View.{View}
 use Rattle.lock_free.specs.declared.sizes.Sizes.{Sizes}
 use Rattle.lock_free.specs.Accounts.{bounds_for, state_of, place_of, running, gone_on, IsOwn}
 use Rattle.lock_free.specs.Counts.{AreCounted}
+use Rattle.lock_free.specs.Links.{AreLinked}
 use Rattle.lock_free.specs.Live.{IsLive}
-use Rattle.lock_free.specs.Loading.{now, IsAt, IsSound, HasGone, HasHeader}
+use Rattle.lock_free.specs.Loading.{now, IsAt, IsAtSlot, IsSound, HasGone, HasHeader}
 use Rattle.lock_free.specs.Nodes.{class_of}
 use Rattle.lock_free.specs.Owning.{IsOwnBy}
 use Rattle.lock_free.specs.Places.{words_of}
@@ -44,6 +46,7 @@ use Rattle.lock_free.specs.Steps.{Reads}
 use Rattle.lock_free.proofs.Asked.{line_stands, live_in_use, nodes_stay}
 use Rattle.lock_free.proofs.Assembling.{here}
 use Rattle.lock_free.proofs.CountsStay.{counted_then}
+use Rattle.lock_free.proofs.LinksStay.{linked_then}
 use Rattle.lock_free.proofs.Definition.{IsReading, reads_of}
 use Rattle.lock_free.proofs.GivenBack.{node_is}
 use Rattle.lock_free.proofs.NewNodes.{class_same}
@@ -62,7 +65,7 @@ both_true : (a b : Bool) → (a && b) ≡ true → (a ≡ true) × (b ≡ true)
 both_true true b e = (refl, e)
 both_true false b e = absurd (true≢false (sym e))
 
-decided_none : (p : Previous) → is_decided p ≡ true → p ≡ previous.None
+pub decided_none : (p : Previous) → is_decided p ≡ true → p ≡ previous.None
 decided_none previous.None e = refl
 decided_none p e = absurd (true≢false (sym e))
 
@@ -88,6 +91,9 @@ module _ (sizes : Sizes) (account : Account) (bounds : AreBounds (bounds_for siz
   pub fresh_lives : IsLive (state_of sizes account) f
   fresh_lives = safe_of claims.1.1.0
 
+abbrev pub checks_slot : (v : View) (i m f : Ref) → IsChecking v i m f → (name : ℕ) → place_of v.account f ≡ name → IsAtSlot v act.ReadPrev name
+checks_slot v i m f p name placed = (f, record { operation = p.operation; runs = p.runs; acts = ap (line_action (now v) p.operation) p.line_is }, placed)
+
 module _ (v : View) (i m f : Ref) (own : Bool) (p : IsChecking v i m f) (owned : IsOwn v.account i m own) (name : ℕ) (placed : place_of v.account f ≡ name) (s : Table.State Call View)
     (kept : IsKept v.sizes s) (epochs : AreEpochs s.words s.views) (old : AreRetired v.sizes s.words s.views) (id : ℕ) (at : get_elem? s.views id ≡ some v) where
   abbrev there : Account
@@ -103,7 +109,7 @@ module _ (v : View) (i m f : Ref) (own : Bool) (p : IsChecking v i m f) (owned :
   found = slice_index s.words word
 
   at_prev : IsAt v (act.ReadPrev f)
-  at_prev = record { operation = p.operation; runs = p.runs; acts = ap (line_action (now v) p.operation) p.line_is }
+  at_prev = (checks_slot v i m f p name placed).1
 
   reading : IsReading (action_of (now v) p.operation)
   reading = subst IsReading (sym (ap (line_action (now v) p.operation) p.line_is)) tt
@@ -126,7 +132,8 @@ module _ (v : View) (i m f : Ref) (own : Bool) (p : IsChecking v i m f) (owned :
   abbrev Leaves : View → Bool → Type 0
   Leaves w retires =
       IsKept v.sizes (record { words = s.words; homes = s.homes; views = set s.views id w }) × AreEpochs s.words (set s.views id w) × AreRetired v.sizes s.words (set s.views id w)
-      × ((w.heard ≡ v.heard) × (w.owed ≡ v.owed)) × HasRetired v m word found retires w × IsSound (words_of v.sizes) w
+      × ((w.heard ≡ v.heard) × (w.owed ≡ v.owed) × (w.links ≡ v.links) × ((y : Retired) → Contains v.retired y → Contains w.retired y)) × HasRetired v m word found retires w
+      × IsSound (words_of v.sizes) w
 
   epochs_then : (w : View) → IsAsWas v w → AreEpochs s.words (set s.views id w)
   epochs_then w it = epochs_stay s.words s.words s.views (set s.views id w) refl (was_then s.views id v at w it) epochs
@@ -187,7 +194,7 @@ module _ (v : View) (i m f : Ref) (own : Bool) (p : IsChecking v i m f) (owned :
               (was_garbage v.sizes kept.account kept.bounds kept.quiet v.actor i m f replaced own_by kept.counted (epoch_in s.words)) (grown_none (gone_on v.actor there)) (kept.nodes.live m lives),
           epochs_then (retiring gone x) (record { actor = refl; epoch = refl; passed = refl; pinned = λ pin same. same }),
           retired_stay v.sizes s.words s.words (set s.views id (retiring v x)) (set s.views id (retiring gone x)) (omega arith) as_it more,
-          (refl, refl),
+          (refl, refl, refl, λ y c. Contains-append_left v.retired (x ∷ []) y c),
           (
             gone,
             went,
@@ -212,7 +219,7 @@ module _ (v : View) (i m f : Ref) (own : Bool) (p : IsChecking v i m f) (owned :
     gone_kept v s kept id at p.operation p.runs reading,
     epochs_then gone (record { actor = refl; epoch = refl; passed = refl; pinned = λ pin same. same }),
     retired_then s.views id v at gone refl (λ pin same. same) v.sizes s.words s.words (omega arith) old,
-    (refl, refl),
+    (refl, refl, refl, λ y c. c),
     (gone, went, λ no. absurd (true≢false (sym no)), λ same. refl),
     gone_sound v s kept id at p.operation p.runs reading,
   )
@@ -246,7 +253,7 @@ pub retire_allowed : (sizes : Sizes) (size id : ℕ) (me : Me Call View) (some_s
 retire_allowed sizes size id me some_seats i m f own p owned name placed =
     allowed_by sizes size id me (2 * name) (λ n. n) (has_retired (step size (2 * name) 0 0 none) me)
     some_seats
-    (λ s kept epochs retired counted at. (
+    (λ s kept epochs retired counted linked at. (
     let y = leaves me.0 i m f own p owned name placed s kept epochs retired id at in
     let same = sym (set-get_or s.words (2 * name) 0) in (
       y.0,
@@ -254,6 +261,8 @@ retire_allowed sizes size id me some_seats i m f own p owned name placed =
       subst (λ ws. AreEpochs ws (set s.views id y.0)) same y.1.1,
       subst (λ ws. AreRetired me.0.sizes ws (set s.views id y.0)) same y.1.2,
       subst (λ ws. AreCounted me.0.sizes ws (set s.views id y.0)) same (counted_then s.views id me.0 at y.0 y.1.3.1 me.0.sizes s.words s.words (λ c is. refl) counted),
+      subst (λ ws. AreLinked me.0.sizes ws (set s.views id y.0)) same
+          (linked_then s.views id me.0 at y.0 y.1.3.2 y.1.3.3 me.0.sizes s.words s.words (λ c is. refl) linked),
       y.1.3.0,
       (
         λ j n g too q others.

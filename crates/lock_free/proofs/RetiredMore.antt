@@ -13,8 +13,7 @@ use Rattle.lock_free.specs.declared.sizes.Sizes.{Sizes}
 use Rattle.lock_free.specs.Reclaiming.{retiring}
 use Rattle.lock_free.specs.Rules.{AreEpochs, AreRetired, IsApartFrom, IsFarFrom, IsRetired, IsSeat, Once, Standing}
 use Rattle.lock_free.proofs.EpochStays.{epoch_in}
-use Rattle.lock_free.proofs.Idle.{empty_has}
-use Rattle.lock_free.proofs.Pools.{first_there, more_there, once_more}
+use Rattle.lock_free.proofs.Pools.{mapped, once_more}
 
 only_one : (x y : Retired) → Contains (x ∷ []) y → x ≡ y
 only_one x y (zero, within, is) = is
@@ -54,11 +53,6 @@ module _ (sizes : Sizes) (account : Account) (stands : Standing) (words : List �
 abbrev numbers : List Retired → List ℕ
 numbers xs = map (λ (y : Retired). y.number) xs
 
-numbered : (xs : List Retired) (n : ℕ) → Contains (numbers xs) n → (y : Retired) × Contains xs y × (y.number ≡ n)
-numbered [] n c = absurd (empty_has n c)
-numbered (x ∷ xs) n (zero, within, is) = (x, first_there x xs, is)
-numbered (x ∷ xs) n (suc k, within, is) = let (y, c, e) = numbered xs n (k, omega (arith, within), is) in (y, more_there x xs y c, e)
-
 module _ (sizes : Sizes) (words : List ℕ) (views : List View) (id : ℕ) (v : View) (at : get_elem? views id ≡ some v) (x : Retired) (stamp : x.stamp ≡ epoch_in words)
     (epochs : AreEpochs words views) (old : AreRetired sizes words views)
     (new : (k : ℕ) (w : View) → get_elem? views k ≡ some w → (y : Retired) → Contains w.retired y → y.number ≢ x.number) where
@@ -87,7 +81,7 @@ module _ (sizes : Sizes) (words : List ℕ) (views : List View) (id : ℕ) (v : 
   once_own : Once (numbers (v.retired ++ x ∷ []))
   once_own =
       subst Once (sym (map-append (λ (y : Retired). y.number) v.retired (x ∷ [])))
-      (once_more (numbers v.retired) x.number (old.once id v at) (λ c. (let (y, there, same) = numbered v.retired x.number c in new id v at y there same)))
+      (once_more (numbers v.retired) x.number (old.once id v at) (λ c. (let (y, there, same) = mapped (λ (z : Retired). z.number) v.retired x.number c in new id v at y there same)))
 
   pub retired_more : AreRetired sizes words (set views id (retiring v x))
   retired_more = record {

@@ -9,7 +9,6 @@ use Rattle.machine_model.specs.declared.steps.Step.TheVariants as step
 use Rattle.machine_model.specs.GivingUp.{gave_up}
 use Rattle.lock_free.specs.declared.rooting.Rooted.{Rooted}
 use Rattle.lock_free.specs.declared.rules.View.{View}
-use Rattle.lock_free.specs.Accounts.{running}
 use Rattle.lock_free.specs.Becoming.{Follows, HasBecome}
 use Rattle.lock_free.specs.Beginning.{taking}
 use Rattle.lock_free.specs.Calling.{GaveUp, once_given_up}
@@ -31,26 +30,23 @@ still_self v = record { is = refl; goes_on = goes_self v.account.steps }
 
 pub still_both : (u v w : View) → IsStill u v → IsStill v w → IsStill u w
 still_both u v w p q = record {
-  is = q.is ∙ ap (λ (x : View). record x { account = w.account; pool = w.pool; drafts = w.drafts; opening = w.opening }) p.is;
+  is = q.is ∙ ap (λ (x : View). record x { account = w.account; pool = w.pool; drafts = w.drafts; opening = w.opening; retired = w.retired }) p.is;
   goes_on = goes_both u.account.steps v.account.steps w.account.steps p.goes_on q.goes_on;
 }
 
 -- it is what it was, with these in their places
-pub still_with : (v w x : View) → w ≡ record v { account = x.account; pool = x.pool; drafts = x.drafts; opening = x.opening } → GoesOn v.account.steps x.account.steps → IsStill v w
+pub still_with : (v w x : View) → w ≡ record v { account = x.account; pool = x.pool; drafts = x.drafts; opening = x.opening; retired = x.retired } → GoesOn v.account.steps x.account.steps →
+    IsStill v w
 still_with v w x is more = record {
-  is = is ∙ ap (λ (z : View). record v { account = z.account; pool = z.pool; drafts = z.drafts; opening = z.opening }) (sym is);
+  is = is ∙ ap (λ (z : View). record v { account = z.account; pool = z.pool; drafts = z.drafts; opening = z.opening; retired = z.retired }) (sym is);
   goes_on = subst (λ (z : View). GoesOn v.account.steps z.account.steps) (sym is) more;
 }
 
 pub still_follows : (v w : View) → Follows v w → IsStill v w
-still_follows v w f = still_with v w (record v { account = w.account; pool = w.pool; drafts = w.drafts }) f.is f.goes_on
+still_follows v w f = still_with v w (record v { account = w.account; pool = w.pool; drafts = w.drafts; retired = w.retired }) f.is f.goes_on
 
 pub still_later : (v w : View) → Later v w → IsStill v w
 still_later v w l = still_with v w (record v { account = w.account }) l.is l.goes_on
-
--- it is what it was, and nothing has happened
-pub still_own : (v w : View) → w ≡ record v { pool = w.pool; drafts = w.drafts; opening = w.opening } → IsStill v w
-still_own v w is = still_with v w (record v { pool = w.pool; drafts = w.drafts; opening = w.opening }) is (goes_self v.account.steps)
 
 -- ---- its operation runs on
 
@@ -65,9 +61,6 @@ runs_on_both u v w p q = record {
   still = still_both u v w p.still q.still;
   runs = λ o r. (let x = p.runs o r in let y = q.runs x.0 x.1 in (y.0, y.1, same_both o x.0 y.0 x.2 y.2));
 }
-
-pub runs_on_own : (v w : View) → w ≡ record v { pool = w.pool; drafts = w.drafts; opening = w.opening } → RunsOn v w
-runs_on_own v w is = record { still = still_own v w is; runs = λ o r. (o, (r.0, subst (λ (x : View). running x.sizes x.account x.actor (record o { is_marked = r.0 })) (sym is) r.1), refl) }
 
 pub runs_on_become : (v w : View) (next : Operation → Operation) → ((o : Operation) → IsSame o (next o)) → HasBecome next v w → RunsOn v w
 runs_on_become v w next same b = record { still = still_follows v w b.follows; runs = λ o r. (next o, b.comes o r, same o) }

@@ -20,6 +20,8 @@ use Rattle.lock_free.specs.Counts.{AreCounted, IsCount, extra, how_often, owed_o
 use Rattle.lock_free.specs.Rules.{AreEpochs, AreRetired, latest, IsClosing, IsOpening, IsFree, Reserves, HasActor, HasSeat, IsSeat, IsKept, IsRuled, WasGivenUp}
 use Rattle.lock_free.specs.Splitting.{without_last, of_last}
 use Rattle.lock_free.proofs.CountsStay.{counts_stay, owed_set}
+use Rattle.lock_free.proofs.LinksStay.{Knew, knew, knew_none, knew_self, links_stay}
+use Rattle.lock_free.specs.Links.{AreLinked}
 use Rattle.lock_free.proofs.EpochStays.{IsAsWas, Was as Before, as_was, epochs_stay, is_new, was_one}
 use Rattle.lock_free.proofs.Idle.{empty_has, none_free, none_twice}
 use Rattle.lock_free.proofs.RetiredStay.{Retires, retired_stay, retires_as, retires_none, retires_self}
@@ -258,22 +260,29 @@ module _ (sizes : Sizes) (s : Table.State Call View) (kept : IsKept sizes s) (id
     retires_before k x (was_other e p) = retires_self s.views k x p
     retires_before k x (was_second e p) = retires_none (ap (λ (y : View). y.retired) (sym p)) (ap (λ (y : View). y.pin) (sym p))
 
+    knew_before : (k : ℕ) (x : View) → Was k x → Knew s.views x
+    knew_before k x (was_first e p) = subst (Knew s.views) p (knew id v at (λ d c. c) (λ y c. c))
+    knew_before k x (was_other e p) = knew_self s.views k x p
+    knew_before k x (was_second e p) = knew_none (ap (λ (y : View). y.links) (sym p))
+
     split_balance : (c : ℕ) → IsCount sizes c → owed_on c split_views + extra s.words c ≤ owed_on c s.views + extra s.words c
     split_balance c is =
         let both = sum_by_push (λ (x : View). how_often c x.owed) (set s.views id first) second in
         let one = owed_set c s.views id v at first in omega (arith, both, one)
 
-    pub split_ruled : AreEpochs s.words s.views → AreRetired sizes s.words s.views → AreCounted sizes s.words s.views → IsRuled sizes (record { words = s.words; homes = s.homes; views = split_views })
-    split_ruled epochs retired counted = record {
+    pub split_ruled : AreEpochs s.words s.views → AreRetired sizes s.words s.views → AreCounted sizes s.words s.views → AreLinked sizes s.words s.views →
+        IsRuled sizes (record { words = s.words; homes = s.homes; views = split_views })
+    split_ruled epochs retired counted linked = record {
       kept = split_kept;
       epochs = epochs_stay s.words s.words s.views split_views refl (λ k x e. was_before k x (was k x e)) epochs;
       retired = retired_stay sizes s.words s.words s.views split_views (omega arith) (λ k x e. retires_before k x (was k x e)) retired;
       counted = counts_stay sizes s.words s.words s.views split_views split_balance counted;
+      linked = links_stay sizes s.words s.words s.views split_views (λ c is. refl) (λ k x e. knew_before k x (was k x e)) linked;
       heard = λ k x e h c. heard_by k x (was k x e) h c;
     }
 
 pub splits : (sizes : Sizes) (id : ℕ) (v : View) → 1 ≤ v.sizes.seats → v.actor < v.last → Splits (IsRuled sizes) id v (without_last v) (of_last v)
-splits sizes id v some_seats more s ruled at = split_ruled sizes s ruled.kept id v at more some_seats ruled.heard ruled.epochs ruled.retired ruled.counted
+splits sizes id v some_seats more s ruled at = split_ruled sizes s ruled.kept id v at more some_seats ruled.heard ruled.epochs ruled.retired ruled.counted ruled.linked
 
 pub left_sound : (words : ℕ) (v : View) → IsSound words v → IsSound words (without_last v)
 left_sound words v h = record { size = h.size; range = h.range; bounds = h.bounds; keys = h.keys; counted = h.counted; inside = h.inside; free = h.free }

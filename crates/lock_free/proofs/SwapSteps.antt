@@ -1,13 +1,10 @@
 -- A SWAP, put together.
 use Rattle.std.proofs.Common.{◌≡◌, ◌≢◌, ◌^◌, ◌<◌, ◌==◌, ℕ, Bool, true, false, [], ◌∷◌, ◌++◌, Contains, Some, refl, sym, ap, subst, ◌∙◌, arith, append_assoc}
 use Rattle.std.proofs.lemmas.List.Elements.{Contains-get_or}
-use Rattle.std.proofs.lemmas.Bool.{true≢false}
 use Rattle.std.proofs.lemmas.Option.{same_Some}
-use Rattle.trie_words.specs.declared.headers.Header.{Header}
 use Rattle.trie_words.specs.declared.headers.Previous.{Previous}
 use Rattle.trie_words.specs.declared.headers.Previous.TheVariants as previous
 use Rattle.trie_words.specs.declared.links.Link.{Link}
-use Rattle.trie_words.specs.declared.names.Name.{Name}
 use Rattle.machine_model.specs.Beneath.slot_arena.specs.declared.refs.Ref.{Ref}
 use Rattle.machine_model.specs.Beneath.slot_arena.specs.declared.nodes.Prev.{Prev}
 use Rattle.machine_model.specs.Beneath.slot_arena.specs.declared.nodes.Slot.{Slot}
@@ -28,27 +25,24 @@ use Rattle.machine_model.specs.Operations.{action_of}
 use Rattle.machine_model.specs.States.{State}
 use Rattle.proof_memory.specs.Wants.{is_main_node}
 use Rattle.lock_free.specs.declared.accounts.Account.{Account}
-use Rattle.lock_free.specs.declared.reading.Given.{Given}
-use Rattle.lock_free.specs.declared.reading.Passed.TheVariants as passed
 use Rattle.lock_free.specs.declared.reading.Way.{Way}
 use Rattle.lock_free.specs.declared.reading.ReadFrom.TheVariants as resume
 use Rattle.lock_free.specs.declared.rules.View.{View}
-use Rattle.lock_free.specs.declared.swapping.Swapped.TheVariants.{Commits, Fails, Misses}
+use Rattle.lock_free.specs.declared.swapping.Swapped.TheVariants.{Misses}
 use Rattle.lock_free.specs.Accounts.{bounds_for, IsOwn, later, first}
 use Rattle.lock_free.specs.Exchanging.{HasPublished, given_up}
-use Rattle.lock_free.specs.Loading.{now, seen, Runs, IsAt, IsSound, IsAtSlot, HasHeader, HasReadHeader}
+use Rattle.lock_free.specs.Loading.{now, seen, Runs, IsAt, IsSound}
 use Rattle.lock_free.specs.Nodes.{class_of, IsAhead, SaysPrevious, decided, ahead, pending, failed}
-use Rattle.lock_free.specs.Passing.{Later, IsFrom, IsReading, IsOnWay, IsPlaced, HasPassed, HasGiven}
+use Rattle.lock_free.specs.Passing.{Later, IsFrom, IsReading, IsOnWay, IsPlaced}
 use Rattle.lock_free.specs.Publishing.{owned_now, swapped_in}
 use Rattle.lock_free.specs.Swaps.{swap_on, swap_done, IsSwapping, IsAtSwap, HasSwapDone}
-use Rattle.lock_free.proofs.Asked.{mains_of, main_stands, nodes_go, read_is_met}
+use Rattle.lock_free.proofs.Asked.{mains_of, main_stands, nodes_go}
 use Rattle.lock_free.proofs.Comings.{runs_one}
 use Rattle.lock_free.proofs.Framing.{class_small}
 use Rattle.lock_free.proofs.GivenBack.{node_is}
-use Rattle.lock_free.proofs.Laters.{main_kind, went_later, later_both, waited_later, same_both, used_later, placed_later, generation_later}
-use Rattle.lock_free.proofs.Passes.{none_says}
-use Rattle.lock_free.proofs.SwapRuns.{publishes, misses, is_none, checks}
-use Rattle.lock_free.proofs.Verdicts.{main_same, prev_is}
+use Rattle.lock_free.proofs.Laters.{main_kind, waited_later, same_both, used_later, placed_later, generation_later}
+use Rattle.lock_free.proofs.SwapRuns.{publishes, misses, is_none}
+use Rattle.lock_free.proofs.Verdicts.{main_same}
 use Rattle.lock_free.proofs.Within.{two_words}
 
 -- what a SWAP's line is for, and its fresh node
@@ -63,19 +57,7 @@ not_none account state k p says isnt met (ahead i b c own h its owned) = absurd 
 not_none account state k p says isnt met (pending q own over) = refl
 not_none account state k p says isnt met (failed q own over) = refl
 
-is_none_says : Previous → Bool
-is_none_says previous.None = true
-is_none_says p = false
-
-pub pending_not : (p : Previous) (name : Name) → p ≡ previous.Pending name → p ≢ previous.None
-unfolding is_none_says
-pending_not p name e n = true≢false (ap is_none_says (sym n ∙ e))
-
-pub failed_not : (p : Previous) (name : Name) → p ≡ previous.Failed name → p ≢ previous.None
-unfolding is_none_says
-failed_not p name e n = true≢false (ap is_none_says (sym n ∙ e))
-
-module _ (v : View) (name : ℕ) (link : Link) (fresh : ℕ) (is_at : IsAtSwap v name link fresh) where
+module _ (v : View) (name : ℕ) (link : Link) (class fresh : ℕ) (is_at : IsAtSwap v name link class fresh) where
   abbrev why : Purpose
   why = is_at.0
 
@@ -174,9 +156,6 @@ module _ (v : View) (name : ℕ) (link : Link) (fresh : ℕ) (is_at : IsAtSwap v
             offers = seen_later.offers;
           })
 
-      swapped_link : Link
-      swapped_link = record { generation = link.generation; main = record { slot = fresh; own = true } }
-
       pub goes_w : (o : Operation) → Runs v o → Runs w (swap_on why i a f (swap.Deciding (read.Prev f)) o)
       goes_w o (mark, runs) =
           let there = g.1.stays (record o { is_marked = mark }) runs in
@@ -216,51 +195,3 @@ module _ (v : View) (name : ℕ) (link : Link) (fresh : ℕ) (is_at : IsAtSwap v
           let same = runs_one w q (swap_on why i a f (swap.Deciding (read.Prev f)) swaps.0) r (goes_w swaps.0 swaps.1) in
           let it = on swaps.0 swaps.1 in
           (ap (λ (z : Operation). z.access) same ∙ it.0, ap (λ (z : Operation). handle_of z.call) same ∙ it.1)
-
-      -- it is decided
-      module _ (x : View) (sound_x : IsSound n x) (given : Given) (p : HasPassed w (passed.Gives given) x) where
-        its_given : HasGiven w i given x
-        its_given = p i (read.Prev f) reading_w
-
-        goes_x : (o : Operation) → Runs v o → Runs x (swap_on why i a f swap.Check o)
-        goes_x o r = its_given.come.comes (swap_on why i a f (swap.Deciding (read.Prev f)) o) (goes_w o r)
-
-        later_x : Later v x
-        later_x = later_both v w x later_w its_given.come.later
-
-        at_check : IsAt x (act.ReadPrev f)
-        at_check = let r = goes_x swaps.0 swaps.1 in record { operation = record (swap_on why i a f swap.Check swaps.0) { is_marked = r.0 }; runs = r.1; acts = refl }
-
-        pub header_ready : IsAtSlot x act.ReadPrev fresh
-        header_ready = (f, at_check, (placed_later v x later_x f fresh is_at.7).1)
-
-        module _ (z : View) (sound_z : IsSound n z) (header : Header) (h : HasReadHeader x header z) where
-          says : HasHeader h.0.account (now (seen x h.0.account)) f header
-          says = (h.1 f at_check).0
-
-          later_y : Later v (seen x h.0.account)
-          later_y = later_both v x (seen x h.0.account) later_x (waited_later n x sound_x h.0.account h.0.waited)
-
-          own_left : Later v z
-          own_left = later_both v x z later_x (went_later n x sound_x n z sound_z h.0)
-
-          goes_z : (done : Bool) → is_none says.slot.prev ≡ done → (o : Operation) → Runs v o → Runs z (swap_done why (node_at (now v).heap f) done o)
-          goes_z done is o r =
-              let (mark, runs) = goes_x o r in
-              let there = h.0.waited.stays (record (swap_on why i a f swap.Check o) { is_marked = mark }) runs in
-              let step = checks why i a f (now (seen x h.0.account)) o there.0 done (ap is_none (prev_is (now (seen x h.0.account)) f says.slot says.stores) ∙ is) in (
-                there.0,
-                h.0.took (record (swap_on why i a f swap.Check o) { is_marked = there.0 }) there.1
-                    ∙ ap Some (step ∙ ap (λ node. record (swap_done why node done o) { is_marked = there.0 }) (fresh_same (seen x h.0.account) later_y)),
-              )
-
-          pub commits : header.previous ≡ previous.None → HasSwapDone v Commits z
-          commits is = (own_left, lifted z true (goes_z true (ap is_none (none_says h.0.account (now (seen x h.0.account)) (slot_of f) says.slot.prev header.previous is says.is_previous))))
-
-          met : (j b c : Ref) → IsAhead (now (seen x h.0.account)) j b c → slot_of c ≢ slot_of f
-          met =
-              let there = h.0.waited.stays at_check.operation at_check.runs in
-              read_is_met x.sizes h.0.account h.0.waited.sound.bounds x.actor (record at_check.operation { is_marked = there.0 }) there.1 f (there.2 ∙ at_check.acts)
-
-          pub fails : header.previous ≢ previous.None → HasSwapDone v Fails z
-          fails isnt = (own_left, lifted z false (goes_z false (not_none h.0.account (now (seen x h.0.account)) (slot_of f) says.slot.prev header.previous isnt met says.is_previous)))

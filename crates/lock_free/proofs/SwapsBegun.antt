@@ -1,5 +1,5 @@
 -- A SWAP within a number of tries: its fresh main node is swapped in, and then it comes to its end, or is under way.
-use Rattle.std.proofs.Common.{◌≡◌, ℕ, Bool, true, false, inl, inr, [], map, refl, sym, ap, subst, ◌∙◌}
+use Rattle.std.proofs.Common.{◌≡◌, ℕ, Bool, true, false, inl, inr, [], None, map, refl, sym, ap, subst, ◌∙◌}
 use Rattle.trie_words.specs.declared.links.Link.{Link}
 use Rattle.machine_model.specs.Beneath.slot_arena.specs.declared.refs.Ref.{Ref}
 use Rattle.machine_model.specs.Beneath.slot_arena.specs.Heaps.{node_at}
@@ -12,6 +12,12 @@ use Rattle.machine_model.specs.declared.reading.SwapLine.TheVariants as swap
 use Rattle.lock_free.specs.declared.leaving.Swapping.{Swapping}
 use Rattle.lock_free.specs.declared.reading.ReadFrom.TheVariants as resume
 use Rattle.lock_free.specs.declared.rules.View.{View}
+use Rattle.lock_free.specs.declared.swapping.Decided.{Decided}
+use Rattle.lock_free.specs.declared.swapping.Decided.TheVariants as decided
+use Rattle.lock_free.specs.Reclaiming.{AddsRetired, LaterRetiring}
+use Rattle.lock_free.proofs.Followings.{follows_later}
+use Rattle.lock_free.proofs.NewNodes.{class_on}
+use Rattle.lock_free.proofs.Retirings.{retiring_after}
 use Rattle.lock_free.specs.declared.swapping.Swapped.{Swapped}
 use Rattle.lock_free.specs.declared.swapping.Swapped.TheVariants.{Commits, Fails, Misses}
 use Rattle.lock_free.specs.Exchanging.{HasPublished}
@@ -20,9 +26,9 @@ use Rattle.lock_free.specs.Loading.{now, Runs, IsSound}
 use Rattle.lock_free.specs.Passing.{Later}
 use Rattle.lock_free.specs.RunningOn.{RunsOn}
 use Rattle.lock_free.specs.Stocks.{Stocked, HasSwapped, IsStock, made_of, own_of, settled_pool}
-use Rattle.lock_free.specs.Swaps.{swap_on, swap_done, swapped_by, IsSwapping, IsAtSwap, HasSwapDone}
+use Rattle.lock_free.specs.Swaps.{is_done, retired_by, swap_on, swap_done, swapped_by, IsSwapping, IsAtSwap, HasSwapDone}
 use Rattle.lock_free.proofs.Comings.{runs_one}
-use Rattle.lock_free.proofs.Laters.{later_both, placed_later}
+use Rattle.lock_free.proofs.Laters.{placed_later}
 use Rattle.lock_free.proofs.RunningOn.{runs_on_both, still_later}
 use Rattle.lock_free.proofs.SwapRuns.{same_call}
 use Rattle.lock_free.proofs.SwapsMade.{missed_swapped, missed_owns, hit_swapped, hit_owns}
@@ -33,7 +39,7 @@ abbrev parts_in : Purpose × Ref × Ref × Ref → Line → Purpose × Ref × Re
 parts_in other (line.Swap y z) = (y, z.indirection, z.replaced, z.fresh)
 parts_in other l = other
 
-module _ (n : ℕ) (v : View) (name : ℕ) (link : Link) (fresh : ℕ) (at : IsAtSwap v name link fresh) where
+module _ (n : ℕ) (v : View) (name : ℕ) (link : Link) (class fresh : ℕ) (at : IsAtSwap v name link class fresh) where
   abbrev why : Purpose
   why = at.0
 
@@ -56,16 +62,17 @@ module _ (n : ℕ) (v : View) (name : ℕ) (link : Link) (fresh : ℕ) (at : IsA
 
   module _ (sound : IsSound n v) (w : View) (then : IsSound n w) (stood : Bool) (g : HasPublished v stood w) (e : stood ≡ true) where
     abbrev begun : Swapping
-    begun = record { indirection = name; from = resume.Header (record { generation = link.generation; main = record { slot = fresh; own = true } }); fresh = fresh }
+    begun = record { indirection = name; from = resume.Header (record { generation = link.generation; main = record { slot = fresh; own = true } }); fresh = fresh; replaced = link.main;
+        class = class }
 
     abbrev on_line : Operation → Operation
     on_line o = swap_on why i a f (swap.Deciding (read.Prev f)) o
 
     goes : (o : Operation) → Runs v o → Runs w (on_line o)
-    goes = goes_w v name link fresh at n sound w then stood g e
+    goes = goes_w v name link class fresh at n sound w then stood g e
 
     later : Later v w
-    later = later_w v name link fresh at n sound w then stood g e
+    later = later_w v name link class fresh at n sound w then stood g e
 
     begun_of : IsSwapOf w why i a f begun
     begun_of = record {
@@ -75,11 +82,15 @@ module _ (n : ℕ) (v : View) (name : ℕ) (link : Link) (fresh : ℕ) (at : IsA
       at = read.Prev f;
       line_is = refl;
       placed = placed_later v w later i name at.5;
-      fresh = placed_f v name link fresh at n sound w then stood g e;
-      from = from_ready v name link fresh at n sound w then stood g e;
+      fresh = placed_f v name link class fresh at n sound w then stood g e;
+      from = from_ready v name link class fresh at n sound w then stood g e;
+      old = placed_later v w later a link.main.slot (at.6.main_used, at.6.is.names.place);
+      owns = later.owns i a link.main.own at.6.is.names.is_own;
+      class = class_on v w (follows_later v w later) a at.6.main_used ∙ at.8;
     }
 
-    pub begun_left : IsSwapLeft w (record { indirection = name; from = resume.Header (record { generation = link.generation; main = record { slot = fresh; own = true } }); fresh = fresh })
+    pub begun_left : IsSwapLeft w (record { indirection = name; from = resume.Header (record { generation = link.generation; main = record { slot = fresh; own = true } }); fresh = fresh;
+        replaced = link.main; class = class })
     begun_left = record { why = why; i = i; replaced = a; made = f; its = begun_of }
 
     runs_w : RunsOn v w
@@ -87,29 +98,35 @@ module _ (n : ℕ) (v : View) (name : ℕ) (link : Link) (fresh : ℕ) (at : IsA
 
     -- it is under way
     pub leaves : (next : Swapping) (z : View) → HasSwappedOn w begun next z → HasLeftSwap v next z
-    leaves next z h = record { on = runs_on_both v w z runs_w h.on; pool = h.pool ∙ ap (λ (x : View). x.pool) later.is; its = all (λ y j b c. IsSwapOf z y j b c next) (h.still why i a f begun_of) }
+    leaves next z h = record {
+      on = runs_on_both v w z runs_w h.on;
+      pool = h.pool ∙ ap (λ (x : View). x.pool) later.is;
+      retired = h.retired ∙ ap (λ (x : View). x.retired) later.is;
+      its = all (λ y j b c. IsSwapOf z y j b c next) (h.still why i a f begun_of);
+    }
 
     -- it has come to its end
-    module _ (done : Bool) (z : View) (h : HasDecidedSwap w begun done z) where
-      its : (o : Operation) → Runs v o → Runs z (swap_done why (node_at (now v).heap f) done o)
+    module _ (result : Decided) (z : View) (h : HasDecidedSwap w begun result z) where
+      its : (o : Operation) → Runs v o → Runs z (swap_done why (node_at (now v).heap f) (is_done (swapped_by result)) o)
       its o r =
-          let x = h.1 why i a f begun_of (on_line o) (goes o r) in
+          let done = is_done (swapped_by result) in
+          let x = h.comes why i a f begun_of (on_line o) (goes o r) in
           let y = subst (λ l. Runs z (record o { private = []; line = l })) (same_call why i a f why (node_at (now w).heap f) done o [] (on_line o).line o.is_marked) x in
-          subst (λ node. Runs z (swap_done why node done o)) (fresh_same v name link fresh at n sound w then stood g w later) y
+          subst (λ node. Runs z (swap_done why node done o)) (fresh_same v name link class fresh at n sound w then stood g w later) y
 
-      by_kind : (b : Bool) → ((o : Operation) → Runs v o → Runs z (swap_done why (node_at (now v).heap f) b o)) → HasSwapDone v (swapped_by b) z
-      by_kind true d = (later_both v w z later h.0, all (λ y j b c. (o : Operation) → Runs v o → Runs z (swap_done y (node_at (now v).heap c) true o)) d)
-      by_kind false d = (later_both v w z later h.0, all (λ y j b c. (o : Operation) → Runs v o → Runs z (swap_done y (node_at (now v).heap c) false o)) d)
+      by_kind : (d : Decided) → LaterRetiring (retired_by (swapped_by d)) w z →
+          ((o : Operation) → Runs v o → Runs z (swap_done why (node_at (now v).heap f) (is_done (swapped_by d)) o)) → HasSwapDone v (swapped_by d) z
+      by_kind (decided.Commits r) l d = (retiring_after r v w z later l, all (λ y j b c. (o : Operation) → Runs v o → Runs z (swap_done y (node_at (now v).heap c) true o)) d)
+      by_kind decided.Fails l d = (retiring_after None v w z later l, all (λ y j b c. (o : Operation) → Runs v o → Runs z (swap_done y (node_at (now v).heap c) false o)) d)
 
-      pub done_so : HasSwapDone v (swapped_by done) z
-      done_so = by_kind done its
+      pub done_so : HasSwapDone v (swapped_by result) z
+      done_so = by_kind result h.later its
 
 -- ---- with the stock
 
-pub left_stock : (v w : View) (name : ℕ) (link : Link) (fresh : ℕ) → IsAtSwap v name link fresh → (s : Swapping) → HasLeftSwap v s w → (stock next : Stocked) → IsStock stock v → next.sizes ≡
-    stock.sizes
-    → next.pool ≡ stock.pool → next.made ≡ [] → IsStock next w
-left_stock v w name link fresh at s h stock next is sizes pool none = record {
+pub left_stock : (v w : View) (name : ℕ) (link : Link) (class fresh : ℕ) → IsAtSwap v name link class fresh → (s : Swapping) → HasLeftSwap v s w → (stock next : Stocked) → IsStock stock v →
+    next.sizes ≡ stock.sizes → next.pool ≡ stock.pool → next.made ≡ [] → IsStock next w
+left_stock v w name link class fresh at s h stock next is sizes pool none = record {
   sizes = sizes ∙ is.sizes ∙ ap (λ (x : View). x.sizes) (sym h.on.still.is);
   pool = pool ∙ is.pool ∙ sym h.pool;
   made = none ∙ ap (λ rs. map (made_of w) rs) (sym (ap own_of its.runs.1 ∙ its.none));
@@ -118,17 +135,22 @@ left_stock v w name link fresh at s h stock next is sizes pool none = record {
     its : IsSwapOf w at.0 at.1 at.2 at.3 s
     its = h.its at.0 at.1 at.2 at.3 at.4
 
-module _ (n : ℕ) (v w : View) (sound : IsSound n v) (last : IsSound n w) (name : ℕ) (link : Link) (fresh : ℕ) (at : IsAtSwap v name link fresh) where
+module _ (n : ℕ) (v w : View) (sound : IsSound n v) (last : IsSound n w) (name : ℕ) (link : Link) (class fresh : ℕ) (at : IsAtSwap v name link class fresh) where
   pub swapped_owns : (result : Swapped) → HasSwapDone v result w → (stock next : Stocked) → IsStock stock v → next.sizes ≡ stock.sizes → next.pool ≡ settled_pool result stock.made stock.pool →
       next.made ≡ [] → IsStock next w
-  swapped_owns Misses g = missed_owns n v w sound last name link fresh at Misses g refl
-  swapped_owns Commits g = hit_owns n v w sound last name link fresh at Commits g (inl refl)
-  swapped_owns Fails g = hit_owns n v w sound last name link fresh at Fails g (inr refl)
+  swapped_owns Misses g = missed_owns n v w sound last name link class fresh at Misses g refl
+  swapped_owns (Commits r) g = hit_owns n v w sound last name link class fresh at (Commits r) g (inl (r, refl))
+  swapped_owns Fails g = hit_owns n v w sound last name link class fresh at Fails g (inr refl)
 
   pub swapped_so : (result : Swapped) → HasSwapDone v result w → HasSwapped v result w
-  swapped_so Misses g = missed_swapped n v w sound last name link fresh at Misses g refl
-  swapped_so Commits g = hit_swapped n v w sound last name link fresh at Commits g (inl refl)
-  swapped_so Fails g = hit_swapped n v w sound last name link fresh at Fails g (inr refl)
+  swapped_so Misses g = missed_swapped n v w sound last name link class fresh at Misses g refl
+  swapped_so (Commits r) g = hit_swapped n v w sound last name link class fresh at (Commits r) g (inl (r, refl))
+  swapped_so Fails g = hit_swapped n v w sound last name link class fresh at Fails g (inr refl)
+
+  pub swap_retires : (result : Swapped) → HasSwapDone v result w → AddsRetired (retired_by result) v.retired w.retired
+  swap_retires Misses g = ap (λ (x : View). x.retired) (g.0.2 at.4.0 at.4.1)
+  swap_retires (Commits r) g = g.0.adds
+  swap_retires Fails g = g.0.adds
 
 -- ---- in a program
 

@@ -18,13 +18,14 @@ use Rattle.machine_model.specs.Operations.{swapped}
 use Rattle.machine_model.specs.Paths.{is_below_root}
 use Rattle.lock_free.specs.declared.leaving.Swapping.{Swapping}
 use Rattle.lock_free.specs.declared.rules.View.{View}
+use Rattle.lock_free.specs.declared.swapping.Decided.{Decided}
 use Rattle.lock_free.specs.Calling.{cut_short}
 use Rattle.lock_free.specs.Climbs.{at_parent}
 use Rattle.lock_free.specs.Leaving.{EndsOrMay, HasDecidedSwap, IsClimbAfter, IsRepair, IsSwapLeft, IsUpdate}
 use Rattle.lock_free.specs.Loading.{now, Runs}
 use Rattle.lock_free.specs.RunningOn.{MayAnswer, RunsOn}
-use Rattle.lock_free.specs.Swaps.{swap_done}
-use Rattle.lock_free.proofs.RunningOn.{still_later}
+use Rattle.lock_free.specs.Swaps.{is_done, retired_by, swap_done, swapped_by}
+use Rattle.lock_free.proofs.Retirings.{still_retiring}
 
 -- it ends with this, or gives up so
 abbrev LineTells : Operation → Line → Reply → Type 0
@@ -77,7 +78,10 @@ climb_line o node (purpose.Update path before) done former is = absurd is
 climb_line o node (purpose.Renew path) done former is = absurd is
 climb_line o node purpose.Clean done former is = absurd is
 
-module _ (v : View) (s : Swapping) (left : IsSwapLeft v s) (done : Bool) (w : View) (h : HasDecidedSwap v s done w) where
+module _ (v : View) (s : Swapping) (left : IsSwapLeft v s) (result : Decided) (w : View) (h : HasDecidedSwap v s result w) where
+  abbrev done : Bool
+  done = is_done (swapped_by result)
+
   abbrev node : Node
   node = node_at (now v).heap left.made
 
@@ -85,10 +89,10 @@ module _ (v : View) (s : Swapping) (left : IsSwapLeft v s) (done : Bool) (w : Vi
   next o = swap_done left.why node done o
 
   comes : (o : Operation) → Runs v o → Runs w (next o)
-  comes o r = h.1 left.why left.i left.replaced left.made left.its o r
+  comes o r = h.comes left.why left.i left.replaced left.made left.its o r
 
   pub decided_runs_on : RunsOn v w
-  decided_runs_on = record { still = still_later v w h.0; runs = λ o r. (next o, comes o r, refl) }
+  decided_runs_on = record { still = still_retiring (retired_by (swapped_by result)) v w h.later; runs = λ o r. (next o, comes o r, refl) }
 
   tells : (o : Operation) → Runs v o → (answer : Reply) → LineTells o (swapped o node left.why done) answer → EndsOrMay w answer
   tells o r answer is = (next o, comes o r, is)

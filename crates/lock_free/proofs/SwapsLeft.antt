@@ -1,6 +1,7 @@
 -- A SWAP that is under way goes on, and comes to its end.
-use Rattle.std.proofs.Common.{◌≡◌, ◌≢◌, ℕ, Bool, true, false, [], refl, sym, ap, subst, ◌∙◌, Some}
-use Rattle.trie_words.specs.declared.headers.Header.{Header}
+use Rattle.std.proofs.Common.{◌≡◌, ◌≢◌, ◌&&◌, ◌++◌, ◌∷◌, ℕ, Bool, true, false, [], None, Option, if◌then◌else◌, refl, sym, ap, subst, ◌∙◌, Some}
+use Rattle.std.proofs.lemmas.Bool.{true≢false}
+use Rattle.trie_words.specs.declared.headers.Previous.{Previous}
 use Rattle.trie_words.specs.declared.headers.Previous.TheVariants as previous
 use Rattle.machine_model.specs.Beneath.slot_arena.specs.declared.refs.Ref.{Ref}
 use Rattle.machine_model.specs.Beneath.slot_arena.specs.Heaps.{node_at}
@@ -18,20 +19,28 @@ use Rattle.lock_free.specs.declared.leaving.Swapping.{Swapping}
 use Rattle.lock_free.specs.declared.reading.Given.{Given}
 use Rattle.lock_free.specs.declared.reading.Passed.TheVariants as passed
 use Rattle.lock_free.specs.declared.reading.ReadFrom.{ReadFrom}
+use Rattle.lock_free.specs.declared.reclaiming.Retiree.{Retiree}
 use Rattle.lock_free.specs.declared.rules.View.{View}
+use Rattle.lock_free.specs.declared.swapping.Decided.TheVariants as decided
+use Rattle.lock_free.specs.Accounts.{place_of, IsOwn}
 use Rattle.lock_free.specs.Leaving.{HasDecidedSwap, HasSwappedOn, IsSwapLeft, IsSwapOf}
-use Rattle.lock_free.specs.Loading.{now, seen, Runs, IsAt, IsSound, IsAtSlot, HasHeader, HasReadHeader}
+use Rattle.lock_free.specs.Loading.{now, seen, Runs, IsAt, IsSound, HasHeader, HasReadHeader}
 use Rattle.lock_free.specs.Nodes.{IsAhead}
 use Rattle.lock_free.specs.OfReads.{on_given, on_read, read_to}
-use Rattle.lock_free.specs.Passing.{HasCome, Later, IsReading, IsPassing, HasPassed, HasGiven}
+use Rattle.lock_free.specs.Passing.{HasCome, Later, IsPlaced, IsReading, IsPassing, HasPassed, HasGiven}
+use Rattle.lock_free.specs.Reclaiming.{is_decided, retiree_of, AddsRetired, HasCheckedSwap, HasRetiredIt, IsChecking}
 use Rattle.lock_free.specs.Swaps.{swap_on, swap_done}
 use Rattle.lock_free.proofs.Asked.{read_is_met}
 use Rattle.lock_free.proofs.Comings.{runs_one}
+use Rattle.lock_free.proofs.Followings.{follows_later}
 use Rattle.lock_free.proofs.GivenBack.{node_is}
 use Rattle.lock_free.proofs.Laters.{went_later, later_both, waited_later, placed_later}
 use Rattle.lock_free.proofs.Leavings.{come_on_runs}
+use Rattle.lock_free.proofs.NewNodes.{class_on}
 use Rattle.lock_free.proofs.OnePass.{from_reading, from_then, line_from}
 use Rattle.lock_free.proofs.Passes.{none_says}
+use Rattle.lock_free.proofs.RetireStep.{decided_none}
+use Rattle.lock_free.proofs.Retirings.{sound_without}
 use Rattle.lock_free.proofs.SwapRuns.{is_none, checks}
 use Rattle.lock_free.proofs.SwapSteps.{not_none}
 use Rattle.lock_free.proofs.Verdicts.{main_same, prev_is}
@@ -39,6 +48,9 @@ use Rattle.lock_free.proofs.Verdicts.{main_same, prev_is}
 -- whoever knows what it is reads on
 pub its_passing : (v : View) (s : Swapping) (left : IsSwapLeft v s) → IsPassing v s.indirection s.from
 its_passing v s left = (left.i, left.its.placed, left.its.from)
+
+undecided_some : (p : Previous) → is_decided p ≡ false → p ≢ previous.None
+undecided_some p e none = true≢false (ap is_decided (sym none) ∙ e)
 
 module _ (v : View) (s : Swapping) (left : IsSwapLeft v s) where
   abbrev why : Purpose
@@ -86,7 +98,7 @@ module _ (v : View) (s : Swapping) (left : IsSwapLeft v s) where
     come = line_from v w i place (h i first.0 first.1)
 
     abbrev next : Swapping
-    next = record { indirection = s.indirection; from = place; fresh = s.fresh }
+    next = record { indirection = s.indirection; from = place; fresh = s.fresh; replaced = s.replaced; class = s.class }
 
     still : IsSwapOf w why i a f next
     still = record {
@@ -98,18 +110,17 @@ module _ (v : View) (s : Swapping) (left : IsSwapLeft v s) where
       placed = placed_later v w come.1.later i s.indirection left.its.placed;
       fresh = placed_later v w come.1.later f s.fresh left.its.fresh;
       from = from_then v w i first.0 place first.1 (h i first.0 first.1);
+      old = placed_later v w come.1.later a s.replaced.slot left.its.old;
+      owns = come.1.later.owns i a s.replaced.own left.its.owns;
+      class = class_on v w (follows_later v w come.1.later) a left.its.old.0 ∙ left.its.class;
     }
 
-    pub swapped_on : HasSwappedOn v s (record { indirection = s.indirection; from = place; fresh = s.fresh }) w
+    pub swapped_on : HasSwappedOn v s (record { indirection = s.indirection; from = place; fresh = s.fresh; replaced = s.replaced; class = s.class }) w
     swapped_on = record {
       on = come_on_runs v i first.0 come.0 first.1 w come.1;
       pool = ap (λ (x : View). x.pool) come.1.later.is;
-      still = all (λ y j b c. IsSwapOf w y j b c (record {
-        indirection =
-            s.indirection;
-        from = place;
-        fresh = s.fresh;
-      })) still;
+      retired = ap (λ (x : View). x.retired) come.1.later.is;
+      still = all (λ y j b c. IsSwapOf w y j b c next) still;
     }
 
   -- ---- it is decided
@@ -130,18 +141,66 @@ module _ (v : View) (s : Swapping) (left : IsSwapLeft v s) where
     at_check : IsAt x (act.ReadPrev f)
     at_check = let r = goes_x p left.its.runs in record { operation = record (swap_on why i a f swap.Check p) { is_marked = r.0 }; runs = r.1; acts = refl }
 
-    pub header_ready : IsAtSlot x act.ReadPrev s.fresh
-    header_ready = (f, at_check, (placed_later v x later_x f s.fresh left.its.fresh).1)
+    checking : IsChecking x i a f
+    checking = let r = goes_x p left.its.runs in record { operation = record (swap_on why i a f swap.Check p) { is_marked = r.0 }; runs = r.1; why = why; line_is = refl }
 
-    module _ (z : View) (sound_z : IsSound n z) (header : Header) (g : HasReadHeader x header z) where
-      says : HasHeader g.0.account (now (seen x g.0.account)) f header
+    owns_x : IsOwn x.account i a s.replaced.own
+    owns_x = later_x.owns i a s.replaced.own left.its.owns
+
+    old_x : IsPlaced x a s.replaced.slot
+    old_x = placed_later v x later_x a s.replaced.slot left.its.old
+
+    pub check_ready : (j : Ref) × (b : Ref) × (c : Ref) × IsChecking x j b c × IsOwn x.account j b s.replaced.own × (place_of x.account c ≡ s.fresh)
+    check_ready = (i, a, f, checking, owns_x, (placed_later v x later_x f s.fresh left.its.fresh).1)
+
+    module _ (committed : Bool) (z : View) (sound_z : IsSound n z)
+        (checked : (j b c : Ref) → IsChecking x j b c → IsOwn x.account j b s.replaced.own → HasCheckedSwap x b s.replaced.own committed z) where
+      abbrev its_check : HasCheckedSwap x a s.replaced.own committed z
+      its_check = checked i a f checking owns_x
+
+      abbrev gone : View
+      gone = its_check.0
+
+      abbrev g : HasReadHeader x its_check.1 gone
+      g = its_check.2
+
+      -- ---- those that it has retired
+
+      had : gone.retired ≡ v.retired
+      had = ap (λ (y : View). y.retired) g.0.after_is ∙ ap (λ (y : View). y.retired) later_x.is
+
+      adds_nothing : z ≡ gone → (z ≡ record gone { retired = z.retired }) × AddsRetired None v.retired z.retired
+      adds_nothing is = (is ∙ ap (λ (y : View). record gone { retired = y.retired }) (sym is), ap (λ (y : View). y.retired) is ∙ had)
+
+      one_is : HasRetiredIt x a gone z → (z ≡ record gone { retired = z.retired }) × AddsRetired (Some (record { class = s.class; slot = s.replaced.slot })) v.retired z.retired
+      one_is h = (
+        h.is ∙ ap (λ (y : View). record gone { retired = y.retired }) (sym h.is),
+        (
+          h.item,
+          ap (λ (y : View). y.retired) h.is ∙ ap (λ xs. xs ++ h.item ∷ []) had,
+          (h.class ∙ class_on v x (follows_later v x later_x) a left.its.old.0 ∙ left.its.class, h.name ∙ old_x.1),
+        ),
+      )
+
+      adds_own : committed ≡ true → (own : Bool) → s.replaced.own ≡ own →
+          (z ≡ record gone { retired = z.retired }) × AddsRetired (if own then Some (record { class = s.class; slot = s.replaced.slot }) else None) v.retired z.retired
+      adds_own e true is = one_is (its_check.4 (ap (λ b. b && committed) is ∙ e))
+      adds_own e false is = adds_nothing (its_check.5 (ap (λ b. b && committed) is))
+
+      none_failed : (own : Bool) → (own && false) ≡ false
+      none_failed true = refl
+      none_failed false = refl
+
+      -- ---- what the operation comes to
+
+      says : HasHeader g.0.account (now (seen x g.0.account)) f its_check.1
       says = (g.1 f at_check).0
 
       later_y : Later v (seen x g.0.account)
       later_y = later_both v x (seen x g.0.account) later_x (waited_later n x sound_x g.0.account g.0.waited)
 
-      later_z : Later v z
-      later_z = later_both v x z later_x (went_later n x sound_x n z sound_z g.0)
+      later_gone : z ≡ record gone { retired = z.retired } → Later v gone
+      later_gone is = later_both v x gone later_x (went_later n x sound_x n gone (sound_without n gone z is sound_z) g.0)
 
       -- the fresh node is what it was
       fresh_same : node_at (now (seen x g.0.account)).heap f ≡ node_at (now v).heap f
@@ -152,8 +211,8 @@ module _ (v : View) (s : Swapping) (left : IsSwapLeft v s) where
           let same : is_main_node y.0.node ≡ true = ap is_main_node (sym (node_is (now (seen x g.0.account)) f y.0 y.1) ∙ there) ∙ says.is_main in
           node_is (now (seen x g.0.account)) f y.0 y.1 ∙ main_same was.0.node y.0.node y.2 same ∙ sym (node_is (now v) f was.0 was.1)
 
-      goes_z : (done : Bool) → is_none says.slot.prev ≡ done → (o : Operation) → Runs v o → Runs z (swap_done why (node_at (now v).heap f) done o)
-      goes_z done is o r =
+      goes_on : (done : Bool) → is_none says.slot.prev ≡ done → (o : Operation) → Runs v o → Runs gone (swap_done why (node_at (now v).heap f) done o)
+      goes_on done is o r =
           let (mark, runs) = goes_x o r in
           let there = g.0.waited.stays (record (swap_on why i a f swap.Check o) { is_marked = mark }) runs in
           let step = checks why i a f (now (seen x g.0.account)) o there.0 done (ap is_none (prev_is (now (seen x g.0.account)) f says.slot says.stores) ∙ is) in (
@@ -162,19 +221,33 @@ module _ (v : View) (s : Swapping) (left : IsSwapLeft v s) where
                 ∙ ap Some (step ∙ ap (λ node. record (swap_done why node done o) { is_marked = there.0 }) fresh_same),
           )
 
-      ends : (done : Bool) → is_none says.slot.prev ≡ done → HasDecidedSwap v s done z
-      ends done is = (
-        later_z,
-        all (λ y j b c. (o : Operation) → Runs v o → Runs z (swap_done y (node_at (now v).heap c) done o)) (goes_z done is),
-      )
+      comes : (done : Bool) → is_none says.slot.prev ≡ done → z ≡ record gone { retired = z.retired } → (y : Purpose) (j b c : Ref) → IsSwapOf v y j b c s → (o : Operation) → Runs v o → Runs z
+          (swap_done y (node_at (now v).heap c) done o)
+      comes done e is =
+          all (λ y j b c. (o : Operation) → Runs v o → Runs z (swap_done y (node_at (now v).heap c) done o))
+          (λ o r. subst (λ w. Runs w (swap_done why (node_at (now v).heap f) done o)) (sym is) (goes_on done e o r))
 
-      pub commits : header.previous ≡ previous.None → HasDecidedSwap v s true z
-      commits is = ends true (ap is_none (none_says g.0.account (now (seen x g.0.account)) (slot_of f) says.slot.prev header.previous is says.is_previous))
+      pub commits : committed ≡ true → (r : Option Retiree) → r ≡ retiree_of s.replaced s.class → HasDecidedSwap v s (decided.Commits r) z
+      commits e r which =
+          let (is, adds) = adds_own e s.replaced.own refl in
+          let none = decided_none its_check.1.previous (sym its_check.3 ∙ e) in
+          record {
+            later = record { gone = gone; later = later_gone is; is = is; adds = subst (λ q. AddsRetired q v.retired z.retired) (sym which) adds };
+            which = which;
+            comes = comes true (ap is_none (none_says g.0.account (now (seen x g.0.account)) (slot_of f) says.slot.prev its_check.1.previous none says.is_previous)) is;
+          }
 
       met : (j b c : Ref) → IsAhead (now (seen x g.0.account)) j b c → slot_of c ≢ slot_of f
       met =
           let there = g.0.waited.stays at_check.operation at_check.runs in
           read_is_met x.sizes g.0.account g.0.waited.sound.bounds x.actor (record at_check.operation { is_marked = there.0 }) there.1 f (there.2 ∙ at_check.acts)
 
-      pub fails : header.previous ≢ previous.None → HasDecidedSwap v s false z
-      fails isnt = ends false (not_none g.0.account (now (seen x g.0.account)) (slot_of f) says.slot.prev header.previous isnt met says.is_previous)
+      pub fails : committed ≡ false → HasDecidedSwap v s decided.Fails z
+      fails e =
+          let (is, adds) = adds_nothing (its_check.5 (ap (λ b. s.replaced.own && b) e ∙ none_failed s.replaced.own)) in
+          let isnt = undecided_some its_check.1.previous (sym its_check.3 ∙ e) in
+          record {
+            later = record { gone = gone; later = later_gone is; is = is; adds = adds };
+            which = tt;
+            comes = comes false (not_none g.0.account (now (seen x g.0.account)) (slot_of f) says.slot.prev its_check.1.previous isnt met says.is_previous) is;
+          }

@@ -1,5 +1,5 @@
 -- What a seat owns after a SWAP of what its operation has made.
-use Rattle.std.proofs.Common.{◌≡◌, ◌∷◌, ◌⊎◌, inl, inr, ℕ, Bool, false, List, [], refl, sym, ap, subst, ◌∙◌, map}
+use Rattle.std.proofs.Common.{◌≡◌, ◌∷◌, ◌⊎◌, inl, inr, ℕ, Bool, false, List, [], Option, refl, sym, ap, subst, ◌∙◌, map}
 use Rattle.trie_words.specs.declared.links.Link.{Link}
 use Rattle.machine_model.specs.Beneath.slot_arena.specs.declared.refs.Ref.{Ref}
 use Rattle.machine_model.specs.Beneath.slot_arena.specs.Heaps.{node_at}
@@ -8,7 +8,10 @@ use Rattle.machine_model.specs.declared.operations.Operation.{Operation}
 use Rattle.machine_model.specs.Machine.{AreBounds}
 use Rattle.lock_free.specs.declared.accounts.Account.{Account}
 use Rattle.lock_free.specs.declared.rules.Pool.{Pool}
+use Rattle.lock_free.specs.declared.reclaiming.Retiree.{Retiree}
 use Rattle.lock_free.specs.declared.rules.View.{View}
+use Rattle.lock_free.specs.Reclaiming.{LaterRetiring}
+use Rattle.lock_free.proofs.Retirings.{follows_retiring, retiring_pool, retiring_sizes}
 use Rattle.lock_free.specs.declared.swapping.Swapped.{Swapped}
 use Rattle.lock_free.specs.declared.swapping.Swapped.TheVariants.{Commits, Fails, Misses}
 use Rattle.lock_free.specs.Accounts.{bounds_for, gone_on}
@@ -18,7 +21,7 @@ use Rattle.lock_free.specs.Loading.{now, seen, Runs, IsSound}
 use Rattle.lock_free.specs.Making.{with_slot}
 use Rattle.lock_free.specs.Passing.{Later}
 use Rattle.lock_free.specs.Stocks.{Stocked, IsStock, HasSwapped, own_of, own_nodes, made_of, put_back}
-use Rattle.lock_free.specs.Swaps.{IsAtSwap, IsSwapping, HasSwapDone, swap_done, is_done}
+use Rattle.lock_free.specs.Swaps.{IsAtSwap, IsSwapping, HasSwapDone, retired_by, swap_done, is_done}
 use Rattle.lock_free.proofs.Followings.{follows_later}
 use Rattle.lock_free.proofs.Laters.{gone_later, waited_later}
 use Rattle.lock_free.proofs.NewNodes.{all_made_same, own_used}
@@ -66,20 +69,21 @@ module _ (n : ℕ) (before after : View) (sound : IsSound n before) (last : IsSo
         same : map (made_of (seen before account)) s.0.private ≡ map (made_of before) s.0.private
         same = all_made_same before (seen before account) (follows_later before (seen before account) (waited_later n before sound account g.0.1)) s.0.private (own_used n before sound o s.1.1)
 
-  module _ (result : Swapped) (later : Later before after) (comes : (p : Operation) → Runs before p → Runs after (swap_done why (node_at (now before).heap made) (is_done result) p)) where
+  module _ (result : Swapped) (later : LaterRetiring (retired_by result) before after) (comes : (p : Operation) → Runs before p → Runs after
+      (swap_done why (node_at (now before).heap made) (is_done result) p)) where
     pub hit_become : HasBecome (swap_done why (node_at (now before).heap made) (is_done result)) before after
-    hit_become = record { follows = follows_later before after later; comes = comes }
+    hit_become = record { follows = follows_retiring (retired_by result) before after later; comes = comes }
 
     pub hit_stock : (stock next : Stocked) → IsStock stock before → next.sizes ≡ stock.sizes → next.pool ≡ stock.pool → next.made ≡ [] → IsStock next after
     hit_stock stock next is sizes pool none = record {
-      sizes = sizes ∙ is.sizes ∙ ap (λ (x : View). x.sizes) (sym later.is);
-      pool = pool ∙ is.pool ∙ ap (λ (x : View). x.pool) (sym later.is);
+      sizes = sizes ∙ is.sizes ∙ sym (retiring_sizes (retired_by result) before after later);
+      pool = pool ∙ is.pool ∙ sym (retiring_pool (retired_by result) before after later);
       made = none ∙ ap (map (made_of after)) (sym (none_own (is_done result) (comes s.0 s.1)));
     }
 
 -- ---- by what it came to
 
-module _ (n : ℕ) (before after : View) (sound : IsSound n before) (last : IsSound n after) (name : ℕ) (link : Link) (fresh : ℕ) (at : IsAtSwap before name link fresh) (result : Swapped)
+module _ (n : ℕ) (before after : View) (sound : IsSound n before) (last : IsSound n after) (name : ℕ) (link : Link) (class fresh : ℕ) (at : IsAtSwap before name link class fresh) (result : Swapped)
     (g : HasSwapDone before result after) where
   abbrev this : IsSwapping before at.0 at.1 at.2 at.3
   this = at.4
@@ -94,11 +98,11 @@ module _ (n : ℕ) (before after : View) (sound : IsSound n before) (last : IsSo
     pub missed_owns : (stock next : Stocked) → IsStock stock before → next.sizes ≡ stock.sizes → next.pool ≡ put_back stock.made stock.pool → next.made ≡ [] → IsStock next after
     missed_owns = missed_stock n before after sound last at.0 at.1 at.2 at.3 this missed
 
-  module _ (is : (result ≡ Commits) ⊎ (result ≡ Fails)) where
-    later : Later before after
+  module _ (is : ((r : Option Retiree) × (result ≡ Commits r)) ⊎ (result ≡ Fails)) where
+    later : LaterRetiring (retired_by result) before after
     later = elim is [
-      | inl e ↦ (subst (λ x. HasSwapDone before x after) e g).0
-      | inr e ↦ (subst (λ x. HasSwapDone before x after) e g).0
+      | inl e ↦ subst (λ x. LaterRetiring (retired_by x) before after) (sym e.1) (subst (λ x. HasSwapDone before x after) e.1 g).0
+      | inr e ↦ subst (λ x. LaterRetiring (retired_by x) before after) (sym e) (subst (λ x. HasSwapDone before x after) e g).0
     ]
 
     pub hit_swapped : HasSwapped before result after

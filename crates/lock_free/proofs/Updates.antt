@@ -1,5 +1,5 @@
 -- From BUILD to the end of the SWAP after it.
-use Rattle.std.proofs.Common.{◌≡◌, ℕ, List, [], Option, Some, None, refl, ap, subst}
+use Rattle.std.proofs.Common.{◌≡◌, ℕ, List, [], Option, Some, None, refl, sym, ap, subst, ◌∙◌}
 use Rattle.machine_model.specs.Beneath.slot_arena.specs.declared.refs.Ref.{Ref}
 use Rattle.machine_model.specs.Beneath.slot_arena.specs.Heaps.{node_at}
 use Rattle.machine_model.specs.declared.building.BuildLine.TheVariants as build
@@ -29,6 +29,10 @@ use Rattle.lock_free.specs.Leaving.{HasLeftSwap, IsUpdate, LeavesSwap}
 use Rattle.lock_free.specs.declared.leaving.Swapping.{Swapping}
 use Rattle.lock_free.proofs.RunningOn.{runs_on_become}
 use Rattle.lock_free.proofs.SwapsBegun.{leaves_swap}
+use Rattle.lock_free.specs.Classes.{shape_class}
+use Rattle.lock_free.specs.Loading.{IsSound}
+use Rattle.lock_free.proofs.MainClasses.{class_known}
+use Rattle.lock_free.proofs.NewNodes.{class_on}
 
 module _ (v w : View) (by : Builder) (given : Given) (place : Site) (former : Option ℕ) (indirection : ℕ) (at : IsAtUpdate v by given place former indirection) where
   abbrev path : List Ref
@@ -59,8 +63,8 @@ module _ (v w : View) (by : Builder) (given : Given) (place : Site) (former : Op
     this : IsSwapping w (purpose.Update path former) (current path) main f.fresh
     this = (grown f.reached.more then on.0, f.reached.become.comes on.0 on.1, refl)
 
-    pub swap_ready : IsAtSwap w indirection given.link name
-    swap_ready = (
+    pub swap_ready : (n : ℕ) → IsSound n v → (class : ℕ) → class ≡ shape_class given.header.shape → IsAtSwap w indirection given.link class name
+    swap_ready n sound class is = (
       purpose.Update path former,
       current path,
       main,
@@ -69,10 +73,11 @@ module _ (v w : View) (by : Builder) (given : Given) (place : Site) (former : Op
       placed_on v w f.reached.become.follows (current path) indirection at.1,
       (main_then v w first then on f.reached path main given at.0.4).link,
       f.placed,
+      class_on v w f.reached.become.follows main at.0.4.link.main_used ∙ class_known n v sound main given.header at.0.4.header ∙ sym is,
     )
 
     comes_to : (s : Swapped) (o : Operation) → swap_done (purpose.Update path former) (node_at (now w).heap f.fresh) (is_done s) (grown f.reached.more then o) ≡ updated former s o
-    comes_to Commits o = ap (λ l. record o { private = []; line = l }) (f.answers (grown f.reached.more then o))
+    comes_to (Commits had) o = ap (λ l. record o { private = []; line = l }) (f.answers (grown f.reached.more then o))
     comes_to Fails o = refl
     comes_to Misses o = refl
 

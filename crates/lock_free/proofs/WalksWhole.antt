@@ -3,7 +3,7 @@ use Rattle.history.specs.declared.calls.Call.{Call}
 use Rattle.history.specs.declared.calls.Call.TheVariants.{Count, Entries}
 use Rattle.history.specs.declared.replies.Reply.{Reply}
 use Rattle.history.specs.declared.replies.Reply.TheVariants as reply
-use Rattle.std.proofs.Common.{◌≡◌, ℕ, false, List, Result, None, Ok, Err, IfErr, inl, inr, is_some, refl, sym, ap, subst, ◌∙◌}
+use Rattle.std.proofs.Common.{◌≡◌, ℕ, false, List, Result, None, Ok, Err, IfErr, inl, inr, refl, subst}
 use Rattle.machine_model.specs.declared.actions.Action.TheVariants as act
 use Rattle.machine_model.specs.declared.lines.Line.{Line}
 use Rattle.machine_model.specs.declared.lines.Line.TheVariants as line
@@ -20,7 +20,7 @@ use Rattle.lock_free.specs.declared.walking.WalkError.{WalkError}
 use Rattle.lock_free.specs.declared.walking.WalkError.TheVariants as lack
 use Rattle.lock_free.specs.Answering.{HasAnswered}
 use Rattle.lock_free.specs.Attempts.{HasEndedWith}
-use Rattle.lock_free.specs.Calling.{CalledOrNot, HasCalled, IsCaller, IsCancelled}
+use Rattle.lock_free.specs.Calling.{CalledOrNot, HasCalled, IsCancelled}
 use Rattle.lock_free.specs.GoingDown.{HasMoved}
 use Rattle.lock_free.specs.Holding.{IsOn}
 use Rattle.lock_free.specs.Loading.{IsAt, IsSound}
@@ -48,14 +48,11 @@ entries_walk handle = record { line_is = refl; number = refl; stays = refl }
 pub count_walk : (handle : ℕ) → IsWalkCall (Count handle)
 count_walk handle = record { line_is = refl; number = refl; stays = refl }
 
-pub walk_caller : (v : View) (c : Call) → RestsWith v None → IsWalkCall c → IsCaller v c
-walk_caller v c r is = record { idle = r.idle; free = r.pin; number = is.number ∙ ap is_some (sym r.opens_it); stays = is.stays }
-
 -- ---- from its begin to its end
 
 -- it has run on, and has ended then
 ended_after : (u w x : View) (answer : Reply) → RunsOn u w → HasEndedWith w answer x → HasEndedWith u answer x
-ended_after u w x answer r e = record { late = e.late; on = runs_on_both u w e.late r e.on; at = e.at; ended = e.ended }
+ended_after u w x answer r e = record { late = e.late; on = runs_on_both u w e.late r e.on; ends = e.ends; ended = e.ended }
 
 module _ (n : ℕ) (u : View) (sound : IsSound n u) (kind : ℕ → Call) (at : IsWalkOf kind u) where
   pub at_start : IsAtStart u
@@ -113,12 +110,12 @@ module _ (n : ℕ) (v : View) (sound : IsSound n v) (rests : RestsWith v None) w
   module _ (c : Call) (way : Way) (u : View) (begun : HasCalled v c (Ok way) u) (sound_u : IsSound n u) (answer : Reply) (x : View) (e : HasEndedWith u answer x) where
     pub ended_left : HasLeft v x
     ended_left = record {
-      same = call.same_then v None rests c way u begun e.late e.on answer e.at x e.ended;
-      rests = subst (λ p. RestsWith x p) (call.left_none e.ended.operation.is_marked) (call.rests_then v None rests c way u begun e.late e.on answer e.at x e.ended);
+      same = call.same_then v None rests c way u begun e.late e.on answer (at_end e.late answer e.ends) x e.ended;
+      rests = subst (λ p. RestsWith x p) (call.left_none e.ended.operation.is_marked) (call.rests_then v None rests c way u begun e.late e.on answer (at_end e.late answer e.ends) x e.ended);
     }
 
     ended_answered : HasAnswered v c None answer x
-    ended_answered = call.answered v None rests c way u begun e.late e.on answer e.at x e.ended n sound sound_u
+    ended_answered = call.answered v None rests c way u begun e.late e.on answer (at_end e.late answer e.ends) x e.ended n sound sound_u
 
   lacking_told : {A : Type 0} (reply_of : A → Reply) (c : Call) (why : CallError) (x : View) → IsWalkLack why → HasAnswered v c None reply.NoSlots x → IsTold reply_of v c (Err why) x
   lacking_told reply_of c error.Memory x lacks a = a

@@ -1,30 +1,16 @@
 -- Entries are written two in a word, and read again from there.
-use Rattle.std.proofs.Common.{◌≡◌, ◌≢◌, ◌<◌, ◌*◌, ◌+◌, ◌∷◌, ◌==◌, ◌⊎◌, ℕ, inl, inr, Bool, true, false, not, List, [], refl, sym, ap, subst, ◌∙◌, length, Contains, filter, cond, arith, ne_eqb}
+use Rattle.std.proofs.Common.{◌≡◌, ◌≢◌, ◌<◌, ◌≤◌, ◌*◌, ◌+◌, ◌⊎◌, ℕ, inl, inr, List, sym, ap, subst, ◌∙◌, length, Contains, arith}
 use Rattle.std.proofs.lemmas.Bool.{cases_eq}
+use Rattle.std.proofs.lemmas.Option.{slice_get_past}
 use Rattle.trie_words.specs.Codes.{pair_code}
 use Rattle.trie_words.specs.declared.entries.Entry.{Entry}
 use Rattle.trie_words.specs.declared.entries.Pair.{Pair}
 use Rattle.lock_free.specs.declared.rules.View.{View}
 use Rattle.lock_free.specs.Making.{with_draft, others_than}
-use Rattle.lock_free.specs.SeenEntries.{half_at, IsOwnSlot, HasWritten}
+use Rattle.lock_free.specs.SeenEntries.{half_at, half_for, IsOwnSlot, HasWritten}
 use Rattle.lock_free.specs.Storing.{IsOwnWord, drafted}
-use Rattle.lock_free.proofs.Pools.{first_there, more_there, first_or_more}
-
--- what passes a test is among what does
-passes : {X : Type 0} (f : X → Bool) (xs : List X) (x : X) → f x ≡ true → Contains xs x → Contains (filter f xs) x
-passes f [] x is c = absurd (omega (arith, c.1))
-passes f (y ∷ ys) x is c = by (f y) refl (first_or_more y ys x c) (passes f ys x is)
-  where
-    by : (b : Bool) → f y ≡ b → (x ≡ y) ⊎ Contains ys x → (Contains ys x → Contains (filter f ys) x) → Contains (filter f (y ∷ ys)) x
-    by b e (inl same) rest = subst (λ z. Contains (cond z (y ∷ filter f ys) (filter f ys)) x) (sym (ap f (sym same) ∙ is))
-        (subst (λ z. Contains (y ∷ filter f ys) z) (sym same) (first_there y (filter f ys)))
-    by true e (inr more) rest = subst (λ z. Contains (cond z (y ∷ filter f ys) (filter f ys)) x) (sym e) (more_there y (filter f ys) x (rest more))
-    by false e (inr more) rest = subst (λ z. Contains (cond z (y ∷ filter f ys) (filter f ys)) x) (sym e) (rest more)
-
--- what is written of another word stays
-pub written_still : (drafts : List (ℕ × ℕ)) (j x i w : ℕ) → i ≢ j → Contains drafts (i, w) → Contains (with_draft drafts j x) (i, w)
-written_still drafts j x i w apart c =
-    more_there (j, x) (others_than j drafts) (i, w) (passes (λ (d : ℕ × ℕ). not (d.0 == j)) drafts (i, w) (ap not (ne_eqb i j apart)) c)
+use Rattle.lock_free.proofs.Drafts.{written_still}
+use Rattle.lock_free.proofs.Pools.{first_there}
 
 module _ (before : View) (name : ℕ) (entries : List Entry) (n : ℕ) (w : View) (h : HasWritten before name entries n w) where
   pub entry_word_own : IsOwnSlot before name (length entries) → 2 * n < length entries → IsOwnWord w (2 * name + 1 + n)
@@ -49,3 +35,11 @@ module _ (before : View) (name : ℕ) (entries : List Entry) (n : ℕ) (w : View
           (first_there (2 * name + 1 + n, pair_code pair) (others_than (2 * name + 1 + n) w.drafts)))
       by k few inside (inr apart) =
           written_still w.drafts (2 * name + 1 + n) (pair_code pair) (2 * name + 1 + k) (there k).1 (λ e. apart (omega (arith, e))) (h.words k (omega (arith, few, apart)) inside)
+
+  -- where no entry is left they are all there
+  pub all_written : (m : ℕ) → length entries ≤ 2 * n → HasWritten before name entries m w
+  all_written m all = record { is = h.is; words = λ k few inside. h.words k (omega (arith, all, inside)) inside }
+
+-- after the last entry there is nothing
+pub nothing_after : (entries : List Entry) (k : ℕ) → length entries ≤ k → half_at entries k ≡ 0
+nothing_after entries k last = ap half_for (slice_get_past entries k last)

@@ -1,12 +1,11 @@
 -- A call on a key: what a whole try of it comes to, and what all of them do.
 use Rattle.std.specs.Prelude.{◌≡◌, ℕ, List, Option, Some, None}
 use Rattle.history.specs.declared.calls.Call.{Call}
-use Rattle.history.specs.declared.calls.Call.TheVariants.{Get, Put, PutIfAbsent, Replace, ReplaceIf, Remove, RemoveIf, Clear}
+use Rattle.history.specs.declared.calls.Call.TheVariants.{Get, Put, PutIfAbsent, Replace, ReplaceIf, Remove, RemoveIf, Clear, Snapshot, Freeze}
 use Rattle.history.specs.declared.replies.Reply.{Reply}
 use Rattle.history.specs.declared.replies.Reply.TheVariants as reply
 use Rattle.trie_words.specs.declared.entries.Entry.{Entry}
 use Rattle.machine_model.specs.Beneath.slot_arena.specs.declared.refs.Ref.{Ref}
-use Rattle.machine_model.specs.declared.actions.Action.TheVariants as act
 use Rattle.machine_model.specs.declared.lines.Line.TheVariants as line
 use Rattle.machine_model.specs.Calls.{changed_reply}
 use Rattle.machine_model.specs.Lines.{new_try}
@@ -24,7 +23,6 @@ use Rattle.lock_free.specs.declared.tasks.Task.{Task}
 use Rattle.lock_free.specs.Climbs.{IsClimbing}
 use Rattle.lock_free.specs.Descending.{IsPlace, IsTask, KnowsUpdate, line_updated}
 use Rattle.lock_free.specs.Holding.{IsOn}
-use Rattle.lock_free.specs.Loading.{IsAt}
 use Rattle.lock_free.specs.Parking.{HasRunTo}
 use Rattle.lock_free.specs.RunningOn.{MayAnswer, RunsOn}
 use Rattle.lock_free.specs.SeatWords.{HasEnded}
@@ -40,9 +38,11 @@ IsKeyed (Remove h k) = Unit {0}
 IsKeyed (RemoveIf h k v) = Unit {0}
 IsKeyed call = ⊥
 
--- or a clear
+-- or one that copies the map or makes it empty: so something of it can be under way
 abbrev pub IsTried : Call → Type 0
 IsTried (Clear h) = Unit {0}
+IsTried (Snapshot h) = Unit {0}
+IsTried (Freeze h) = Unit {0}
 IsTried call = IsKeyed call
 
 -- ---- a change
@@ -64,7 +64,7 @@ pub record IsToClimb (v : View) (slots : List ℕ) (hash : ℕ) (single : Entry)
 -- what a SWAP makes of it; no slot was had where there was none
 abbrev pub attempted : Option Swapped → Call → Option ℕ → Attempt
 attempted None call former = attempt.Comes came.Spent
-attempted (Some Commits) call former = attempt.Comes (came.Answered (changed_reply call former))
+attempted (Some (Commits r)) call former = attempt.Comes (came.Answered (changed_reply call former))
 attempted (Some Fails) call former = attempt.Again
 attempted (Some Misses) call former = attempt.Again
 
@@ -93,5 +93,5 @@ IsEnding v None = MayAnswer v reply.NoSlots
 pub record HasEndedWith (before : View) (answer : Reply) (after : View) : Type 0 where
   pub late : View
   pub on : RunsOn before late
-  pub at : IsAt late (act.End answer)
+  pub ends : IsOn late (line.End answer)
   pub ended : HasEnded late answer after

@@ -45,7 +45,7 @@ use Rattle.lock_free.specs.declared.leaving.Left.{Left}
 use Rattle.lock_free.specs.declared.leaving.Left.TheVariants as left
 use Rattle.lock_free.specs.Leaving.{MayLeave}
 use Rattle.lock_free.specs.Passing.{HasCome, IsFrom}
-use Rattle.lock_free.specs.RunningOn.{MayAnswer, RunsOn}
+use Rattle.lock_free.specs.RunningOn.{RunsOn}
 
 -- the operation is on this line of COPY
 abbrev pub IsAtCopy : View → CopyLine → Type 0
@@ -291,19 +291,6 @@ abbrev pub HasLeftCopy : View → CopyKind → ℕ → Option ℕ → Left → V
 HasLeftCopy before k handle opens left.MayGiveUp after = RunsOn before after × MayLeave (λ call. reply.NoSlots) after
 HasLeftCopy before k handle opens (left.Completing s) after = LeavesCopy before k handle opens s after
 HasLeftCopy before k handle opens (left.Swapping s) after = ⊥
-
--- its call is a copy or a clear
-abbrev pub IsCopier : View → Type 0
-IsCopier v = (operation : Operation) → Runs v operation → copies operation.call ≡ true
-
--- it is to end, as it was carried out; or it may give up
-abbrev pub EndsCopy : View → Bool → Type 0
-EndsCopy v true = (operation : Operation) × Runs v operation × (operation.line ≡ line.End (copied_reply operation.call operation.opens))
-EndsCopy v false = MayAnswer v reply.NoSlots
-
--- the operation has run on to there
-abbrev pub HasRunCopy : View → Bool → View → Type 0
-HasRunCopy before done after = RunsOn before after × EndsCopy after done
 
 -- its own offer is settled, and what that opens is open
 pub record HasSettledCopy (before : View) (done : Bool) (after : View) : Type 0 where

@@ -1,10 +1,13 @@
 -- What is known of the epoch, and when it grows: by one, once each seat that is in a call has begun it in the present epoch.
 use Rattle.history.specs.declared.calls.Call.{Call}
-use Rattle.std.specs.Prelude.{◌≡◌, ◌==◌, ◌+◌, ◌≤◌, ℕ, Bool, true, false, Option, Some, None}
+use Rattle.std.specs.Prelude.{◌≡◌, ◌==◌, ◌+◌, ◌<◌, ◌≤◌, ℕ, Bool, true, false, Contains, map, Option, Some, None}
 use Rattle.atomic_table.specs.Table.{Me, Step}
 use Rattle.trie_words.specs.Codes.{pin_of}
 use Rattle.trie_words.specs.declared.pins.Pin.{Pin}
+use Rattle.lock_free.specs.declared.rules.Retired.{Retired}
 use Rattle.lock_free.specs.declared.rules.View.{View}
+use Rattle.lock_free.specs.Places.{IsSlot}
+use Rattle.lock_free.specs.Rules.{Once}
 
 -- ---- it is looked at
 
@@ -12,8 +15,14 @@ use Rattle.lock_free.specs.declared.rules.View.{View}
 abbrev pub knowing : View → ℕ → View
 knowing v epoch = record v { epoch = epoch; passed = 0 }
 
+-- What the seat has retired are slots of the table, none of them twice, and it has retired none of them in a later epoch.
+pub record AreItsSlots (v : View) (epoch : ℕ) : Type 0 where
+  pub stamps : (x : Retired) → Contains v.retired x → x.stamp ≤ epoch
+  pub slots : (x : Retired) → Contains v.retired x → (x.class < 3) × IsSlot v.sizes x.class x.name
+  pub once : Once (map (λ (x : Retired). x.name) v.retired)
+
 abbrev pub HasSeenEpoch : Me Call View → ℕ → Me Call View → Type 0
-HasSeenEpoch before found after = (before.0.epoch ≤ found) × (after ≡ (knowing before.0 found, before.1))
+HasSeenEpoch before found after = (before.0.epoch ≤ found) × (after ≡ (knowing before.0 found, before.1)) × AreItsSlots before.0 found
 
 abbrev pub has_seen_epoch : Step Call → Me Call View → ℕ → Me Call View → Type 0
 has_seen_epoch step before found after = HasSeenEpoch before found after

@@ -24,15 +24,19 @@ use Rattle.lock_free.specs.declared.leaving.Left.{Left}
 use Rattle.lock_free.specs.declared.leaving.Left.TheVariants as left
 use Rattle.lock_free.specs.declared.leaving.Swapping.{Swapping}
 use Rattle.lock_free.specs.declared.rules.View.{View}
+use Rattle.lock_free.specs.declared.swapping.Decided.{Decided}
 use Rattle.lock_free.specs.Calling.{cut_short}
 use Rattle.lock_free.specs.GoingDown.{HasMoved}
 use Rattle.lock_free.specs.HandleWords.{HasOffer}
+use Rattle.lock_free.specs.Accounts.{IsOwn}
 use Rattle.lock_free.specs.Loading.{now, Runs}
-use Rattle.lock_free.specs.Passing.{HasCome, Later, IsFrom, IsPlaced}
+use Rattle.lock_free.specs.Nodes.{class_of}
+use Rattle.lock_free.specs.Passing.{HasCome, IsFrom, IsPlaced}
+use Rattle.lock_free.specs.Reclaiming.{LaterRetiring}
 use Rattle.lock_free.specs.Repairing.{HasCleaned, HasCleanedAll}
 use Rattle.lock_free.specs.Rooting.{completing_of}
 use Rattle.lock_free.specs.RunningOn.{RunsOn}
-use Rattle.lock_free.specs.Swaps.{swap_done, IsSwapping}
+use Rattle.lock_free.specs.Swaps.{is_done, retired_by, swap_done, swapped_by, IsSwapping, RetiresOwn}
 use Rattle.machine_model.specs.declared.building.BuildLine.TheVariants as build
 use Rattle.machine_model.specs.declared.building.Change.{Change}
 use Rattle.lock_free.specs.Holding.{IsOn}
@@ -77,6 +81,10 @@ pub record IsSwapOf (v : View) (why : Purpose) (i replaced made : Ref) (s : Swap
   pub placed : IsPlaced v i s.indirection
   pub fresh : IsPlaced v made s.fresh
   pub from : IsFrom v i s.from
+  -- the replaced node's slot, with its class, and whether it is the indirection's own
+  pub old : IsPlaced v replaced s.replaced.slot
+  pub owns : IsOwn v.account i replaced s.replaced.own
+  pub class : class_of (node_at (now v).heap replaced) ≡ s.class
 
 pub record IsSwapLeft (v : View) (s : Swapping) : Type 0 where
   pub why : Purpose
@@ -89,19 +97,21 @@ pub record IsSwapLeft (v : View) (s : Swapping) : Type 0 where
 pub record HasSwappedOn (before : View) (s next : Swapping) (after : View) : Type 0 where
   pub on : RunsOn before after
   pub pool : after.pool ≡ before.pool
+  pub retired : after.retired ≡ before.retired
   pub still : (why : Purpose) (i replaced made : Ref) → IsSwapOf before why i replaced made s → IsSwapOf after why i replaced made next
 
 -- it has come to its end
-abbrev pub HasDecidedSwap : View → Swapping → Bool → View → Type 0
-HasDecidedSwap before s done after =
-    Later before after
-    × ((why : Purpose) (i replaced made : Ref) → IsSwapOf before why i replaced made s → (operation : Operation) → Runs before operation → Runs after
-    (swap_done why (node_at (now before).heap made) done operation))
+pub record HasDecidedSwap (before : View) (s : Swapping) (result : Decided) (after : View) : Type 0 where
+  pub later : LaterRetiring (retired_by (swapped_by result)) before after
+  pub which : RetiresOwn s.replaced s.class (swapped_by result)
+  pub comes : (why : Purpose) (i replaced made : Ref) → IsSwapOf before why i replaced made s → (operation : Operation) → Runs before operation → Runs after
+      (swap_done why (node_at (now before).heap made) (is_done (swapped_by result)) operation)
 
--- it has begun, and is under way; the slots that were free for the seat are so
+-- it has begun, and is under way; the slots that were free for the seat, or retired, are so
 pub record HasLeftSwap (before : View) (s : Swapping) (after : View) : Type 0 where
   pub on : RunsOn before after
   pub pool : after.pool ≡ before.pool
+  pub retired : after.retired ≡ before.retired
   pub its : (why : Purpose) (i replaced made : Ref) → IsSwapping before why i replaced made → IsSwapOf after why i replaced made s
 
 -- the operation has run on to a SWAP that is for such a purpose

@@ -1,4 +1,5 @@
 pub mod Places
+pub mod Classes
 pub mod Accounts
 pub mod Live
 pub mod Nodes
@@ -7,9 +8,9 @@ pub mod Trying
 pub mod Fates
 pub mod Owning
 pub mod Counts
+pub mod Links
 pub mod Counting
 pub mod Rules
-pub mod Claims
 pub mod Steps
 pub mod Loading
 pub mod Making
@@ -36,6 +37,8 @@ pub mod Rooting
 pub mod SeatWords
 pub mod Epochs
 pub mod Reclaiming
+pub mod Linking
+pub mod Limbos
 pub mod Becoming
 pub mod Stocks
 pub mod SeenEntries

@@ -22,10 +22,24 @@ abbrev pub HasReadTo : View → Option Link → View → Type 0
 HasReadTo before (Some link) after = (header : Header) × HasPassed before (passed.Gives (given_by link header)) after
 HasReadTo before None after = (from : ReadFrom) × HasPassed before (passed.Again from) after
 
+-- it has given this; or it goes on
+abbrev pub HasReadGiven : View → Option Given → View → Type 0
+HasReadGiven before (Some given) after = HasPassed before (passed.Gives given) after
+HasReadGiven before None after = (from : ReadFrom) × HasPassed before (passed.Again from) after
+
+-- it has given something; or it goes on from there
+abbrev pub HasReadOut : View → Option ReadFrom → View → Type 0
+HasReadOut before None after = (given : Given) × HasPassed before (passed.Gives given) after
+HasReadOut before (Some from) after = HasPassed before (passed.Again from) after
+
 -- where a pass has come to this, the next one can be made
 abbrev pub CanGoOn : View → Way → ℕ → Passed → Type 0
 CanGoOn v way name (passed.Gives given) = Unit {0}
 CanGoOn v way name (passed.Again from) = IsOnWay v way × IsPassing v name from
+
+abbrev pub HasGivenAfter : View → Passed → Option Given → View → Type 0
+HasGivenAfter before (passed.Gives given) result after = (result ≡ Some given) × (after ≡ before)
+HasGivenAfter before (passed.Again from) result after = HasReadGiven before result after
 
 abbrev pub HasLinkAfter : View → Passed → Option Link → View → Type 0
 HasLinkAfter before (passed.Gives given) result after = (result ≡ Some given.link) × (after ≡ before)

@@ -1,5 +1,5 @@
 -- What is under way of a call that is out of tries, and what it comes to.
-use Rattle.std.specs.Prelude.{◌≡◌, ℕ, [], true, Option, None}
+use Rattle.std.specs.Prelude.{◌≡◌, ◌<◌, ℕ, [], true, Option, Some, None}
 use Rattle.history.specs.declared.replies.Reply.{Reply}
 use Rattle.history.specs.declared.replies.Reply.TheVariants as reply
 use Rattle.machine_model.specs.declared.lines.Line.TheVariants as line
@@ -40,6 +40,11 @@ IsParked v (parked.Changes s former) = IsSwapFor (IsUpdate former) v s
 IsParked v (parked.Climbs s former) = IsSwapFor (IsClimbAfter former) v s
 IsParked v (parked.Copies s opens) = IsCopyLeft v s opens
 
+-- the number that is reserved for the handle which its call opens
+abbrev pub opens_of : Parked → Option ℕ
+opens_of (parked.Copies s opens) = opens
+opens_of other = None
+
 -- ---- what it comes to
 
 abbrev pub IsCome : View → Came → Type 0
@@ -68,9 +73,11 @@ StillOwns before after = (stock : Stocked) → IsStock stock before → IsStock 
 abbrev pub IsBare : View → Type 0
 IsBare v = own_nodes v ≡ []
 
--- neither the seat nor its operation opens a handle
-abbrev pub OpensNone : View → Type 0
-OpensNone v = (v.opens ≡ None) × ((operation : Operation) → Runs v operation → operation.opens ≡ None)
+-- the seat has reserved this number, or none, for the handle that its operation opens
+pub record IsToOpenAs (v : View) (opens : Option ℕ) : Type 0 where
+  pub seat : v.opens ≡ opens
+  pub operation : (operation : Operation) → Runs v operation → operation.opens ≡ opens
+  pub low : (number : ℕ) → opens ≡ Some number → number < 256
 
 -- its change was committed, and it is to end with this reply
 abbrev pub HasWoundUp : View → Reply → View → Type 0

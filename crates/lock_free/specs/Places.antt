@@ -1,4 +1,4 @@
--- Which word is what: counters, a word for each handle and each seat, and three parts with slots of one size each. A slot is named by its first word, halved.
+-- Which word is what: counters, a word for each handle and each seat, three parts with slots of one size each, and a word for each small slot. A slot is named by its first word, halved.
 use Rattle.std.specs.Prelude.{◌≡◌, ℕ, ◌+◌, ◌*◌, ◌^◌, ◌<◌, ◌≤◌, ◌==◌, if◌then◌else◌, nat_le, List, slice_index}
 use Rattle.lock_free.specs.declared.sizes.Sizes.{Sizes}
 

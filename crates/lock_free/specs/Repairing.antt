@@ -206,7 +206,7 @@ RenewedBy before path renewed.Full after = GivesUp (λ o. reply.NoSlots) before 
 
 -- after its SWAP
 abbrev pub renewed_by : Swapped → Renewed
-renewed_by Commits = renewed.Reads
+renewed_by (Commits r) = renewed.Reads
 renewed_by Fails = renewed.Again
 renewed_by Misses = renewed.Again
 

@@ -33,6 +33,7 @@ use Rattle.lock_free.specs.declared.accounts.Known.{Known}
 use Rattle.lock_free.specs.declared.rules.View.{View}
 use Rattle.lock_free.specs.declared.sizes.Sizes.{Sizes}
 use Rattle.lock_free.specs.Counts.{AreCounted}
+use Rattle.lock_free.specs.Links.{AreLinked}
 use Rattle.lock_free.specs.Accounts.{bounds_for, state_of, place_at, HasGrown, HasWaited, HasStood, WasRoot}
 use Rattle.lock_free.specs.Fates.{TellsFate}
 use Rattle.lock_free.specs.Nodes.{StandsAs, InTable, AreOwners, class_of}
@@ -68,6 +69,7 @@ idle_view sizes actor last account = record {
   drafts = [];
   retired = [];
   owed = [];
+  links = [];
   heard = [];
 }
 
@@ -344,4 +346,5 @@ pub record IsRuled (sizes : Sizes) (s : Table.State Call View) : Type 0 where
   pub epochs : AreEpochs s.words s.views
   pub retired : AreRetired sizes s.words s.views
   pub counted : AreCounted sizes s.words s.views
+  pub linked : AreLinked sizes s.words s.views
   pub heard : (id : ℕ) (v : View) → get_elem? s.views id ≡ some v → (h : Heard) → Contains v.heard h → WasGivenUp s.views h

@@ -1,6 +1,7 @@
 -- A SWAP, from its first line to what comes after it.
-use Rattle.std.specs.Prelude.{◌≡◌, ℕ, Bool, true, false, []}
+use Rattle.std.specs.Prelude.{◌≡◌, ℕ, Bool, true, false, [], Option, None}
 use Rattle.trie_words.specs.declared.links.Link.{Link}
+use Rattle.trie_words.specs.declared.names.Name.{Name}
 use Rattle.machine_model.specs.Beneath.slot_arena.specs.declared.refs.Ref.{Ref}
 use Rattle.machine_model.specs.Beneath.slot_arena.specs.declared.nodes.Node.{Node}
 use Rattle.machine_model.specs.Beneath.slot_arena.specs.Heaps.{node_at}
@@ -11,12 +12,17 @@ use Rattle.machine_model.specs.declared.reading.SwapLine.{SwapLine}
 use Rattle.machine_model.specs.declared.reading.SwapLine.TheVariants as swap
 use Rattle.machine_model.specs.Operations.{swapped}
 use Rattle.lock_free.specs.declared.accounts.Account.{Account}
+use Rattle.lock_free.specs.declared.reclaiming.Retiree.{Retiree}
 use Rattle.lock_free.specs.declared.rules.View.{View}
+use Rattle.lock_free.specs.declared.swapping.Decided.{Decided}
+use Rattle.lock_free.specs.declared.swapping.Decided.TheVariants as decided
 use Rattle.lock_free.specs.declared.swapping.Swapped.{Swapped}
 use Rattle.lock_free.specs.declared.swapping.Swapped.TheVariants.{Commits, Fails, Misses}
 use Rattle.lock_free.specs.Exchanging.{given_up}
 use Rattle.lock_free.specs.Loading.{now, Runs, Waited}
-use Rattle.lock_free.specs.Passing.{Later, KnowsLink, IsPlaced}
+use Rattle.lock_free.specs.Nodes.{class_of}
+use Rattle.lock_free.specs.Passing.{KnowsLink, IsPlaced}
+use Rattle.lock_free.specs.Reclaiming.{retiree_of, LaterRetiring}
 
 -- the operation on this line of its SWAP, and all that it has made is handed over
 abbrev pub swap_on : Purpose → Ref → Ref → Ref → SwapLine → Operation → Operation
@@ -31,23 +37,37 @@ abbrev pub IsSwapping : View → Purpose → Ref → Ref → Ref → Type 0
 IsSwapping v why i replaced made =
     (o : Operation) × Runs v o × (o.line ≡ line.Swap why (record { indirection = i; replaced = replaced; fresh = made; line = swap.Publish }))
 
-abbrev pub IsAtSwap : View → ℕ → Link → ℕ → Type 0
-IsAtSwap v name link fresh =
+-- and this is the class of the slot of the replaced node
+abbrev pub IsAtSwap : View → ℕ → Link → ℕ → ℕ → Type 0
+IsAtSwap v name link class fresh =
     (why : Purpose) × (i : Ref) × (replaced : Ref) × (made : Ref) × IsSwapping v why i replaced made × IsPlaced v i name × KnowsLink v i replaced link × IsPlaced v made fresh
+    × (class_of (node_at (now v).heap replaced) ≡ class)
 
 abbrev pub is_done : Swapped → Bool
-is_done Commits = true
+is_done (Commits r) = true
 is_done Fails = false
 is_done Misses = false
 
-abbrev pub swapped_by : Bool → Swapped
-swapped_by true = Commits
-swapped_by false = Fails
+-- the slot that it has retired
+abbrev pub retired_by : Swapped → Option Retiree
+retired_by (Commits r) = r
+retired_by Fails = None
+retired_by Misses = None
+
+-- where it was committed, that is the slot of the main node that it has replaced, if that one was the indirection's own
+abbrev pub RetiresOwn : Name → ℕ → Swapped → Type 0
+RetiresOwn replaced class (Commits r) = r ≡ retiree_of replaced class
+RetiresOwn replaced class Fails = Unit {0}
+RetiresOwn replaced class Misses = Unit {0}
+
+abbrev pub swapped_by : Decided → Swapped
+swapped_by (decided.Commits r) = Commits r
+swapped_by decided.Fails = Fails
 
 -- what is left of the seat's own: where the replaced node wasn't found, all that it has made is free for it again
 abbrev pub LeavesOwn : View → Swapped → View → Type 0
-LeavesOwn before Commits after = Later before after
-LeavesOwn before Fails after = Later before after
+LeavesOwn before (Commits r) after = LaterRetiring r before after
+LeavesOwn before Fails after = LaterRetiring None before after
 LeavesOwn before Misses after = (account : Account) × Waited before account × ((o : Operation) → Runs before o → after ≡ given_up before account o.private)
 
 abbrev pub HasSwapDone : View → Swapped → View → Type 0

@@ -1,25 +1,29 @@
 -- Calls in a number of tries: what they are told, and what is known while one is under way.
-use Rattle.std.specs.Prelude.{◌≡◌, ℕ, Option, None, Result}
+use Rattle.std.specs.Prelude.{◌≡◌, ◌⊎◌, ℕ, Option, None, Result, Ok, Err}
 use Rattle.history.specs.declared.calls.Access.{Access}
 use Rattle.history.specs.declared.calls.Call.{Call}
 use Rattle.history.specs.declared.replies.Reply.{Reply}
 use Rattle.machine_model.specs.declared.actions.Action.TheVariants as act
 use Rattle.lock_free.specs.declared.call_errors.CallError.{CallError}
+use Rattle.lock_free.specs.declared.call_errors.CallError.TheVariants as error
 use Rattle.lock_free.specs.declared.call_runs.Ran.{Ran}
 use Rattle.lock_free.specs.declared.call_runs.Ran.TheVariants as ran
+use Rattle.lock_free.specs.declared.calling.Denial.{Denial}
 use Rattle.lock_free.specs.declared.parking.Parked.{Parked}
 use Rattle.lock_free.specs.declared.rules.View.{View}
+use Rattle.lock_free.specs.Accounts.{HasWaited}
 use Rattle.lock_free.specs.Answering.{HasAnswered}
 use Rattle.lock_free.specs.Attempts.{HasEndedWith}
+use Rattle.lock_free.specs.Calling.{HasCalled}
 use Rattle.lock_free.specs.Loading.{IsAt, IsSound}
-use Rattle.lock_free.specs.Parking.{IsParked}
+use Rattle.lock_free.specs.Parking.{opens_of, IsParked}
 use Rattle.lock_free.specs.RunningOn.{RunsOn}
-use Rattle.lock_free.specs.SeatCalls.{told_by, IsLack, IsNoRefusal, IsTold}
+use Rattle.lock_free.specs.SeatCalls.{error_of, told_by, IsLack, IsNoRefusal, IsTold}
 use Rattle.lock_free.specs.SeatWords.{HasEnded}
 use Rattle.lock_free.specs.Seated.{HasActors}
 use Rattle.lock_free.specs.Seeking.{IsCalled}
 use Rattle.lock_free.specs.Stocks.{IsStock, Stocked}
-use Rattle.lock_free.specs.WholeCalls.{HasLeft, SameSeat}
+use Rattle.lock_free.specs.WholeCalls.{HasLeft, RestsWith, SameSeat}
 
 -- A call of the seat is under way: with whatever its operation will end, that is the answer to this call, which has begun since then.
 abbrev pub IsUnderWay : View → Call → Option ℕ → View → Type 0
@@ -27,13 +31,38 @@ IsUnderWay before call opens v = (late after : View) (answer : Reply) → RunsOn
 
 -- ---- how far a call has come
 
+-- the history has this reply to the call, and so its caller is told, with what was lacked where that is a refusal
+pub record HasReplied (before : View) (call : Call) (opens : Option ℕ) (told : Result Reply CallError) (after : View) : Type 0 where
+  pub answer : Reply
+  pub lack : CallError
+  pub lacks : IsLack lack
+  pub is : told ≡ told_by answer lack
+  pub its : HasAnswered before call opens answer after
+
+-- nothing of it is in the history; meanwhile others alone have gone on
+abbrev pub HasNotBegun : View → Call → Result Reply CallError → View → Type 0
+HasNotBegun before call (Ok answer) after = ⊥
+HasNotBegun before call (Err error.Spent) after = HasWaited before.actor before.account after.account
+HasNotBegun before call (Err why) after = (denial : Denial) × (why ≡ error_of denial) × HasCalled before call (Err denial) after
+
+-- a call for which the seat has reserved this number, or none
+abbrev pub HasRunWith : View → Call → Option ℕ → Ran → View → Type 0
+HasRunWith before call opens (ran.Told told) after = HasReplied before call opens told after ⊎ HasNotBegun before call told after
+HasRunWith before call opens (ran.UnderWay access parked) after = IsUnderWay before call opens after
+
+-- one that opens no handle
 abbrev pub HasRun : View → Call → Ran → View → Type 0
 HasRun before call (ran.Told told) after = IsTold (λ r. r) before call told after × IsNoRefusal told
 HasRun before call (ran.UnderWay access parked) after = IsUnderWay before call None after
 
+-- one that had begun before
+abbrev pub HasRunBy : View → Call → Option ℕ → Ran → View → Type 0
+HasRunBy before call opens (ran.Told told) after = HasReplied before call opens told after
+HasRunBy before call opens (ran.UnderWay access parked) after = IsUnderWay before call opens after
+
 -- by whichever call is under way
 abbrev pub HasRunOn : View → Ran → View → Type 0
-HasRunOn v result after = (before : View) (call : Call) → IsUnderWay before call None v → HasRun before call result after
+HasRunOn v result after = (before : View) (call : Call) (opens : Option ℕ) → IsUnderWay before call opens v → HasRunBy before call opens result after
 
 -- its operation has ended, and this is told of it
 abbrev pub HasFinished : View → Result Reply CallError → View → Type 0
@@ -46,11 +75,20 @@ HasComeOut v access (ran.UnderWay same parked) after = (same ≡ access) × (aft
 
 -- ---- the seat
 
--- this is under way of its call, which opens no handle
+-- this is under way of its call; for the handle that this opens the seat has reserved a number
 pub record IsGoing (v : View) (call : Call) (access : Access) (parked : Parked) : Type 0 where
   pub called : IsCalled v call access
   pub its : IsParked v parked
-  pub none : v.opens ≡ None
+  pub number : v.opens ≡ opens_of parked
+
+-- the number is left to the seat where the call is refused
+abbrev pub number_left : Option ℕ → Result Reply CallError → Option ℕ
+number_left opens (Ok answer) = None
+number_left opens (Err why) = opens
+
+abbrev pub HasLeftWith : View → Call → Option ℕ → Ran → View → Type 0
+HasLeftWith before call opens (ran.Told told) after = SameSeat before after × RestsWith after (number_left opens told)
+HasLeftWith before call opens (ran.UnderWay access parked) after = SameSeat before after × IsGoing after call access parked × (after.opens ≡ opens)
 
 abbrev pub HasLeftBy : View → Call → Ran → View → Type 0
 HasLeftBy before call (ran.Told told) after = HasLeft before after

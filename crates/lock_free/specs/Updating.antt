@@ -32,7 +32,7 @@ IsAtUpdate v by given place former indirection = (at : IsAtSingle v by given pla
 
 -- it is answered, or begins a new try; nothing is its own any more
 abbrev pub updated : Option ℕ → Swapped → Operation → Operation
-updated former Commits o = record o { private = []; line = climbed o former }
+updated former (Commits r) o = record o { private = []; line = climbed o former }
 updated former Fails o = record o { private = []; line = new_try }
 updated former Misses o = record o { private = []; line = new_try }
 
@@ -55,7 +55,7 @@ changed_to path former (change.Entomb single) o = climbing o (record { path = pa
 changed_to path former c o = climbed o former
 
 abbrev pub changed_by : List Ref → Option ℕ → Change → Swapped → Operation → Operation
-changed_by path former c Commits o = record o { private = []; line = changed_to path former c o }
+changed_by path former c (Commits r) o = record o { private = []; line = changed_to path former c o }
 changed_by path former c Fails o = record o { private = []; line = new_try }
 changed_by path former c Misses o = record o { private = []; line = new_try }
 

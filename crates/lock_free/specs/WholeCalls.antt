@@ -1,5 +1,5 @@
 -- Calls about a whole map: copies, a clear and a close.
-use Rattle.std.specs.Prelude.{◌≡◌, ◌<◌, ◌≤◌, ◌⊎◌, ℕ, true, false, Bool, is_some, Option, Some, None, Result, Ok, Err}
+use Rattle.std.specs.Prelude.{◌≡◌, ◌≤◌, ◌⊎◌, ℕ, Option, Some, None, Result, Ok, Err}
 use Rattle.history.specs.declared.calls.Call.{Call}
 use Rattle.history.specs.declared.calls.Call.TheVariants.{Close}
 use Rattle.history.specs.declared.replies.Reply.{Reply}
@@ -7,27 +7,23 @@ use Rattle.history.specs.declared.replies.Reply.TheVariants as reply
 use Rattle.machine_model.specs.declared.lines.Line.TheVariants as line
 use Rattle.machine_model.specs.declared.operations.Operation.{Operation}
 use Rattle.machine_model.specs.declared.walking.WalkLine.TheVariants as walk
-use Rattle.machine_model.specs.Calls.{copies, opens_handle}
-use Rattle.machine_model.specs.Copying.{copied_reply}
 use Rattle.machine_model.specs.States.{handle_limit}
 use Rattle.lock_free.specs.declared.call_errors.CallError.{CallError}
 use Rattle.lock_free.specs.declared.call_errors.CallError.TheVariants as error
 use Rattle.lock_free.specs.declared.calling.Denial.{Denial}
 use Rattle.lock_free.specs.declared.calling.Denial.TheVariants as denial
-use Rattle.lock_free.specs.declared.copy_roots.CopyKind.{CopyKind}
 use Rattle.lock_free.specs.declared.rules.View.{View}
 use Rattle.lock_free.specs.Accounts.{HasWaited}
 use Rattle.lock_free.specs.Answering.{HasAnswered}
 use Rattle.lock_free.specs.Calling.{HasCalled}
 use Rattle.lock_free.specs.Closing.{FoundClosed}
-use Rattle.lock_free.specs.CopySteps.{copy_kind}
 use Rattle.lock_free.specs.Loading.{Runs}
 use Rattle.lock_free.specs.Numbers.{reserving, without_number}
 use Rattle.lock_free.specs.SeatCalls.{IsNoHandle}
 use Rattle.lock_free.specs.SeatWords.{IsIdle}
 use Rattle.lock_free.specs.Telling.{GoesOn}
 
--- ---- a copy, for which a number is reserved
+-- ---- a call, for which a number is reserved, or none
 
 -- the seat runs nothing, is pinned nowhere, and has reserved this number, or none
 pub record RestsWith (v : View) (opens : Option ℕ) : Type 0 where
@@ -47,22 +43,6 @@ pub record SameSeat (before after : View) : Type 0 where
 pub record HasLeft (before after : View) : Type 0 where
   pub same : SameSeat before after
   pub rests : RestsWith after None
-
--- the call makes such a copy, with that number
-pub record IsCopyCall (call : Call) (which : CopyKind) (opens : Option ℕ) : Type 0 where
-  pub its : copies call ≡ true
-  pub kind : copy_kind call ≡ which
-  pub number : opens_handle call ≡ is_some opens
-  pub low : (n : ℕ) → opens ≡ Some n → n < handle_limit
-
--- it was made; or a slot or a generation was missing; or the call was denied
-abbrev pub ComesTo : View → Call → Option ℕ → Result Bool Denial → View → Type 0
-ComesTo before call opens (Ok true) after = HasAnswered before call opens (copied_reply call opens) after × RestsWith after None
-ComesTo before call opens (Ok false) after = HasAnswered before call opens reply.NoSlots after × RestsWith after opens
-ComesTo before call opens (Err why) after = HasCalled before call (Err why) after × RestsWith after opens
-
-abbrev pub HasCopiedOnce : View → Call → Option ℕ → Result Bool Denial → View → Type 0
-HasCopiedOnce before call opens result after = SameSeat before after × ComesTo before call opens result after
 
 -- ---- a call that opens a handle
 

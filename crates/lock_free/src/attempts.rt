@@ -8,7 +8,7 @@ ghost use Rattle.lock_free.specs.Holding.{IsOn};
 ghost use Rattle.lock_free.specs.declared.attempts.Attempt.TheVariants as attempt;
 ghost use Rattle.lock_free.specs.declared.descending.Update.TheVariants as update;
 ghost use Rattle.lock_free.specs.declared.parking.Came.TheVariants as came;
-ghost use Rattle.lock_free.specs.Attempts.{attempted, HasAttempted, IsSought, IsToChange, IsToClimb};
+ghost use Rattle.lock_free.specs.Attempts.{HasAttempted, IsSought, IsToChange, IsToClimb};
 ghost use Rattle.lock_free.specs.Loading.{IsSound};
 ghost use Rattle.lock_free.specs.Parking.{HasRunTo};
 ghost use Rattle.lock_free.specs.RunningOn.{MayAnswer};
@@ -29,7 +29,7 @@ use crate::seeking::Sought;
 use crate::stock::Stock;
 use crate::swapping::Swapped;
 use crate::tasks::{Task, changed_reply, value_of};
-use crate::updating::{change_main_within, update_within};
+use crate::updating::{attempted, change_main_within, update_within};
 use history::{Access, Call, Reply};
 use machine_model::Site;
 use nodes::flag_of;
@@ -44,19 +44,8 @@ pub enum Attempt {
     Comes(Came),
 }
 
-/// What a SWAP makes of a try of this call, whose key had this value before, or none.
-fn attempted(swapped: Option<Swapped>, call: Call, former: Option<u64>) -> Attempt
-    ensures { result ≡ attempted swapped call former }
-{
-    match swapped {
-        None => Attempt::Comes(Came::Spent),
-        Some(Swapped::Commits) => Attempt::Comes(Came::Answered(changed_reply(call, former))),
-        Some(Swapped::Fails) => Attempt::Again,
-        Some(Swapped::Misses) => Attempt::Again,
-    }
-}
-
 /// Gives the key its new value, in a single that is made for this site.
+#[inline(always)]
 fn give_value(
     tries: u64,
     words: &Words,
@@ -100,6 +89,7 @@ fn give_value(
 }
 
 /// Takes the entry at this position out of the main node at the end of the path.
+#[inline(never)]
 fn remove(
     tries: u64,
     words: &Words,
@@ -193,6 +183,8 @@ fn climb_out(
 }
 
 /// Puts a tomb of this single, the only other entry, in the place of the main node at the end of the path, and climbs.
+#[cold]
+#[inline(never)]
 fn entomb(
     tries: u64,
     words: &Words,
@@ -241,7 +233,7 @@ fn entomb(
         return Attempt::Comes(Came::Spent);
     };
     match swapped {
-        Swapped::Commits => Attempt::Comes(climb_out(
+        Swapped::Commits(_) => Attempt::Comes(climb_out(
             tries,
             words,
             actor,
@@ -257,6 +249,7 @@ fn entomb(
 }
 
 /// Makes this change of the main node that READ gave at the end of the path.
+#[inline(always)]
 fn change(
     tries: u64,
     words: &Words,
@@ -309,6 +302,7 @@ fn change(
 }
 
 /// Makes of a try what its way has come to, at the end of this path.
+#[inline(always)]
 pub(crate) fn conclude(
     tries: u64,
     words: &Words,
@@ -339,6 +333,7 @@ pub(crate) fn conclude(
 }
 
 /// A whole try of the call, from the root of its handle, with the change that it comes to.
+#[inline(always)]
 fn try_once(
     tries: u64,
     words: &Words,
@@ -367,6 +362,7 @@ fn try_once(
 }
 
 /// Tries the operation of this call on a key, which has begun on a handle that allows this, so often at most.
+#[inline(always)]
 pub(crate) fn run_key(
     tries: u64,
     words: &Words,

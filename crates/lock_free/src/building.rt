@@ -34,6 +34,7 @@ pub struct Builder {
 
 /// Makes a single of the key and its new value, and what leads to it, up to the main node that is to take the place of this one.
 /// Returns its slot, or none where no slot is had: then the operation is in BUILD still.
+#[inline(always)]
 pub fn build(
     tries: u64,
     words: &Words,
@@ -75,6 +76,7 @@ pub fn build(
 }
 
 /// The change of the main node for this new single, with what leads to it where it stands beside another one.
+#[inline(always)]
 fn edit_for(
     tries: u64,
     words: &Words,

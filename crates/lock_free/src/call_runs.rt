@@ -1,15 +1,16 @@
-//! Whole calls on keys, and clears, in a number of tries.
+//! Whole calls in a number of tries.
 
-ghost use Rattle.std.specs.Prelude.{◌≡◌, ◌<◌, ◌≤◌, None};
+ghost use Rattle.std.specs.Prelude.{◌≡◌, ◌<◌, ◌≤◌, ℕ, false, is_some, Some, None};
+ghost use Rattle.machine_model.specs.Calls.{copies, handle_of, opens_handle};
 ghost use Rattle.lock_free.specs.declared.call_runs.Ran.TheVariants as ran;
 ghost use Rattle.lock_free.specs.Attempts.{IsEnding, IsKeyed, IsTried};
 ghost use Rattle.lock_free.specs.Calling.{IsRunning};
 ghost use Rattle.lock_free.specs.Loading.{IsSound};
-ghost use Rattle.lock_free.specs.Parking.{IsCome};
+ghost use Rattle.lock_free.specs.Parking.{opens_of, IsCome};
 ghost use Rattle.lock_free.specs.SeatCalls.{told_by, IsLack, IsNoRefusal, IsTold};
 ghost use Rattle.lock_free.specs.Seeking.{IsCalled};
 ghost use Rattle.lock_free.specs.Stocks.{IsStock};
-ghost use Rattle.lock_free.specs.UnderWay.{HasComeOut, HasFinished, HasLeftBy, HasRun, HasRunOn, IsGoing};
+ghost use Rattle.lock_free.specs.UnderWay.{HasComeOut, HasFinished, HasLeftBy, HasLeftWith, HasRun, HasRunOn, HasRunWith, IsGoing};
 ghost use Rattle.lock_free.specs.WholeCalls.{HasLeft, RestsWith};
 
 use crate::call_errors::CallError;
@@ -27,7 +28,7 @@ use std::sync::Wait;
 /// So many handles there are at most.
 pub(crate) const HANDLES: u16 = 256;
 
-/// No memory is used again, so each pin has the first epoch.
+/// No slot of a node that others could meet is used again yet, so each pin has the first epoch.
 pub(crate) const EPOCH: u64 = 0;
 
 /// How far a call has come.
@@ -40,6 +41,7 @@ pub enum Ran {
 }
 
 /// What the caller is told of this reply; where the operation has given up it lacked this.
+#[inline(always)]
 fn told_by(reply: Reply, lack: CallError) -> Result<Reply, CallError>
     ensures { result ≡ told_by reply lack }
 {
@@ -51,6 +53,7 @@ fn told_by(reply: Reply, lack: CallError) -> Result<Reply, CallError>
 }
 
 /// What an operation of this call lacked that has given up.
+#[inline(always)]
 pub(crate) fn lack_of(words: &Words, stock: &Stock, call: Call) -> CallError
     requires { 16 < words.now.table_id.words }
     ensures { IsLack result }
@@ -65,6 +68,7 @@ pub(crate) fn lack_of(words: &Words, stock: &Stock, call: Call) -> CallError
 }
 
 /// Ends the operation of this call by this seat, `seat`, with this reply, or as one that gives up.
+#[inline(always)]
 fn finish_call(
     words: &Words,
     actor: &mut Actor,
@@ -89,6 +93,7 @@ fn finish_call(
 }
 
 /// Ends the operation of this call by this seat, `seat`, on a handle that allows this, unless something of it is under way.
+#[inline(always)]
 fn come_out(
     words: &Words,
     actor: &mut Actor,
@@ -119,7 +124,45 @@ fn come_out(
     }
 }
 
+/// A call by this seat, `seat`, which has reserved this number for it if it opens a handle. Each of its loops takes so many tries at most.
+#[inline(always)]
+pub(crate) fn run_with(
+    tries: u64,
+    words: &Words,
+    actor: &mut Actor,
+    stock: &mut Stock,
+    seat: u8,
+    call: Call,
+    opens: Option<u16>,
+) -> Ran
+    requires table { actor.old.table_id ≡ words.now.table_id }
+    requires sound { IsSound words.now.table_id.words actor.old.me.0 }
+    requires stock { IsStock stock.old actor.old.me.0 }
+    requires its { actor.old.me.0.actor ≡ seat }
+    requires few { actor.old.me.0.actor ≤ actor.old.me.0.sizes.seats }
+    requires low { handle_of call < 256 }
+    requires tried { IsTried call }
+    requires number { opens_handle call ≡ is_some opens }
+    requires reserved { (number : ℕ) → opens ≡ Some number → number < 256 }
+    requires ready { RestsWith actor.old.me.0 opens }
+    ensures table { actor.new.table_id ≡ actor.old.table_id }
+    ensures sound { IsSound words.now.table_id.words actor.new.me.0 }
+    ensures stock { IsStock stock.new actor.new.me.0 }
+    ensures run { HasRunWith actor.old.me.0 call opens result actor.new.me.0 }
+    ensures left { HasLeftWith actor.old.me.0 call opens result actor.new.me.0 }
+{
+    stock.begin();
+    let way = match start_within(tries, words, actor, seat, EPOCH, &call) {
+        Ok(Some(way)) => way,
+        Ok(None) => return Ran::Told(Err(CallError::Spent)),
+        Err(denial) => return Ran::Told(Err(CallError::from(denial))),
+    };
+    let came = run_tried(tries, words, actor, stock, call, way, opens);
+    come_out(words, actor, stock, seat, call, way.access, came)
+}
+
 /// A call on a key, or a clear, by this seat, `seat`, each of whose loops takes so many tries at most.
+#[inline(always)]
 pub(crate) fn run_within(
     tries: u64,
     words: &Words,
@@ -134,6 +177,7 @@ pub(crate) fn run_within(
     requires its { actor.old.me.0.actor ≡ seat }
     requires few { actor.old.me.0.actor ≤ actor.old.me.0.sizes.seats }
     requires tried { IsTried call }
+    requires plain { opens_handle call ≡ false }
     requires ready { RestsWith actor.old.me.0 None }
     ensures table { actor.new.table_id ≡ actor.old.table_id }
     ensures sound { IsSound words.now.table_id.words actor.new.me.0 }
@@ -144,14 +188,7 @@ pub(crate) fn run_within(
     if call.handle() >= HANDLES {
         return Ran::Told(Err(CallError::NoHandle));
     }
-    stock.begin();
-    let way = match start_within(tries, words, actor, seat, EPOCH, &call) {
-        Ok(Some(way)) => way,
-        Ok(None) => return Ran::Told(Err(CallError::Spent)),
-        Err(denial) => return Ran::Told(Err(CallError::from(denial))),
-    };
-    let came = run_tried(tries, words, actor, stock, call, way);
-    come_out(words, actor, stock, seat, call, way.access, came)
+    run_with(tries, words, actor, stock, seat, call, None)
 }
 
 /// What is under way of a call by this seat, `seat`, goes on in so many tries.
@@ -175,7 +212,7 @@ pub(crate) fn run_on_within(
     ensures sound { IsSound words.now.table_id.words actor.new.me.0 }
     ensures stock { IsStock stock.new actor.new.me.0 }
     ensures run { HasRunOn actor.old.me.0 result actor.new.me.0 }
-    ensures left { HasLeftBy actor.old.me.0 call result actor.new.me.0 }
+    ensures left { HasLeftWith actor.old.me.0 call (opens_of parked) result actor.new.me.0 }
 {
     let came = go_on(tries, words, actor, call, access, parked);
     come_out(words, actor, stock, seat, call, access, came)
@@ -202,7 +239,7 @@ fn run_on<R: Wait>(
     ensures sound { IsSound words.now.table_id.words actor.new.me.0 }
     ensures stock { IsStock stock.new actor.new.me.0 }
     ensures run { HasRunOn actor.old.me.0 (ran.Told result) actor.new.me.0 }
-    ensures left { HasLeft actor.old.me.0 actor.new.me.0 }
+    ensures left { HasLeftWith actor.old.me.0 call actor.old.me.0.opens (ran.Told result) actor.new.me.0 }
 {
     let (mut access, mut parked) = (access, parked);
     for _ in rt.forever() {
@@ -217,7 +254,7 @@ fn run_on<R: Wait>(
     unreachable!()
 }
 
-/// A call whose tries have come to this is brought to its end, as long as it takes.
+/// A call on a key whose tries have come to this is brought to its end, as long as it takes.
 pub(crate) fn end_call<R: Wait>(
     rt: &R,
     words: &Words,
@@ -234,6 +271,7 @@ pub(crate) fn end_call<R: Wait>(
     requires its { actor.old.me.0.actor ≡ seat }
     requires few { actor.old.me.0.actor ≤ actor.old.me.0.sizes.seats }
     requires running { IsRunning actor.old.me.0 }
+    requires keyed { copies call ≡ false }
     requires called { IsCalled actor.old.me.0 call access }
     requires none { actor.old.me.0.opens ≡ None }
     requires come { IsCome actor.old.me.0 came }

@@ -29,6 +29,7 @@ pub enum Edit {
 }
 
 /// Changes the entries of these halves, where one more would come to this place.
+#[inline(always)]
 fn apply(halves: &mut ArrayVec<u32, 32>, place: usize, change: Edit)
     requires can { CanEdit halves.old.items place change }
     requires fits { FitsHalf change }
@@ -56,6 +57,7 @@ fn edited_bitmap(bitmap: u32, flag: u32, change: Edit) -> u32
 }
 
 /// Makes a branch from the one of this name and bitmap.
+#[inline(always)]
 fn build_branch(
     tries: u64,
     words: &Words,
@@ -78,7 +80,8 @@ fn build_branch(
     ensures built { HasBuilt actor.old.me.0 result actor.new.me.0 }
 {
     let count = bitmap.count_ones() as usize;
-    let mut halves = see_halves(words, actor, main.slot, count, main.own);
+    let mut halves = ArrayVec::new();
+    see_halves(words, actor, main.slot, count, main.own, &mut halves);
     apply(&mut halves, position_of(flag, bitmap), change);
     let bitmap = edited_bitmap(bitmap, flag, change);
     make_branch_of(
@@ -93,6 +96,8 @@ fn build_branch(
 }
 
 /// Makes a list from the one of this name, with so many singles.
+#[cold]
+#[inline(never)]
 fn build_list(
     tries: u64,
     words: &Words,
@@ -113,7 +118,15 @@ fn build_list(
     ensures stock { IsStock stock.new actor.new.me.0 }
     ensures built { HasBuilt actor.old.me.0 result actor.new.me.0 }
 {
-    let mut halves = see_halves(words, actor, main.slot, count as usize, main.own);
+    let mut halves = ArrayVec::new();
+    see_halves(
+        words,
+        actor,
+        main.slot,
+        count as usize,
+        main.own,
+        &mut halves,
+    );
     apply(&mut halves, count as usize, change);
     let over = Previous::Pending(main);
     make_list_of(tries, words, actor, stock, &halves, over)
@@ -121,6 +134,7 @@ fn build_list(
 
 /// Makes the main node that comes from the one of this name and shape by this change, where its operation's key has this flag. Returns
 /// its slot, or none where no slot is had: then the operation is where it was.
+#[inline(always)]
 pub fn build_main(
     tries: u64,
     words: &Words,

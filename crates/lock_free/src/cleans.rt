@@ -12,6 +12,7 @@ use crate::contracting::make_contracted;
 use crate::entries::see_entries;
 use crate::leaving::Swapping;
 use crate::loads::{Actor, Words, look_at_main};
+use crate::makes::class_of;
 use crate::reading::{Given, Passed, ReadFrom, Way, read_on};
 use crate::stock::Stock;
 use crate::swapping::swap_made_within;
@@ -144,7 +145,18 @@ fn clean_branch_within(
     ) else {
         return Ok(false);
     };
-    match swap_made_within(tries, words, actor, stock, way, indirection, link, fresh) {
+    let class = class_of(Shape::Branch(bitmap));
+    match swap_made_within(
+        tries,
+        words,
+        actor,
+        stock,
+        way,
+        indirection,
+        link,
+        class,
+        fresh,
+    ) {
         Ok(_) => Ok(true),
         Err(swapping) => Err(swapping),
     }

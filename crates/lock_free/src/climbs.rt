@@ -14,6 +14,7 @@ use crate::contracting::make_contracted;
 use crate::entries::see_entries;
 use crate::leaving::Swapping;
 use crate::loads::{Actor, Words, look_at_main};
+use crate::makes::class_of;
 use crate::reading::{Given, Passed, ReadFrom, Way, read_on};
 use crate::rooting::root_within;
 use crate::stock::Stock;
@@ -80,12 +81,15 @@ fn contract_within(
     ) else {
         return Ok(Climbed::Full);
     };
-    let swapped = match swap_made_within(tries, words, actor, stock, way, parent, link, fresh) {
+    let class = class_of(Shape::Branch(bitmap));
+    let swapped = match swap_made_within(
+        tries, words, actor, stock, way, parent, link, class, fresh,
+    ) {
         Ok(swapped) => swapped,
         Err(swapping) => return Err(swapping),
     };
     match swapped {
-        Swapped::Commits => {
+        Swapped::Commits(_) => {
             if entombs(may_entomb, entries) {
                 Ok(Climbed::Higher(single))
             } else {

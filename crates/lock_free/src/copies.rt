@@ -2,7 +2,7 @@
 
 ghost use Rattle.std.specs.Prelude.{◌≡◌, ◌<◌, IfErr, IfOk};
 ghost use Rattle.lock_free.specs.CopySteps.{HasCopied, HasCopiedOn, HasLeftCopy, HasMadeCopy, HasTriedCopy, IsAtOriginal, IsAtTry, IsCopying};
-ghost use Rattle.lock_free.specs.CopySteps.{IsCopier, IsOwnCompleting, IsToComplete, IsToOpenAll, LeavesCopy, OriginalOrNot};
+ghost use Rattle.lock_free.specs.CopySteps.{IsOwnCompleting, IsToComplete, IsToOpenAll, LeavesCopy, OriginalOrNot};
 ghost use Rattle.lock_free.specs.Loading.{IsSound};
 ghost use Rattle.lock_free.specs.Passing.{IsOnWay};
 ghost use Rattle.lock_free.specs.Stocks.{IsStock};
@@ -184,41 +184,4 @@ pub fn make_copy_within(
         }
     }
     Err(Left::MayGiveUp)
-}
-
-/// The same from where the COMPLETE of its own offer is under way. Where the offer was taken back it tries again, so often at most.
-pub fn copy_on(
-    tries: u64,
-    words: &Words,
-    actor: &mut Actor,
-    stock: &mut Stock,
-    way: Way,
-    which: CopyKind,
-    opens: Option<u16>,
-    completing: Completing,
-) -> Result<bool, Left>
-    requires table { actor.old.table_id ≡ words.now.table_id }
-    requires sound { IsSound words.now.table_id.words actor.old.me.0 }
-    requires stock { IsStock stock.old actor.old.me.0 }
-    requires way { IsOnWay actor.old.me.0 way }
-    requires low { way.handle < 256 }
-    requires copying { IsCopying actor.old.me.0 which way.handle opens }
-    requires copies { IsCopier actor.old.me.0 }
-    requires completing { IsOwnCompleting actor.old.me.0 way.handle completing }
-    requires opening { IsToOpenAll actor.old.me.0 which opens completing.offer }
-    ensures table { actor.new.table_id ≡ actor.old.table_id }
-    ensures sound { IsSound words.now.table_id.words actor.new.me.0 }
-    ensures stock { IsStock stock.new actor.new.me.0 }
-    ensures made { IfOk result (λ done. HasMadeCopy actor.old.me.0 done actor.new.me.0) }
-    ensures left { IfErr result (λ left. HasLeftCopy actor.old.me.0 which way.handle opens left actor.new.me.0) }
-{
-    let carried = match complete_own_on(tries, words, actor, way, completing) {
-        Ok(carried) => carried,
-        Err(next) => return Err(Left::Completing(next)),
-    };
-    if !carried {
-        return make_copy_within(tries, words, actor, stock, way, which, opens);
-    }
-    open_copy(words, actor, which, opens, completing.offer);
-    Ok(true)
 }

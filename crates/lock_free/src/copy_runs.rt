@@ -7,7 +7,7 @@ ghost use Rattle.machine_model.specs.Lines.{new_try};
 ghost use Rattle.lock_free.specs.CopySteps.{copy_kind, HasSettledCopy, IsAtTry, IsCopying, IsOwnCompleting, IsToOpenAll, LeavesCopy};
 ghost use Rattle.lock_free.specs.Holding.{IsOn};
 ghost use Rattle.lock_free.specs.Loading.{IsSound};
-ghost use Rattle.lock_free.specs.Parking.{HasRunTo, IsCopyLeft, OpensNone, StillOwns};
+ghost use Rattle.lock_free.specs.Parking.{HasRunTo, IsCopyLeft, IsToOpenAs, StillOwns};
 ghost use Rattle.lock_free.specs.Passing.{IsOnWay};
 ghost use Rattle.lock_free.specs.Seeking.{IsCalled};
 ghost use Rattle.lock_free.specs.Stocks.{IsStock};
@@ -150,7 +150,7 @@ pub(crate) fn is_copy(call: Call) -> bool
     )
 }
 
-/// The tries of a call on a key, or of a clear, which has begun on this way.
+/// The tries of a call on a key, of a clear or of a copy, which has begun on this way and opens that handle, or none.
 pub(crate) fn run_tried(
     tries: u64,
     words: &Words,
@@ -158,6 +158,7 @@ pub(crate) fn run_tried(
     stock: &mut Stock,
     call: Call,
     way: Way,
+    opens: Option<u16>,
 ) -> Came
     requires table { actor.old.table_id ≡ words.now.table_id }
     requires sound { IsSound words.now.table_id.words actor.old.me.0 }
@@ -165,7 +166,7 @@ pub(crate) fn run_tried(
     requires called { IsCalled actor.old.me.0 call way.access }
     requires way { IsOnWay actor.old.me.0 way }
     requires low { way.handle < 256 }
-    requires none { OpensNone actor.old.me.0 }
+    requires opens { IsToOpenAs actor.old.me.0 opens }
     requires at { IsOn actor.old.me.0 new_try }
     ensures table { actor.new.table_id ≡ actor.old.table_id }
     ensures sound { IsSound words.now.table_id.words actor.new.me.0 }
@@ -173,7 +174,7 @@ pub(crate) fn run_tried(
     ensures run { HasRunTo actor.old.me.0 result actor.new.me.0 }
 {
     if is_copy(call) {
-        run_copy(tries, words, actor, stock, call, way, None)
+        run_copy(tries, words, actor, stock, call, way, opens)
     } else {
         run_key(tries, words, actor, stock, call, way.access)
     }

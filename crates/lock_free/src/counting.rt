@@ -10,7 +10,7 @@ use crate::rules::{Lowers, Raises};
 use crate::sizes::Sizes;
 
 /// A count is below this.
-const COUNTS: u64 = 1 << 32;
+pub(crate) const COUNTS: u64 = 1 << 32;
 
 /// What came of trying to count a reference more.
 #[derive(Clone, Copy, Drop)]

@@ -1,6 +1,6 @@
 //! The entries of a main node in plain memory.
 
-ghost use Rattle.std.specs.Prelude.{◌≡◌, ◌≤◌, length};
+ghost use Rattle.std.specs.Prelude.{◌≡◌, ◌≤◌, [], length};
 ghost use Rattle.lock_free.specs.Halves.{entries_of_halves, halves_of, AreHalves, IsHalf};
 ghost use Rattle.lock_free.specs.Loading.{IsSound};
 ghost use Rattle.lock_free.specs.SeenEntries.{unowned, AreFit, HasEntries, HasSeenEntries};
@@ -61,31 +61,34 @@ fn half_in(half: u32, is_own: bool) -> u32
     }
 }
 
-/// The same entries as they stand in halves of words.
+/// The same entries as they stand in halves of words, into an empty list.
+#[inline(always)]
 pub fn see_halves(
     words: &Words,
     actor: &mut Actor,
     main: u32,
     count: usize,
     is_own: bool,
-) -> ArrayVec<u32, 32>
+    halves: &mut ArrayVec<u32, 32>,
+)
     requires table { actor.old.table_id ≡ words.now.table_id }
     requires sound { IsSound words.now.table_id.words actor.old.me.0 }
     requires held { HasEntries actor.old.me.0 main count }
+    requires none { halves.old.items ≡ [] }
     ensures table { actor.new.table_id ≡ actor.old.table_id }
     ensures sound { IsSound words.now.table_id.words actor.new.me.0 }
-    ensures halves { AreHalves result.items }
-    ensures seen { HasSeenEntries actor.old.me.0 main count (entries_of_halves result.items) actor.new.me.0 }
+    ensures halves { AreHalves halves.new.items }
+    ensures seen { HasSeenEntries actor.old.me.0 main count (entries_of_halves halves.new.items) actor.new.me.0 }
 {
-    let mut halves = ArrayVec::new();
-    for n in 0..count.div_ceil(2) {
+    for n in 0..count / 2 {
         let pair = see_pair(words, actor, main, 2 * n as u32);
         halves.push(half_in(pair.low, is_own));
-        if 2 * n + 1 < count {
-            halves.push(half_in(pair.high, is_own));
-        }
+        halves.push(half_in(pair.high, is_own));
     }
-    halves
+    if count % 2 == 1 {
+        let pair = see_pair(words, actor, main, 2 * (count / 2) as u32);
+        halves.push(half_in(pair.low, is_own));
+    }
 }
 
 /// The halves of these entries.

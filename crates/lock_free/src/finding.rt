@@ -7,8 +7,9 @@ ghost use Rattle.lock_free.specs.LinkReads.{HasReadOn};
 ghost use Rattle.lock_free.specs.Loading.{IsSound};
 ghost use Rattle.lock_free.specs.Passing.{IsOnWay};
 
+use crate::first_passes::{read_link_within, read_within};
 use crate::loads::{Actor, Words, look_at_key, look_at_link, look_at_main, look_at_value, see_key};
-use crate::reading::{Given, Passed, ReadFrom, Way, read_first, read_link_within};
+use crate::reading::{Given, Way};
 use nodes::{has_flag, position_of};
 use trie_words::{Link, Shape};
 
@@ -112,9 +113,8 @@ pub fn read_turn_within(
     ensures turned { OrSpent (λ read. HasReadKey actor.old.me.0 read actor.new.me.0) result actor.old.me.0 actor.new.me.0 }
     ensures within { IfSome result (λ read. IsWithin read.1) }
 {
-    let given = match read_first(tries, words, actor, way, indirection) {
-        Passed::Gives(given) => given,
-        Passed::Again(_) => return None,
+    let Some(given) = read_within(tries, words, actor, way, indirection) else {
+        return None;
     };
     let turn = turn_at(words, actor, given.link.main.slot, flag);
     Some((given, turn))

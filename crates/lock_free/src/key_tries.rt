@@ -117,6 +117,7 @@ pub(crate) fn clean_parent_within(
 
 /// A try of the call from the last indirection of the path, with what stands in its way repaired. The path has each further indirection
 /// then to which the way has come. Out of tries it is as where no slot is had, or the SWAP of a repair is under way and is returned.
+#[inline(always)]
 pub fn seek_within(
     tries: u64,
     words: &Words,
@@ -173,6 +174,7 @@ pub fn seek_within(
 
 /// A try of this call on a key, from the root of its handle. Returns what it goes by, and what it comes to; the path has the way to where
 /// that is. Out of tries it may give up, as one that comes to no slot may, or the SWAP of a repair is under way.
+#[inline(always)]
 pub fn try_key_within(
     tries: u64,
     words: &Words,

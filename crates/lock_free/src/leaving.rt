@@ -1,6 +1,7 @@
 //! Programs that are out of tries, and what then goes on.
 
 use crate::reading::ReadFrom;
+use trie_words::Name;
 
 /// A SWAP under way: the operation's fresh main node is swapped in, and what it comes to isn't known yet. It goes on by `swap_on`.
 #[derive(Clone, Copy, Drop)]
@@ -11,6 +12,10 @@ pub struct Swapping {
     pub from: ReadFrom,
     /// The slot of the fresh main node.
     pub fresh: u32,
+    /// The main node that it replaces, which is the indirection's own or isn't.
+    pub replaced: Name,
+    /// The class of the slot of that one.
+    pub class: u32,
 }
 
 /// A COMPLETE under way, of an offer that came to stand. It goes on by `complete_on`.

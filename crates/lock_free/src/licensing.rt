@@ -11,6 +11,8 @@ use crate::offers::{Fate, abort, meet_offer};
 use crate::rooting::clean_settled;
 
 /// Takes the offer in this slot back, if it stands still, and out of the word of its handle, if it is settled.
+#[cold]
+#[inline(never)]
 fn put_aside(words: &Words, actor: &mut Actor, handle: u16, offer: u32)
     requires table { actor.old.table_id ≡ words.now.table_id }
     requires sound { IsSound words.now.table_id.words actor.old.me.0 }
@@ -30,6 +32,7 @@ fn put_aside(words: &Words, actor: &mut Actor, handle: u16, offer: u32)
 }
 
 /// The generation of the root of this handle, once no offer stands there, within so many looks: none where it is still to be asked.
+#[inline(always)]
 pub fn ask_within(tries: u64, words: &Words, actor: &mut Actor, handle: u16) -> Option<u64>
     requires table { actor.old.table_id ≡ words.now.table_id }
     requires sound { IsSound words.now.table_id.words actor.old.me.0 }

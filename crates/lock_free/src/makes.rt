@@ -8,6 +8,7 @@ ghost use Rattle.lock_free.specs.Halves.{entries_of_halves, AreHalves};
 ghost use Rattle.lock_free.specs.Loading.{IsAt, IsSound};
 ghost use Rattle.lock_free.specs.Owning.{IsBuilding};
 ghost use Rattle.lock_free.specs.Passing.{IsPlaced};
+ghost use Rattle.lock_free.specs.Classes.{shape_class};
 ghost use Rattle.lock_free.specs.Places.{class_for};
 ghost use Rattle.lock_free.specs.SeenEntries.{half_at, HasMadeNext, HasWritten, IsAtBranch, IsAtList, IsAtMain, IsOver, IsOwnSlot};
 ghost use Rattle.lock_free.specs.Stocks.{IsStock};
@@ -30,7 +31,19 @@ fn class_for(entries: usize) -> u32
     }
 }
 
+/// The class of the slot of a main node of this shape.
+pub fn class_of(shape: Shape) -> u32
+    ensures { result ≡ shape_class shape }
+{
+    match shape {
+        Shape::Branch(bitmap) => class_for(bitmap.count_ones() as usize),
+        Shape::Tomb(_) => 0,
+        Shape::List(count) => class_for(count as usize),
+    }
+}
+
 /// Makes a single of this key and value. Returns its slot, or none where no slot is had: then nothing has changed.
+#[inline(always)]
 pub fn make_single(
     tries: u64,
     words: &Words,
@@ -82,19 +95,18 @@ pub fn make_link(
     Some(slot)
 }
 
-/// The half for the entry at this position, 0 where there is none.
+/// The half for the entry at this position.
 #[inline(always)]
 fn half_at(halves: &[u32], position: usize) -> u32
-    requires { AreHalves halves.now }
+    requires small { AreHalves halves.now }
+    requires inside { position < length halves.now }
     ensures { result ≡ half_at (entries_of_halves halves.now) position }
 {
-    match halves.get(position) {
-        Some(half) => *half,
-        None => 0,
-    }
+    halves[position]
 }
 
 /// Writes the entries of these halves after the first word of this slot, two in a word.
+#[inline(always)]
 fn write_entries(words: &Words, actor: &mut Actor, slot: u32, halves: &[u32])
     requires table { actor.old.table_id ≡ words.now.table_id }
     requires sound { IsSound words.now.table_id.words actor.old.me.0 }
@@ -104,16 +116,25 @@ fn write_entries(words: &Words, actor: &mut Actor, slot: u32, halves: &[u32])
     ensures sound { IsSound words.now.table_id.words actor.new.me.0 }
     ensures written { HasWritten actor.old.me.0 slot (entries_of_halves halves.now) (length halves.now) actor.new.me.0 }
 {
-    for n in 0..halves.len().div_ceil(2) {
+    let whole = halves.len() / 2;
+    for n in 0..whole {
         let pair = Pair {
             low: half_at(halves, 2 * n),
             high: half_at(halves, 2 * n + 1),
         };
         draft(words, actor, 2 * slot as usize + 1 + n, pair.to_word());
     }
+    if halves.len() % 2 == 1 {
+        let pair = Pair {
+            low: half_at(halves, 2 * whole),
+            high: 0,
+        };
+        draft(words, actor, 2 * slot as usize + 1 + whole, pair.to_word());
+    }
 }
 
 /// Makes the main node with this header and the entries of these halves. Returns its slot, or none where no slot is had: then nothing has changed.
+#[inline(always)]
 fn make_main(
     tries: u64,
     words: &Words,
@@ -143,6 +164,7 @@ fn make_main(
 
 /// Makes a tomb of the single of this name, whose header says this of the main node that it is to replace. Returns its slot, or none
 /// where no slot is had: then nothing has changed.
+#[inline(never)]
 pub fn make_tomb(
     tries: u64,
     words: &Words,
@@ -171,6 +193,7 @@ pub fn make_tomb(
 
 /// Makes a branch with this bitmap and the entries of these halves, whose header says this of the main node that it is to replace. Returns its
 /// slot, or none where no slot is had: then nothing has changed.
+#[inline(always)]
 pub fn make_branch_of(
     tries: u64,
     words: &Words,
@@ -205,6 +228,7 @@ pub fn make_branch_of(
 
 /// Makes a list of the singles of these halves, whose header says this of the main node that it is to replace. Returns its slot, or none where no
 /// slot is had: then nothing has changed.
+#[inline(never)]
 pub fn make_list_of(
     tries: u64,
     words: &Words,

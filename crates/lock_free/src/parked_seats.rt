@@ -1,23 +1,24 @@
 //! Calls that have only so many tries, and seats whose call is under way.
 
-ghost use Rattle.std.specs.Prelude.{◌≡◌, None};
+ghost use Rattle.std.specs.Prelude.{◌≡◌};
 ghost use Rattle.history.specs.declared.calls.Call.{Call};
 ghost use Rattle.lock_free.specs.declared.rules.View.{View};
 ghost use Rattle.lock_free.specs.Attempts.{IsTried};
-ghost use Rattle.lock_free.specs.TriedCalls.{tried_by, IsSeatBy};
+ghost use Rattle.lock_free.specs.TriedCalls.{tried_by, IsParkedCall, IsSeatBy};
 
 use crate::call_errors::CallError;
-use crate::call_runs::{Ran, run_on_within, run_within};
-use crate::laws::seats_are_explained;
+use crate::call_runs::Ran;
 use crate::loads::{Actor, Words};
 use crate::parking::Parked;
 use crate::seating::Seat;
 use crate::stock::Stock;
+use crate::try_runs::{try_on, try_within};
 use history::{Access, Call, Reply};
 use std::marker::Model;
 
 /// A seat whose call has used up its tries while something of it is under way: it may not be called, split or ended before that has come
-/// to its end. Calls of other seats don't wait for it.
+/// to its end. Calls of other seats don't wait for it. Who drops it leaves its call under way for ever, and its seat pinned: its handle
+/// can't be closed any more, and the epoch doesn't grow.
 #[derive(Drop)]
 pub struct ParkedSeat {
     actor: Actor,
@@ -82,8 +83,8 @@ fn tried_by(actor: Actor, number: u8, last: u8, stock: Stock, call: Call, ran: R
 impl Seat {
     ghost use Rattle.lock_free.specs.TriedCalls.{GoesOnAs, HasTriedCall};
 
-    /// A call on a key, or a clear. Each of its loops takes so many tries at most, so it ends whatever other threads do. Where these are used up while
-    /// something of it is under way, it goes on by `go_on`.
+    /// A call on a key, a clear, a snapshot or a freeze. Each of its loops takes so many tries at most, so it ends whatever other threads do.
+    /// Where these are used up while something of it is under way, it goes on by `go_on`.
     ///
     /// # Errors
     ///
@@ -94,21 +95,19 @@ impl Seat {
         ensures seat { GoesOnAs self result }
         ensures tried { HasTriedCall self.view call result }
     {
-        seats_are_explained();
         let Seat {
             mut actor,
             number,
             last,
             mut stock,
         } = self;
-        let ran = run_within(tries, words, &mut actor, &mut stock, number, call);
+        let ran = try_within(tries, words, &mut actor, &mut stock, number, call);
         tried_by(actor, number, last, stock, call, ran)
     }
 }
 
 impl ParkedSeat {
     ghost use Rattle.lock_free.specs.TriedCalls.{GoesOnAs, HasTriedCall};
-    ghost use Rattle.lock_free.specs.UnderWay.{IsUnderWay};
 
     /// The call goes on in so many tries.
     ///
@@ -118,9 +117,8 @@ impl ParkedSeat {
     pub fn go_on(self, words: &Words, tries: u64) -> Tried
         requires table { self.table ≡ words.now.table_id }
         ensures seat { GoesOnAs self result }
-        ensures tried { (before : View) (call : Call) → IsTried call → IsUnderWay before call None self.view → HasTriedCall before call result }
+        ensures tried { (before : View) (call : Call) → IsTried call → IsParkedCall before call self.view → HasTriedCall before call result }
     {
-        seats_are_explained();
         let ParkedSeat {
             mut actor,
             number,
@@ -130,7 +128,7 @@ impl ParkedSeat {
             access,
             parked,
         } = self;
-        let ran = run_on_within(
+        let ran = try_on(
             tries, words, &mut actor, &mut stock, number, call, access, parked,
         );
         tried_by(actor, number, last, stock, call, ran)

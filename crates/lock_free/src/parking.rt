@@ -13,7 +13,7 @@ use crate::copy_runs::copy_goes_on;
 use crate::leaving::{Completing, Left, Swapping};
 use crate::loads::{Actor, Words};
 use crate::reading::Way;
-use crate::swapping::swap_on;
+use crate::swapping::{Decided, swap_on};
 use crate::tasks::changed_reply;
 use history::{Access, Call, Reply};
 
@@ -28,6 +28,20 @@ pub enum Parked {
     Climbs(Swapping, Option<u64>),
     /// The COMPLETE of the own offer of a copy that opens this handle, or of a clear.
     Copies(Completing, Option<u16>),
+}
+
+impl Parked {
+    ghost use Rattle.lock_free.specs.Parking.{opens_of};
+
+    /// The number that is reserved for the handle which its call opens.
+    pub(crate) fn opens(&self) -> Option<u16>
+        ensures { result ≡ opens_of self.now }
+    {
+        match *self {
+            Parked::Copies(_, opens) => opens,
+            _ => None,
+        }
+    }
 }
 
 /// What a call comes to in a number of tries.
@@ -115,8 +129,8 @@ fn change_on(
 {
     let handle = call.handle();
     match swap_on(tries, words, actor, Way { handle, access }, swapping) {
-        Ok(true) => Came::Answered(wind_up(words, actor, call, former)),
-        Ok(false) => Came::Spent,
+        Ok(Decided::Commits(_)) => Came::Answered(wind_up(words, actor, call, former)),
+        Ok(Decided::Fails) => Came::Spent,
         Err(next) => Came::Parked(Parked::Changes(next, former)),
     }
 }

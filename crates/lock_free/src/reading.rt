@@ -4,7 +4,6 @@ ghost use Rattle.std.specs.Prelude.{◌≡◌};
 ghost use Rattle.lock_free.specs.Loading.{IsSound};
 ghost use Rattle.lock_free.specs.declared.reading.Passed.TheVariants as passed;
 ghost use Rattle.lock_free.specs.declared.reading.ReadFrom.TheVariants as resume;
-ghost use Rattle.lock_free.specs.LinkReads.{CanGoOn, HasLinkAfter, HasReadTo};
 ghost use Rattle.lock_free.specs.Passing.{HasAskedOrNot, HasLicenseOrNot, HasPassed, IsAsking, IsDeciding, IsFailed, IsOnWay, IsPassing, IsPending};
 
 use crate::exchanges::{decide, restore};
@@ -52,6 +51,7 @@ pub enum Passed {
 }
 
 /// Whether a main node that is pending in this indirection may be committed; none where that is still to be asked.
+#[inline(always)]
 fn is_licensed(tries: u64, words: &Words, actor: &mut Actor, way: Way, link: Link) -> Option<bool>
     requires table { actor.old.table_id ≡ words.now.table_id }
     requires sound { IsSound words.now.table_id.words actor.old.me.0 }
@@ -71,6 +71,7 @@ fn is_licensed(tries: u64, words: &Words, actor: &mut Actor, way: Way, link: Lin
 }
 
 /// Decides the main node that is pending in this indirection, by whether it is licensed.
+#[inline(always)]
 fn settle_by(words: &Words, actor: &mut Actor, link: Link, header: Header, licensed: bool) -> Passed
     requires table { actor.old.table_id ≡ words.now.table_id }
     requires sound { IsSound words.now.table_id.words actor.old.me.0 }
@@ -94,9 +95,8 @@ fn settle_by(words: &Words, actor: &mut Actor, link: Link, header: Header, licen
 }
 
 /// Decides the main node that is pending in this indirection, once the root is asked.
-#[cold]
-#[inline(never)]
-fn settle(
+#[inline(always)]
+fn settle_in_place(
     tries: u64,
     words: &Words,
     actor: &mut Actor,
@@ -118,10 +118,38 @@ fn settle(
     }
 }
 
+/// The same, as a function of its own: seldom is a main node met that is pending.
+#[cold]
+#[inline(never)]
+pub(crate) fn settle(
+    tries: u64,
+    words: &Words,
+    actor: &mut Actor,
+    way: Way,
+    link: Link,
+    header: Header,
+) -> Passed
+    requires table { actor.old.table_id ≡ words.now.table_id }
+    requires sound { IsSound words.now.table_id.words actor.old.me.0 }
+    requires way { IsOnWay actor.old.me.0 way }
+    requires pending { IsPending actor.old.me.0 way link header }
+    ensures table { actor.new.table_id ≡ actor.old.table_id }
+    ensures sound { IsSound words.now.table_id.words actor.new.me.0 }
+    ensures passed { HasPassed actor.old.me.0 result actor.new.me.0 }
+{
+    settle_in_place(tries, words, actor, way, link, header)
+}
+
 /// Puts the main node of this name back in the place of the one that failed.
 #[cold]
 #[inline(never)]
-fn put_back(words: &Words, actor: &mut Actor, indirection: u32, link: Link, former: Name) -> Passed
+pub(crate) fn put_back(
+    words: &Words,
+    actor: &mut Actor,
+    indirection: u32,
+    link: Link,
+    former: Name,
+) -> Passed
     requires table { actor.old.table_id ≡ words.now.table_id }
     requires sound { IsSound words.now.table_id.words actor.old.me.0 }
     requires failed { IsFailed actor.old.me.0 indirection link former }
@@ -165,13 +193,13 @@ fn pass_header(
     match header.previous {
         Previous::None => Passed::Gives(Given { link, header }),
         Previous::Failed(former) => put_back(words, actor, indirection, link, former),
-        Previous::Pending(_) => settle(tries, words, actor, way, link, header),
+        Previous::Pending(_) => settle_in_place(tries, words, actor, way, link, header),
     }
 }
 
 /// A pass of the READ of the indirection in this slot.
 #[inline(always)]
-fn pass(
+pub(crate) fn pass(
     tries: u64,
     words: &Words,
     actor: &mut Actor,
@@ -224,89 +252,4 @@ pub fn read_on(
         }
     }
     Passed::Again(next)
-}
-
-/// What this pass of a READ, or further ones, come to: the link of the decided main node, or none within so many tries.
-#[cold]
-#[inline(never)]
-fn link_after(
-    tries: u64,
-    words: &Words,
-    actor: &mut Actor,
-    way: Way,
-    indirection: u32,
-    passed: Passed,
-) -> Option<Link>
-    requires table { actor.old.table_id ≡ words.now.table_id }
-    requires sound { IsSound words.now.table_id.words actor.old.me.0 }
-    requires next { CanGoOn actor.old.me.0 way indirection passed }
-    ensures table { actor.new.table_id ≡ actor.old.table_id }
-    ensures sound { IsSound words.now.table_id.words actor.new.me.0 }
-    ensures link { HasLinkAfter actor.old.me.0 passed result actor.new.me.0 }
-{
-    match passed {
-        Passed::Gives(given) => Some(given.link),
-        Passed::Again(from) => {
-            match read_on(tries, words, actor, way, indirection, from) {
-                Passed::Gives(given) => Some(given.link),
-                Passed::Again(_) => None,
-            }
-        }
-    }
-}
-
-/// A READ from its first line on, where one look at the main node is mostly enough: the link of the decided main node, or none where it gives
-/// nothing within so many tries.
-#[inline(always)]
-pub fn read_link_within(
-    tries: u64,
-    words: &Words,
-    actor: &mut Actor,
-    way: Way,
-    indirection: u32,
-) -> Option<Link>
-    requires table { actor.old.table_id ≡ words.now.table_id }
-    requires sound { IsSound words.now.table_id.words actor.old.me.0 }
-    requires way { IsOnWay actor.old.me.0 way }
-    requires passing { IsPassing actor.old.me.0 indirection resume.Start }
-    ensures table { actor.new.table_id ≡ actor.old.table_id }
-    ensures sound { IsSound words.now.table_id.words actor.new.me.0 }
-    ensures link { HasReadTo actor.old.me.0 result actor.new.me.0 }
-{
-    let link = read_link(words, actor, indirection);
-    let header = read_header(words, actor, link.main.slot);
-    match header.previous {
-        Previous::None => Some(link),
-        Previous::Failed(former) => {
-            let passed = put_back(words, actor, indirection, link, former);
-            link_after(tries, words, actor, way, indirection, passed)
-        }
-        Previous::Pending(_) => {
-            let passed = settle(tries, words, actor, way, link, header);
-            link_after(tries, words, actor, way, indirection, passed)
-        }
-    }
-}
-
-/// The same from its first line on, where one pass is mostly enough.
-#[inline(always)]
-pub fn read_first(
-    tries: u64,
-    words: &Words,
-    actor: &mut Actor,
-    way: Way,
-    indirection: u32,
-) -> Passed
-    requires table { actor.old.table_id ≡ words.now.table_id }
-    requires sound { IsSound words.now.table_id.words actor.old.me.0 }
-    requires way { IsOnWay actor.old.me.0 way }
-    requires passing { IsPassing actor.old.me.0 indirection resume.Start }
-    ensures table { actor.new.table_id ≡ actor.old.table_id }
-    ensures sound { IsSound words.now.table_id.words actor.new.me.0 }
-    ensures passed { HasPassed actor.old.me.0 result actor.new.me.0 }
-{
-    match pass(tries, words, actor, way, indirection, ReadFrom::Start) {
-        Passed::Gives(given) => Passed::Gives(given),
-        Passed::Again(from) => read_on(tries, words, actor, way, indirection, from),
-    }
 }

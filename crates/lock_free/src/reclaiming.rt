@@ -1,39 +1,66 @@
 //! Slots are retired, and become free again.
 
-ghost use Rattle.std.specs.Prelude.{◌≡◌, ◌∷◌, Bool, List};
+ghost use Rattle.std.specs.Prelude.{◌≡◌, ◌<◌, Bool};
 ghost use Rattle.machine_model.specs.Beneath.slot_arena.specs.declared.refs.Ref.{Ref as ARef};
-ghost use Rattle.lock_free.specs.declared.rules.Retired.{Retired};
 ghost use Rattle.lock_free.specs.Accounts.{place_of, IsOwn};
 ghost use Rattle.lock_free.specs.Loading.{IsSound};
-ghost use Rattle.lock_free.specs.Reclaiming.{HasCheckedSwap, HasReclaimed, IsChecking, is_decided, is_ripe};
+ghost use Rattle.lock_free.specs.Places.{IsSlot};
+ghost use Rattle.lock_free.specs.Reclaiming.{HasCheckedSwap, HasReclaimed, IsChecking, IsRipe, is_decided, is_ripe, retiree_of};
 
-use crate::advancing::EPOCH;
+use crate::counting::COUNTS;
 use crate::loads::{Actor, Words};
 use crate::rules::{Reclaims, Retires};
-use trie_words::{Header, Previous};
+use crate::sizes::Sizes;
+use trie_words::{Header, Name, Previous};
 
 /// So often the epoch grows until a slot that was retired may be free again.
 const GRACE: u64 = 3;
 
+/// A slot that a seat has retired.
+#[derive(Clone, Copy, Drop)]
+pub struct Retiree {
+    /// Its class, below 3.
+    pub class: u32,
+    /// The slot.
+    pub slot: u32,
+}
+
+/// What the end of a SWAP retires that was committed over the main node of this name, in a slot of this class: that slot, if the main
+/// node was the indirection's own.
+pub fn retiree_of(replaced: Name, class: u32) -> Option<Retiree>
+    ensures { result ≡ retiree_of replaced class }
+{
+    if replaced.own {
+        Some(Retiree {
+            class,
+            slot: replaced.slot,
+        })
+    } else {
+        None
+    }
+}
+
 /// Whether the epoch has grown so often since this one.
-fn is_ripe(epoch: u64, stamp: u64) -> bool
+pub(crate) fn is_ripe(epoch: u64, stamp: u64) -> bool
     ensures { result ≡ is_ripe epoch stamp }
 {
     epoch >= GRACE && epoch - GRACE >= stamp
 }
 
-/// Makes the oldest slot that the seat has retired, in the epoch `stamp`, free for it again, if the epoch has grown three times since:
-/// then no call is on its node any more. Returns whether it did; else nothing has changed.
-pub fn reclaim(words: &Words, actor: &mut Actor, stamp: u64) -> bool
+/// Makes a slot that the seat has retired free for it again, once the epoch that it has seen is later by three: then no call is on its
+/// node any more. Returns its link.
+pub fn reclaim(words: &Words, actor: &mut Actor, sizes: &Sizes, class: u32, slot: u32) -> u32
     requires table { actor.old.table_id ≡ words.now.table_id }
     requires sound { IsSound words.now.table_id.words actor.old.me.0 }
-    requires oldest { (x : Retired) × (rest : List Retired) × (actor.old.me.0.retired ≡ x ∷ rest) × (x.stamp ≡ stamp) }
+    requires sizes { actor.old.me.0.sizes ≡ sizes.now }
+    requires class { class < 3 }
+    requires slot { IsSlot sizes.now class slot }
+    requires ripe { IsRipe actor.old.me.0 class slot }
     ensures table { actor.new.table_id ≡ actor.old.table_id }
     ensures sound { IsSound words.now.table_id.words actor.new.me.0 }
-    ensures reclaimed { (x : Retired) (rest : List Retired) → actor.old.me.0.retired ≡ x ∷ rest → HasReclaimed actor.old.me.0 x rest result actor.new.me.0 }
+    ensures reclaimed { HasReclaimed actor.old.me.0 class slot result actor.new.me.0 }
 {
-    let epoch = words.load::<Reclaims>(actor, EPOCH);
-    is_ripe(epoch, stamp)
+    (words.load::<Reclaims>(actor, sizes.count_word(class, slot)) / COUNTS) as u32
 }
 
 /// Whether a main node whose header says this of it is decided.

@@ -10,12 +10,12 @@ ghost use Rattle.lock_free.specs.Stocks.{IsStock};
 use crate::entries::see_entries;
 use crate::leaving::Swapping;
 use crate::loads::{Actor, Words, look_at_key, look_at_link};
-use crate::makes::{make_branch, make_link};
+use crate::makes::{class_of, make_branch, make_link};
 use crate::reading::{Passed, ReadFrom, Way, read_on};
 use crate::stock::Stock;
 use crate::swapping::{Swapped, swap_made_within};
 use arrayvec::ArrayVec;
-use trie_words::{Entry, Link, Name, Previous};
+use trie_words::{Entry, Link, Name, Previous, Shape};
 
 /// What a RENEW comes to.
 #[derive(Clone, Copy, Drop)]
@@ -128,7 +128,7 @@ fn renewed_by(swapped: Swapped) -> Renewed
     ensures { result ≡ renewed_by swapped }
 {
     match swapped {
-        Swapped::Commits => Renewed::Reads,
+        Swapped::Commits(_) => Renewed::Reads,
         Swapped::Fails => Renewed::Again,
         Swapped::Misses => Renewed::Again,
     }
@@ -170,7 +170,18 @@ pub fn renew_within(
     let Some(fresh) = make_branch(tries, words, actor, stock, bitmap, &renewed, over) else {
         return Ok(Renewed::Full);
     };
-    match swap_made_within(tries, words, actor, stock, way, indirection, link, fresh) {
+    let class = class_of(Shape::Branch(bitmap));
+    match swap_made_within(
+        tries,
+        words,
+        actor,
+        stock,
+        way,
+        indirection,
+        link,
+        class,
+        fresh,
+    ) {
         Ok(swapped) => Ok(renewed_by(swapped)),
         Err(swapping) => Err(swapping),
     }

@@ -9,6 +9,7 @@ ghost use Rattle.lock_free.specs.Epochs.{has_advanced, has_checked, has_seen_epo
 ghost use Rattle.lock_free.specs.Exchanging.{has_published};
 ghost use Rattle.lock_free.specs.Finishing.{has_emptied, hearing, no_view};
 ghost use Rattle.lock_free.specs.HandleWords.{has_closed, has_marked, has_unmarked};
+ghost use Rattle.lock_free.specs.Linking.{has_linked, has_seen_link};
 ghost use Rattle.lock_free.specs.Numbers.{has_given_back, has_named, has_reserved};
 ghost use Rattle.lock_free.specs.OfferWords.{has_completed};
 ghost use Rattle.lock_free.specs.Reclaiming.{has_reclaimed, has_retired};
@@ -99,6 +100,8 @@ pub struct View {
     pub retired: LinkedList<Retired>,
     /// The nodes to which it holds a reference itself, the latest first, by the words of their counts.
     pub owed: LinkedList<u64>,
+    /// What it knows of the links of slots that it has retired: the number of the word of a count, and what its high half is.
+    pub links: LinkedList<(u64, u64)>,
     /// The seats of which it has heard.
     pub heard: LinkedList<Heard>,
 }
@@ -238,7 +241,7 @@ impl Play<Call, View> for Retires {
     ghost then = { has_retired };
 }
 
-/// A seat's oldest retired slot is free for it again, or isn't.
+/// A slot that a seat has retired is free for it again.
 pub struct Reclaims;
 
 impl Play<Call, View> for Reclaims {
@@ -257,6 +260,20 @@ pub struct Lowers;
 
 impl Play<Call, View> for Lowers {
     ghost then = { has_lowered };
+}
+
+/// The link of a slot that the seat has retired is looked at.
+pub struct SeesLink;
+
+impl Play<Call, View> for SeesLink {
+    ghost then = { has_seen_link };
+}
+
+/// It becomes another one.
+pub struct Links;
+
+impl Play<Call, View> for Links {
+    ghost then = { has_linked };
 }
 
 /// The operation begins for which a seat has pinned itself, if its handle is open for it.

@@ -109,6 +109,7 @@ impl Seat {
 }
 
 /// Ends the operation of this seat, `seat`, with the reply to which it has come.
+#[inline(always)]
 pub(crate) fn end(words: &Words, actor: &mut Actor, stock: &mut Stock, seat: u8)
     requires table { actor.old.table_id ≡ words.now.table_id }
     requires sound { IsSound words.now.table_id.words actor.old.me.0 }
@@ -126,6 +127,8 @@ pub(crate) fn end(words: &Words, actor: &mut Actor, stock: &mut Stock, seat: u8)
 }
 
 /// Ends the operation of this seat, `seat`, as one that has found no slot. What it made is free for the seat again.
+#[cold]
+#[inline(never)]
 pub(crate) fn refuse(words: &Words, actor: &mut Actor, stock: &mut Stock, seat: u8)
     requires table { actor.old.table_id ≡ words.now.table_id }
     requires sound { IsSound words.now.table_id.words actor.old.me.0 }
@@ -143,6 +146,7 @@ pub(crate) fn refuse(words: &Words, actor: &mut Actor, stock: &mut Stock, seat: 
 }
 
 /// Ends the operation of this seat, `seat`, with the reply to which it has come, or as one that has found no slot. Returns that reply.
+#[inline(always)]
 pub(crate) fn end_with(
     words: &Words,
     actor: &mut Actor,

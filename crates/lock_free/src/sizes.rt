@@ -1,7 +1,7 @@
 //! How many words there are, and for what.
 
-ghost use Rattle.std.specs.Prelude.{◌≡◌, ◌+◌, ◌*◌, ◌<◌, ◌≤◌, ◌^◌, ◌↔◌, IsTrue};
-ghost use Rattle.lock_free.specs.Places.{count_word, part_of, slots_in, stride, words_of, AreSizes};
+ghost use Rattle.std.specs.Prelude.{◌≡◌, ℕ, ◌+◌, ◌*◌, ◌<◌, ◌≤◌, ◌^◌, ◌↔◌, IsTrue};
+ghost use Rattle.lock_free.specs.Places.{count_word, part_of, slots_in, stride, words_of, AreSizes, IsSlot};
 
 use nodes::HashKind;
 
@@ -71,6 +71,20 @@ impl Sizes {
             _ => 24,
         };
         ((self.part(class) + words * u64::from(number)) / 2) as u32
+    }
+
+    /// The class of this slot.
+    pub fn class(&self, slot: u32) -> u32
+        ensures { (class : ℕ) → class < 3 → IsSlot self.now class slot → result ≡ class }
+    {
+        let word = 2 * u64::from(slot);
+        if word < self.part(1) {
+            0
+        } else if word < self.part(2) {
+            1
+        } else {
+            2
+        }
     }
 
     /// The word that counts references to the node in this slot of the class.

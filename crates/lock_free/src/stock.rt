@@ -173,14 +173,14 @@ impl Stock {
 
     /// Whether two slots more can be kept.
     #[inline(always)]
-    fn has_room(&self) -> bool
+    pub fn has_room(&self) -> bool
         ensures { IsTrue result → HasRoom self.now 2 }
     {
         self.made.len() + self.free.most() + 2 <= MOST_KEPT
     }
 
     /// One slot more is free.
-    fn add(&mut self, class: u32, slot: u32)
+    pub fn add(&mut self, class: u32, slot: u32)
         requires room { HasRoom self.old 1 }
         ensures sizes { self.new.sizes ≡ self.old.sizes }
         ensures pool { self.new.pool ≡ with_slot self.old.pool class slot }

@@ -1,23 +1,42 @@
 //! The change of one key, from BUILD to the end of its SWAP.
 
 ghost use Rattle.std.specs.Prelude.{◌≡◌, ◌<◌, IfErr, IfOk};
+ghost use Rattle.lock_free.specs.Attempts.{attempted};
 ghost use Rattle.lock_free.specs.Leaving.{IsUpdate, LeavesChange, LeavesSwap};
 ghost use Rattle.lock_free.specs.Loading.{IsSound};
 ghost use Rattle.lock_free.specs.Passing.{IsOnWay};
 ghost use Rattle.lock_free.specs.Stocks.{IsStock};
 ghost use Rattle.lock_free.specs.Updating.{HasChanged, HasUpdated, IsAtChange, IsAtUpdate};
 
+use crate::attempts::Attempt;
 use crate::building::{Builder, build};
 use crate::changing::{Edit, build_main};
 use crate::leaving::Swapping;
 use crate::loads::{Actor, Words};
+use crate::makes::class_of;
+use crate::parking::Came;
 use crate::reading::{Given, Way};
 use crate::stock::Stock;
 use crate::swapping::{Swapped, swap_made_within};
+use crate::tasks::changed_reply;
+use history::Call;
 use machine_model::Site;
+
+/// What a SWAP makes of a try of this call, whose key had this value before, or none.
+pub(crate) fn attempted(swapped: Option<Swapped>, call: Call, former: Option<u64>) -> Attempt
+    ensures { result ≡ attempted swapped call former }
+{
+    match swapped {
+        None => Attempt::Comes(Came::Spent),
+        Some(Swapped::Commits(_)) => Attempt::Comes(Came::Answered(changed_reply(call, former))),
+        Some(Swapped::Fails) => Attempt::Again,
+        Some(Swapped::Misses) => Attempt::Again,
+    }
+}
 
 /// Makes what gives the key its new value, and swaps it in: the operation is answered, or begins a new try. None where no slot is had: then
 /// it is in BUILD still. An `Err` has its SWAP that is under way.
+#[inline(always)]
 pub fn update_within(
     tries: u64,
     words: &Words,
@@ -52,6 +71,7 @@ pub fn update_within(
         way,
         indirection,
         given.link,
+        class_of(given.header.shape),
         fresh,
     ) {
         Ok(swapped) => Ok(Some(swapped)),
@@ -106,6 +126,7 @@ pub fn change_main_within(
         way,
         indirection,
         given.link,
+        class_of(given.header.shape),
         fresh,
     ) {
         Ok(swapped) => Ok(Some(swapped)),

@@ -107,7 +107,7 @@ pub record IsReplacedBy (limits : Bounds) (steps : List Step) (i m f : Ref) : Ty
   pub is : logical_main (states_of limits steps (suc at)).heap i ≡ f
   pub apart : ¬ (m ≡ f)
 
--- it is one indirection's own, and one node took its place there: so who swapped that one in may retire it, and nobody else does
+-- it is one indirection's own, and one node took its place there
 abbrev pub OneTakesItsPlace : Type 0
 OneTakesItsPlace =
     (limits : Bounds) (steps : List Step) (i j m f g : Ref) → AreBounds limits → IsOwn (states_of limits steps) (last_of limits steps) i m →

@@ -25,7 +25,7 @@ pub fn garbage_is_unknown_after_grace()
     ensures { GarbageIsUnknownAfterGrace }
 {}
 
-/// A law: a main node is one indirection's own, and one node took its place there; so one operation retires it.
+/// A law: a main node is one indirection's own, and one node took its place there.
 pub fn one_takes_its_place()
     ensures { OneTakesItsPlace }
 {}

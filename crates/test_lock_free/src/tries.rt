@@ -59,6 +59,45 @@ fn a_clear_takes_its_tries(rt: HostRuntime) -> Result<(), Fail> {
     Ok(())
 }
 
+/// A number that was reserved for a copy which hadn't begun is given back: the next copy gets it.
+#[test]
+fn copies_take_their_tries(rt: HostRuntime) -> Result<(), Fail> {
+    let Ok((board, mut seat)) = open(rt.alloc(), sizes(1, 60, 8)) else {
+        panic!(rt; "there is memory");
+    };
+    let words = &board.shared;
+    assert_eq!(rt; seat.put(&rt, words, 0, 7, 70), Ok(None));
+    let Tried::Answered(seat, told) = seat.try_call(words, 0, Call::Snapshot { handle: 0 }) else {
+        panic!(rt; "nothing has begun");
+    };
+    assert!(rt; matches!(told, Err(CallError::Spent)));
+    let Tried::Answered(mut seat, told) = seat.try_call(words, 1, Call::Snapshot { handle: 0 })
+    else {
+        panic!(rt; "nobody else is in a call");
+    };
+    assert!(rt; matches!(told, Ok(Reply::Opened(1))));
+    assert_eq!(rt; seat.put(&rt, words, 1, 7, 71), Ok(Some(70)));
+    let Tried::Answered(seat, told) = seat.try_call(words, 1, Call::Freeze { handle: 1 }) else {
+        panic!(rt; "nobody else is in a call");
+    };
+    assert!(rt; matches!(told, Ok(Reply::Opened(2))));
+    let Tried::Answered(mut seat, told) = seat.try_call(words, 1, Call::Freeze { handle: 2 }) else {
+        panic!(rt; "it is denied");
+    };
+    assert!(rt; matches!(told, Err(CallError::ReadOnly)));
+    assert_eq!(rt; seat.put(&rt, words, 1, 8, 80), Ok(None));
+    assert_eq!(rt; seat.get(&rt, words, 0, 7), Ok(Some(70)));
+    assert_eq!(rt; seat.get(&rt, words, 0, 8), Ok(None));
+    assert_eq!(rt; seat.get(&rt, words, 1, 7), Ok(Some(71)));
+    assert_eq!(rt; seat.get(&rt, words, 1, 8), Ok(Some(80)));
+    assert_eq!(rt; seat.get(&rt, words, 2, 7), Ok(Some(71)));
+    assert_eq!(rt; seat.get(&rt, words, 2, 8), Ok(None));
+    let mut seats = Vec::new(rt.alloc());
+    seats.push(seat)?;
+    finish_map(board, seats);
+    Ok(())
+}
+
 /// Two of three small slots are the first branch and its root, and a put takes two.
 #[test]
 fn a_lack_of_slots_is_told_from_too_few_tries(rt: HostRuntime) -> Result<(), Fail> {

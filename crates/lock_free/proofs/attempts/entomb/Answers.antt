@@ -35,14 +35,14 @@ climb_out-requires-clause-task c =
     let v = c.args.actor.now.me.0 in
     let w = c.change_main_within.new.actor.me.0 in
     task_then c.args.words.now.table_id.words v c.requires.sound c.args.task.now c.requires.task c.args.path.now.items c.requires.some c.args.given c.args.single c.args.former c.requires.at w
-    (subst (λ r. HasChanged v r w) (c.in-Some.is ∙ ap Some c.in-Commits.is) (c.in-Ok.ensures {u = tt}).changed)
+    c.in-Commits.field-0 (subst (λ r. HasChanged v r w) (c.in-Some.is ∙ ap Some c.in-Commits.is) (c.in-Ok.ensures {u = tt}).changed)
 
 pub climb_out-requires-clause-at : goal.climb_out-requires-clause-at
 climb_out-requires-clause-at c =
     let v = c.args.actor.now.me.0 in
     let w = c.change_main_within.new.actor.me.0 in
     to_climb c.args.words.now.table_id.words v c.requires.sound c.args.task.now c.requires.task c.args.path.now.items c.requires.some c.args.given c.args.single c.args.former c.requires.at w
-    (subst (λ r. HasChanged v r w) (c.in-Some.is ∙ ap Some c.in-Commits.is) (c.in-Ok.ensures {u = tt}).changed) c.single_in-single.result c.single_in-single.ensures
+    c.in-Commits.field-0 (subst (λ r. HasChanged v r w) (c.in-Some.is ∙ ap Some c.in-Commits.is) (c.in-Ok.ensures {u = tt}).changed) c.single_in-single.result c.single_in-single.ensures
     (ap (λ (x : Entry). x.is_single) c.single_in-single.ensures)
 
 pub returns-in-Commits-clause-attempted : goal.returns-in-Commits-clause-attempted
@@ -50,7 +50,8 @@ returns-in-Commits-clause-attempted c =
     let v = c.args.actor.now.me.0 in
     let w = c.change_main_within.new.actor.me.0 in
     climbed_from c.args.words.now.table_id.words v c.requires.sound c.args.task.now c.requires.task c.args.path.now.items c.requires.some c.args.given c.args.single c.args.former c.requires.at w
-    (subst (λ r. HasChanged v r w) (c.in-Some.is ∙ ap Some c.in-Commits.is) (c.in-Ok.ensures {u = tt}).changed) c.climb_out.new.actor.me.0 c.climb_out.result c.climb_out.ensures.climbed
+    c.in-Commits.field-0 (subst (λ r. HasChanged v r w) (c.in-Some.is ∙ ap Some c.in-Commits.is) (c.in-Ok.ensures {u = tt}).changed) c.climb_out.new.actor.me.0 c.climb_out.result
+    c.climb_out.ensures.climbed
 
 pub returns-in-Fails-clause-attempted : goal.returns-in-Fails-clause-attempted
 returns-in-Fails-clause-attempted c =

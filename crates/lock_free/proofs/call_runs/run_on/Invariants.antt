@@ -8,4 +8,4 @@ use Rattle.lock_free.proofs.call_runs.run_on.Given as goal
 abbrev pub invariant-loop : goal.invariant-loop
 invariant-loop g l =
     (goal.iterator-loop g).can_next l.iterator' × (goal.iterator-loop g).is_finite l.iterator' × (l.actor.table_id ≡ l.initial.actor.table_id) × IsSound l.words.table_id.words l.actor.me.0
-    × IsStock l.stock l.actor.me.0 × KeepsOn l.initial.actor.me.0 l.actor.me.0 × IsGoing l.actor.me.0 l.call l.access l.parked
+    × IsStock l.stock l.actor.me.0 × KeepsOn l.initial.actor.me.0 l.actor.me.0 × IsGoing l.actor.me.0 l.call l.access l.parked × (l.actor.me.0.opens ≡ l.initial.actor.me.0.opens)

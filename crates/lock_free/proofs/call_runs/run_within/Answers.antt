@@ -1,96 +1,16 @@
-use Rattle.std.proofs.Common.{◌≤◌, ◌<◌, Ok, Err, sym, subst}
-use Rattle.lock_free.specs.declared.call_runs.Ran.TheVariants as ran
-use Rattle.lock_free.specs.Calling.{CalledOrNot, HasCalled}
-use Rattle.lock_free.specs.Stocks.{IsStock}
-use Rattle.lock_free.specs.UnderWay.{HasRun}
-use Rattle.lock_free.proofs.BetweenCalls.{resting}
-use Rattle.lock_free.proofs.CallsUnderWay.{begun_left, begun_run, denied_by, denied_owns, denied_told, no_handle, rests_still, spent_left, spent_owns, spent_told}
-use Rattle.lock_free.proofs.CopiesParked.{begun_low, begun_none}
-use Rattle.lock_free.proofs.WholeCalls.{begun_try, tried_caller, tried_plain}
+use Rattle.std.proofs.Common.{◌≤◌, subst}
+use Rattle.lock_free.proofs.CallsUnderWay.{no_handle, plain_left, plain_run, rests_still}
 use Rattle.lock_free.proofs.call_runs.run_within.Goals as goal
 
 pub returns-then-handle-ge-HANDLES-clause-run : goal.returns-then-handle-ge-HANDLES-clause-run
 returns-then-handle-ge-HANDLES-clause-run c =
-    no_handle c.args.words.now.table_id.words c.args.actor.now.me.0 c.requires.sound c.requires.ready c.args.call (subst (λ h. 256 ≤ h) c.handle.ensures c.if-handle-ge-HANDLES.true)
+    no_handle c.args.actor.now.me.0 c.requires.ready c.args.call (subst (λ h. 256 ≤ h) c.handle.ensures c.if-handle-ge-HANDLES.true)
 
 pub returns-then-handle-ge-HANDLES-clause-left : goal.returns-then-handle-ge-HANDLES-clause-left
-returns-then-handle-ge-HANDLES-clause-left c = rests_still c.args.words.now.table_id.words c.args.actor.now.me.0 c.requires.sound c.requires.ready c.args.call
-
-pub start_within-requires-clause-caller : goal.start_within-requires-clause-caller
-start_within-requires-clause-caller c = tried_caller c.args.actor.now.me.0 (resting c.args.actor.now.me.0 c.requires.ready) c.args.call c.requires.tried
-
-pub returns-in-Err-clause-stock : goal.returns-in-Err-clause-stock
-returns-in-Err-clause-stock c =
-    let v = c.args.actor.now.me.0 in
-    denied_owns c.args.words.now.table_id.words v c.requires.sound c.requires.ready c.args.call c.in-Err.denial c.start_within.new.actor.me.0 (c.in-Err.ensures {u = tt}).called c.begin.new.self
-    (subst (λ s. IsStock s v) (sym c.begin.ensures) c.requires.stock)
-
-pub returns-in-Err-clause-run : goal.returns-in-Err-clause-run
-returns-in-Err-clause-run c =
-    let v = c.args.actor.now.me.0 in
-    let x = c.start_within.new.actor.me.0 in
-    subst (λ e. HasRun v c.args.call (ran.Told (Err e)) x) (sym c.from.ensures)
-    (denied_told c.args.words.now.table_id.words v c.requires.sound c.requires.ready c.args.call c.in-Err.denial x (c.in-Err.ensures {u = tt}).called)
-
-pub returns-in-Err-clause-left : goal.returns-in-Err-clause-left
-returns-in-Err-clause-left c =
-    denied_by c.args.words.now.table_id.words c.args.actor.now.me.0 c.requires.sound c.requires.ready c.args.call c.in-Err.denial c.start_within.new.actor.me.0 (c.in-Err.ensures {u = tt}).called
-
-pub returns-in-Ok-None-clause-stock : goal.returns-in-Ok-None-clause-stock
-returns-in-Ok-None-clause-stock c =
-    let v = c.args.actor.now.me.0 in
-    let x = c.start_within.new.actor.me.0 in
-    spent_owns c.args.words.now.table_id.words v c.requires.sound c.requires.ready c.args.call x
-    (subst (λ r. CalledOrNot v c.args.call (Ok r) x) c.in-Ok-None.field-0-is (c.in-Ok-None.ensures {u = tt}).called) c.begin.new.self
-    (subst (λ s. IsStock s v) (sym c.begin.ensures) c.requires.stock)
-
-pub returns-in-Ok-None-clause-run : goal.returns-in-Ok-None-clause-run
-returns-in-Ok-None-clause-run c =
-    let v = c.args.actor.now.me.0 in
-    let x = c.start_within.new.actor.me.0 in
-    spent_told c.args.words.now.table_id.words v c.requires.sound c.requires.ready c.args.call x
-    (subst (λ r. CalledOrNot v c.args.call (Ok r) x) c.in-Ok-None.field-0-is (c.in-Ok-None.ensures {u = tt}).called)
-
-pub returns-in-Ok-None-clause-left : goal.returns-in-Ok-None-clause-left
-returns-in-Ok-None-clause-left c =
-    let v = c.args.actor.now.me.0 in
-    let x = c.start_within.new.actor.me.0 in
-    spent_left c.args.words.now.table_id.words v c.requires.sound c.requires.ready c.args.call x
-    (subst (λ r. CalledOrNot v c.args.call (Ok r) x) c.in-Ok-None.field-0-is (c.in-Ok-None.ensures {u = tt}).called)
-
-pub run_tried-came-requires-clause-at : goal.run_tried-came-requires-clause-at
-run_tried-came-requires-clause-at c =
-    let v = c.args.actor.now.me.0 in
-    let u = c.start_within.new.actor.me.0 in
-    let h : HasCalled v c.args.call (Ok c.in-Ok-Some.way) u = subst (λ r. CalledOrNot v c.args.call (Ok r) u) c.in-Ok-Some.field-0-is (c.in-Ok-Some.ensures {u = tt}).called in
-    begun_try v (resting v c.requires.ready) c.args.call c.in-Ok-Some.way u h c.requires.tried
-
-pub run_tried-came-requires-clause-low : goal.run_tried-came-requires-clause-low
-run_tried-came-requires-clause-low c =
-    let v = c.args.actor.now.me.0 in
-    let u = c.start_within.new.actor.me.0 in
-    let h : HasCalled v c.args.call (Ok c.in-Ok-Some.way) u = subst (λ r. CalledOrNot v c.args.call (Ok r) u) c.in-Ok-Some.field-0-is (c.in-Ok-Some.ensures {u = tt}).called in
-    begun_low v c.requires.ready c.args.call c.in-Ok-Some.way u h (subst (λ k. k < 256) c.handle.ensures c.if-handle-ge-HANDLES.false)
-
-pub run_tried-came-requires-clause-none : goal.run_tried-came-requires-clause-none
-run_tried-came-requires-clause-none c =
-    let v = c.args.actor.now.me.0 in
-    let u = c.start_within.new.actor.me.0 in
-    let h : HasCalled v c.args.call (Ok c.in-Ok-Some.way) u = subst (λ r. CalledOrNot v c.args.call (Ok r) u) c.in-Ok-Some.field-0-is (c.in-Ok-Some.ensures {u = tt}).called in
-    begun_none v c.requires.ready c.args.call (tried_plain c.args.call c.requires.tried).1 c.in-Ok-Some.way u h
+returns-then-handle-ge-HANDLES-clause-left c = rests_still c.args.actor.now.me.0 c.requires.ready
 
 pub returns-clause-run : goal.returns-clause-run
-returns-clause-run c =
-    let v = c.args.actor.now.me.0 in
-    let u = c.start_within.new.actor.me.0 in
-    let h : HasCalled v c.args.call (Ok c.in-Ok-Some.way) u = subst (λ r. CalledOrNot v c.args.call (Ok r) u) c.in-Ok-Some.field-0-is (c.in-Ok-Some.ensures {u = tt}).called in
-    begun_run c.args.words.now.table_id.words v c.requires.sound c.requires.ready c.args.call c.in-Ok-Some.way u c.start_within.ensures.sound h c.run_tried-came.new.actor.me.0
-    c.run_tried-came.ensures.run.0 c.come_out.result c.come_out.new.actor.me.0 c.come_out.ensures.out
+returns-clause-run c = plain_run c.args.actor.now.me.0 c.requires.ready c.args.call c.run_with.result c.run_with.new.actor.me.0 c.run_with.ensures.run
 
 pub returns-clause-left : goal.returns-clause-left
-returns-clause-left c =
-    let v = c.args.actor.now.me.0 in
-    let u = c.start_within.new.actor.me.0 in
-    let h : HasCalled v c.args.call (Ok c.in-Ok-Some.way) u = subst (λ r. CalledOrNot v c.args.call (Ok r) u) c.in-Ok-Some.field-0-is (c.in-Ok-Some.ensures {u = tt}).called in
-    begun_left c.args.words.now.table_id.words v c.requires.sound c.requires.ready c.args.call c.in-Ok-Some.way u c.start_within.ensures.sound h c.run_tried-came.new.actor.me.0
-    c.run_tried-came.ensures.run.0 c.come_out.result c.come_out.new.actor.me.0 c.come_out.ensures.out
+returns-clause-left c = plain_left c.args.actor.now.me.0 c.args.call c.run_with.result c.run_with.new.actor.me.0 c.run_with.ensures.left

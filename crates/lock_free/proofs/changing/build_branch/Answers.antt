@@ -9,8 +9,8 @@ use Rattle.lock_free.proofs.ChangedBranches.{refs, refs_are, counted, few, branc
 use Rattle.lock_free.proofs.EntryHalves.{can_edit_halves, edited_few, edited_is, edited_small}
 use Rattle.lock_free.proofs.changing.build_branch.Goals as goal
 
-pub see_halves-halves-requires-clause-held : goal.see_halves-halves-requires-clause-held
-see_halves-halves-requires-clause-held c =
+pub see_halves-requires-clause-held : goal.see_halves-requires-clause-held
+see_halves-requires-clause-held c =
     has_entries c.args.words.now.table_id.words c.args.actor.now.me.0 c.requires.sound c.args.main (shape.Branch c.args.bitmap) c.args.flag c.args.change c.requires.at
     (refs c.args.words.now.table_id.words c.args.actor.now.me.0 c.requires.sound c.args.main c.args.bitmap c.args.flag c.args.change c.requires.at)
     (refs_are c.args.words.now.table_id.words c.args.actor.now.me.0 c.requires.sound c.args.main c.args.bitmap c.args.flag c.args.change c.requires.at)
@@ -19,10 +19,10 @@ see_halves-halves-requires-clause-held c =
 
 pub apply-requires-clause-can : goal.apply-requires-clause-can
 apply-requires-clause-can c =
-    can_edit_halves c.see_halves-halves.result.items c.position_of.result c.args.change
-    (subst (λ k. CanEdit (entries_of_halves c.see_halves-halves.result.items) k c.args.change) (sym c.position_of.ensures.position)
+    can_edit_halves c.see_halves.new.halves.items c.position_of.result c.args.change
+    (subst (λ k. CanEdit (entries_of_halves c.see_halves.new.halves.items) k c.args.change) (sym c.position_of.ensures.position)
     (branch_can c.args.words.now.table_id.words c.args.actor.now.me.0 c.requires.sound c.args.main c.args.bitmap c.args.flag c.args.change c.requires.at
-    c.see_halves-halves.new.actor.me.0 (entries_of_halves c.see_halves-halves.result.items) c.see_halves-halves.ensures.seen))
+    c.see_halves.new.actor.me.0 (entries_of_halves c.see_halves.new.halves.items) c.see_halves.ensures.seen))
 
 pub apply-requires-clause-fits : goal.apply-requires-clause-fits
 apply-requires-clause-fits c = edit_fits c.args.words.now.table_id.words c.args.actor.now.me.0 c.requires.sound c.args.main (shape.Branch c.args.bitmap) c.args.flag c.args.change c.requires.at
@@ -33,37 +33,37 @@ make_branch_of-requires-clause-stock c =
     (refs c.args.words.now.table_id.words c.args.actor.now.me.0 c.requires.sound c.args.main c.args.bitmap c.args.flag c.args.change c.requires.at)
     (refs_are c.args.words.now.table_id.words c.args.actor.now.me.0 c.requires.sound c.args.main c.args.bitmap c.args.flag c.args.change c.requires.at)
     (counted c.args.words.now.table_id.words c.args.actor.now.me.0 c.requires.sound c.args.main c.args.bitmap c.args.flag c.args.change c.requires.at)
-    (few c.args.words.now.table_id.words c.args.actor.now.me.0 c.requires.sound c.args.main c.args.bitmap c.args.flag c.args.change c.requires.at) c.see_halves-halves.new.actor.me.0
-    (entries_of_halves c.see_halves-halves.result.items) c.see_halves-halves.ensures.seen c.args.stock.now c.requires.stock
+    (few c.args.words.now.table_id.words c.args.actor.now.me.0 c.requires.sound c.args.main c.args.bitmap c.args.flag c.args.change c.requires.at) c.see_halves.new.actor.me.0
+    (entries_of_halves c.see_halves.new.halves.items) c.see_halves.ensures.seen c.args.stock.now c.requires.stock
 
 pub make_branch_of-requires-clause-few : goal.make_branch_of-requires-clause-few
 make_branch_of-requires-clause-few c =
-    subst (λ (hs : List ℕ). length hs ≤ 32) (sym (c.deref.ensures.0 ∙ c.apply.ensures ∙ ap (λ k. halves_edited c.see_halves-halves.result.items k c.args.change) c.position_of.ensures.position))
-    (edited_few c.see_halves-halves.result.items (position_of c.args.flag c.args.bitmap) c.args.change (edit_fits c.args.words.now.table_id.words c.args.actor.now.me.0 c.requires.sound
+    subst (λ (hs : List ℕ). length hs ≤ 32) (sym (c.deref.ensures.0 ∙ c.apply.ensures ∙ ap (λ k. halves_edited c.see_halves.new.halves.items k c.args.change) c.position_of.ensures.position))
+    (edited_few c.see_halves.new.halves.items (position_of c.args.flag c.args.bitmap) c.args.change (edit_fits c.args.words.now.table_id.words c.args.actor.now.me.0 c.requires.sound
     c.args.main (shape.Branch c.args.bitmap) c.args.flag c.args.change c.requires.at)
     (few_seen c.args.words.now.table_id.words c.args.actor.now.me.0 c.requires.sound c.args.main (shape.Branch c.args.bitmap) c.args.flag c.args.change c.requires.at
     (refs c.args.words.now.table_id.words c.args.actor.now.me.0 c.requires.sound c.args.main c.args.bitmap c.args.flag c.args.change c.requires.at)
     (refs_are c.args.words.now.table_id.words c.args.actor.now.me.0 c.requires.sound c.args.main c.args.bitmap c.args.flag c.args.change c.requires.at)
     (counted c.args.words.now.table_id.words c.args.actor.now.me.0 c.requires.sound c.args.main c.args.bitmap c.args.flag c.args.change c.requires.at)
-    (few c.args.words.now.table_id.words c.args.actor.now.me.0 c.requires.sound c.args.main c.args.bitmap c.args.flag c.args.change c.requires.at) c.see_halves-halves.new.actor.me.0
-    (entries_of_halves c.see_halves-halves.result.items) c.see_halves-halves.ensures.seen (position_of c.args.flag c.args.bitmap)
+    (few c.args.words.now.table_id.words c.args.actor.now.me.0 c.requires.sound c.args.main c.args.bitmap c.args.flag c.args.change c.requires.at) c.see_halves.new.actor.me.0
+    (entries_of_halves c.see_halves.new.halves.items) c.see_halves.ensures.seen (position_of c.args.flag c.args.bitmap)
     (branch_can c.args.words.now.table_id.words c.args.actor.now.me.0 c.requires.sound c.args.main c.args.bitmap c.args.flag c.args.change c.requires.at
-    c.see_halves-halves.new.actor.me.0 (entries_of_halves c.see_halves-halves.result.items) c.see_halves-halves.ensures.seen)))
+    c.see_halves.new.actor.me.0 (entries_of_halves c.see_halves.new.halves.items) c.see_halves.ensures.seen)))
 
 pub make_branch_of-requires-clause-halves : goal.make_branch_of-requires-clause-halves
 make_branch_of-requires-clause-halves c =
-    subst AreHalves (sym (c.deref.ensures.0 ∙ c.apply.ensures)) (edited_small c.see_halves-halves.result.items c.position_of.result c.args.change (edit_fits c.args.words.now.table_id.words
-    c.args.actor.now.me.0 c.requires.sound c.args.main (shape.Branch c.args.bitmap) c.args.flag c.args.change c.requires.at) c.see_halves-halves.ensures.halves)
+    subst AreHalves (sym (c.deref.ensures.0 ∙ c.apply.ensures)) (edited_small c.see_halves.new.halves.items c.position_of.result c.args.change (edit_fits c.args.words.now.table_id.words
+    c.args.actor.now.me.0 c.requires.sound c.args.main (shape.Branch c.args.bitmap) c.args.flag c.args.change c.requires.at) c.see_halves.ensures.halves)
 
 pub make_branch_of-requires-clause-making : goal.make_branch_of-requires-clause-making
 make_branch_of-requires-clause-making c =
-    subst (λ b. IsAtBranch c.see_halves-halves.new.actor.me.0 b (entries_of_halves c.deref.result.now)) (sym c.edited_bitmap-bitmap.ensures)
-    (subst (IsAtBranch c.see_halves-halves.new.actor.me.0 (edited_bitmap c.args.bitmap c.args.flag c.args.change))
-    (sym (ap entries_of_halves (c.deref.ensures.0 ∙ c.apply.ensures ∙ ap (λ k. halves_edited c.see_halves-halves.result.items k c.args.change) c.position_of.ensures.position) ∙ edited_is
-    c.see_halves-halves.result.items (position_of c.args.flag c.args.bitmap) c.args.change (edit_fits c.args.words.now.table_id.words c.args.actor.now.me.0 c.requires.sound c.args.main
+    subst (λ b. IsAtBranch c.see_halves.new.actor.me.0 b (entries_of_halves c.deref.result.now)) (sym c.edited_bitmap-bitmap.ensures)
+    (subst (IsAtBranch c.see_halves.new.actor.me.0 (edited_bitmap c.args.bitmap c.args.flag c.args.change))
+    (sym (ap entries_of_halves (c.deref.ensures.0 ∙ c.apply.ensures ∙ ap (λ k. halves_edited c.see_halves.new.halves.items k c.args.change) c.position_of.ensures.position) ∙ edited_is
+    c.see_halves.new.halves.items (position_of c.args.flag c.args.bitmap) c.args.change (edit_fits c.args.words.now.table_id.words c.args.actor.now.me.0 c.requires.sound c.args.main
     (shape.Branch c.args.bitmap) c.args.flag c.args.change c.requires.at)))
     (branch_ready c.args.words.now.table_id.words c.args.actor.now.me.0 c.requires.sound c.args.main c.args.bitmap c.args.flag c.args.change c.requires.at
-    c.see_halves-halves.new.actor.me.0 (entries_of_halves c.see_halves-halves.result.items) c.see_halves-halves.ensures.seen c.requires.kept c.see_halves-halves.ensures.sound))
+    c.see_halves.new.actor.me.0 (entries_of_halves c.see_halves.new.halves.items) c.see_halves.ensures.seen c.requires.kept c.see_halves.ensures.sound))
 
 pub make_branch_of-requires-clause-over : goal.make_branch_of-requires-clause-over
 make_branch_of-requires-clause-over c =
@@ -71,8 +71,8 @@ make_branch_of-requires-clause-over c =
     (refs c.args.words.now.table_id.words c.args.actor.now.me.0 c.requires.sound c.args.main c.args.bitmap c.args.flag c.args.change c.requires.at)
     (refs_are c.args.words.now.table_id.words c.args.actor.now.me.0 c.requires.sound c.args.main c.args.bitmap c.args.flag c.args.change c.requires.at)
     (counted c.args.words.now.table_id.words c.args.actor.now.me.0 c.requires.sound c.args.main c.args.bitmap c.args.flag c.args.change c.requires.at)
-    (few c.args.words.now.table_id.words c.args.actor.now.me.0 c.requires.sound c.args.main c.args.bitmap c.args.flag c.args.change c.requires.at) c.see_halves-halves.new.actor.me.0
-    (entries_of_halves c.see_halves-halves.result.items) c.see_halves-halves.ensures.seen c.see_halves-halves.ensures.sound
+    (few c.args.words.now.table_id.words c.args.actor.now.me.0 c.requires.sound c.args.main c.args.bitmap c.args.flag c.args.change c.requires.at) c.see_halves.new.actor.me.0
+    (entries_of_halves c.see_halves.new.halves.items) c.see_halves.ensures.seen c.see_halves.ensures.sound
 
 pub returns-clause-built : goal.returns-clause-built
 returns-clause-built c =
@@ -80,6 +80,6 @@ returns-clause-built c =
     (refs c.args.words.now.table_id.words c.args.actor.now.me.0 c.requires.sound c.args.main c.args.bitmap c.args.flag c.args.change c.requires.at)
     (refs_are c.args.words.now.table_id.words c.args.actor.now.me.0 c.requires.sound c.args.main c.args.bitmap c.args.flag c.args.change c.requires.at)
     (counted c.args.words.now.table_id.words c.args.actor.now.me.0 c.requires.sound c.args.main c.args.bitmap c.args.flag c.args.change c.requires.at)
-    (few c.args.words.now.table_id.words c.args.actor.now.me.0 c.requires.sound c.args.main c.args.bitmap c.args.flag c.args.change c.requires.at) c.see_halves-halves.new.actor.me.0
-    (entries_of_halves c.see_halves-halves.result.items) c.see_halves-halves.ensures.seen c.see_halves-halves.ensures.sound c.make_branch_of.result c.make_branch_of.new.actor.me.0
+    (few c.args.words.now.table_id.words c.args.actor.now.me.0 c.requires.sound c.args.main c.args.bitmap c.args.flag c.args.change c.requires.at) c.see_halves.new.actor.me.0
+    (entries_of_halves c.see_halves.new.halves.items) c.see_halves.ensures.seen c.see_halves.ensures.sound c.make_branch_of.result c.make_branch_of.new.actor.me.0
     c.make_branch_of.ensures.made

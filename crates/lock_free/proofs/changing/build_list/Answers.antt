@@ -7,8 +7,8 @@ use Rattle.lock_free.proofs.ChangedLists.{refs, refs_are, counted, few, list_can
 use Rattle.lock_free.proofs.EntryHalves.{can_edit_halves, edited_few, edited_is, edited_small}
 use Rattle.lock_free.proofs.changing.build_list.Goals as goal
 
-pub see_halves-halves-requires-clause-held : goal.see_halves-halves-requires-clause-held
-see_halves-halves-requires-clause-held c =
+pub see_halves-requires-clause-held : goal.see_halves-requires-clause-held
+see_halves-requires-clause-held c =
     has_entries c.args.words.now.table_id.words c.args.actor.now.me.0 c.requires.sound c.args.main (shape.List c.args.count) c.args.flag c.args.change c.requires.at
     (refs c.args.words.now.table_id.words c.args.actor.now.me.0 c.requires.sound c.args.main c.args.count c.args.flag c.args.change c.requires.at)
     (refs_are c.args.words.now.table_id.words c.args.actor.now.me.0 c.requires.sound c.args.main c.args.count c.args.flag c.args.change c.requires.at)
@@ -17,9 +17,9 @@ see_halves-halves-requires-clause-held c =
 
 pub apply-requires-clause-can : goal.apply-requires-clause-can
 apply-requires-clause-can c =
-    can_edit_halves c.see_halves-halves.result.items c.args.count c.args.change
-    (list_can c.args.words.now.table_id.words c.args.actor.now.me.0 c.requires.sound c.args.main c.args.count c.args.flag c.args.change c.requires.at c.see_halves-halves.new.actor.me.0
-    (entries_of_halves c.see_halves-halves.result.items) c.see_halves-halves.ensures.seen)
+    can_edit_halves c.see_halves.new.halves.items c.args.count c.args.change
+    (list_can c.args.words.now.table_id.words c.args.actor.now.me.0 c.requires.sound c.args.main c.args.count c.args.flag c.args.change c.requires.at c.see_halves.new.actor.me.0
+    (entries_of_halves c.see_halves.new.halves.items) c.see_halves.ensures.seen)
 
 pub apply-requires-clause-fits : goal.apply-requires-clause-fits
 apply-requires-clause-fits c = edit_fits c.args.words.now.table_id.words c.args.actor.now.me.0 c.requires.sound c.args.main (shape.List c.args.count) c.args.flag c.args.change c.requires.at
@@ -30,34 +30,34 @@ make_list_of-requires-clause-stock c =
     (refs c.args.words.now.table_id.words c.args.actor.now.me.0 c.requires.sound c.args.main c.args.count c.args.flag c.args.change c.requires.at)
     (refs_are c.args.words.now.table_id.words c.args.actor.now.me.0 c.requires.sound c.args.main c.args.count c.args.flag c.args.change c.requires.at)
     (counted c.args.words.now.table_id.words c.args.actor.now.me.0 c.requires.sound c.args.main c.args.count c.args.flag c.args.change c.requires.at)
-    (few c.args.words.now.table_id.words c.args.actor.now.me.0 c.requires.sound c.args.main c.args.count c.args.flag c.args.change c.requires.at) c.see_halves-halves.new.actor.me.0
-    (entries_of_halves c.see_halves-halves.result.items) c.see_halves-halves.ensures.seen c.args.stock.now c.requires.stock
+    (few c.args.words.now.table_id.words c.args.actor.now.me.0 c.requires.sound c.args.main c.args.count c.args.flag c.args.change c.requires.at) c.see_halves.new.actor.me.0
+    (entries_of_halves c.see_halves.new.halves.items) c.see_halves.ensures.seen c.args.stock.now c.requires.stock
 
 pub make_list_of-requires-clause-few : goal.make_list_of-requires-clause-few
 make_list_of-requires-clause-few c =
     subst (λ (hs : List ℕ). length hs ≤ 32) (sym (c.deref.ensures.0 ∙ c.apply.ensures))
-    (edited_few c.see_halves-halves.result.items c.args.count c.args.change (edit_fits c.args.words.now.table_id.words c.args.actor.now.me.0 c.requires.sound c.args.main (shape.List c.args.count)
+    (edited_few c.see_halves.new.halves.items c.args.count c.args.change (edit_fits c.args.words.now.table_id.words c.args.actor.now.me.0 c.requires.sound c.args.main (shape.List c.args.count)
     c.args.flag c.args.change c.requires.at)
     (few_seen c.args.words.now.table_id.words c.args.actor.now.me.0 c.requires.sound c.args.main (shape.List c.args.count) c.args.flag c.args.change c.requires.at
     (refs c.args.words.now.table_id.words c.args.actor.now.me.0 c.requires.sound c.args.main c.args.count c.args.flag c.args.change c.requires.at)
     (refs_are c.args.words.now.table_id.words c.args.actor.now.me.0 c.requires.sound c.args.main c.args.count c.args.flag c.args.change c.requires.at)
     (counted c.args.words.now.table_id.words c.args.actor.now.me.0 c.requires.sound c.args.main c.args.count c.args.flag c.args.change c.requires.at)
-    (few c.args.words.now.table_id.words c.args.actor.now.me.0 c.requires.sound c.args.main c.args.count c.args.flag c.args.change c.requires.at) c.see_halves-halves.new.actor.me.0
-    (entries_of_halves c.see_halves-halves.result.items) c.see_halves-halves.ensures.seen c.args.count
+    (few c.args.words.now.table_id.words c.args.actor.now.me.0 c.requires.sound c.args.main c.args.count c.args.flag c.args.change c.requires.at) c.see_halves.new.actor.me.0
+    (entries_of_halves c.see_halves.new.halves.items) c.see_halves.ensures.seen c.args.count
     (list_can c.args.words.now.table_id.words c.args.actor.now.me.0 c.requires.sound c.args.main c.args.count c.args.flag c.args.change c.requires.at
-    c.see_halves-halves.new.actor.me.0 (entries_of_halves c.see_halves-halves.result.items) c.see_halves-halves.ensures.seen)))
+    c.see_halves.new.actor.me.0 (entries_of_halves c.see_halves.new.halves.items) c.see_halves.ensures.seen)))
 
 pub make_list_of-requires-clause-halves : goal.make_list_of-requires-clause-halves
 make_list_of-requires-clause-halves c =
-    subst AreHalves (sym (c.deref.ensures.0 ∙ c.apply.ensures)) (edited_small c.see_halves-halves.result.items c.args.count c.args.change (edit_fits c.args.words.now.table_id.words
-    c.args.actor.now.me.0 c.requires.sound c.args.main (shape.List c.args.count) c.args.flag c.args.change c.requires.at) c.see_halves-halves.ensures.halves)
+    subst AreHalves (sym (c.deref.ensures.0 ∙ c.apply.ensures)) (edited_small c.see_halves.new.halves.items c.args.count c.args.change (edit_fits c.args.words.now.table_id.words
+    c.args.actor.now.me.0 c.requires.sound c.args.main (shape.List c.args.count) c.args.flag c.args.change c.requires.at) c.see_halves.ensures.halves)
 
 pub make_list_of-requires-clause-making : goal.make_list_of-requires-clause-making
 make_list_of-requires-clause-making c =
-    subst (IsAtList c.see_halves-halves.new.actor.me.0) (sym (ap entries_of_halves (c.deref.ensures.0 ∙ c.apply.ensures) ∙ edited_is c.see_halves-halves.result.items c.args.count c.args.change
+    subst (IsAtList c.see_halves.new.actor.me.0) (sym (ap entries_of_halves (c.deref.ensures.0 ∙ c.apply.ensures) ∙ edited_is c.see_halves.new.halves.items c.args.count c.args.change
     (edit_fits c.args.words.now.table_id.words c.args.actor.now.me.0 c.requires.sound c.args.main (shape.List c.args.count) c.args.flag c.args.change c.requires.at)))
     (list_ready c.args.words.now.table_id.words c.args.actor.now.me.0 c.requires.sound c.args.main c.args.count c.args.flag c.args.change c.requires.at
-    c.see_halves-halves.new.actor.me.0 (entries_of_halves c.see_halves-halves.result.items) c.see_halves-halves.ensures.seen c.requires.kept c.see_halves-halves.ensures.sound)
+    c.see_halves.new.actor.me.0 (entries_of_halves c.see_halves.new.halves.items) c.see_halves.ensures.seen c.requires.kept c.see_halves.ensures.sound)
 
 pub make_list_of-requires-clause-over : goal.make_list_of-requires-clause-over
 make_list_of-requires-clause-over c =
@@ -65,8 +65,8 @@ make_list_of-requires-clause-over c =
     (refs c.args.words.now.table_id.words c.args.actor.now.me.0 c.requires.sound c.args.main c.args.count c.args.flag c.args.change c.requires.at)
     (refs_are c.args.words.now.table_id.words c.args.actor.now.me.0 c.requires.sound c.args.main c.args.count c.args.flag c.args.change c.requires.at)
     (counted c.args.words.now.table_id.words c.args.actor.now.me.0 c.requires.sound c.args.main c.args.count c.args.flag c.args.change c.requires.at)
-    (few c.args.words.now.table_id.words c.args.actor.now.me.0 c.requires.sound c.args.main c.args.count c.args.flag c.args.change c.requires.at) c.see_halves-halves.new.actor.me.0
-    (entries_of_halves c.see_halves-halves.result.items) c.see_halves-halves.ensures.seen c.see_halves-halves.ensures.sound
+    (few c.args.words.now.table_id.words c.args.actor.now.me.0 c.requires.sound c.args.main c.args.count c.args.flag c.args.change c.requires.at) c.see_halves.new.actor.me.0
+    (entries_of_halves c.see_halves.new.halves.items) c.see_halves.ensures.seen c.see_halves.ensures.sound
 
 pub returns-clause-built : goal.returns-clause-built
 returns-clause-built c =
@@ -74,6 +74,6 @@ returns-clause-built c =
     (refs c.args.words.now.table_id.words c.args.actor.now.me.0 c.requires.sound c.args.main c.args.count c.args.flag c.args.change c.requires.at)
     (refs_are c.args.words.now.table_id.words c.args.actor.now.me.0 c.requires.sound c.args.main c.args.count c.args.flag c.args.change c.requires.at)
     (counted c.args.words.now.table_id.words c.args.actor.now.me.0 c.requires.sound c.args.main c.args.count c.args.flag c.args.change c.requires.at)
-    (few c.args.words.now.table_id.words c.args.actor.now.me.0 c.requires.sound c.args.main c.args.count c.args.flag c.args.change c.requires.at) c.see_halves-halves.new.actor.me.0
-    (entries_of_halves c.see_halves-halves.result.items) c.see_halves-halves.ensures.seen c.see_halves-halves.ensures.sound c.make_list_of.result c.make_list_of.new.actor.me.0
+    (few c.args.words.now.table_id.words c.args.actor.now.me.0 c.requires.sound c.args.main c.args.count c.args.flag c.args.change c.requires.at) c.see_halves.new.actor.me.0
+    (entries_of_halves c.see_halves.new.halves.items) c.see_halves.ensures.seen c.see_halves.ensures.sound c.make_list_of.result c.make_list_of.new.actor.me.0
     c.make_list_of.ensures.made

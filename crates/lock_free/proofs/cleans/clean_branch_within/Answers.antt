@@ -70,7 +70,8 @@ swap_made_within-requires-clause-swapping c =
     c.see_entries-entries.new.actor.me.0 c.see_entries-entries.ensures.sound (count_ones c.args.bitmap) c.see_entries-entries.result.items refl c.see_entries-entries.ensures.seen
     c.clean_entries_within.new.actor.me.0 c.clean_entries_within.ensures.sound c.in-Some.cleaned.items c.in-Some.is_changed
     (c.in-Some.ensures {u = tt}).cleaned c.if-not-is_changed.false
-    c.make_contracted.new.actor.me.0 c.make_contracted.result c.make_contracted.ensures.made c.in-Some-make_contracted.fresh c.in-Some-make_contracted.is
+    c.make_contracted.new.actor.me.0 c.make_contracted.result c.make_contracted.ensures.made c.in-Some-make_contracted.fresh c.in-Some-make_contracted.is c.class_of-class.result
+    c.class_of-class.ensures
 
 pub returns-in-Ok-clause-cleaned : goal.returns-in-Ok-clause-cleaned
 returns-in-Ok-clause-cleaned c =

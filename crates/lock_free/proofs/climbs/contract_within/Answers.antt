@@ -24,19 +24,19 @@ swap_made_within-requires-clause-way c =
 pub swap_made_within-requires-clause-swapping : goal.swap_made_within-requires-clause-swapping
 swap_made_within-requires-clause-swapping c =
     its_swap c.args.words.now.table_id.words c.args.actor.now.me.0 c.requires.sound c.args.parent c.args.link c.args.bitmap c.args.entries.now.items c.args.single c.args.may_entomb c.requires.at
-    c.make_contracted.new.actor.me.0 c.make_contracted.result c.make_contracted.ensures.made c.in-Some.fresh c.in-Some.is
+    c.make_contracted.new.actor.me.0 c.make_contracted.result c.make_contracted.ensures.made c.in-Some.fresh c.in-Some.is c.class_of-class.result c.class_of-class.ensures
 
 pub returns-then-entombs-clause-contracted : goal.returns-then-entombs-clause-contracted
 returns-then-entombs-clause-contracted c =
     goes_higher c.args.words.now.table_id.words c.args.actor.now.me.0 c.requires.sound c.args.parent c.args.link c.args.bitmap c.args.entries.now.items c.args.single c.args.may_entomb c.requires.at
     c.make_contracted.new.actor.me.0 c.make_contracted.result c.make_contracted.ensures.made c.in-Some.fresh c.in-Some.is
-    c.in-Ok.swapped c.swap_made_within.new.actor.me.0 (c.in-Ok.ensures {u = tt}).done c.in-Commits.is (sym c.entombs.ensures ∙ c.if-entombs.true)
+    c.in-Ok.swapped c.swap_made_within.new.actor.me.0 (c.in-Ok.ensures {u = tt}).done c.in-Commits.field-0 c.in-Commits.is (sym c.entombs.ensures ∙ c.if-entombs.true)
 
 pub returns-else-entombs-clause-contracted : goal.returns-else-entombs-clause-contracted
 returns-else-entombs-clause-contracted c =
     ends_there c.args.words.now.table_id.words c.args.actor.now.me.0 c.requires.sound c.args.parent c.args.link c.args.bitmap c.args.entries.now.items c.args.single c.args.may_entomb c.requires.at
     c.make_contracted.new.actor.me.0 c.make_contracted.result c.make_contracted.ensures.made c.in-Some.fresh c.in-Some.is
-    c.in-Ok.swapped c.swap_made_within.new.actor.me.0 (c.in-Ok.ensures {u = tt}).done c.in-Commits.is (sym c.entombs.ensures ∙ c.if-entombs.false)
+    c.in-Ok.swapped c.swap_made_within.new.actor.me.0 (c.in-Ok.ensures {u = tt}).done c.in-Commits.field-0 c.in-Commits.is (sym c.entombs.ensures ∙ c.if-entombs.false)
 
 pub ask_again_within-requires-clause-way : goal.ask_again_within-requires-clause-way
 ask_again_within-requires-clause-way c =

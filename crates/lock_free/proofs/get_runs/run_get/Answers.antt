@@ -1,12 +1,13 @@
-use Rattle.std.proofs.Common.{Ok, None, sym, subst}
+use Rattle.std.proofs.Common.{Ok, Err, None, sym, subst}
 use Rattle.history.specs.declared.calls.Call.TheVariants.{Get}
+use Rattle.lock_free.specs.declared.call_errors.CallError.TheVariants as error
+use Rattle.lock_free.specs.declared.call_runs.Ran.TheVariants as ran
 use Rattle.lock_free.specs.Calling.{CalledOrNot, HasCalled}
 use Rattle.lock_free.specs.SeatCalls.{WasRefused}
 use Rattle.lock_free.specs.Stocks.{IsStock}
-use Rattle.lock_free.proofs.BetweenCalls.{resting}
 use Rattle.lock_free.proofs.CallBegins.{opens_begun, same_begun}
-use Rattle.lock_free.proofs.CallsDenied.{denied_refused, no_handle_denied}
-use Rattle.lock_free.proofs.CallsUnderWay.{begun_under_way, denied_by, denied_owns, left_both, spent_left, spent_owns, spent_told}
+use Rattle.lock_free.proofs.CallsDenied.{denied_left, denied_refused, no_handle_denied}
+use Rattle.lock_free.proofs.CallsUnderWay.{begun_under_way, denied_owns, left_both, plain_run, spent_left, spent_owns, spent_told}
 use Rattle.lock_free.proofs.WholeCalls.{begun_called, begun_try}
 use Rattle.lock_free.proofs.get_runs.run_get.Goals as goal
 
@@ -18,7 +19,7 @@ returns-in-Ok-None-clause-stock g c =
     let v = c.args.actor.now.me.0 in
     let x = c.start_within.new.actor.me.0 in
     let call = Get c.args.handle c.args.key in
-    spent_owns c.args.words.now.table_id.words v c.requires.sound c.requires.ready call x
+    spent_owns c.args.words.now.table_id.words v c.requires.sound None c.requires.ready call x
     (subst (λ r. CalledOrNot v call (Ok r) x) c.in-Ok-None.field-0-is (c.in-Ok-None.ensures {u = tt}).called) c.begin.new.self
     (subst (λ s. IsStock s v) (sym c.begin.ensures) c.requires.stock)
 
@@ -27,27 +28,29 @@ returns-in-Ok-None-clause-left g c =
     let v = c.args.actor.now.me.0 in
     let x = c.start_within.new.actor.me.0 in
     let call = Get c.args.handle c.args.key in
-    spent_left c.args.words.now.table_id.words v c.requires.sound c.requires.ready call x
-    (subst (λ r. CalledOrNot v call (Ok r) x) c.in-Ok-None.field-0-is (c.in-Ok-None.ensures {u = tt}).called)
+    let left =
+    spent_left c.args.words.now.table_id.words v c.requires.sound None c.requires.ready call x
+    (subst (λ r. CalledOrNot v call (Ok r) x) c.in-Ok-None.field-0-is (c.in-Ok-None.ensures {u = tt}).called) in
+    record { same = left.0; rests = left.1 }
 
 pub returns-in-Ok-None-clause-told : goal.returns-in-Ok-None-clause-told
 returns-in-Ok-None-clause-told g c =
     let v = c.args.actor.now.me.0 in
     let x = c.start_within.new.actor.me.0 in
     let call = Get c.args.handle c.args.key in
-    (spent_told c.args.words.now.table_id.words v c.requires.sound c.requires.ready call x
-    (subst (λ r. CalledOrNot v call (Ok r) x) c.in-Ok-None.field-0-is (c.in-Ok-None.ensures {u = tt}).called)).0
+    (plain_run v c.requires.ready call (ran.Told (Err error.Spent)) x
+    (spent_told c.args.words.now.table_id.words v c.requires.sound None c.requires.ready call x
+    (subst (λ r. CalledOrNot v call (Ok r) x) c.in-Ok-None.field-0-is (c.in-Ok-None.ensures {u = tt}).called))).0
 
 pub returns-in-Err-clause-stock : goal.returns-in-Err-clause-stock
 returns-in-Err-clause-stock g c =
     let v = c.args.actor.now.me.0 in
-    denied_owns c.args.words.now.table_id.words v c.requires.sound c.requires.ready (Get c.args.handle c.args.key) c.in-Err.denial c.start_within.new.actor.me.0
+    denied_owns c.args.words.now.table_id.words v c.requires.sound None c.requires.ready (Get c.args.handle c.args.key) c.in-Err.denial c.start_within.new.actor.me.0
     (c.in-Err.ensures {u = tt}).called c.begin.new.self (subst (λ s. IsStock s v) (sym c.begin.ensures) c.requires.stock)
 
 pub returns-in-Err-clause-left : goal.returns-in-Err-clause-left
 returns-in-Err-clause-left g c =
-    denied_by c.args.words.now.table_id.words c.args.actor.now.me.0 c.requires.sound c.requires.ready (Get c.args.handle c.args.key) c.in-Err.denial c.start_within.new.actor.me.0
-    (c.in-Err.ensures {u = tt}).called
+    denied_left c.args.actor.now.me.0 c.requires.ready (Get c.args.handle c.args.key) c.in-Err.denial c.start_within.new.actor.me.0 (c.in-Err.ensures {u = tt}).called
 
 pub returns-in-Err-clause-told : goal.returns-in-Err-clause-told
 returns-in-Err-clause-told g c =
@@ -62,7 +65,7 @@ get_begun-requires-clause-called g c =
     let u = c.start_within.new.actor.me.0 in
     let call = Get c.args.handle c.args.key in
     let h : HasCalled v call (Ok c.in-Ok-Some.way) u = subst (λ r. CalledOrNot v call (Ok r) u) c.in-Ok-Some.field-0-is (c.in-Ok-Some.ensures {u = tt}).called in
-    begun_called v (resting v c.requires.ready) call c.in-Ok-Some.way u h
+    begun_called v None c.requires.ready call c.in-Ok-Some.way u h
 
 pub get_begun-requires-clause-none : goal.get_begun-requires-clause-none
 get_begun-requires-clause-none g c =
@@ -78,7 +81,7 @@ get_begun-requires-clause-under g c =
     let u = c.start_within.new.actor.me.0 in
     let call = Get c.args.handle c.args.key in
     let h : HasCalled v call (Ok c.in-Ok-Some.way) u = subst (λ r. CalledOrNot v call (Ok r) u) c.in-Ok-Some.field-0-is (c.in-Ok-Some.ensures {u = tt}).called in
-    (v, begun_under_way c.args.words.now.table_id.words v c.requires.sound c.requires.ready call c.in-Ok-Some.way u c.start_within.ensures.sound h)
+    (v, begun_under_way c.args.words.now.table_id.words v c.requires.sound None c.requires.ready call c.in-Ok-Some.way u c.start_within.ensures.sound h)
 
 pub get_begun-requires-clause-at : goal.get_begun-requires-clause-at
 get_begun-requires-clause-at g c =
@@ -86,7 +89,7 @@ get_begun-requires-clause-at g c =
     let u = c.start_within.new.actor.me.0 in
     let call = Get c.args.handle c.args.key in
     let h : HasCalled v call (Ok c.in-Ok-Some.way) u = subst (λ r. CalledOrNot v call (Ok r) u) c.in-Ok-Some.field-0-is (c.in-Ok-Some.ensures {u = tt}).called in
-    begun_try v (resting v c.requires.ready) call c.in-Ok-Some.way u h tt
+    begun_try v None c.requires.ready call c.in-Ok-Some.way u h tt
 
 pub returns-clause-told : goal.returns-clause-told
 returns-clause-told g c =
@@ -94,7 +97,7 @@ returns-clause-told g c =
     let u = c.start_within.new.actor.me.0 in
     let call = Get c.args.handle c.args.key in
     let h : HasCalled v call (Ok c.in-Ok-Some.way) u = subst (λ r. CalledOrNot v call (Ok r) u) c.in-Ok-Some.field-0-is (c.in-Ok-Some.ensures {u = tt}).called in
-    c.get_begun.ensures.told v (begun_under_way c.args.words.now.table_id.words v c.requires.sound c.requires.ready call c.in-Ok-Some.way u c.start_within.ensures.sound h)
+    c.get_begun.ensures.told v (begun_under_way c.args.words.now.table_id.words v c.requires.sound None c.requires.ready call c.in-Ok-Some.way u c.start_within.ensures.sound h)
 
 pub returns-clause-left : goal.returns-clause-left
 returns-clause-left g c =

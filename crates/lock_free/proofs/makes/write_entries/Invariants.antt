@@ -1,4 +1,4 @@
-use Rattle.std.proofs.Common.{◌≡◌, ◌+◌, ◌≤◌, ◌*◌, length}
+use Rattle.std.proofs.Common.{◌≡◌, ◌≤◌, ◌/◌, length}
 use Rattle.lock_free.specs.Halves.{entries_of_halves}
 use Rattle.lock_free.specs.Loading.{IsSound}
 use Rattle.lock_free.specs.SeenEntries.{HasWritten}
@@ -7,4 +7,4 @@ use Rattle.lock_free.proofs.makes.write_entries.Given as goal
 abbrev pub invariant-loop-n : goal.invariant-loop-n
 invariant-loop-n l =
     (l.actor.table_id ≡ l.initial.actor.table_id) × IsSound l.words.table_id.words l.actor.me.0 × HasWritten l.initial.actor.me.0 l.slot (entries_of_halves l.halves) l.n l.actor.me.0
-    × (length l.halves ≤ 2 * l.n-end) × (2 * l.n-end ≤ length l.halves + 1) × (l.n ≤ l.n-end)
+    × (l.n ≤ length l.halves / 2)

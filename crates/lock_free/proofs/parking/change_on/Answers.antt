@@ -1,4 +1,6 @@
+use Rattle.std.proofs.Common.{ap}
 use Rattle.lock_free.specs.Leaving.{IsUpdate}
+use Rattle.lock_free.specs.Swaps.{is_done, swapped_by}
 use Rattle.lock_free.proofs.ParkedOn.{changed_ends, decided_owns, owns_both, refused, still_owns, still_swaps, then_bare, way_called, wound_on}
 use Rattle.lock_free.proofs.parking.change_on.Goals as goal
 
@@ -10,33 +12,34 @@ swap_on-requires-clause-swapping c = c.requires.parked.0
 
 pub wind_up-requires-clause-bare : goal.wind_up-requires-clause-bare
 wind_up-requires-clause-bare c =
-    then_bare c.args.actor.now.me.0 c.args.swapping c.requires.parked.0 c.in-Ok-true.field-0 c.swap_on.new.actor.me.0 (c.in-Ok-true.ensures {u = tt}).done
+    then_bare c.args.actor.now.me.0 c.args.swapping c.requires.parked.0 c.in-Ok-Commits.field-0 c.swap_on.new.actor.me.0 (c.in-Ok-Commits.ensures {u = tt}).done
 
 pub wind_up-requires-clause-ends : goal.wind_up-requires-clause-ends
 wind_up-requires-clause-ends c =
-    changed_ends c.args.actor.now.me.0 c.args.swapping c.requires.parked.0 c.in-Ok-true.field-0 c.swap_on.new.actor.me.0 (c.in-Ok-true.ensures {u = tt}).done
+    changed_ends c.args.actor.now.me.0 c.args.swapping c.requires.parked.0 c.in-Ok-Commits.field-0 c.swap_on.new.actor.me.0 (c.in-Ok-Commits.ensures {u = tt}).done
     c.args.call c.args.access c.requires.called
-    c.args.former c.requires.parked.1 c.in-Ok-true.field-0-test
+    c.args.former c.requires.parked.1 (ap (λ d. is_done (swapped_by d)) c.in-Ok-Commits.field-0-is)
 
-pub returns-in-Ok-true-clause-stays : goal.returns-in-Ok-true-clause-stays
-returns-in-Ok-true-clause-stays c =
+pub returns-in-Ok-Commits-clause-stays : goal.returns-in-Ok-Commits-clause-stays
+returns-in-Ok-Commits-clause-stays c =
     let v = c.args.actor.now.me.0 in
     let w = c.swap_on.new.actor.me.0 in
-    owns_both v w c.wind_up.new.actor.me.0 (decided_owns v c.args.swapping c.requires.parked.0 c.in-Ok-true.field-0 w (c.in-Ok-true.ensures {u = tt}).done) c.wind_up.ensures.stays
+    owns_both v w c.wind_up.new.actor.me.0 (decided_owns v c.args.swapping c.requires.parked.0 c.in-Ok-Commits.field-0 w (c.in-Ok-Commits.ensures {u = tt}).done) c.wind_up.ensures.stays
 
-pub returns-in-Ok-true-clause-run : goal.returns-in-Ok-true-clause-run
-returns-in-Ok-true-clause-run c =
-    wound_on c.args.actor.now.me.0 c.args.swapping c.requires.parked.0 c.in-Ok-true.field-0 c.swap_on.new.actor.me.0 (c.in-Ok-true.ensures {u = tt}).done c.wind_up.result c.wind_up.new.actor.me.0
+pub returns-in-Ok-Commits-clause-run : goal.returns-in-Ok-Commits-clause-run
+returns-in-Ok-Commits-clause-run c =
+    wound_on c.args.actor.now.me.0 c.args.swapping c.requires.parked.0 c.in-Ok-Commits.field-0 c.swap_on.new.actor.me.0 (c.in-Ok-Commits.ensures {u = tt}).done c.wind_up.result
+    c.wind_up.new.actor.me.0
     c.wind_up.ensures.wound
 
-pub returns-in-Ok-false-clause-stays : goal.returns-in-Ok-false-clause-stays
-returns-in-Ok-false-clause-stays c =
-    decided_owns c.args.actor.now.me.0 c.args.swapping c.requires.parked.0 c.in-Ok-false.field-0 c.swap_on.new.actor.me.0 (c.in-Ok-false.ensures {u = tt}).done
+pub returns-in-Ok-Fails-clause-stays : goal.returns-in-Ok-Fails-clause-stays
+returns-in-Ok-Fails-clause-stays c =
+    decided_owns c.args.actor.now.me.0 c.args.swapping c.requires.parked.0 c.in-Ok-Fails.field-0 c.swap_on.new.actor.me.0 (c.in-Ok-Fails.ensures {u = tt}).done
 
-pub returns-in-Ok-false-clause-run : goal.returns-in-Ok-false-clause-run
-returns-in-Ok-false-clause-run c =
-    refused c.args.actor.now.me.0 c.args.swapping c.requires.parked.0 c.in-Ok-false.field-0 c.swap_on.new.actor.me.0 (c.in-Ok-false.ensures {u = tt}).done c.args.former c.requires.parked.1
-    c.in-Ok-false.field-0-test
+pub returns-in-Ok-Fails-clause-run : goal.returns-in-Ok-Fails-clause-run
+returns-in-Ok-Fails-clause-run c =
+    refused c.args.actor.now.me.0 c.args.swapping c.requires.parked.0 c.in-Ok-Fails.field-0 c.swap_on.new.actor.me.0 (c.in-Ok-Fails.ensures {u = tt}).done c.args.former c.requires.parked.1
+    (ap (λ d. is_done (swapped_by d)) c.in-Ok-Fails.field-0-is)
 
 pub returns-in-Err-clause-stays : goal.returns-in-Err-clause-stays
 returns-in-Err-clause-stays c =

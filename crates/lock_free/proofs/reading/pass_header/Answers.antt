@@ -9,13 +9,13 @@ put_back-requires-clause-failed c = is_failed c.args.actor.now.me.0 c.args.indir
     c.args.words.now.table_id.words c.read_header-header.new.actor.me.0 c.requires.sound c.read_header-header.ensures.sound c.read_header-header.result c.read_header-header.ensures.read
     c.in-Failed.former c.in-Failed.is
 
-pub settle-requires-clause-way : goal.settle-requires-clause-way
-settle-requires-clause-way c = on_after c.args.actor.now.me.0 c.args.indirection c.args.link c.requires.passing
+pub settle_in_place-requires-clause-way : goal.settle_in_place-requires-clause-way
+settle_in_place-requires-clause-way c = on_after c.args.actor.now.me.0 c.args.indirection c.args.link c.requires.passing
     c.args.words.now.table_id.words c.read_header-header.new.actor.me.0 c.requires.sound c.read_header-header.ensures.sound c.read_header-header.result c.read_header-header.ensures.read
     c.args.way c.requires.way c.in-Pending.field-0 c.in-Pending.is
 
-pub settle-requires-clause-pending : goal.settle-requires-clause-pending
-settle-requires-clause-pending c = is_pending c.args.actor.now.me.0 c.args.indirection c.args.link c.requires.passing
+pub settle_in_place-requires-clause-pending : goal.settle_in_place-requires-clause-pending
+settle_in_place-requires-clause-pending c = is_pending c.args.actor.now.me.0 c.args.indirection c.args.link c.requires.passing
     c.args.words.now.table_id.words c.read_header-header.new.actor.me.0 c.requires.sound c.read_header-header.ensures.sound c.read_header-header.result c.read_header-header.ensures.read
     c.args.way c.requires.way c.in-Pending.field-0 c.in-Pending.is
 
@@ -32,4 +32,4 @@ returns-in-Failed-clause-passed c = failed_passes c.args.actor.now.me.0 c.args.i
 pub returns-in-Pending-clause-passed : goal.returns-in-Pending-clause-passed
 returns-in-Pending-clause-passed c = pending_passes c.args.actor.now.me.0 c.args.indirection c.args.link c.requires.passing c.args.words.now.table_id.words c.read_header-header.new.actor.me.0
     c.requires.sound c.read_header-header.ensures.sound c.read_header-header.result
-    c.read_header-header.ensures.read c.args.way c.requires.way c.in-Pending.field-0 c.in-Pending.is c.settle.new.actor.me.0 c.settle.result c.settle.ensures.passed
+    c.read_header-header.ensures.read c.args.way c.requires.way c.in-Pending.field-0 c.in-Pending.is c.settle_in_place.new.actor.me.0 c.settle_in_place.result c.settle_in_place.ensures.passed

@@ -1,30 +1,25 @@
-use Rattle.std.proofs.Common.{◌≡◌, ◌∷◌, ◌∙◌, List, ap, sym, subst}
-use Rattle.lock_free.specs.declared.rules.Retired.{Retired}
+use Rattle.std.proofs.Common.{◌∙◌, ap, sym, subst}
 use Rattle.lock_free.specs.Loading.{IsSound}
-use Rattle.lock_free.specs.Reclaiming.{HasReclaimed, is_ripe}
-use Rattle.lock_free.proofs.GiveUpStep.{epoch_inside}
+use Rattle.lock_free.specs.Places.{count_word}
+use Rattle.lock_free.proofs.CountSteps.{count_in, count_is}
+use Rattle.lock_free.proofs.LinkSteps.{retired_word}
 use Rattle.lock_free.proofs.ReclaimStep.{reclaim_allowed}
 use Rattle.lock_free.proofs.reclaiming.reclaim.Goals as goal
 
-first_of : (x : Retired) (rest : List Retired) (y : Retired) (others : List Retired) → x ∷ rest ≡ y ∷ others → x ≡ y
-first_of x rest y others e = cc e
-
-pub load-epoch-requires : goal.load-epoch-requires
-load-epoch-requires c =
+pub load-requires : goal.load-requires
+load-requires c =
     let me = c.args.actor.now.me in
-    let oldest = c.requires.oldest in (
+    let is = count_is me.0 c.args.sizes.now c.requires.sizes c.args.class c.args.slot c.count_word.result c.requires.class c.requires.slot c.count_word.ensures in
+    let (x, there, class, name, late) = c.requires.ripe in (
       c.requires.table,
-      epoch_inside c.args.words.now.table_id.words me.0 c.requires.sound,
+      count_in c.args.words.now.table_id.words me.0 c.requires.sound c.count_word.result is,
       reclaim_allowed c.args.words.now.key c.args.words.now.table_id.slots c.args.actor.now.id me c.requires.sound.bounds.1 (subst (λ n. IsSound n me.0) c.requires.sound.size c.requires.sound)
-          oldest.0 oldest.1 oldest.2,
+          x there late c.count_word.result (sym (retired_word me.0 c.args.sizes.now c.requires.sizes x c.args.class c.args.slot class name c.count_word.result c.count_word.ensures)),
     )
 
 pub returns-clause-sound : goal.returns-clause-sound
-returns-clause-sound c = subst (λ n. IsSound n c.load-epoch.new.seat.me.0) (sym c.requires.sound.size) c.load-epoch.ensures.2.1
+returns-clause-sound c = subst (λ n. IsSound n c.load.new.seat.me.0) (sym c.requires.sound.size) c.load.ensures.2.1
 
 pub returns-clause-reclaimed : goal.returns-clause-reclaimed
-returns-clause-reclaimed c x rest its =
-    let oldest = c.requires.oldest in
-    let same : oldest.0 ≡ x = first_of oldest.0 oldest.1 x rest (sym oldest.2 ∙ its) in
-    let stamp = sym oldest.3 ∙ ap (λ (y : Retired). y.stamp) same in
-    subst (λ b. HasReclaimed c.args.actor.now.me.0 x rest b c.load-epoch.new.seat.me.0) (sym (c.is_ripe.ensures ∙ ap (is_ripe c.load-epoch.result) stamp)) (c.load-epoch.ensures.2.0 x rest its)
+returns-clause-reclaimed c =
+    c.load.ensures.2.0 c.args.class c.args.slot c.requires.ripe (c.count_word.ensures ∙ ap (λ z. count_word z c.args.class c.args.slot) (sym c.requires.sizes))

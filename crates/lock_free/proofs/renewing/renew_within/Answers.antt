@@ -71,7 +71,7 @@ swap_made_within-requires-clause-swapping c =
     renew_swap c.args.words.now.table_id.words c.args.actor.now.me.0 c.requires.sound c.args.indirection c.args.link c.args.bitmap c.requires.at
     c.see_entries-entries.new.actor.me.0 c.see_entries-entries.ensures.sound (count_ones c.args.bitmap) c.see_entries-entries.result.items refl c.see_entries-entries.ensures.seen
     c.renew_entries_within.new.actor.me.0 c.renew_entries_within.result c.renew_entries_within.ensures.renewed c.in-Some.renewed c.in-Some.is
-    c.make_branch.new.actor.me.0 c.make_branch.result c.make_branch.ensures.made c.in-Some-make_branch.fresh c.in-Some-make_branch.is
+    c.make_branch.new.actor.me.0 c.make_branch.result c.make_branch.ensures.made c.in-Some-make_branch.fresh c.in-Some-make_branch.is c.class_of-class.result c.class_of-class.ensures
 
 pub returns-in-Ok-clause-renewed : goal.returns-in-Ok-clause-renewed
 returns-in-Ok-clause-renewed c =

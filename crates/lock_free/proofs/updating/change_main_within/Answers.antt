@@ -21,7 +21,7 @@ pub swap_made_within-requires-clause-swapping : goal.swap_made_within-requires-c
 swap_made_within-requires-clause-swapping c =
     change_ready c.args.words.now.table_id.words c.args.actor.now.me.0 c.build_main.new.actor.me.0 c.requires.sound c.args.indirection c.args.given c.args.flag c.args.change c.requires.at
     c.in-Some.fresh
-    (subst (λ r. HasBuilt c.args.actor.now.me.0 r c.build_main.new.actor.me.0) c.in-Some.is c.build_main.ensures.built)
+    (subst (λ r. HasBuilt c.args.actor.now.me.0 r c.build_main.new.actor.me.0) c.in-Some.is c.build_main.ensures.built) c.class_of.result c.class_of.ensures
 
 pub returns-in-Ok-clause-changed : goal.returns-in-Ok-clause-changed
 returns-in-Ok-clause-changed c =

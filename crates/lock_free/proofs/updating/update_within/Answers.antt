@@ -15,7 +15,8 @@ swap_made_within-requires-clause-way c =
 pub swap_made_within-requires-clause-swapping : goal.swap_made_within-requires-clause-swapping
 swap_made_within-requires-clause-swapping c =
     swap_ready c.args.actor.now.me.0 c.build.new.actor.me.0 c.args.by c.args.given c.args.site c.args.former c.args.indirection c.requires.at c.in-Some.fresh
-    (subst (λ r. HasBuiltSingle c.args.actor.now.me.0 c.args.site c.args.former r c.build.new.actor.me.0) c.in-Some.is c.build.ensures.built)
+    (subst (λ r. HasBuiltSingle c.args.actor.now.me.0 c.args.site c.args.former r c.build.new.actor.me.0) c.in-Some.is c.build.ensures.built) c.args.words.now.table_id.words c.requires.sound
+    c.class_of.result c.class_of.ensures
 
 pub returns-in-Ok-clause-updated : goal.returns-in-Ok-clause-updated
 returns-in-Ok-clause-updated c =

@@ -1,0 +1,28 @@
+use Rattle.std.proofs.Common.{ap}
+use Rattle.lock_free.proofs.LetGo.{knowing_is, knowing_limbo, knowing_reclaimed, more_reclaimed, turned_limbo}
+use Rattle.lock_free.proofs.limbo.reclaim_some.Goals as goal
+
+pub returns-then-is_none-clause-limbo : goal.returns-then-is_none-clause-limbo
+returns-then-is_none-clause-limbo c = turned_limbo c.args.limbo.now c.args.actor.now.me.0 c.requires.limbo c.turn.new.self c.turn.ensures.turned
+
+pub free_some-requires-clause-limbo : goal.free_some-requires-clause-limbo
+free_some-requires-clause-limbo c =
+    let v = c.args.actor.now.me.0 in
+    let w = c.see_epoch-epoch.new.actor.me.0 in
+    knowing_limbo c.turn.new.self v w (knowing_is v w c.see_epoch-epoch.result (ap (λ (me : _). me.0) c.see_epoch-epoch.ensures.seen.1))
+    (turned_limbo c.args.limbo.now v c.requires.limbo c.turn.new.self c.turn.ensures.turned)
+
+pub returns-then-is_ripe-clause-reclaimed : goal.returns-then-is_ripe-clause-reclaimed
+returns-then-is_ripe-clause-reclaimed c =
+    let v = c.args.actor.now.me.0 in
+    let w = c.see_epoch-epoch.new.actor.me.0 in
+    more_reclaimed v w c.free_some.new.actor.me.0 (knowing_reclaimed v w (knowing_is v w c.see_epoch-epoch.result (ap (λ (me : _). me.0) c.see_epoch-epoch.ensures.seen.1)))
+    c.free_some.ensures.reclaimed
+
+pub returns-clause-limbo : goal.returns-clause-limbo
+returns-clause-limbo c =
+    let v = c.args.actor.now.me.0 in
+    let w = c.see_epoch-epoch.new.actor.me.0 in
+    knowing_limbo c.turn.new.self w c.advance.new.actor.me.0 c.advance.ensures.tried.0.is
+    (knowing_limbo c.turn.new.self v w (knowing_is v w c.see_epoch-epoch.result (ap (λ (me : _). me.0) c.see_epoch-epoch.ensures.seen.1))
+    (turned_limbo c.args.limbo.now v c.requires.limbo c.turn.new.self c.turn.ensures.turned))

@@ -1,0 +1,183 @@
+//! READs of which one pass is mostly enough, and of which no more is told than what is asked for.
+
+ghost use Rattle.std.specs.Prelude.{◌≡◌};
+ghost use Rattle.lock_free.specs.declared.reading.ReadFrom.TheVariants as resume;
+ghost use Rattle.lock_free.specs.LinkReads.{CanGoOn, HasGivenAfter, HasLinkAfter, HasReadGiven, HasReadOut, HasReadTo};
+ghost use Rattle.lock_free.specs.Loading.{IsSound};
+ghost use Rattle.lock_free.specs.Passing.{IsOnWay, IsPassing};
+
+use crate::loads::{Actor, Words, read_header, read_link};
+use crate::reading::{Given, Passed, ReadFrom, Way, pass, put_back, read_on, settle};
+use trie_words::{Link, Previous};
+
+/// What this pass of a READ, or further ones, come to: the link of the decided main node, or none within so many tries.
+#[cold]
+#[inline(never)]
+fn link_after(
+    tries: u64,
+    words: &Words,
+    actor: &mut Actor,
+    way: Way,
+    indirection: u32,
+    passed: Passed,
+) -> Option<Link>
+    requires table { actor.old.table_id ≡ words.now.table_id }
+    requires sound { IsSound words.now.table_id.words actor.old.me.0 }
+    requires next { CanGoOn actor.old.me.0 way indirection passed }
+    ensures table { actor.new.table_id ≡ actor.old.table_id }
+    ensures sound { IsSound words.now.table_id.words actor.new.me.0 }
+    ensures link { HasLinkAfter actor.old.me.0 passed result actor.new.me.0 }
+{
+    match passed {
+        Passed::Gives(given) => Some(given.link),
+        Passed::Again(from) => {
+            match read_on(tries, words, actor, way, indirection, from) {
+                Passed::Gives(given) => Some(given.link),
+                Passed::Again(_) => None,
+            }
+        }
+    }
+}
+
+/// A READ from its first line on, where one look at the main node is mostly enough: the link of the decided main node, or none where it gives
+/// nothing within so many tries.
+#[inline(always)]
+pub fn read_link_within(
+    tries: u64,
+    words: &Words,
+    actor: &mut Actor,
+    way: Way,
+    indirection: u32,
+) -> Option<Link>
+    requires table { actor.old.table_id ≡ words.now.table_id }
+    requires sound { IsSound words.now.table_id.words actor.old.me.0 }
+    requires way { IsOnWay actor.old.me.0 way }
+    requires passing { IsPassing actor.old.me.0 indirection resume.Start }
+    ensures table { actor.new.table_id ≡ actor.old.table_id }
+    ensures sound { IsSound words.now.table_id.words actor.new.me.0 }
+    ensures link { HasReadTo actor.old.me.0 result actor.new.me.0 }
+{
+    let link = read_link(words, actor, indirection);
+    let header = read_header(words, actor, link.main.slot);
+    match header.previous {
+        Previous::None => Some(link),
+        Previous::Failed(former) => {
+            let passed = put_back(words, actor, indirection, link, former);
+            link_after(tries, words, actor, way, indirection, passed)
+        }
+        Previous::Pending(_) => {
+            let passed = settle(tries, words, actor, way, link, header);
+            link_after(tries, words, actor, way, indirection, passed)
+        }
+    }
+}
+
+/// What this pass of a READ, or further ones, come to: what it gives, or none within so many tries.
+#[cold]
+#[inline(never)]
+fn given_after(
+    tries: u64,
+    words: &Words,
+    actor: &mut Actor,
+    way: Way,
+    indirection: u32,
+    passed: Passed,
+) -> Option<Given>
+    requires table { actor.old.table_id ≡ words.now.table_id }
+    requires sound { IsSound words.now.table_id.words actor.old.me.0 }
+    requires next { CanGoOn actor.old.me.0 way indirection passed }
+    ensures table { actor.new.table_id ≡ actor.old.table_id }
+    ensures sound { IsSound words.now.table_id.words actor.new.me.0 }
+    ensures given { HasGivenAfter actor.old.me.0 passed result actor.new.me.0 }
+{
+    match passed {
+        Passed::Gives(given) => Some(given),
+        Passed::Again(from) => {
+            match read_on(tries, words, actor, way, indirection, from) {
+                Passed::Gives(given) => Some(given),
+                Passed::Again(_) => None,
+            }
+        }
+    }
+}
+
+/// The same as `read_link_within`, of which the header is told too.
+#[inline(always)]
+pub fn read_within(
+    tries: u64,
+    words: &Words,
+    actor: &mut Actor,
+    way: Way,
+    indirection: u32,
+) -> Option<Given>
+    requires table { actor.old.table_id ≡ words.now.table_id }
+    requires sound { IsSound words.now.table_id.words actor.old.me.0 }
+    requires way { IsOnWay actor.old.me.0 way }
+    requires passing { IsPassing actor.old.me.0 indirection resume.Start }
+    ensures table { actor.new.table_id ≡ actor.old.table_id }
+    ensures sound { IsSound words.now.table_id.words actor.new.me.0 }
+    ensures given { HasReadGiven actor.old.me.0 result actor.new.me.0 }
+{
+    let link = read_link(words, actor, indirection);
+    let header = read_header(words, actor, link.main.slot);
+    match header.previous {
+        Previous::None => Some(Given { link, header }),
+        Previous::Failed(former) => {
+            let passed = put_back(words, actor, indirection, link, former);
+            given_after(tries, words, actor, way, indirection, passed)
+        }
+        Previous::Pending(_) => {
+            let passed = settle(tries, words, actor, way, link, header);
+            given_after(tries, words, actor, way, indirection, passed)
+        }
+    }
+}
+
+/// As `read_on`, of which it isn't told what it gives: none, or from where it goes on.
+#[cold]
+#[inline(never)]
+fn end_on(
+    tries: u64,
+    words: &Words,
+    actor: &mut Actor,
+    way: Way,
+    indirection: u32,
+    from: ReadFrom,
+) -> Option<ReadFrom>
+    requires table { actor.old.table_id ≡ words.now.table_id }
+    requires sound { IsSound words.now.table_id.words actor.old.me.0 }
+    requires way { IsOnWay actor.old.me.0 way }
+    requires passing { IsPassing actor.old.me.0 indirection from }
+    ensures table { actor.new.table_id ≡ actor.old.table_id }
+    ensures sound { IsSound words.now.table_id.words actor.new.me.0 }
+    ensures ended { HasReadOut actor.old.me.0 result actor.new.me.0 }
+{
+    match read_on(tries, words, actor, way, indirection, from) {
+        Passed::Gives(_) => None,
+        Passed::Again(next) => Some(next),
+    }
+}
+
+/// The same, where one pass is mostly enough.
+#[inline(always)]
+pub fn end_read_within(
+    tries: u64,
+    words: &Words,
+    actor: &mut Actor,
+    way: Way,
+    indirection: u32,
+    from: ReadFrom,
+) -> Option<ReadFrom>
+    requires table { actor.old.table_id ≡ words.now.table_id }
+    requires sound { IsSound words.now.table_id.words actor.old.me.0 }
+    requires way { IsOnWay actor.old.me.0 way }
+    requires passing { IsPassing actor.old.me.0 indirection from }
+    ensures table { actor.new.table_id ≡ actor.old.table_id }
+    ensures sound { IsSound words.now.table_id.words actor.new.me.0 }
+    ensures ended { HasReadOut actor.old.me.0 result actor.new.me.0 }
+{
+    match pass(tries, words, actor, way, indirection, from) {
+        Passed::Gives(_) => None,
+        Passed::Again(next) => end_on(tries, words, actor, way, indirection, next),
+    }
+}
