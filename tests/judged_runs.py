@@ -1,4 +1,4 @@
-"""What tests/threads and tests/turns share: histories of threads are judged."""
+"""What tests/threads, tests/turns and tests/held share: histories of threads are judged."""
 import os
 import subprocess
 import sys
@@ -14,11 +14,18 @@ from orders import Spent
 HASHES = ["low", "fold", "wide", "block"]
 # How many steps a search for an order takes before the history is left out.
 STEPS = 300_000
+# A run that takes so many seconds hangs: it should take one or two.
+MOST_SECONDS = 600
 
 
 def ran(program, *words, **environment):
-    words = [str(word) for word in words]
-    return subprocess.run([program, *words], env={**os.environ, **environment}, stdin=subprocess.DEVNULL, capture_output=True, text=True)
+    words, more = [str(word) for word in words], {**os.environ, **environment}
+    try:
+        return subprocess.run(
+            [program, *words], env=more, stdin=subprocess.DEVNULL, capture_output=True, text=True, timeout=MOST_SECONDS
+        )
+    except subprocess.TimeoutExpired:
+        sys.exit(f"{program} {words} {environment} doesn't end")
 
 
 def judged(told, folder):
@@ -48,6 +55,8 @@ class Tally:
         verdict = judged(told, self.folder)
         if verdict is None:
             self.unknown += 1
+        elif "no-slots" in told.stdout:
+            self.wrong.append(f"{what}: slots were lacking, of which there are enough\n{told.stdout}")
         elif verdict == "legal":
             self.legal += 1
             lines = [line.split(" ") for line in told.stdout.splitlines()]

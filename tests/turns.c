@@ -2,14 +2,15 @@
    preceded by a call of turn(), and in the place of the C library's functions for threads (-Wl,--wrap). Whose turn is next is drawn at random from
    the number TURNS_SEED: at each access the turn goes on to another thread with a probability that the seed decides, from one half to one in 256, so
    in some runs a thread is held in the midst of a call while others make many. So a run is the same each time, and its accesses are in one order.
-   Where TURNS_COUNT names a file, the number of accesses is written there when the program ends. */
+   Where TURNS_COUNT names a file, the number of accesses is written there when the program ends. One that has no end after a hundred million is
+   told of, and its status is 9. */
 #define _GNU_SOURCE
 #include <stdint.h>
 #include <stdio.h>
 #include <stdlib.h>
 #include <ucontext.h>
 
-enum { MOST = 64, STACK = 1 << 20 };
+enum { MOST = 64, STACK = 1 << 20, MOST_ACCESSES = 100000000 };
 
 struct thread {
     ucontext_t state;
@@ -57,10 +58,15 @@ static void pass(void) {
     swapcontext(&threads[from].state, &threads[now].state);
 }
 
+void __real__exit(int status);
+
 /* Before each atomic access. */
 void turn(void) {
     if (!drawn) begin();
-    accesses++;
+    if (++accesses > MOST_ACCESSES) {
+        fprintf(stderr, "turns: a hundred million accesses, and no end\n");
+        __real__exit(9);
+    }
     if (count > 1 && draw() % stay == 0) pass();
 }
 
@@ -105,8 +111,6 @@ int __wrap_sched_yield(void) {
     pass();
     return 0;
 }
-
-void __real__exit(int status);
 
 void __wrap__exit(int status) {
     tell();
