@@ -89,9 +89,11 @@ module _ (v : View) (task : Task) (t : IsTask v task) (slots : List ℕ) (some :
 
     pub gave : (w : View) (result : Option Swapped) → HasUpdated v former result w → HasAttempted v (attempted result task.call former) w
     gave w None h = (updated_runs_on v w former None h, updated_full v w former at.on.0 at.on.1 h)
-    gave w (Some (Commits had)) h =
-        (updated_runs_on v w former (Some (Commits had)) h, subst (λ call. IsOn w (line.End (changed_reply call former))) (t.calls at.on.0 at.on.1).0
-        (updated_commits v w former at.on.0 at.on.1 had h))
+    gave w (Some (Commits had)) h = (
+      updated_runs_on v w former (Some (Commits had)) h,
+      subst (λ call. IsOn w (line.End (changed_reply call former))) (t.calls at.on.0 at.on.1).0
+          (updated_commits v w former at.on.0 at.on.1 had h),
+    )
     gave w (Some Fails) h = (updated_runs_on v w former (Some Fails) h, updated_fails v w former at.on.0 at.on.1 h)
     gave w (Some Misses) h = (updated_runs_on v w former (Some Misses) h, updated_misses v w former at.on.0 at.on.1 h)
 

@@ -62,8 +62,13 @@ module _ (n : ℕ) (v : View) (name : ℕ) (link : Link) (class fresh : ℕ) (at
 
   module _ (sound : IsSound n v) (w : View) (then : IsSound n w) (stood : Bool) (g : HasPublished v stood w) (e : stood ≡ true) where
     abbrev begun : Swapping
-    begun = record { indirection = name; from = resume.Header (record { generation = link.generation; main = record { slot = fresh; own = true } }); fresh = fresh; replaced = link.main;
-        class = class }
+    begun = record {
+      indirection = name;
+      from = resume.Header (record { generation = link.generation; main = record { slot = fresh; own = true } });
+      fresh = fresh;
+      replaced = link.main;
+      class = class;
+    }
 
     abbrev on_line : Operation → Operation
     on_line o = swap_on why i a f (swap.Deciding (read.Prev f)) o
@@ -89,8 +94,13 @@ module _ (n : ℕ) (v : View) (name : ℕ) (link : Link) (class fresh : ℕ) (at
       class = class_on v w (follows_later v w later) a at.6.main_used ∙ at.8;
     }
 
-    pub begun_left : IsSwapLeft w (record { indirection = name; from = resume.Header (record { generation = link.generation; main = record { slot = fresh; own = true } }); fresh = fresh;
-        replaced = link.main; class = class })
+    pub begun_left : IsSwapLeft w (record {
+      indirection = name;
+      from = resume.Header (record { generation = link.generation; main = record { slot = fresh; own = true } });
+      fresh = fresh;
+      replaced = link.main;
+      class = class;
+    })
     begun_left = record { why = why; i = i; replaced = a; made = f; its = begun_of }
 
     runs_w : RunsOn v w
