@@ -11,7 +11,7 @@
 //! calls were refused, and how many of two sums are wrong: the keys, and the values, that came and didn't go by what the threads were told
 //! are those that are found in the end, outside that time.
 //!
-//! No slot of a node that others could meet is used again, so a map wants slots for all changes of its life.
+//! Slots of singles aren't used again, so a map wants slots for all changes of its life.
 //!
 //! The exit status is 1 where the words are none of these, and 2 where memory or a map of these sizes isn't had. Without words few calls of
 //! each load are made, and nothing is written that hangs on time or schedule.

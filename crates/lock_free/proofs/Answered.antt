@@ -56,14 +56,14 @@ begun_talk actor id call opens history =
 
 -- ---- from the begin to the end
 
-module _ (words : ℕ) (before : View) (call : Call) (sound : IsSound words before) (account : Account) (pool : Pool) (drafts : List (ℕ × ℕ)) (opening : Option ℕ) (retired : List Retired)
-    (begun : Account)
+module _ (words : ℕ) (before : View) (call : Call) (sound : IsSound words before) (account : Account) (epoch passed : ℕ) (pool : Pool) (drafts : List (ℕ × ℕ)) (opening : Option ℕ)
+    (retired : List Retired) (links : List (ℕ × ℕ)) (begun : Account)
     (waited : HasWaited before.actor before.account begun) (bounds_begun : AreBounds (bounds_for before.sizes begun.steps)) where
   abbrev started : View
   started = once_begun before call begun
 
   abbrev late : View
-  late = record started { account = account; pool = pool; drafts = drafts; opening = opening; retired = retired }
+  late = record started { account = account; epoch = epoch; passed = passed; pool = pool; drafts = drafts; opening = opening; retired = retired; links = links }
 
   abbrev first : Operation
   first = first_operation before begun call
@@ -166,8 +166,27 @@ module _ (words : ℕ) (before begun late after : View) (call : Call) (found : _
   begun_is : begun ≡ once_begun before call b.account
   begun_is = b.after_is
 
-  late_is : late ≡ record (once_begun before call b.account) { account = late.account; pool = late.pool; drafts = late.drafts; opening = late.opening; retired = late.retired }
-  late_is = on.still.is ∙ ap (λ (x : View). record x { account = late.account; pool = late.pool; drafts = late.drafts; opening = late.opening; retired = late.retired }) b.after_is
+  late_is : late ≡ record (once_begun before call b.account) {
+    account = late.account;
+    epoch = late.epoch;
+    passed = late.passed;
+    pool = late.pool;
+    drafts = late.drafts;
+    opening = late.opening;
+    retired = late.retired;
+    links = late.links;
+  }
+  late_is = on.still.is ∙ ap (λ (x : View). record x {
+    account = late.account;
+    epoch = late.epoch;
+    passed = late.passed;
+    pool = late.pool;
+    drafts = late.drafts;
+    opening = late.opening;
+    retired =
+        late.retired;
+    links = late.links;
+  }) b.after_is
 
   abbrev first_one : Operation
   first_one = first_operation before b.account call
@@ -177,7 +196,7 @@ module _ (words : ℕ) (before begun late after : View) (call : Call) (found : _
 
   pub begun_answered : HasAnswered before call before.opens answer after
   begun_answered =
-      answered_so words before call sound late.account late.pool late.drafts late.opening late.retired b.account b.waited.waited b.waited.sound.bounds
+      answered_so words before call sound late.account late.epoch late.passed late.pool late.drafts late.opening late.retired late.links b.account b.waited.waited b.waited.sound.bounds
       (subst (λ (x : View). running x.sizes x.account x.actor first_one) begun_is b.runs)
       (subst (λ (x : View). history_of x.sizes x.account ≡ history_of before.sizes b.account ++ event.Begin first_one.id before.actor call before.opens ∷ []) begun_is b.told)
       (subst (λ (x : View). AreBounds (bounds_for x.sizes x.account.steps)) begun_is then.bounds)

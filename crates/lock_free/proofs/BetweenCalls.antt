@@ -2,12 +2,14 @@
 use Rattle.std.proofs.Common.{◌≡◌, ◌≤◌, ℕ, [], None, map, refl, sym, ap, subst, ◌∙◌}
 use Rattle.atomic_table.specs.Seated.{TableId}
 use Rattle.lock_free.specs.declared.rules.View.{View}
+use Rattle.lock_free.specs.Limbos.{Hanging, hanging_of}
 use Rattle.lock_free.specs.Loading.{IsSound, Saw}
 use Rattle.lock_free.specs.Seated.{HasGoneOn, IsResting, IsSeated}
 use Rattle.lock_free.specs.SeatWords.{IsIdle}
 use Rattle.lock_free.specs.Stocks.{made_of, own_nodes, own_of, IsStock, Stocked}
 use Rattle.lock_free.specs.WholeCalls.{HasLeft, RestsWith, SameSeat}
 use Rattle.lock_free.proofs.Followings.{goes_both, goes_self}
+use Rattle.lock_free.proofs.LimboStays.{limbo_stays}
 
 -- ---- the same seat
 
@@ -37,11 +39,12 @@ resting v r = record { idle = r.idle; pin = r.pin; entered = r.entered; opens = 
 pub none_own : (v : View) → IsIdle v → own_nodes v ≡ []
 none_own v idle = ap own_of idle
 
-pub idle_stock : (stock : Stocked) (v w : View) → IsIdle v → IsIdle w → w.sizes ≡ v.sizes → w.pool ≡ v.pool → IsStock stock v → IsStock stock w
-idle_stock stock v w idle then sizes pool is = record {
-  sizes = is.sizes ∙ sym sizes;
+pub idle_stock : (stock : Stocked) (v w : View) → IsIdle v → IsIdle w → hanging_of w ≡ hanging_of v → w.pool ≡ v.pool → IsStock stock v → IsStock stock w
+idle_stock stock v w idle then hangs pool is = record {
+  sizes = is.sizes ∙ ap (λ (z : Hanging). z.0) (sym hangs);
   pool = is.pool ∙ sym pool;
   made = is.made ∙ ap (map (made_of v)) (none_own v idle) ∙ ap (map (made_of w)) (sym (none_own w then));
+  limbo = limbo_stays stock.limbo v w hangs is.limbo;
 }
 
 -- so it is a seat after its call

@@ -17,6 +17,8 @@ use Rattle.lock_free.specs.RunningOn.{RunsOn}
 use Rattle.lock_free.specs.SeatWords.{left_by, pinned_for, unpinned, HasEnded, IsIdle}
 use Rattle.lock_free.specs.Stocks.{made_of, own_of, IsStock, Stocked}
 use Rattle.lock_free.specs.WholeCalls.{RestsWith, SameSeat}
+use Rattle.lock_free.specs.Limbos.{hanging_of}
+use Rattle.lock_free.proofs.LimboStays.{limbo_so}
 use Rattle.lock_free.proofs.Answered.{calls_are_answered}
 use Rattle.lock_free.proofs.BetweenCalls.{idle_stock, none_own, same_seats}
 use Rattle.lock_free.proofs.Followings.{goes_both}
@@ -86,6 +88,7 @@ module _ (v : View) (opens : Option ℕ) (rests : RestsWith v opens) (call : Cal
     sizes = is.sizes ∙ ap (λ (z : View). z.sizes) (sym b.after_is);
     pool = is.pool ∙ ap (λ (z : View). z.pool) (sym b.after_is);
     made = is.made ∙ ap (map (made_of v)) (none_own v rests.idle) ∙ ap (map (made_of u)) (sym (ap own_of b.runs));
+    limbo = limbo_so stock stock v u is refl (ap hanging_of b.after_is);
   }
 
   -- and ends
@@ -123,7 +126,7 @@ module _ (v : View) (opens : Option ℕ) (rests : RestsWith v opens) (call : Cal
 
   pub unpinned_stock : (stock : Stocked) → IsStock stock v → IsStock stock x
   unpinned_stock stock owns =
-      idle_stock stock v x rests.idle unpinned_rests.idle unpinned_same.sizes (ap (λ (z : View). z.pool) is ∙ ap (λ (z : View). z.pool) saw.after_is) owns
+      idle_stock stock v x rests.idle unpinned_rests.idle (ap hanging_of is ∙ ap hanging_of saw.after_is) (ap (λ (z : View). z.pool) is ∙ ap (λ (z : View). z.pool) saw.after_is) owns
 
 -- ---- it was denied
 

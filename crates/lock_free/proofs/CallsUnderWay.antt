@@ -35,6 +35,7 @@ use Rattle.lock_free.proofs.CallsRunOn.{at_end}
 use Rattle.lock_free.proofs.KeyTries.{called_on}
 use Rattle.lock_free.proofs.WholeCalls.{begun_called}
 use Rattle.lock_free.proofs.RunningOn.{runs_on_both}
+use Rattle.lock_free.proofs.Tidied.{answered_tidied, rests_tidied, same_tidied}
 
 -- ---- what is told of a reply
 
@@ -78,12 +79,12 @@ under_way_on before c opens v w under on late x answer more at ended = under lat
 
 module _ (before : View) (c : Call) (opens : Option ℕ) (v w : View) (under : IsUnderWay before c opens v) (on : RunsOn v w) (access : Access) where
   pub run_out : (result : Ran) (x : View) → HasComeOut w access result x → HasRunBy before c opens result x
-  run_out (ran.Told told) x (answer, lack, lacks, is, e) = record {
+  run_out (ran.Told told) x (answer, lack, lacks, is, ended, e, tidied) = record {
     answer = answer;
     lack = lack;
     lacks = lacks;
     is = is;
-    its = under e.late x answer (runs_on_both v w e.late on e.on) (at_end e.late answer e.ends) e.ended;
+    its = answered_tidied ended x tidied before c opens answer (under e.late ended answer (runs_on_both v w e.late on e.on) (at_end e.late answer e.ends) e.ended);
   }
   run_out (ran.UnderWay same parked) x (is, still, its) = subst (IsUnderWay before c opens) (sym still) (under_way_on before c opens v w under on)
 
@@ -97,12 +98,13 @@ parked_runs v (parked.Copies s opens) its = (its.is.at.0, its.is.at.1)
 -- its seat
 module _ (c : Call) (access : Access) (v : View) (o : Operation) (runs : Runs v o) (called : IsCalled v c access) (opens : Option ℕ) (number : v.opens ≡ opens) (w : View) (on : RunsOn v w) where
   pub left_told : ((n : ℕ) → opens ≡ Some n → copies c ≡ true) → (told : Result Reply CallError) (x : View) → HasFinished w told x → SameSeat v x × RestsWith x (number_left opens told)
-  left_told copier told x (answer, lack, lacks, is, e) =
+  left_told copier told x (answer, lack, lacks, is, ended, e, tidied) =
       let r = runs_on_both v w e.late on e.on in
       let its : IsCalled e.late c access = called_on v e.late o runs r c access called in (
-        same_seats v e.late x (call.same_run v e.late r) (call.same_ended e.late x answer e.ended),
-        subst (RestsWith x) (left_number e.late x answer c access its e.ended lack opens copier e.ends ∙ ap (number_left opens) (sym is))
-            (call.rests_ended e.late x answer opens (call.opens_run v e.late r ∙ number) e.ended),
+        same_tidied ended x tidied v (same_seats v e.late ended (call.same_run v e.late r) (call.same_ended e.late ended answer e.ended)),
+        rests_tidied ended x tidied (number_left opens told)
+            (subst (RestsWith ended) (left_number e.late ended answer c access its e.ended lack opens copier e.ends ∙ ap (number_left opens) (sym is))
+            (call.rests_ended e.late ended answer opens (call.opens_run v e.late r ∙ number) e.ended)),
       )
 
   module _ (is : IsNumber c o opens) where

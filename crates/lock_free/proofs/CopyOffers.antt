@@ -146,3 +146,11 @@ module _ (u : View) (k : CopyKind) (handle : ℕ) (opens : Option ℕ) (c : IsCo
     unnamed_so none =
         subst (HasPrepared u k opens handle root_name slot) (sym drafts_are)
         (prepared b.pool d.drafts a.opening slot free.last.0 free.last.1 drafted.first drafted.olds drafted.news (λ number e. absurd (none-some number (sym none ∙ e))))
+
+-- ---- what is not of the seat's stock
+
+pub drafted_only : (v w : View) → w ≡ record v { drafts = w.drafts } → w ≡ record v { drafts = w.drafts; opens = w.opens; opening = w.opening }
+drafted_only v w is = is ∙ ap (λ (x : View). record v { drafts = w.drafts; opens = x.opens; opening = x.opening }) (sym is)
+
+pub named_only : (v w : View) (slot : ℕ) → w ≡ naming v slot → w ≡ record v { drafts = w.drafts; opens = w.opens; opening = w.opening }
+named_only v w slot is = is ∙ ap (λ (x : View). record v { drafts = x.drafts; opens = x.opens; opening = x.opening }) (sym is)

@@ -33,6 +33,8 @@ use Rattle.lock_free.specs.Roots.{IsItsTry}
 use Rattle.lock_free.specs.Rules.{pool_of}
 use Rattle.lock_free.specs.RunningOn.{IsStill}
 use Rattle.lock_free.specs.Stocks.{Stocked, IsStock, NotesLast, made_of, own_nodes, own_of, put_back}
+use Rattle.lock_free.specs.Limbos.{hanging_of}
+use Rattle.lock_free.proofs.LimboStays.{limbo_so}
 use Rattle.lock_free.proofs.Comings.{runs_one, saw_runs}
 use Rattle.lock_free.proofs.CopyRoots.{given_so}
 use Rattle.lock_free.proofs.Followings.{follows_later, goes_both}
@@ -162,7 +164,8 @@ module _ (n : ℕ) (u : View) (sound : IsSound n u) (k : CopyKind) (handle : ℕ
       none_own = ap own_of (took_so o at.1.1).1
 
     -- by its step the seat stays what it was
-    still_step : (x : View) (account : Account) → Waited w account → (y : View) → x ≡ record w { account = y.account; pool = y.pool; drafts = y.drafts; opening = y.opening; retired = y.retired } →
+    still_step : (x : View) (account : Account) → Waited w account → (y : View) →
+        x ≡ record w { account = y.account; epoch = y.epoch; passed = y.passed; pool = y.pool; drafts = y.drafts; opening = y.opening; retired = y.retired; links = y.links } →
         y.account.steps ≡ account.steps ++ step.Go w.actor ∷ [] → IsStill u x
     still_step x account waited y is more =
         still_both u w x still_w
@@ -186,12 +189,14 @@ module _ (n : ℕ) (u : View) (sound : IsSound n u) (k : CopyKind) (handle : ℕ
         comes = took_so x false account missed.1;
       }
 
-      pub missed_stock : (stock next : Stocked) → IsStock stock w → next.sizes ≡ stock.sizes → next.pool ≡ put_back stock.made stock.pool → next.made ≡ [] → IsStock next x
-      missed_stock stock next is sizes pool none = record {
+      pub missed_stock : (stock next : Stocked) → IsStock stock w → next.sizes ≡ stock.sizes → next.pool ≡ put_back stock.made stock.pool → next.made ≡ [] →
+          next.limbo ≡ stock.limbo → IsStock next x
+      missed_stock stock next is sizes pool none limbo = record {
         sizes = sizes ∙ is.sizes ∙ ap (λ (z : View). z.sizes) (sym given_back_so);
         pool = pool ∙ ap (put_back stock.made) is.pool ∙ ap (λ ms. put_back ms w.pool) (is.made ∙ ap (λ z. map (made_of w) (own_of z)) mine.runs.1 ∙ sym same)
             ∙ back_is w account mine.private w.pool ∙ ap (λ (z : View). z.pool) (sym given_back_so);
         made = none ∙ ap (map (made_of x)) (sym (none_own x false account missed.1));
+        limbo = limbo_so stock next w x is limbo (ap hanging_of given_back_so);
       }
         where
           same : map (made_of (seen w account)) mine.private ≡ map (made_of w) mine.private
@@ -275,19 +280,20 @@ module _ (n : ℕ) (u : View) (sound : IsSound n u) (k : CopyKind) (handle : ℕ
           (ap (λ (z : Operation). z.access) same ∙ it.0, ap (λ (z : Operation). handle_of z.call) same ∙ it.1)
 
       stock_then : (stock noted next : Stocked) → IsStock stock w → noted.sizes ≡ stock.sizes → NotesLast stock 1 noted → next.sizes ≡ noted.sizes → next.pool ≡ noted.pool → next.made ≡ [] →
-          IsStock next x
-      stock_then stock noted next is sizes notes sizes_next pool none = record {
+          next.limbo ≡ stock.limbo → IsStock next x
+      stock_then stock noted next is sizes notes sizes_next pool none limbo = record {
         sizes = sizes_next ∙ sizes ∙ is.sizes ∙ ap (λ (z : View). z.sizes) (sym stood_so);
         pool = pool ∙ (notes rest slot (ap (λ z. pool_of z 1) is.pool ∙ ready.offers.3.last)).0 ∙ ap (λ z. with_slots z 1 rest) is.pool ∙ ap (λ (z : View). z.pool) (sym stood_so);
         made = none ∙ ap (map (made_of x)) (sym (none_own x true then stands.1));
+        limbo = limbo_so stock next w x is limbo (ap hanging_of stood_so);
       }
 
       -- its COMPLETE is under way
       module _ (sound_x : IsSound n x) (next : Completing) (y : View) (h : HasCopiedOn x handle slot next y) where
         pub left_stock : (stock noted next : Stocked) → IsStock stock w → noted.sizes ≡ stock.sizes → NotesLast stock 1 noted → next.sizes ≡ noted.sizes → next.pool ≡ noted.pool → next.made ≡ [] →
-            IsStock next y
-        left_stock stock noted next is sizes notes sizes_next pool none =
-            stock_moved n x y sound_x (completes o) (completing_it o at.1.1) next (stock_then stock noted next is sizes notes sizes_next pool none) (λ q. on_read q.line h.reads)
+            next.limbo ≡ stock.limbo → IsStock next y
+        left_stock stock noted next is sizes notes sizes_next pool none limbo =
+            stock_moved n x y sound_x (completes o) (completing_it o at.1.1) next (stock_then stock noted next is sizes notes sizes_next pool none limbo) (λ q. on_read q.line h.reads)
             (record { later = h.come.later; comes = h.come.comes })
 
         opens_left : IsToOpenAll y k opens slot
@@ -317,9 +323,9 @@ module _ (n : ℕ) (u : View) (sound : IsSound n u) (k : CopyKind) (handle : ℕ
       -- and is completed
       module _ (sound_x : IsSound n x) (carried : Bool) (y : View) (copied : HasCopied x carried y) where
         pub copied_stock : (stock noted next : Stocked) → IsStock stock w → noted.sizes ≡ stock.sizes → NotesLast stock 1 noted → next.sizes ≡ noted.sizes → next.pool ≡ noted.pool → next.made ≡ [] →
-            IsStock next y
-        copied_stock stock noted next is sizes notes sizes_next pool none =
-            stock_moved n x y sound_x (completes o) (completing_it o at.1.1) next (stock_then stock noted next is sizes notes sizes_next pool none) (copied_line carried) copied
+            next.limbo ≡ stock.limbo → IsStock next y
+        copied_stock stock noted next is sizes notes sizes_next pool none limbo =
+            stock_moved n x y sound_x (completes o) (completing_it o at.1.1) next (stock_then stock noted next is sizes notes sizes_next pool none limbo) (copied_line carried) copied
 
         pub copied_tried : HasTried u carried y
         copied_tried = record {

@@ -28,6 +28,7 @@ use Rattle.lock_free.proofs.CallBegins.{opens_run, same_run}
 use Rattle.lock_free.proofs.CallsRunOn.{at_end, tried_answers, tried_runs_on}
 use Rattle.lock_free.proofs.CallsUnderWay.{left_both, left_told, replied_told, run_out, under_way_on}
 use Rattle.lock_free.proofs.KeyTries.{called_on, left_run, own_left, try_sought}
+use Rattle.lock_free.proofs.LetGo.{none_reclaimed}
 use Rattle.lock_free.proofs.RunningOn.{runs_on_self}
 use Rattle.std.specs.Prelude.{Result}
 use Rattle.lock_free.specs.declared.call_errors.CallError.{CallError}
@@ -53,7 +54,9 @@ module _ (v : View) (on : IsOn v new_try) (slots : List ℕ) (w : View) where
         error.Full,
         tt,
         refl,
+        x,
         record { late = w; on = runs_on_self w; ends = is_on_end; ended = ended (reply.Found value) is_at_end },
+        none_reclaimed x,
       )
 
       abbrev r : RunsOn v w

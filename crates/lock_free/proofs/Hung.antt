@@ -1,5 +1,5 @@
 -- The slot that a seat has just retired hangs in its young chain.
-use Rattle.std.proofs.Common.{◌≡◌, ◌≢◌, ◌<◌, ◌++◌, inl, inr, ℕ, List, [], ◌∷◌, Contains, Some, sym, ap, subst, ◌∙◌}
+use Rattle.std.proofs.Common.{◌≡◌, ◌≢◌, ◌<◌, ◌++◌, inl, inr, ℕ, List, [], ◌∷◌, Contains, Some, sym, ap, subst, ◌∙◌, arith}
 use Rattle.std.proofs.lemmas.List.{map-append}
 use Rattle.std.proofs.lemmas.List.Elements.{Contains-append_left, Contains-append_right, Contains-append_cases, Contains-push}
 use Rattle.lock_free.specs.declared.limbo.Limbo.{Limbo}
@@ -28,7 +28,7 @@ module _ (limbo : Limbo) (v : View) (class name : ℕ) (h : IsNewest limbo v cla
   hung = record v { epoch = epoch; passed = 0; links = with_draft (with_draft v.links word known) word next }
 
   abbrev pub limbo_then : Limbo
-  limbo_then = record { young = record { first = Some name; stamp = epoch }; aged = limbo.aged }
+  limbo_then = record { young = record { first = Some name; stamp = epoch }; aged = limbo.aged; seen = epoch }
 
   abbrev before : View
   before = having_retired v h.rest
@@ -109,6 +109,7 @@ module _ (limbo : Limbo) (v : View) (class name : ℕ) (h : IsNewest limbo v cla
       | inr last ↦ subst (Contains (h.item ∷ others)) (sym (one_there h.item x last)) (first_there h.item others)
     ];
     slots = facts.slots;
+    seen = omega arith;
   }
 
   -- by the accesses

@@ -176,5 +176,6 @@ module _ (w : View) (answer : Reply) (may : MayAnswer w answer) (after : View) (
   pub climb_given_up : HasRunTo w (came.Answered answer) after
   climb_given_up = (runs_on_given_up w after may.0 answer may.1 given, (gave_up may.0 answer, given.runs, refl))
 
-  pub left_owns : (n : ℕ) → IsSound n w → (stock next : Stocked) → IsStock stock w → next.sizes ≡ stock.sizes → next.pool ≡ put_back stock.made stock.pool → next.made ≡ [] → IsStock next after
-  left_owns n sound stock next is sizes pool none = left_stock n w sound may.0 may.1 answer after given stock next is sizes pool none
+  pub left_owns : (n : ℕ) → IsSound n w → (stock next : Stocked) → IsStock stock w → next.sizes ≡ stock.sizes → next.pool ≡ put_back stock.made stock.pool → next.made ≡ [] →
+      next.limbo ≡ stock.limbo → IsStock next after
+  left_owns n sound stock next is sizes pool none limbo = left_stock n w sound may.0 may.1 answer after given stock next is sizes pool none limbo

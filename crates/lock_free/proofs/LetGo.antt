@@ -7,7 +7,7 @@ use Rattle.lock_free.specs.declared.limbo.Limbo.{Limbo}
 use Rattle.lock_free.specs.declared.rules.Retired.{Retired}
 use Rattle.lock_free.specs.declared.rules.View.{View}
 use Rattle.lock_free.specs.declared.sizes.Sizes.{Sizes}
-use Rattle.lock_free.specs.Epochs.{knowing}
+use Rattle.lock_free.specs.Epochs.{knowing, KnowsMore}
 use Rattle.lock_free.specs.Limbos.{linked_by, link_to, names, turned, Hangs, HasReclaimedSome, HasTurned, IsLimbo}
 use Rattle.lock_free.specs.Places.{count_word, IsSlot}
 use Rattle.lock_free.specs.Reclaiming.{HasReclaimed, IsRipe, reclaiming}
@@ -101,7 +101,7 @@ module _ (limbo : Limbo) (v : View) (h : IsLimbo limbo v) (slot : ℕ) (is : lim
   rest_in x c = Contains-append_right h.young rest x c
 
   abbrev limbo_with : Option ℕ → Limbo
-  limbo_with first = record { young = limbo.young; aged = record { first = first; stamp = limbo.aged.stamp } }
+  limbo_with first = record { young = limbo.young; aged = record { first = first; stamp = limbo.aged.stamp }; seen = limbo.seen }
 
   let_go : IsLimbo (limbo_with hangs.1) then
   let_go = record {
@@ -123,6 +123,7 @@ module _ (limbo : Limbo) (v : View) (h : IsLimbo limbo v) (slot : ℕ) (is : lim
           ]
         ]);
     slots = λ x c. h.slots x (left (λ (y : Retired). y.name) item.name v.retired x c).1;
+    seen = h.seen;
   }
 
   back : linked_by (link_to hangs.1) ≡ hangs.1
@@ -176,8 +177,8 @@ more_reclaimed u v w first second = record {
 pub knowing_reclaimed : (u v : View) → v ≡ record u { epoch = v.epoch; passed = v.passed } → HasReclaimedSome u v
 knowing_reclaimed u v is = subst (HasReclaimedSome u) (sym is) (record { is = refl; free = λ b name f. f; each = λ x c. inl c })
 
-pub knowing_limbo : (limbo : Limbo) (u v : View) → v ≡ record u { epoch = v.epoch; passed = v.passed } → IsLimbo limbo u → IsLimbo limbo v
-knowing_limbo limbo u v is h = subst (IsLimbo limbo) (sym is) (record {
+pub knowing_limbo : (limbo : Limbo) (u v : View) → KnowsMore u v → IsLimbo limbo u → (seen : ℕ) → seen ≤ v.epoch → IsLimbo (record limbo { seen = seen }) v
+knowing_limbo limbo u v more h seen low = subst (IsLimbo (record limbo { seen = seen })) (sym more.is) (record {
   young = h.young;
   aged = h.aged;
   is_young = record { hangs = h.is_young.hangs; stamps = h.is_young.stamps };
@@ -186,10 +187,17 @@ knowing_limbo limbo u v is h = subst (IsLimbo limbo) (sym is) (record {
   held = h.held;
   all = h.all;
   slots = h.slots;
+  seen = low;
 })
 
 pub knowing_is : (v x : View) (epoch : ℕ) → x ≡ knowing v epoch → x ≡ record v { epoch = x.epoch; passed = x.passed }
 knowing_is v x epoch is = is ∙ sym (ap (λ (y : View). record v { epoch = y.epoch; passed = y.passed }) is)
+
+pub known_epoch : (v x : View) (epoch : ℕ) → x ≡ knowing v epoch → epoch ≤ x.epoch
+known_epoch v x epoch is = subst (λ n. epoch ≤ n) (sym (ap (λ (y : View). y.epoch) is)) (omega arith)
+
+pub knowing_more : (v x : View) (epoch : ℕ) → x ≡ knowing v epoch → v.epoch ≤ epoch → KnowsMore v x
+knowing_more v x epoch is low = record { is = knowing_is v x epoch is; grows = subst (λ n. v.epoch ≤ n) (sym (ap (λ (y : View). y.epoch) is)) low }
 
 -- ---- the young chain is the aged one
 
@@ -210,6 +218,7 @@ module _ (limbo : Limbo) (v : View) (h : IsLimbo limbo v) where
         held = λ x c. h.held x (Contains-append_left h.young h.aged x c);
         all = λ x c. subst (λ xs. Contains xs x) all_young (h.all x c);
         slots = h.slots;
+        seen = h.seen;
       }
   turned_by (Some slot) is = h
 
@@ -218,7 +227,7 @@ module _ (limbo : Limbo) (v : View) (h : IsLimbo limbo v) where
 
 -- ---- a seat that has retired nothing
 
-pub none_hangs : (v : View) → v.retired ≡ [] → IsLimbo (record { young = record { first = None; stamp = 0 }; aged = record { first = None; stamp = 0 } }) v
+pub none_hangs : (v : View) → v.retired ≡ [] → IsLimbo (record { young = record { first = None; stamp = 0 }; aged = record { first = None; stamp = 0 }; seen = 0 }) v
 none_hangs v is =
     let never : (x : Retired) → Contains v.retired x → ⊥ = λ x c. empty_has x (subst (λ xs. Contains xs x) is c) in
     record {
@@ -230,4 +239,5 @@ none_hangs v is =
       held = λ x c. absurd (empty_has x c);
       all = λ x c. absurd (never x c);
       slots = λ x c. absurd (never x c);
+      seen = omega arith;
     }

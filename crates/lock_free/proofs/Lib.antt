@@ -153,6 +153,7 @@ mod MainLooks
 mod Holding
 mod EntryLooks
 mod EntryMeets
+mod LimboStays
 mod LinkMeets
 mod ReadTurns
 mod RunningOn
@@ -225,6 +226,7 @@ mod GetsWhole
 mod Talks
 mod AnswersTold
 mod KeyValues
+mod Tidied
 mod Timelines
 mod OwnKeys
 mod KeysApart

@@ -31,6 +31,7 @@ use Rattle.lock_free.specs.Nodes.{class_of}
 use Rattle.lock_free.specs.Passing.{Later, IsPlaced}
 use Rattle.lock_free.specs.Stocks.{Stocked, IsStock, own_of, own_nodes, made_of}
 use Rattle.lock_free.specs.Storing.{IsAdded}
+use Rattle.lock_free.proofs.LimboStays.{limbo_so}
 use Rattle.lock_free.proofs.Asked.{in_use_made, live_in_use, line_stands}
 use Rattle.lock_free.proofs.Followings.{follows_later, goes_both, main_node_on}
 use Rattle.lock_free.proofs.GivenBack.{node_is}
@@ -158,12 +159,13 @@ module _ (n : ℕ) (before : View) (sound : IsSound n before) (account : Account
     own_then = ap own_of (comes p.operation (p.operation.is_marked, p.runs)).1
 
     pub stock_made : (stock next : Stocked) → IsStock stock before → next.sizes ≡ stock.sizes → next.pool ≡ with_slots stock.pool class rest → next.made ≡ stock.made ++
-        record { class = class; slot = name } ∷ [] → class ≡ class_of node → IsStock next after
-    stock_made stock next is sizes pool made its_class = record {
+        record { class = class; slot = name } ∷ [] → class ≡ class_of node → next.limbo ≡ stock.limbo → IsStock next after
+    stock_made stock next is sizes pool made its_class limbo = record {
       sizes = sizes ∙ is.sizes;
       pool = pool ∙ ap (λ x. with_slots x class rest) is.pool;
       made = made ∙ ap (λ xs. xs ++ record { class = class; slot = name } ∷ []) olds ∙ ap (λ x. map (made_of after) p.operation.private ++ x ∷ []) (sym new)
           ∙ sym (map-append (made_of after) p.operation.private (added.made ∷ [])) ∙ ap (map (made_of after)) (sym own_then);
+      limbo = limbo_so stock next before after is limbo refl;
     }
       where
         olds : stock.made ≡ map (made_of after) p.operation.private

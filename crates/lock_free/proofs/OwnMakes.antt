@@ -27,6 +27,7 @@ use Rattle.lock_free.specs.SeenEntries.{HasMadeNext}
 use Rattle.lock_free.specs.Stocks.{Stocked, IsStock, NotesLast, HasSlot}
 use Rattle.lock_free.specs.Owning.{IsBuilding, MayOwn}
 use Rattle.lock_free.specs.Storing.{IsOwnWord, drafted, IsAtMake, IsAdded, HasMade}
+use Rattle.lock_free.proofs.LimboStays.{limbo_so}
 use Rattle.lock_free.proofs.EntryLooks.{slot_small}
 use Rattle.lock_free.proofs.NewNodes.{has_new, stock_made}
 use Rattle.lock_free.proofs.Pools.{first_there}
@@ -138,12 +139,13 @@ module _ (before : View) (class name : ℕ) (mid : View) (slot : HasSlot before 
       new_there other q = subst (λ x. HasNew before x name after) (one_node before node other p q) its_new
 
       -- and noted
-      pub stock_there : (stock next : Stocked) → IsStock stock mid → next.sizes ≡ stock.sizes → NotesLast stock class next → IsStock next after
-      stock_there stock next is sizes noted =
+      pub stock_there : (stock next : Stocked) → IsStock stock mid → next.sizes ≡ stock.sizes → NotesLast stock class next →
+          next.limbo ≡ stock.limbo → IsStock next after
+      stock_there stock next is sizes noted limbo =
           let (pool, made_is) = noted slot.last.0 name (ap (λ x. pool_of x class) is.pool ∙ slot.last.1) in
           subst (IsStock next) (sym it.is)
           (stock_made n d sound account made.1 class name slot.last.0 it.own node added_there (act.Make node) (at_there (act.Make node) p) refl took_there stock next
-          (subst (IsStock stock) (sym d_is) (record { sizes = is.sizes; pool = is.pool; made = is.made })) sizes pool made_is its_class)
+          (subst (IsStock stock) (sym d_is) (record { sizes = is.sizes; pool = is.pool; made = is.made; limbo = limbo_so stock stock mid _ is refl refl })) sizes pool made_is its_class limbo)
 
 pub drafted_is : (v : View) (word value : ℕ) (d : View) → d ≡ drafted v word value → d ≡ record v { drafts = d.drafts }
 drafted_is v word value d is = is ∙ ap (λ (x : View). record v { drafts = x.drafts }) (sym is)

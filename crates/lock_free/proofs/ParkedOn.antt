@@ -20,8 +20,10 @@ use Rattle.lock_free.specs.Loading.{now, seen, Runs, Saw}
 use Rattle.lock_free.specs.Parking.{HasRunTo, HasWoundUp, IsBare, IsSwapFor, StillOwns}
 use Rattle.lock_free.specs.Passing.{IsOnWay}
 use Rattle.lock_free.specs.Seeking.{IsCalled}
-use Rattle.lock_free.specs.Stocks.{made_of, own_of}
+use Rattle.lock_free.specs.Stocks.{made_of, own_of, IsStock, Stocked}
 use Rattle.lock_free.specs.Swaps.{is_done, retired_by, swap_done, swapped_by}
+use Rattle.lock_free.specs.Limbos.{Hanging, hanging_of, IsLimbo}
+use Rattle.lock_free.proofs.LimboStays.{limbo_so}
 use Rattle.lock_free.proofs.Comings.{saw_runs}
 use Rattle.lock_free.proofs.Retirings.{retiring_pool, retiring_sizes}
 use Rattle.lock_free.proofs.RunningOn.{runs_on_both}
@@ -35,15 +37,18 @@ way_called v call access called handle is o r = ((called o r).1, ap handle_of (c
 pub is_bare : (v : View) (o : Operation) → Runs v o → o.private ≡ [] → IsBare v
 is_bare v o r none = ap own_of r.1 ∙ none
 
-pub bare_owns : (v w : View) → w.sizes ≡ v.sizes → w.pool ≡ v.pool → IsBare v → IsBare w → StillOwns v w
-bare_owns v w sizes pool none then stock is = record {
-  sizes = is.sizes ∙ sym sizes;
-  pool = is.pool ∙ sym pool;
-  made = is.made ∙ ap (map (made_of v)) none ∙ sym (ap (map (made_of w)) then);
+bare_stock : (v w : View) → w.sizes ≡ v.sizes → w.pool ≡ v.pool → IsBare v → IsBare w → (stock next : Stocked) → IsStock stock v → next ≡ record stock { limbo = next.limbo } → IsLimbo next.limbo w →
+    IsStock next w
+bare_stock v w sizes pool none then stock next is same hangs = record {
+  sizes = ap (λ (s : Stocked). s.sizes) same ∙ is.sizes ∙ sym sizes;
+  pool = ap (λ (s : Stocked). s.pool) same ∙ is.pool ∙ sym pool;
+  made = ap (λ (s : Stocked). s.made) same ∙ is.made ∙ ap (map (made_of v)) none ∙ sym (ap (map (made_of w)) then);
+  limbo = hangs;
 }
 
-pub owns_both : (u v w : View) → StillOwns u v → StillOwns v w → StillOwns u w
-owns_both u v w p q stock is = q stock (p stock is)
+pub bare_owns : (v w : View) → hanging_of w ≡ hanging_of v → w.pool ≡ v.pool → IsBare v → IsBare w → StillOwns v w
+bare_owns v w hangs pool none then stock is =
+    bare_stock v w (ap (λ (z : Hanging). z.0) hangs) pool none then stock stock is refl (limbo_so stock stock v w is refl hangs)
 
 -- ---- its SWAP is under way still
 
@@ -60,9 +65,9 @@ module _ (aims : Purpose → Type 0) (v : View) (s next : Swapping) (w : View) (
     at.1,
   )
 
-  pub still_owns : StillOwns v w
+  pub still_owns : (stock after : Stocked) → IsStock stock v → after ≡ record stock { limbo = after.limbo } → IsLimbo after.limbo w → IsStock after w
   still_owns =
-      bare_owns v w (ap (λ (z : View). z.sizes) on.on.still.is) on.pool (is_bare v at.0.its.operation at.0.its.runs at.0.its.none)
+      bare_stock v w (ap (λ (z : View). z.sizes) on.on.still.is) on.pool (is_bare v at.0.its.operation at.0.its.runs at.0.its.none)
       (let then = on.still at.0.why at.0.i at.0.replaced at.0.made at.0.its in is_bare w then.operation then.runs then.none)
 
 -- ---- it has come to its end
@@ -77,9 +82,10 @@ module _ (v : View) (s : Swapping) (left : IsSwapLeft v s) (result : Decided) (w
   decided_bare : IsBare w
   decided_bare = is_bare w (swap_done left.why (node_at (now v).heap left.made) done first) (h.comes left.why left.i left.replaced left.made left.its first left.its.runs) refl
 
-  pub decided_owns : StillOwns v w
-  decided_owns = bare_owns v w (retiring_sizes (retired_by (swapped_by result)) v w h.later) (retiring_pool (retired_by (swapped_by result)) v w h.later)
-      (is_bare v first left.its.runs left.its.none) decided_bare
+  pub decided_owns : (stock next : Stocked) → IsStock stock v → next ≡ record stock { limbo = next.limbo } → IsLimbo next.limbo w → IsStock next w
+  decided_owns =
+      bare_stock v w (retiring_sizes (retired_by (swapped_by result)) v w h.later) (retiring_pool (retired_by (swapped_by result)) v w h.later) (is_bare v first left.its.runs left.its.none)
+      decided_bare
 
   pub then_bare : IsBare w
   then_bare = decided_bare
@@ -118,9 +124,9 @@ module _ (v w : View) (answer : Reply) (ends : EndsOrMay v answer) (none : IsBar
       by : (o.line ≡ line.End answer) ⊎ (cut_short o.call o.line ≡ Some answer) → StillOwns v w
       by (inl is) =
           let saw : Saw v w = subst (λ l. CutBy v o (cut_short o.call l) w) is (cut o ends.1) in
-          bare_owns v w (ap (λ (z : View). z.sizes) saw.after_is) (ap (λ (z : View). z.pool) saw.after_is) none (is_bare w o (saw_runs v w saw o ends.1) none_of)
+          bare_owns v w (ap hanging_of saw.after_is) (ap (λ (z : View). z.pool) saw.after_is) none (is_bare w o (saw_runs v w saw o ends.1) none_of)
       by (inr is) =
           let gave : GaveUp v o answer w = subst (λ c. CutBy v o c w) is (cut o ends.1) in
-          bare_owns v w (ap (λ (z : View). z.sizes) gave.after_is)
+          bare_owns v w (ap hanging_of gave.after_is)
           (ap (λ (z : View). z.pool) gave.after_is ∙ ap (λ private. given_back (now (seen v gave.account)) gave.account private v.pool) none_of) none
           (is_bare w (gave_up o answer) gave.runs refl)

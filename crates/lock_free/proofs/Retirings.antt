@@ -10,15 +10,15 @@ use Rattle.lock_free.specs.RunningOn.{IsStill}
 use Rattle.lock_free.proofs.Laters.{later_both}
 use Rattle.lock_free.proofs.RunningOn.{still_follows}
 
--- what has become of those that it has retired is no matter
-pub sound_without : (n : ℕ) (gone w : View) → w ≡ record gone { retired = w.retired } → IsSound n w → IsSound n gone
+-- what has become of those that it has retired, and of their links, is no matter
+pub sound_without : (n : ℕ) (gone w : View) → w ≡ record gone { epoch = w.epoch; passed = w.passed; retired = w.retired; links = w.links } → IsSound n w → IsSound n gone
 sound_without n gone w is sound =
     let s = subst (IsSound n) is sound in
     record { size = s.size; range = s.range; bounds = s.bounds; keys = s.keys; counted = s.counted; inside = s.inside; free = λ b name free. s.free b name free }
 
 module _ (r : Option Retiree) (v w : View) (l : LaterRetiring r v w) where
-  gone_is : w ≡ record (seen v l.gone.account) { retired = w.retired }
-  gone_is = l.is ∙ ap (λ (x : View). record x { retired = w.retired }) l.later.is
+  gone_is : w ≡ record (seen v l.gone.account) { epoch = w.epoch; passed = w.passed; retired = w.retired; links = w.links }
+  gone_is = l.is ∙ ap (λ (x : View). record x { epoch = w.epoch; passed = w.passed; retired = w.retired; links = w.links }) l.later.is
 
   pub retiring_sizes : w.sizes ≡ v.sizes
   retiring_sizes = ap (λ (x : View). x.sizes) gone_is
@@ -30,8 +30,17 @@ module _ (r : Option Retiree) (v w : View) (l : LaterRetiring r v w) where
   follows_retiring =
       subst (Follows v) (sym l.is)
       (record {
-        is = ap (λ (x : View). record x { retired = w.retired }) l.later.is
-            ∙ ap (λ (x : View). record v { account = l.gone.account; pool = x.pool; drafts = x.drafts; retired = w.retired }) (sym l.later.is);
+        is = ap (λ (x : View). record x { epoch = w.epoch; passed = w.passed; retired = w.retired; links = w.links }) l.later.is
+            ∙ ap (λ (x : View). record v {
+              account = l.gone.account;
+              epoch = w.epoch;
+              passed = w.passed;
+              pool = x.pool;
+              drafts = x.drafts;
+              retired = w.retired;
+              links = w.links;
+            })
+            (sym l.later.is);
         places = l.later.places;
         owns = l.later.owns;
         nodes = l.later.nodes;

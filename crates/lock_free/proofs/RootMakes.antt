@@ -1,5 +1,5 @@
 -- COPY makes a root: it is written in the last free slot, and made with the generation that is next.
-use Rattle.std.proofs.Common.{◌≡◌, ◌<◌, ◌*◌, ◌++◌, ◌∷◌, ◌^◌, ℕ, Bool, true, List, [], Some, refl, sym, ap, subst, ◌∙◌, Contains, arith}
+use Rattle.std.proofs.Common.{◌≡◌, ◌<◌, ◌*◌, ◌++◌, ◌∷◌, ◌^◌, ℕ, Bool, true, false, List, [], Some, refl, sym, ap, subst, ◌∙◌, Contains, arith}
 use Rattle.std.proofs.lemmas.List.{same_from_push}
 use Rattle.std.proofs.lemmas.List.Elements.{Contains-push}
 use Rattle.std.proofs.lemmas.Option.{none-some, same_Some}
@@ -24,6 +24,7 @@ use Rattle.lock_free.specs.Rules.{pool_of}
 use Rattle.lock_free.specs.Stocks.{Stocked, IsStock, NotesLast, HasSlot}
 use Rattle.lock_free.specs.Owning.{IsBuilding}
 use Rattle.lock_free.specs.Storing.{IsAdded, IsAtMakeRoot, IsOwnWord, drafted}
+use Rattle.lock_free.proofs.LimboStays.{limbo_so, stock_elsewhere}
 use Rattle.lock_free.proofs.CopyReads.{copy_line}
 use Rattle.lock_free.proofs.EntryLooks.{slot_small}
 use Rattle.lock_free.proofs.NewNodes.{has_new, stock_made}
@@ -166,9 +167,14 @@ module _ (n : ℕ) (before : View) (name : ℕ) (mid : View) (slot : HasSlot bef
       }
 
   -- and noted
-  pub root_noted : (stock next : Stocked) → IsStock stock mid → next.sizes ≡ stock.sizes → NotesLast stock 0 next → IsStock next after
-  root_noted stock next is sizes noted =
+  pub root_noted : (stock next : Stocked) → IsStock stock mid → next.sizes ≡ stock.sizes → NotesLast stock 0 next → next.limbo ≡ stock.limbo → IsStock next after
+  root_noted stock next is sizes noted limbo =
       let (pool, made_is) = noted slot.last.0 name (ap (λ x. pool_of x 0) is.pool ∙ slot.last.1) in
       subst (IsStock next) (sym it.is)
       (stock_made n d sound_d it.account it.waited 0 name slot.last.0 it.own (Indirection generation it.main) it.added (act.MakeRoot it.main) it.making it.next it.took stock next
-      (subst (IsStock stock) (sym tried.1) (record { sizes = is.sizes; pool = is.pool; made = is.made })) sizes pool made_is refl)
+      (subst (IsStock stock) (sym tried.1) (record { sizes = is.sizes; pool = is.pool; made = is.made; limbo = limbo_so stock stock mid _ is refl refl })) sizes pool made_is refl limbo)
+
+-- it was not made
+pub root_unmade : (stock : Stocked) (mid after : View) → HasTriedRoot mid false after → IsStock stock mid → IsStock stock after
+root_unmade stock mid after tried owns =
+    let e = tried.2.1.1 refl ∙ tried.1 in stock_elsewhere stock mid after (e ∙ ap (λ (x : View). record mid { drafts = x.drafts; opens = x.opens; opening = x.opening }) (sym e)) owns

@@ -1,5 +1,5 @@
 -- Seats that were just made rest.
-use Rattle.std.proofs.Common.{◌≡◌, ◌<◌, ◌≤◌, ◌-◌, ℕ, [], map, None, sym, ap, subst, ◌∙◌, arith}
+use Rattle.std.proofs.Common.{◌≡◌, ◌<◌, ◌≤◌, ◌-◌, ℕ, [], map, None, refl, sym, ap, subst, ◌∙◌, arith}
 use Rattle.atomic_table.specs.Seated.{TableId}
 use Rattle.machine_model.specs.States.{operation_of}
 use Rattle.lock_free.specs.declared.rules.Pool.{Pool}
@@ -14,6 +14,8 @@ use Rattle.lock_free.specs.SeatWords.{IsIdle}
 use Rattle.lock_free.specs.Splitting.{of_last, without_last}
 use Rattle.lock_free.specs.Stocks.{Stocked, IsStock, made_of, own_of}
 use Rattle.lock_free.specs.Telling.{GoesOn}
+use Rattle.lock_free.specs.Limbos.{hanging_of, IsLimbo}
+use Rattle.lock_free.proofs.LimboStays.{limbo_so}
 use Rattle.lock_free.proofs.AnswersTold.{never_told}
 use Rattle.lock_free.proofs.FirstState.{nobody_runs}
 use Rattle.lock_free.proofs.OneStep.Idle.{idle_stays}
@@ -25,17 +27,20 @@ pub record IsEmpty (stock : Stocked) : Type 0 where
   pub medium : stock.pool.medium ≡ []
   pub wide : stock.pool.wide ≡ []
   pub made : stock.made ≡ []
+  pub limbo : (v : View) → v.retired ≡ [] → IsLimbo stock.limbo v
 
 no_pool : (pool : Pool) → pool.small ≡ [] → pool.medium ≡ [] → pool.wide ≡ [] → pool ≡ record { small = []; medium = []; wide = [] }
 no_pool pool small medium wide =
     ap (λ x. record { small = x; medium = pool.medium; wide = pool.wide }) small ∙ ap (λ y. record { small = []; medium = y; wide = pool.wide }) medium
     ∙ ap (λ z. record { small = []; medium = []; wide = z }) wide
 
-new_stock : (stock : Stocked) → IsEmpty stock → (v : View) → stock.sizes ≡ v.sizes → v.pool ≡ record { small = []; medium = []; wide = [] } → operation_of (now v) v.actor ≡ None → IsStock stock v
-new_stock stock empty v sizes pool idle = record {
+new_stock : (stock : Stocked) → IsEmpty stock → (v : View) → stock.sizes ≡ v.sizes → v.pool ≡ record { small = []; medium = []; wide = [] } → operation_of (now v) v.actor ≡ None →
+    v.retired ≡ [] → IsStock stock v
+new_stock stock empty v sizes pool idle none = record {
   sizes = sizes;
   pool = no_pool stock.pool empty.small empty.medium empty.wide ∙ sym pool;
   made = empty.made ∙ sym (ap (λ o. map (made_of v) (own_of o)) idle);
+  limbo = empty.limbo v none;
 }
 
 -- ---- the first seat
@@ -51,7 +56,7 @@ first_seated sizes range words v is sound stock same empty =
       actors = subst HasActors (sym is) (record { low = omega arith; top = some; most = omega arith });
       its = ap (λ (x : View). x.actor) is;
       its_last = ap (λ (x : View). x.last) is;
-      owns = new_stock stock empty v (same ∙ sym (ap (λ (x : View). x.sizes) is)) (ap (λ (x : View). x.pool) is) idle;
+      owns = new_stock stock empty v (same ∙ sym (ap (λ (x : View). x.sizes) is)) (ap (λ (x : View). x.pool) is) idle (ap (λ (x : View). x.retired) is);
     }
 
 -- ---- a seat that is split
@@ -104,6 +109,7 @@ module _ (words : ℕ) (v : View) (word found : ℕ) (at : View) (h : HasSeen v 
         sizes = owns.sizes ∙ sym (ap (λ (x : View). x.sizes) left_is);
         pool = owns.pool ∙ sym (ap (λ (x : View). x.pool) left_is);
         made = owns.made ∙ ap (λ o. map (made_of v) (own_of o)) rests.idle ∙ sym (ap (λ o. map (made_of left) (own_of o)) idle);
+        limbo = limbo_so stock stock v left owns refl (ap hanging_of left_is);
       };
     }
       where
@@ -128,7 +134,7 @@ module _ (words : ℕ) (v : View) (word found : ℕ) (at : View) (h : HasSeen v 
       };
       its = actor_is ∙ its;
       its_last = last_is ∙ its;
-      owns = new_stock stock empty right (same ∙ sym sizes_is) (ap (λ (x : View). x.pool) is) idle;
+      owns = new_stock stock empty right (same ∙ sym sizes_is) (ap (λ (x : View). x.pool) is) idle (ap (λ (x : View). x.retired) is);
     }
       where
         actor_is : right.actor ≡ v.last

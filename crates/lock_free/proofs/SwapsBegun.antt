@@ -11,17 +11,20 @@ use Rattle.machine_model.specs.declared.reading.ReadLine.TheVariants as read
 use Rattle.machine_model.specs.declared.reading.SwapLine.TheVariants as swap
 use Rattle.lock_free.specs.declared.leaving.Swapping.{Swapping}
 use Rattle.lock_free.specs.declared.reading.ReadFrom.TheVariants as resume
+use Rattle.lock_free.specs.declared.limbo.Limbo.{Limbo}
 use Rattle.lock_free.specs.declared.rules.View.{View}
 use Rattle.lock_free.specs.declared.swapping.Decided.{Decided}
 use Rattle.lock_free.specs.declared.swapping.Decided.TheVariants as decided
 use Rattle.lock_free.specs.Reclaiming.{AddsRetired, LaterRetiring}
 use Rattle.lock_free.proofs.Followings.{follows_later}
 use Rattle.lock_free.proofs.NewNodes.{class_on}
+use Rattle.lock_free.proofs.LimboStays.{limbo_stays}
 use Rattle.lock_free.proofs.Retirings.{retiring_after}
 use Rattle.lock_free.specs.declared.swapping.Swapped.{Swapped}
 use Rattle.lock_free.specs.declared.swapping.Swapped.TheVariants.{Commits, Fails, Misses}
 use Rattle.lock_free.specs.Exchanging.{HasPublished}
 use Rattle.lock_free.specs.Leaving.{HasDecidedSwap, HasLeftSwap, HasSwappedOn, IsSwapLeft, IsSwapOf, LeavesSwap}
+use Rattle.lock_free.specs.Limbos.{hanging_of, IsLimbo}
 use Rattle.lock_free.specs.Loading.{now, Runs, IsSound}
 use Rattle.lock_free.specs.Passing.{Later}
 use Rattle.lock_free.specs.RunningOn.{RunsOn}
@@ -103,6 +106,13 @@ module _ (n : ℕ) (v : View) (name : ℕ) (link : Link) (class fresh : ℕ) (at
     })
     begun_left = record { why = why; i = i; replaced = a; made = f; its = begun_of }
 
+    -- what it has retired hangs as before
+    pub hangs_begun : (limbo : Limbo) → IsLimbo limbo v → IsLimbo limbo w
+    hangs_begun limbo is = limbo_stays limbo v w (ap hanging_of later.is) is
+
+    pub sizes_begun : w.sizes ≡ v.sizes
+    sizes_begun = ap (λ (x : View). x.sizes) later.is
+
     runs_w : RunsOn v w
     runs_w = record { still = still_later v w later; runs = λ o r. (on_line o, goes o r, refl) }
 
@@ -135,11 +145,14 @@ module _ (n : ℕ) (v : View) (name : ℕ) (link : Link) (class fresh : ℕ) (at
 -- ---- with the stock
 
 pub left_stock : (v w : View) (name : ℕ) (link : Link) (class fresh : ℕ) → IsAtSwap v name link class fresh → (s : Swapping) → HasLeftSwap v s w → (stock next : Stocked) → IsStock stock v →
-    next.sizes ≡ stock.sizes → next.pool ≡ stock.pool → next.made ≡ [] → IsStock next w
-left_stock v w name link class fresh at s h stock next is sizes pool none = record {
+    next.sizes ≡
+    stock.sizes
+    → next.pool ≡ stock.pool → next.made ≡ [] → IsLimbo next.limbo w → IsStock next w
+left_stock v w name link class fresh at s h stock next is sizes pool none limbo = record {
   sizes = sizes ∙ is.sizes ∙ ap (λ (x : View). x.sizes) (sym h.on.still.is);
   pool = pool ∙ is.pool ∙ sym h.pool;
   made = none ∙ ap (λ rs. map (made_of w) rs) (sym (ap own_of its.runs.1 ∙ its.none));
+  limbo = limbo;
 }
   where
     its : IsSwapOf w at.0 at.1 at.2 at.3 s
@@ -147,7 +160,7 @@ left_stock v w name link class fresh at s h stock next is sizes pool none = reco
 
 module _ (n : ℕ) (v w : View) (sound : IsSound n v) (last : IsSound n w) (name : ℕ) (link : Link) (class fresh : ℕ) (at : IsAtSwap v name link class fresh) where
   pub swapped_owns : (result : Swapped) → HasSwapDone v result w → (stock next : Stocked) → IsStock stock v → next.sizes ≡ stock.sizes → next.pool ≡ settled_pool result stock.made stock.pool →
-      next.made ≡ [] → IsStock next w
+      next.made ≡ [] → IsLimbo next.limbo w → IsStock next w
   swapped_owns Misses g = missed_owns n v w sound last name link class fresh at Misses g refl
   swapped_owns (Commits r) g = hit_owns n v w sound last name link class fresh at (Commits r) g (inl (r, refl))
   swapped_owns Fails g = hit_owns n v w sound last name link class fresh at Fails g (inr refl)
@@ -156,6 +169,9 @@ module _ (n : ℕ) (v w : View) (sound : IsSound n v) (last : IsSound n w) (name
   swapped_so Misses g = missed_swapped n v w sound last name link class fresh at Misses g refl
   swapped_so (Commits r) g = hit_swapped n v w sound last name link class fresh at (Commits r) g (inl (r, refl))
   swapped_so Fails g = hit_swapped n v w sound last name link class fresh at Fails g (inr refl)
+
+  pub missed_hangs : HasSwapDone v Misses w → (limbo : Limbo) → IsLimbo limbo v → IsLimbo limbo w
+  missed_hangs g limbo is = limbo_stays limbo v w (ap hanging_of (g.0.2 at.4.0 at.4.1)) is
 
   pub swap_retires : (result : Swapped) → HasSwapDone v result w → AddsRetired (retired_by result) v.retired w.retired
   swap_retires Misses g = ap (λ (x : View). x.retired) (g.0.2 at.4.0 at.4.1)

@@ -16,6 +16,7 @@ use Rattle.machine_model.specs.declared.reading.SwapLine.TheVariants as swap
 use Rattle.machine_model.specs.declared.operations.Operation.{Operation}
 use Rattle.proof_memory.specs.Wants.{is_main_node}
 use Rattle.lock_free.specs.declared.leaving.Swapping.{Swapping}
+use Rattle.lock_free.specs.declared.limbo.Limbo.{Limbo}
 use Rattle.lock_free.specs.declared.reading.Given.{Given}
 use Rattle.lock_free.specs.declared.reading.Passed.TheVariants as passed
 use Rattle.lock_free.specs.declared.reading.ReadFrom.{ReadFrom}
@@ -24,6 +25,7 @@ use Rattle.lock_free.specs.declared.rules.View.{View}
 use Rattle.lock_free.specs.declared.swapping.Decided.TheVariants as decided
 use Rattle.lock_free.specs.Accounts.{place_of, IsOwn}
 use Rattle.lock_free.specs.Leaving.{HasDecidedSwap, HasSwappedOn, IsSwapLeft, IsSwapOf}
+use Rattle.lock_free.specs.Limbos.{Hanging, hanging_of, HasHung, IsLimbo, IsNewestOrNone}
 use Rattle.lock_free.specs.Loading.{now, seen, Runs, IsAt, IsSound, HasHeader, HasReadHeader}
 use Rattle.lock_free.specs.Nodes.{IsAhead}
 use Rattle.lock_free.specs.OfReads.{on_given, on_read, read_to}
@@ -36,6 +38,7 @@ use Rattle.lock_free.proofs.Followings.{follows_later}
 use Rattle.lock_free.proofs.GivenBack.{node_is}
 use Rattle.lock_free.proofs.Laters.{went_later, later_both, waited_later, placed_later}
 use Rattle.lock_free.proofs.Leavings.{come_on_runs}
+use Rattle.lock_free.proofs.LimboStays.{limbo_stays, newest_now}
 use Rattle.lock_free.proofs.NewNodes.{class_on}
 use Rattle.lock_free.proofs.OnePass.{from_reading, from_then, line_from}
 use Rattle.lock_free.proofs.Passes.{none_says}
@@ -123,6 +126,9 @@ module _ (v : View) (s : Swapping) (left : IsSwapLeft v s) where
       still = all (λ y j b c. IsSwapOf w y j b c next) still;
     }
 
+    pub on_hangs : (limbo : Limbo) → IsLimbo limbo v → IsLimbo limbo w
+    on_hangs limbo is = limbo_stays limbo v w (ap hanging_of come.1.later.is) is
+
   -- ---- it is decided
 
   module _ (n : ℕ) (sound : IsSound n v) (x : View) (sound_x : IsSound n x) (given : Given) (h : HasPassed v (passed.Gives given) x) where
@@ -166,8 +172,17 @@ module _ (v : View) (s : Swapping) (left : IsSwapLeft v s) where
 
       -- ---- those that it has retired
 
+      hangs_gone : hanging_of gone ≡ hanging_of v
+      hangs_gone = ap hanging_of g.0.after_is ∙ ap hanging_of later_x.is
+
       had : gone.retired ≡ v.retired
-      had = ap (λ (y : View). y.retired) g.0.after_is ∙ ap (λ (y : View). y.retired) later_x.is
+      had = ap (λ (p : Hanging). p.1) hangs_gone
+
+      opened : z ≡ record gone { retired = z.retired } → z ≡ record gone { epoch = z.epoch; passed = z.passed; retired = z.retired; links = z.links }
+      opened is = is ∙ ap (λ (y : View). record gone { epoch = y.epoch; passed = y.passed; retired = y.retired; links = y.links }) (sym is)
+
+      sizes_z : z ≡ record gone { retired = z.retired } → z.sizes ≡ v.sizes
+      sizes_z is = ap (λ (y : View). y.sizes) is ∙ ap (λ (p : Hanging). p.0) hangs_gone
 
       adds_nothing : z ≡ gone → (z ≡ record gone { retired = z.retired }) × AddsRetired None v.retired z.retired
       adds_nothing is = (is ∙ ap (λ (y : View). record gone { retired = y.retired }) (sym is), ap (λ (y : View). y.retired) is ∙ had)
@@ -200,7 +215,7 @@ module _ (v : View) (s : Swapping) (left : IsSwapLeft v s) where
       later_y = later_both v x (seen x g.0.account) later_x (waited_later n x sound_x g.0.account g.0.waited)
 
       later_gone : z ≡ record gone { retired = z.retired } → Later v gone
-      later_gone is = later_both v x gone later_x (went_later n x sound_x n gone (sound_without n gone z is sound_z) g.0)
+      later_gone is = later_both v x gone later_x (went_later n x sound_x n gone (sound_without n gone z (opened is) sound_z) g.0)
 
       -- the fresh node is what it was
       fresh_same : node_at (now (seen x g.0.account)).heap f ≡ node_at (now v).heap f
@@ -227,27 +242,58 @@ module _ (v : View) (s : Swapping) (left : IsSwapLeft v s) where
           all (λ y j b c. (o : Operation) → Runs v o → Runs z (swap_done y (node_at (now v).heap c) done o))
           (λ o r. subst (λ w. Runs w (swap_done why (node_at (now v).heap f) done o)) (sym is) (goes_on done e o r))
 
-      pub commits : committed ≡ true → (r : Option Retiree) → r ≡ retiree_of s.replaced s.class → HasDecidedSwap v s (decided.Commits r) z
-      commits e r which =
-          let (is, adds) = adds_own e s.replaced.own refl in
-          let none = decided_none its_check.1.previous (sym its_check.3 ∙ e) in
-          record {
-            later = record { gone = gone; later = later_gone is; is = is; adds = subst (λ q. AddsRetired q v.retired z.retired) (sym which) adds };
-            which = which;
-            comes = comes true (ap is_none (none_says g.0.account (now (seen x g.0.account)) (slot_of f) says.slot.prev its_check.1.previous none says.is_previous)) is;
-          }
+      module _ (e : committed ≡ true) (r : Option Retiree) (which : r ≡ retiree_of s.replaced s.class) where
+        is_z : z ≡ record gone { retired = z.retired }
+        is_z = (adds_own e s.replaced.own refl).0
+
+        adds_z : AddsRetired r v.retired z.retired
+        adds_z = subst (λ q. AddsRetired q v.retired z.retired) (sym which) (adds_own e s.replaced.own refl).1
+
+        pub commits_sizes : z.sizes ≡ v.sizes
+        commits_sizes = sizes_z is_z
+
+        -- all others hang
+        pub newest : (limbo : Limbo) → IsLimbo limbo v → IsNewestOrNone limbo z r
+        newest limbo h =
+            newest_now limbo r v z h commits_sizes (ap (λ (y : View). y.links) is_z ∙ ap (λ (p : Hanging). p.2) hangs_gone)
+            (ap (λ (y : View). y.epoch) is_z ∙ ap (λ (p : Hanging). p.3) hangs_gone) adds_z
+
+        -- and then it too
+        pub commits : (w : View) → HasHung z w → HasDecidedSwap v s (decided.Commits r) w
+        commits w hung =
+            let none = decided_none its_check.1.previous (sym its_check.3 ∙ e) in
+            let same = ap (λ (y : View). y.retired) hung.is in
+            record {
+              later = record {
+                gone = gone;
+                later = later_gone is_z;
+                is = hung.is ∙ ap (λ (y : View). record y { epoch = w.epoch; passed = w.passed; links = w.links }) is_z
+                    ∙ ap (λ xs. record gone { epoch = w.epoch; passed = w.passed; retired = xs; links = w.links }) (sym same);
+                adds = subst (AddsRetired r v.retired) (sym same) adds_z;
+              };
+              which = which;
+              comes = λ y j b c its o runs.
+                  subst (λ q. Runs q (swap_done y (node_at (now v).heap c) true o)) (sym hung.is)
+                  (comes true (ap is_none (none_says g.0.account (now (seen x g.0.account)) (slot_of f) says.slot.prev its_check.1.previous none says.is_previous)) is_z y j b c its o runs);
+            }
 
       met : (j b c : Ref) → IsAhead (now (seen x g.0.account)) j b c → slot_of c ≢ slot_of f
       met =
           let there = g.0.waited.stays at_check.operation at_check.runs in
           read_is_met x.sizes g.0.account g.0.waited.sound.bounds x.actor (record at_check.operation { is_marked = there.0 }) there.1 f (there.2 ∙ at_check.acts)
 
+      is_gone : committed ≡ false → z ≡ gone
+      is_gone e = its_check.5 (ap (λ b. s.replaced.own && b) e ∙ none_failed s.replaced.own)
+
+      pub fails_hangs : committed ≡ false → (limbo : Limbo) → IsLimbo limbo v → IsLimbo limbo z
+      fails_hangs e limbo h = limbo_stays limbo v z (ap hanging_of (is_gone e) ∙ hangs_gone) h
+
       pub fails : committed ≡ false → HasDecidedSwap v s decided.Fails z
       fails e =
-          let (is, adds) = adds_nothing (its_check.5 (ap (λ b. s.replaced.own && b) e ∙ none_failed s.replaced.own)) in
+          let (is, adds) = adds_nothing (is_gone e) in
           let isnt = undecided_some its_check.1.previous (sym its_check.3 ∙ e) in
           record {
-            later = record { gone = gone; later = later_gone is; is = is; adds = adds };
+            later = record { gone = gone; later = later_gone is; is = opened is; adds = adds };
             which = tt;
             comes = comes false (not_none g.0.account (now (seen x g.0.account)) (slot_of f) says.slot.prev its_check.1.previous isnt met says.is_previous) is;
           }

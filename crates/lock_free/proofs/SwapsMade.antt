@@ -11,6 +11,7 @@ use Rattle.lock_free.specs.declared.rules.Pool.{Pool}
 use Rattle.lock_free.specs.declared.reclaiming.Retiree.{Retiree}
 use Rattle.lock_free.specs.declared.rules.View.{View}
 use Rattle.lock_free.specs.Reclaiming.{LaterRetiring}
+use Rattle.lock_free.specs.Limbos.{IsLimbo}
 use Rattle.lock_free.proofs.Retirings.{follows_retiring, retiring_pool, retiring_sizes}
 use Rattle.lock_free.specs.declared.swapping.Swapped.{Swapped}
 use Rattle.lock_free.specs.declared.swapping.Swapped.TheVariants.{Commits, Fails, Misses}
@@ -58,12 +59,14 @@ module _ (n : ℕ) (before after : View) (sound : IsSound n before) (last : IsSo
     pub missed_become : HasBecome (swap_done why (node_at (now before).heap made) false) before after
     missed_become = record { follows = follows; comes = g.1 why i replaced made s }
 
-    pub missed_stock : (stock next : Stocked) → IsStock stock before → next.sizes ≡ stock.sizes → next.pool ≡ put_back stock.made stock.pool → next.made ≡ [] → IsStock next after
-    missed_stock stock next is sizes pool none = record {
+    pub missed_stock : (stock next : Stocked) → IsStock stock before → next.sizes ≡ stock.sizes → next.pool ≡ put_back stock.made stock.pool → next.made ≡ [] →
+        IsLimbo next.limbo after → IsStock next after
+    missed_stock stock next is sizes pool none limbo = record {
       sizes = sizes ∙ is.sizes ∙ ap (λ (x : View). x.sizes) (sym its);
       pool = pool ∙ ap (put_back stock.made) is.pool ∙ ap (λ ms. put_back ms before.pool) (is.made ∙ ap (λ x. map (made_of before) (own_of x)) s.1.1 ∙ sym same)
           ∙ back_is before account s.0.private before.pool ∙ ap (λ (x : View). x.pool) (sym its);
       made = none ∙ ap (map (made_of after)) (sym (none_own false (g.1 why i replaced made s s.0 s.1)));
+      limbo = limbo;
     }
       where
         same : map (made_of (seen before account)) s.0.private ≡ map (made_of before) s.0.private
@@ -74,11 +77,13 @@ module _ (n : ℕ) (before after : View) (sound : IsSound n before) (last : IsSo
     pub hit_become : HasBecome (swap_done why (node_at (now before).heap made) (is_done result)) before after
     hit_become = record { follows = follows_retiring (retired_by result) before after later; comes = comes }
 
-    pub hit_stock : (stock next : Stocked) → IsStock stock before → next.sizes ≡ stock.sizes → next.pool ≡ stock.pool → next.made ≡ [] → IsStock next after
-    hit_stock stock next is sizes pool none = record {
+    pub hit_stock : (stock next : Stocked) → IsStock stock before → next.sizes ≡ stock.sizes → next.pool ≡ stock.pool → next.made ≡ [] → IsLimbo next.limbo after →
+        IsStock next after
+    hit_stock stock next is sizes pool none limbo = record {
       sizes = sizes ∙ is.sizes ∙ sym (retiring_sizes (retired_by result) before after later);
       pool = pool ∙ is.pool ∙ sym (retiring_pool (retired_by result) before after later);
       made = none ∙ ap (map (made_of after)) (sym (none_own (is_done result) (comes s.0 s.1)));
+      limbo = limbo;
     }
 
 -- ---- by what it came to
@@ -95,7 +100,8 @@ module _ (n : ℕ) (before after : View) (sound : IsSound n before) (last : IsSo
     pub missed_swapped : HasSwapped before result after
     missed_swapped = subst (λ x. HasSwapped before x after) (sym is) (λ why i a f s. missed_become n before after sound last why i a f s missed)
 
-    pub missed_owns : (stock next : Stocked) → IsStock stock before → next.sizes ≡ stock.sizes → next.pool ≡ put_back stock.made stock.pool → next.made ≡ [] → IsStock next after
+    pub missed_owns : (stock next : Stocked) → IsStock stock before → next.sizes ≡ stock.sizes → next.pool ≡ put_back stock.made stock.pool → next.made ≡ [] →
+        IsLimbo next.limbo after → IsStock next after
     missed_owns = missed_stock n before after sound last at.0 at.1 at.2 at.3 this missed
 
   module _ (is : ((r : Option Retiree) × (result ≡ Commits r)) ⊎ (result ≡ Fails)) where
@@ -108,5 +114,6 @@ module _ (n : ℕ) (before after : View) (sound : IsSound n before) (last : IsSo
     pub hit_swapped : HasSwapped before result after
     hit_swapped why i a f s = hit_become n before after sound last why i a f s result later (g.1 why i a f s)
 
-    pub hit_owns : (stock next : Stocked) → IsStock stock before → next.sizes ≡ stock.sizes → next.pool ≡ stock.pool → next.made ≡ [] → IsStock next after
+    pub hit_owns : (stock next : Stocked) → IsStock stock before → next.sizes ≡ stock.sizes → next.pool ≡ stock.pool → next.made ≡ [] → IsLimbo next.limbo after →
+        IsStock next after
     hit_owns = hit_stock n before after sound last at.0 at.1 at.2 at.3 this result later (g.1 at.0 at.1 at.2 at.3 this)

@@ -1,6 +1,7 @@
 -- What is told of a call in a number of tries, once its number is given back where it was refused.
-use Rattle.std.proofs.Common.{◌≡◌, ◌≤◌, ℕ, Bool, true, false, is_some, inl, inr, Option, Some, None, Result, Ok, Err, IfOk, refl, sym, ap, subst, ◌∙◌}
+use Rattle.std.proofs.Common.{◌≡◌, ◌≤◌, ◌<◌, ℕ, Bool, true, false, is_some, inl, inr, Option, Some, None, Result, Ok, Err, IfOk, refl, sym, ap, subst, ◌∙◌}
 use Rattle.std.proofs.lemmas.Bool.{false≢true}
+use Rattle.std.proofs.lemmas.Option.{none-some}
 use Rattle.history.specs.declared.calls.Call.{Call}
 use Rattle.history.specs.declared.calls.Call.TheVariants.{Snapshot, Freeze}
 use Rattle.history.specs.declared.replies.Reply.{Reply}
@@ -14,6 +15,8 @@ use Rattle.lock_free.specs.declared.call_runs.Ran.{Ran}
 use Rattle.lock_free.specs.declared.call_runs.Ran.TheVariants as ran
 use Rattle.lock_free.specs.declared.calling.Denial.{Denial}
 use Rattle.lock_free.specs.declared.calling.Denial.TheVariants as denial
+use Rattle.lock_free.specs.declared.parking.Parked.{Parked}
+use Rattle.lock_free.specs.declared.parking.Parked.TheVariants as parked
 use Rattle.lock_free.specs.declared.rules.View.{View}
 use Rattle.lock_free.specs.Answering.{HasAnswered}
 use Rattle.lock_free.specs.Attempts.{IsTried}
@@ -21,14 +24,16 @@ use Rattle.lock_free.specs.Calling.{HasCalled}
 use Rattle.lock_free.specs.KeyReplies.{FitsCall, TellsHandle}
 use Rattle.lock_free.specs.Loading.{IsSound}
 use Rattle.lock_free.specs.Numbers.{reserving, without_number}
+use Rattle.lock_free.specs.Parking.{opens_of, IsParked}
 use Rattle.lock_free.specs.SeatCalls.{error_of, told_by}
+use Rattle.lock_free.specs.Stocks.{IsStock, Stocked}
 use Rattle.lock_free.specs.Telling.{SeatsAreExplained}
-use Rattle.lock_free.specs.TriedCalls.{settled, tried_by, HasRunTry, HasTold, HasTriedCall, IsParkedCall, IsToldBy, IsToldHandle}
-use Rattle.lock_free.specs.UnderWay.{HasNotBegun, HasReplied, HasRun, HasRunBy, HasRunWith}
+use Rattle.lock_free.specs.TriedCalls.{settled, tried_by, HasRunTry, HasTold, HasTriedCall, HoldsNumber, IsParkedCall, IsToldBy, IsToldHandle}
+use Rattle.lock_free.specs.UnderWay.{HasLeftBy, HasLeftWith, HasNotBegun, HasReplied, HasRun, HasRunBy, HasRunWith}
 use Rattle.lock_free.specs.WholeCalls.{IsToldCopy, RestsWith, SameSeat, WasDeniedCopy, WasRefusedCopy}
 use Rattle.lock_free.proofs.CallBegins.{denied_waited}
-use Rattle.lock_free.proofs.CallsUnderWay.{replied_told}
-use Rattle.lock_free.proofs.GivenNumbers.{answered_first, answered_then, lacking, no_handle_told, reserved_rests}
+use Rattle.lock_free.proofs.CallsUnderWay.{plain_left, replied_told}
+use Rattle.lock_free.proofs.GivenNumbers.{answered_first, answered_then, lacking, no_handle_told, reserved_rests, returned_stock}
 use Rattle.lock_free.proofs.KeyKinds.{counts_or, reply_opens, told_fits}
 
 -- ---- the number is given back
@@ -44,6 +49,37 @@ replied_settled : (v w : View) (c : Call) (opens : Option ℕ) (told : Result Re
     HasReplied v c opens told (settled number result w)
 replied_settled v w c opens told h number result =
     record { answer = h.answer; lack = h.lack; lacks = h.lacks; is = h.is; its = answered_settled v w c opens h.answer h.its number result }
+
+pub holds_number : (v w : View) (c : Call) (opens : Option ℕ) (result : Ran) → HasLeftWith v c opens result w → HoldsNumber w opens result
+holds_number v w c opens (ran.Told told) h = h.1
+holds_number v w c opens (ran.UnderWay access p) h = tt
+
+same_returned : (v w : View) → SameSeat v w → SameSeat v (without_number w)
+same_returned v w s = record { sizes = s.sizes; actor = s.actor; last = s.last; goes_on = s.goes_on }
+
+pub settled_left : (v w : View) (c : Call) (opens : Option ℕ) (result : Ran) → HasLeftWith v c opens result w → HasLeftBy v c result (settled opens result w)
+settled_left v w c None result h = plain_left v c result w h
+settled_left v w c (Some n) (ran.Told (Ok answer)) h = record { same = h.0; rests = h.1 }
+settled_left v w c (Some n) (ran.Told (Err why)) h =
+    record { same = same_returned v w h.0; rests = record { idle = h.1.idle; pin = h.1.pin; entered = h.1.entered; opens_it = refl } }
+settled_left v w c (Some n) (ran.UnderWay access p) h = (h.0, h.1)
+
+pub settled_owns : (w : View) (opens : Option ℕ) (result : Ran) → HoldsNumber w opens result → (stock : Stocked) → IsStock stock w → IsStock stock (settled opens result w)
+settled_owns w (Some n) (ran.Told (Err why)) rests stock owns = returned_stock w (Some n) rests stock owns
+settled_owns w (Some n) (ran.Told (Ok answer)) rests stock owns = owns
+settled_owns w (Some n) (ran.UnderWay access p) rests stock owns = owns
+settled_owns w None result rests stock owns = owns
+
+pub holds_left : (v w : View) (c : Call) (opens : Option ℕ) (result : Ran) → HasLeftWith v c opens result w → HoldsNumber w opens result
+holds_left v w c opens (ran.Told told) h = h.1
+holds_left v w c opens (ran.UnderWay access p) h = tt
+
+-- a handle's number is low
+pub parked_low : (v : View) (p : Parked) → IsParked v p → (number : ℕ) → opens_of p ≡ Some number → number < 256
+parked_low v (parked.Copies s opens) its number e = (its.opening number e).0
+parked_low v (parked.Repairs s) its number e = absurd (none-some number e)
+parked_low v (parked.Changes s former) its number e = absurd (none-some number e)
+parked_low v (parked.Climbs s former) its number e = absurd (none-some number e)
 
 -- ---- what is told
 
@@ -122,10 +158,20 @@ module _ (n : ℕ) (v : View) (rests : RestsWith v None) (c : Call) (tried : IsT
   opened_run (ran.UnderWay access p) sound h =
       record { opens = Some number; number = opens; is = λ late after answer on at ended. answered_first v after number c answer (h late after answer on at ended) }
 
+  pub opened_left : (result : Ran) → HasLeftBy u c result w → HasLeftBy v c result w
+  opened_left (ran.Told told) h = record { same = first_seat h.same; rests = h.rests }
+    where
+      first_seat : SameSeat u w → SameSeat v w
+      first_seat s = record { sizes = s.sizes; actor = s.actor; last = s.last; goes_on = s.goes_on }
+  opened_left (ran.UnderWay access p) h = (record { sizes = h.0.sizes; actor = h.0.actor; last = h.0.last; goes_on = h.0.goes_on }, h.1)
+
 -- there is no such handle, or no number
 module _ (v : View) (c : Call) (opens : opens_handle c ≡ true) where
   pub no_handle_tried : handle_limit ≤ handle_of c → HasRunTry v c (ran.Told (Err error.NoHandle)) v
   no_handle_tried high = handle_refused v v c opens error.NoHandle (no_handle_told v c high)
+
+  pub handles_full : HasRunTry v c (ran.Told (Err error.HandlesFull)) v
+  handles_full = handle_refused v v c opens error.HandlesFull refl
 
 -- ---- so its seat is told
 

@@ -3,6 +3,7 @@ use Rattle.std.proofs.Common.{◌≢◌, ℕ, [], ◌∷◌, Some, None, refl, s
 use Rattle.std.proofs.lemmas.Option.{none-some}
 use Rattle.history.specs.declared.calls.Call.TheVariants.{Close}
 use Rattle.machine_model.specs.declared.steps.Step.TheVariants as step
+use Rattle.lock_free.specs.Limbos.{hanging_of}
 use Rattle.lock_free.specs.declared.closing.Shut.{Shut}
 use Rattle.lock_free.specs.declared.closing.Shut.TheVariants as shut
 use Rattle.lock_free.specs.declared.rules.View.{View}
@@ -41,7 +42,7 @@ leaves_watched v w r h =
         };
       };
       owns = λ stock o.
-          idle_stock stock v w r.idle idle (ap (λ (x : View). x.sizes) is ∙ ap (λ (x : View). x.sizes) seen) (ap (λ (x : View). x.pool) is ∙ ap (λ (x : View). x.pool) seen) o;
+          idle_stock stock v w r.idle idle (ap hanging_of is ∙ ap hanging_of seen) (ap (λ (x : View). x.pool) is ∙ ap (λ (x : View). x.pool) seen) o;
     }
 
 pub waited_watched : (v w : View) → Watched v w → HasWaited v.actor v.account w.account
@@ -80,7 +81,7 @@ leaves_closed v w handle r h =
           opens_it = ap (λ (x : View). x.opens) is ∙ first.left.rests.opens_it;
         };
       };
-      owns = λ stock o. idle_stock stock h.at w first.left.rests.idle h.shuts.idle (ap (λ (x : View). x.sizes) is) (ap (λ (x : View). x.pool) is) (first.owns stock o);
+      owns = λ stock o. idle_stock stock h.at w first.left.rests.idle h.shuts.idle (ap hanging_of is) (ap (λ (x : View). x.pool) is) (first.owns stock o);
     }
 
 -- ---- either way

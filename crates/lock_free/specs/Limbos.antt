@@ -2,6 +2,7 @@
 use Rattle.std.specs.Prelude.{◌≡◌, ◌⊎◌, ◌<◌, ◌≤◌, ◌==◌, ◌++◌, ℕ, if◌then◌else◌, List, [], ◌∷◌, Contains, map, Option, Some, None}
 use Rattle.lock_free.specs.declared.limbo.Chain.{Chain}
 use Rattle.lock_free.specs.declared.limbo.Limbo.{Limbo}
+use Rattle.lock_free.specs.declared.reclaiming.Retiree.{Retiree}
 use Rattle.lock_free.specs.declared.rules.Retired.{Retired}
 use Rattle.lock_free.specs.declared.rules.View.{View}
 use Rattle.lock_free.specs.declared.sizes.Sizes.{Sizes}
@@ -30,7 +31,7 @@ pub record IsChain (v : View) (chain : Chain) (items : List Retired) : Type 0 wh
 abbrev pub names : List Retired → List ℕ
 names items = map (λ (x : Retired). x.name) items
 
--- each slot that the seat has retired hangs once
+-- each slot that the seat has retired hangs once, and the seat has seen this epoch
 pub record IsLimbo (limbo : Limbo) (v : View) : Type 0 where
   pub young : List Retired
   pub aged : List Retired
@@ -40,6 +41,14 @@ pub record IsLimbo (limbo : Limbo) (v : View) : Type 0 where
   pub held : (x : Retired) → Contains (young ++ aged) x → Contains v.retired x
   pub all : (x : Retired) → Contains v.retired x → Contains (young ++ aged) x
   pub slots : (x : Retired) → Contains v.retired x → (x.class < 3) × IsSlot v.sizes x.class x.name
+  pub seen : limbo.seen ≤ v.epoch
+
+-- what of a seat this is of
+abbrev pub Hanging : Type 0
+Hanging = Sizes × List Retired × List (ℕ × ℕ) × ℕ
+
+abbrev pub hanging_of : View → Hanging
+hanging_of v = (v.sizes, v.retired, v.links, v.epoch)
 
 -- ---- one more is retired
 
@@ -55,6 +64,11 @@ pub record IsNewest (limbo : Limbo) (v : View) (class name : ℕ) : Type 0 where
   pub is : v.retired ≡ rest ++ item ∷ []
   pub hanging : IsLimbo limbo (having_retired v rest)
 
+-- the same where it has retired this slot, or none
+abbrev pub IsNewestOrNone : Limbo → View → Option Retiree → Type 0
+IsNewestOrNone limbo v None = IsLimbo limbo v
+IsNewestOrNone limbo v (Some r) = IsNewest limbo v r.class r.slot
+
 -- the seat has seen the epoch, and knows another link
 pub record HasHung (before after : View) : Type 0 where
   pub is : after ≡ record before { epoch = after.epoch; passed = after.passed; links = after.links }
@@ -64,7 +78,7 @@ pub record HasHung (before after : View) : Type 0 where
 
 -- once the aged chain has none, the young one is it
 abbrev pub turned : Option ℕ → Limbo → Limbo
-turned None limbo = record { young = record { first = None; stamp = limbo.young.stamp }; aged = limbo.young }
+turned None limbo = record { young = record { first = None; stamp = limbo.young.stamp }; aged = limbo.young; seen = limbo.seen }
 turned (Some slot) limbo = limbo
 
 abbrev pub HasTurned : Limbo → Limbo → Type 0

@@ -111,9 +111,9 @@ abbrev pub AddsRetired : Option Retiree → List Retired → List Retired → Ty
 AddsRetired None before after = after ≡ before
 AddsRetired (Some r) before after = (x : Retired) × (after ≡ before ++ x ∷ []) × IsRetiree x r
 
--- the seat has seen more happen, and has retired this slot, or none
+-- the seat has seen more happen, and has retired this slot, or none, which hangs then
 pub record LaterRetiring (r : Option Retiree) (v w : View) : Type 0 where
   pub gone : View
   pub later : Later v gone
-  pub is : w ≡ record gone { retired = w.retired }
+  pub is : w ≡ record gone { epoch = w.epoch; passed = w.passed; retired = w.retired; links = w.links }
   pub adds : AddsRetired r v.retired w.retired

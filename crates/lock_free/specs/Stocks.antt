@@ -9,21 +9,24 @@ use Rattle.lock_free.specs.declared.swapping.Swapped.{Swapped}
 use Rattle.lock_free.specs.declared.swapping.Swapped.TheVariants.{Misses}
 use Rattle.lock_free.specs.Becoming.{HasBecome}
 use Rattle.lock_free.specs.Swaps.{swap_done, is_done, IsSwapping}
+use Rattle.lock_free.specs.declared.limbo.Limbo.{Limbo}
 use Rattle.lock_free.specs.declared.rules.Pool.{Pool}
 use Rattle.lock_free.specs.declared.rules.View.{View}
 use Rattle.lock_free.specs.declared.sizes.Sizes.{Sizes}
 use Rattle.lock_free.specs.declared.stock.OwnNode.{OwnNode}
 use Rattle.lock_free.specs.Accounts.{place_of}
+use Rattle.lock_free.specs.Limbos.{IsLimbo}
 use Rattle.lock_free.specs.Loading.{now}
 use Rattle.lock_free.specs.Making.{with_slots, with_slot}
 use Rattle.lock_free.specs.Nodes.{class_of}
 use Rattle.lock_free.specs.Rules.{pool_of}
 
--- a stock as contracts see it: free slots by class, the next one last, and what was made, in order
+-- a stock as contracts see it: free slots by class, the next one last, what was made, in order, and how hangs what the seat has retired
 pub record Stocked : Type 0 where
   pub sizes : Sizes
   pub pool : Pool
   pub made : List OwnNode
+  pub limbo : Limbo
 
 -- ---- what it says of a view
 
@@ -38,11 +41,18 @@ own_nodes v = own_of (operation_of (now v) v.actor)
 abbrev pub made_of : View → Ref → OwnNode
 made_of v r = record { class = class_of (node_at (now v).heap r); slot = place_of v.account r }
 
+-- its free slots and what was made are this seat's
+pub record HoldsSlots (stock : Stocked) (v : View) : Type 0 where
+  pub sizes : stock.sizes ≡ v.sizes
+  pub pool : stock.pool ≡ v.pool
+  pub made : stock.made ≡ map (made_of v) (own_nodes v)
+
 -- the stock is this seat's
 pub record IsStock (stock : Stocked) (v : View) : Type 0 where
   pub sizes : stock.sizes ≡ v.sizes
   pub pool : stock.pool ≡ v.pool
   pub made : stock.made ≡ map (made_of v) (own_nodes v)
+  pub limbo : IsLimbo stock.limbo v
 
 -- ---- what is taken from it, and goes back
 

@@ -15,6 +15,7 @@ use Rattle.lock_free.specs.Accounts.{HasWaited}
 use Rattle.lock_free.specs.Answering.{HasAnswered}
 use Rattle.lock_free.specs.Attempts.{HasEndedWith}
 use Rattle.lock_free.specs.Calling.{HasCalled}
+use Rattle.lock_free.specs.Limbos.{HasReclaimedSome}
 use Rattle.lock_free.specs.Loading.{IsAt, IsSound}
 use Rattle.lock_free.specs.Parking.{opens_of, IsParked}
 use Rattle.lock_free.specs.RunningOn.{RunsOn}
@@ -64,9 +65,10 @@ HasRunBy before call opens (ran.UnderWay access parked) after = IsUnderWay befor
 abbrev pub HasRunOn : View → Ran → View → Type 0
 HasRunOn v result after = (before : View) (call : Call) (opens : Option ℕ) → IsUnderWay before call opens v → HasRunBy before call opens result after
 
--- its operation has ended, and this is told of it
+-- its operation has ended, this is told of it, and some of what it has retired is free again
 abbrev pub HasFinished : View → Result Reply CallError → View → Type 0
-HasFinished v told after = (answer : Reply) × (lack : CallError) × IsLack lack × (told ≡ told_by answer lack) × HasEndedWith v answer after
+HasFinished v told after = (answer : Reply) × (lack : CallError) × IsLack lack × (told ≡ told_by answer lack) × (ended : View) × HasEndedWith v answer ended
+    × HasReclaimedSome ended after
 
 -- or it is where it was
 abbrev pub HasComeOut : View → Access → Ran → View → Type 0

@@ -20,16 +20,13 @@ use crate::copy_runs::{is_copy, run_tried};
 use crate::loads::{Actor, Words};
 use crate::parking::{Came, Parked, go_on};
 use crate::seating::end_with;
-use crate::stock::Stock;
+use crate::stock::{Stock, tidy};
 use crate::stores::GENERATION;
 use history::{Access, Call, Reply};
 use std::sync::Wait;
 
 /// So many handles there are at most.
 pub(crate) const HANDLES: u16 = 256;
-
-/// No slot of a node that others could meet is used again yet, so each pin has the first epoch.
-pub(crate) const EPOCH: u64 = 0;
 
 /// How far a call has come.
 #[derive(Drop)]
@@ -67,7 +64,8 @@ pub(crate) fn lack_of(words: &Words, stock: &Stock, call: Call) -> CallError
     }
 }
 
-/// Ends the operation of this call by this seat, `seat`, with this reply, or as one that gives up.
+/// Ends the operation of this call by this seat, `seat`, with this reply, or as one that gives up. Some of what the seat has retired may be free
+/// for it then.
 #[inline(always)]
 fn finish_call(
     words: &Words,
@@ -89,7 +87,9 @@ fn finish_call(
     ensures finished { HasFinished actor.old.me.0 result actor.new.me.0 }
 {
     let reply = end_with(words, actor, stock, seat, answered);
-    told_by(reply, lack_of(words, stock, call))
+    let told = told_by(reply, lack_of(words, stock, call));
+    tidy(words, actor, stock);
+    told
 }
 
 /// Ends the operation of this call by this seat, `seat`, on a handle that allows this, unless something of it is under way.
@@ -152,7 +152,7 @@ pub(crate) fn run_with(
     ensures left { HasLeftWith actor.old.me.0 call opens result actor.new.me.0 }
 {
     stock.begin();
-    let way = match start_within(tries, words, actor, seat, EPOCH, &call) {
+    let way = match start_within(tries, words, actor, seat, stock.epoch(), &call) {
         Ok(Some(way)) => way,
         Ok(None) => return Ran::Told(Err(CallError::Spent)),
         Err(denial) => return Ran::Told(Err(CallError::from(denial))),
@@ -214,7 +214,7 @@ pub(crate) fn run_on_within(
     ensures run { HasRunOn actor.old.me.0 result actor.new.me.0 }
     ensures left { HasLeftWith actor.old.me.0 call (opens_of parked) result actor.new.me.0 }
 {
-    let came = go_on(tries, words, actor, call, access, parked);
+    let came = go_on(tries, words, actor, stock, call, access, parked);
     come_out(words, actor, stock, seat, call, access, came)
 }
 

@@ -21,7 +21,7 @@ ghost use Rattle.lock_free.specs.WholeCalls.{HasLeft, RestsWith};
 
 use crate::attempts::{Attempt, conclude, run_key};
 use crate::call_errors::CallError;
-use crate::call_runs::{EPOCH, HANDLES, end_call};
+use crate::call_runs::{HANDLES, end_call};
 use crate::calling::start_within;
 use crate::descending::Path;
 use crate::gets::{Gotten, try_get_within};
@@ -227,7 +227,7 @@ pub(crate) fn run_get<R: Wait>(
     }
     stock.begin();
     let call = Call::Get { handle, key };
-    let way = match start_within(u64::MAX, words, actor, seat, EPOCH, &call) {
+    let way = match start_within(u64::MAX, words, actor, seat, stock.epoch(), &call) {
         Ok(Some(way)) => way,
         Ok(None) => return Err(CallError::Spent),
         Err(denial) => return Err(CallError::from(denial)),

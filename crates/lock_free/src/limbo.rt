@@ -4,7 +4,7 @@ ghost use Rattle.std.specs.Prelude.{◌≡◌, ◌+◌, ◌≤◌, []};
 ghost use Rattle.lock_free.specs.declared.rules.View.{View};
 ghost use Rattle.lock_free.specs.Limbos.{link_to, linked_by, HasHung, HasReclaimedSome, HasTurned, IsLimbo, IsNewest};
 ghost use Rattle.lock_free.specs.Loading.{IsSound};
-ghost use Rattle.lock_free.specs.Stocks.{IsStock};
+ghost use Rattle.lock_free.specs.Stocks.{HoldsSlots};
 
 use crate::advancing::{advance, see_epoch};
 use crate::links::{link, see_link};
@@ -22,10 +22,12 @@ struct Chain {
 }
 
 /// A chain to which slots come, and one from which they go. It takes no memory but its own, however many there are.
-#[derive(Drop)]
+#[derive(Clone, Copy, Drop)]
 pub struct Limbo {
     young: Chain,
     aged: Chain,
+    /// The epoch that the seat has seen last.
+    pub(crate) seen: u64,
 }
 
 /// The link to this slot, or to none.
@@ -54,6 +56,7 @@ impl Limbo {
         Limbo {
             young: none,
             aged: none,
+            seen: 0,
         }
     }
 
@@ -94,6 +97,7 @@ pub fn hang(
         first: Some(slot),
         stamp,
     };
+    limbo.seen = stamp;
 }
 
 /// Makes the first slot of the aged chain, whose epoch is three back, free for the seat, if there is one, and its stock has room. Returns
@@ -101,12 +105,12 @@ pub fn hang(
 fn free_one(words: &Words, actor: &mut Actor, limbo: &mut Limbo, stock: &mut Stock) -> bool
     requires table { actor.old.table_id ≡ words.now.table_id }
     requires sound { IsSound words.now.table_id.words actor.old.me.0 }
-    requires stock { IsStock stock.old actor.old.me.0 }
+    requires stock { HoldsSlots stock.old actor.old.me.0 }
     requires limbo { IsLimbo limbo.old actor.old.me.0 }
     requires ripe { limbo.old.aged.stamp + 3 ≤ actor.old.me.0.epoch }
     ensures table { actor.new.table_id ≡ actor.old.table_id }
     ensures sound { IsSound words.now.table_id.words actor.new.me.0 }
-    ensures stock { IsStock stock.new actor.new.me.0 }
+    ensures stock { HoldsSlots stock.new actor.new.me.0 }
     ensures limbo { IsLimbo limbo.new actor.new.me.0 }
     ensures ripe { limbo.new.aged.stamp + 3 ≤ actor.new.me.0.epoch }
     ensures reclaimed { HasReclaimedSome actor.old.me.0 actor.new.me.0 }
@@ -114,7 +118,7 @@ fn free_one(words: &Words, actor: &mut Actor, limbo: &mut Limbo, stock: &mut Sto
     let Some(slot) = limbo.aged.first else {
         return false;
     };
-    if !stock.has_room() {
+    if !stock.takes_back() {
         return false;
     }
     let sizes = stock.sizes();
@@ -129,12 +133,12 @@ fn free_one(words: &Words, actor: &mut Actor, limbo: &mut Limbo, stock: &mut Sto
 fn free_some(tries: u64, words: &Words, actor: &mut Actor, limbo: &mut Limbo, stock: &mut Stock)
     requires table { actor.old.table_id ≡ words.now.table_id }
     requires sound { IsSound words.now.table_id.words actor.old.me.0 }
-    requires stock { IsStock stock.old actor.old.me.0 }
+    requires stock { HoldsSlots stock.old actor.old.me.0 }
     requires limbo { IsLimbo limbo.old actor.old.me.0 }
     requires ripe { limbo.old.aged.stamp + 3 ≤ actor.old.me.0.epoch }
     ensures table { actor.new.table_id ≡ actor.old.table_id }
     ensures sound { IsSound words.now.table_id.words actor.new.me.0 }
-    ensures stock { IsStock stock.new actor.new.me.0 }
+    ensures stock { HoldsSlots stock.new actor.new.me.0 }
     ensures limbo { IsLimbo limbo.new actor.new.me.0 }
     ensures reclaimed { HasReclaimedSome actor.old.me.0 actor.new.me.0 }
 {
@@ -156,11 +160,11 @@ pub fn reclaim_some(
 )
     requires table { actor.old.table_id ≡ words.now.table_id }
     requires sound { IsSound words.now.table_id.words actor.old.me.0 }
-    requires stock { IsStock stock.old actor.old.me.0 }
+    requires stock { HoldsSlots stock.old actor.old.me.0 }
     requires limbo { IsLimbo limbo.old actor.old.me.0 }
     ensures table { actor.new.table_id ≡ actor.old.table_id }
     ensures sound { IsSound words.now.table_id.words actor.new.me.0 }
-    ensures stock { IsStock stock.new actor.new.me.0 }
+    ensures stock { HoldsSlots stock.new actor.new.me.0 }
     ensures limbo { IsLimbo limbo.new actor.new.me.0 }
     ensures reclaimed { HasReclaimedSome actor.old.me.0 actor.new.me.0 }
 {
@@ -169,6 +173,7 @@ pub fn reclaim_some(
         return;
     }
     let epoch = see_epoch(words, actor);
+    limbo.seen = epoch;
     if is_ripe(epoch, limbo.aged.stamp) {
         free_some(tries, words, actor, limbo, stock);
         return;

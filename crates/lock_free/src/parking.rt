@@ -6,6 +6,7 @@ ghost use Rattle.lock_free.specs.Leaving.{EndsOrMay, IsClimbAfter, IsRepair, IsU
 ghost use Rattle.lock_free.specs.Loading.{IsSound};
 ghost use Rattle.lock_free.specs.Parking.{HasRunTo, HasWoundUp, IsBare, IsOwnLeft, IsParked, IsSwapFor, StillOwns, left_so};
 ghost use Rattle.lock_free.specs.Seeking.{IsCalled};
+ghost use Rattle.lock_free.specs.Stocks.{IsStock};
 ghost use Rattle.lock_free.specs.declared.parking.Came.TheVariants as came;
 
 use crate::calling::cut_short;
@@ -13,6 +14,7 @@ use crate::copy_runs::copy_goes_on;
 use crate::leaving::{Completing, Left, Swapping};
 use crate::loads::{Actor, Words};
 use crate::reading::Way;
+use crate::stock::Stock;
 use crate::swapping::{Decided, swap_on};
 use crate::tasks::changed_reply;
 use history::{Access, Call, Reply};
@@ -72,21 +74,23 @@ fn repair_on(
     tries: u64,
     words: &Words,
     actor: &mut Actor,
+    stock: &mut Stock,
     call: Call,
     access: Access,
     swapping: Swapping,
 ) -> Came
     requires table { actor.old.table_id ≡ words.now.table_id }
     requires sound { IsSound words.now.table_id.words actor.old.me.0 }
+    requires stock { IsStock stock.old actor.old.me.0 }
     requires called { IsCalled actor.old.me.0 call access }
     requires parked { IsSwapFor IsRepair actor.old.me.0 swapping }
     ensures table { actor.new.table_id ≡ actor.old.table_id }
     ensures sound { IsSound words.now.table_id.words actor.new.me.0 }
-    ensures stays { StillOwns actor.old.me.0 actor.new.me.0 }
+    ensures stock { IsStock stock.new actor.new.me.0 }
     ensures run { HasRunTo actor.old.me.0 result actor.new.me.0 }
 {
     let handle = call.handle();
-    match swap_on(tries, words, actor, Way { handle, access }, swapping) {
+    match swap_on(tries, words, actor, stock, Way { handle, access }, swapping) {
         Ok(_) => Came::Spent,
         Err(next) => Came::Parked(Parked::Repairs(next)),
     }
@@ -113,6 +117,7 @@ fn change_on(
     tries: u64,
     words: &Words,
     actor: &mut Actor,
+    stock: &mut Stock,
     call: Call,
     access: Access,
     swapping: Swapping,
@@ -120,15 +125,16 @@ fn change_on(
 ) -> Came
     requires table { actor.old.table_id ≡ words.now.table_id }
     requires sound { IsSound words.now.table_id.words actor.old.me.0 }
+    requires stock { IsStock stock.old actor.old.me.0 }
     requires called { IsCalled actor.old.me.0 call access }
     requires parked { IsSwapFor (IsUpdate former) actor.old.me.0 swapping }
     ensures table { actor.new.table_id ≡ actor.old.table_id }
     ensures sound { IsSound words.now.table_id.words actor.new.me.0 }
-    ensures stays { StillOwns actor.old.me.0 actor.new.me.0 }
+    ensures stock { IsStock stock.new actor.new.me.0 }
     ensures run { HasRunTo actor.old.me.0 result actor.new.me.0 }
 {
     let handle = call.handle();
-    match swap_on(tries, words, actor, Way { handle, access }, swapping) {
+    match swap_on(tries, words, actor, stock, Way { handle, access }, swapping) {
         Ok(Decided::Commits(_)) => Came::Answered(wind_up(words, actor, call, former)),
         Ok(Decided::Fails) => Came::Spent,
         Err(next) => Came::Parked(Parked::Changes(next, former)),
@@ -140,6 +146,7 @@ fn climb_on(
     tries: u64,
     words: &Words,
     actor: &mut Actor,
+    stock: &mut Stock,
     call: Call,
     access: Access,
     swapping: Swapping,
@@ -147,15 +154,16 @@ fn climb_on(
 ) -> Came
     requires table { actor.old.table_id ≡ words.now.table_id }
     requires sound { IsSound words.now.table_id.words actor.old.me.0 }
+    requires stock { IsStock stock.old actor.old.me.0 }
     requires called { IsCalled actor.old.me.0 call access }
     requires parked { IsSwapFor (IsClimbAfter former) actor.old.me.0 swapping }
     ensures table { actor.new.table_id ≡ actor.old.table_id }
     ensures sound { IsSound words.now.table_id.words actor.new.me.0 }
-    ensures stays { StillOwns actor.old.me.0 actor.new.me.0 }
+    ensures stock { IsStock stock.new actor.new.me.0 }
     ensures run { HasRunTo actor.old.me.0 result actor.new.me.0 }
 {
     let handle = call.handle();
-    match swap_on(tries, words, actor, Way { handle, access }, swapping) {
+    match swap_on(tries, words, actor, stock, Way { handle, access }, swapping) {
         Ok(_) => Came::Answered(wind_up(words, actor, call, former)),
         Err(next) => Came::Parked(Parked::Climbs(next, former)),
     }
@@ -166,26 +174,28 @@ pub(crate) fn go_on(
     tries: u64,
     words: &Words,
     actor: &mut Actor,
+    stock: &mut Stock,
     call: Call,
     access: Access,
     parked: Parked,
 ) -> Came
     requires table { actor.old.table_id ≡ words.now.table_id }
     requires sound { IsSound words.now.table_id.words actor.old.me.0 }
+    requires stock { IsStock stock.old actor.old.me.0 }
     requires called { IsCalled actor.old.me.0 call access }
     requires parked { IsParked actor.old.me.0 parked }
     ensures table { actor.new.table_id ≡ actor.old.table_id }
     ensures sound { IsSound words.now.table_id.words actor.new.me.0 }
-    ensures stays { StillOwns actor.old.me.0 actor.new.me.0 }
+    ensures stock { IsStock stock.new actor.new.me.0 }
     ensures run { HasRunTo actor.old.me.0 result actor.new.me.0 }
 {
     match parked {
-        Parked::Repairs(swapping) => repair_on(tries, words, actor, call, access, swapping),
+        Parked::Repairs(swapping) => repair_on(tries, words, actor, stock, call, access, swapping),
         Parked::Changes(swapping, former) => change_on(
-            tries, words, actor, call, access, swapping, former,
+            tries, words, actor, stock, call, access, swapping, former,
         ),
         Parked::Climbs(swapping, former) => climb_on(
-            tries, words, actor, call, access, swapping, former,
+            tries, words, actor, stock, call, access, swapping, former,
         ),
         Parked::Copies(completing, opens) => copy_goes_on(
             tries, words, actor, call, access, opens, completing,

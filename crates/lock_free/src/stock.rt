@@ -1,12 +1,16 @@
 //! What a seat owns in plain memory: slots that are free for it, and those of the nodes that its operation has made.
 
-ghost use Rattle.std.specs.Prelude.{◌≡◌, ℕ, ◌<◌, ◌≤◌, [], IsTrue, OnSome, length};
+ghost use Rattle.std.specs.Prelude.{◌≡◌, ℕ, ◌<◌, ◌≤◌, ◌^◌, [], IsTrue, OnSome, length};
+ghost use Rattle.lock_free.specs.declared.rules.View.{View};
+ghost use Rattle.lock_free.specs.Limbos.{HasHung, HasReclaimedSome, IsLimbo, IsNewestOrNone};
 ghost use Rattle.lock_free.specs.Loading.{IsSound};
 ghost use Rattle.lock_free.specs.Making.{with_slot};
 ghost use Rattle.lock_free.specs.Rules.{pool_of};
 ghost use Rattle.lock_free.specs.Stocks.{HasRoom, HasSlotOrNone, IsLast, IsPopped, IsStock, NotesLast, put_back};
 
+use crate::limbo::{Limbo, hang, reclaim_some};
 use crate::loads::{Actor, Words};
+use crate::reclaiming::Retiree;
 use crate::sizes::Sizes;
 use crate::stores::{Tried, try_take};
 use arrayvec::ArrayVec;
@@ -14,6 +18,18 @@ use std::marker::Model;
 
 /// So many slots of a class are kept at most, with those of all nodes that were made. One try of an operation makes 33 at most.
 const MOST_KEPT: usize = 128;
+
+/// A seat that has retired so many slots makes some free again when its call ends.
+const OFTEN: u32 = 16;
+
+/// A seat's word has room for this epoch, and for none after it.
+const LAST_EPOCH: u64 = (1 << 54) - 1;
+
+/// So many at most.
+const AT_ONCE: u64 = 64;
+
+/// Room for so many is left where slots are free again that were retired.
+const KEPT_FREE: usize = 48;
 
 /// A node that the seat's operation has made and nobody else knows.
 #[derive(Clone, Copy, Default, Drop)]
@@ -107,6 +123,10 @@ pub struct Stock {
     free: Free,
     /// What its operation has made, in order.
     made: ArrayVec<OwnNode, 128>,
+    /// What the seat has retired.
+    limbo: Limbo,
+    /// How many slots it has retired since it last would make some free.
+    newly: u32,
     /// Whether its call has found no slot.
     lacks: bool,
 }
@@ -116,7 +136,7 @@ impl Model for Stock {
 
     ghost Value = { Stocked };
 
-    ghost view = { λ s. record { sizes = s.sizes; pool = s.free; made = s.made.items } };
+    ghost view = { λ s. record { sizes = s.sizes; pool = s.free; made = s.made.items; limbo = s.limbo } };
 
     ghost invariant = { λ s. AreFew s.free s.made.items };
 }
@@ -129,11 +149,14 @@ impl Stock {
         ensures medium { result.pool.medium ≡ [] }
         ensures wide { result.pool.wide ≡ [] }
         ensures made { result.made ≡ [] }
+        ensures limbo { (v : View) → v.retired ≡ [] → IsLimbo result.limbo v }
     {
         Stock {
             sizes,
             free: Free::new(),
             made: ArrayVec::new(),
+            limbo: Limbo::new(),
+            newly: 0,
             lacks: false,
         }
     }
@@ -155,6 +178,15 @@ impl Stock {
     /// Whether its call has found no slot.
     pub fn lacks(&self) -> bool {
         self.lacks
+    }
+
+    /// An epoch that the seat has seen, the last one if that isn't out of range. A call that it begins is pinned in it.
+    #[inline(always)]
+    pub fn epoch(&self) -> u64
+        ensures low { result < 2 ^ 54 }
+        ensures seen { result ≤ self.now.limbo.seen }
+    {
+        self.limbo.seen.min(LAST_EPOCH)
     }
 
     /// How many of everything its seat's map has.
@@ -179,12 +211,20 @@ impl Stock {
         self.made.len() + self.free.most() + 2 <= MOST_KEPT
     }
 
+    /// Whether one slot more leaves room for all that a try may make, of any class.
+    pub fn takes_back(&self) -> bool
+        ensures { IsTrue result → HasRoom self.now 2 }
+    {
+        self.made.len() + self.free.most() + KEPT_FREE <= MOST_KEPT
+    }
+
     /// One slot more is free.
     pub fn add(&mut self, class: u32, slot: u32)
         requires room { HasRoom self.old 1 }
         ensures sizes { self.new.sizes ≡ self.old.sizes }
         ensures pool { self.new.pool ≡ with_slot self.old.pool class slot }
         ensures made { self.new.made ≡ self.old.made }
+        ensures limbo { self.new.limbo ≡ self.old.limbo }
     {
         self.free.add(class, slot);
     }
@@ -195,6 +235,7 @@ impl Stock {
         requires room { HasRoom self.old 1 }
         ensures sizes { self.new.sizes ≡ self.old.sizes }
         ensures noted { NotesLast self.old class self.new }
+        ensures limbo { self.new.limbo ≡ self.old.limbo }
     {
         if let Some(slot) = self.free.pop(class) {
             self.made.push(OwnNode { class, slot });
@@ -206,6 +247,7 @@ impl Stock {
         ensures sizes { self.new.sizes ≡ self.old.sizes }
         ensures pool { self.new.pool ≡ put_back self.old.made self.old.pool }
         ensures made { self.new.made ≡ [] }
+        ensures limbo { self.new.limbo ≡ self.old.limbo }
     {
         for n in 0..self.made.len() {
             let made = self.made[n];
@@ -219,9 +261,89 @@ impl Stock {
         ensures sizes { self.new.sizes ≡ self.old.sizes }
         ensures pool { self.new.pool ≡ self.old.pool }
         ensures made { self.new.made ≡ [] }
+        ensures limbo { self.new.limbo ≡ self.old.limbo }
     {
         self.made.clear();
     }
+
+    /// How that hangs which the seat has retired.
+    fn limbo(&self) -> Limbo
+        ensures { result ≡ self.now.limbo }
+    {
+        self.limbo
+    }
+
+    /// It hangs so now, after some was made free.
+    fn hold(&mut self, limbo: Limbo)
+        ensures { self.new ≡ record self.old { limbo = limbo } }
+    {
+        self.limbo = limbo;
+        self.newly = 0;
+    }
+
+    /// Whether the seat is to make some free of what it has retired.
+    #[inline(always)]
+    fn is_due(&self) -> bool {
+        self.lacks || self.newly >= OFTEN
+    }
+
+    /// Hangs the slot that the seat has just retired, if there is one.
+    pub fn hang(&mut self, words: &Words, actor: &mut Actor, retired: Option<Retiree>)
+        requires table { actor.old.table_id ≡ words.now.table_id }
+        requires sound { IsSound words.now.table_id.words actor.old.me.0 }
+        requires sizes { self.old.sizes ≡ actor.old.me.0.sizes }
+        requires newest { IsNewestOrNone self.old.limbo actor.old.me.0 retired }
+        ensures table { actor.new.table_id ≡ actor.old.table_id }
+        ensures sound { IsSound words.now.table_id.words actor.new.me.0 }
+        ensures same { self.new ≡ record self.old { limbo = self.new.limbo } }
+        ensures limbo { IsLimbo self.new.limbo actor.new.me.0 }
+        ensures hung { HasHung actor.old.me.0 actor.new.me.0 }
+    {
+        if let Some(retiree) = retired {
+            self.newly = self.newly.saturating_add(1);
+            hang(
+                words,
+                actor,
+                &self.sizes,
+                &mut self.limbo,
+                retiree.class,
+                retiree.slot,
+            );
+        }
+    }
+}
+
+/// Makes slots that the seat has retired free for it again, where its call has found none, or it has retired some since it last did so.
+#[inline(always)]
+pub fn tidy(words: &Words, actor: &mut Actor, stock: &mut Stock)
+    requires table { actor.old.table_id ≡ words.now.table_id }
+    requires sound { IsSound words.now.table_id.words actor.old.me.0 }
+    requires stock { IsStock stock.old actor.old.me.0 }
+    ensures table { actor.new.table_id ≡ actor.old.table_id }
+    ensures sound { IsSound words.now.table_id.words actor.new.me.0 }
+    ensures stock { IsStock stock.new actor.new.me.0 }
+    ensures reclaimed { HasReclaimedSome actor.old.me.0 actor.new.me.0 }
+{
+    if !stock.is_due() {
+        return;
+    }
+    make_free(words, actor, stock);
+}
+
+/// Makes slots that the seat has retired free for it again, if the epoch has grown enough since.
+#[inline(never)]
+fn make_free(words: &Words, actor: &mut Actor, stock: &mut Stock)
+    requires table { actor.old.table_id ≡ words.now.table_id }
+    requires sound { IsSound words.now.table_id.words actor.old.me.0 }
+    requires stock { IsStock stock.old actor.old.me.0 }
+    ensures table { actor.new.table_id ≡ actor.old.table_id }
+    ensures sound { IsSound words.now.table_id.words actor.new.me.0 }
+    ensures stock { IsStock stock.new actor.new.me.0 }
+    ensures reclaimed { HasReclaimedSome actor.old.me.0 actor.new.me.0 }
+{
+    let mut limbo = stock.limbo();
+    reclaim_some(AT_ONCE, words, actor, &mut limbo, stock);
+    stock.hold(limbo);
 }
 
 /// A slot of this class for the next node: the last of those that are free then. None where all were handed out, or others took each one

@@ -2,6 +2,7 @@
 
 ghost use Rattle.std.specs.Prelude.{◌≡◌, [], IfErr, IfOk};
 ghost use Rattle.lock_free.specs.Leaving.{HasDecidedSwap, HasLeftSwap, HasSwappedOn, IsSwapLeft};
+ghost use Rattle.lock_free.specs.Limbos.{IsLimbo};
 ghost use Rattle.lock_free.specs.Loading.{IsSound};
 ghost use Rattle.lock_free.specs.Passing.{IsOnWay};
 ghost use Rattle.lock_free.specs.Reclaiming.{AddsRetired};
@@ -38,12 +39,14 @@ pub enum Swapped {
     Misses,
 }
 
-/// The SWAP that is under way, on to its end within so many tries. Returns what it comes to; or from where it goes on.
+/// The SWAP that is under way, on to its end within so many tries. Returns what it comes to; or from where it goes on. What it retires hangs
+/// with all else that the seat has retired.
 #[inline(always)]
 pub fn swap_on(
     tries: u64,
     words: &Words,
     actor: &mut Actor,
+    stock: &mut Stock,
     way: Way,
     swapping: Swapping,
 ) -> Result<Decided, Swapping>
@@ -51,8 +54,12 @@ pub fn swap_on(
     requires sound { IsSound words.now.table_id.words actor.old.me.0 }
     requires way { IsOnWay actor.old.me.0 way }
     requires swapping { IsSwapLeft actor.old.me.0 swapping }
+    requires sizes { stock.old.sizes ≡ actor.old.me.0.sizes }
+    requires limbo { IsLimbo stock.old.limbo actor.old.me.0 }
     ensures table { actor.new.table_id ≡ actor.old.table_id }
     ensures sound { IsSound words.now.table_id.words actor.new.me.0 }
+    ensures same { stock.new ≡ record stock.old { limbo = stock.new.limbo } }
+    ensures limbo { IsLimbo stock.new.limbo actor.new.me.0 }
     ensures done { IfOk result (λ decided. HasDecidedSwap actor.old.me.0 swapping decided actor.new.me.0) }
     ensures on { IfErr result (λ next. HasSwappedOn actor.old.me.0 swapping next actor.new.me.0) }
 {
@@ -67,7 +74,9 @@ pub fn swap_on(
         Some(from) => Err(Swapping { from, ..swapping }),
         None => {
             if check_swap(words, actor, swapping.fresh, swapping.replaced.own) {
-                Ok(Decided::Commits(retiree_of(swapping.replaced, swapping.class)))
+                let retired = retiree_of(swapping.replaced, swapping.class);
+                stock.hang(words, actor, retired);
+                Ok(Decided::Commits(retired))
             } else {
                 Ok(Decided::Fails)
             }
@@ -92,6 +101,7 @@ pub fn swap_within(
     tries: u64,
     words: &Words,
     actor: &mut Actor,
+    stock: &mut Stock,
     way: Way,
     indirection: u32,
     link: Link,
@@ -102,8 +112,12 @@ pub fn swap_within(
     requires sound { IsSound words.now.table_id.words actor.old.me.0 }
     requires way { IsOnWay actor.old.me.0 way }
     requires swapping { IsAtSwap actor.old.me.0 indirection link class fresh }
+    requires sizes { stock.old.sizes ≡ actor.old.me.0.sizes }
+    requires limbo { IsLimbo stock.old.limbo actor.old.me.0 }
     ensures table { actor.new.table_id ≡ actor.old.table_id }
     ensures sound { IsSound words.now.table_id.words actor.new.me.0 }
+    ensures same { stock.new ≡ record stock.old { limbo = stock.new.limbo } }
+    ensures limbo { IsLimbo stock.new.limbo actor.new.me.0 }
     ensures done { IfOk result (λ swapped. HasSwapDone actor.old.me.0 swapped actor.new.me.0) }
     ensures which { IfOk result (RetiresOwn link.main class) }
     ensures left { IfErr result (λ left. HasLeftSwap actor.old.me.0 left actor.new.me.0) }
@@ -125,7 +139,7 @@ pub fn swap_within(
         replaced: link.main,
         class,
     };
-    match swap_on(tries, words, actor, way, begun) {
+    match swap_on(tries, words, actor, stock, way, begun) {
         Ok(decided) => Ok(swapped_by(decided)),
         Err(next) => Err(next),
     }
@@ -137,6 +151,7 @@ fn settle_stock(stock: &mut Stock, swapped: Swapped)
     ensures sizes { stock.new.sizes ≡ stock.old.sizes }
     ensures pool { stock.new.pool ≡ settled_pool swapped stock.old.made stock.old.pool }
     ensures made { stock.new.made ≡ [] }
+    ensures limbo { stock.new.limbo ≡ stock.old.limbo }
 {
     match swapped {
         Swapped::Misses => stock.give_back(),
@@ -170,7 +185,17 @@ pub fn swap_made_within(
     ensures which { IfOk result (RetiresOwn link.main class) }
     ensures left { IfErr result (λ left. HasLeftSwap actor.old.me.0 left actor.new.me.0) }
 {
-    match swap_within(tries, words, actor, way, indirection, link, class, fresh) {
+    match swap_within(
+        tries,
+        words,
+        actor,
+        stock,
+        way,
+        indirection,
+        link,
+        class,
+        fresh,
+    ) {
         Ok(swapped) => {
             settle_stock(stock, swapped);
             Ok(swapped)

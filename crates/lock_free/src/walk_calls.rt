@@ -11,7 +11,7 @@ ghost use Rattle.lock_free.specs.Stocks.{IsStock};
 ghost use Rattle.lock_free.specs.WholeCalls.{reply_or_none, HasLeft, IsWalkLack, IsWalkOf, RestsWith};
 
 use crate::call_errors::CallError;
-use crate::call_runs::{EPOCH, HANDLES};
+use crate::call_runs::HANDLES;
 use crate::calling::{start, start_within};
 use crate::loads::{Actor, Words};
 use crate::reading::Way;
@@ -118,7 +118,8 @@ fn list_all<R: Wait>(
     if handle >= HANDLES {
         return Err(CallError::NoHandle);
     }
-    match start(rt, words, actor, seat, EPOCH, &Call::Entries { handle }) {
+    let epoch = stock.epoch();
+    match start(rt, words, actor, seat, epoch, &Call::Entries { handle }) {
         Ok(way) => list_from(alloc, u64::MAX, words, actor, stock, seat, way),
         Err(denial) => Err(CallError::from(denial)),
     }
@@ -149,7 +150,8 @@ fn list_all_within(
     if handle >= HANDLES {
         return Err(CallError::NoHandle);
     }
-    match start_within(tries, words, actor, seat, EPOCH, &Call::Entries { handle }) {
+    let epoch = stock.epoch();
+    match start_within(tries, words, actor, seat, epoch, &Call::Entries { handle }) {
         Ok(Some(way)) => list_from(alloc, tries, words, actor, stock, seat, way),
         Ok(None) => Err(CallError::Spent),
         Err(denial) => Err(CallError::from(denial)),
@@ -181,7 +183,8 @@ fn count_all<R: Wait>(
     if handle >= HANDLES {
         return Err(CallError::NoHandle);
     }
-    match start(rt, words, actor, seat, EPOCH, &Call::Count { handle }) {
+    let epoch = stock.epoch();
+    match start(rt, words, actor, seat, epoch, &Call::Count { handle }) {
         Ok(way) => count_from(alloc, u64::MAX, words, actor, stock, seat, way),
         Err(denial) => Err(CallError::from(denial)),
     }
@@ -212,7 +215,8 @@ fn count_all_within(
     if handle >= HANDLES {
         return Err(CallError::NoHandle);
     }
-    match start_within(tries, words, actor, seat, EPOCH, &Call::Count { handle }) {
+    let epoch = stock.epoch();
+    match start_within(tries, words, actor, seat, epoch, &Call::Count { handle }) {
         Ok(Some(way)) => count_from(alloc, tries, words, actor, stock, seat, way),
         Ok(None) => Err(CallError::Spent),
         Err(denial) => Err(CallError::from(denial)),

@@ -4,6 +4,8 @@
 #[cfg(test)]
 mod opening;
 #[cfg(test)]
+mod reuse;
+#[cfg(test)]
 mod tries;
 #[cfg(test)]
 mod wholes;

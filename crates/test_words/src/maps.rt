@@ -53,7 +53,7 @@ impl From<OpenError> for Trouble {
     }
 }
 
-/// The sizes of a map for so many calls of so many threads: no slot of a node that others could meet is used again, and a call may take some fifty.
+/// The sizes of a map for so many calls of so many threads: few slots are used again, and a call may take some fifty.
 pub fn sizes_for(threads: u8, hash: HashKind, calls: u64) -> Sizes {
     let wide = calls.clamp(64, 4_000_000) as u32;
     Sizes {

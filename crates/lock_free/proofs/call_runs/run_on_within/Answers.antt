@@ -9,9 +9,6 @@ go_on-came-requires-clause-called c = c.requires.going.called
 pub go_on-came-requires-clause-parked : goal.go_on-came-requires-clause-parked
 go_on-came-requires-clause-parked c = c.requires.going.its
 
-pub come_out-requires-clause-stock : goal.come_out-requires-clause-stock
-come_out-requires-clause-stock c = c.go_on-came.ensures.stays c.args.stock.now c.requires.stock
-
 pub come_out-requires-clause-come : goal.come_out-requires-clause-come
 come_out-requires-clause-come c = c.go_on-came.ensures.run.1
 

@@ -1,4 +1,4 @@
-use Rattle.std.proofs.Common.{true, false, subst}
+use Rattle.std.proofs.Common.{true, false, subst, ◌∙◌}
 use Rattle.lock_free.specs.CopySteps.{HasCopied, HasPreparedOrNone, OriginalOrNot}
 use Rattle.lock_free.specs.RootOffers.{HasOfferedOrMissed, HasOfferedWithin}
 use Rattle.lock_free.proofs.CopyTries.{left_copy, left_stock, spent_stock, spent_stopped, unoffered, unoffered_stock}
@@ -37,7 +37,7 @@ returns-then-not-stands-clause-stock c =
     c.offer_within.new.actor.me.0
     (subst (λ b. HasOfferedOrMissed c.prepare.new.actor.me.0 c.in-Some-prepare.slot b c.offer_within.new.actor.me.0) c.if-not-stands.true (c.in-Some-offer_within.ensures {u = tt}).offered)
     c.prepare.new.stock c.give_back.new.self
-    c.prepare.ensures.stock c.give_back.ensures.sizes c.give_back.ensures.pool c.give_back.ensures.made
+    c.prepare.ensures.stock c.give_back.ensures.sizes c.give_back.ensures.pool c.give_back.ensures.made c.give_back.ensures.limbo
 
 pub returns-then-not-stands-clause-tried : goal.returns-then-not-stands-clause-tried
 returns-then-not-stands-clause-tried c =
@@ -75,6 +75,7 @@ returns-then-not-carried-clause-stock c =
     c.prepare.new.stock
     c.note.new.self c.hand_over.new.self c.prepare.ensures.stock
     c.note.ensures.sizes c.note.ensures.noted c.hand_over.ensures.sizes c.hand_over.ensures.pool c.hand_over.ensures.made
+    (c.hand_over.ensures.limbo ∙ c.note.ensures.limbo)
 
 pub returns-then-not-carried-clause-tried : goal.returns-then-not-carried-clause-tried
 returns-then-not-carried-clause-tried c =
@@ -104,7 +105,8 @@ returns-clause-stock c =
     c.complete_own_within.new.actor.me.0 (subst (λ b. HasCopied c.offer_within.new.actor.me.0 b c.complete_own_within.new.actor.me.0) c.if-not-carried.false (c.in-Ok.ensures {u = tt}).copied)
     c.prepare.new.stock
     c.note.new.self c.hand_over.new.self c.prepare.ensures.stock
-    c.note.ensures.sizes c.note.ensures.noted c.hand_over.ensures.sizes c.hand_over.ensures.pool c.hand_over.ensures.made in
+    c.note.ensures.sizes c.note.ensures.noted c.hand_over.ensures.sizes c.hand_over.ensures.pool c.hand_over.ensures.made
+    (c.hand_over.ensures.limbo ∙ c.note.ensures.limbo) in
     let tried = copied_tried c.args.words.now.table_id.words c.args.actor.now.me.0 c.requires.sound c.args.which c.args.way.handle c.args.opens c.requires.copying c.args.root c.requires.at
     c.in-Some.given c.read_original_within.new.actor.me.0 (c.in-Some.ensures {u = tt}).original c.in-Some-prepare.slot c.prepare.new.actor.me.0 (c.in-Some-prepare.ensures {u = tt}).prepared
     c.prepare.ensures.sound c.offer_within.new.actor.me.0
@@ -169,6 +171,7 @@ returns-in-Err-clause-stock c =
     c.offer_within.ensures.sound c.in-Err.next c.complete_own_within.new.actor.me.0 (c.in-Err.ensures {u = tt}).on c.prepare.new.stock
     c.note.new.self c.hand_over.new.self c.prepare.ensures.stock
     c.note.ensures.sizes c.note.ensures.noted c.hand_over.ensures.sizes c.hand_over.ensures.pool c.hand_over.ensures.made
+    (c.hand_over.ensures.limbo ∙ c.note.ensures.limbo)
 
 pub returns-in-Err-clause-left : goal.returns-in-Err-clause-left
 returns-in-Err-clause-left c =

@@ -1,6 +1,7 @@
 use Rattle.std.proofs.Common.{ap, sym, subst}
 use Rattle.lock_free.specs.CopySteps.{HasPreparedOrNone}
-use Rattle.lock_free.proofs.CopyOffers.{named_so, names_it, slot_free, stopped_there, unnamed_so}
+use Rattle.lock_free.proofs.LimboStays.{stock_elsewhere}
+use Rattle.lock_free.proofs.CopyOffers.{drafted_only, named_only, named_so, names_it, slot_free, stopped_there, unnamed_so}
 use Rattle.lock_free.proofs.copying.prepare.Goals as goal
 
 pub returns-in_err-roots-clause-prepared : goal.returns-in_err-roots-clause-prepared
@@ -45,3 +46,17 @@ returns-in-None-clause-prepared c =
     unnamed_so c.args.actor.now.me.0 c.args.which c.args.handle c.args.opens c.requires.copying c.args.root c.args.main c.requires.ready c.in_ok-roots.roots c.make_roots.new.actor.me.0
     ((c.in_ok-roots.ensures {u = tt}).made root main at) c.take.new.actor.me.0 c.draft_offer.new.actor.me.0 c.in_ok-slot.slot (c.in_ok-slot.ensures {u = tt}).slot c.draft_offer.ensures.drafted
     c.in-None.is
+
+pub returns-in-Some-clause-stock : goal.returns-in-Some-clause-stock
+returns-in-Some-clause-stock c =
+    let b = c.take.new.actor.me.0 in
+    let d = c.draft_offer.new.actor.me.0 in
+    let x = c.name.new.actor.me.0 in
+    stock_elsewhere c.take.new.stock d x (named_only d x c.in_ok-slot.slot (ap (λ me. me.0) c.name.ensures.named))
+    (stock_elsewhere c.take.new.stock b d (drafted_only b d c.draft_offer.ensures.drafted.is) (c.in_ok-slot.ensures {u = tt}).stock)
+
+pub returns-in-None-clause-stock : goal.returns-in-None-clause-stock
+returns-in-None-clause-stock c =
+    let b = c.take.new.actor.me.0 in
+    let d = c.draft_offer.new.actor.me.0 in
+    stock_elsewhere c.take.new.stock b d (drafted_only b d c.draft_offer.ensures.drafted.is) (c.in_ok-slot.ensures {u = tt}).stock

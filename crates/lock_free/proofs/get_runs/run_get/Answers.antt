@@ -5,11 +5,15 @@ use Rattle.lock_free.specs.declared.call_runs.Ran.TheVariants as ran
 use Rattle.lock_free.specs.Calling.{CalledOrNot, HasCalled}
 use Rattle.lock_free.specs.SeatCalls.{WasRefused}
 use Rattle.lock_free.specs.Stocks.{IsStock}
-use Rattle.lock_free.proofs.CallBegins.{opens_begun, same_begun}
+use Rattle.lock_free.proofs.LimboStays.{pinned_late}
+use Rattle.lock_free.proofs.CallBegins.{opens_begun, same_begun, stock_begun}
 use Rattle.lock_free.proofs.CallsDenied.{denied_left, denied_refused, no_handle_denied}
 use Rattle.lock_free.proofs.CallsUnderWay.{begun_under_way, denied_owns, left_both, plain_run, spent_left, spent_owns, spent_told}
 use Rattle.lock_free.proofs.WholeCalls.{begun_called, begun_try}
 use Rattle.lock_free.proofs.get_runs.run_get.Goals as goal
+
+pub start_within-requires-clause-late : goal.start_within-requires-clause-late
+start_within-requires-clause-late g c = pinned_late c.args.stock.now c.begin.new.self c.args.actor.now.me.0 c.requires.stock c.begin.ensures c.epoch.result c.epoch.ensures.seen
 
 pub returns-then-handle-ge-HANDLES-clause-told : goal.returns-then-handle-ge-HANDLES-clause-told
 returns-then-handle-ge-HANDLES-clause-told g c = no_handle_denied c.args.actor.now.me.0 (Get c.args.handle c.args.key) c.if-handle-ge-HANDLES.true
@@ -106,3 +110,11 @@ returns-clause-left g c =
     let call = Get c.args.handle c.args.key in
     let h : HasCalled v call (Ok c.in-Ok-Some.way) u = subst (λ r. CalledOrNot v call (Ok r) u) c.in-Ok-Some.field-0-is (c.in-Ok-Some.ensures {u = tt}).called in
     left_both v u c.get_begun.new.actor.me.0 (same_begun v None c.requires.ready call c.in-Ok-Some.way u h) c.get_begun.ensures.left
+
+pub get_begun-requires-clause-stock : goal.get_begun-requires-clause-stock
+get_begun-requires-clause-stock g c =
+    let v = c.args.actor.now.me.0 in
+    let u = c.start_within.new.actor.me.0 in
+    let call = Get c.args.handle c.args.key in
+    let h = subst (λ r. CalledOrNot v call (Ok r) u) c.in-Ok-Some.field-0-is (c.in-Ok-Some.ensures {u = tt}).called in
+    stock_begun v None c.requires.ready call c.in-Ok-Some.way u h c.begin.new.self (subst (λ s. IsStock s v) (sym c.begin.ensures) c.requires.stock)

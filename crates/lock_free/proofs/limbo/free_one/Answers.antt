@@ -31,7 +31,8 @@ returns-clause-limbo c =
     let limbo = c.args.limbo.now in
     let v = c.args.actor.now.me.0 in
     let class = class_is limbo v c.requires.limbo c.in-Some.slot c.in-Some.is c.sizes-sizes.result (c.sizes-sizes.ensures ∙ c.requires.stock.sizes) c.class-class.result c.class-class.ensures in
-    subst (λ first. IsLimbo (record { young = limbo.young; aged = record { first = first; stamp = limbo.aged.stamp } }) c.reclaim-link.new.actor.me.0) (sym c.linked_by-limbo.ensures)
+    subst (λ first. IsLimbo (record { young = limbo.young; aged = record { first = first; stamp = limbo.aged.stamp }; seen = limbo.seen }) c.reclaim-link.new.actor.me.0)
+    (sym c.linked_by-limbo.ensures)
     (limbo_let_go limbo v c.requires.limbo c.in-Some.slot c.in-Some.is c.class-class.result c.reclaim-link.result c.reclaim-link.new.actor.me.0 class c.reclaim-link.ensures.reclaimed)
 
 pub returns-clause-reclaimed : goal.returns-clause-reclaimed

@@ -1,5 +1,5 @@
-use Rattle.std.proofs.Common.{ap}
-use Rattle.lock_free.proofs.LetGo.{knowing_is, knowing_limbo, knowing_reclaimed, more_reclaimed, turned_limbo}
+use Rattle.std.proofs.Common.{ap, arith}
+use Rattle.lock_free.proofs.LetGo.{known_epoch, knowing_is, knowing_limbo, knowing_more, knowing_reclaimed, more_reclaimed, turned_limbo}
 use Rattle.lock_free.proofs.limbo.reclaim_some.Goals as goal
 
 pub returns-then-is_none-clause-limbo : goal.returns-then-is_none-clause-limbo
@@ -9,8 +9,10 @@ pub free_some-requires-clause-limbo : goal.free_some-requires-clause-limbo
 free_some-requires-clause-limbo c =
     let v = c.args.actor.now.me.0 in
     let w = c.see_epoch-epoch.new.actor.me.0 in
-    knowing_limbo c.turn.new.self v w (knowing_is v w c.see_epoch-epoch.result (ap (λ (me : _). me.0) c.see_epoch-epoch.ensures.seen.1))
-    (turned_limbo c.args.limbo.now v c.requires.limbo c.turn.new.self c.turn.ensures.turned)
+    let epoch = c.see_epoch-epoch.result in
+    let is = ap (λ (me : _). me.0) c.see_epoch-epoch.ensures.seen.1 in
+    knowing_limbo c.turn.new.self v w (knowing_more v w epoch is c.see_epoch-epoch.ensures.seen.0) (turned_limbo c.args.limbo.now v c.requires.limbo c.turn.new.self c.turn.ensures.turned) epoch
+    (known_epoch v w epoch is)
 
 pub returns-then-is_ripe-clause-reclaimed : goal.returns-then-is_ripe-clause-reclaimed
 returns-then-is_ripe-clause-reclaimed c =
@@ -23,6 +25,11 @@ pub returns-clause-limbo : goal.returns-clause-limbo
 returns-clause-limbo c =
     let v = c.args.actor.now.me.0 in
     let w = c.see_epoch-epoch.new.actor.me.0 in
-    knowing_limbo c.turn.new.self w c.advance.new.actor.me.0 c.advance.ensures.tried.0.is
-    (knowing_limbo c.turn.new.self v w (knowing_is v w c.see_epoch-epoch.result (ap (λ (me : _). me.0) c.see_epoch-epoch.ensures.seen.1))
-    (turned_limbo c.args.limbo.now v c.requires.limbo c.turn.new.self c.turn.ensures.turned))
+    let epoch = c.see_epoch-epoch.result in
+    let is = ap (λ (me : _). me.0) c.see_epoch-epoch.ensures.seen.1 in
+    let seen = known_epoch v w epoch is in
+    let limbo = record c.turn.new.self { seen = epoch } in
+    let more = c.advance.ensures.tried.0 in
+    knowing_limbo limbo w c.advance.new.actor.me.0 more
+    (knowing_limbo c.turn.new.self v w (knowing_more v w epoch is c.see_epoch-epoch.ensures.seen.0) (turned_limbo c.args.limbo.now v c.requires.limbo c.turn.new.self c.turn.ensures.turned) epoch seen)
+    epoch (let grows = more.grows in omega (arith, seen, grows))

@@ -15,7 +15,7 @@ make-requires-clause-making c = link_ready c.args.words.now.table_id.words c.arg
 pub returns-clause-stock : goal.returns-clause-stock
 returns-clause-stock c = stock_there c.args.actor.now.me.0 0 c.in_ok-slot.slot c.take.new.actor.me.0 (c.in_ok-slot.ensures {u = tt}).slot c.take.new.actor.me.0 refl
     (Indirection c.args.generation c.requires.making.0) c.requires.making.1 refl c.args.words.now.table_id.words c.take.ensures.sound _ c.to_word.result c.make.new.actor.me.0 c.make.ensures.made
-    c.take.new.stock c.note.new.self c.take.ensures.stock c.note.ensures.sizes c.note.ensures.noted
+    c.take.new.stock c.note.new.self c.take.ensures.stock c.note.ensures.sizes c.note.ensures.noted c.note.ensures.limbo
 
 pub returns-clause-made : goal.returns-clause-made
 returns-clause-made c = new_there c.args.actor.now.me.0 0 c.in_ok-slot.slot c.take.new.actor.me.0 (c.in_ok-slot.ensures {u = tt}).slot c.take.new.actor.me.0 refl

@@ -44,7 +44,7 @@ returns-clause-stock c = stock_there c.args.actor.now.me.0 c.class_for-class.res
     (entries_of_halves c.args.halves.now) c.requires.making
     c.args.header.previous c.requires.over)
     c.args.words.now.table_id.words c.write_entries.ensures.sound _ c.to_word.result c.make.new.actor.me.0 c.make.ensures.made c.take.new.stock c.note.new.self c.take.ensures.stock
-    c.note.ensures.sizes c.note.ensures.noted
+    c.note.ensures.sizes c.note.ensures.noted c.note.ensures.limbo
 
 pub returns-clause-made : goal.returns-clause-made
 returns-clause-made c = new_there c.args.actor.now.me.0 c.class_for-class.result c.in_ok-slot.slot c.take.new.actor.me.0 (c.in_ok-slot.ensures {u = tt}).slot c.write_entries.new.actor.me.0

@@ -1,7 +1,7 @@
 use Rattle.std.proofs.Common.{ap}
 use Rattle.lock_free.specs.Leaving.{IsUpdate}
 use Rattle.lock_free.specs.Swaps.{is_done, swapped_by}
-use Rattle.lock_free.proofs.ParkedOn.{changed_ends, decided_owns, owns_both, refused, still_owns, still_swaps, then_bare, way_called, wound_on}
+use Rattle.lock_free.proofs.ParkedOn.{changed_ends, decided_owns, refused, still_owns, still_swaps, then_bare, way_called, wound_on}
 use Rattle.lock_free.proofs.parking.change_on.Goals as goal
 
 pub swap_on-requires-clause-way : goal.swap_on-requires-clause-way
@@ -20,11 +20,12 @@ wind_up-requires-clause-ends c =
     c.args.call c.args.access c.requires.called
     c.args.former c.requires.parked.1 (ap (λ d. is_done (swapped_by d)) c.in-Ok-Commits.field-0-is)
 
-pub returns-in-Ok-Commits-clause-stays : goal.returns-in-Ok-Commits-clause-stays
-returns-in-Ok-Commits-clause-stays c =
+pub returns-in-Ok-Commits-clause-stock : goal.returns-in-Ok-Commits-clause-stock
+returns-in-Ok-Commits-clause-stock c =
     let v = c.args.actor.now.me.0 in
     let w = c.swap_on.new.actor.me.0 in
-    owns_both v w c.wind_up.new.actor.me.0 (decided_owns v c.args.swapping c.requires.parked.0 c.in-Ok-Commits.field-0 w (c.in-Ok-Commits.ensures {u = tt}).done) c.wind_up.ensures.stays
+    c.wind_up.ensures.stays c.swap_on.new.stock (decided_owns v c.args.swapping c.requires.parked.0 c.in-Ok-Commits.field-0 w (c.in-Ok-Commits.ensures {u = tt}).done
+    c.args.stock.now c.swap_on.new.stock c.requires.stock c.swap_on.ensures.same c.swap_on.ensures.limbo)
 
 pub returns-in-Ok-Commits-clause-run : goal.returns-in-Ok-Commits-clause-run
 returns-in-Ok-Commits-clause-run c =
@@ -32,18 +33,20 @@ returns-in-Ok-Commits-clause-run c =
     c.wind_up.new.actor.me.0
     c.wind_up.ensures.wound
 
-pub returns-in-Ok-Fails-clause-stays : goal.returns-in-Ok-Fails-clause-stays
-returns-in-Ok-Fails-clause-stays c =
+pub returns-in-Ok-Fails-clause-stock : goal.returns-in-Ok-Fails-clause-stock
+returns-in-Ok-Fails-clause-stock c =
     decided_owns c.args.actor.now.me.0 c.args.swapping c.requires.parked.0 c.in-Ok-Fails.field-0 c.swap_on.new.actor.me.0 (c.in-Ok-Fails.ensures {u = tt}).done
+    c.args.stock.now c.swap_on.new.stock c.requires.stock c.swap_on.ensures.same c.swap_on.ensures.limbo
 
 pub returns-in-Ok-Fails-clause-run : goal.returns-in-Ok-Fails-clause-run
 returns-in-Ok-Fails-clause-run c =
     refused c.args.actor.now.me.0 c.args.swapping c.requires.parked.0 c.in-Ok-Fails.field-0 c.swap_on.new.actor.me.0 (c.in-Ok-Fails.ensures {u = tt}).done c.args.former c.requires.parked.1
     (ap (λ d. is_done (swapped_by d)) c.in-Ok-Fails.field-0-is)
 
-pub returns-in-Err-clause-stays : goal.returns-in-Err-clause-stays
-returns-in-Err-clause-stays c =
+pub returns-in-Err-clause-stock : goal.returns-in-Err-clause-stock
+returns-in-Err-clause-stock c =
     still_owns (IsUpdate c.args.former) c.args.actor.now.me.0 c.args.swapping c.in-Err.next c.swap_on.new.actor.me.0 c.requires.parked (c.in-Err.ensures {u = tt}).on
+    c.args.stock.now c.swap_on.new.stock c.requires.stock c.swap_on.ensures.same c.swap_on.ensures.limbo
 
 pub returns-in-Err-clause-run : goal.returns-in-Err-clause-run
 returns-in-Err-clause-run c =

@@ -1,5 +1,5 @@
 use Rattle.lock_free.specs.Leaving.{IsClimbAfter}
-use Rattle.lock_free.proofs.ParkedOn.{climbed_ends, decided_owns, owns_both, still_owns, still_swaps, then_bare, way_called, wound_on}
+use Rattle.lock_free.proofs.ParkedOn.{climbed_ends, decided_owns, still_owns, still_swaps, then_bare, way_called, wound_on}
 use Rattle.lock_free.proofs.parking.climb_on.Goals as goal
 
 pub swap_on-requires-clause-way : goal.swap_on-requires-clause-way
@@ -17,20 +17,22 @@ wind_up-requires-clause-ends c =
     climbed_ends c.args.actor.now.me.0 c.args.swapping c.requires.parked.0 c.in-Ok.field-0 c.swap_on.new.actor.me.0 (c.in-Ok.ensures {u = tt}).done c.args.call c.args.access c.requires.called
     c.args.former c.requires.parked.1
 
-pub returns-in-Ok-clause-stays : goal.returns-in-Ok-clause-stays
-returns-in-Ok-clause-stays c =
+pub returns-in-Ok-clause-stock : goal.returns-in-Ok-clause-stock
+returns-in-Ok-clause-stock c =
     let v = c.args.actor.now.me.0 in
     let w = c.swap_on.new.actor.me.0 in
-    owns_both v w c.wind_up.new.actor.me.0 (decided_owns v c.args.swapping c.requires.parked.0 c.in-Ok.field-0 w (c.in-Ok.ensures {u = tt}).done) c.wind_up.ensures.stays
+    c.wind_up.ensures.stays c.swap_on.new.stock (decided_owns v c.args.swapping c.requires.parked.0 c.in-Ok.field-0 w (c.in-Ok.ensures {u = tt}).done
+    c.args.stock.now c.swap_on.new.stock c.requires.stock c.swap_on.ensures.same c.swap_on.ensures.limbo)
 
 pub returns-in-Ok-clause-run : goal.returns-in-Ok-clause-run
 returns-in-Ok-clause-run c =
     wound_on c.args.actor.now.me.0 c.args.swapping c.requires.parked.0 c.in-Ok.field-0 c.swap_on.new.actor.me.0 (c.in-Ok.ensures {u = tt}).done c.wind_up.result c.wind_up.new.actor.me.0
     c.wind_up.ensures.wound
 
-pub returns-in-Err-clause-stays : goal.returns-in-Err-clause-stays
-returns-in-Err-clause-stays c =
+pub returns-in-Err-clause-stock : goal.returns-in-Err-clause-stock
+returns-in-Err-clause-stock c =
     still_owns (IsClimbAfter c.args.former) c.args.actor.now.me.0 c.args.swapping c.in-Err.next c.swap_on.new.actor.me.0 c.requires.parked (c.in-Err.ensures {u = tt}).on
+    c.args.stock.now c.swap_on.new.stock c.requires.stock c.swap_on.ensures.same c.swap_on.ensures.limbo
 
 pub returns-in-Err-clause-run : goal.returns-in-Err-clause-run
 returns-in-Err-clause-run c =

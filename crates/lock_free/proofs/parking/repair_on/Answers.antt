@@ -8,16 +8,19 @@ swap_on-requires-clause-way c = way_called c.args.actor.now.me.0 c.args.call c.a
 pub swap_on-requires-clause-swapping : goal.swap_on-requires-clause-swapping
 swap_on-requires-clause-swapping c = c.requires.parked.0
 
-pub returns-in-Ok-clause-stays : goal.returns-in-Ok-clause-stays
-returns-in-Ok-clause-stays c =
+pub returns-in-Ok-clause-stock : goal.returns-in-Ok-clause-stock
+returns-in-Ok-clause-stock c =
     decided_owns c.args.actor.now.me.0 c.args.swapping c.requires.parked.0 c.in-Ok.field-0 c.swap_on.new.actor.me.0 (c.in-Ok.ensures {u = tt}).done
+    c.args.stock.now c.swap_on.new.stock c.requires.stock c.swap_on.ensures.same c.swap_on.ensures.limbo
 
 pub returns-in-Ok-clause-run : goal.returns-in-Ok-clause-run
 returns-in-Ok-clause-run c =
     repaired c.args.actor.now.me.0 c.args.swapping c.requires.parked.0 c.in-Ok.field-0 c.swap_on.new.actor.me.0 (c.in-Ok.ensures {u = tt}).done c.requires.parked.1
 
-pub returns-in-Err-clause-stays : goal.returns-in-Err-clause-stays
-returns-in-Err-clause-stays c = still_owns IsRepair c.args.actor.now.me.0 c.args.swapping c.in-Err.next c.swap_on.new.actor.me.0 c.requires.parked (c.in-Err.ensures {u = tt}).on
+pub returns-in-Err-clause-stock : goal.returns-in-Err-clause-stock
+returns-in-Err-clause-stock c =
+    still_owns IsRepair c.args.actor.now.me.0 c.args.swapping c.in-Err.next c.swap_on.new.actor.me.0 c.requires.parked (c.in-Err.ensures {u = tt}).on
+    c.args.stock.now c.swap_on.new.stock c.requires.stock c.swap_on.ensures.same c.swap_on.ensures.limbo
 
 pub returns-in-Err-clause-run : goal.returns-in-Err-clause-run
 returns-in-Err-clause-run c =

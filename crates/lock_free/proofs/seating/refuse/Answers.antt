@@ -10,4 +10,4 @@ pub returns-clause-stock : goal.returns-clause-stock
 returns-clause-stock c =
     let given = c.give_back.ensures in
     cancelled_stock c.args.words.now.table_id.words c.args.actor.now.me.0 c.cancel.new.actor.me.0 c.requires.sound reply.NoSlots c.requires.may c.cancel.ensures.cancelled c.args.stock.now
-    c.give_back.new.self c.requires.stock given.sizes given.pool given.made
+    c.give_back.new.self c.requires.stock given.sizes given.pool given.made given.limbo

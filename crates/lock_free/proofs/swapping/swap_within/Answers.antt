@@ -1,7 +1,7 @@
-use Rattle.std.proofs.Common.{sym, subst}
+use Rattle.std.proofs.Common.{sym, subst, ◌∙◌}
 use Rattle.lock_free.specs.Swaps.{HasSwapDone, RetiresOwn}
 use Rattle.lock_free.proofs.SwapSteps.{missed, way_w}
-use Rattle.lock_free.proofs.SwapsBegun.{begun_left, done_so, leaves}
+use Rattle.lock_free.proofs.SwapsBegun.{begun_left, done_so, hangs_begun, leaves, missed_hangs, sizes_begun}
 use Rattle.lock_free.proofs.swapping.swap_within.Goals as goal
 
 pub returns-then-not-publish-clause-done : goal.returns-then-not-publish-clause-done
@@ -31,3 +31,22 @@ returns-in-Ok-clause-done c =
 
 pub returns-in-Ok-clause-which : goal.returns-in-Ok-clause-which
 returns-in-Ok-clause-which c = subst (RetiresOwn c.args.link.main c.args.class) (sym c.swapped_by.ensures) (c.in-Ok.ensures {u = tt}).done.which
+
+pub returns-then-not-publish-clause-limbo : goal.returns-then-not-publish-clause-limbo
+returns-then-not-publish-clause-limbo c =
+    missed_hangs c.args.words.now.table_id.words c.args.actor.now.me.0 c.publish.new.actor.me.0 c.requires.sound c.publish.ensures.sound c.args.indirection c.args.link c.args.class c.args.fresh
+    c.requires.swapping
+    (missed c.args.actor.now.me.0 c.args.indirection c.args.link c.args.class c.args.fresh c.requires.swapping c.args.words.now.table_id.words c.requires.sound
+    c.publish.new.actor.me.0 c.publish.ensures.sound c.publish.result c.publish.ensures.published c.if-not-publish.true)
+    c.args.stock.now.limbo c.requires.limbo
+
+pub swap_on-requires-clause-sizes : goal.swap_on-requires-clause-sizes
+swap_on-requires-clause-sizes c =
+    c.requires.sizes ∙ sym (sizes_begun c.args.words.now.table_id.words c.args.actor.now.me.0 c.args.indirection c.args.link c.args.class c.args.fresh c.requires.swapping c.requires.sound
+    c.publish.new.actor.me.0 c.publish.ensures.sound c.publish.result c.publish.ensures.published c.if-not-publish.false)
+
+pub swap_on-requires-clause-limbo : goal.swap_on-requires-clause-limbo
+swap_on-requires-clause-limbo c =
+    hangs_begun c.args.words.now.table_id.words c.args.actor.now.me.0 c.args.indirection c.args.link c.args.class c.args.fresh c.requires.swapping c.requires.sound
+    c.publish.new.actor.me.0 c.publish.ensures.sound c.publish.result c.publish.ensures.published c.if-not-publish.false
+    c.args.stock.now.limbo c.requires.limbo

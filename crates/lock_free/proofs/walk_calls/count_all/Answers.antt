@@ -1,12 +1,16 @@
-use Rattle.std.proofs.Common.{None, sym, subst}
+use Rattle.std.proofs.Common.{None, sym, subst, refl}
 use Rattle.history.specs.declared.calls.Call.TheVariants.{Count}
 use Rattle.history.specs.declared.replies.Reply.TheVariants as reply
 use Rattle.lock_free.specs.SeatCalls.{WasRefused}
 use Rattle.lock_free.specs.WholeCalls.{reply_or_none}
+use Rattle.lock_free.proofs.LimboStays.{pinned_late}
 use Rattle.lock_free.proofs.CallBegins.{denied_stock, stock_begun}
 use Rattle.lock_free.proofs.CallsDenied.{denied_left, denied_refused, no_handle_denied}
 use Rattle.lock_free.proofs.WalksWhole.{begun_walk, ended_left, walk_told, count_walk}
 use Rattle.lock_free.proofs.walk_calls.count_all.Goals as goal
+
+pub start-requires-clause-late : goal.start-requires-clause-late
+start-requires-clause-late g c = pinned_late c.args.stock.now c.args.stock.now c.args.actor.now.me.0 c.requires.stock refl c.epoch-epoch.result c.epoch-epoch.ensures.seen
 
 pub returns-then-handle-ge-HANDLES-clause-told : goal.returns-then-handle-ge-HANDLES-clause-told
 returns-then-handle-ge-HANDLES-clause-told g c = no_handle_denied c.args.actor.now.me.0 (Count c.args.handle) c.if-handle-ge-HANDLES.true

@@ -1,13 +1,17 @@
-use Rattle.std.proofs.Common.{None, Ok, sym, subst}
+use Rattle.std.proofs.Common.{None, Ok, sym, subst, refl}
 use Rattle.history.specs.declared.calls.Call.TheVariants.{Entries}
 use Rattle.history.specs.declared.replies.Reply.TheVariants as reply
 use Rattle.lock_free.specs.Calling.{CalledOrNot}
 use Rattle.lock_free.specs.SeatCalls.{WasRefused}
 use Rattle.lock_free.specs.WholeCalls.{reply_or_none}
+use Rattle.lock_free.proofs.LimboStays.{pinned_late}
 use Rattle.lock_free.proofs.CallBegins.{denied_stock, stock_begun}
 use Rattle.lock_free.proofs.CallsDenied.{denied_left, denied_refused, no_handle_denied}
 use Rattle.lock_free.proofs.WalksWhole.{begun_walk, ended_left, unbegun_left, unbegun_stock, unbegun_told, walk_told, entries_walk}
 use Rattle.lock_free.proofs.walk_calls.list_all_within.Goals as goal
+
+pub start_within-requires-clause-late : goal.start_within-requires-clause-late
+start_within-requires-clause-late c = pinned_late c.args.stock.now c.args.stock.now c.args.actor.now.me.0 c.requires.stock refl c.epoch-epoch.result c.epoch-epoch.ensures.seen
 
 pub returns-then-handle-ge-HANDLES-clause-told : goal.returns-then-handle-ge-HANDLES-clause-told
 returns-then-handle-ge-HANDLES-clause-told c = no_handle_denied c.args.actor.now.me.0 (Entries c.args.handle) c.if-handle-ge-HANDLES.true
