@@ -58,7 +58,7 @@ ended_on v w l e o r = let x = e.comes o r in (record o { private = x.0; line = 
 
 -- ---- a try of a call on a key
 
-sought_runs_on : (v w : View) (slots : List ℕ) (result : Sought) → HasSought v slots result w → RunsOn v w
+pub sought_runs_on : (v w : View) (slots : List ℕ) (result : Sought) → HasSought v slots result w → RunsOn v w
 sought_runs_on v w slots (sought.Answers answer) h = runs_on_ended v w (λ o. line.End answer) h
 sought_runs_on v w slots (sought.Changes update given) h = runs_on_ended v w (λ o. line_updated h.path h.main h.other update) h.ended
 sought_runs_on v w slots sought.Again h = runs_on_ended v w (λ o. new_try) h

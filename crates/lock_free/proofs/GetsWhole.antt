@@ -1,5 +1,5 @@
 -- A get as a whole: answered by its first try, or as a call of any kind.
-use Rattle.std.proofs.Common.{◌≡◌, ◌<◌, ◌^◌, ℕ, List, Option, None, Ok, Err, refl, ◌∙◌}
+use Rattle.std.proofs.Common.{◌≡◌, ℕ, Option, None, Ok, refl, ◌∙◌}
 use Rattle.history.specs.declared.calls.Access.{Access}
 use Rattle.history.specs.declared.calls.Call.{Call}
 use Rattle.history.specs.declared.replies.Reply.TheVariants as reply
@@ -9,82 +9,77 @@ use Rattle.machine_model.specs.declared.lines.Line.TheVariants as line
 use Rattle.machine_model.specs.Lines.{new_try}
 use Rattle.lock_free.specs.declared.call_errors.CallError.TheVariants as error
 use Rattle.lock_free.specs.declared.call_runs.Ran.TheVariants as ran
-use Rattle.lock_free.specs.declared.leaving.Left.{Left}
+use Rattle.lock_free.specs.declared.leaving.Left.TheVariants as left
 use Rattle.lock_free.specs.declared.rules.View.{View}
-use Rattle.lock_free.specs.declared.seeking.Sought.{Sought}
-use Rattle.lock_free.specs.declared.seeking.Sought.TheVariants as sought
-use Rattle.lock_free.specs.declared.tasks.Task.{Task}
 use Rattle.lock_free.specs.Calling.{IsRunning}
-use Rattle.lock_free.specs.GetRuns.{HasGotten, IsGotten}
+use Rattle.lock_free.specs.GetRuns.{HasGotten}
 use Rattle.lock_free.specs.Holding.{IsOn}
-use Rattle.lock_free.specs.Leaving.{IsRepair, Leaves}
+use Rattle.lock_free.specs.Leaving.{HasLeftOff, IsRepair, Leaves}
 use Rattle.lock_free.specs.Loading.{IsAt}
-use Rattle.lock_free.specs.RunningOn.{RunsOn}
+use Rattle.lock_free.specs.RunningOn.{MayAnswer, RunsOn}
 use Rattle.lock_free.specs.SeatWords.{HasEnded, IsAtEnd}
-use Rattle.lock_free.specs.Seeking.{HasTried, IsCalled}
+use Rattle.lock_free.specs.Seeking.{IsCalled}
 use Rattle.lock_free.specs.UnderWay.{HasComeOut, IsUnderWay}
 use Rattle.lock_free.specs.WholeCalls.{HasLeft}
 use Rattle.lock_free.proofs.CallBegins.{opens_run, same_run}
-use Rattle.lock_free.proofs.CallsRunOn.{at_end, tried_answers, tried_runs_on}
+use Rattle.lock_free.proofs.CallsRunOn.{at_end}
 use Rattle.lock_free.proofs.CallsUnderWay.{left_both, left_told, replied_told, run_out, under_way_on}
-use Rattle.lock_free.proofs.KeyTries.{called_on, left_run, own_left, try_sought}
+use Rattle.lock_free.proofs.KeyTries.{called_on, left_run}
+use Rattle.lock_free.proofs.Leavings.{left_off, may_on}
 use Rattle.lock_free.proofs.LetGo.{none_reclaimed}
 use Rattle.lock_free.proofs.RunningOn.{runs_on_self}
 use Rattle.std.specs.Prelude.{Result}
 use Rattle.lock_free.specs.declared.call_errors.CallError.{CallError}
 use Rattle.std.proofs.lemmas.Option.{none-some}
 
-module _ (v : View) (on : IsOn v new_try) (slots : List ℕ) (w : View) where
-  -- ---- its first try has found the value
+-- ---- its first try has found the value
 
-  module _ (task : Task) (value : Option ℕ) (h : HasTried v slots (task, sought.Answers (reply.Found value)) w) where
-    is_on_end : IsOn w (line.End (reply.Found value))
-    is_on_end = tried_answers v w slots task on.0 on.1 (reply.Found value) h
+module _ (v w : View) (r : RunsOn v w) (value : Option ℕ) (is_on_end : IsOn w (line.End (reply.Found value))) where
+  is_at_end : IsAt w (act.End (reply.Found value))
+  is_at_end = at_end w (reply.Found value) is_on_end
 
-    is_at_end : IsAt w (act.End (reply.Found value))
-    is_at_end = at_end w (reply.Found value) is_on_end
+  pub value_ends : IsAtEnd w
+  value_ends = (reply.Found value, is_at_end)
 
-    pub value_ends : IsAtEnd w
-    value_ends = (reply.Found value, is_at_end)
+  module _ (access : Access) (x : View) (ended : (answer : Reply) → IsAt w (act.End answer) → HasEnded w answer x) where
+    value_out : HasComeOut w access (ran.Told (Ok (reply.Found value))) x
+    value_out = (
+      reply.Found value,
+      error.Full,
+      tt,
+      refl,
+      x,
+      record { late = w; on = runs_on_self w; ends = is_on_end; ended = ended (reply.Found value) is_at_end },
+      none_reclaimed x,
+    )
 
-    module _ (access : Access) (x : View) (ended : (answer : Reply) → IsAt w (act.End answer) → HasEnded w answer x) where
-      value_out : HasComeOut w access (ran.Told (Ok (reply.Found value))) x
-      value_out = (
-        reply.Found value,
-        error.Full,
-        tt,
-        refl,
-        x,
-        record { late = w; on = runs_on_self w; ends = is_on_end; ended = ended (reply.Found value) is_at_end },
-        none_reclaimed x,
-      )
+    pub value_told : (c : Call) → HasGotten v c (Ok value) x
+    value_told c before under = (replied_told before c (Ok (reply.Found value)) x (run_out before c None v w under r access (ran.Told (Ok (reply.Found value))) x value_out)).0
 
-      abbrev r : RunsOn v w
-      r = tried_runs_on v w slots task (sought.Answers (reply.Found value)) h
+    pub value_left : IsRunning v → (c : Call) → IsCalled v c access → v.opens ≡ None → HasLeft v x
+    value_left (o, runs) c called none =
+        let left = left_told c access v o runs called None none w r (λ n e. absurd (none-some n e)) (Ok (reply.Found value)) x value_out in
+        record { same = left.0; rests = left.1 }
 
-      pub value_told : (c : Call) → HasGotten v c (Ok value) x
-      value_told c before under = (replied_told before c (Ok (reply.Found value)) x (run_out before c None v w under r access (ran.Told (Ok (reply.Found value))) x value_out)).0
+-- ---- or it is out of tries
 
-      pub value_left : (c : Call) → IsCalled v c access → v.opens ≡ None → HasLeft v x
-      value_left c called none =
-          let left = left_told c access v on.0 on.1 called None none w r (λ n e. absurd (none-some n e)) (Ok (reply.Found value)) x value_out in
-          record { same = left.0; rests = left.1 }
+module _ (v : View) (on : IsOn v new_try) (w : View) (h : HasLeftOff v left.MayGiveUp w) where
+  leaves : Leaves (λ called. reply.NoSlots) IsRepair v left.MayGiveUp w
+  leaves = left_off (λ called. reply.NoSlots) IsRepair v left.MayGiveUp w h (may_on (λ called. reply.NoSlots) v new_try on (λ called. refl))
 
-  -- ---- or something else
+  pub off_runs_on : RunsOn v w
+  off_runs_on = leaves.on
 
-  pub sought_gotten : (task : Task) (s : Sought) → task.start < 2 ^ 36 → HasTried v slots (task, s) w → IsGotten w slots (Ok (task, s))
-  sought_gotten task s small h = (small, try_sought v on slots task w s h)
+  pub off_may : MayAnswer w reply.NoSlots
+  off_may = (left_run v on left.MayGiveUp w leaves).1
 
-  pub left_gotten : (left : Left) → Leaves (λ call. reply.NoSlots) IsRepair v left w → IsGotten w slots (Err left)
-  left_gotten left l = (own_left v left w l, (left_run v on left w l).1)
-
--- and goes on from there
-module _ (v : View) (on : IsOn v new_try) (w : View) (r : RunsOn v w) where
+-- ---- and goes on from there
+module _ (v : View) (running : IsRunning v) (w : View) (r : RunsOn v w) where
   pub still_running : IsRunning w
-  still_running = let x = r.runs on.0 on.1 in (x.0, x.1)
+  still_running = let x = r.runs running.0 running.1 in (x.0, x.1)
 
   pub still_called : (c : Call) (access : Access) → IsCalled v c access → IsCalled w c access
-  still_called = called_on v w on.0 on.1 r
+  still_called = called_on v w running.0 running.1 r
 
 module _ (v w : View) (r : RunsOn v w) where
   pub still_none : v.opens ≡ None → w.opens ≡ None

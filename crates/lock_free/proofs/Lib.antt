@@ -234,6 +234,7 @@ mod Meanwhile
 mod Answered
 mod Seekings
 mod SoughtOn
+mod LookedAt
 mod Trials
 mod Updates
 mod AfterChanges

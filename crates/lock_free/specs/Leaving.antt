@@ -1,5 +1,5 @@
 -- How a program ends that is out of tries: the operation may give up, or its SWAP or COMPLETE is under way and goes on.
-use Rattle.std.specs.Prelude.{◌≡◌, ◌⊎◌, ℕ, Bool, List, [], Option, Some, None}
+use Rattle.std.specs.Prelude.{◌≡◌, ◌⊎◌, ℕ, Bool, true, false, List, [], Option, Some, None}
 use Rattle.arrayvec.specs.ArrayVec.{ArrayVec}
 use Rattle.history.specs.declared.calls.Call.{Call}
 use Rattle.history.specs.declared.replies.Reply.{Reply}
@@ -26,6 +26,7 @@ use Rattle.lock_free.specs.declared.leaving.Swapping.{Swapping}
 use Rattle.lock_free.specs.declared.rules.View.{View}
 use Rattle.lock_free.specs.declared.swapping.Decided.{Decided}
 use Rattle.lock_free.specs.Calling.{cut_short}
+use Rattle.lock_free.specs.Entries.{HasStayed}
 use Rattle.lock_free.specs.GoingDown.{HasMoved}
 use Rattle.lock_free.specs.HandleWords.{HasOffer}
 use Rattle.lock_free.specs.Accounts.{IsOwn}
@@ -53,6 +54,11 @@ pub record HasLeftOff (before : View) (result : Left) (after : View) : Type 0 wh
   pub next : Operation → Line
   pub moved : HasMoved next before after
   pub leaves : (answers : Call → Reply) → MayLeave answers before → MayLeave answers after
+
+-- it is where it was, or out of tries
+abbrev pub HasStayedOrLeft : View → Bool → View → Type 0
+HasStayedOrLeft before true after = HasStayed before after
+HasStayedOrLeft before false after = HasLeftOff before left.MayGiveUp after
 
 -- it has come to another line, at which it may give up with this answer
 pub record Halts (answer : Operation → Reply) (v w : View) : Type 0 where

@@ -12,6 +12,7 @@ use Rattle.lock_free.specs.declared.reading.Way.{Way}
 use Rattle.lock_free.specs.declared.rules.View.{View}
 use Rattle.lock_free.specs.Descending.{IsHere}
 use Rattle.lock_free.specs.GoingDown.{HasReadKey}
+use Rattle.lock_free.specs.Loading.{IsSound}
 use Rattle.lock_free.specs.Passing.{HasPassed, IsOnWay, IsPassing}
 
 abbrev pub given_by : Link → Header → Given
@@ -44,6 +45,14 @@ HasGivenAfter before (passed.Again from) result after = HasReadGiven before resu
 abbrev pub HasLinkAfter : View → Passed → Option Link → View → Type 0
 HasLinkAfter before (passed.Gives given) result after = (result ≡ Some given.link) × (after ≡ before)
 HasLinkAfter before (passed.Again from) result after = HasReadTo before result after
+
+-- after a pass from here the next one can be made
+abbrev pub CanGoOnAfter : ℕ → View → Way → ℕ → Type 0
+CanGoOnAfter n v way name = (q : Passed) (w : View) → IsSound n w → HasPassed v q w → CanGoOn w way name q
+
+-- a pass from here, or further ones, have come to this
+abbrev pub HasLinkOn : ℕ → View → Option Link → View → Type 0
+HasLinkOn n v result after = (q : Passed) × (w : View) × IsSound n w × HasPassed v q w × HasLinkAfter w q result after
 
 -- it has read the main node and turns so
 abbrev pub HasReadOn : View → Link × Turn → View → Type 0

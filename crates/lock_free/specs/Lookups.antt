@@ -4,15 +4,11 @@ use Rattle.history.specs.declared.replies.Reply.TheVariants as reply
 use Rattle.trie_words.specs.declared.headers.Header.{Header}
 use Rattle.machine_model.specs.Calls.{needs_writable}
 use Rattle.lock_free.specs.declared.descending.Found.TheVariants as found
-use Rattle.lock_free.specs.declared.gets.Gotten.{Gotten}
-use Rattle.lock_free.specs.declared.gets.Gotten.TheVariants as gotten
 use Rattle.lock_free.specs.declared.lookups.Level.{Level}
 use Rattle.lock_free.specs.declared.lookups.Level.TheVariants as level
 use Rattle.lock_free.specs.declared.lookups.Looked.{Looked}
 use Rattle.lock_free.specs.declared.lookups.Looked.TheVariants as looked
 use Rattle.lock_free.specs.declared.rules.View.{View}
-use Rattle.lock_free.specs.declared.seeking.Sought.{Sought}
-use Rattle.lock_free.specs.declared.seeking.Sought.TheVariants as sought
 use Rattle.lock_free.specs.declared.tasks.Task.{Task}
 use Rattle.lock_free.specs.Descending.{HasFound, HasGoneBelow, IsTask}
 use Rattle.lock_free.specs.LinkReads.{given_by}
@@ -31,8 +27,3 @@ HasLooked before slots looked.Cleans after = HasFound before slots found.Cleans 
 abbrev pub HasLookedThrough : View → List ℕ → Level → View → Type 0
 HasLookedThrough before slots (level.Below slot) after = HasGoneBelow before slots slot after
 HasLookedThrough before slots (level.Here result) after = HasLooked before slots result after
-
--- what a whole try comes to
-abbrev pub sought_of : Gotten → Sought
-sought_of (gotten.Value value) = sought.Answers (reply.Found value)
-sought_of (gotten.Sought result) = result

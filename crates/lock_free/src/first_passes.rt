@@ -1,14 +1,15 @@
 //! READs of which one pass is mostly enough, and of which no more is told than what is asked for.
 
 ghost use Rattle.std.specs.Prelude.{◌≡◌};
+ghost use Rattle.trie_words.specs.Codes.{header_of};
 ghost use Rattle.lock_free.specs.declared.reading.ReadFrom.TheVariants as resume;
-ghost use Rattle.lock_free.specs.LinkReads.{CanGoOn, HasGivenAfter, HasLinkAfter, HasReadGiven, HasReadOut, HasReadTo};
+ghost use Rattle.lock_free.specs.LinkReads.{CanGoOn, CanGoOnAfter, HasGivenAfter, HasLinkAfter, HasLinkOn, HasReadGiven, HasReadOut, HasReadTo};
 ghost use Rattle.lock_free.specs.Loading.{IsSound};
-ghost use Rattle.lock_free.specs.Passing.{IsOnWay, IsPassing};
+ghost use Rattle.lock_free.specs.Passing.{IsFailed, IsOnWay, IsPassing, IsPending};
 
-use crate::loads::{Actor, Words, read_header, read_link};
+use crate::loads::{Actor, Words, read_header, read_header_word, read_link};
 use crate::reading::{Given, Passed, ReadFrom, Way, pass, put_back, read_on, settle};
-use trie_words::{Link, Previous};
+use trie_words::{Header, Link, Name, Previous};
 
 /// What this pass of a READ, or further ones, come to: the link of the decided main node, or none within so many tries.
 #[cold]
@@ -39,6 +40,59 @@ fn link_after(
     }
 }
 
+/// What a READ comes to that has met a main node that failed: the one of this name is put back in its place, and further passes are made.
+#[cold]
+#[inline(never)]
+fn link_put_back(
+    tries: u64,
+    words: &Words,
+    actor: &mut Actor,
+    way: Way,
+    indirection: u32,
+    generation: u64,
+    main: Name,
+    former: Name,
+) -> Option<Link>
+    requires table { actor.old.table_id ≡ words.now.table_id }
+    requires sound { IsSound words.now.table_id.words actor.old.me.0 }
+    requires failed { IsFailed actor.old.me.0 indirection (record { generation = generation; main = main }) former }
+    requires next { CanGoOnAfter words.now.table_id.words actor.old.me.0 way indirection }
+    ensures table { actor.new.table_id ≡ actor.old.table_id }
+    ensures sound { IsSound words.now.table_id.words actor.new.me.0 }
+    ensures link { HasLinkOn words.now.table_id.words actor.old.me.0 result actor.new.me.0 }
+{
+    let link = Link { generation, main };
+    let passed = put_back(words, actor, indirection, link, former);
+    link_after(tries, words, actor, way, indirection, passed)
+}
+
+/// What a READ comes to that has met a main node that is pending, whose first word is this: it is settled, and further passes are made.
+#[cold]
+#[inline(never)]
+fn link_settled(
+    tries: u64,
+    words: &Words,
+    actor: &mut Actor,
+    way: Way,
+    indirection: u32,
+    generation: u64,
+    main: Name,
+    word: u64,
+) -> Option<Link>
+    requires table { actor.old.table_id ≡ words.now.table_id }
+    requires sound { IsSound words.now.table_id.words actor.old.me.0 }
+    requires way { IsOnWay actor.old.me.0 way }
+    requires pending { IsPending actor.old.me.0 way (record { generation = generation; main = main }) (header_of word) }
+    requires next { CanGoOnAfter words.now.table_id.words actor.old.me.0 way indirection }
+    ensures table { actor.new.table_id ≡ actor.old.table_id }
+    ensures sound { IsSound words.now.table_id.words actor.new.me.0 }
+    ensures link { HasLinkOn words.now.table_id.words actor.old.me.0 result actor.new.me.0 }
+{
+    let link = Link { generation, main };
+    let passed = settle(tries, words, actor, way, link, Header::of_word(word));
+    link_after(tries, words, actor, way, indirection, passed)
+}
+
 /// A READ from its first line on, where one look at the main node is mostly enough: the link of the decided main node, or none where it gives
 /// nothing within so many tries.
 #[inline(always)]
@@ -58,16 +112,34 @@ pub fn read_link_within(
     ensures link { HasReadTo actor.old.me.0 result actor.new.me.0 }
 {
     let link = read_link(words, actor, indirection);
-    let header = read_header(words, actor, link.main.slot);
-    match header.previous {
+    let word = read_header_word(words, actor, link.main.slot);
+    match Header::of_word(word).previous {
         Previous::None => Some(link),
         Previous::Failed(former) => {
-            let passed = put_back(words, actor, indirection, link, former);
-            link_after(tries, words, actor, way, indirection, passed)
+            let (generation, main) = (link.generation, link.main);
+            link_put_back(
+                tries,
+                words,
+                actor,
+                way,
+                indirection,
+                generation,
+                main,
+                former,
+            )
         }
         Previous::Pending(_) => {
-            let passed = settle(tries, words, actor, way, link, header);
-            link_after(tries, words, actor, way, indirection, passed)
+            let (generation, main) = (link.generation, link.main);
+            link_settled(
+                tries,
+                words,
+                actor,
+                way,
+                indirection,
+                generation,
+                main,
+                word,
+            )
         }
     }
 }

@@ -1,6 +1,6 @@
 //! Gets as a whole: straight where nothing stands in the way, else as calls of any kind.
 
-ghost use Rattle.std.specs.Prelude.{◌≡◌, ◌≤◌, None, false};
+ghost use Rattle.std.specs.Prelude.{◌≡◌, ◌≤◌, ◌<◌, ◌^◌, ◌∷◌, [], None, false};
 ghost use Rattle.history.specs.declared.calls.Call.TheVariants.{Get};
 ghost use Rattle.history.specs.declared.replies.Reply.TheVariants as reply;
 ghost use Rattle.machine_model.specs.Calls.{copies};
@@ -8,11 +8,14 @@ ghost use Rattle.machine_model.specs.Lines.{new_try};
 ghost use Rattle.lock_free.specs.declared.rules.View.{View};
 ghost use Rattle.lock_free.specs.Attempts.{HasAttempted};
 ghost use Rattle.lock_free.specs.Calling.{IsRunning};
-ghost use Rattle.lock_free.specs.GetRuns.{HasGotten, IsGotten};
+ghost use Rattle.lock_free.specs.Descending.{IsOnPath, IsTask};
+ghost use Rattle.lock_free.specs.GetRuns.{HasGotten, IsGotten, IsLookedAt};
 ghost use Rattle.lock_free.specs.Holding.{IsOn};
 ghost use Rattle.lock_free.specs.KeyReplies.{TellsValue};
 ghost use Rattle.lock_free.specs.Loading.{IsSound};
+ghost use Rattle.lock_free.specs.Lookups.{IsLookup};
 ghost use Rattle.lock_free.specs.Parking.{HasRunTo};
+ghost use Rattle.lock_free.specs.RunningOn.{MayAnswer};
 ghost use Rattle.lock_free.specs.SeatCalls.{IsTold};
 ghost use Rattle.lock_free.specs.Seeking.{IsCalled};
 ghost use Rattle.lock_free.specs.Stocks.{IsStock};
@@ -24,11 +27,14 @@ use crate::call_errors::CallError;
 use crate::call_runs::{HANDLES, end_call};
 use crate::calling::start_within;
 use crate::descending::Path;
-use crate::gets::{Gotten, try_get_within};
+use crate::gets::try_on_within;
 use crate::laws::seats_are_explained;
 use crate::leaving::Left;
 use crate::loads::{Actor, Words};
+use crate::lookups::{Looked, look_up_within};
 use crate::parking::{Came, left_so};
+use crate::reading::Way;
+use crate::rooting::seek_root_within;
 use crate::seating::end;
 use crate::seeking::Sought;
 use crate::stock::Stock;
@@ -138,6 +144,128 @@ fn get_on<R: Wait>(
     }
 }
 
+/// The same of one whose way down has come to this at the end of the path.
+#[cold]
+#[inline(never)]
+fn get_looked<R: Wait>(
+    rt: &R,
+    words: &Words,
+    actor: &mut Actor,
+    stock: &mut Stock,
+    seat: u8,
+    handle: u16,
+    key: u64,
+    access: Access,
+    task: &Task,
+    path: &mut Path,
+    looked: Option<Looked>,
+) -> Result<Option<u64>, CallError>
+    requires table { actor.old.table_id ≡ words.now.table_id }
+    requires sound { IsSound words.now.table_id.words actor.old.me.0 }
+    requires stock { IsStock stock.old actor.old.me.0 }
+    requires its { actor.old.me.0.actor ≡ seat }
+    requires few { actor.old.me.0.actor ≤ actor.old.me.0.sizes.seats }
+    requires running { IsRunning actor.old.me.0 }
+    requires called { IsCalled actor.old.me.0 (Get handle key) access }
+    requires none { actor.old.me.0.opens ≡ None }
+    requires under { (before : View) × IsUnderWay before (Get handle key) None actor.old.me.0 }
+    requires task { IsTask actor.old.me.0 task.now }
+    requires small { task.now.start < 2 ^ 36 }
+    requires at { IsLookedAt actor.old.me.0 path.old.items looked }
+    ensures table { actor.new.table_id ≡ actor.old.table_id }
+    ensures sound { IsSound words.now.table_id.words actor.new.me.0 }
+    ensures stock { IsStock stock.new actor.new.me.0 }
+    ensures told { HasGotten actor.old.me.0 (Get handle key) result actor.new.me.0 }
+    ensures left { HasLeft actor.old.me.0 actor.new.me.0 }
+{
+    let tried = try_on_within(u64::MAX, words, actor, stock, task, path, looked);
+    get_on(
+        rt, words, actor, stock, seat, handle, key, access, path, tried,
+    )
+}
+
+/// The same of one that is out of tries.
+#[cold]
+#[inline(never)]
+fn get_spent<R: Wait>(
+    rt: &R,
+    words: &Words,
+    actor: &mut Actor,
+    stock: &mut Stock,
+    seat: u8,
+    handle: u16,
+    key: u64,
+    access: Access,
+) -> Result<Option<u64>, CallError>
+    requires table { actor.old.table_id ≡ words.now.table_id }
+    requires sound { IsSound words.now.table_id.words actor.old.me.0 }
+    requires stock { IsStock stock.old actor.old.me.0 }
+    requires its { actor.old.me.0.actor ≡ seat }
+    requires few { actor.old.me.0.actor ≤ actor.old.me.0.sizes.seats }
+    requires running { IsRunning actor.old.me.0 }
+    requires called { IsCalled actor.old.me.0 (Get handle key) access }
+    requires none { actor.old.me.0.opens ≡ None }
+    requires under { (before : View) × IsUnderWay before (Get handle key) None actor.old.me.0 }
+    requires may { MayAnswer actor.old.me.0 reply.NoSlots }
+    ensures table { actor.new.table_id ≡ actor.old.table_id }
+    ensures sound { IsSound words.now.table_id.words actor.new.me.0 }
+    ensures stock { IsStock stock.new actor.new.me.0 }
+    ensures told { HasGotten actor.old.me.0 (Get handle key) result actor.new.me.0 }
+    ensures left { HasLeft actor.old.me.0 actor.new.me.0 }
+{
+    let path = Path::new();
+    let tried = Err(Left::MayGiveUp);
+    get_on(
+        rt, words, actor, stock, seat, handle, key, access, &path, tried,
+    )
+}
+
+/// A get of this seat, `seat`, which has come to the root of its handle, in this slot.
+#[inline(always)]
+fn get_rooted<R: Wait>(
+    rt: &R,
+    words: &Words,
+    actor: &mut Actor,
+    stock: &mut Stock,
+    seat: u8,
+    handle: u16,
+    key: u64,
+    access: Access,
+    task: &Task,
+    slot: u32,
+) -> Result<Option<u64>, CallError>
+    requires table { actor.old.table_id ≡ words.now.table_id }
+    requires sound { IsSound words.now.table_id.words actor.old.me.0 }
+    requires stock { IsStock stock.old actor.old.me.0 }
+    requires its { actor.old.me.0.actor ≡ seat }
+    requires few { actor.old.me.0.actor ≤ actor.old.me.0.sizes.seats }
+    requires running { IsRunning actor.old.me.0 }
+    requires called { IsCalled actor.old.me.0 (Get handle key) access }
+    requires none { actor.old.me.0.opens ≡ None }
+    requires under { (before : View) × IsUnderWay before (Get handle key) None actor.old.me.0 }
+    requires task { IsLookup actor.old.me.0 task.now }
+    requires small { task.now.start < 2 ^ 36 }
+    requires at { IsOnPath actor.old.me.0 (slot ∷ []) }
+    ensures table { actor.new.table_id ≡ actor.old.table_id }
+    ensures sound { IsSound words.now.table_id.words actor.new.me.0 }
+    ensures stock { IsStock stock.new actor.new.me.0 }
+    ensures told { HasGotten actor.old.me.0 (Get handle key) result actor.new.me.0 }
+    ensures left { HasLeft actor.old.me.0 actor.new.me.0 }
+{
+    let mut path = Path::new();
+    path.push(slot);
+    let looked = look_up_within(u64::MAX, words, actor, task, &mut path);
+    if let Some(come) = looked {
+        if let Looked::Answers(value) = come {
+            end(words, actor, stock, seat);
+            return Ok(value);
+        }
+    }
+    get_looked(
+        rt, words, actor, stock, seat, handle, key, access, task, &mut path, looked,
+    )
+}
+
 /// A get of this seat, `seat`, which has begun on a handle that allows this.
 #[inline(always)]
 fn get_begun<R: Wait>(
@@ -165,38 +293,24 @@ fn get_begun<R: Wait>(
     ensures told { HasGotten actor.old.me.0 (Get handle key) result actor.new.me.0 }
     ensures left { HasLeft actor.old.me.0 actor.new.me.0 }
 {
+    let way = Way { handle, access };
+    let Some(rooted) = seek_root_within(u64::MAX, words, actor, way) else {
+        return get_spent(rt, words, actor, stock, seat, handle, key, access);
+    };
     let call = Call::Get { handle, key };
-    let hashes = stock.sizes().hash;
-    let mut path = Path::new();
-    match try_get_within(
-        u64::MAX,
+    let task = Task::new(call, access, stock.sizes().hash, rooted.generation);
+    get_rooted(
+        rt,
         words,
         actor,
         stock,
-        call,
+        seat,
+        handle,
+        key,
         access,
-        hashes,
-        &mut path,
-    ) {
-        Ok((task, gotten)) => match gotten {
-            Gotten::Value(value) => {
-                end(words, actor, stock, seat);
-                Ok(value)
-            }
-            Gotten::Sought(sought) => {
-                let tried = Ok((task, sought));
-                get_on(
-                    rt, words, actor, stock, seat, handle, key, access, &path, tried,
-                )
-            }
-        },
-        Err(left) => {
-            let tried = Err(left);
-            get_on(
-                rt, words, actor, stock, seat, handle, key, access, &path, tried,
-            )
-        }
-    }
+        &task,
+        rooted.slot,
+    )
 }
 
 /// A get by this seat, `seat`, as long as it takes.

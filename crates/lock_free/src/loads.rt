@@ -1,6 +1,7 @@
 //! Loads.
 
 ghost use Rattle.std.specs.Prelude.{◌≡◌};
+ghost use Rattle.trie_words.specs.Codes.{header_of};
 ghost use Rattle.machine_model.specs.declared.actions.Action.TheVariants as act;
 ghost use Rattle.lock_free.specs.Entries.{HasSeenEntry};
 ghost use Rattle.lock_free.specs.Loading.{IsSound, IsAtSlot, HoldsSlot, HasPosition, HasReadHeader, HasReadLink, HasLookedAtMain, HasLookedAtLink, HasLookedAtKey, HasLookedAtValue, HasSeenMain};
@@ -33,6 +34,19 @@ pub fn read_link(words: &Words, actor: &mut Actor, indirection: u32) -> Link
     Link::of_word(words.load::<Goes>(actor, 2 * indirection as usize))
 }
 
+/// Reads the first word of the main node in this slot.
+#[inline(always)]
+pub fn read_header_word(words: &Words, actor: &mut Actor, main: u32) -> u64
+    requires table { actor.old.table_id ≡ words.now.table_id }
+    requires sound { IsSound words.now.table_id.words actor.old.me.0 }
+    requires reading { IsAtSlot actor.old.me.0 act.ReadPrev main }
+    ensures table { actor.new.table_id ≡ actor.old.table_id }
+    ensures sound { IsSound words.now.table_id.words actor.new.me.0 }
+    ensures read { HasReadHeader actor.old.me.0 (header_of result) actor.new.me.0 }
+{
+    words.load::<Goes>(actor, 2 * main as usize)
+}
+
 /// Reads the header of the main node in this slot.
 #[inline(always)]
 pub fn read_header(words: &Words, actor: &mut Actor, main: u32) -> Header
@@ -43,7 +57,7 @@ pub fn read_header(words: &Words, actor: &mut Actor, main: u32) -> Header
     ensures sound { IsSound words.now.table_id.words actor.new.me.0 }
     ensures read { HasReadHeader actor.old.me.0 result actor.new.me.0 }
 {
-    Header::of_word(words.load::<Goes>(actor, 2 * main as usize))
+    Header::of_word(read_header_word(words, actor, main))
 }
 
 /// Looks at the main node in this slot.

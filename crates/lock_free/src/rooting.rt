@@ -1,9 +1,9 @@
 //! ROOT: the root of a handle, once no offer stands there.
 
-ghost use Rattle.std.specs.Prelude.{◌≡◌, ◌<◌, ◌^◌, IfErr, IfOk, OnOk};
-ghost use Rattle.lock_free.specs.Entries.{HasStayed};
+ghost use Rattle.std.specs.Prelude.{◌≡◌, ◌<◌, ◌^◌, IfErr, IfNone, IfOk, IfSome};
+ghost use Rattle.lock_free.specs.declared.leaving.Left.TheVariants as left;
 ghost use Rattle.lock_free.specs.HandleWords.{HasOffer};
-ghost use Rattle.lock_free.specs.Leaving.{HasCompletedOn, HasLeftOff, IsCompleteOf};
+ghost use Rattle.lock_free.specs.Leaving.{HasCompletedOn, HasLeftOff, HasStayedOrLeft, IsCompleteOf};
 ghost use Rattle.lock_free.specs.Loading.{IsSound, Saw};
 ghost use Rattle.lock_free.specs.Passing.{IsOnWay};
 ghost use Rattle.lock_free.specs.RootWords.{IsOpenedBy, IsToOpen};
@@ -143,16 +143,10 @@ pub fn complete_within(
 }
 
 /// Brings the offer in this slot to its end within so many tries, if it stands still, and takes it out of the word of the handle, if it
-/// is settled.
+/// is settled. False where it is out of tries: then the operation may give up.
 #[cold]
 #[inline(never)]
-fn help_within(
-    tries: u64,
-    words: &Words,
-    actor: &mut Actor,
-    way: Way,
-    offer: u32,
-) -> Result<(), Left>
+fn help_within(tries: u64, words: &Words, actor: &mut Actor, way: Way, offer: u32) -> bool
     requires table { actor.old.table_id ≡ words.now.table_id }
     requires sound { IsSound words.now.table_id.words actor.old.me.0 }
     requires way { IsOnWay actor.old.me.0 way }
@@ -160,22 +154,51 @@ fn help_within(
     requires known { HasOffer actor.old.me.0.sizes actor.old.me.0.account way.handle offer }
     ensures table { actor.new.table_id ≡ actor.old.table_id }
     ensures sound { IsSound words.now.table_id.words actor.new.me.0 }
-    ensures stays { OnOk result (HasStayed actor.old.me.0 actor.new.me.0) }
-    ensures left { IfErr result (λ left. HasLeftOff actor.old.me.0 left actor.new.me.0) }
+    ensures stays { HasStayedOrLeft actor.old.me.0 result actor.new.me.0 }
 {
     let handle = way.handle;
     match meet_offer(words, actor, handle, offer) {
         Fate::Undecided => match complete_within(tries, words, actor, way, offer) {
             Ok(_) => {}
-            Err(_) => return Err(Left::MayGiveUp),
+            Err(_) => return false,
         },
         Fate::CarriedOut => clean_settled(words, actor, handle, offer, true),
         Fate::TakenBack => clean_settled(words, actor, handle, offer, false),
     }
-    Ok(())
+    true
 }
 
-/// ROOT within so many tries: else the operation may give up.
+/// ROOT within so many tries: none where it is out of tries, and then the operation may give up.
+#[inline(always)]
+pub fn seek_root_within(tries: u64, words: &Words, actor: &mut Actor, way: Way) -> Option<Rooted>
+    requires table { actor.old.table_id ≡ words.now.table_id }
+    requires sound { IsSound words.now.table_id.words actor.old.me.0 }
+    requires way { IsOnWay actor.old.me.0 way }
+    requires at { IsAtRoot actor.old.me.0 }
+    ensures table { actor.new.table_id ≡ actor.old.table_id }
+    ensures sound { IsSound words.now.table_id.words actor.new.me.0 }
+    ensures rooted { IfSome result (λ rooted. HasRooted actor.old.me.0 rooted actor.new.me.0) }
+    ensures small { IfSome result (λ rooted. rooted.generation < 2 ^ 36) }
+    ensures left { IfNone result (HasLeftOff actor.old.me.0 left.MayGiveUp actor.new.me.0) }
+{
+    for _ in 0..tries {
+        match ask_word(words, actor, way.handle) {
+            Named::Root(slot) => {
+                let generation = see_generation(words, actor, slot);
+                return Some(Rooted { slot, generation });
+            }
+            Named::Offer(offer) => {
+                if !help_within(tries, words, actor, way, offer) {
+                    return None;
+                }
+            }
+            Named::Nothing => {}
+        }
+    }
+    None
+}
+
+/// The same; else the operation may give up.
 #[inline(always)]
 pub fn root_within(tries: u64, words: &Words, actor: &mut Actor, way: Way) -> Result<Rooted, Left>
     requires table { actor.old.table_id ≡ words.now.table_id }
@@ -188,18 +211,8 @@ pub fn root_within(tries: u64, words: &Words, actor: &mut Actor, way: Way) -> Re
     ensures small { IfOk result (λ rooted. rooted.generation < 2 ^ 36) }
     ensures left { IfErr result (λ left. HasLeftOff actor.old.me.0 left actor.new.me.0) }
 {
-    for _ in 0..tries {
-        match ask_word(words, actor, way.handle) {
-            Named::Root(slot) => {
-                let generation = see_generation(words, actor, slot);
-                return Ok(Rooted { slot, generation });
-            }
-            Named::Offer(offer) => match help_within(tries, words, actor, way, offer) {
-                Ok(()) => {}
-                Err(left) => return Err(left),
-            },
-            Named::Nothing => {}
-        }
+    match seek_root_within(tries, words, actor, way) {
+        Some(rooted) => Ok(rooted),
+        None => Err(Left::MayGiveUp),
     }
-    Err(Left::MayGiveUp)
 }

@@ -1,107 +1,109 @@
-use Rattle.std.proofs.Common.{subst}
+use Rattle.std.proofs.Common.{Option, None, IfNone, refl, ap, subst, ◌∙◌}
 use Rattle.history.specs.declared.calls.Call.TheVariants.{Get}
-use Rattle.lock_free.specs.declared.gets.Gotten.{Gotten}
-use Rattle.lock_free.specs.Lookups.{sought_of}
-use Rattle.lock_free.specs.Seeking.{HasTried}
-use Rattle.lock_free.proofs.CallsRunOn.{tried_runs_on}
-use Rattle.lock_free.proofs.GetsWhole.{gotten_since, left_gotten, left_since_then, sought_gotten, still_called, still_none, still_running, still_under, value_ends, value_left, value_told}
+use Rattle.machine_model.specs.Beneath.ctrie_base.specs.Hashes.{hash_of}
+use Rattle.machine_model.specs.Calls.{needs_writable}
+use Rattle.machine_model.specs.Lines.{new_try}
+use Rattle.lock_free.specs.declared.leaving.Left.TheVariants as left
+use Rattle.lock_free.specs.declared.rooting.Rooted.{Rooted}
+use Rattle.lock_free.specs.Leaving.{HasLeftOff}
+use Rattle.lock_free.proofs.GetsWhole.{gotten_since, off_may, off_runs_on, still_called, still_running, still_under}
+use Rattle.lock_free.proofs.Leavings.{left_stock}
+use Rattle.lock_free.proofs.ParkedOn.{way_called}
+use Rattle.lock_free.proofs.RunningOn.{runs_on_rooted}
+use Rattle.lock_free.proofs.Trials.{root_ready, stock_ready, task_ready}
 use Rattle.lock_free.proofs.get_runs.get_begun.Goals as goal
 
-pub end-requires-clause-ending : goal.end-requires-clause-ending
-end-requires-clause-ending g c =
+pub seek_root_within-requires-clause-way : goal.seek_root_within-requires-clause-way
+seek_root_within-requires-clause-way g c =
+    way_called c.args.actor.now.me.0 (Get c.args.handle c.args.key) c.args.access c.requires.called c.args.handle refl
+
+pub get_spent-requires-clause-stock : goal.get_spent-requires-clause-stock
+get_spent-requires-clause-stock g c =
     let v = c.args.actor.now.me.0 in
-    let y = c.try_get_within.new.actor.me.0 in
-    let slots = c.try_get_within.new.path.items in
-    value_ends v c.requires.at slots y c.in-Ok.task c.in-Value.value
-    (subst (λ (z : Gotten). HasTried v slots (c.in-Ok.task, sought_of z) y) c.in-Value.is (c.in-Ok.ensures {u = tt}).tried)
+    let w = c.seek_root_within.new.actor.me.0 in
+    left_stock c.args.words.now.table_id.words v c.requires.sound new_try c.requires.at left.MayGiveUp w (subst (λ (r : Option Rooted). IfNone r
+    (HasLeftOff v left.MayGiveUp w)) c.in_default.is c.seek_root_within.ensures.left) c.args.stock.now c.requires.stock
 
-pub get_on-requires-clause-running : goal.get_on-requires-clause-running
-get_on-requires-clause-running g c =
+pub get_spent-requires-clause-running : goal.get_spent-requires-clause-running
+get_spent-requires-clause-running g c =
     let v = c.args.actor.now.me.0 in
-    let y = c.try_get_within.new.actor.me.0 in
-    still_running v c.requires.at y (tried_runs_on v y c.try_get_within.new.path.items c.in-Ok.task (sought_of c.in-Ok.gotten) (c.in-Ok.ensures {u = tt}).tried)
+    let w = c.seek_root_within.new.actor.me.0 in
+    still_running v (c.requires.at.0, c.requires.at.1) w (off_runs_on v c.requires.at w (subst (λ (r : Option Rooted). IfNone r
+    (HasLeftOff v left.MayGiveUp w)) c.in_default.is c.seek_root_within.ensures.left))
 
-pub get_on-requires-clause-called : goal.get_on-requires-clause-called
-get_on-requires-clause-called g c =
+pub get_spent-requires-clause-called : goal.get_spent-requires-clause-called
+get_spent-requires-clause-called g c =
     let v = c.args.actor.now.me.0 in
-    let y = c.try_get_within.new.actor.me.0 in
-    still_called v c.requires.at y (tried_runs_on v y c.try_get_within.new.path.items c.in-Ok.task (sought_of c.in-Ok.gotten) (c.in-Ok.ensures {u = tt}).tried) (Get c.args.handle c.args.key)
-    c.args.access c.requires.called
+    let w = c.seek_root_within.new.actor.me.0 in
+    still_called v (c.requires.at.0, c.requires.at.1) w (off_runs_on v c.requires.at w (subst (λ (r : Option Rooted). IfNone r
+    (HasLeftOff v left.MayGiveUp w)) c.in_default.is c.seek_root_within.ensures.left)) (Get c.args.handle c.args.key) c.args.access c.requires.called
 
-pub get_on-requires-clause-none : goal.get_on-requires-clause-none
-get_on-requires-clause-none g c =
+pub get_spent-requires-clause-under : goal.get_spent-requires-clause-under
+get_spent-requires-clause-under g c =
     let v = c.args.actor.now.me.0 in
-    let y = c.try_get_within.new.actor.me.0 in
-    still_none v y (tried_runs_on v y c.try_get_within.new.path.items c.in-Ok.task (sought_of c.in-Ok.gotten) (c.in-Ok.ensures {u = tt}).tried) c.requires.none
+    let w = c.seek_root_within.new.actor.me.0 in
+    still_under v w (off_runs_on v c.requires.at w (subst (λ (r : Option Rooted). IfNone r (HasLeftOff v left.MayGiveUp w)) c.in_default.is c.seek_root_within.ensures.left))
+    (Get c.args.handle c.args.key) c.requires.under
 
-pub get_on-requires-clause-under : goal.get_on-requires-clause-under
-get_on-requires-clause-under g c =
+pub get_spent-requires-clause-may : goal.get_spent-requires-clause-may
+get_spent-requires-clause-may g c =
     let v = c.args.actor.now.me.0 in
-    let y = c.try_get_within.new.actor.me.0 in
-    still_under v y (tried_runs_on v y c.try_get_within.new.path.items c.in-Ok.task (sought_of c.in-Ok.gotten) (c.in-Ok.ensures {u = tt}).tried) (Get c.args.handle c.args.key) c.requires.under
+    let w = c.seek_root_within.new.actor.me.0 in
+    off_may v c.requires.at w (subst (λ (r : Option Rooted). IfNone r (HasLeftOff v left.MayGiveUp w)) c.in_default.is c.seek_root_within.ensures.left)
 
-pub get_on-requires-clause-at : goal.get_on-requires-clause-at
-get_on-requires-clause-at g c =
+pub returns-in_default-clause-told : goal.returns-in_default-clause-told
+returns-in_default-clause-told g c =
     let v = c.args.actor.now.me.0 in
-    let y = c.try_get_within.new.actor.me.0 in
-    let slots = c.try_get_within.new.path.items in
-    let e = c.in-Ok.ensures {u = tt} in
-    sought_gotten v c.requires.at slots y c.in-Ok.task c.in-Sought.sought e.small (subst (λ (z : Gotten). HasTried v slots (c.in-Ok.task, sought_of z) y) c.in-Sought.is e.tried)
+    let w = c.seek_root_within.new.actor.me.0 in
+    gotten_since v w (off_runs_on v c.requires.at w (subst (λ (r : Option Rooted). IfNone r (HasLeftOff v left.MayGiveUp w)) c.in_default.is c.seek_root_within.ensures.left))
+    (Get c.args.handle c.args.key) c.get_spent.result c.get_spent.new.actor.me.0 c.get_spent.ensures.told
 
-pub get_on-requires-in-Err-clause-running : goal.get_on-requires-in-Err-clause-running
-get_on-requires-in-Err-clause-running g c = still_running c.args.actor.now.me.0 c.requires.at c.try_get_within.new.actor.me.0 (c.in-Err.ensures {u = tt}).left.on
-
-pub get_on-requires-in-Err-clause-called : goal.get_on-requires-in-Err-clause-called
-get_on-requires-in-Err-clause-called g c =
-    still_called c.args.actor.now.me.0 c.requires.at c.try_get_within.new.actor.me.0 (c.in-Err.ensures {u = tt}).left.on (Get c.args.handle c.args.key) c.args.access c.requires.called
-
-pub get_on-requires-in-Err-clause-none : goal.get_on-requires-in-Err-clause-none
-get_on-requires-in-Err-clause-none g c = still_none c.args.actor.now.me.0 c.try_get_within.new.actor.me.0 (c.in-Err.ensures {u = tt}).left.on c.requires.none
-
-pub get_on-requires-in-Err-clause-under : goal.get_on-requires-in-Err-clause-under
-get_on-requires-in-Err-clause-under g c =
-    still_under c.args.actor.now.me.0 c.try_get_within.new.actor.me.0 (c.in-Err.ensures {u = tt}).left.on (Get c.args.handle c.args.key) c.requires.under
-
-pub get_on-requires-in-Err-clause-at : goal.get_on-requires-in-Err-clause-at
-get_on-requires-in-Err-clause-at g c =
-    left_gotten c.args.actor.now.me.0 c.requires.at c.try_get_within.new.path.items c.try_get_within.new.actor.me.0 c.in-Err.left (c.in-Err.ensures {u = tt}).left
-
-pub returns-in-Value-clause-told : goal.returns-in-Value-clause-told
-returns-in-Value-clause-told g c =
+pub get_rooted-requires-clause-stock : goal.get_rooted-requires-clause-stock
+get_rooted-requires-clause-stock g c =
     let v = c.args.actor.now.me.0 in
-    let y = c.try_get_within.new.actor.me.0 in
-    let slots = c.try_get_within.new.path.items in
-    value_told v c.requires.at slots y c.in-Ok.task c.in-Value.value
-    (subst (λ (z : Gotten). HasTried v slots (c.in-Ok.task, sought_of z) y) c.in-Value.is (c.in-Ok.ensures {u = tt}).tried)
-    c.args.access c.end.new.actor.me.0 c.end.ensures.ended (Get c.args.handle c.args.key)
+    let w = c.seek_root_within.new.actor.me.0 in
+    stock_ready v c.requires.at (Get c.args.handle c.args.key) c.args.access c.requires.called refl c.in-Some.rooted w
+    (c.in-Some.ensures {u = tt}).rooted c.args.words.now.table_id.words c.requires.sound c.args.stock.now c.requires.stock
 
-pub returns-in-Value-clause-left : goal.returns-in-Value-clause-left
-returns-in-Value-clause-left g c =
+pub get_rooted-requires-clause-running : goal.get_rooted-requires-clause-running
+get_rooted-requires-clause-running g c =
     let v = c.args.actor.now.me.0 in
-    let y = c.try_get_within.new.actor.me.0 in
-    let slots = c.try_get_within.new.path.items in
-    value_left v c.requires.at slots y c.in-Ok.task c.in-Value.value
-    (subst (λ (z : Gotten). HasTried v slots (c.in-Ok.task, sought_of z) y) c.in-Value.is (c.in-Ok.ensures {u = tt}).tried)
-    c.args.access c.end.new.actor.me.0 c.end.ensures.ended (Get c.args.handle c.args.key) c.requires.called c.requires.none
+    let w = c.seek_root_within.new.actor.me.0 in
+    still_running v (c.requires.at.0, c.requires.at.1) w (runs_on_rooted v w c.in-Some.rooted (c.in-Some.ensures {u = tt}).rooted)
 
-pub returns-in-Sought-clause-told : goal.returns-in-Sought-clause-told
-returns-in-Sought-clause-told g c =
+pub get_rooted-requires-clause-called : goal.get_rooted-requires-clause-called
+get_rooted-requires-clause-called g c =
     let v = c.args.actor.now.me.0 in
-    let y = c.try_get_within.new.actor.me.0 in
-    gotten_since v y (tried_runs_on v y c.try_get_within.new.path.items c.in-Ok.task (sought_of c.in-Ok.gotten) (c.in-Ok.ensures {u = tt}).tried) (Get c.args.handle c.args.key) c.get_on.result
-    c.get_on.new.actor.me.0 c.get_on.ensures.told
+    let w = c.seek_root_within.new.actor.me.0 in
+    still_called v (c.requires.at.0, c.requires.at.1) w (runs_on_rooted v w c.in-Some.rooted (c.in-Some.ensures {u = tt}).rooted) (Get c.args.handle c.args.key) c.args.access c.requires.called
 
-pub returns-in-Sought-clause-left : goal.returns-in-Sought-clause-left
-returns-in-Sought-clause-left g c =
+pub get_rooted-requires-clause-under : goal.get_rooted-requires-clause-under
+get_rooted-requires-clause-under g c =
     let v = c.args.actor.now.me.0 in
-    let y = c.try_get_within.new.actor.me.0 in
-    left_since_then v y (tried_runs_on v y c.try_get_within.new.path.items c.in-Ok.task (sought_of c.in-Ok.gotten) (c.in-Ok.ensures {u = tt}).tried) c.get_on.new.actor.me.0 c.get_on.ensures.left
+    let w = c.seek_root_within.new.actor.me.0 in
+    still_under v w (runs_on_rooted v w c.in-Some.rooted (c.in-Some.ensures {u = tt}).rooted) (Get c.args.handle c.args.key) c.requires.under
 
-pub returns-in-Err-clause-told : goal.returns-in-Err-clause-told
-returns-in-Err-clause-told g c =
-    gotten_since c.args.actor.now.me.0 c.try_get_within.new.actor.me.0 (c.in-Err.ensures {u = tt}).left.on (Get c.args.handle c.args.key) c.get_on-in-Err.result c.get_on-in-Err.new.actor.me.0
-    c.get_on-in-Err.ensures.told
+pub get_rooted-requires-clause-task : goal.get_rooted-requires-clause-task
+get_rooted-requires-clause-task g c =
+    let v = c.args.actor.now.me.0 in
+    let w = c.seek_root_within.new.actor.me.0 in
+    let t = c.new-task in record {
+      reads = ap needs_writable t.ensures.given.0;
+      its =
+          task_ready v c.requires.at (Get c.args.handle c.args.key) c.args.access c.requires.called refl c.in-Some.rooted w
+          (c.in-Some.ensures {u = tt}).rooted t.result t.ensures.given.0 t.ensures.given.1 t.ensures.given.2 t.ensures.key
+          (t.ensures.hash ∙ ap (λ z. hash_of z.hash t.result.key) (c.sizes.ensures ∙ c.requires.stock.sizes));
+    }
 
-pub returns-in-Err-clause-left : goal.returns-in-Err-clause-left
-returns-in-Err-clause-left g c =
-    left_since_then c.args.actor.now.me.0 c.try_get_within.new.actor.me.0 (c.in-Err.ensures {u = tt}).left.on c.get_on-in-Err.new.actor.me.0 c.get_on-in-Err.ensures.left
+pub get_rooted-requires-clause-at : goal.get_rooted-requires-clause-at
+get_rooted-requires-clause-at g c =
+    let v = c.args.actor.now.me.0 in
+    let w = c.seek_root_within.new.actor.me.0 in
+    root_ready v c.requires.at (Get c.args.handle c.args.key) c.args.access c.requires.called refl c.in-Some.rooted w (c.in-Some.ensures {u = tt}).rooted
+
+pub returns-clause-told : goal.returns-clause-told
+returns-clause-told g c =
+    let v = c.args.actor.now.me.0 in
+    let w = c.seek_root_within.new.actor.me.0 in
+    gotten_since v w (runs_on_rooted v w c.in-Some.rooted (c.in-Some.ensures {u = tt}).rooted) (Get c.args.handle c.args.key) c.get_rooted.result c.get_rooted.new.actor.me.0
+    c.get_rooted.ensures.told

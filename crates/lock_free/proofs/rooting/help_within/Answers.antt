@@ -42,8 +42,8 @@ returns-in-Ok-clause-stays c =
     c.meet_offer.ensures.sound (c.in-Undecided.ensures {u = tt}).met c.in-Ok.field-0 c.args.words.now.table_id.words c.complete_within.new.actor.me.0
     c.complete_within.ensures.sound (c.in-Ok.ensures {u = tt}).helped
 
-pub returns-in-Err-clause-left : goal.returns-in-Err-clause-left
-returns-in-Err-clause-left c =
+pub returns-in-Err-clause-stays : goal.returns-in-Err-clause-stays
+returns-in-Err-clause-stays c =
     help_left c.args.words.now.table_id.words c.args.actor.now.me.0 c.requires.sound c.args.way c.requires.at c.requires.way c.args.offer c.requires.known c.meet_offer.new.actor.me.0
     c.meet_offer.ensures.sound (c.in-Undecided.ensures {u = tt}).met c.in-Err.field-0 c.complete_within.new.actor.me.0 (c.in-Err.ensures {u = tt}).on
 

@@ -1,10 +1,12 @@
 use Rattle.std.proofs.Common.{◌≡◌, refl, sym, subst, ◌∙◌}
+use Rattle.lock_free.specs.declared.leaving.Left.TheVariants as left
+use Rattle.lock_free.specs.Leaving.{HasStayedOrLeft}
 use Rattle.lock_free.specs.Rooting.{HasLookedSome}
 use Rattle.lock_free.proofs.Licenses.{offer_now}
 use Rattle.lock_free.proofs.Rootings.{asks_root, first_look, last_look, one_look, root_then, stayed_both, stayed_saw, stayed_way}
 use Rattle.lock_free.proofs.RootsLeft.{left_after, stayed_left}
-use Rattle.lock_free.proofs.rooting.root_within.Goals.{in-Offer+in-Ok, in-Nothing}
-use Rattle.lock_free.proofs.rooting.root_within.Goals as goal
+use Rattle.lock_free.proofs.rooting.seek_root_within.Goals.{in-Offer+else-not-help_within, in-Nothing}
+use Rattle.lock_free.proofs.rooting.seek_root_within.Goals as goal
 
 pub loop-init : goal.loop-init
 loop-init c = (refl, first_look c.args.words.now.table_id.words c.args.way c.args.actor.now.me.0 c.requires.sound c.requires.way c.requires.at)
@@ -52,16 +54,17 @@ pub help_within-requires-clause-known : goal.help_within-requires-clause-known
 help_within-requires-clause-known c =
     let saw = (c.in-Offer.ensures {u = tt}).asked in offer_now c.loop.actor.me.0 c.ask_word.new.actor.me.0 c.args.way.handle c.in-Offer.offer saw.0 saw.1
 
-pub returns-in-Err-clause-table : goal.returns-in-Err-clause-table
-returns-in-Err-clause-table c = c.help_within.ensures.table ∙ c.ask_word.ensures.table ∙ c.loop.invariant.0
+pub returns-then-not-help_within-clause-table : goal.returns-then-not-help_within-clause-table
+returns-then-not-help_within-clause-table c = c.help_within.ensures.table ∙ c.ask_word.ensures.table ∙ c.loop.invariant.0
 
-pub returns-in-Err-clause-left : goal.returns-in-Err-clause-left
-returns-in-Err-clause-left c =
+pub returns-then-not-help_within-clause-left : goal.returns-then-not-help_within-clause-left
+returns-then-not-help_within-clause-left c =
     let n = c.args.words.now.table_id.words in
     let v = c.loop.actor.me.0 in
     let w = c.ask_word.new.actor.me.0 in
-    left_after c.args.actor.now.me.0 w c.help_within.new.actor.me.0 c.in-Err.left c.requires.at
-    (stayed_both c.args.actor.now.me.0 v w c.loop.invariant.1.stayed (stayed_saw n v w c.loop.invariant.1.sound (c.in-Offer.ensures {u = tt}).asked.0)) (c.in-Err.ensures {u = tt}).left
+    left_after c.args.actor.now.me.0 w c.help_within.new.actor.me.0 left.MayGiveUp c.requires.at
+    (stayed_both c.args.actor.now.me.0 v w c.loop.invariant.1.stayed (stayed_saw n v w c.loop.invariant.1.sound (c.in-Offer.ensures {u = tt}).asked.0))
+    (subst (λ b. HasStayedOrLeft w b c.help_within.new.actor.me.0) c.if-not-help_within.true c.help_within.ensures.stays)
 
 pub loop-preserved : goal.loop-preserved
 loop-preserved c =
@@ -70,12 +73,13 @@ loop-preserved c =
     let v = c.loop.actor.me.0 in
     let w = c.ask_word.new.actor.me.0 in
     elim c.match-ask_word.branch [
-      | in-Offer+in-Ok p ↦
+      | in-Offer+else-not-help_within p ↦
           let z = p.help_within.new.actor in
           subst (λ x. (x.table_id ≡ u.table_id) × HasLookedSome n c.args.way u.me.0 x.me.0) (sym p.actor-is) (
             p.help_within.ensures.table ∙ c.ask_word.ensures.table ∙ c.loop.invariant.0,
             one_look n c.args.way u.me.0 v z.me.0 c.loop.invariant.1 p.help_within.ensures.sound
-                (stayed_both v w z.me.0 (stayed_saw n v w c.loop.invariant.1.sound (p.in-Offer.ensures {u = tt}).asked.0) (p.in-Ok.ensures {u = tt}).stays),
+                (stayed_both v w z.me.0 (stayed_saw n v w c.loop.invariant.1.sound (p.in-Offer.ensures {u = tt}).asked.0) (subst
+                (λ b. HasStayedOrLeft w b z.me.0) p.if-not-help_within.false p.help_within.ensures.stays)),
           )
       | in-Nothing p ↦
           subst (λ x. (x.table_id ≡ u.table_id) × HasLookedSome n c.args.way u.me.0 x.me.0) (sym p.actor-is) (

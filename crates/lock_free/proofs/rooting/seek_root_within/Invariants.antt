@@ -1,6 +1,6 @@
 use Rattle.std.proofs.Common.{◌≡◌}
 use Rattle.lock_free.specs.Rooting.{HasLookedSome}
-use Rattle.lock_free.proofs.rooting.root_within.Given as goal
+use Rattle.lock_free.proofs.rooting.seek_root_within.Given as goal
 
 abbrev pub invariant-loop : goal.invariant-loop
 invariant-loop l =
