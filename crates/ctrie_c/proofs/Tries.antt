@@ -1,16 +1,11 @@
 -- What a seat's contract says holds of the seat that is held.
-use Rattle.std.proofs.Common.{◌≡◌, ◌<◌, ℕ, refl, sym, subst, inl, inr}
+use Rattle.std.proofs.Common.{◌≡◌, ◌<◌, ℕ, sym, subst, inl, inr}
 use Rattle.std.specs.Prelude.{Bool, Option, Some, None, Ok}
 use Rattle.shared_map.specs.declared.asks.Ask.{Ask}
 use Rattle.shared_map.specs.Asks.{Told}
 use Rattle.shared_map.specs.Beneath.sharded_gate.specs.declared.gates.ShardCount.{ShardCount}
-use Rattle.ctrie_c.specs.Answers.{code_limit, no_map, truth_told}
+use Rattle.ctrie_c.specs.Answers.{code_limit, truth_told}
 use Rattle.ctrie_c.specs.Sharing.{AsksIt, Hears, HearsSo, Says, Sharing, Tries}
-
--- no seat is held
-pub none_held : {before after : Option Sharing} (Holds : Sharing → Sharing → Type 0) → before ≡ None → after ≡ None → Tries before after no_map Holds
-none_held {before} {after} Holds was is =
-    subst (λ (b : Option Sharing). Tries b after no_map Holds) (sym was) (subst (λ (a : Option Sharing). Tries None a no_map Holds) (sym is) refl)
 
 -- it did something, and the code tells what
 pub came_in : {before after : Option Sharing} {old lent new : Sharing} {code : ℕ} (Holds : Sharing → Sharing → Type 0) → lent ≡ old → before ≡ Some old → after ≡ Some new → code < code_limit →

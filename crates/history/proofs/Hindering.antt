@@ -30,9 +30,6 @@ no_state : (o : Option HandleState) → option_and_then (λ s. Some s.access) o 
 no_state None is = refl
 no_state (Some s) is = let wrong : ⊥ = cc is in absurd wrong
 
-pub unnamed : (world : HandleMap) (h : ℕ) → option_and_then (λ s. Some s.access) (map.get world h) ≡ None → map.get world h ≡ None
-unnamed world h is = no_state (map.get world h) is
-
 -- a handle of the wrong kind
 pub kind_hinders : (world : HandleMap) (call : Call) (opens : Option ℕ) (h : ℕ) (access : Access) (needed : Option Access) (obstacle : Obstacle) → needed_access call ≡ needed → h ≡ handle_of call
     → IsOfKind world h access → mismatch needed access h ≡ Some obstacle → Hinders world call opens obstacle

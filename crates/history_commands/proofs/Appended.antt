@@ -21,10 +21,8 @@ use Rattle.history_text.specs.Lines.{header_of, order_of}
 use Rattle.history_text.specs.Reading.{Reading, Progress, Start, InEvents, Ordered, Ended, history_format, history_of, words_after, all_read}
 use Rattle.history_text.proofs.Feeds.{order_first, none_said}
 use Rattle.order_search.specs.Searching.{HasNoOrder}
-use Rattle.history_commands.specs.declared.faults.Fault.{Fault}
-use Rattle.history_commands.specs.declared.faults.Fault.TheVariants as fault
-use Rattle.history_commands.specs.Verdicts.{IsOfHistory, SaysHistory}
-use Rattle.history_commands.specs.Orders.{HasNoLegalOrder, IsOfOrdered, with_order}
+use Rattle.history_commands.specs.Verdicts.{SaysHistory}
+use Rattle.history_commands.specs.Orders.{HasNoLegalOrder, with_order}
 
 -- ---- lines
 
@@ -49,9 +47,6 @@ kept_last (x ∷ y ∷ more) = elim (is_ignored x) as (λ (b : Bool). cond (not 
       | true ↦ kept_last (y ∷ more)
       | false ↦ ap (λ ls. x ∷ ls) (kept_last (y ∷ more))
     ]
-
-onto_append : (b : ℕ) (xs ys : List (List ℕ)) (x : List ℕ) → onto_first b ((x ∷ xs) ++ ys) ≡ onto_first b (x ∷ xs) ++ ys
-onto_append b xs ys x = refl
 
 -- a text that is cut has some part
 some_part : (text : List ℕ) → (x : List ℕ) × (xs : List (List ℕ)) × (cut_at 10 text ≡ x ∷ xs)
@@ -150,11 +145,3 @@ none_legal text order reading says none other verdict =
     let hashes : found.hash ≡ reading.hash = ap (λ p. hash_in p found.hash) same in
     let events : found.events ≡ reading.events = ap events_in same in
     none found.order (subst (λ h. IsLegal (hash_of h) reading.events found.order) hashes (subst (λ es. IsLegal (hash_of found.hash) es found.order) events (verdict.2.0 refl)))
-
--- a fault of the text with an order's line after it
-pub ordered_fault : (text order : List ℕ) (f : Fault) → IsOfHistory (with_order text order) f → IsOfOrdered text f
-ordered_fault text order (fault.Line number refusal) is = (order, is)
-ordered_fault text order fault.Memory is = tt
-ordered_fault text order fault.Read is = is
-ordered_fault text order fault.Write is = is
-ordered_fault text order fault.Usage is = is

@@ -1,5 +1,5 @@
 -- The end of a runner.
-use Rattle.std.specs.Prelude.{None, ◌≡◌, ℕ, ◌+◌, ◌≤◌, List, [], ◌∷◌, ◌++◌, Option, Some, slice_get, slice_index_or, unwrap_or, All, sum_by, length, Ok, Err}
+use Rattle.std.specs.Prelude.{None, ◌≡◌, ℕ, ◌+◌, ◌≤◌, List, [], ◌∷◌, ◌++◌, Some, slice_get, slice_index_or, unwrap_or, All, sum_by, length, Ok, Err}
 use Rattle.std.proofs.Common.{refl, sym, ap, subst, ◌∙◌, append_assoc, ne_eqb, arith}
 use Rattle.std.proofs.lemmas.List.Sums.{sum_by-cons}
 use Rattle.std.proofs.lemmas.List.Elements.{All-head, All-tail}
@@ -22,7 +22,7 @@ use Rattle.lock_runner.specs.declared.seats.Stop.TheVariants.{Denied, Memory, Ah
 use Rattle.lock_runner.specs.declared.finishing.Unfinished.TheVariants as unfinished
 use Rattle.lock_runner.specs.ActorHistory.Answers.{AreAnswersOf, RunsJust}
 use Rattle.lock_runner.specs.ActorHistory.Laws.{IsStepOf}
-use Rattle.lock_runner.specs.Asks.{Told, Hold, Pass, step_of, swept_by, swept}
+use Rattle.lock_runner.specs.Asks.{Told, Hold, step_of, swept_by, swept}
 use Rattle.lock_runner.specs.Boards.{account_in, sweeps_in, HasFollowed}
 use Rattle.lock_runner.specs.Seats.{Room, Seated, pass_of, sweeps_of, IsTold}
 use Rattle.lock_runner.specs.Holds.{Worked, Answers}

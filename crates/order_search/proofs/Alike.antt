@@ -1,6 +1,6 @@
 -- States that are alike: what is known of one holds of the other.
 use Rattle.std.proofs.Common.{◌≡◌, ℕ, ◌+◌, ◌<◌, ◌≤◌, inl, inr, Bool, true, false, List, [], ◌∷◌, ◌++◌, length, Option, Some, None, option_and_then, slice_get, IfSome, refl, sym, ap}
-use Rattle.std.proofs.Common.{◌∙◌, subst, arith, length-append, Decides, ◌==◌, nat_eq, eqb-true, eq-eqb}
+use Rattle.std.proofs.Common.{◌∙◌, subst, arith, Decides, ◌==◌, nat_eq, eqb-true, eq-eqb}
 use Rattle.std.specs.FinMap as map
 use Rattle.std.specs.Option.{option_eq}
 use Rattle.std.specs.Cmp.Lexicographic.{pointwise}
@@ -169,71 +169,16 @@ pub record Gathered (low : ℕ) (taken : List Bool) (id : ℕ) (ahead : List ℕ
   pub marked : (i other : ℕ) → slice_get ahead i ≡ Some other → HasMark taken other
   pub all : (other : ℕ) → low ≤ other → other < id → HasMark taken other → (i : ℕ) × (slice_get ahead i ≡ Some other)
 
-pub gathered_first : (low : ℕ) (taken : List Bool) → Gathered low taken low []
-gathered_first low taken = record { marked = λ i other at. let wrong : ⊥ = cc at in absurd wrong; all = λ other le lt. absurd (omega (arith, le, lt)) }
-
-pub gathered_on : (low : ℕ) (taken : List Bool) (id : ℕ) (ahead : List ℕ) → Gathered low taken id ahead → HasMark taken id → Gathered low taken (id + 1) (ahead ++ id ∷ [])
-gathered_on low taken id ahead so_far mark = record {
-  marked = λ i other at. elim (at_cases ahead id i other at) [ inl old ↦ so_far.marked i other old | inr new ↦ subst (λ x. HasMark taken x) new.1 mark ];
-  all = λ other le lt marked. elim (cases_lt other id) [
-    | inl before ↦ let at = so_far.all other le before marked in (at.0, at_old ahead id at.0 other at.1)
-    | inr here ↦
-        let same : id ≡ other = omega (arith, lt, here) in
-        (length ahead, subst (λ x. slice_get (ahead ++ id ∷ []) (length ahead) ≡ Some x) same (at_push ahead id (length ahead) refl))
-  ];
-}
-
-pub gathered_past : (low : ℕ) (taken : List Bool) (id : ℕ) (ahead : List ℕ) → Gathered low taken id ahead → ¬ HasMark taken id → Gathered low taken (id + 1) ahead
-gathered_past low taken id ahead so_far none = record {
-  marked = so_far.marked;
-  all = λ other le lt marked. elim (cases_lt other id) [
-    | inl before ↦ so_far.all other le before marked
-    | inr here ↦ let same : other ≡ id = omega (arith, lt, here) in absurd (none (subst (λ x. HasMark taken x) same marked))
-  ];
-}
-
-pub gathered_all : (low : ℕ) (taken : List Bool) (id : ℕ) (ahead : List ℕ) → Gathered low taken id ahead → length taken ≤ id → IsAhead low taken ahead
-gathered_all low taken id ahead so_far all = (
-  so_far.marked,
-  λ other le marked.
-      let within = slice_get_within taken other true marked in
-      so_far.all other le (omega (arith, within, all)) marked,
-)
-
 -- what a handle's map has for the first keys
 pub record Read (keys : List ℕ) (world : HandleMap) (h n : ℕ) (values : List (Option ℕ)) : Type 0 where
   pub size : length values ≡ n
   pub each : (i k : ℕ) → i < n → slice_get keys i ≡ Some k → slice_get values i ≡ Some (value_at world h k)
-
-pub read_first : (keys : List ℕ) (world : HandleMap) (h : ℕ) → Read keys world h 0 []
-read_first keys world h = record { size = refl; each = λ i k lt. absurd (omega (arith, lt)) }
-
-pub read_on : (keys : List ℕ) (world : HandleMap) (h n : ℕ) (values : List (Option ℕ)) (key : ℕ) → Read keys world h n values → slice_get keys n ≡ Some key
-    → Read keys world h (n + 1) (values ++ value_at world h key ∷ [])
-read_on keys world h n values key so_far at = record {
-  size = length-append values (value_at world h key ∷ []) ∙ ap (λ m. m + 1) so_far.size;
-  each = λ i other lt at_i. elim (cases_lt i n) [
-    | inl before ↦ at_old values (value_at world h key) i (value_at world h other) (so_far.each i other before at_i)
-    | inr here ↦
-        let same : i ≡ n = omega (arith, lt, here) in
-        let keys_same : key ≡ other = same_Some key other (sym at ∙ ap (λ m. slice_get keys m) (sym same) ∙ at_i) in
-        at_push values (value_at world h key) i (same ∙ sym so_far.size) ∙ ap (λ (k : ℕ). Some (value_at world h k)) keys_same
-  ];
-}
-
-pub read_all_keys : (keys : List ℕ) (world : HandleMap) (h n : ℕ) (values : List (Option ℕ)) → Read keys world h n values → length keys ≤ n → AreValues keys world h values
-read_all_keys keys world h n values so_far all i key at =
-    let within = slice_get_within keys i key at in
-    so_far.each i key (omega (arith, within, all)) at
 
 -- what the first handles name
 pub record NamedSoFar (handles keys : List ℕ) (world : HandleMap) (n : ℕ) (maps : List Named) : Type 0 where
   pub each : (i : ℕ) (named : Named) → slice_get maps i ≡ Some named → IsNamed keys world named
   pub all : (i h : ℕ) (access : Access) → i < n → slice_get handles i ≡ Some h → access_at world h ≡ Some access
       → (j : ℕ) × (named : Named) × (slice_get maps j ≡ Some named) × (named.handle ≡ h)
-
-pub named_first : (handles keys : List ℕ) (world : HandleMap) → NamedSoFar handles keys world 0 []
-named_first handles keys world = record { each = λ i named at. let wrong : ⊥ = cc at in absurd wrong; all = λ i h access lt. absurd (omega (arith, lt)) }
 
 pub named_on : (handles keys : List ℕ) (world : HandleMap) (n : ℕ) (maps : List Named) (named : Named) → NamedSoFar handles keys world n maps → slice_get handles n ≡ Some named.handle
     → IsNamed keys world named → NamedSoFar handles keys world (n + 1) (maps ++ named ∷ [])
@@ -276,9 +221,6 @@ Opens handles row = IfSome row.opens (λ h. IsListed handles h)
 abbrev pub IsOn : List ℕ → Row → Type 0
 IsOn keys row = IfSome (cell_of row.call) (λ cell. IsListed keys cell.key)
 
-pub listed_first : (Names : List ℕ → Row → Type 0) (rows : List Row) (xs : List ℕ) → Listed Names rows 0 xs
-listed_first Names rows xs = record { each = λ id row lt. absurd (omega (arith, lt)) }
-
 pub listed_on : (Names : List ℕ → Row → Type 0) (rows : List Row) (n : ℕ) (xs ys : List ℕ) (row : Row) → Listed Names rows n xs → slice_get rows n ≡ Some row
     → ((other : Row) → Names xs other → Names ys other) → Names ys row → Listed Names rows (n + 1) ys
 listed_on Names rows n xs ys row so_far at keeps has = record {
@@ -308,24 +250,6 @@ pushed_has xs x = (length xs, at_push xs x (length xs) refl)
 -- maps that are the same so far
 pub record SameSoFar (a b : List Named) (n : ℕ) : Type 0 where
   pub each : (i : ℕ) (x y : Named) → i < n → slice_get a i ≡ Some x → slice_get b i ≡ Some y → IsSameMap x y
-
-pub same_first : (a b : List Named) → SameSoFar a b 0
-same_first a b = record { each = λ i x y lt. absurd (omega (arith, lt)) }
-
-pub same_on : (a b : List Named) (n : ℕ) (x y : Named) → SameSoFar a b n → slice_get a n ≡ Some x → slice_get b n ≡ Some y → IsSameMap x y → SameSoFar a b (n + 1)
-same_on a b n x y so_far at_a at_b same = record {
-  each = λ i p q lt at_p at_q. elim (cases_lt i n) [
-    | inl before ↦ so_far.each i p q before at_p at_q
-    | inr here ↦
-        let is : i ≡ n = omega (arith, lt, here) in
-        let x_is : x ≡ p = same_Some x p (sym at_a ∙ ap (λ m. slice_get a m) (sym is) ∙ at_p) in
-        let y_is : y ≡ q = same_Some y q (sym at_b ∙ ap (λ m. slice_get b m) (sym is) ∙ at_q) in
-        subst (λ z. IsSameMap p z) y_is (subst (λ z. IsSameMap z y) x_is same)
-  ];
-}
-
-pub same_all : (a b : List Named) (n : ℕ) → SameSoFar a b n → length a ≡ length b → length a ≤ n → AreSameMaps a b
-same_all a b n so_far size all = record { size = size; each = λ i x y at. let within = slice_get_within a i x at in so_far.each i x y (omega (arith, within, all)) at }
 
 -- ---- what is kept
 

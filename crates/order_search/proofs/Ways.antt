@@ -5,9 +5,9 @@ use Rattle.std.proofs.lemmas.Bool.{cases_lt, true≢false}
 use Rattle.std.proofs.lemmas.Option.{slice_get_within}
 use Rattle.std.proofs.lemmas.List.{take-append-le, append_assoc}
 use Rattle.std.proofs.Math.Seq.{take-append_seam}
-use Rattle.order_search.specs.Vocabulary.{NoSlots, Event, Table, HandleMap, first_world, HasEnded, Records, OrderedAt, IsBefore, IsLegal, LeadsTo, MayStand, IsAmong}
+use Rattle.order_search.specs.Vocabulary.{NoSlots, Event, Table, HandleMap, HasEnded, Records, OrderedAt, IsBefore, IsLegal, LeadsTo, MayStand, IsAmong}
 use Rattle.history.proofs.Places.{at_old, at_push, at_cases, at_set_other, at_set_cases}
-use Rattle.history.proofs.Leading.{leads_first, leads_on}
+use Rattle.history.proofs.Leading.{leads_on}
 use Rattle.order_search.specs.Searching.{NoneGoesOn}
 use Rattle.order_search.specs.Marks.{AreMarked, HasMark, HasNoMark, Chooses}
 use Rattle.order_search.specs.Walks.{IsWay, HadBefore}
@@ -52,19 +52,6 @@ marked_back history ids taken id marks absent kept = record {
 }
 
 -- ---- the way
-
-pub way_first : (hash : ℕ → ℕ) (history : List Event) (taken : List Bool) → AreMarked history [] taken → IsWay hash history [] [] taken 0 0 first_world
-way_first hash history taken marks = record {
-  leads = leads_first hash history;
-  marks = marks;
-  in_turn = λ i id at. let wrong : ⊥ = cc at in absurd wrong;
-  low_marked = λ id lt. absurd (omega (arith, lt));
-  known = refl;
-  had = λ i id before at. let wrong : ⊥ = cc at in absurd wrong;
-  passed = λ i id other at. let wrong : ⊥ = cc at in absurd wrong;
-  passed_last = λ other lt. absurd (omega (arith, lt));
-  unfinished = λ i lt. absurd (omega (arith, lt));
-}
 
 module _ (hash : ℕ → ℕ) (history : List Event) (ids : List ℕ) (befores : List (Option ℕ)) (taken : List Bool) (low next : ℕ) (world : HandleMap) where
   -- what doesn't come next where an operation is chosen

@@ -17,7 +17,7 @@ use Rattle.proof_followed.specs.Beneath.machine_model.specs.Machine.{run, run_fr
 use Rattle.proof_followed.specs.Beneath.machine_model.specs.States.{State, first_state, operation_of, root_at, root_of}
 use Rattle.proof_followed.specs.Beneath.proof_memory.proofs.Safety.States.{IsSafe}
 use Rattle.proof_garbage.specs.Live as live
-use Rattle.proof_garbage.specs.Live.{IsKnown, IsLive, refs_of_claims}
+use Rattle.proof_garbage.specs.Live.{IsKnown, refs_of_claims}
 use Rattle.proof_garbage.proofs.Claims.{refs_held}
 use Rattle.proof_garbage.proofs.Known.{line_known, privates_known}
 use Rattle.proof_garbage.proofs.PutBack.{every, among, every_one, every_at, among_from, among_them, limits, before, since, first_main, held_live}

@@ -36,7 +36,7 @@ use Rattle.proof_garbage.specs.Beneath.machine_model.proofs.HeapMoves.{begin_hea
 use Rattle.proof_garbage.specs.Beneath.machine_model.proofs.InUse.{InUse}
 use Rattle.proof_garbage.specs.Beneath.machine_model.proofs.Slots.{ripe_in_use}
 use Rattle.proof_garbage.specs.Beneath.epochs.specs.Sweeping.{ripe}
-use Rattle.proof_garbage.specs.Beneath.proof_memory.specs.Wants.{AllHold, node_wants, prev_wants, word_wants, action_wants, line_wants}
+use Rattle.proof_garbage.specs.Beneath.proof_memory.specs.Wants.{AllHold, node_wants, prev_wants, word_wants, line_wants}
 use Rattle.proof_garbage.specs.Beneath.proof_memory.specs.Laws.{SameNode}
 use Rattle.proof_garbage.specs.Beneath.proof_memory.proofs.Claims.Uses.{safe_of, Carries}
 use Rattle.proof_garbage.specs.Beneath.proof_memory.proofs.Heap.Under.{taken_all}
@@ -148,9 +148,6 @@ module _ (state : State) (I : IsSafe state) (P : ℕ → Type 0) where
   module _ (actor k : ℕ) (operation : Operation) (running : operation_of state actor ≡ Some operation) (found : get_or state.actors k None ≡ Some operation) (p : P operation.id) where
     abbrev next : State
     next = settled state (gone state actor operation)
-
-    abbrev Claimed : AllHold K state.heap (action_wants (action_of state operation))
-    Claimed = action_known state I P actor operation running p
 
     its_effect : Effect (AllHold K state.heap) (standing state.heap) (standing next.heap) state.heap.births next.heap.births None
     its_effect =

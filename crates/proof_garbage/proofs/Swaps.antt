@@ -23,7 +23,6 @@ use Rattle.proof_garbage.specs.Beneath.machine_model.specs.declared.reading.Swap
 use Rattle.proof_garbage.specs.Beneath.machine_model.specs.declared.repairs.CleanLine.{CleanLine}
 use Rattle.proof_garbage.specs.Beneath.machine_model.specs.declared.repairs.Climb.{Climb}
 use Rattle.proof_garbage.specs.Beneath.machine_model.specs.declared.repairs.ClimbLine.{ClimbLine}
-use Rattle.proof_garbage.specs.Beneath.machine_model.specs.declared.repairs.ClimbLine.TheVariants as climb
 use Rattle.proof_garbage.specs.Beneath.machine_model.specs.declared.repairs.RenewLine.{RenewLine}
 use Rattle.proof_garbage.specs.Beneath.machine_model.specs.declared.roots.CompleteLine.{CompleteLine}
 use Rattle.proof_garbage.specs.Beneath.machine_model.specs.declared.roots.CompleteLine.TheVariants as complete
@@ -153,12 +152,6 @@ module _ (state : State) (operation : Operation) where
   swap_owns own why s l next (SwapEdge.succeeds n e on) h = swapped_owns own h (node_at state.heap s.fresh) why true n on
   swap_owns own why s l next (SwapEdge.is_undecided previous n e on) h = swapped_owns own h (node_at state.heap s.fresh) why false n on
   swap_owns own why s l next (SwapEdge.fails previous n e on) h = swapped_owns own h (node_at state.heap s.fresh) why false n on
-
-  climb_leaves : (own : List Ref) (l : ClimbLine) → ((c : Climb) (main : Ref) → l ≡ climb.Contracted c main → ⊥) → private_after state own (climb_action state operation l) ≡ own
-  climb_leaves own (climb.Read c r) apart = read_leaves state own r.indirection r.line
-  climb_leaves own (climb.Main c main) apart = refl
-  climb_leaves own (climb.Contracted c main) apart = absurd (apart c main refl)
-  climb_leaves own (climb.Root c l) apart = root_leaves state own l
 
   made_alone : (own : List Ref) (made : Ref) → own ≡ [] → next_ref state.heap ≡ Some made → with_made own (next_ref state.heap) ≡ made ∷ []
   made_alone own made none e = ap (λ o. with_made own o) e ∙ ap (λ xs. xs ++ made ∷ []) none

@@ -24,7 +24,6 @@ use Rattle.proof_garbage.specs.Beneath.machine_model.specs.Moves.{Moves}
 use Rattle.proof_garbage.specs.Beneath.machine_model.proofs.Actors.{IsOf, is_of, mark_only, marks_in, marks_by, of_others, of_itself}
 use Rattle.proof_garbage.specs.Beneath.machine_model.proofs.Frames.{limits_kept}
 use Rattle.proof_garbage.specs.Beneath.proof_memory.proofs.Heap.RootWords.{AllWords, put_words}
-use Rattle.proof_garbage.specs.Beneath.proof_memory.proofs.Safety.Guards.{Safe}
 use Rattle.proof_garbage.specs.Beneath.proof_memory.proofs.Safety.States.{IsSafe}
 use Rattle.proof_garbage.specs.Beneath.proof_memory.proofs.Safety.Steps.{step_claims, safe_after}
 use Rattle.proof_garbage.specs.Beneath.proof_generations.specs.Laws.Roots.{settles}
@@ -46,9 +45,6 @@ module _ (state : State) (I : IsSafe state) (P : ℕ → Type 0) (actor k : ℕ)
     (failed : (i main previous : Ref) → action_of state operation ≡ act.Restore i main previous → prev_at state.heap main ≡ prev.Failed previous) where
   abbrev K : Ref → Type 0
   K = IsKnown state P
-
-  abbrev S : Ref → Type 0
-  S = Safe state operation.epoch
 
   abbrev after : State
   after = settled state (gone state actor operation)

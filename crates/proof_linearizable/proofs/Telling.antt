@@ -70,9 +70,6 @@ module _ (history : List Event) (id actor : ℕ) (call : Call) (opens : Option �
   pub begins_here : BeginsAt longer (length history) id its
   begins_here = at_seam history (End id answer ∷ []) (Begin id actor call opens)
 
-  pub has_begun : HasBegun longer id
-  has_begun = (length history, its, begins_here)
-
   pub ends_here : HasEnded longer id answer
   ends_here = (suc (length history), get_behind_seam history (Begin id actor call opens) (End id answer))
 

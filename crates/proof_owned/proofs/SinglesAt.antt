@@ -147,9 +147,6 @@ module _ {limits : Bounds} {states : ℕ → State} {last : ℕ} (run : IsRun li
 
     -- where the step makes the indirection
     module _ (none : w.link v i ≡ false) (is : w.link (suc v) i ≡ true) where
-      made_over : Ref
-      made_over = w.main (suc v) i
-
       not_given : (k : ℕ) (j m : Ref) → Given q.words v k j m → Names run m s → ⊥
       not_given k j m g names =
           let (u, le, at) = was_given run v (omega arith) k j m g in

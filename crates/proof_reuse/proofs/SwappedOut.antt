@@ -170,9 +170,6 @@ module _ (limits : Bounds) (before since : List Step) (ok : AreBounds limits) (a
       IsGarbage (run limits (before ++ since)) m
   swapped_out_garbage own used = replaced_garbage limits (before ++ since) ok i m own was_replaced used
 
-  pub main_in_use : IsInUse (run limits before).heap m
-  main_in_use = subst (λ (s : State). IsInUse s.heap m) state_is (safe_of claims_now.1.0)
-
   pub fresh_in_use : IsInUse (run limits before).heap f
   fresh_in_use = subst (λ (s : State). IsInUse s.heap f) state_is used_f
 

@@ -1,5 +1,5 @@
 -- What is told of a request about all shards.
-use Rattle.std.proofs.Common.{◌≡◌, ◌≢◌, ℕ, ◌≤◌, List, length, Option, Some, None, Ok, Err, option_map, refl, sym, ap, subst, ◌∙◌, Bool}
+use Rattle.std.proofs.Common.{◌≡◌, ◌≢◌, ℕ, ◌%◌, ◌≤◌, List, length, Option, Some, None, Ok, Err, option_map, refl, sym, ap, subst, ◌∙◌, Bool}
 use Rattle.shared_map.specs.Vocabulary.{HashKind, Call, handle_of}
 use Rattle.history.specs.declared.replies.Reply.TheVariants as reply
 use Rattle.ctrie_map.specs.declared.errors.MapError.TheVariants.{Memory}
@@ -10,15 +10,21 @@ use Rattle.shared_map.specs.declared.asks.Answer.TheVariants as answer
 use Rattle.shared_map.specs.Shards.{AreShards, free_of_all, have_room}
 use Rattle.shared_map.specs.Wholes.{AnswersIf, KnowsFirst, RepliesIf}
 use Rattle.shared_map.specs.declared.asks.Ask.{Ask}
-use Rattle.shared_map.specs.declared.asks.Ask.TheVariants.{Do, Handles, Free, HasRoom}
+use Rattle.shared_map.specs.declared.asks.Ask.TheVariants.{Do, Scan, Handles, Free, HasRoom}
 use Rattle.shared_map.specs.declared.asks.Request.{Request}
 use Rattle.shared_map.specs.declared.asking.Knowing.{Knowing}
 use Rattle.shared_map.proofs.AllAnswers.{first_len}
 use Rattle.shared_map.proofs.OfShards as shards
 
-no_key : (f : ℕ → ℕ) (o : Option ℕ) → option_map f o ≡ None → o ≡ None
+pub no_key : (f : ℕ → ℕ) (o : Option ℕ) → option_map f o ≡ None → o ≡ None
 no_key f None e = refl
 no_key f (Some k) e = cc
+
+-- a scan is about one shard
+pub scan_of_one : (hash : HashKind) (shards h shard : ℕ) (cursor : Option ℕ) (room : ℕ) (ask : Ask) → ask ≡ Scan h shard cursor room → place_asked hash shards ask ≡ None → ⊥
+scan_of_one hash shards h shard cursor room ask is none =
+    let e : Some (shard % shards) ≡ None = ap (place_asked hash shards) (sym is) ∙ none in
+    cc
 
 module _ (first : Knowing) (before : List MapState) (request : Request) (knows : KnowsFirst first before) where
   hash_of_all : (hash : HashKind) → AreShards hash before → first.hash ≡ hash

@@ -1,7 +1,7 @@
 -- What each branch of a call about all shards comes to.
 use Rattle.std.proofs.Common.{◌≡◌, ℕ, ◌<◌, ◌≤◌, Bool, true, false, List, [], ◌∷◌}
-use Rattle.std.proofs.Common.{length, Some, None, Result, Ok, Err, refl, sym, ap, subst, ◌∙◌}
-use Rattle.shared_map.specs.Vocabulary.{Access, Writable, ReadOnly, Call, Reply, handle_of, opens_handle, by_key, handle_limit}
+use Rattle.std.proofs.Common.{length, Some, None, Ok, Err, refl, sym, subst, ◌∙◌}
+use Rattle.shared_map.specs.Vocabulary.{Access, Writable, ReadOnly, Call, Reply, handle_of, opens_handle, by_key}
 use Rattle.history.specs.declared.calls.Call.TheVariants as call
 use Rattle.history.specs.declared.replies.Reply.TheVariants as reply
 use Rattle.ctrie_map.specs.Changes.{changes_map}
@@ -73,12 +73,6 @@ module _ (first : Knowing) (before : List MapState) where
 
   pub number_next : (h n : ℕ) (access : Access) → first.next ≡ Some n → (s : MapState) → IsKnown first s → HasNext (turn.Copy h n access) s
   number_next h n access is s known = subst (IsNumber s) is known.next
-
-  -- where no number is left, it is denied
-  full_denied : (o : Result Bool MapError) (n : ℕ) → n ≡ handle_limit → denial_from false true o n ≡ None → ⊥
-  full_denied (Ok writable) n is e =
-      let bad : Some error.HandlesFull ≡ None = ap (λ n. denial_from false true (Ok writable) n) (sym is) ∙ e in cc
-  full_denied (Err why) n is e = cc
 
   -- lists and counts
   pub if_listed : (h : ℕ) (pairs : List (ℕ × ℕ)) (writable : Bool) → first.writable ≡ Ok writable → pairs ≡ by_key (pairs_at h (worlds_of before)) →

@@ -1,8 +1,7 @@
 -- What one shard after another has found.
-use Rattle.std.proofs.Common.{◌≡◌, ℕ, suc, List, [], ◌∷◌, ◌++◌, Option, Some, None, Ok, Err, refl, sym, ap, ap₂, subst, ◌∙◌}
+use Rattle.std.proofs.Common.{◌≡◌, ℕ, suc, List, [], ◌∷◌, ◌++◌, Option, Some, None, Ok, refl, sym, ap, ap₂, subst, ◌∙◌}
 use Rattle.std.specs.FinMap as maps
 use Rattle.shared_map.specs.Vocabulary.{HandleState}
-use Rattle.ctrie_map.specs.declared.errors.MapError.{MapError}
 use Rattle.ctrie_map.specs.Maps.{MapState, handles_of}
 use Rattle.ctrie_map.specs.Reading.{IsOneOf, ReadsOf, read_of}
 use Rattle.shared_map.specs.declared.picking.Picking.{Picking}
@@ -18,17 +17,9 @@ found_read None found (m, read, one) = cc
 found_read (Some shown) found (m, read, one) =
     let same : shown.pairs ≡ m = cc in subst (λ m. IsOneOf m found) (sym same) one
 
-none_read : (o : Option HandleState) (why : MapError) → ReadsOf (read_of (λ m. m) o) IsOneOf (Err why) → IsOneOf (map_shown o) None
-none_read None why read = refl
-none_read (Some shown) why read = cc
-
 pub found_here : (o : Option HandleState) (before found : Option (ℕ × ℕ)) → before ≡ None → ReadsOf (read_of (λ m. m) o) IsOneOf (Ok found) →
     IsFoundWith (map_shown o) before found
 found_here o before found none read = subst (λ b. IsFoundWith (map_shown o) b found) (sym none) (found_read o found read)
-
-pub none_here : (o : Option HandleState) (before : Option (ℕ × ℕ)) (why : MapError) → before ≡ None → ReadsOf (read_of (λ m. m) o) IsOneOf (Err why) →
-    IsFoundWith (map_shown o) before before
-none_here o before why none read = subst (λ b. IsFoundWith (map_shown o) b b) (sym none) (none_read o why read)
 
 -- ---- all shards
 

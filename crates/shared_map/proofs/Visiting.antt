@@ -1,5 +1,5 @@
 -- Shards visited one after another, up to one of them.
-use Rattle.std.proofs.Common.{◌≡◌, ℕ, zero, suc, ◌+◌, ◌<◌, List, [], ◌∷◌, ◌++◌, length}
+use Rattle.std.proofs.Common.{◌≡◌, ℕ, zero, suc, ◌+◌, List, [], ◌∷◌, ◌++◌, length}
 use Rattle.std.proofs.Common.{take, drop, Some, slice_get, slice_set, refl, sym, ap, subst, ◌∙◌, arith}
 use Rattle.std.proofs.lemmas.Option.{same_Some}
 use Rattle.sharded_gate.specs.Visiting.{HasVisited}
@@ -61,19 +61,6 @@ module _ {V O : Type 0} (does : V → O → V → O → Type 0) where
         visited = subst (λ xs. VisitedEach does before xs after (have.front ++ t ∷ [])) (sym taken)
             (more_visited before between after (take place start) have.front s t have.visited did);
       })
-
-  length_append : (front rest : List O) → length (front ++ rest) ≡ length front + length rest
-  length_append [] rest = omega arith
-  length_append (x ∷ front) rest = let e = length_append front rest in omega (arith, e)
-
-  length_rest : (place : ℕ) (start : List O) → place < length start → place + length (drop place start) ≡ length start
-  length_rest zero start lt = omega arith
-  length_rest (suc place) [] lt = absurd (omega (arith, lt))
-  length_rest (suc place) (x ∷ start) lt = let e = length_rest place start (omega (arith, lt)) in omega (arith, e)
-
-  append_nil : (xs : List O) → xs ++ [] ≡ xs
-  append_nil [] = refl
-  append_nil (x ∷ xs) = ap (λ ys. x ∷ ys) (append_nil xs)
 
   all_of : (start : List O) → (take (length start) start ≡ start) × (drop (length start) start ≡ [])
   all_of [] = (refl, refl)

@@ -111,7 +111,7 @@ fn ask_all<S: Shards<Map>>(shards: &mut S, first: &Knowing, request: Request) ->
             after,
             room,
         } => part_of_all(shards, first, handle, after, room),
-        Ask::Scan { .. } => Err(MapError::Memory),
+        Ask::Scan { .. } => unreachable!(),
         Ask::First { handle } => one_of_all(shards, first, handle),
         Ask::IsWritable { .. } => told_writable(first.writable),
         Ask::Restore { handle, copy } => restore_all(shards, first, handle, copy),

@@ -1,9 +1,10 @@
 //! Calls about all shards of a map.
 
-ghost use Rattle.std.specs.Prelude.{◌≡◌, ◌<◌, ◌≤◌, length};
+ghost use Rattle.std.specs.Prelude.{◌≡◌, ◌<◌, ◌≤◌, None, length};
 ghost use Rattle.history.specs.declared.calls.Call.TheVariants.{Count, Entries};
 ghost use Rattle.ctrie_map.specs.Performing.{copy_call};
 ghost use Rattle.shared_map.specs.Asking.{IsKnown};
+ghost use Rattle.shared_map.specs.Asks.{key_in};
 ghost use Rattle.shared_map.specs.Shards.{worlds_of};
 ghost use Rattle.shared_map.specs.Turning.{HasNext, call_of};
 ghost use Rattle.shared_map.specs.Uniting.{pairs_at};
@@ -19,9 +20,10 @@ use ctrie_map::{Map, MapError};
 use history::{Access, Call, Pairs, Reply};
 use sharded_gate::Shards;
 
-/// What is told of a call about all shards.
+/// What is told of a call about all shards: of one that names no key.
 pub(crate) fn call_all<S: Shards<Map>>(shards: &mut S, first: &Knowing, call: Call) -> Replied
-    requires { 0 < length (S.items shards.old) }
+    requires any { 0 < length (S.items shards.old) }
+    requires about { key_in call ≡ None }
     ensures answered { RepliesIf first.now (S.items shards.old) call result (S.items shards.new) }
     ensures rest { S.rest shards.new ≡ S.rest shards.old }
 {
@@ -35,7 +37,13 @@ pub(crate) fn call_all<S: Shards<Map>>(shards: &mut S, first: &Knowing, call: Ca
         Call::Close { handle } => change_all(shards, first, Turn::Close { handle }),
         Call::Snapshot { handle } => copy_all(shards, first, handle, Access::Writable),
         Call::Freeze { handle } => copy_all(shards, first, handle, Access::ReadOnly),
-        _ => Err(MapError::Memory),
+        Call::Get { .. }
+        | Call::Put { .. }
+        | Call::PutIfAbsent { .. }
+        | Call::Replace { .. }
+        | Call::ReplaceIf { .. }
+        | Call::Remove { .. }
+        | Call::RemoveIf { .. } => unreachable!(),
     }
 }
 

@@ -218,11 +218,6 @@ module _ (bs : List ℕ) (ns : List (Option Node)) (ps : List Prev) (are : ArePa
 
 -- ---- at the beginning
 
-same_all : {X : Type 0} (count : ℕ) (x : X) (i : ℕ) → get_or (replicate count x) i x ≡ x
-same_all zero x i = refl
-same_all (suc n) x zero = refl
-same_all (suc n) x (suc i) = same_all n x i
-
 pub none_used : (count : ℕ) → slots_from (replicate count 0) (replicate count None) (replicate count prev.None) ≡ replicate count None
 none_used zero = refl
 none_used (suc n) = ap (λ s. None ∷ s) (none_used n)

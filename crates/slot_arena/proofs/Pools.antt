@@ -1,5 +1,5 @@
 -- Cells and rows: what giving a row back and taking one leaves of them.
-use Rattle.std.proofs.Common.{◌≡◌, ℕ, zero, suc, ◌+◌, ◌<◌, ◌==◌, Bool, true, false, cond, List, [], ◌∷◌, ◌++◌, length, get_or, set, map, replicate}
+use Rattle.std.proofs.Common.{◌≡◌, ℕ, zero, suc, ◌+◌, ◌<◌, ◌==◌, true, false, List, [], ◌∷◌, ◌++◌, length, get_or, set, map, replicate}
 use Rattle.std.proofs.Common.{count_by, Option, Some, None, refl, sym, ap, ◌∙◌, subst, inl, inr, arith}
 use Rattle.std.proofs.lemmas.Bool.{cases_eq, cases_lt}
 use Rattle.std.proofs.lemmas.List.{get_or-set_same, get_or-set_other, get_or_push, length_push, length-map, length-set, map-set}
@@ -28,10 +28,6 @@ push_other [] y d zero apart = absurd (apart refl)
 push_other [] y d (suc i) apart = refl
 push_other (x ∷ xs) y d zero apart = refl
 push_other (x ∷ xs) y d (suc i) apart = push_other xs y d i (λ same. apart (ap suc same))
-
-counts_none : {X : Type 0} (p : X → Bool) (n : ℕ) (x : X) → p x ≡ false → count_by p (replicate n x) ≡ 0
-counts_none p zero x no_x = refl
-counts_none p (suc n) x no_x = omega (arith, sum_by-cons (λ y. cond (p y) 1 0) x (replicate n x), ap bit no_x, counts_none p n x no_x)
 
 -- what is a slot has a cell
 pub cell_within : (rows : List (ArrayVec Ref)) (cells : List Cell) (nodes : List (Option Node)) (k : ℕ) → map (node_in rows) cells ≡ nodes → k < length nodes → k < length cells

@@ -62,7 +62,7 @@ impl Machine {
     fn begin_and_go(&mut self, actor: u8, call: Call) -> Result<Option<Reply>, Refusal>
         ensures { Completes result self.old actor call self.new }
     {
-        self.take(Step::Begin { actor, call })?;
+        self.take_one(Step::Begin { actor, call })?;
         self.go_on(actor)
     }
 
@@ -98,7 +98,7 @@ impl Machine {
     {
         for _ in 0..GO_LIMIT {
             if self.goes_on(actor) {
-                self.go(actor)?;
+                self.go_once(actor)?;
             } else if let Some(reply) = self.reply(actor)? {
                 return Ok(Some(reply));
             }
@@ -117,7 +117,7 @@ impl Machine {
     /// Takes a step of it after which it goes on, told by its kind alone. Most swap in no main node: they are told apart
     /// first, so that their code has nothing of one; and it is asked for anew, so that it isn't held while they are taken.
     #[inline(always)]
-    fn go(&mut self, actor: u8) -> Result<Kind, Refusal>
+    fn go_once(&mut self, actor: u8) -> Result<Kind, Refusal>
         requires { goes_on (next_kind (state_of self.old) actor) ≡ true }
         ensures { Applied (outcome_of_kind result) self.old (steps.Go actor) self.new }
     {
@@ -177,7 +177,7 @@ impl Machine {
             return Err(Refusal::Busy);
         }
         while self.limbo_len() > 0 {
-            self.take(Step::Sweep)?;
+            self.take_one(Step::Sweep)?;
         }
         Ok(())
     }
@@ -196,7 +196,7 @@ impl Machine {
     }
 
     /// Takes a step whose outcome isn't asked for. Where it is refused nothing has changed.
-    fn take(&mut self, step: Step) -> Result<(), Refusal>
+    fn take_one(&mut self, step: Step) -> Result<(), Refusal>
         ensures { Stepped result self.old (asked step) self.new }
     {
         self.apply(step)?;

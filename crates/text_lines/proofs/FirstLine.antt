@@ -17,9 +17,6 @@ pub kept : (x : List ℕ) (parts : List (List ℕ)) → 0 < length parts → wit
 kept x [] some = absurd (omega arith)
 kept x (y ∷ more) some = refl
 
-is_feed : ℕ → Bool
-is_feed b = eqb b 10
-
 first_of_more : (text : List ℕ) (i : ℕ) → i ≡ position_or_len (λ b. eqb b 10) text → i < length text → lines_of text ≡ take i text ∷ lines_of (drop (i + 1) text)
 unfolding lines_of
 first_of_more text i e lt =

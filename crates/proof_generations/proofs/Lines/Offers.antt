@@ -39,11 +39,6 @@ completing_of (line.Climb l) = completing_climb l
 completing_of (line.Copy l) = completing_copy l
 completing_of l = None
 
--- the line of COPY
-abbrev pub copying_of : Line → Option CopyLine
-copying_of (line.Copy l) = Some l
-copying_of l = None
-
 -- the line has the offer to settle
 abbrev pub HoldsOffer : Line → Descriptor → Type 0
 HoldsOffer l offer = (abort_of (read_of l) ≡ Some offer) ⊎ ((c : Complete) × (completing_of l ≡ Some c) × (c.offer ≡ offer))

@@ -1,8 +1,8 @@
 -- What a step of an operation changes in a padded state.
-use Rattle.std.proofs.Common.{◌≡◌, ℕ, ◌+◌, ◌==◌, Bool, true, false, List, map, Option, Some, None, if◌then◌else◌, refl, ap, ◌∙◌}
-use Rattle.proof_slots.specs.Vocabulary.{Ref, Indirection, Heap, main_at, main_of, with_main, with_prev, taken, next_ref, Operation, Action, Line, Descriptor, Plain, Offer, handle_of, State}
-use Rattle.proof_slots.specs.Vocabulary.{word_at, with_word, with_operation, Verdict, Commits, Fails, Overtaken, verdict, stands_in, is_plain, action_of, line_after, generation_after, acted}
-use Rattle.proof_slots.specs.Vocabulary.{carried_out, opened, marked, if_changed, published, restored, decided, new_root_taken, with_made, private_after, attempt_after, mark_after, operation_after}
+use Rattle.std.proofs.Common.{◌≡◌, ℕ, ◌+◌, ◌==◌, Bool, true, false, map, Option, Some, None, if◌then◌else◌, refl, ap, ◌∙◌}
+use Rattle.proof_slots.specs.Vocabulary.{Ref, Indirection, Heap, main_at, main_of, with_main, with_prev, taken, next_ref, Operation, Action, Descriptor, Plain, Offer, handle_of, State}
+use Rattle.proof_slots.specs.Vocabulary.{word_at, with_word, with_operation, Verdict, Commits, Fails, Overtaken, verdict, stands_in, is_plain, action_of, acted}
+use Rattle.proof_slots.specs.Vocabulary.{carried_out, opened, marked, if_changed, published, restored, decided, new_root_taken, operation_after}
 use Rattle.proof_slots.specs.Vocabulary.{gone}
 use Rattle.proof_slots.specs.Beneath.slot_arena.specs.declared.nodes.Prev.TheVariants as prev
 use Rattle.machine_model.specs.declared.actions.Action.TheVariants as act

@@ -1,13 +1,8 @@
 -- A READ decides alike in a padded heap.
 use Rattle.std.proofs.Common.{◌≡◌, ℕ, Option, refl, ap}
-use Rattle.proof_slots.specs.Vocabulary.{Access, Ref, Heap, node_at, prev_at, RootWord, Plain, Offer, Descriptor, Complete, CompleteLine, RootLine, ReadLine, Swap, SwapLine, read_after, verdict}
-use Rattle.proof_slots.specs.Vocabulary.{after_prev, after_decide, committed_by, committed_so, swap_after, on_line, after_deciding, after_check, after_reading, after_complete, complete_after}
-use Rattle.proof_slots.specs.Vocabulary.{of_offer, root_after, after_completing}
-use Rattle.machine_model.specs.declared.roots.CompleteLine.TheVariants as complete
-use Rattle.machine_model.specs.declared.roots.RootLine.TheVariants as root
+use Rattle.proof_slots.specs.Vocabulary.{Ref, Heap, node_at, prev_at, ReadLine, verdict}
+use Rattle.proof_slots.specs.Vocabulary.{committed_by, committed_so}
 use Rattle.machine_model.specs.declared.reading.ReadLine.TheVariants as read
-use Rattle.machine_model.specs.declared.reading.SwapLine.TheVariants as swap
-use Rattle.machine_model.specs.Swapping.{after_swap}
 use Rattle.proof_slots.proofs.Padded.Heaps.{wide, node_wide, prev_wide}
 
 module _ (more slots : ℕ) (heap : Heap) where

@@ -1,7 +1,7 @@
 -- What is known of a node that its owner commits: what a repair was given, at which depth a change is swapped in; and that keys have 64 bits.
 use Rattle.std.specs.Prelude.{ℕ, suc, ◌<◌, ◌≤◌, ◌^◌}
 use Rattle.std.proofs.Common.{ap, arith, ◌∙◌}
-use Rattle.proof_updates.specs.Vocabulary.{Ref, Line, Purpose, Operation, Deciding, Bounds, Step, key_of, State, node_under, IsRun, IsNoSwap, IsRepaired, ReadsBelow, GaveBelow, KnowsFresh}
+use Rattle.proof_updates.specs.Vocabulary.{Ref, Purpose, Operation, Deciding, Bounds, Step, key_of, State, node_under, IsRun, IsRepaired, GaveBelow, KnowsFresh}
 use Rattle.proof_updates.specs.Vocabulary.{assigned_at, WasGiven, depth_of_run, TakesSteps, StepsFit}
 use Rattle.proof_updates.specs.Beneath.machine_model.specs.declared.lines.Line.TheVariants as line
 use Rattle.proof_updates.specs.Beneath.machine_model.specs.declared.lines.Purpose.TheVariants as purpose

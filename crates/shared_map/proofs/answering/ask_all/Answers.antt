@@ -1,11 +1,11 @@
-use Rattle.std.proofs.Common.{Ok, refl, sym, ap, subst, ◌∙◌}
+use Rattle.std.proofs.Common.{Ok, length, refl, sym, ap, subst, ◌∙◌}
 use Rattle.history.specs.declared.replies.Reply.TheVariants as reply
 use Rattle.shared_map.specs.Answering.{MapAnswers}
 use Rattle.shared_map.specs.declared.asks.Answer.TheVariants as answer
-use Rattle.shared_map.specs.Asks.{handle_asked}
+use Rattle.shared_map.specs.Asks.{handle_asked, key_in, place_asked, place_of}
 use Rattle.shared_map.specs.declared.asks.Ask.TheVariants.{From, First, IsWritable, Restore}
 use Rattle.shared_map.proofs.Asked.{writable_told}
-use Rattle.shared_map.proofs.Answered.{if_asked, if_called, if_free, if_handles, if_room}
+use Rattle.shared_map.proofs.Answered.{if_asked, if_called, if_free, if_handles, if_room, no_key, scan_of_one}
 use Rattle.shared_map.proofs.answering.ask_all.Goals as goal
 
 pub returns-in-Handles-clause-answered : goal.returns-in-Handles-clause-answered
@@ -50,3 +50,11 @@ pub returns-in-HasRoom-clause-answered : goal.returns-in-HasRoom-clause-answered
 returns-in-HasRoom-clause-answered g c =
     if_room c.args.first.now (g.S.Shards.items c.args.shards.now) c.args.request c.requires.known c.requires.hash (g.S.Shards.items c.have_room.new.shards)
     c.in-HasRoom.is c.have_room.result c.have_room.ensures.room c.have_room.ensures.same
+
+pub call_all-requires-clause-about : goal.call_all-requires-clause-about
+call_all-requires-clause-about g c =
+    let shards = length (g.S.Shards.items c.args.shards.now) in
+    no_key (place_of c.args.request.hash shards) (key_in c.in-Do.call) (ap (place_asked c.args.request.hash shards) (sym c.in-Do.is) ∙ c.requires.about)
+
+pub unreachable-requires : goal.unreachable-requires
+unreachable-requires g c = scan_of_one c.args.request.hash (length (g.S.Shards.items c.args.shards.now)) _ _ _ _ c.args.request.ask c.in-Scan.is c.requires.about
