@@ -1,0 +1,5 @@
+use Rattle.proof_claims.proofs.LeftAtCheck.{given_by_own as law}
+use Rattle.proof_claims.proofs.laws.given_by_own.Goals as goal
+
+pub returns : goal.returns
+returns c limits steps actor i m f k ok keys h own = law limits steps actor i m f k ok keys h own

@@ -1,0 +1,10 @@
+pub mod Beneath
+pub mod Different
+pub mod Held
+pub mod Changes
+pub mod Claims
+pub mod Clauses
+pub mod Dropped
+pub mod LetGo
+pub mod Laws
+pub mod Left
