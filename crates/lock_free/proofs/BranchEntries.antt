@@ -19,6 +19,7 @@ use Rattle.proof_linearizable.specs.Beneath.proof_shape.specs.Sites.At.{way_of}
 use Rattle.proof_linearizable.specs.Beneath.proof_shape.proofs.Sites.Mains.{paths_are_short}
 use Rattle.lock_free.specs.declared.descending.Found.{Found}
 use Rattle.lock_free.specs.declared.descending.Found.TheVariants as what
+use Rattle.lock_free.specs.declared.finding.Met.{Met}
 use Rattle.lock_free.specs.declared.finding.Met.TheVariants as met
 use Rattle.lock_free.specs.declared.reading.Given.{Given}
 use Rattle.lock_free.specs.declared.rules.View.{View}
@@ -27,8 +28,11 @@ use Rattle.lock_free.specs.Accounts.{bounds_for}
 use Rattle.lock_free.specs.Descending.{IsTask, IsPlace, IsInside, IsHere, IsAtEntry, IsAtOne, IsFoundAt, absent_in, absent_found, HasFound, HasGoneBelow}
 use Rattle.lock_free.specs.Entries.{entry_in, IsEntryIn, HasSeenEntry}
 use Rattle.lock_free.specs.GoingDown.{IsAtKey, HasMoved, IsAtBelow, IsAtSingle, line_met, HasMet, line_below, HasMetLink}
+use Rattle.lock_free.specs.KeyRuns.{IsBeside}
 use Rattle.lock_free.specs.Loading.{now, IsSound, HasPosition}
-use Rattle.lock_free.proofs.Descents.{as_long, place_later, inside_later, task_stayed, found_after, found_stayed}
+use Rattle.lock_free.specs.RunningOn.{RunsOn}
+use Rattle.lock_free.specs.Stocks.{IsStock, Stocked}
+use Rattle.lock_free.proofs.Descents.{as_long, place_later, inside_later, task_moved, task_stayed, found_after, found_stayed}
 use Rattle.lock_free.proofs.GivenBack.{node_is}
 use Rattle.lock_free.proofs.KeyFound.{absent_here}
 use Rattle.lock_free.proofs.KeyHolds.{LooksIn, looks_in_entry, entry_branch, has_position_in, holds_entry_in}
@@ -36,6 +40,8 @@ use Rattle.lock_free.proofs.KeyMet.{key_ready, key_done}
 use Rattle.lock_free.proofs.Laters.{placed_later}
 use Rattle.lock_free.proofs.OnLines.{moved_so, moves_on, stayed_moved}
 use Rattle.lock_free.proofs.OfTasks.{passable}
+use Rattle.lock_free.proofs.RunningOn.{runs_on_moved}
+use Rattle.lock_free.proofs.StockStays.{stock_moved}
 
 -- ---- at a single
 
@@ -75,12 +81,34 @@ module _ (v w : View) (task : Task) (t : IsTask v task) (slots : List ℕ) (give
           moved_so v w (line_met (now v) (key.Entry path main position) met.Other) (λ o. beside) (λ o r. ap (λ c. absent_in c (site.Beside position) path main) (t.calls o r).0)
           (g (key.Entry path main position) at)
 
+      pub beside_there : IsHere w slots given (IsBeside w task.call position)
+      beside_there = (
+        path,
+        main,
+        place_later v w moved_beside.later slots given path main is_at.2,
+        (inside_later v w moved_beside.later main given.header position is_at.2.header inside, moves_on v (line.Key (key.Entry path main position)) at w beside moved_beside),
+      )
+
       pub absent_done : HasFound v slots (absent_found task.call (site.Beside position) given) w
       absent_done =
           found_after v w w (λ o. beside) slots (absent_found task.call (site.Beside position) given) moved_beside
           (absent_here task.call (site.Beside position) given path main w slots (place_later v w moved_beside.later slots given path main is_at.2)
           (inside_later v w moved_beside.later main given.header position is_at.2.header inside)
           (moves_on v (line.Key (key.Entry path main position)) at w beside moved_beside))
+
+-- whatever it has met there
+module _ (v w : View) (slots : List ℕ) (given : Given) (position name : ℕ) (is_at : IsHere v slots given (IsAtOne v position name)) (result : Met) (g : HasMet v result w) where
+  met_moved : HasMoved (line_met (now v) (key.Entry is_at.0 is_at.1 position) result) v w
+  met_moved = g (key.Entry is_at.0 is_at.1 position) is_at.3.1
+
+  pub met_runs : RunsOn v w
+  met_runs = runs_on_moved v w (line_met (now v) (key.Entry is_at.0 is_at.1 position) result) met_moved
+
+  pub met_task : (task : Task) → IsTask v task → IsTask w task
+  met_task task its = task_moved v w (line_met (now v) (key.Entry is_at.0 is_at.1 position) result) task is_at.3.1.0 is_at.3.1.1 met_moved its
+
+  pub met_stock : (n : ℕ) → IsSound n v → (stock : Stocked) → IsStock stock v → IsStock stock w
+  met_stock n sound stock is = stock_moved n v w sound is_at.3.1.0 is_at.3.1.1 stock is (line_met (now v) (key.Entry is_at.0 is_at.1 position) result) met_moved
 
 -- ---- at an entry
 

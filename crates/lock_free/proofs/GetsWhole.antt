@@ -1,5 +1,5 @@
 -- A get as a whole: answered by its first try, or as a call of any kind.
-use Rattle.std.proofs.Common.{◌≡◌, ℕ, Option, None, Ok, refl, ◌∙◌}
+use Rattle.std.proofs.Common.{◌≡◌, ℕ, Option, None, Ok, refl}
 use Rattle.history.specs.declared.calls.Access.{Access}
 use Rattle.history.specs.declared.calls.Call.{Call}
 use Rattle.history.specs.declared.replies.Reply.TheVariants as reply
@@ -21,10 +21,10 @@ use Rattle.lock_free.specs.SeatWords.{HasEnded, IsAtEnd}
 use Rattle.lock_free.specs.Seeking.{IsCalled}
 use Rattle.lock_free.specs.UnderWay.{HasComeOut, IsUnderWay}
 use Rattle.lock_free.specs.WholeCalls.{HasLeft}
-use Rattle.lock_free.proofs.CallBegins.{opens_run, same_run}
+use Rattle.lock_free.proofs.CallBegins.{same_run}
 use Rattle.lock_free.proofs.CallsRunOn.{at_end}
 use Rattle.lock_free.proofs.CallsUnderWay.{left_both, left_told, replied_told, run_out, under_way_on}
-use Rattle.lock_free.proofs.KeyTries.{called_on, left_run}
+use Rattle.lock_free.proofs.KeyTries.{left_run}
 use Rattle.lock_free.proofs.Leavings.{left_off, may_on}
 use Rattle.lock_free.proofs.LetGo.{none_reclaimed}
 use Rattle.lock_free.proofs.RunningOn.{runs_on_self}
@@ -74,17 +74,7 @@ module _ (v : View) (on : IsOn v new_try) (w : View) (h : HasLeftOff v left.MayG
   off_may = (left_run v on left.MayGiveUp w leaves).1
 
 -- ---- and goes on from there
-module _ (v : View) (running : IsRunning v) (w : View) (r : RunsOn v w) where
-  pub still_running : IsRunning w
-  still_running = let x = r.runs running.0 running.1 in (x.0, x.1)
-
-  pub still_called : (c : Call) (access : Access) → IsCalled v c access → IsCalled w c access
-  still_called = called_on v w running.0 running.1 r
-
 module _ (v w : View) (r : RunsOn v w) where
-  pub still_none : v.opens ≡ None → w.opens ≡ None
-  still_none none = opens_run v w r ∙ none
-
   pub still_under : (c : Call) → (before : View) × IsUnderWay before c None v → (before : View) × IsUnderWay before c None w
   still_under c (before, under) = (before, under_way_on before c None v w under r)
 

@@ -1,5 +1,5 @@
 -- A call on a key comes to a change of a main node, and makes it.
-use Rattle.std.proofs.Common.{◌≡◌, ◌<◌, ◌≤◌, ◌-◌, ◌^◌, ℕ, true, nat_lt, get_or, length, List, Option, Some, None, refl, sym, ap, subst, ◌∙◌, arith, ltb-true, unwrap_or}
+use Rattle.std.proofs.Common.{◌≡◌, ◌<◌, ◌≤◌, ◌-◌, ◌^◌, ℕ, true, nat_lt, get_or, length, List, Option, Some, None, Result, Ok, Err, IfOk, IfErr, refl, sym, ap, subst, ◌∙◌, arith, ltb-true, unwrap_or}
 use Rattle.machine_model.specs.Beneath.ctrie_base.specs.Hashes.{hash_of}
 use Rattle.machine_model.specs.declared.building.BuildLine.TheVariants as build
 use Rattle.machine_model.specs.declared.building.Change.{Change}
@@ -22,7 +22,7 @@ use Rattle.lock_free.specs.declared.rules.View.{View}
 use Rattle.lock_free.specs.declared.swapping.Swapped.{Swapped}
 use Rattle.lock_free.specs.declared.swapping.Swapped.TheVariants.{Commits, Fails, Misses}
 use Rattle.lock_free.specs.declared.tasks.Task.{Task}
-use Rattle.lock_free.specs.Attempts.{attempted, HasAttempted, IsToChange}
+use Rattle.lock_free.specs.Attempts.{attempted, attempted_by, HasAttempted, IsToChange}
 use Rattle.lock_free.specs.BuildingUp.{IsBuilder}
 use Rattle.lock_free.specs.Changing.{IsChange}
 use Rattle.lock_free.specs.Descending.{IsTask}
@@ -100,6 +100,11 @@ module _ (v : View) (task : Task) (t : IsTask v task) (slots : List ℕ) (some :
     pub gave_parked : (w : View) (s : Swapping) → LeavesSwap (IsUpdate former) v s w → HasAttempted v (attempt.Comes (came.Parked (parked.Changes s former))) w
     gave_parked w s h = (h.on, (h.its, h.aim))
 
+    pub gave_by : (w : View) (r : Result (Option Swapped) Swapping) → IfOk r (λ x. HasUpdated v former x w) → IfErr r (λ s. LeavesSwap (IsUpdate former) v s w) → HasAttempted v
+        (attempted_by r task.call former) w
+    gave_by w (Ok result) h k = gave w result h
+    gave_by w (Err s) h k = gave_parked w s k
+
   -- ---- an entry is taken out
 
   pub change_by : (c : Update) (at : IsToChange v slots given c) (its : Change) (former : Option ℕ) → IsOn v (line.Build (build.Main at.path at.main its former)) → (e : Edit) → IsChange v e its →
@@ -146,3 +151,8 @@ module _ (v : View) (task : Task) (t : IsTask v task) (slots : List ℕ) (some :
 
     pub removal_parked : (w : View) (s : Swapping) → LeavesChange v s w → HasAttempted v (attempt.Comes (came.Parked (parked.Changes s (Some former)))) w
     removal_parked w s h = let l = h at.path at.main (change.Remove position) (Some former) at.on in (l.on, (l.its, l.aim))
+
+    pub removed_by : (w : View) (r : Result (Option Swapped) Swapping) → IfOk r (λ x. HasChanged v x w) → IfErr r (λ s. LeavesChange v s w) → HasAttempted v
+        (attempted_by r task.call (Some former)) w
+    removed_by w (Ok result) h k = removed w result h
+    removed_by w (Err s) h k = removal_parked w s k

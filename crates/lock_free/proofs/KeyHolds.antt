@@ -13,13 +13,14 @@ use Rattle.machine_model.specs.Beneath.slot_arena.specs.Heaps.{no_ref, node_at, 
 use Rattle.machine_model.specs.declared.building.BuildLine.TheVariants as build
 use Rattle.machine_model.specs.declared.building.Change.{Change}
 use Rattle.machine_model.specs.declared.building.Change.TheVariants as change
+use Rattle.machine_model.specs.declared.building.Site.{Site}
 use Rattle.machine_model.specs.declared.finding.KeyLine.{KeyLine}
 use Rattle.machine_model.specs.declared.finding.KeyLine.TheVariants as key
 use Rattle.machine_model.specs.declared.lines.Line.{Line}
 use Rattle.machine_model.specs.declared.lines.Line.TheVariants as line
 use Rattle.machine_model.specs.declared.operations.Operation.{Operation}
 use Rattle.proof_memory.specs.Wants.{AllHold, Holds as Claims, Is, Wanted, ABranch, ASingle, BranchOrList, TombOrList, WithEntry}
-use Rattle.proof_memory.specs.Wants.{change_wants, flag_on, line_wants, listed, meets, is_main_node, is_branch, is_branch_or_list, is_entry}
+use Rattle.proof_memory.specs.Wants.{change_wants, flag_on, line_wants, listed, meets, site_wants, is_main_node, is_branch, is_branch_or_list, is_entry}
 use Rattle.proof_memory.proofs.Claims.Nodes.{branch_main, branch_both, both_main}
 use Rattle.proof_memory.proofs.Claims.Uses.{safe_of, meets_of}
 use Rattle.lock_free.specs.declared.rules.View.{View}
@@ -137,6 +138,13 @@ looks_in_change v path main c former position at n sound inside =
     let is = claims v l at n sound in
     looks_by v l at n sound main position BranchOrList
     (named_after v l at n sound path (refs_of_claims (change_wants main (flag_on v.sizes.hash at.0.call path) former c)) main refl) both_main is.1.1.0 inside
+
+-- and where a new single is to be made for it
+pub holds_to_build : (v : View) (path : List Ref) (main : Ref) (place : Site) (former : Option ℕ) → IsOn v (line.Build (build.Single path main place former)) → (n : ℕ) → IsSound n v → Holds v
+    main
+holds_to_build v path main place former at n sound =
+    let l = line.Build (build.Single path main place former) in
+    (its v l at n sound, at.1.1, inl (hand v l at n sound main (named_after v l at n sound path (refs_of_claims (site_wants main former place)) main refl)))
 
 single_so : (node : Node) → meets ASingle node ≡ true → is_single node ≡ true
 single_so (Single key value) is = refl

@@ -4,7 +4,6 @@ use Rattle.std.proofs.lemmas.List.{length-append, get_or_push}
 use Rattle.machine_model.specs.Beneath.ctrie_base.specs.Hashes.{hash_of}
 use Rattle.machine_model.specs.Beneath.slot_arena.specs.declared.refs.Ref.{Ref}
 use Rattle.machine_model.specs.Beneath.slot_arena.specs.Heaps.{no_ref}
-use Rattle.machine_model.specs.declared.building.Site.TheVariants as site
 use Rattle.machine_model.specs.declared.finding.KeyLine.TheVariants as key
 use Rattle.machine_model.specs.declared.lines.Line.{Line}
 use Rattle.machine_model.specs.declared.lines.Line.TheVariants as line
@@ -13,20 +12,16 @@ use Rattle.machine_model.specs.Finding.{after_tomb, going_down}
 use Rattle.machine_model.specs.Paths.{current}
 use Rattle.machine_model.specs.Reading.{reading}
 use Rattle.nodes.specs.Levels.{flag_of}
-use Rattle.lock_free.specs.declared.descending.Found.{Found}
-use Rattle.lock_free.specs.declared.descending.Stage.{Stage}
-use Rattle.lock_free.specs.declared.descending.Stage.TheVariants as stage
 use Rattle.lock_free.specs.declared.finding.Turn.{Turn}
 use Rattle.lock_free.specs.declared.finding.Turn.TheVariants as turn
 use Rattle.lock_free.specs.declared.reading.Given.{Given}
 use Rattle.lock_free.specs.declared.rules.View.{View}
 use Rattle.lock_free.specs.declared.tasks.Task.{Task}
-use Rattle.lock_free.specs.Descending.{IsTask, AreAt, IsOnPath, IsPlace, IsHere, IsAtEntry, IsAtList, IsAtTomb, absent_in, absent_found, HasFound, HasGoneBelow, HasPassedLevel, IsDescending}
+use Rattle.lock_free.specs.Descending.{IsTask, AreAt, IsOnPath, IsPlace, IsHere, IsAtEntry, IsAtList, IsAtTomb, HasGoneBelow, IsDescending}
 use Rattle.lock_free.specs.GoingDown.{IsAtKey, HasMoved, IsFlag, IsAtLink, IsWithin, Tells, line_at, HasReadTurn, HasReadKey}
 use Rattle.lock_free.specs.Holding.{IsOn}
 use Rattle.lock_free.specs.Passing.{IsPlaced}
-use Rattle.lock_free.proofs.Descents.{are_at_later, as_long, task_moved, moved_self, found_after}
-use Rattle.lock_free.proofs.KeyFound.{absent_here}
+use Rattle.lock_free.proofs.Descents.{are_at_later, as_long, task_moved, moved_self}
 use Rattle.lock_free.proofs.KeyMoves.{moved_on}
 use Rattle.lock_free.proofs.OnLines.{moved_so, moves_on}
 use Rattle.history.specs.declared.replies.Reply.TheVariants as reply
@@ -121,28 +116,6 @@ module _ (v : View) (task : Task) (t : IsTask v task) (slots : List ℕ) (on : I
       ),
     )
 
-    pub absent_done : way ≡ turn.Absent → HasFound v slots (absent_found task.call site.Absent given) middle
-    absent_done is =
-        let absent : HasMoved (λ o. absent_in task.call site.Absent path main) v middle =
-        moved_so v middle (line_at path main turn.Absent) (λ o. absent_in task.call site.Absent path main) (λ o r. ap (λ c. absent_in c site.Absent path main) (t.calls o r).0)
-        (moved_by turn.Absent is) in
-        found_after v middle middle (λ o. absent_in task.call site.Absent path main) slots (absent_found task.call site.Absent given) absent
-        (absent_here task.call site.Absent given path main middle slots place tt (on_by (absent_in task.call site.Absent path main) absent))
-
-    pub found_done : (after : View) (result : Found) → HasFound middle slots result after → HasFound v slots result after
-    found_done after result h = found_after v middle after (line_at path main way) slots result turned.moved h
-
-    pub passed_done : (after : View) (s : Stage) → HasPassedLevel middle slots s after → HasPassedLevel v slots s after
-    passed_done after (stage.Below slot) h = record {
-      path = h.path;
-      below = h.below;
-      moved = moved_on v middle after (line_at path main way) (going_down h.path h.below) turned.moved h.moved;
-      places = h.places;
-      placed = h.placed;
-      short = h.short;
-    }
-    passed_done after (stage.Here result) h = found_done after result h
-
 -- ---- from level to level
 
 pub begins : (v : View) (task : Task) (slots : List ℕ) → IsTask v task → IsOnPath v slots → IsDescending v task slots v
@@ -177,9 +150,6 @@ module _ (before : View) (first : List ℕ) (start : IsOnPath before first) (tas
         some = omega (arith, more);
         its = task_moved v after (λ o. line.Key (key.Read path (reading (current path)))) task level_ready.1.0 level_ready.1.1 below d.its;
       }
-
-  pub ends : (result : Found) (after : View) → HasFound v slots result after → HasFound before slots result after
-  ends result after h = found_after before v after (λ o. line.Key (key.Read d.path (reading (current d.path)))) slots result d.moved h
 
   -- it is out of tries
   pub level_spent : (after : View) → IsSpent v after → IsSpent before after

@@ -234,7 +234,9 @@ mod Meanwhile
 mod Answered
 mod Seekings
 mod SoughtOn
+mod PlacesReached
 mod LookedAt
+mod KeyEnds
 mod Trials
 mod Updates
 mod AfterChanges

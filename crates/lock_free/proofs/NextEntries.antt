@@ -47,7 +47,7 @@ module _ (v : View) (l : Line) (at : IsOn v l) (path : List Ref) (main : Ref) (d
 
 -- what an entry is it stays
 module _ (v : View) (main : Ref) (position : ℕ) (h : LooksIn v main position) (w : View) (l : Later v w) where
-  node_later : (node : Node) → node_at (now v).heap (entry_in v main position) ≡ node → (slot : Slot) × IsUsed w (entry_in w main position) slot × ((m : Ref) × (slot.node ≡ with_main_word m node))
+  pub node_later : (node : Node) → node_at (now v).heap (entry_in v main position) ≡ node → (slot : Slot) × IsUsed w (entry_in w main position) slot × ((m : Ref) × (slot.node ≡ with_main_word m node))
   node_later node is =
       let e = entry_in v main position in
       let u = h.entry_used in

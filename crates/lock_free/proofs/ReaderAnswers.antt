@@ -1,10 +1,9 @@
 -- What a call that only reads answers at the end of its way.
-use Rattle.std.proofs.Common.{◌≡◌, ◌&&◌, ℕ, false, nat_le, None, Some, sym, ap, ◌∙◌, if◌then◌else◌}
+use Rattle.std.proofs.Common.{◌≡◌, ℕ, false, None, Some, sym, ap, ◌∙◌, if◌then◌else◌}
 use Rattle.history.specs.declared.calls.Call.{Call}
 use Rattle.history.specs.declared.replies.Reply.TheVariants as reply
 use Rattle.machine_model.specs.declared.building.Site.{Site}
-use Rattle.machine_model.specs.declared.building.Site.TheVariants as site
-use Rattle.machine_model.specs.Calls.{absent_reply, inserts, needs_writable}
+use Rattle.machine_model.specs.Calls.{absent_reply, needs_writable}
 use Rattle.lock_free.specs.declared.descending.Found.TheVariants as found
 use Rattle.lock_free.specs.declared.descending.Update.TheVariants as update
 use Rattle.lock_free.specs.declared.reading.Given.{Given}
@@ -18,11 +17,6 @@ module _ (call : Call) (reads : needs_writable call ≡ false) where
   pub absent_read : (place : Site) (given : Given) → absent_found call place given ≡ found.Answers (reply.Found None)
   absent_read place given =
       ap (λ b. if b then found.Changes (update.Builds place None) given else found.Answers (absent_reply call)) (reader_absent call reads).0 ∙ ap (λ r. found.Answers r) (reader_absent call reads).1
-
-  -- at the end of a list of so many singles
-  pub end_read : (singles : ℕ) (given : Given) → (if inserts call && nat_le 32 singles then found.Answers reply.Crowded else absent_found call site.Absent given) ≡ found.Answers (reply.Found None)
-  end_read singles given =
-      ap (λ b. if b && nat_le 32 singles then found.Answers reply.Crowded else absent_found call site.Absent given) (reader_absent call reads).0 ∙ absent_read site.Absent given
 
   pub found_read : (v : View) (slots : List ℕ) (given : Given) (position value : ℕ) → IsHere v slots given (IsFoundAt v call position value) → HasFound v slots (found.Answers (reply.Found (Some
       value))) v

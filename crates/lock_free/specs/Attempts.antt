@@ -1,5 +1,5 @@
 -- A call on a key: what a whole try of it comes to, and what all of them do.
-use Rattle.std.specs.Prelude.{◌≡◌, ℕ, List, Option, Some, None}
+use Rattle.std.specs.Prelude.{◌≡◌, ℕ, List, Option, Some, None, Result, Ok, Err}
 use Rattle.history.specs.declared.calls.Call.{Call}
 use Rattle.history.specs.declared.calls.Call.TheVariants.{Get, Put, PutIfAbsent, Replace, ReplaceIf, Remove, RemoveIf, Clear, Snapshot, Freeze}
 use Rattle.history.specs.declared.replies.Reply.{Reply}
@@ -12,7 +12,9 @@ use Rattle.machine_model.specs.Lines.{new_try}
 use Rattle.lock_free.specs.declared.descending.Update.{Update}
 use Rattle.lock_free.specs.declared.attempts.Attempt.{Attempt}
 use Rattle.lock_free.specs.declared.attempts.Attempt.TheVariants as attempt
+use Rattle.lock_free.specs.declared.leaving.Swapping.{Swapping}
 use Rattle.lock_free.specs.declared.parking.Came.TheVariants as came
+use Rattle.lock_free.specs.declared.parking.Parked.TheVariants as parked
 use Rattle.lock_free.specs.declared.reading.Given.{Given}
 use Rattle.lock_free.specs.declared.rules.View.{View}
 use Rattle.lock_free.specs.declared.seeking.Sought.{Sought}
@@ -23,7 +25,7 @@ use Rattle.lock_free.specs.declared.tasks.Task.{Task}
 use Rattle.lock_free.specs.Climbs.{IsClimbing}
 use Rattle.lock_free.specs.Descending.{IsPlace, IsTask, KnowsUpdate, line_updated}
 use Rattle.lock_free.specs.Holding.{IsOn}
-use Rattle.lock_free.specs.Parking.{HasRunTo}
+use Rattle.lock_free.specs.Parking.{HasRunTo, IsCome}
 use Rattle.lock_free.specs.RunningOn.{MayAnswer, RunsOn}
 use Rattle.lock_free.specs.SeatWords.{HasEnded}
 
@@ -68,6 +70,11 @@ attempted (Some (Commits r)) call former = attempt.Comes (came.Answered (changed
 attempted (Some Fails) call former = attempt.Again
 attempted (Some Misses) call former = attempt.Again
 
+-- or it is under way
+abbrev pub attempted_by : Result (Option Swapped) Swapping → Call → Option ℕ → Attempt
+attempted_by (Ok result) call former = attempted result call former
+attempted_by (Err s) call former = attempt.Comes (came.Parked (parked.Changes s former))
+
 -- ---- a try
 
 -- its way has come to this at the end of its path
@@ -76,6 +83,11 @@ IsSought v slots task (sought.Answers answer) = IsOn v (line.End answer)
 IsSought v slots task (sought.Changes change given) = IsTask v task × IsToChange v slots given change
 IsSought v slots task sought.Again = IsOn v new_try
 IsSought v slots task sought.Full = MayAnswer v reply.NoSlots
+
+-- it is to begin a new try, or has come to this
+abbrev pub IsAttempted : View → Attempt → Type 0
+IsAttempted v attempt.Again = IsOn v new_try
+IsAttempted v (attempt.Comes result) = IsCome v result
 
 -- it begins a new try, or comes to this
 abbrev pub HasAttempted : View → Attempt → View → Type 0

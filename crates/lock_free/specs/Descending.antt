@@ -27,8 +27,6 @@ use Rattle.lock_free.specs.declared.descending.Found.{Found}
 use Rattle.lock_free.specs.declared.descending.Found.TheVariants as found
 use Rattle.lock_free.specs.declared.descending.Rest.{Rest}
 use Rattle.lock_free.specs.declared.descending.Rest.TheVariants as rest
-use Rattle.lock_free.specs.declared.descending.Stage.{Stage}
-use Rattle.lock_free.specs.declared.descending.Stage.TheVariants as stage
 use Rattle.lock_free.specs.declared.descending.Update.{Update}
 use Rattle.lock_free.specs.declared.descending.Update.TheVariants as update
 use Rattle.lock_free.specs.declared.tasks.Task.{Task}
@@ -181,10 +179,6 @@ pub record HasGoneBelow (before : View) (slots : List ℕ) (slot : ℕ) (after :
   pub placed : IsPlaced after below slot
   -- a path has 14 indirections at most
   pub short : length slots < 14
-
-abbrev pub HasPassedLevel : View → List ℕ → Stage → View → Type 0
-HasPassedLevel before slots (stage.Below slot) after = HasGoneBelow before slots slot after
-HasPassedLevel before slots (stage.Here result) after = HasFound before slots result after
 
 -- ---- along a list
 

@@ -1,30 +1,23 @@
 -- A get as a whole: its first try, and what it is told.
-use Rattle.std.specs.Prelude.{◌<◌, ◌^◌, ℕ, List, length, Option, Some, None, Result, Ok, Err}
+use Rattle.std.specs.Prelude.{◌≡◌, ◌<◌, ◌^◌, ℕ, false, List, Option, None, Result, Ok, Err}
 use Rattle.history.specs.declared.calls.Call.{Call}
 use Rattle.history.specs.declared.replies.Reply.TheVariants as reply
-use Rattle.machine_model.specs.declared.lines.Line.TheVariants as line
+use Rattle.machine_model.specs.Calls.{needs_writable}
 use Rattle.lock_free.specs.declared.call_errors.CallError.{CallError}
 use Rattle.lock_free.specs.declared.leaving.Left.{Left}
-use Rattle.lock_free.specs.declared.lookups.Looked.{Looked}
-use Rattle.lock_free.specs.declared.lookups.Looked.TheVariants as looked
 use Rattle.lock_free.specs.declared.rules.View.{View}
 use Rattle.lock_free.specs.declared.seeking.Sought.{Sought}
 use Rattle.lock_free.specs.declared.tasks.Task.{Task}
 use Rattle.lock_free.specs.Attempts.{IsSought}
-use Rattle.lock_free.specs.Holding.{IsOn}
-use Rattle.lock_free.specs.LinkReads.{IsThere}
+use Rattle.lock_free.specs.Descending.{IsTask}
 use Rattle.lock_free.specs.Parking.{left_so, IsCome, IsOwnLeft}
-use Rattle.lock_free.specs.RunningOn.{MayAnswer}
 use Rattle.lock_free.specs.SeatCalls.{IsTold}
-use Rattle.lock_free.specs.Seeking.{IsToClean, IsToRenew}
 use Rattle.lock_free.specs.UnderWay.{IsUnderWay}
 
--- the way down of its first try has come to this at the end of this path, or is out of tries
-abbrev pub IsLookedAt : View → List ℕ → Option Looked → Type 0
-IsLookedAt v slots (Some (looked.Answers value)) = IsOn v (line.End (reply.Found value))
-IsLookedAt v slots (Some (looked.Renews link)) = (0 < length slots) × IsThere v slots link (IsToRenew v)
-IsLookedAt v slots (Some looked.Cleans) = IsToClean v slots
-IsLookedAt v slots None = MayAnswer v reply.NoSlots
+-- it is of a call that only reads
+pub record IsLookup (v : View) (task : Task) : Type 0 where
+  pub its : IsTask v task
+  pub reads : needs_writable task.call ≡ false
 
 -- the try has come to this at the end of this path, or is out of tries
 abbrev pub IsGotten : View → List ℕ → Result (Task × Sought) Left → Type 0

@@ -51,7 +51,7 @@ pub mod CopySteps
 pub mod Holding
 pub mod Descending
 pub mod LinkReads
-pub mod Lookups
+pub mod Reaching
 pub mod Repairing
 pub mod Contracting
 pub mod Climbs
@@ -77,3 +77,4 @@ pub mod TriedCalls
 pub mod KeyReplies
 pub mod Naming
 pub mod GetRuns
+pub mod KeyRuns

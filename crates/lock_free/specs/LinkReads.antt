@@ -23,11 +23,6 @@ abbrev pub HasReadTo : View → Option Link → View → Type 0
 HasReadTo before (Some link) after = (header : Header) × HasPassed before (passed.Gives (given_by link header)) after
 HasReadTo before None after = (from : ReadFrom) × HasPassed before (passed.Again from) after
 
--- it has given this; or it goes on
-abbrev pub HasReadGiven : View → Option Given → View → Type 0
-HasReadGiven before (Some given) after = HasPassed before (passed.Gives given) after
-HasReadGiven before None after = (from : ReadFrom) × HasPassed before (passed.Again from) after
-
 -- it has given something; or it goes on from there
 abbrev pub HasReadOut : View → Option ReadFrom → View → Type 0
 HasReadOut before None after = (given : Given) × HasPassed before (passed.Gives given) after
@@ -38,13 +33,13 @@ abbrev pub CanGoOn : View → Way → ℕ → Passed → Type 0
 CanGoOn v way name (passed.Gives given) = Unit {0}
 CanGoOn v way name (passed.Again from) = IsOnWay v way × IsPassing v name from
 
-abbrev pub HasGivenAfter : View → Passed → Option Given → View → Type 0
-HasGivenAfter before (passed.Gives given) result after = (result ≡ Some given) × (after ≡ before)
-HasGivenAfter before (passed.Again from) result after = HasReadGiven before result after
-
 abbrev pub HasLinkAfter : View → Passed → Option Link → View → Type 0
 HasLinkAfter before (passed.Gives given) result after = (result ≡ Some given.link) × (after ≡ before)
 HasLinkAfter before (passed.Again from) result after = HasReadTo before result after
+
+abbrev pub HasOutAfter : View → Passed → Option ReadFrom → View → Type 0
+HasOutAfter before (passed.Gives given) result after = (result ≡ None) × (after ≡ before)
+HasOutAfter before (passed.Again from) result after = HasReadOut before result after
 
 -- after a pass from here the next one can be made
 abbrev pub CanGoOnAfter : ℕ → View → Way → ℕ → Type 0
@@ -53,6 +48,9 @@ CanGoOnAfter n v way name = (q : Passed) (w : View) → IsSound n w → HasPasse
 -- a pass from here, or further ones, have come to this
 abbrev pub HasLinkOn : ℕ → View → Option Link → View → Type 0
 HasLinkOn n v result after = (q : Passed) × (w : View) × IsSound n w × HasPassed v q w × HasLinkAfter w q result after
+
+abbrev pub HasOutOn : ℕ → View → Option ReadFrom → View → Type 0
+HasOutOn n v result after = (q : Passed) × (w : View) × IsSound n w × HasPassed v q w × HasOutAfter w q result after
 
 -- it has read the main node and turns so
 abbrev pub HasReadOn : View → Link × Turn → View → Type 0

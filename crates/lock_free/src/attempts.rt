@@ -1,6 +1,6 @@
 //! Calls on keys: tries, one after another, until one answers, no slot is had, or so many were made.
 
-ghost use Rattle.std.specs.Prelude.{◌≡◌, ◌<◌, ◌≤◌, ◌^◌, false, length};
+ghost use Rattle.std.specs.Prelude.{◌≡◌, ◌<◌, ◌≤◌, ◌^◌, Some, false, length};
 ghost use Rattle.machine_model.specs.Calls.{changed_reply, copies};
 ghost use Rattle.machine_model.specs.Lines.{new_try};
 ghost use Rattle.lock_free.specs.Descending.{IsTask};
@@ -8,7 +8,7 @@ ghost use Rattle.lock_free.specs.Holding.{IsOn};
 ghost use Rattle.lock_free.specs.declared.attempts.Attempt.TheVariants as attempt;
 ghost use Rattle.lock_free.specs.declared.descending.Update.TheVariants as update;
 ghost use Rattle.lock_free.specs.declared.parking.Came.TheVariants as came;
-ghost use Rattle.lock_free.specs.Attempts.{HasAttempted, IsSought, IsToChange, IsToClimb};
+ghost use Rattle.lock_free.specs.Attempts.{attempted_by, HasAttempted, IsSought, IsToChange, IsToClimb};
 ghost use Rattle.lock_free.specs.Loading.{IsSound};
 ghost use Rattle.lock_free.specs.Parking.{HasRunTo};
 ghost use Rattle.lock_free.specs.RunningOn.{MayAnswer};
@@ -22,6 +22,7 @@ use crate::cleaning::single_in;
 use crate::climbs::climb_within;
 use crate::descending::{Path, Update};
 use crate::key_tries::try_key_within;
+use crate::leaving::Swapping;
 use crate::loads::{Actor, Words};
 use crate::parking::{Came, Parked, left_so};
 use crate::reading::Given;
@@ -29,7 +30,7 @@ use crate::seeking::Sought;
 use crate::stock::Stock;
 use crate::swapping::Swapped;
 use crate::tasks::{Task, changed_reply, value_of};
-use crate::updating::{attempted, change_main_within, update_within};
+use crate::updating::{attempted_by, change_main_within, update_within};
 use history::{Access, Call, Reply};
 use machine_model::Site;
 use nodes::flag_of;
@@ -44,9 +45,9 @@ pub enum Attempt {
     Comes(Came),
 }
 
-/// Gives the key its new value, in a single that is made for this site.
+/// Gives the key its new value, in a single that is made for this site. An `Err` has its SWAP that is under way.
 #[inline(always)]
-fn give_value(
+pub(crate) fn give_value(
     tries: u64,
     words: &Words,
     actor: &mut Actor,
@@ -56,7 +57,7 @@ fn give_value(
     given: Given,
     site: Site,
     former: Option<u64>,
-) -> Attempt
+) -> Result<Option<Swapped>, Swapping>
     requires table { actor.old.table_id ≡ words.now.table_id }
     requires sound { IsSound words.now.table_id.words actor.old.me.0 }
     requires stock { IsStock stock.old actor.old.me.0 }
@@ -68,7 +69,7 @@ fn give_value(
     ensures table { actor.new.table_id ≡ actor.old.table_id }
     ensures sound { IsSound words.now.table_id.words actor.new.me.0 }
     ensures stock { IsStock stock.new actor.new.me.0 }
-    ensures attempted { HasAttempted actor.old.me.0 result actor.new.me.0 }
+    ensures attempted { HasAttempted actor.old.me.0 (attempted_by result task.now.call former) actor.new.me.0 }
 {
     let last = path.len() - 1;
     let by = Builder {
@@ -80,17 +81,14 @@ fn give_value(
         depth: last,
     };
     let way = task.way();
-    match update_within(
+    update_within(
         tries, words, actor, stock, way, path[last], by, given, site, former,
-    ) {
-        Ok(swapped) => attempted(swapped, task.call, former),
-        Err(left) => Attempt::Comes(Came::Parked(Parked::Changes(left, former))),
-    }
+    )
 }
 
-/// Takes the entry at this position out of the main node at the end of the path.
-#[inline(never)]
-fn remove(
+/// Takes the entry at this position out of the main node at the end of the path. An `Err` has its SWAP that is under way.
+#[inline(always)]
+pub(crate) fn take_out(
     tries: u64,
     words: &Words,
     actor: &mut Actor,
@@ -100,7 +98,7 @@ fn remove(
     given: Given,
     position: usize,
     former: u64,
-) -> Attempt
+) -> Result<Option<Swapped>, Swapping>
     requires table { actor.old.table_id ≡ words.now.table_id }
     requires sound { IsSound words.now.table_id.words actor.old.me.0 }
     requires stock { IsStock stock.old actor.old.me.0 }
@@ -111,12 +109,12 @@ fn remove(
     ensures table { actor.new.table_id ≡ actor.old.table_id }
     ensures sound { IsSound words.now.table_id.words actor.new.me.0 }
     ensures stock { IsStock stock.new actor.new.me.0 }
-    ensures attempted { HasAttempted actor.old.me.0 result actor.new.me.0 }
+    ensures attempted { HasAttempted actor.old.me.0 (attempted_by result task.now.call (Some former)) actor.new.me.0 }
 {
     let last = path.len() - 1;
     let flag = flag_of(task.hash, last);
     let change = Edit::Remove(position);
-    match change_main_within(
+    change_main_within(
         tries,
         words,
         actor,
@@ -126,10 +124,7 @@ fn remove(
         given,
         flag,
         change,
-    ) {
-        Ok(swapped) => attempted(swapped, task.call, Some(former)),
-        Err(left) => Attempt::Comes(Came::Parked(Parked::Changes(left, Some(former)))),
-    }
+    )
 }
 
 /// Lets an operation give its climb up, and be answered so.
@@ -273,28 +268,18 @@ fn change(
     ensures attempted { HasAttempted actor.old.me.0 result actor.new.me.0 }
 {
     match update {
-        Update::Builds { site, former } => give_value(
-            tries,
-            words,
-            actor,
-            stock,
-            task,
-            path.as_slice(),
-            given,
-            site,
-            former,
-        ),
-        Update::Removes { position, former } => remove(
-            tries,
-            words,
-            actor,
-            stock,
-            task,
-            path.as_slice(),
-            given,
-            position,
-            former,
-        ),
+        Update::Builds { site, former } => {
+            let path = path.as_slice();
+            let swapped = give_value(tries, words, actor, stock, task, path, given, site, former);
+            attempted_by(swapped, task.call, former)
+        }
+        Update::Removes { position, former } => {
+            let path = path.as_slice();
+            let swapped = take_out(
+                tries, words, actor, stock, task, path, given, position, former,
+            );
+            attempted_by(swapped, task.call, Some(former))
+        }
         Update::Entombs { single, former } => entomb(
             tries, words, actor, stock, task, path, given, single, former,
         ),

@@ -2,6 +2,7 @@
 
 ghost use Rattle.std.specs.Prelude.{◌≡◌, ◌<◌, ◌≤◌, ℕ, false, is_some, Some, None};
 ghost use Rattle.machine_model.specs.Calls.{copies, handle_of, opens_handle};
+ghost use Rattle.lock_free.specs.declared.call_errors.CallError.{CallError as Lack};
 ghost use Rattle.lock_free.specs.declared.call_runs.Ran.TheVariants as ran;
 ghost use Rattle.lock_free.specs.Attempts.{IsEnding, IsKeyed, IsTried};
 ghost use Rattle.lock_free.specs.Calling.{IsRunning};
@@ -64,10 +65,22 @@ pub(crate) fn lack_of(words: &Words, stock: &Stock, call: Call) -> CallError
     }
 }
 
+/// What the caller of this call is told of this reply.
+#[inline(always)]
+fn told_of(words: &Words, stock: &Stock, call: Call, reply: Reply) -> Result<Reply, CallError>
+    requires { 16 < words.now.table_id.words }
+    ensures { (lack : Lack) × IsLack lack × (result ≡ told_by reply lack) }
+{
+    match reply {
+        Reply::NoSlots => Err(lack_of(words, stock, call)),
+        other => told_by(other, CallError::Full),
+    }
+}
+
 /// Ends the operation of this call by this seat, `seat`, with this reply, or as one that gives up. Some of what the seat has retired may be free
 /// for it then.
 #[inline(always)]
-fn finish_call(
+pub(crate) fn finish_call(
     words: &Words,
     actor: &mut Actor,
     stock: &mut Stock,
@@ -87,7 +100,7 @@ fn finish_call(
     ensures finished { HasFinished actor.old.me.0 result actor.new.me.0 }
 {
     let reply = end_with(words, actor, stock, seat, answered);
-    let told = told_by(reply, lack_of(words, stock, call));
+    let told = told_of(words, stock, call, reply);
     tidy(words, actor, stock);
     told
 }
@@ -285,37 +298,6 @@ pub(crate) fn end_call<R: Wait>(
         Ran::Told(told) => told,
         Ran::UnderWay(allowed, parked) => run_on(
             rt, words, actor, stock, seat, call, allowed, parked,
-        ),
-    }
-}
-
-/// A call on a key by this seat, `seat`, as long as it takes.
-pub(crate) fn run<R: Wait>(
-    rt: &R,
-    words: &Words,
-    actor: &mut Actor,
-    stock: &mut Stock,
-    seat: u8,
-    call: Call,
-) -> Result<Reply, CallError>
-    requires table { actor.old.table_id ≡ words.now.table_id }
-    requires sound { IsSound words.now.table_id.words actor.old.me.0 }
-    requires stock { IsStock stock.old actor.old.me.0 }
-    requires its { actor.old.me.0.actor ≡ seat }
-    requires few { actor.old.me.0.actor ≤ actor.old.me.0.sizes.seats }
-    requires keyed { IsKeyed call }
-    requires ready { RestsWith actor.old.me.0 None }
-    ensures table { actor.new.table_id ≡ actor.old.table_id }
-    ensures sound { IsSound words.now.table_id.words actor.new.me.0 }
-    ensures stock { IsStock stock.new actor.new.me.0 }
-    ensures left { HasLeft actor.old.me.0 actor.new.me.0 }
-    ensures told { IsTold (λ r. r) actor.old.me.0 call result actor.new.me.0 }
-    ensures counts { IsNoRefusal result }
-{
-    match run_within(u64::MAX, words, actor, stock, seat, call) {
-        Ran::Told(told) => told,
-        Ran::UnderWay(access, parked) => run_on(
-            rt, words, actor, stock, seat, call, access, parked,
         ),
     }
 }

@@ -5,11 +5,12 @@ ghost use Rattle.history.specs.declared.replies.Reply.TheVariants as reply;
 ghost use Rattle.machine_model.specs.declared.building.Site.TheVariants as place;
 ghost use Rattle.machine_model.specs.Calls.{inserts};
 ghost use Rattle.lock_free.specs.declared.descending.Found.TheVariants as what;
-ghost use Rattle.lock_free.specs.Descending.{absent_found, entries_in, rest_in, HasFound, HasPassedLevel, IsAtEntry, IsAtList};
+ghost use Rattle.lock_free.specs.Descending.{absent_found, entries_in, rest_in, HasFound, IsAtList};
 ghost use Rattle.lock_free.specs.Descending.{IsAtOne, IsAtSibling, IsAtTomb, IsFoundAt, IsHere, IsRemovingAt, IsTask};
+ghost use Rattle.lock_free.specs.LinkReads.{IsThere};
 ghost use Rattle.lock_free.specs.Loading.{IsSound};
 
-use crate::finding::{Met, meet_link, meet_single};
+use crate::finding::{Met, meet_single};
 use crate::loads::{Actor, Words, look_at_key, look_at_link, see_entry};
 use crate::reading::Given;
 use crate::tasks::{Task, absent_reply, inserts, when_found};
@@ -17,7 +18,7 @@ use arrayvec::ArrayVec;
 use history::{Access, Call, Reply};
 use machine_model::{Site, WhenFound};
 use nodes::MOST_ENTRIES;
-use trie_words::{Entry, Shape};
+use trie_words::{Entry, Link, Shape};
 
 /// The slots of the indirections from the root down; the last is the current one.
 pub type Path = ArrayVec<u32, 14>;
@@ -44,15 +45,6 @@ pub enum Found {
     Renews(Given),
     /// The last indirection but one is to be cleaned: a tomb stands in the last.
     Cleans,
-}
-
-/// What comes of a level.
-#[derive(Drop)]
-pub enum Stage {
-    /// The way goes on in the indirection in this slot.
-    Below(u32),
-    /// It ends.
-    Here(Found),
 }
 
 /// Where the key is absent: its single is made for this site, or the call answers.
@@ -139,7 +131,7 @@ pub enum Rest {
 }
 
 /// What is left in a main node of this shape, in the last of this many indirections.
-fn rest_in(shape: Shape, indirections: usize) -> Rest
+pub(crate) fn rest_in(shape: Shape, indirections: usize) -> Rest
     ensures { result ≡ rest_in shape indirections }
 {
     match shape {
@@ -156,7 +148,7 @@ fn rest_in(shape: Shape, indirections: usize) -> Rest
 }
 
 /// Takes the key at this position, which has this value, out of the main node.
-fn remove(
+pub(crate) fn remove(
     words: &Words,
     actor: &mut Actor,
     path: &[u32],
@@ -257,13 +249,13 @@ pub fn at_tomb(
     actor: &mut Actor,
     task: &Task,
     path: &[u32],
-    given: Given,
+    link: Link,
     single: u32,
 ) -> Found
     requires table { actor.old.table_id ≡ words.now.table_id }
     requires sound { IsSound words.now.table_id.words actor.old.me.0 }
     requires task { IsTask actor.old.me.0 task.now }
-    requires at { IsHere actor.old.me.0 path.now given (IsAtTomb actor.old.me.0 task.now.access single) }
+    requires at { IsThere actor.old.me.0 path.now link (IsAtTomb actor.old.me.0 task.now.access single) }
     ensures table { actor.new.table_id ≡ actor.old.table_id }
     ensures sound { IsSound words.now.table_id.words actor.new.me.0 }
     ensures found { HasFound actor.old.me.0 path.now result actor.new.me.0 }
@@ -279,7 +271,7 @@ pub fn at_tomb(
 
 /// At the single in this slot, the entry at this position of a branch.
 #[inline(always)]
-fn at_single(
+pub fn at_single(
     words: &Words,
     actor: &mut Actor,
     task: &Task,
@@ -299,36 +291,5 @@ fn at_single(
     match meet_single(words, actor, task.key, single) {
         Met::Found(value) => at_key(words, actor, task.call, path, given, position, value),
         Met::Other => absent(task.call, Site::Beside { position }, given),
-    }
-}
-
-/// At the entry at this position of a branch: the way goes on below an indirection, and ends at a single, or at an indirection that is
-/// to be renewed.
-#[inline(always)]
-pub fn at_entry(
-    words: &Words,
-    actor: &mut Actor,
-    task: &Task,
-    path: &[u32],
-    given: Given,
-    position: usize,
-) -> Stage
-    requires table { actor.old.table_id ≡ words.now.table_id }
-    requires sound { IsSound words.now.table_id.words actor.old.me.0 }
-    requires task { IsTask actor.old.me.0 task.now }
-    requires at { IsHere actor.old.me.0 path.now given (IsAtEntry actor.old.me.0 position) }
-    ensures table { actor.new.table_id ≡ actor.old.table_id }
-    ensures sound { IsSound words.now.table_id.words actor.new.me.0 }
-    ensures passed { HasPassedLevel actor.old.me.0 path.now result actor.new.me.0 }
-{
-    let entry = see_entry(words, actor, given.link.main.slot, position as u32);
-    if entry.is_single {
-        return Stage::Here(at_single(words, actor, task, path, given, position, entry.slot));
-    }
-    let link = meet_link(words, actor, entry.slot);
-    if task.passes(link.generation) {
-        Stage::Below(entry.slot)
-    } else {
-        Stage::Here(Found::Renews(given))
     }
 }

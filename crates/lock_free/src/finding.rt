@@ -2,14 +2,14 @@
 
 ghost use Rattle.std.specs.Prelude.{◌≡◌, ◌<◌, IfSome};
 ghost use Rattle.lock_free.specs.Leaving.{OrSpent};
-ghost use Rattle.lock_free.specs.GoingDown.{HasMet, HasMetLink, HasReadKey, HasTurned, IsAtBelow, IsAtLink, IsAtMain, IsAtSingle, IsOnKey, IsWithin};
+ghost use Rattle.lock_free.specs.GoingDown.{HasMet, HasMetLink, HasTurned, IsAtBelow, IsAtLink, IsAtMain, IsAtSingle, IsOnKey, IsWithin};
 ghost use Rattle.lock_free.specs.LinkReads.{HasReadOn};
 ghost use Rattle.lock_free.specs.Loading.{IsSound};
 ghost use Rattle.lock_free.specs.Passing.{IsOnWay};
 
-use crate::first_passes::{read_link_within, read_within};
+use crate::first_passes::read_link_within;
 use crate::loads::{Actor, Words, look_at_key, look_at_link, look_at_main, look_at_value, see_key};
-use crate::reading::{Given, Way};
+use crate::reading::Way;
 use nodes::{has_flag, position_of};
 use trie_words::{Link, Shape};
 
@@ -92,35 +92,8 @@ pub fn meet_link(words: &Words, actor: &mut Actor, indirection: u32) -> Link
     look_at_link(words, actor, indirection)
 }
 
-/// Reads the main node of the indirection in this slot, to which the way to a key has come, and looks where it goes on by the key's flag.
-/// None where it is out of tries.
-#[inline(always)]
-pub fn read_turn_within(
-    tries: u64,
-    words: &Words,
-    actor: &mut Actor,
-    way: Way,
-    indirection: u32,
-    flag: u32,
-) -> Option<(Given, Turn)>
-    requires table { actor.old.table_id ≡ words.now.table_id }
-    requires sound { IsSound words.now.table_id.words actor.old.me.0 }
-    requires way { IsOnWay actor.old.me.0 way }
-    requires some { 0 < flag }
-    requires at { IsAtLink actor.old.me.0 indirection flag }
-    ensures table { actor.new.table_id ≡ actor.old.table_id }
-    ensures sound { IsSound words.now.table_id.words actor.new.me.0 }
-    ensures turned { OrSpent (λ read. HasReadKey actor.old.me.0 read actor.new.me.0) result actor.old.me.0 actor.new.me.0 }
-    ensures within { IfSome result (λ read. IsWithin read.1) }
-{
-    let Some(given) = read_within(tries, words, actor, way, indirection) else {
-        return None;
-    };
-    let turn = turn_at(words, actor, given.link.main.slot, flag);
-    Some((given, turn))
-}
-
-/// The same, of which no more is told than the link of the main node.
+/// Reads the main node of the indirection in this slot, to which the way to a key has come, and looks where it goes on by the key's flag. No
+/// more is told of what it reads than the link. None where it is out of tries.
 #[inline(always)]
 pub fn read_link_turn_within(
     tries: u64,

@@ -1,46 +1,42 @@
 //! Gets as a whole: straight where nothing stands in the way, else as calls of any kind.
 
-ghost use Rattle.std.specs.Prelude.{◌≡◌, ◌≤◌, ◌<◌, ◌^◌, ◌∷◌, [], None, false};
+ghost use Rattle.std.specs.Prelude.{◌≡◌, ◌≤◌, ◌<◌, ◌^◌, ◌∷◌, [], None};
 ghost use Rattle.history.specs.declared.calls.Call.TheVariants.{Get};
 ghost use Rattle.history.specs.declared.replies.Reply.TheVariants as reply;
-ghost use Rattle.machine_model.specs.Calls.{copies};
 ghost use Rattle.machine_model.specs.Lines.{new_try};
+ghost use Rattle.lock_free.specs.declared.descending.Found.TheVariants as found;
 ghost use Rattle.lock_free.specs.declared.rules.View.{View};
-ghost use Rattle.lock_free.specs.Attempts.{HasAttempted};
-ghost use Rattle.lock_free.specs.Calling.{IsRunning};
-ghost use Rattle.lock_free.specs.Descending.{IsOnPath, IsTask};
-ghost use Rattle.lock_free.specs.GetRuns.{HasGotten, IsGotten, IsLookedAt};
+ghost use Rattle.lock_free.specs.Descending.{HasFound, IsAtOne, IsOnPath, IsTask};
+ghost use Rattle.lock_free.specs.GetRuns.{HasGotten, IsLookup};
 ghost use Rattle.lock_free.specs.Holding.{IsOn};
 ghost use Rattle.lock_free.specs.KeyReplies.{TellsValue};
+ghost use Rattle.lock_free.specs.KeyRuns.{IsCalling};
+ghost use Rattle.lock_free.specs.LinkReads.{IsThere};
 ghost use Rattle.lock_free.specs.Loading.{IsSound};
-ghost use Rattle.lock_free.specs.Lookups.{IsLookup};
-ghost use Rattle.lock_free.specs.Parking.{HasRunTo};
+ghost use Rattle.lock_free.specs.Reaching.{IsAtPlace};
 ghost use Rattle.lock_free.specs.RunningOn.{MayAnswer};
 ghost use Rattle.lock_free.specs.SeatCalls.{IsTold};
-ghost use Rattle.lock_free.specs.Seeking.{IsCalled};
 ghost use Rattle.lock_free.specs.Stocks.{IsStock};
 ghost use Rattle.lock_free.specs.UnderWay.{IsUnderWay};
 ghost use Rattle.lock_free.specs.WholeCalls.{HasLeft, RestsWith};
 
-use crate::attempts::{Attempt, conclude, run_key};
 use crate::call_errors::CallError;
-use crate::call_runs::{HANDLES, end_call};
+use crate::call_runs::HANDLES;
 use crate::calling::start_within;
 use crate::descending::Path;
-use crate::gets::try_on_within;
+use crate::finding::{Met, meet_single};
+use crate::key_ends::{reached_on, spent_on};
 use crate::laws::seats_are_explained;
-use crate::leaving::Left;
 use crate::loads::{Actor, Words};
-use crate::lookups::{Looked, look_up_within};
-use crate::parking::{Came, left_so};
+use crate::reaching::{Place, Reached, go_down_within};
 use crate::reading::Way;
 use crate::rooting::seek_root_within;
 use crate::seating::end;
-use crate::seeking::Sought;
 use crate::stock::Stock;
 use crate::tasks::Task;
 use history::{Access, Call, Reply};
 use std::sync::Wait;
+use trie_words::Link;
 
 /// The value in the reply to a call on a key that is answered by one.
 pub(crate) fn value_in(answer: Reply) -> Option<u64>
@@ -53,58 +49,32 @@ pub(crate) fn value_in(answer: Reply) -> Option<u64>
     }
 }
 
-/// What comes of a get's try whose way has come to this.
-fn attempt_of(
+/// The value of the key at the single in this slot, the entry at this position of a branch.
+#[inline(always)]
+fn value_at(
     words: &Words,
     actor: &mut Actor,
-    stock: &mut Stock,
-    path: &Path,
-    tried: Result<(Task, Sought), Left>,
-) -> Attempt
+    task: &Task,
+    path: &[u32],
+    link: Link,
+    position: usize,
+    single: u32,
+) -> Option<u64>
     requires table { actor.old.table_id ≡ words.now.table_id }
     requires sound { IsSound words.now.table_id.words actor.old.me.0 }
-    requires stock { IsStock stock.old actor.old.me.0 }
-    requires at { IsGotten actor.old.me.0 path.now.items tried }
+    requires task { IsLookup actor.old.me.0 task.now }
+    requires at { IsThere actor.old.me.0 path.now link (IsAtOne actor.old.me.0 position single) }
     ensures table { actor.new.table_id ≡ actor.old.table_id }
     ensures sound { IsSound words.now.table_id.words actor.new.me.0 }
-    ensures stock { IsStock stock.new actor.new.me.0 }
-    ensures attempted { HasAttempted actor.old.me.0 result actor.new.me.0 }
+    ensures found { HasFound actor.old.me.0 path.now (found.Answers (reply.Found result)) actor.new.me.0 }
 {
-    match tried {
-        Ok((task, sought)) => conclude(u64::MAX, words, actor, stock, path, &task, sought),
-        Err(left) => Attempt::Comes(left_so(left)),
+    match meet_single(words, actor, task.key, single) {
+        Met::Found(value) => Some(value),
+        Met::Other => None,
     }
 }
 
-/// What a get comes to whose first try's way has come to this.
-fn come_from(
-    words: &Words,
-    actor: &mut Actor,
-    stock: &mut Stock,
-    call: Call,
-    access: Access,
-    path: &Path,
-    tried: Result<(Task, Sought), Left>,
-) -> Came
-    requires table { actor.old.table_id ≡ words.now.table_id }
-    requires sound { IsSound words.now.table_id.words actor.old.me.0 }
-    requires stock { IsStock stock.old actor.old.me.0 }
-    requires keyed { copies call ≡ false }
-    requires running { IsRunning actor.old.me.0 }
-    requires called { IsCalled actor.old.me.0 call access }
-    requires at { IsGotten actor.old.me.0 path.now.items tried }
-    ensures table { actor.new.table_id ≡ actor.old.table_id }
-    ensures sound { IsSound words.now.table_id.words actor.new.me.0 }
-    ensures stock { IsStock stock.new actor.new.me.0 }
-    ensures run { HasRunTo actor.old.me.0 result actor.new.me.0 }
-{
-    match attempt_of(words, actor, stock, path, tried) {
-        Attempt::Again => run_key(u64::MAX, words, actor, stock, call, access),
-        Attempt::Comes(came) => came,
-    }
-}
-
-/// Goes on with a get of this seat, `seat`, whose first try's way has come to this, as with a call of any kind.
+/// Goes on with a get of this seat, `seat`, whose way has ended there, as with a call of any kind.
 #[cold]
 #[inline(never)]
 fn get_on<R: Wait>(
@@ -115,20 +85,21 @@ fn get_on<R: Wait>(
     seat: u8,
     handle: u16,
     key: u64,
-    access: Access,
-    path: &Path,
-    tried: Result<(Task, Sought), Left>,
+    task: &Task,
+    path: &mut Path,
+    reached: Reached,
 ) -> Result<Option<u64>, CallError>
     requires table { actor.old.table_id ≡ words.now.table_id }
     requires sound { IsSound words.now.table_id.words actor.old.me.0 }
     requires stock { IsStock stock.old actor.old.me.0 }
     requires its { actor.old.me.0.actor ≡ seat }
     requires few { actor.old.me.0.actor ≤ actor.old.me.0.sizes.seats }
-    requires running { IsRunning actor.old.me.0 }
-    requires called { IsCalled actor.old.me.0 (Get handle key) access }
-    requires none { actor.old.me.0.opens ≡ None }
+    requires task { IsTask actor.old.me.0 task.now }
+    requires small { task.now.start < 2 ^ 36 }
+    requires calling { IsCalling actor.old.me.0 task.now.call task.now.access }
+    requires asked { task.now.call ≡ Get handle key }
     requires under { (before : View) × IsUnderWay before (Get handle key) None actor.old.me.0 }
-    requires at { IsGotten actor.old.me.0 path.now.items tried }
+    requires at { IsThere actor.old.me.0 path.old.items reached.link (IsAtPlace actor.old.me.0 task.now reached.place) }
     ensures table { actor.new.table_id ≡ actor.old.table_id }
     ensures sound { IsSound words.now.table_id.words actor.new.me.0 }
     ensures stock { IsStock stock.new actor.new.me.0 }
@@ -136,52 +107,10 @@ fn get_on<R: Wait>(
     ensures left { HasLeft actor.old.me.0 actor.new.me.0 }
 {
     seats_are_explained();
-    let call = Call::Get { handle, key };
-    let came = come_from(words, actor, stock, call, access, path, tried);
-    match end_call(rt, words, actor, stock, seat, call, access, came) {
+    match reached_on(rt, words, actor, stock, seat, task, path, reached) {
         Ok(reply) => Ok(value_in(reply)),
         Err(error) => Err(error),
     }
-}
-
-/// The same of one whose way down has come to this at the end of the path.
-#[cold]
-#[inline(never)]
-fn get_looked<R: Wait>(
-    rt: &R,
-    words: &Words,
-    actor: &mut Actor,
-    stock: &mut Stock,
-    seat: u8,
-    handle: u16,
-    key: u64,
-    access: Access,
-    task: &Task,
-    path: &mut Path,
-    looked: Option<Looked>,
-) -> Result<Option<u64>, CallError>
-    requires table { actor.old.table_id ≡ words.now.table_id }
-    requires sound { IsSound words.now.table_id.words actor.old.me.0 }
-    requires stock { IsStock stock.old actor.old.me.0 }
-    requires its { actor.old.me.0.actor ≡ seat }
-    requires few { actor.old.me.0.actor ≤ actor.old.me.0.sizes.seats }
-    requires running { IsRunning actor.old.me.0 }
-    requires called { IsCalled actor.old.me.0 (Get handle key) access }
-    requires none { actor.old.me.0.opens ≡ None }
-    requires under { (before : View) × IsUnderWay before (Get handle key) None actor.old.me.0 }
-    requires task { IsTask actor.old.me.0 task.now }
-    requires small { task.now.start < 2 ^ 36 }
-    requires at { IsLookedAt actor.old.me.0 path.old.items looked }
-    ensures table { actor.new.table_id ≡ actor.old.table_id }
-    ensures sound { IsSound words.now.table_id.words actor.new.me.0 }
-    ensures stock { IsStock stock.new actor.new.me.0 }
-    ensures told { HasGotten actor.old.me.0 (Get handle key) result actor.new.me.0 }
-    ensures left { HasLeft actor.old.me.0 actor.new.me.0 }
-{
-    let tried = try_on_within(u64::MAX, words, actor, stock, task, path, looked);
-    get_on(
-        rt, words, actor, stock, seat, handle, key, access, path, tried,
-    )
 }
 
 /// The same of one that is out of tries.
@@ -202,9 +131,7 @@ fn get_spent<R: Wait>(
     requires stock { IsStock stock.old actor.old.me.0 }
     requires its { actor.old.me.0.actor ≡ seat }
     requires few { actor.old.me.0.actor ≤ actor.old.me.0.sizes.seats }
-    requires running { IsRunning actor.old.me.0 }
-    requires called { IsCalled actor.old.me.0 (Get handle key) access }
-    requires none { actor.old.me.0.opens ≡ None }
+    requires calling { IsCalling actor.old.me.0 (Get handle key) access }
     requires under { (before : View) × IsUnderWay before (Get handle key) None actor.old.me.0 }
     requires may { MayAnswer actor.old.me.0 reply.NoSlots }
     ensures table { actor.new.table_id ≡ actor.old.table_id }
@@ -213,11 +140,61 @@ fn get_spent<R: Wait>(
     ensures told { HasGotten actor.old.me.0 (Get handle key) result actor.new.me.0 }
     ensures left { HasLeft actor.old.me.0 actor.new.me.0 }
 {
-    let path = Path::new();
-    let tried = Err(Left::MayGiveUp);
-    get_on(
-        rt, words, actor, stock, seat, handle, key, access, &path, tried,
-    )
+    seats_are_explained();
+    let call = Call::Get { handle, key };
+    match spent_on(rt, words, actor, stock, seat, call, access) {
+        Ok(reply) => Ok(value_in(reply)),
+        Err(error) => Err(error),
+    }
+}
+
+/// A get of this seat, `seat`, whose way has ended there.
+#[inline(always)]
+fn get_there<R: Wait>(
+    rt: &R,
+    words: &Words,
+    actor: &mut Actor,
+    stock: &mut Stock,
+    seat: u8,
+    handle: u16,
+    key: u64,
+    task: &Task,
+    path: &mut Path,
+    reached: Reached,
+) -> Result<Option<u64>, CallError>
+    requires table { actor.old.table_id ≡ words.now.table_id }
+    requires sound { IsSound words.now.table_id.words actor.old.me.0 }
+    requires stock { IsStock stock.old actor.old.me.0 }
+    requires its { actor.old.me.0.actor ≡ seat }
+    requires few { actor.old.me.0.actor ≤ actor.old.me.0.sizes.seats }
+    requires task { IsLookup actor.old.me.0 task.now }
+    requires small { task.now.start < 2 ^ 36 }
+    requires calling { IsCalling actor.old.me.0 task.now.call task.now.access }
+    requires asked { task.now.call ≡ Get handle key }
+    requires under { (before : View) × IsUnderWay before (Get handle key) None actor.old.me.0 }
+    requires at { IsThere actor.old.me.0 path.old.items reached.link (IsAtPlace actor.old.me.0 task.now reached.place) }
+    ensures table { actor.new.table_id ≡ actor.old.table_id }
+    ensures sound { IsSound words.now.table_id.words actor.new.me.0 }
+    ensures stock { IsStock stock.new actor.new.me.0 }
+    ensures told { HasGotten actor.old.me.0 (Get handle key) result actor.new.me.0 }
+    ensures left { HasLeft actor.old.me.0 actor.new.me.0 }
+{
+    match reached.place {
+        Place::Single { position, slot } => {
+            let path = path.as_slice();
+            let link = reached.link;
+            let value = value_at(words, actor, task, path, link, position, slot);
+            end(words, actor, stock, seat);
+            Ok(value)
+        }
+        Place::Absent => {
+            end(words, actor, stock, seat);
+            Ok(None)
+        }
+        Place::List | Place::Tomb(_) | Place::Renews => get_on(
+            rt, words, actor, stock, seat, handle, key, task, path, reached,
+        ),
+    }
 }
 
 /// A get of this seat, `seat`, which has come to the root of its handle, in this slot.
@@ -230,22 +207,20 @@ fn get_rooted<R: Wait>(
     seat: u8,
     handle: u16,
     key: u64,
-    access: Access,
     task: &Task,
-    slot: u32,
+    root: u32,
 ) -> Result<Option<u64>, CallError>
     requires table { actor.old.table_id ≡ words.now.table_id }
     requires sound { IsSound words.now.table_id.words actor.old.me.0 }
     requires stock { IsStock stock.old actor.old.me.0 }
     requires its { actor.old.me.0.actor ≡ seat }
     requires few { actor.old.me.0.actor ≤ actor.old.me.0.sizes.seats }
-    requires running { IsRunning actor.old.me.0 }
-    requires called { IsCalled actor.old.me.0 (Get handle key) access }
-    requires none { actor.old.me.0.opens ≡ None }
-    requires under { (before : View) × IsUnderWay before (Get handle key) None actor.old.me.0 }
     requires task { IsLookup actor.old.me.0 task.now }
     requires small { task.now.start < 2 ^ 36 }
-    requires at { IsOnPath actor.old.me.0 (slot ∷ []) }
+    requires calling { IsCalling actor.old.me.0 task.now.call task.now.access }
+    requires asked { task.now.call ≡ Get handle key }
+    requires under { (before : View) × IsUnderWay before (Get handle key) None actor.old.me.0 }
+    requires at { IsOnPath actor.old.me.0 (root ∷ []) }
     ensures table { actor.new.table_id ≡ actor.old.table_id }
     ensures sound { IsSound words.now.table_id.words actor.new.me.0 }
     ensures stock { IsStock stock.new actor.new.me.0 }
@@ -253,16 +228,12 @@ fn get_rooted<R: Wait>(
     ensures left { HasLeft actor.old.me.0 actor.new.me.0 }
 {
     let mut path = Path::new();
-    path.push(slot);
-    let looked = look_up_within(u64::MAX, words, actor, task, &mut path);
-    if let Some(come) = looked {
-        if let Looked::Answers(value) = come {
-            end(words, actor, stock, seat);
-            return Ok(value);
-        }
-    }
-    get_looked(
-        rt, words, actor, stock, seat, handle, key, access, task, &mut path, looked,
+    path.push(root);
+    let Some(reached) = go_down_within(u64::MAX, words, actor, task, &mut path) else {
+        return get_spent(rt, words, actor, stock, seat, handle, key, task.access);
+    };
+    get_there(
+        rt, words, actor, stock, seat, handle, key, task, &mut path, reached,
     )
 }
 
@@ -283,8 +254,7 @@ fn get_begun<R: Wait>(
     requires stock { IsStock stock.old actor.old.me.0 }
     requires its { actor.old.me.0.actor ≡ seat }
     requires few { actor.old.me.0.actor ≤ actor.old.me.0.sizes.seats }
-    requires called { IsCalled actor.old.me.0 (Get handle key) access }
-    requires none { actor.old.me.0.opens ≡ None }
+    requires calling { IsCalling actor.old.me.0 (Get handle key) access }
     requires under { (before : View) × IsUnderWay before (Get handle key) None actor.old.me.0 }
     requires at { IsOn actor.old.me.0 new_try }
     ensures table { actor.new.table_id ≡ actor.old.table_id }
@@ -299,18 +269,8 @@ fn get_begun<R: Wait>(
     };
     let call = Call::Get { handle, key };
     let task = Task::new(call, access, stock.sizes().hash, rooted.generation);
-    get_rooted(
-        rt,
-        words,
-        actor,
-        stock,
-        seat,
-        handle,
-        key,
-        access,
-        &task,
-        rooted.slot,
-    )
+    let root = rooted.slot;
+    get_rooted(rt, words, actor, stock, seat, handle, key, &task, root)
 }
 
 /// A get by this seat, `seat`, as long as it takes.

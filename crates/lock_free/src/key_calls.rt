@@ -7,8 +7,8 @@ ghost use Rattle.lock_free.specs.Attempts.{IsKeyed};
 ghost use Rattle.lock_free.specs.KeyReplies.{FitsCall, TellsTruth};
 
 use crate::call_errors::CallError;
-use crate::call_runs::run;
 use crate::get_runs::{run_get, value_in};
+use crate::key_runs::run_call;
 use crate::laws::seats_are_explained;
 use crate::loads::Words;
 use crate::seating::Seat;
@@ -45,7 +45,7 @@ impl Seat {
     {
         seats_are_explained();
         let (actor, stock) = (&mut self.actor, &mut self.stock);
-        run(rt, words, actor, stock, self.number, call)
+        run_call(rt, words, actor, stock, self.number, call)
     }
 
     /// The value of this key, if it has one.

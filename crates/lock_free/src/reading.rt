@@ -96,7 +96,7 @@ fn settle_by(words: &Words, actor: &mut Actor, link: Link, header: Header, licen
 
 /// Decides the main node that is pending in this indirection, once the root is asked.
 #[inline(always)]
-fn settle_in_place(
+pub(crate) fn settle_in_place(
     tries: u64,
     words: &Words,
     actor: &mut Actor,
@@ -199,7 +199,7 @@ fn pass_header(
 
 /// A pass of the READ of the indirection in this slot.
 #[inline(always)]
-pub(crate) fn pass(
+fn pass(
     tries: u64,
     words: &Words,
     actor: &mut Actor,

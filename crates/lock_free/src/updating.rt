@@ -1,7 +1,7 @@
 //! The change of one key, from BUILD to the end of its SWAP.
 
 ghost use Rattle.std.specs.Prelude.{◌≡◌, ◌<◌, IfErr, IfOk};
-ghost use Rattle.lock_free.specs.Attempts.{attempted};
+ghost use Rattle.lock_free.specs.Attempts.{attempted, attempted_by};
 ghost use Rattle.lock_free.specs.Leaving.{IsUpdate, LeavesChange, LeavesSwap};
 ghost use Rattle.lock_free.specs.Loading.{IsSound};
 ghost use Rattle.lock_free.specs.Passing.{IsOnWay};
@@ -14,7 +14,7 @@ use crate::changing::{Edit, build_main};
 use crate::leaving::Swapping;
 use crate::loads::{Actor, Words};
 use crate::makes::class_of;
-use crate::parking::Came;
+use crate::parking::{Came, Parked};
 use crate::reading::{Given, Way};
 use crate::stock::Stock;
 use crate::swapping::{Swapped, swap_made_within};
@@ -23,7 +23,7 @@ use history::Call;
 use machine_model::Site;
 
 /// What a SWAP makes of a try of this call, whose key had this value before, or none.
-pub(crate) fn attempted(swapped: Option<Swapped>, call: Call, former: Option<u64>) -> Attempt
+fn attempted(swapped: Option<Swapped>, call: Call, former: Option<u64>) -> Attempt
     ensures { result ≡ attempted swapped call former }
 {
     match swapped {
@@ -31,6 +31,20 @@ pub(crate) fn attempted(swapped: Option<Swapped>, call: Call, former: Option<u64
         Some(Swapped::Commits(_)) => Attempt::Comes(Came::Answered(changed_reply(call, former))),
         Some(Swapped::Fails) => Attempt::Again,
         Some(Swapped::Misses) => Attempt::Again,
+    }
+}
+
+/// The same of one whose SWAP may be under way.
+pub(crate) fn attempted_by(
+    swapped: Result<Option<Swapped>, Swapping>,
+    call: Call,
+    former: Option<u64>,
+) -> Attempt
+    ensures { result ≡ attempted_by swapped call former }
+{
+    match swapped {
+        Ok(swapped) => attempted(swapped, call, former),
+        Err(left) => Attempt::Comes(Came::Parked(Parked::Changes(left, former))),
     }
 }
 

@@ -1,4 +1,4 @@
-use Rattle.std.proofs.Common.{Ok, Err, None, sym, subst}
+use Rattle.std.proofs.Common.{Ok, Err, None, refl, sym, subst}
 use Rattle.history.specs.declared.calls.Call.TheVariants.{Get}
 use Rattle.lock_free.specs.declared.call_errors.CallError.TheVariants as error
 use Rattle.lock_free.specs.declared.call_runs.Ran.TheVariants as ran
@@ -63,21 +63,20 @@ returns-in-Err-clause-told g c =
     let call = Get c.args.handle c.args.key in
     subst (λ e. WasRefused v call None e x) (sym c.from.ensures) (denied_refused v c.requires.ready call c.in-Err.denial x (c.in-Err.ensures {u = tt}).called)
 
-pub get_begun-requires-clause-called : goal.get_begun-requires-clause-called
-get_begun-requires-clause-called g c =
-    let v = c.args.actor.now.me.0 in
-    let u = c.start_within.new.actor.me.0 in
-    let call = Get c.args.handle c.args.key in
-    let h : HasCalled v call (Ok c.in-Ok-Some.way) u = subst (λ r. CalledOrNot v call (Ok r) u) c.in-Ok-Some.field-0-is (c.in-Ok-Some.ensures {u = tt}).called in
-    begun_called v None c.requires.ready call c.in-Ok-Some.way u h
-
-pub get_begun-requires-clause-none : goal.get_begun-requires-clause-none
-get_begun-requires-clause-none g c =
-    let v = c.args.actor.now.me.0 in
-    let u = c.start_within.new.actor.me.0 in
-    let call = Get c.args.handle c.args.key in
-    let h : HasCalled v call (Ok c.in-Ok-Some.way) u = subst (λ r. CalledOrNot v call (Ok r) u) c.in-Ok-Some.field-0-is (c.in-Ok-Some.ensures {u = tt}).called in
-    opens_begun v None c.requires.ready call c.in-Ok-Some.way u h
+pub get_begun-requires-clause-calling : goal.get_begun-requires-clause-calling
+get_begun-requires-clause-calling g c =
+    let at =
+    begun_try c.args.actor.now.me.0 None c.requires.ready (Get c.args.handle c.args.key) c.in-Ok-Some.way c.start_within.new.actor.me.0
+    (subst (λ r. CalledOrNot c.args.actor.now.me.0 (Get c.args.handle c.args.key) (Ok r) c.start_within.new.actor.me.0) c.in-Ok-Some.field-0-is (c.in-Ok-Some.ensures {u = tt}).called)
+    tt in
+    record {
+      running = (at.0, at.1);
+      called = begun_called c.args.actor.now.me.0 None c.requires.ready (Get c.args.handle c.args.key) c.in-Ok-Some.way c.start_within.new.actor.me.0
+          (subst (λ r. CalledOrNot c.args.actor.now.me.0 (Get c.args.handle c.args.key) (Ok r) c.start_within.new.actor.me.0) c.in-Ok-Some.field-0-is (c.in-Ok-Some.ensures {u = tt}).called);
+      keyed = refl;
+      none = opens_begun c.args.actor.now.me.0 None c.requires.ready (Get c.args.handle c.args.key) c.in-Ok-Some.way c.start_within.new.actor.me.0
+          (subst (λ r. CalledOrNot c.args.actor.now.me.0 (Get c.args.handle c.args.key) (Ok r) c.start_within.new.actor.me.0) c.in-Ok-Some.field-0-is (c.in-Ok-Some.ensures {u = tt}).called);
+    }
 
 pub get_begun-requires-clause-under : goal.get_begun-requires-clause-under
 get_begun-requires-clause-under g c =

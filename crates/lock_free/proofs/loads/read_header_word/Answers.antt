@@ -1,5 +1,5 @@
 use Rattle.std.proofs.Common.{◌*◌, Contains, refl, sym, subst}
-use Rattle.lock_free.specs.Loading.{IsSound, HasReadHeader}
+use Rattle.lock_free.specs.Loading.{IsSound}
 use Rattle.lock_free.proofs.Asked.{mains_of, main_stands}
 use Rattle.lock_free.proofs.Definition.{IsReading}
 use Rattle.lock_free.proofs.Looking.{one_named, went, header_read}
