@@ -26,7 +26,7 @@ use Rattle.proof_claims.specs.Beneath.machine_model.specs.States.{State, operati
 use Rattle.proof_claims.specs.Beneath.machine_model.proofs.Fates.{place_of_actor}
 use Rattle.proof_claims.specs.Beneath.machine_model.proofs.Found.{found_elsewhere, found_within}
 use Rattle.proof_claims.specs.Beneath.proof_fresh.proofs.Publishing.{publishing}
-use Rattle.proof_claims.specs.Beneath.proof_garbage.specs.Live.{at_hand}
+use Rattle.proof_claims.specs.Beneath.proof_garbage.specs.Live.{IsLive, at_hand}
 use Rattle.proof_claims.specs.Beneath.proof_garbage.proofs.Claims.{none_in}
 use Rattle.proof_claims.specs.Beneath.proof_garbage.proofs.GivenUp.{SameElsewhere, dead_where_missed, dead_with_nothing}
 use Rattle.proof_claims.specs.Held.{Change, Held, held_after, is_owned}
@@ -114,19 +114,25 @@ module _ (limits : Bounds) (ok : AreBounds limits) (xs : List Step) (h : Each li
         others = others;
       }
 
-      -- it gives up what it made, where it has nothing at hand then
-      pub gives : done.heap ≡ state.heap → done.roots ≡ state.roots → done.limits ≡ state.limits → change_by state held operation action ≡ given_up operation.private →
-          at_hand state (operation_after state operation) ≡ [] → Kept
-      gives heap roots bounds is nothing =
-          changed (given_up operation.private) is
-          (gives_up limits xs ok s o after m is_after h actor operation runs (inl refl) (ap (λ (x : State). x.heap) after_is ∙ heap) (ap (λ (x : State). x.roots) after_is ∙ roots)
-          (change_is (given_up operation.private) is) (λ x c live. dead_with_nothing limits xs ok actor operation runs after (elsewhere heap roots bounds)
-          (λ p e r d. none_in r (subst (λ rs. Contains rs r) (hand_now p e) d)) x c live))
+      -- what it made is dead then, where it has nothing at hand
+      pub dead_so : done.heap ≡ state.heap → done.roots ≡ state.roots → done.limits ≡ state.limits → at_hand state (operation_after state operation) ≡ [] → (x : Ref) →
+          Contains operation.private x → IsLive after x → ⊥
+      dead_so heap roots bounds nothing x c live =
+          dead_with_nothing limits xs ok actor operation runs after (elsewhere heap roots bounds)
+          (λ p e r d. none_in r (subst (λ rs. Contains rs r) (hand_now p e) d)) x c live
         where
           hand_now : (p : Operation) → operation_of after actor ≡ Some p → at_hand after p ≡ []
           hand_now p e =
               ap (at_hand after) (same_Some p (operation_after state operation) (sym e ∙ own_now))
               ∙ ap (λ (l : Bounds). at_hand (record state { limits = l }) (operation_after state operation)) (ap (λ (x : State). x.limits) after_is ∙ bounds) ∙ nothing
+
+      -- so it gives that up
+      pub gives : done.heap ≡ state.heap → done.roots ≡ state.roots → done.limits ≡ state.limits → change_by state held operation action ≡ given_up operation.private →
+          at_hand state (operation_after state operation) ≡ [] → Kept
+      gives heap roots bounds is nothing =
+          changed (given_up operation.private) is
+          (gives_up limits xs ok s o after m is_after h actor operation runs (inl refl) (ap (λ (x : State). x.heap) after_is ∙ heap) (ap (λ (x : State). x.roots) after_is ∙ roots)
+          (change_is (given_up operation.private) is) (dead_so heap roots bounds nothing))
 
   -- ---- a prev word is read
 
@@ -149,6 +155,16 @@ module _ (limits : Bounds) (ok : AreBounds limits) (xs : List Step) (h : Each li
 
   -- ---- a fresh node is swapped in
 
+  missed_heap : (i a f : Ref) (acts : action_of state operation ≡ act.Publish i a f) → (main_at state.heap i == a) ≡ false → (done (act.Publish i a f) acts).heap ≡ state.heap
+  missed_heap i a f acts e = ap (λ b. if_changed b (with_prev (with_main state.heap i f) f (prev.Pending a)) state.heap) e
+
+  -- where another one stands there what it made is dead then
+  pub missed_dead : (i a f : Ref) → action_of state operation ≡ act.Publish i a f → (main_at state.heap i == a) ≡ false → (x : Ref) → Contains operation.private x → IsLive after x → ⊥
+  missed_dead i a f acts e x c live =
+      let (why, on) = publishing state operation i a f acts in
+      dead_where_missed limits xs ok actor operation runs i a f why on after (elsewhere (act.Publish i a f) acts refl (missed_heap i a f acts e) refl refl)
+      (own_now (act.Publish i a f) acts refl) e x c live
+
   pub publishes_by : (i a f : Ref) → action_of state operation ≡ act.Publish i a f → (b : Bool) → (main_at state.heap i == a) ≡ b → Kept
   publishes_by i a f acts true e =
       let (why, on) = publishing state operation i a f acts in
@@ -156,14 +172,10 @@ module _ (limits : Bounds) (ok : AreBounds limits) (xs : List Step) (h : Each li
       (swaps_in limits xs ok s o after m h actor operation runs refl (ap (λ (x : State). x.roots) (after_is (act.Publish i a f) acts)) why i a f on (eqb-true (main_at state.heap i) a e)
       (ap (λ (x : State). x.heap) (after_is (act.Publish i a f) acts) ∙ ap (λ b. if_changed b (with_prev (with_main state.heap i f) f (prev.Pending a)) state.heap) e))
   publishes_by i a f acts false e =
-      let (why, on) = publishing state operation i a f acts in
-      let heap : (done (act.Publish i a f) acts).heap ≡ state.heap = ap (λ b. if_changed b (with_prev (with_main state.heap i f) f (prev.Pending a)) state.heap) e in
       changed (act.Publish i a f) acts (given_up operation.private) (ap (λ b. publishes b operation.private i f) e)
-      (gives_up limits xs ok s o after m is_after h actor operation runs (inl refl) (ap (λ (x : State). x.heap) (after_is (act.Publish i a f) acts) ∙ heap)
+      (gives_up limits xs ok s o after m is_after h actor operation runs (inl refl) (ap (λ (x : State). x.heap) (after_is (act.Publish i a f) acts) ∙ missed_heap i a f acts e)
       (ap (λ (x : State). x.roots) (after_is (act.Publish i a f) acts))
-      (change_is (act.Publish i a f) acts (given_up operation.private) (ap (λ b. publishes b operation.private i f) e))
-      (λ x c live. dead_where_missed limits xs ok actor operation runs i a f why on after (elsewhere (act.Publish i a f) acts refl heap refl refl)
-      (own_now (act.Publish i a f) acts refl) e x c live))
+      (change_is (act.Publish i a f) acts (given_up operation.private) (ap (λ b. publishes b operation.private i f) e)) (missed_dead i a f acts e))
 
   -- ---- a main node is put back
 

@@ -53,7 +53,7 @@ module _ (limits : Bounds) (ok : AreBounds limits) where
   branch = ref_to 1 0
 
   -- the two claims
-  first_is : (P : Holder → Ref → Type 0) → P (OfHandle 0) root → P (OfNode root) branch → (by : Holder) (on : Ref) → Has first_held by on → P by on
+  pub first_is : (P : Holder → Ref → Type 0) → P (OfHandle 0) root → P (OfNode root) branch → (by : Holder) (on : Ref) → Has first_held by on → P by on
   first_is P a b by on c = elim (in_cons (record { by = OfHandle 0; on = root }) (record { by = OfNode root; on = branch } ∷ []) (record { by = by; on = on }) c) [
     | inl same ↦ subst (λ (z : Claim). P z.by z.on) same a
     | inr rest ↦ elim (in_cons (record { by = OfNode root; on = branch }) [] (record { by = by; on = on }) rest) [
@@ -78,7 +78,7 @@ module _ (limits : Bounds) (ok : AreBounds limits) where
   unfolding first_state
   none_runs k operation e = none_found limits.actors k operation e
 
-  root_stands : root_at (first_state limits) 0 ≡ Some (record { access = Writable; word = Plain root })
+  pub root_stands : root_at (first_state limits) 0 ≡ Some (record { access = Writable; word = Plain root })
   unfolding first_state
   root_stands = refl
 

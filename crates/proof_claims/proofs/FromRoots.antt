@@ -81,7 +81,7 @@ module _ (limits : Bounds) (steps : List Step) (ok : AreBounds limits) where
       subst (λ o. Contains (refs_of_slot o) r) (sym (standing_parts state.heap q slot e).0)
       (Contains-append_right (refs_of_node slot.node) (refs_of_prev slot.prev) r (subst (λ v. Contains (refs_of_prev v) r) (prev_standing state.heap q slot e) c))
 
-  node_claims : (q : Ref) → IsInUse state.heap q → AllHold (IsInUse state.heap) state.heap (node_wants (node_at state.heap q))
+  pub node_claims : (q : Ref) → IsInUse state.heap q → AllHold (IsInUse state.heap) state.heap (node_wants (node_at state.heap q))
   node_claims q (slot, e) =
       subst (λ n. AllHold (IsInUse state.heap) state.heap (node_wants n)) (sym (node_standing state.heap q slot e))
       (first_hold (IsInUse state.heap) state.heap (node_wants slot.node) (prev_wants slot.prev) (safe.nodes q slot e).0)
@@ -147,7 +147,7 @@ module _ (limits : Bounds) (steps : List Step) (ok : AreBounds limits) where
   single_is_no_main (Listed singles) e m = true≢false (sym e)
 
   -- a main node stands in an indirection
-  named_by_link : (n : Node) (q : Ref) → AllHold (IsInUse state.heap) state.heap (node_wants n) → Contains (refs_of_node n) q → meets AMain (node_at state.heap q) ≡ true →
+  pub named_by_link : (n : Node) (q : Ref) → AllHold (IsInUse state.heap) state.heap (node_wants n) → Contains (refs_of_node n) q → meets AMain (node_at state.heap q) ≡ true →
       (is_indirection n ≡ true) × (main_of n ≡ q)
   named_by_link (Indirection generation main) q h c is = (refl, one_in (λ x. main ≡ x) main refl q c)
   named_by_link (Branch bitmap entries) q h (k, within, at_k) is =

@@ -75,7 +75,7 @@ ended_none operation true x q e = none-some q e
 ended_none operation false x q e = none-some q e
 
 -- a second root is a snapshot's
-second_opens : (call : Call) (second : Option Ref) (q : Ref) → second_fits call second ≡ true → second ≡ Some q → opens_handle call ≡ true
+pub second_opens : (call : Call) (second : Option Ref) (q : Ref) → second_fits call second ≡ true → second ≡ Some q → opens_handle call ≡ true
 second_opens (Snapshot h) second q fits e = refl
 second_opens call None q fits e = absurd (none-some q e)
 second_opens call (Some t) q fits e = grind arith

@@ -1,5 +1,6 @@
 -- What to cite from above: `balance` (Balance) of what any change takes and gives; `each_held` and `followed_held` (Outcomes) that each reference is held in its place, and what roots lead to;
--- `keeping` (Keeping) what of copies' roots handles hold; `garbage` (Unheld); `dropped_unlinked` (Unlinked) and `owned_is_own` (Ownership).
+-- `keeping` (Keeping) what of copies' roots handles hold; `garbage` (Unheld); `dropped_unlinked` (Unlinked) and `owned_is_own` (Ownership); `claim_places` (ClaimPlaces) what claims of nodes are on;
+-- `holds_nothing` (HoldsNothing) and `unclaimed` (Unclaimed) of what was let go of.
 pub mod Balance
 pub mod FromRoots
 pub mod Along
@@ -72,6 +73,20 @@ pub mod NamesHeld
 pub mod SwapOn
 pub mod LetGo
 pub mod HeldOnce
+pub mod GivesDead
+pub mod HeldSince
+pub mod LeftMains
+pub mod LetGoThen
+pub mod HoldsNothing
+pub mod LinksOpened
+pub mod OnceSo
+pub mod RootsInCourse
+pub mod ClaimPlaces
+pub mod OnPrivates
+pub mod OnRoots
+pub mod UnclaimedSince
+pub mod EndedLinks
+pub mod Unclaimed
 pub mod LiveLinks
 pub mod ReplacedBy
 pub mod WhoLetsGo

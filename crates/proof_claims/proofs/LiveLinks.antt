@@ -35,7 +35,7 @@ use Rattle.proof_claims.proofs.Owning.{CameOwn, came_later, came_own}
 use Rattle.proof_claims.proofs.Ownership.{own_by}
 
 -- what nobody follows any more nobody follows later, as long as it is in use
-nobody_later : (limits : Bounds) → AreBounds limits → (before : List Step) (r : Ref) → IsInUse (run limits before).heap r → (IsFollowedByAny (run limits before) r → ⊥) → (since : List Step) →
+pub nobody_later : (limits : Bounds) → AreBounds limits → (before : List Step) (r : Ref) → IsInUse (run limits before).heap r → (IsFollowedByAny (run limits before) r → ⊥) → (since : List Step) →
     IsInUse (run limits (before ++ since)).heap r → IsFollowedByAny (run limits (before ++ since)) r → ⊥
 nobody_later limits ok before r used nobody since =
     by_last (λ since. IsInUse (run limits (before ++ since)).heap r → IsFollowedByAny (run limits (before ++ since)) r → ⊥)

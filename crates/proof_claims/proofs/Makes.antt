@@ -1,11 +1,12 @@
 -- An operation is to make a node: it makes it, or gives up what it made where no slot is free.
-use Rattle.std.proofs.Common.{◌≡◌, ℕ, true, List, [], ◌∷◌, ◌++◌, Option, Some, None, Ok, refl, sym, ap, subst, ◌∙◌}
+use Rattle.std.proofs.Common.{◌≡◌, ℕ, true, List, [], ◌∷◌, ◌++◌, Contains, Option, Some, None, Ok, refl, sym, ap, subst, ◌∙◌}
 use Rattle.proof_claims.specs.Beneath.ctrie_base.specs.declared.kinds.Kind.TheVariants as kind
 use Rattle.proof_claims.specs.Beneath.slot_arena.specs.declared.nodes.Node.{Node}
 use Rattle.proof_claims.specs.Beneath.slot_arena.specs.declared.nodes.Node.TheVariants.{Indirection}
 use Rattle.proof_claims.specs.Beneath.slot_arena.specs.declared.nodes.Prev.TheVariants as prev
 use Rattle.proof_claims.specs.Beneath.slot_arena.specs.declared.refs.Ref.{Ref}
 use Rattle.proof_claims.specs.Beneath.slot_arena.specs.Heaps.{main_at, main_of, next_ref, node_at, prev_at, refs_of_node, taken}
+use Rattle.proof_claims.specs.Beneath.machine_model.specs.declared.actions.Action.{Action}
 use Rattle.proof_claims.specs.Beneath.machine_model.specs.declared.actions.Action.TheVariants as act
 use Rattle.proof_claims.specs.Beneath.machine_model.specs.declared.lines.Line.TheVariants as line
 use Rattle.proof_claims.specs.Beneath.machine_model.specs.declared.operations.Operation.{Operation}
@@ -21,7 +22,7 @@ use Rattle.proof_claims.specs.Beneath.machine_model.specs.Moves.{Moves}
 use Rattle.proof_claims.specs.Beneath.machine_model.specs.Operations.{action_of, kind_of}
 use Rattle.proof_claims.specs.Beneath.machine_model.specs.States.{State, operation_of}
 use Rattle.proof_claims.specs.Beneath.machine_model.proofs.Grown.{node_standing}
-use Rattle.proof_claims.specs.Beneath.proof_garbage.specs.Live.{at_hand}
+use Rattle.proof_claims.specs.Beneath.proof_garbage.specs.Live.{IsLive, at_hand}
 use Rattle.proof_claims.specs.Beneath.proof_memory.specs.Laws.{IsInUse}
 use Rattle.proof_claims.specs.Beneath.proof_memory.specs.Wants.{is_indirection}
 use Rattle.proof_claims.specs.Beneath.proof_memory.proofs.Heap.Under.{fresh_slot, none_taken, taken_all}
@@ -31,8 +32,9 @@ use Rattle.proof_claims.specs.Changes.{goal_of, makes}
 use Rattle.proof_claims.specs.Claims.{held_of}
 use Rattle.proof_claims.specs.Clauses.{EachIsHeld}
 use Rattle.proof_claims.specs.Dropped.{WasDropped}
-use Rattle.proof_claims.proofs.Acts.{changed, gives}
+use Rattle.proof_claims.proofs.Acts.{changed, dead_so, gives}
 use Rattle.proof_claims.proofs.Acts as acting
+use Rattle.proof_claims.proofs.ChangeKinds.{MakesNode, a_node, a_root}
 use Rattle.proof_claims.proofs.FromRoots.{main_in_use}
 use Rattle.proof_claims.proofs.Goals.{goal_in_use}
 use Rattle.proof_claims.proofs.Making.{makes_held}
@@ -67,6 +69,24 @@ module _ (limits : Bounds) (ok : AreBounds limits) (xs : List Step) (h : Each li
       let (answer, ends) = ends_now state operation none operation.line is in
       ap (λ l. at_hand state (record (operation_after state operation) { line = l })) ends
       ∙ ap (λ ps. at_hand state (record (operation_after state operation) { line = line.End answer; private = ps })) emptied
+
+  nothing_by : (action : Action) → action_of state operation ≡ action → next_ref state.heap ≡ None → is_making action ≡ true → private_after state operation.private action ≡ [] →
+      at_hand state (operation_after state operation) ≡ []
+  nothing_by action acts none makes_it emptied = nothing none (ap is_making acts ∙ makes_it) (ap (private_after state operation.private) acts ∙ emptied)
+
+  -- the state with what a root that is made takes
+  abbrev root_then : (main : Ref) → Option Ref → State
+  root_then main n = new_root_taken (acting.put limits ok xs h actor operation runs o m is_after) main n
+
+  -- so what it made is dead then
+  pub no_slot_dead : (node : Node) (action : Action) → action_of state operation ≡ action → MakesNode state node action → next_ref state.heap ≡ None → (x : Ref) → Contains operation.private x →
+      IsLive after x → ⊥
+  no_slot_dead node action acts a_node drawn =
+      dead_so limits ok xs h actor operation runs o m is_after (act.Make node) acts refl (none_taken state.heap node drawn) refl refl
+      (nothing_by (act.Make node) acts drawn refl (ap (with_made operation.private) drawn))
+  no_slot_dead node action acts (a_root main is) drawn =
+      dead_so limits ok xs h actor operation runs o m is_after (act.MakeRoot main) acts (ap (λ n. (root_then main n).actors) drawn) (ap (λ n. (root_then main n).heap) drawn)
+      (ap (λ n. (root_then main n).roots) drawn) (ap (λ n. (root_then main n).limits) drawn) (nothing_by (act.MakeRoot main) acts drawn refl (ap (with_made operation.private) drawn))
 
   -- ---- the goal's main node
 
@@ -108,8 +128,7 @@ module _ (limits : Bounds) (ok : AreBounds limits) (xs : List Step) (h : Each li
       (ap (λ (a : State). a.roots) (acting.after_is limits ok xs h actor operation runs o m is_after (act.Make node) acts)))
   makes_by node acts None drawn =
       gives limits ok xs h actor operation runs o m is_after (act.Make node) acts refl (none_taken state.heap node drawn) refl refl
-      (ap (makes state held operation (refs_of_node node)) drawn)
-      (nothing drawn (ap is_making acts) (ap (private_after state operation.private) acts ∙ ap (with_made operation.private) drawn))
+      (ap (makes state held operation (refs_of_node node)) drawn) (nothing_by (act.Make node) acts drawn refl (ap (with_made operation.private) drawn))
 
   pub makes_root_by : (main : Ref) → action_of state operation ≡ act.MakeRoot main → (x : Option Ref) → next_ref state.heap ≡ x → Kept
   makes_root_by main acts (Some x) drawn =
@@ -119,10 +138,6 @@ module _ (limits : Bounds) (ok : AreBounds limits) (xs : List Step) (h : Each li
       (ap (λ (a : State). a.heap) is ∙ ap (λ n. (new_root_taken (acting.put limits ok xs h actor operation runs o m is_after) main n).heap) drawn)
       (ap (λ (a : State). a.roots) is ∙ ap (λ n. (new_root_taken (acting.put limits ok xs h actor operation runs o m is_after) main n).roots) drawn))
   makes_root_by main acts None drawn =
-      gives limits ok xs h actor operation runs o m is_after (act.MakeRoot main) acts
-      (ap (λ n. (new_root_taken (acting.put limits ok xs h actor operation runs o m is_after) main n).actors) drawn)
-      (ap (λ n. (new_root_taken (acting.put limits ok xs h actor operation runs o m is_after) main n).heap) drawn)
-      (ap (λ n. (new_root_taken (acting.put limits ok xs h actor operation runs o m is_after) main n).roots) drawn)
-      (ap (λ n. (new_root_taken (acting.put limits ok xs h actor operation runs o m is_after) main n).limits) drawn)
-      (ap (makes state held operation (main ∷ [])) drawn)
-      (nothing drawn (ap is_making acts) (ap (private_after state operation.private) acts ∙ ap (with_made operation.private) drawn))
+      gives limits ok xs h actor operation runs o m is_after (act.MakeRoot main) acts (ap (λ n. (root_then main n).actors) drawn) (ap (λ n. (root_then main n).heap) drawn)
+      (ap (λ n. (root_then main n).roots) drawn) (ap (λ n. (root_then main n).limits) drawn) (ap (makes state held operation (main ∷ [])) drawn)
+      (nothing_by (act.MakeRoot main) acts drawn refl (ap (with_made operation.private) drawn))

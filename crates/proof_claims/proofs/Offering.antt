@@ -20,12 +20,12 @@ use Rattle.proof_claims.specs.Beneath.machine_model.specs.Moves.{Moves}
 use Rattle.proof_claims.specs.Beneath.machine_model.specs.Operations.{action_of, line_after}
 use Rattle.proof_claims.specs.Beneath.machine_model.specs.States.{State, operation_of, with_word, word_at}
 use Rattle.proof_claims.specs.Beneath.machine_model.specs.Swapping.{is_plain, stands_in}
-use Rattle.proof_claims.specs.Beneath.proof_garbage.specs.Live.{at_hand}
+use Rattle.proof_claims.specs.Beneath.proof_garbage.specs.Live.{IsLive, at_hand}
 use Rattle.proof_claims.specs.Beneath.proof_generations.proofs.Offers.Standing.{offer_line}
 use Rattle.proof_claims.specs.Held.{Change, Held, OfHandle, OfNode, held_after}
 use Rattle.proof_claims.specs.Changes.{no_change, offers, second_claims}
 use Rattle.proof_claims.specs.Claims.{Has, held_of}
-use Rattle.proof_claims.proofs.Acts.{changed, gives}
+use Rattle.proof_claims.proofs.Acts.{changed, dead_so, gives}
 use Rattle.proof_claims.proofs.Acts as acting
 use Rattle.proof_claims.proofs.Along.{comes, stays}
 use Rattle.proof_claims.proofs.Frame.{same_has}
@@ -100,6 +100,14 @@ module _ (limits : Bounds) (ok : AreBounds limits) (xs : List Step) (h : Each li
         comes change held (OfHandle opens) second
         (second_added offer.opens offer.second opens second (ap (λ (d : Descriptor). d.opens) (sym same) ∙ is_opens) (ap (λ (d : Descriptor). d.second) (sym same) ∙ is_second))
 
+    nothing : is_plain (word_at state at) offer.root ≡ false → at_hand state (operation_after state operation) ≡ []
+    nothing e =
+        ap (λ l. at_hand state (record (operation_after state operation) { line = l })) next_line
+        ∙ ap (λ rs. at_hand state (record (operation_after state operation) { line = new_try; private = rs })) (ap (private_after state operation.private) acts)
+      where
+        next_line : line_after state operation operation.line ≡ new_try
+        next_line = ap (line_after state operation) (offer_line state operation operation.line offer acts) ∙ ap (after_offer offer) e
+
     by_word : (b : Bool) → is_plain (word_at state at) offer.root ≡ b → Kept
     by_word true e =
         changed limits ok xs h actor operation runs o m is_after (act.Offer offer) acts change (ap (λ b. offers b operation.private at offer) e)
@@ -109,12 +117,14 @@ module _ (limits : Bounds) (ok : AreBounds limits) (xs : List Step) (h : Each li
     by_word false e =
         gives limits ok xs h actor operation runs o m is_after (act.Offer offer) acts (ap (λ b. (if_changed b (with_word put at (Offer offer)) put).actors) e)
         (ap (λ b. (if_changed b (with_word put at (Offer offer)) put).heap) e) (ap (λ b. (if_changed b (with_word put at (Offer offer)) put).roots) e)
-        (ap (λ b. (if_changed b (with_word put at (Offer offer)) put).limits) e) (ap (λ b. offers b operation.private at offer) e)
-        (ap (λ l. at_hand state (record (operation_after state operation) { line = l })) next_line
-        ∙ ap (λ rs. at_hand state (record (operation_after state operation) { line = new_try; private = rs })) (ap (private_after state operation.private) acts))
-      where
-        next_line : line_after state operation operation.line ≡ new_try
-        next_line = ap (line_after state operation) (offer_line state operation operation.line offer acts) ∙ ap (after_offer offer) e
+        (ap (λ b. (if_changed b (with_word put at (Offer offer)) put).limits) e) (ap (λ b. offers b operation.private at offer) e) (nothing e)
+
+    -- where another root stands there what it made is dead then
+    pub unoffered_dead : is_plain (word_at state at) offer.root ≡ false → (x : Ref) → Contains operation.private x → IsLive (settled state (gone state actor operation)) x → ⊥
+    unoffered_dead e =
+        dead_so limits ok xs h actor operation runs o m is_after (act.Offer offer) acts (ap (λ b. (if_changed b (with_word put at (Offer offer)) put).actors) e)
+        (ap (λ b. (if_changed b (with_word put at (Offer offer)) put).heap) e) (ap (λ b. (if_changed b (with_word put at (Offer offer)) put).roots) e)
+        (ap (λ b. (if_changed b (with_word put at (Offer offer)) put).limits) e) (nothing e)
 
     pub offers_kept : Kept
     offers_kept = by_word (is_plain (word_at state at) offer.root) refl

@@ -41,7 +41,7 @@ use Rattle.proof_claims.specs.Beneath.proof_memory.proofs.Safety.Base.{handle_gi
 use Rattle.proof_claims.specs.Beneath.proof_memory.proofs.Safety.States.{stands_in_use}
 use Rattle.proof_claims.specs.Beneath.proof_generations.proofs.Offers.Standing.{own_numbers}
 use Rattle.proof_claims.specs.Beneath.proof_generations.proofs.Roots.OfLists.{has_handles_along}
-use Rattle.proof_claims.specs.Beneath.proof_garbage.specs.Live.{at_hand}
+use Rattle.proof_claims.specs.Beneath.proof_garbage.specs.Live.{IsLive, at_hand}
 use Rattle.proof_claims.specs.Beneath.proof_garbage.proofs.Claims.{none_in}
 use Rattle.proof_claims.specs.Beneath.proof_garbage.proofs.GivenUp.{SameElsewhere, dead_with_nothing}
 use Rattle.proof_claims.specs.Held.{Held, held_after}
@@ -182,8 +182,11 @@ module _ (limits : Bounds) (ok : AreBounds limits) (xs : List Step) (h : Each li
     nothing_left : (p : Operation) → operation_of then actor ≡ Some p → (r : Ref) → Contains (at_hand then p) r → ⊥
     nothing_left p e r c = none_in r (subst (λ x. Contains (at_hand then x) r) (same_Some p (gave_up operation answer) (sym e ∙ own_then)) c)
 
+    -- what it made is dead then
+    pub told_dead : (x : Ref) → Contains operation.private x → IsLive then x → ⊥
+    told_dead x c live = dead_with_nothing limits xs ok actor operation runs then elsewhere nothing_left x c live
+
     pub give_up_keeps : Moves state (step.GiveUp actor) o then → run limits (xs ++ step.GiveUp actor ∷ []) ≡ then → EachAfter limits xs (step.GiveUp actor) then
     give_up_keeps m is =
         subst (λ c. EachIsHeld then (held_after c held) (Lost (step.GiveUp actor))) (sym (ap change_giving_up runs))
-        (gives_up limits xs ok (step.GiveUp actor) o then m is h actor operation runs (inr refl) refl refl (ap change_giving_up runs)
-        (λ x c live. dead_with_nothing limits xs ok actor operation runs then elsewhere nothing_left x c live))
+        (gives_up limits xs ok (step.GiveUp actor) o then m is h actor operation runs (inr refl) refl refl (ap change_giving_up runs) told_dead)

@@ -103,6 +103,21 @@ privates_apart limits ok xs a b x y runs_a runs_b apart r mine theirs =
     private_known limits xs ok a x runs_a r mine
     (from_operation b y r runs_b (other_id limits xs ok a x runs_a b y apart runs_b) (Contains-append_right (refs_of_claims (line_claims (run limits xs) y)) y.private r theirs))
 
+-- a node that another one stands over isn't private
+module _ (limits : Bounds) (ok : AreBounds limits) (xs : List Step) (s : Step) (o : Outcome) (m : Moves (run limits xs) s o (run limits (xs ++ s ∷ []))) (k : ℕ) (was : Operation)
+    (runs : operation_of (run limits xs) (suc k) ≡ Some was) (x : Ref) (mine : Contains was.private x) where
+  pub over_not_private : (i f p : Ref) (told : Option ℕ) → Acting (run limits xs) s (act.Decide i f p told) → prev_at (run limits xs).heap f ≡ prev.Pending p → p ≡ x → ⊥
+  over_not_private i f p seen a pends same =
+      let claims = acted.wants limits ok xs s o _ m refl (act.Decide i f p seen) a in
+      let owner = pending_owner limits ok xs a.actor a.operation i f p seen a.runs a.acts (safe_of claims.1.0) pends in
+      elim (cases_eq (suc owner.k) (suc k)) [
+        | inl here ↦
+            let one : owner.operation ≡ was = same_Some owner.operation was (sym owner.runs ∙ ap (operation_of (run limits xs)) here ∙ runs) in
+            none_in x (subst (λ ps. Contains ps x)
+            (ap (λ (q : Operation). q.private) (sym one) ∙ none_past limits ok xs (suc owner.k) owner.operation owner.runs owner.why _ owner.swaps (λ e. let bad : ⊥ = cc e in bad)) mine)
+        | inr apart ↦ not_theirs limits ok xs owner.k owner.operation owner.runs owner.why _ owner.swaps (suc k) was runs apart x (the_replaced same) mine
+      ]
+
 -- ---- a node that stays private over a step
 
 -- another one takes the step, or its operation, which has it private still
@@ -152,18 +167,8 @@ module _ (limits : Bounds) (ok : AreBounds limits) (xs : List Step) (s : Step) (
   own_line action a here none =
       none_in x (subst (λ ps. Contains ps x) (ap (λ (q : Operation). q.private) (same_Some was a.operation (sym runs ∙ ap (operation_of state) here ∙ a.runs)) ∙ none) mine)
 
-  -- a node that another one stands over isn't private
   over_not : (i f p : Ref) (told : Option ℕ) → Acting state s (act.Decide i f p told) → prev_at state.heap f ≡ prev.Pending p → p ≡ x → ⊥
-  over_not i f p seen a pends same =
-      let claims = acted.wants limits ok xs s o after m refl (act.Decide i f p seen) a in
-      let owner = pending_owner limits ok xs a.actor a.operation i f p seen a.runs a.acts (safe_of claims.1.0) pends in
-      elim (cases_eq (suc owner.k) (suc k)) [
-        | inl here ↦
-            let one : owner.operation ≡ was = same_Some owner.operation was (sym owner.runs ∙ ap (operation_of state) here ∙ runs) in
-            none_in x (subst (λ ps. Contains ps x)
-            (ap (λ (q : Operation). q.private) (sym one) ∙ none_past limits ok xs (suc owner.k) owner.operation owner.runs owner.why _ owner.swaps (λ e. let bad : ⊥ = cc e in bad)) mine)
-        | inr apart ↦ not_theirs limits ok xs owner.k owner.operation owner.runs owner.why _ owner.swaps (suc k) was runs apart x (the_replaced same) mine
-      ]
+  over_not = over_not_private limits ok xs s o m k was runs x mine
 
   -- nor one of the three of who looks
   looks_not : (because : Purpose) (v : Swap) (main : Ref) → (a : Acting state s (act.ReadPrev main)) → a.operation.line ≡ line.Swap because v → v.line ≡ swap.Check → (r : Ref) →

@@ -63,7 +63,7 @@ given_not n r q h same e =
     let wrong : Given ≡ Stays h = ap (λ b. fate_let_go b (record { by = OfHandle n; on = r })) (sym tests) ∙ e in
     let bad : ⊥ = cc wrong in bad
 
-ends_not : (roots : List Ref) (n : ℕ) (r : Ref) (h : Holder) → Contains roots r → fate_taken_back roots (record { by = OfHandle n; on = r }) ≡ Stays h → ⊥
+pub ends_not : (roots : List Ref) (n : ℕ) (r : Ref) (h : Holder) → Contains roots r → fate_taken_back roots (record { by = OfHandle n; on = r }) ≡ Stays h → ⊥
 ends_not roots n r h c e =
     let wrong : Ends ≡ Stays h = ap (λ b. cond b Ends (Stays (OfHandle n))) (sym (found_in roots r c)) ∙ e in
     let bad : ⊥ = cc wrong in bad
@@ -324,7 +324,7 @@ module _ (limits : Bounds) (ok : AreBounds limits) (xs : List Step) (s : Step) (
       pub unmarked : found.is_marked ≡ false
       pub handle : handle_of found.call ≡ handle_of a.operation.call
 
-    offered : Offered
+    pub offered : Offered
     offered =
         let (k, place, at_k) = place_of_actor state a.actor a.operation a.runs in
         by k place (follows state s o after m k a.operation at_k)

@@ -270,7 +270,7 @@ module _ (limits : Bounds) (ok : AreBounds limits) (xs : List Step) (h : EachHer
   any_others (from_operation a found r e every c) = let (j, is, at_j) = place_of_actor after a found e in hand_by r j found (comes state s o after m j found at_j) c
   any_others (from_slot q r k d) = from_slot q r (any_others k) (subst (λ x. Contains (refs_of_slot (stored x q)) r) heap d)
 
-  by_nobody : (r : Ref) → Contains made r → IsFollowedByAny after r → ⊥
+  pub by_nobody : (r : Ref) → Contains made r → IsFollowedByAny after r → ⊥
   by_nobody r d followed = unknown r d (any_others followed)
 
   -- ---- so it is garbage, and dropped

@@ -15,6 +15,7 @@ use Rattle.proof_claims.specs.Beneath.machine_model.specs.declared.roots.Complet
 use Rattle.proof_claims.specs.Beneath.machine_model.specs.declared.roots.Descriptor.{Descriptor}
 use Rattle.proof_claims.specs.Beneath.machine_model.specs.declared.steps.Bounds.{Bounds}
 use Rattle.proof_claims.specs.Beneath.machine_model.specs.declared.steps.Step.{Step}
+use Rattle.proof_claims.specs.Beneath.machine_model.specs.declared.steps.Step.TheVariants as step
 use Rattle.proof_claims.specs.Beneath.machine_model.specs.Calls.{handle_of}
 use Rattle.proof_claims.specs.Beneath.machine_model.specs.Machine.{AreBounds, run}
 use Rattle.proof_claims.specs.Beneath.machine_model.specs.States.{State, operation_of, word_at}
@@ -36,6 +37,15 @@ use Rattle.proof_claims.proofs.Letting.{the_one}
 use Rattle.proof_claims.proofs.Lists.{among}
 use Rattle.proof_claims.proofs.NodeClaims.{neither}
 
+-- the same, with how the step comes to give up what was made
+pub data LetsGoSo (state : State) (held : Held) (s : Step) (j : Ref) : Type 0 where
+  so_replaced : (actor : ℕ) (i f : Ref) → s ≡ step.Go actor → HasReplaced state actor i j f → is_owned held i j ≡ true → LetsGoSo state held s j
+  so_failed : (actor : ℕ) (i m : Ref) → s ≡ step.Go actor → HasFailed state actor i m j → LetsGoSo state held s j
+  so_given_up : (private : List Ref) → GivesUp state s private → Contains private j → change_of state held s ≡ given_up private → LetsGoSo state held s j
+  so_offered : (offer : Descriptor) (main : Ref) (c : Complete) → (a : Acting state s (act.Complete offer main)) → a.operation.line ≡ line.Copy (copy.Complete c) →
+      is_carried_out (word_at state (handle_of a.operation.call)) offer main ≡ false → a.operation.is_marked ≡ false → Contains (offer.successor ∷ refs_of_option offer.second) j →
+      LetsGoSo state held s j
+
 module _ (limits : Bounds) (ok : AreBounds limits) (xs : List Step) (s : Step) (j : Ref) where
   abbrev state : State
   state = run limits xs
@@ -44,7 +54,7 @@ module _ (limits : Bounds) (ok : AreBounds limits) (xs : List Step) (s : Step) (
   held = held_of limits xs
 
   abbrev Of : Type 0
-  Of = LetsGoOf state held s j
+  Of = LetsGoSo state held s j
 
   abbrev claim : Ref → Claim
   claim k = record { by = OfNode j; on = k }
@@ -55,7 +65,7 @@ module _ (limits : Bounds) (ok : AreBounds limits) (xs : List Step) (s : Step) (
 
   -- ---- who gives up
 
-  made_by : (private : List Ref) → GivesUp state s private → Contains private j → change_of state held s ≡ given_up private → Of
+  made_by : (private : List Ref) → GivesUp state s private → Contains private j → change_of state held s ≡ given_up private → LetsGoOf state held s j
   made_by private (no_slot node action a makes none same) c is =
       of_private a.actor a.operation (inl a.is_step) a.runs (subst (λ rs. Contains rs j) (sym same) c) (is ∙ ap given_up (sym same))
   made_by private (missed i m f a hit same) c is = of_private a.actor a.operation (inl a.is_step) a.runs (subst (λ rs. Contains rs j) (sym same) c) (is ∙ ap given_up (sym same))
@@ -64,7 +74,7 @@ module _ (limits : Bounds) (ok : AreBounds limits) (xs : List Step) (s : Step) (
       of_private actor operation (inr gives_up) runs (subst (λ rs. Contains rs j) (sym same) c) (is ∙ ap given_up (sym same))
 
   gives_all : (private : List Ref) → GivesUp state s private → change_of state held s ≡ given_up private → LetsGo (given_up private) j → (b : Bool) → is_in private j ≡ b → Of
-  gives_all private up is lets true e = made_by private up (among private j e) is
+  gives_all private up is lets true e = so_given_up private up (among private j e) is
   gives_all private up is lets false e = kept (given_up private) j (ap (λ b. is_kept (cond b (cond (is_in private j) Ends Given) (Stays (OfNode j)))) e) lets
 
   -- ---- who looks how its fresh node was decided
@@ -106,15 +116,15 @@ module _ (limits : Bounds) (ok : AreBounds limits) (xs : List Step) (s : Step) (
 
     undecided : (own : Bool) (change : Change) → ((c : Claim) → change.fate c ≡ fate_left w.indirection w.fresh c) → (prev_at state.heap w.fresh ≡ prev.None → ⊥) → LetsGo change j → Of
     undecided own change fate uncommitted lets =
-        left w.fresh f_apart change fate lets (λ same. of_failed a.actor w.indirection w.replaced a.is_step (subst (HasFailed state a.actor w.indirection w.replaced) same (has_failed uncommitted)))
+        left w.fresh f_apart change fate lets (λ same. (so_failed a.actor w.indirection w.replaced a.is_step (subst (HasFailed state a.actor w.indirection w.replaced) same (has_failed uncommitted))))
         (is_in (w.fresh ∷ []) j) refl
 
     found : (own : Bool) (v : Prev) → is_owned held w.indirection w.replaced ≡ own → prev_at state.heap w.fresh ≡ v → LetsGo (checks own v w) j → Of
     found true prev.None owns none lets =
         left w.replaced m_apart (checks true prev.None w) (λ c. refl) lets
-        (λ same. of_replaced a.actor w.indirection w.fresh a.is_step
+        (λ same. (so_replaced a.actor w.indirection w.fresh a.is_step
         (subst (λ r. HasReplaced state a.actor w.indirection r w.fresh) same (record { operation = a.operation; runs = a.runs; why = why; checks = at_check; decided = none }))
-        (ap (is_owned held w.indirection) (sym same) ∙ owns)) (is_in (w.replaced ∷ []) j) refl
+        (ap (is_owned held w.indirection) (sym same) ∙ owns))) (is_in (w.replaced ∷ []) j) refl
     found false prev.None owns none lets = kept (checks false prev.None w) w.indirection (shared_kept (is_in (w.indirection ∷ []) j)) lets
     found true (prev.Pending q) owns e lets = undecided true (checks true (prev.Pending q) w) (λ c. refl) (λ none. none≢pending none e) lets
     found false (prev.Pending q) owns e lets = undecided false (checks false (prev.Pending q) w) (λ c. refl) (λ none. none≢pending none e) lets
@@ -133,7 +143,7 @@ module _ (limits : Bounds) (ok : AreBounds limits) (xs : List Step) (s : Step) (
         is_in (offer.successor ∷ refs_of_option offer.second) j ≡ b → Of
     back is lets true e =
         let (not_out, unmarked) = neither (is_carried_out (word_at state (handle_of a.operation.call)) offer main) a.operation.is_marked is in
-        of_offered a.actor a.operation offer main c a.is_step a.runs a.acts on not_out unmarked (among (offer.successor ∷ refs_of_option offer.second) j e)
+        so_offered offer main c a on not_out unmarked (among (offer.successor ∷ refs_of_option offer.second) j e)
     back is lets false e = kept (finds (handle_of a.operation.call) offer false) j (ap (λ b. is_kept (cond b Given (Stays (OfNode j)))) e) lets
 
     seen : (done : Bool) → done ≡ (is_carried_out (word_at state (handle_of a.operation.call)) offer main || a.operation.is_marked) →
@@ -159,5 +169,14 @@ module _ (limits : Bounds) (ok : AreBounds limits) (xs : List Step) (s : Step) (
   by_kind change (freezes_it offer main n a out none opens) is lets = kept change j refl lets
   by_kind change (sees offer main c done a on at) is lets = seen offer main c a on done at lets
 
+  pub lets_go_so : LetsGo (change_of (run limits xs) (held_of limits xs) s) j → LetsGoSo (run limits xs) (held_of limits xs) s j
+  lets_go_so lets = by_kind (change_of state held s) (kind state held s) refl lets
+
   pub who_lets_go : LetsGo (change_of (run limits xs) (held_of limits xs) s) j → LetsGoOf (run limits xs) (held_of limits xs) s j
-  who_lets_go lets = by_kind (change_of state held s) (kind state held s) refl lets
+  who_lets_go lets = by (lets_go_so lets)
+    where
+      by : LetsGoSo state held s j → LetsGoOf state held s j
+      by (so_replaced actor i f is_step r own) = of_replaced actor i f is_step r own
+      by (so_failed actor i m is_step r) = of_failed actor i m is_step r
+      by (so_given_up private up c is) = made_by private up c is
+      by (so_offered offer main c a on not_out unmarked d) = of_offered a.actor a.operation offer main c a.is_step a.runs a.acts on not_out unmarked d

@@ -13,9 +13,9 @@ use Rattle.proof_claims.specs.Beneath.proof_followed.specs.Followed.{IsFollowedB
 use Rattle.proof_claims.specs.Beneath.proof_fresh.specs.Grace.{IsPrivateToNone}
 use Rattle.proof_claims.specs.Beneath.proof_memory.specs.Laws.{IsInUse}
 use Rattle.proof_claims.specs.Beneath.proof_reuse.specs.Laws.{IsGarbage}
-use Rattle.proof_claims.specs.Held.{Claim, Held, OfNode, gives, held_after, is_owned, takes}
+use Rattle.proof_claims.specs.Held.{Claim, Held, Holder, OfNode, gives, held_after, is_owned, takes}
 use Rattle.proof_claims.specs.Changes.{change_of}
-use Rattle.proof_claims.specs.Claims.{IsLinkedHolder, claims_by, claims_of, claims_on, held_of, how_often}
+use Rattle.proof_claims.specs.Claims.{Has, IsLinkedHolder, claims_by, claims_of, claims_on, held_of, how_often}
 use Rattle.proof_claims.specs.Clauses.{EachIsHeld}
 use Rattle.proof_claims.specs.Different.{AreDifferent}
 use Rattle.proof_claims.specs.Dropped.{IsLetGo, WasDropped, WasLetGo}
@@ -62,6 +62,16 @@ NamesAreHeld =
     (limits : Bounds) (steps : List Step) (j k : Ref) → AreBounds limits → KeysFit steps → IsInUse (run limits steps).heap j → ¬ IsFollowedByAny (run limits steps) j →
     ¬ WasLetGo limits steps j → Contains (refs_of_node (node_at (run limits steps).heap j)) k →
     (how_often k (refs_of_node (node_at (run limits steps).heap j)) ≡ 1) × (claims_by j k (claims_of limits steps) ≡ 1)
+
+-- What one of the steps let go of holds nothing any more.
+abbrev pub LetGoHoldsNothing : Type 0
+LetGoHoldsNothing = (limits : Bounds) (steps : List Step) (j k : Ref) → AreBounds limits → WasLetGo limits steps j → ¬ Has (held_of limits steps) (OfNode j) k
+
+-- Nor has anybody a claim on it, once neither roots nor running operations follow it any more.
+abbrev pub LetGoIsUnclaimed : Type 0
+LetGoIsUnclaimed =
+    (limits : Bounds) (steps : List Step) (j : Ref) (by : Holder) → AreBounds limits → KeysFit steps → ¬ IsFollowedByAny (run limits steps) j → WasLetGo limits steps j →
+    ¬ Has (held_of limits steps) by j
 
 -- A step that lets go of all that a node holds is one of four kinds.
 abbrev pub WhoLetsGo : Type 0

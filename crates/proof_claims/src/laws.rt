@@ -2,7 +2,8 @@
 
 ghost use Rattle.proof_claims.specs.Left.{GivenByCarried, GivenByClose, GivenByFailed, GivenByGivingUp, GivenByOwn, GivenByShared, GivenByTakenBack, GivenOtherwise};
 ghost use Rattle.proof_claims.specs.Left.{LinkHolds, OldRootIsHeld, ReplacedIsHeld};
-ghost use Rattle.proof_claims.specs.Laws.{ChangesBalance, ClaimsDiffer, DroppedIsUnlinked, FollowedIsHeld, NamesAreHeld, OwnedIsOwn, ReferencesAreHeld, UnheldIsGarbage, UnheldIsUnfollowed, WhoLetsGo};
+ghost use Rattle.proof_claims.specs.Laws.{ChangesBalance, ClaimsDiffer, DroppedIsUnlinked, FollowedIsHeld, LetGoHoldsNothing, LetGoIsUnclaimed, NamesAreHeld, OwnedIsOwn};
+ghost use Rattle.proof_claims.specs.Laws.{ReferencesAreHeld, UnheldIsGarbage, UnheldIsUnfollowed, WhoLetsGo};
 
 /// A law: what a step gives to its actor it takes from claims, and claims it adds from the actor, but for the node that it makes.
 pub fn changes_balance()
@@ -44,6 +45,17 @@ pub fn claims_differ()
 /// names it once, unless one of the steps let go of all that it held; where keys have 64 bits.
 pub fn names_are_held()
     ensures { NamesAreHeld }
+{}
+
+/// A law: what one of the steps let go of holds nothing any more.
+pub fn let_go_holds_nothing()
+    ensures { LetGoHoldsNothing }
+{}
+
+/// A law: nor has anybody a claim on it, once neither roots nor running operations follow it any more; where keys have 64
+/// bits.
+pub fn let_go_is_unclaimed()
+    ensures { LetGoIsUnclaimed }
 {}
 
 /// A law: no root leads to what nothing but garbage holds.
