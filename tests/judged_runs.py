@@ -12,8 +12,12 @@ from find_order import with_order
 from orders import Spent
 
 HASHES = ["low", "fold", "wide", "block"]
-# How many steps a search for an order takes before the history is left out.
+# How many steps a search for an order takes at first; where they don't suffice it takes ten times as many before the history is left out.
 STEPS = 300_000
+# How many steps `ctrie order` may take: it is proved, and asked before a history is called wrong.
+PROVED_STEPS = 10_000_000
+# One history of so many may be left out, and one more.
+ONE_OF = 50
 # A run that takes so many seconds hangs: it should take one or two.
 MOST_SECONDS = 600
 
@@ -28,19 +32,40 @@ def ran(program, *words, **environment):
         sys.exit(f"{program} {words} {environment} doesn't end")
 
 
+def searched(text):
+    """Returns this history with an order, and whether that explains all answers; None where the steps didn't suffice."""
+    for steps in (STEPS, 10 * STEPS):
+        try:
+            return with_order(text, steps)
+        except Spent:
+            pass
+    return None
+
+
+def doubted(text, history, plain):
+    """Judges a history for which the search has found that no order explains it: this text has one that goes as far as any. The search
+    isn't proved."""
+    found = ran(CTRIE, "order", PROVED_STEPS, plain)
+    if found.returncode == 0:
+        history.write_text(found.stdout)
+        return ran(CTRIE, "check", history).stdout.removesuffix("\n")
+    history.write_text(text + "\n")
+    return f"ctrie order: {found.stdout}{found.stderr}{ran(CTRIE, 'explain', history).stdout}"
+
+
 def judged(told, folder):
     """Judges a run that should have written a history: what `check` calls its order, or what went wrong; None where no order was found in
     so many steps, though there may be one."""
     if told.returncode or told.stderr:
         return f"status {told.returncode}, {told.stderr}"
-    try:
-        text, explains = with_order(told.stdout, STEPS)
-    except Spent:
+    found = searched(told.stdout)
+    if found is None:
         return None
-    history = folder / "history"
-    history.write_text(text + "\n")
+    (text, explains), history, plain = found, folder / "history", folder / "plain"
     if not explains:
-        return ran(CTRIE, "explain", history).stdout
+        plain.write_text(told.stdout)
+        return doubted(text, history, plain)
+    history.write_text(text + "\n")
     return ran(CTRIE, "check", history).stdout.removesuffix("\n")
 
 
@@ -65,6 +90,10 @@ class Tally:
         else:
             self.wrong.append(f"{what}: {verdict}\n{told.stdout}")
         return verdict
+
+    def knows_few(self):
+        """Whether too many histories were left out."""
+        return self.unknown > (self.legal + self.unknown) / ONE_OF + 1
 
     def missing(self):
         """What should stand in some history: each call, and each kind of reply but those that say that slots were lacking."""

@@ -52,7 +52,7 @@ pub record IsNumber (c : Call) (o : Operation) (opens : Option ℕ) : Type 0 whe
   pub plain : copies c ≡ false → opens ≡ None
   pub copied : copies c ≡ true → o.opens ≡ opens
 
-opens_none : (c : Call) → copies c ≡ false → opens_handle c ≡ false
+pub opens_none : (c : Call) → copies c ≡ false → opens_handle c ≡ false
 opens_none (Snapshot h) e = absurd (false≢true (sym e))
 opens_none (Freeze h) e = absurd (false≢true (sym e))
 opens_none c e = refl

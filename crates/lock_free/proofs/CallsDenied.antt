@@ -8,8 +8,8 @@ use Rattle.lock_free.specs.declared.calling.Denial.TheVariants as denial
 use Rattle.lock_free.specs.declared.rules.View.{View}
 use Rattle.lock_free.specs.Calling.{HasCalled}
 use Rattle.lock_free.specs.SeatCalls.{error_of, WasDenied, WasRefused}
-use Rattle.lock_free.specs.WholeCalls.{HasLeft, RestsWith}
-use Rattle.lock_free.proofs.CallBegins.{denied_rests, denied_same, denied_waited}
+use Rattle.lock_free.specs.WholeCalls.{RestsWith}
+use Rattle.lock_free.proofs.CallBegins.{denied_waited}
 use Rattle.lock_free.proofs.Waiting.{waited_none}
 
 -- there is no such handle
@@ -17,9 +17,6 @@ pub no_handle_denied : (v : View) (c : Call) → handle_limit ≤ handle_of c �
 no_handle_denied v c high = record { waited = waited_none v.actor v.account; reason = inl (refl, high) }
 
 module _ (v : View) (rests : RestsWith v None) (c : Call) (why : Denial) (x : View) (h : HasCalled v c (Err why) x) where
-  pub denied_left : HasLeft v x
-  denied_left = record { same = denied_same v None rests c why x h; rests = denied_rests v None rests c why x h }
-
   pub denied_so : WasDenied v c why x
   denied_so = record { waited = denied_waited v None rests c why x h; reason = inr h }
 

@@ -1,36 +1,33 @@
 -- A whole call in a number of tries: it is told, or is under way.
-use Rattle.std.proofs.Common.{◌≡◌, ◌≤◌, ℕ, inl, inr, is_some, true, Option, Some, None, Result, Ok, Err, refl, sym, ap, subst, ◌∙◌}
+use Rattle.std.proofs.Common.{◌≡◌, ◌≤◌, ℕ, inl, is_some, true, Option, Some, None, Result, Ok, Err, sym, ap, subst, ◌∙◌}
 use Rattle.history.specs.declared.calls.Access.{Access}
 use Rattle.history.specs.declared.calls.Call.{Call}
 use Rattle.history.specs.declared.replies.Reply.{Reply}
 use Rattle.history.specs.declared.replies.Reply.TheVariants as reply
 use Rattle.machine_model.specs.declared.operations.Operation.{Operation}
-use Rattle.machine_model.specs.Calls.{copies, handle_of, opens_handle}
-use Rattle.machine_model.specs.States.{handle_limit}
+use Rattle.machine_model.specs.Calls.{copies, opens_handle}
 use Rattle.lock_free.specs.declared.call_errors.CallError.{CallError}
 use Rattle.lock_free.specs.declared.call_errors.CallError.TheVariants as error
 use Rattle.lock_free.specs.declared.call_runs.Ran.{Ran}
 use Rattle.lock_free.specs.declared.call_runs.Ran.TheVariants as ran
-use Rattle.lock_free.specs.declared.calling.Denial.{Denial}
-use Rattle.lock_free.specs.declared.calling.Denial.TheVariants as denial
 use Rattle.lock_free.specs.declared.parking.Parked.{Parked}
 use Rattle.lock_free.specs.declared.parking.Parked.TheVariants as parked
 use Rattle.lock_free.specs.declared.reading.Way.{Way}
 use Rattle.lock_free.specs.declared.rules.View.{View}
 use Rattle.lock_free.specs.Answering.{HasAnswered}
-use Rattle.lock_free.specs.Calling.{CalledOrNot, HasCalled, IsRunning}
+use Rattle.lock_free.specs.BegunCalls.{RestsAgain, WasDeniedSo}
+use Rattle.lock_free.specs.Calling.{HasCalled, IsRunning}
 use Rattle.lock_free.specs.Loading.{IsSound, Runs}
 use Rattle.lock_free.specs.Parking.{IsParked}
 use Rattle.lock_free.specs.RunningOn.{RunsOn}
-use Rattle.lock_free.specs.SeatCalls.{error_of, told_by, IsLack, IsNoRefusal, IsTold, WasRefused}
+use Rattle.lock_free.specs.SeatCalls.{told_by, IsLackOf, IsNoRefusal, IsTold, WasRefused}
 use Rattle.lock_free.specs.Seeking.{IsCalled}
-use Rattle.lock_free.specs.Stocks.{IsStock, Stocked}
-use Rattle.lock_free.specs.UnderWay.{number_left, HasComeOut, HasFinished, HasLeftBy, HasLeftWith, HasNotBegun, HasReplied, HasRun, HasRunBy, HasRunWith, IsGoing, IsUnderWay}
+use Rattle.lock_free.specs.UnderWay.{number_left, HasComeOut, HasFinished, HasLeftBy, HasLeftWith, HasReplied, HasRunBy, HasRunWith, IsGoing, IsUnderWay}
 use Rattle.lock_free.specs.WholeCalls.{HasLeft, RestsWith, SameSeat}
 use Rattle.lock_free.proofs.BetweenCalls.{same_seat, same_seats}
 use Rattle.lock_free.proofs.CallBegins as call
 use Rattle.lock_free.proofs.CallNumbers.{copier_of, left_number, number_begun, opens_first, parked_number, IsNumber}
-use Rattle.lock_free.proofs.CallsDenied.{denied_refused, no_handle_denied}
+use Rattle.lock_free.proofs.CallsDenied.{denied_refused}
 use Rattle.lock_free.proofs.CallsRunOn.{at_end}
 use Rattle.lock_free.proofs.KeyTries.{called_on}
 use Rattle.lock_free.proofs.WholeCalls.{begun_called}
@@ -39,13 +36,13 @@ use Rattle.lock_free.proofs.Tidied.{answered_tidied, rests_tidied, same_tidied}
 
 -- ---- what is told of a reply
 
-pub lack_told : (v : View) (c : Call) (lack : CallError) (x : View) → HasAnswered v c None reply.NoSlots x → IsLack lack → WasRefused v c None lack x
+pub lack_told : (v : View) (c : Call) (lack : CallError) (x : View) → HasAnswered v c None reply.NoSlots x → IsLackOf c lack → WasRefused v c None lack x
 lack_told v c error.Full x h is = h
 lack_told v c error.WornOut x h is = h
-lack_told v c error.Spent x h is = inl h
+lack_told v c error.Spent x h is = h
 lack_told v c why x h is = absurd is
 
-told_so : (v : View) (c : Call) (answer : Reply) (lack : CallError) (x : View) → HasAnswered v c None answer x → IsLack lack → IsTold (λ r. r) v c (told_by answer lack) x
+told_so : (v : View) (c : Call) (answer : Reply) (lack : CallError) (x : View) → HasAnswered v c None answer x → IsLackOf c lack → IsTold (λ r. r) v c (told_by answer lack) x
 told_so v c reply.Crowded lack x h is = h
 told_so v c reply.NoSlots lack x h is = lack_told v c lack x h is
 told_so v c (reply.Found value) lack x h is = h
@@ -78,7 +75,7 @@ pub under_way_on : (before : View) (c : Call) (opens : Option ℕ) (v w : View) 
 under_way_on before c opens v w under on late x answer more at ended = under late x answer (runs_on_both v w late on more) at ended
 
 module _ (before : View) (c : Call) (opens : Option ℕ) (v w : View) (under : IsUnderWay before c opens v) (on : RunsOn v w) (access : Access) where
-  pub run_out : (result : Ran) (x : View) → HasComeOut w access result x → HasRunBy before c opens result x
+  pub run_out : (result : Ran) (x : View) → HasComeOut w c access result x → HasRunBy before c opens result x
   run_out (ran.Told told) x (answer, lack, lacks, is, ended, e, tidied) = record {
     answer = answer;
     lack = lack;
@@ -97,7 +94,7 @@ parked_runs v (parked.Copies s opens) its = (its.is.at.0, its.is.at.1)
 
 -- its seat
 module _ (c : Call) (access : Access) (v : View) (o : Operation) (runs : Runs v o) (called : IsCalled v c access) (opens : Option ℕ) (number : v.opens ≡ opens) (w : View) (on : RunsOn v w) where
-  pub left_told : ((n : ℕ) → opens ≡ Some n → copies c ≡ true) → (told : Result Reply CallError) (x : View) → HasFinished w told x → SameSeat v x × RestsWith x (number_left opens told)
+  pub left_told : ((n : ℕ) → opens ≡ Some n → copies c ≡ true) → (told : Result Reply CallError) (x : View) → HasFinished w c told x → SameSeat v x × RestsWith x (number_left opens told)
   left_told copier told x (answer, lack, lacks, is, ended, e, tidied) =
       let r = runs_on_both v w e.late on e.on in
       let its : IsCalled e.late c access = called_on v e.late o runs r c access called in (
@@ -108,7 +105,7 @@ module _ (c : Call) (access : Access) (v : View) (o : Operation) (runs : Runs v 
       )
 
   module _ (is : IsNumber c o opens) where
-    pub left_out : (result : Ran) (x : View) → HasComeOut w access result x → HasLeftWith v c opens result x
+    pub left_out : (result : Ran) (x : View) → HasComeOut w c access result x → HasLeftWith v c opens result x
     left_out (ran.Told told) x h = left_told (copier_of c o opens is) told x h
     left_out (ran.UnderWay same parked) x (e, still, its) =
         let then = called_on v w o runs on c access called in
@@ -141,48 +138,16 @@ plain_left v c (ran.UnderWay access parked) x h = (h.0, h.1)
 pub rests_still : (v : View) → RestsWith v None → HasLeft v v
 rests_still v rests = record { same = same_seat v; rests = rests }
 
+pub left_again : (v x : View) → RestsWith v None → RestsAgain v x → HasLeft v x
+left_again v x rests again = (let left = again None rests in record { same = left.0; rests = left.1 })
+
 -- a call that opens no handle
 module _ (v : View) (rests : RestsWith v None) (c : Call) where
-  pub no_handle : handle_limit ≤ handle_of c → HasRun v c (ran.Told (Err error.NoHandle)) v
-  no_handle high = (no_handle_denied v c high, tt)
-
-  denied_so : (why : CallError) (x : View) → HasNotBegun v c (Err why) x → IsTold {A = Reply} (λ r. r) v c (Err why) x
-  denied_so error.Spent x h = inr h
-  denied_so why x (denial, is, h) = subst (λ e. IsTold {A = Reply} (λ r. r) v c (Err e) x) (sym is) (denied_refused v rests c denial x h)
-
-  pub plain_run : (result : Ran) (x : View) → HasRunWith v c None result x → HasRun v c result x
-  plain_run (ran.Told told) x (inl h) = replied_told v c told x h
-  plain_run (ran.Told (Ok answer)) x (inr h) = absurd h
-  plain_run (ran.Told (Err why)) x (inr h) = (denied_so why x h, tt)
-  plain_run (ran.UnderWay access parked) x h = h
+  pub denied_so : (why : CallError) (x : View) → WasDeniedSo v c why x → WasRefused v c None why x
+  denied_so why x (denial, is, h) = subst (λ e. WasRefused v c None e x) (sym is) (denied_refused v rests c denial x h)
 
 -- one for which this number is reserved, if it opens a handle
 module _ (n : ℕ) (v : View) (sound : IsSound n v) (opens : Option ℕ) (rests : RestsWith v opens) (c : Call) where
-  module _ (why : Denial) (x : View) (h : HasCalled v c (Err why) x) where
-    not_begun : (denial : Denial) → HasCalled v c (Err denial) x → HasNotBegun v c (Err (error_of denial)) x
-    not_begun denial.NoHandle d = (denial.NoHandle, refl, d)
-    not_begun denial.ReadOnly d = (denial.ReadOnly, refl, d)
-    not_begun denial.NotReadOnly d = (denial.NotReadOnly, refl, d)
-
-    pub denied_told : HasRunWith v c opens (ran.Told (Err (error_of why))) x
-    denied_told = inr (not_begun why h)
-
-    pub denied_by : SameSeat v x × RestsWith x opens
-    denied_by = (call.denied_same v opens rests c why x h, call.denied_rests v opens rests c why x h)
-
-    pub denied_owns : (stock : Stocked) → IsStock stock v → IsStock stock x
-    denied_owns = call.denied_stock v opens rests c why x h
-
-  module _ (x : View) (h : CalledOrNot v c (Ok None) x) where
-    pub spent_told : HasRunWith v c opens (ran.Told (Err error.Spent)) x
-    spent_told = inr (call.unpinned_waited v opens rests c x h.0 h.1 h.2 h.3)
-
-    pub spent_left : SameSeat v x × RestsWith x opens
-    spent_left = (call.unpinned_same v opens rests c x h.0 h.1 h.2 h.3, call.unpinned_rests v opens rests c x h.0 h.1 h.2 h.3)
-
-    pub spent_owns : (stock : Stocked) → IsStock stock v → IsStock stock x
-    spent_owns = call.unpinned_stock v opens rests c x h.0 h.1 h.2 h.3
-
   module _ (way : Way) (u : View) (sound_u : IsSound n u) (h : HasCalled v c (Ok way) u) where
     pub begun_under_way : IsUnderWay v c opens u
     begun_under_way late x answer on at ended = call.answered v opens rests c way u h late on answer at x ended n sound sound_u
@@ -190,7 +155,7 @@ module _ (n : ℕ) (v : View) (sound : IsSound n v) (opens : Option ℕ) (rests 
     abbrev first : Operation
     first = call.first v opens rests c way u h
 
-    module _ (w : View) (on : RunsOn u w) (result : Ran) (x : View) (out : HasComeOut w way.access result x) where
+    module _ (w : View) (on : RunsOn u w) (result : Ran) (x : View) (out : HasComeOut w c way.access result x) where
       pub begun_run : HasRunWith v c opens result x
       begun_run = by result (run_out v c opens u w begun_under_way on way.access result x out)
         where
@@ -204,13 +169,7 @@ module _ (n : ℕ) (v : View) (sound : IsSound n v) (opens : Option ℕ) (rests 
           (left_out c way.access u first (call.runs_first v opens rests c way u h) (begun_called v opens rests c way u h) opens (call.opens_begun v opens rests c way u h) w on
           (number_begun c first opens number (opens_first v opens rests c number way u h)) result x out)
 
--- ---- the seat after it
-
 -- ---- as long as it takes
-
--- whatever call was under way is so still
-abbrev pub KeepsOn : View → View → Type 0
-KeepsOn v w = SameSeat v w × ((before : View) (c : Call) (opens : Option ℕ) → IsUnderWay before c opens v → IsUnderWay before c opens w)
 
 pub few_then : (v w : View) → SameSeat v w → v.actor ≤ v.sizes.seats → w.actor ≤ w.sizes.seats
 few_then v w same few = subst (λ a. a ≤ w.sizes.seats) (sym same.actor) (subst (λ z. v.actor ≤ z.seats) (sym same.sizes) few)

@@ -42,8 +42,8 @@ module _ (v w : View) (r : RunsOn v w) (value : Option ℕ) (is_on_end : IsOn w 
   value_ends = (reply.Found value, is_at_end)
 
   module _ (access : Access) (x : View) (ended : (answer : Reply) → IsAt w (act.End answer) → HasEnded w answer x) where
-    value_out : HasComeOut w access (ran.Told (Ok (reply.Found value))) x
-    value_out = (
+    value_out : (c : Call) → HasComeOut w c access (ran.Told (Ok (reply.Found value))) x
+    value_out c = (
       reply.Found value,
       error.Full,
       tt,
@@ -54,11 +54,11 @@ module _ (v w : View) (r : RunsOn v w) (value : Option ℕ) (is_on_end : IsOn w 
     )
 
     pub value_told : (c : Call) → HasGotten v c (Ok value) x
-    value_told c before under = (replied_told before c (Ok (reply.Found value)) x (run_out before c None v w under r access (ran.Told (Ok (reply.Found value))) x value_out)).0
+    value_told c before under = ((replied_told before c (Ok (reply.Found value)) x (run_out before c None v w under r access (ran.Told (Ok (reply.Found value))) x (value_out c))).0, tt)
 
     pub value_left : IsRunning v → (c : Call) → IsCalled v c access → v.opens ≡ None → HasLeft v x
     value_left (o, runs) c called none =
-        let left = left_told c access v o runs called None none w r (λ n e. absurd (none-some n e)) (Ok (reply.Found value)) x value_out in
+        let left = left_told c access v o runs called None none w r (λ n e. absurd (none-some n e)) (Ok (reply.Found value)) x (value_out c) in
         record { same = left.0; rests = left.1 }
 
 -- ---- or it is out of tries

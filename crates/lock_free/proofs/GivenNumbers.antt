@@ -10,7 +10,7 @@ use Rattle.lock_free.specs.declared.rules.View.{View}
 use Rattle.lock_free.specs.Answering.{HasAnswered}
 use Rattle.lock_free.specs.Loading.{IsSound}
 use Rattle.lock_free.specs.Numbers.{reserving, without_number}
-use Rattle.lock_free.specs.SeatCalls.{IsLack}
+use Rattle.lock_free.specs.SeatCalls.{IsLackOf}
 use Rattle.lock_free.specs.Stocks.{IsStock, Stocked}
 use Rattle.lock_free.specs.WholeCalls.{HasFoundNoSlot, IsToldCopy, RestsWith, WasRefusedCopy}
 use Rattle.lock_free.proofs.BetweenCalls.{idle_stock}
@@ -54,10 +54,10 @@ answered_then v w opens c answer a = record {
   is = a.is;
 }
 
-pub lacking : (v x : View) (c : Call) (why : CallError) → IsLack why → HasFoundNoSlot v c x → WasRefusedCopy v c why x
+pub lacking : (v x : View) (c : Call) (why : CallError) → IsLackOf c why → HasFoundNoSlot v c x → WasRefusedCopy v c why x
 lacking v x c error.Full is h = h
 lacking v x c error.WornOut is h = h
-lacking v x c error.Spent is h = inl h
+lacking v x c error.Spent is h = h
 lacking v x c why is h = absurd is
 
 -- there is no such handle

@@ -24,15 +24,17 @@ use Rattle.lock_free.specs.declared.tasks.Task.{Task}
 use Rattle.lock_free.specs.Attempts.{HasAttempted, IsAttempted}
 use Rattle.lock_free.specs.Descending.{HasFound, IsTask, line_found, line_updated}
 use Rattle.lock_free.specs.Holding.{IsOn}
-use Rattle.lock_free.specs.KeyRuns.{HasRunOut, IsCalling, IsFoundAs}
+use Rattle.lock_free.specs.KeyRuns.{IsCalling, IsDone, IsFoundAs}
 use Rattle.lock_free.specs.Leaving.{IsSpent}
 use Rattle.lock_free.specs.LinkReads.{IsThere}
 use Rattle.lock_free.specs.Loading.{IsSound, Runs}
 use Rattle.lock_free.specs.Reaching.{IsAtPlace}
 use Rattle.lock_free.specs.RunningOn.{MayAnswer, RunsOn}
 use Rattle.lock_free.specs.Stocks.{IsStock, Stocked}
+use Rattle.lock_free.specs.Telling.{SeatsAreExplained}
 use Rattle.lock_free.specs.UnderWay.{HasFinished}
 use Rattle.lock_free.proofs.CallBegins.{opens_run, same_run}
+use Rattle.lock_free.proofs.CallNumbers.{opens_none}
 use Rattle.lock_free.proofs.CallsUnderWay.{left_both, left_told, plain_left, run_out, under_way_on}
 use Rattle.lock_free.proofs.Descents.{as_long, task_moved}
 use Rattle.lock_free.proofs.KeyTries.{called_on}
@@ -41,6 +43,7 @@ use Rattle.lock_free.proofs.OnLines.{finds_now}
 use Rattle.lock_free.proofs.PlacesReached.{answers_absent}
 use Rattle.lock_free.proofs.RunningOn.{runs_on_moved, runs_on_self}
 use Rattle.lock_free.proofs.StockStays.{stock_moved}
+use Rattle.lock_free.proofs.TriesTold.{replied_by}
 
 -- ---- what is known goes on
 
@@ -51,20 +54,23 @@ module _ (v w : View) (r : RunsOn v w) where
       record {
         running = (x.0, x.1);
         called = called_on v w c.running.0 c.running.1 r call access c.called;
+        tried = c.tried;
         keyed = c.keyed;
         none = opens_run v w r ∙ c.none;
       }
 
-  pub out_since : (told : Result Reply CallError) (x : View) → HasRunOut w told x → HasRunOut v told x
-  out_since told x h = ((λ before call opens under. h.0 before call opens (under_way_on before call opens v w under r)), left_both v w x (same_run v w r) h.1)
+  pub done_since : (call : Call) (told : Result Reply CallError) (x : View) → IsDone w call told x → IsDone v call told x
+  done_since call told x h = ((λ before under. h.0 before (under_way_on before call None v w under r)), left_both v w x (same_run v w r) h.1)
 
 -- ---- it has ended
 
-pub finished_out : (v : View) (call : Call) (access : Access) → IsCalling v call access → (told : Result Reply CallError) (x : View) → HasFinished v told x → HasRunOut v told x
-finished_out v call access c told x h = (
-  (λ before k opens under. run_out before k opens v v under (runs_on_self v) access (ran.Told told) x h),
-  plain_left v call (ran.Told told) x (left_told call access v c.running.0 c.running.1 c.called None c.none v (runs_on_self v) (λ n e. absurd (none-some n e)) told x h),
-)
+module _ (n : ℕ) (v : View) (call : Call) (access : Access) (c : IsCalling v call access) (told : Result Reply CallError) (x : View) (sound : IsSound n x) (explained : SeatsAreExplained) where
+  pub finished_done : HasFinished v call told x → IsDone v call told x
+  finished_done h = (
+    (λ before under.
+        replied_by n before x sound explained call c.tried None (opens_none call c.keyed) told (run_out before call None v v under (runs_on_self v) access (ran.Told told) x h)),
+    plain_left v call (ran.Told told) x (left_told call access v c.running.0 c.running.1 c.called None c.none v (runs_on_self v) (λ n e. absurd (none-some n e)) told x h),
+  )
 
 -- ---- a try
 

@@ -35,12 +35,12 @@ FitsOr call answer = FitsCall call answer ⊎ Refuses answer
 
 -- ---- a call with an effect is answered so
 
-and_then : {S T : Type 0} (f : S → Option T) (o : Option S) (y : T) → option_and_then f o ≡ Some y → (x : S) × (f x ≡ Some y) × (o ≡ Some x)
+pub and_then : {S T : Type 0} (f : S → Option T) (o : Option S) (y : T) → option_and_then f o ≡ Some y → (x : S) × (f x ≡ Some y) × (o ≡ Some x)
 and_then f None y e = absurd (none-some y e)
 and_then f (Some x) y e = (x, e, refl)
 
 module _ (P : Reply → Type 0) (w next : HandleMap) (h : ℕ) (answer : Reply) where
-  changed_so : (change : KeyMap → Reply × KeyMap) → changing w h change ≡ Some (answer, next) → ((m : KeyMap) → P (change m).0) → P answer
+  pub changed_so : (change : KeyMap → Reply × KeyMap) → changing w h change ≡ Some (answer, next) → ((m : KeyMap) → P (change m).0) → P answer
   changed_so change e all =
       let x = and_then _ (writable_map_of w h) (answer, next) e in
       subst P (ap (λ (p : Reply × HandleMap). p.0) (same_Some _ (answer, next) x.1)) (all x.0)
@@ -65,7 +65,7 @@ absent_tells hash m k v = by (map.contains_key m k)
     by true = inl tt
     by false = put_tells hash m k v
 
-copied_so : (w next : HandleMap) (h : ℕ) (opens : Option ℕ) (access : Access) (answer : Reply) → copying w h opens access ≡ Some (answer, next) →
+pub copied_so : (w next : HandleMap) (h : ℕ) (opens : Option ℕ) (access : Access) (answer : Reply) → copying w h opens access ≡ Some (answer, next) →
     (number : ℕ) × (opens ≡ Some number) × (answer ≡ reply.Opened number)
 copied_so w next h opens access answer e =
     let x = and_then _ (writable_map_of w h) (answer, next) e in
@@ -165,7 +165,7 @@ module _ (n : ℕ) (before after : View) (sound : IsSound n after) (explained : 
   ended_there : slice_get history (length (h.earlier ++ begin ∷ h.meanwhile)) ≡ Some end
   ended_there = subst (λ xs. slice_get xs (length (h.earlier ++ begin ∷ h.meanwhile)) ≡ Some end) (sym h.is) (seam_last h.earlier h.meanwhile begin end)
 
-  reply_so : (P : Reply → Type 0) → ((hash : ℕ → ℕ) (w next : HandleMap) (a : Reply) → Effect hash w call opens a next → P a) → answer ≢ reply.NoSlots → P answer
+  pub reply_so : (P : Reply → Type 0) → ((hash : ℕ → ℕ) (w next : HandleMap) (a : Reply) → Effect hash w call opens a next → P a) → answer ≢ reply.NoSlots → P answer
   reply_so P tells counts =
       let (world, order_is, shows) = explained n after sound in
       explained_so _ history _ world order_is (length h.earlier) (length (h.earlier ++ begin ∷ h.meanwhile)) h.id (record { actor = before.actor; call = call; opens = opens }) answer begun_there

@@ -1,5 +1,5 @@
 -- The first slot of the aged chain is free for its seat, and all others hang still.
-use Rattle.std.proofs.Common.{◌≡◌, ◌≢◌, ◌⊎◌, ◌<◌, ◌≤◌, ◌+◌, ◌++◌, inl, inr, ℕ, List, [], ◌∷◌, Contains, Option, Some, None, refl, sym, ap, subst, ◌∙◌, append-nil, arith}
+use Rattle.std.proofs.Common.{◌≡◌, ◌≢◌, ◌⊎◌, ◌<◌, ◌≤◌, ◌+◌, ◌++◌, inl, inr, ℕ, zero, suc, List, [], ◌∷◌, Contains, Option, Some, None, refl, sym, ap, subst, ◌∙◌, append-nil, arith}
 use Rattle.std.proofs.lemmas.List.{map-append}
 use Rattle.std.proofs.lemmas.List.Elements.{Contains-append_left, Contains-append_right, Contains-append_cases, Contains-push}
 use Rattle.std.proofs.lemmas.Option.{none-some, same_Some}
@@ -8,10 +8,12 @@ use Rattle.lock_free.specs.declared.rules.Retired.{Retired}
 use Rattle.lock_free.specs.declared.rules.View.{View}
 use Rattle.lock_free.specs.declared.sizes.Sizes.{Sizes}
 use Rattle.lock_free.specs.Epochs.{knowing, KnowsMore}
+use Rattle.lock_free.specs.Freeing.{kept_free, FreesFirst}
 use Rattle.lock_free.specs.Limbos.{linked_by, link_to, names, turned, Hangs, HasReclaimedSome, HasTurned, IsLimbo}
 use Rattle.lock_free.specs.Places.{count_word, IsSlot}
 use Rattle.lock_free.specs.Reclaiming.{HasReclaimed, IsRipe, reclaiming}
 use Rattle.lock_free.specs.Rules.{IsFree, Once, pool_of}
+use Rattle.lock_free.specs.Stocks.{HasRoom, Stocked}
 use Rattle.lock_free.proofs.CountWords.{count_once}
 use Rattle.lock_free.proofs.Drafts.{left, others_left}
 use Rattle.lock_free.proofs.Hanging.{KeepsLinks, hangs_still, next_back, once_out, slot_named, word_of}
@@ -161,6 +163,13 @@ module _ (limbo : Limbo) (v : View) (h : IsLimbo limbo v) (slot : ℕ) (is : lim
     pub one_reclaimed : HasReclaimedSome v w
     one_reclaimed = subst (HasReclaimedSome v) is_then (record { is = refl; free = free_then; each = or_free })
 
+    -- and that slot is free
+    pub first_freed : (x : Retired) → Contains v.retired x → limbo.aged.first ≡ Some x.name → IsFree w x.class x.name
+    first_freed x c named = subst (λ y. IsFree y x.class x.name) is_then (elim (or_free x c) [
+      | inl still ↦ absurd ((left (λ (y : Retired). y.name) item.name v.retired x still).0 (sym (same_Some slot x.name (sym is ∙ named)) ∙ sym its_name))
+      | inr free ↦ free
+    ])
+
 -- ---- one after the other
 
 pub none_reclaimed : (v : View) → HasReclaimedSome v v
@@ -241,3 +250,21 @@ none_hangs v is =
       slots = λ x c. absurd (never x c);
       seen = omega arith;
     }
+
+-- ---- the first one at least
+
+-- after so many of them the first one is free, if there was room; after none nothing has changed
+abbrev pub FreedSoFar : ℕ → Limbo → Stocked → View → Limbo → Stocked → View → Type 0
+FreedSoFar done limbo stock v limbo_now stock_now w =
+    (done ≡ 0 → (limbo_now ≡ limbo) × (stock_now ≡ stock) × (w ≡ v)) × (1 ≤ done → HasRoom stock kept_free → FreesFirst limbo v w)
+
+pub none_freed : (limbo : Limbo) (stock : Stocked) (v : View) → FreedSoFar 0 limbo stock v limbo stock v
+none_freed limbo stock v = ((λ e. (refl, refl, refl)), (λ some. absurd (omega (arith, some))))
+
+pub freed_after : (done : ℕ) (limbo : Limbo) (stock : Stocked) (v : View) (limbo_now : Limbo) (stock_now : Stocked) (w x : View) → FreedSoFar done limbo stock v limbo_now stock_now w →
+    (HasRoom stock_now kept_free → FreesFirst limbo_now w x) → HasReclaimedSome w x → HasRoom stock kept_free → FreesFirst limbo v x
+freed_after zero limbo stock v limbo_now stock_now w x so one some room y there named =
+    let (limbo_is, stock_is, same) = so.0 refl in
+    (subst (λ z. FreesFirst limbo z x) same (subst (λ z. FreesFirst z w x) limbo_is (one (subst (λ z. HasRoom z kept_free) (sym stock_is) room)))) y there named
+freed_after (suc done) limbo stock v limbo_now stock_now w x so one some room y there named =
+    some.free y.class y.name (so.1 (let fewer : 1 ≤ suc done = omega (arith) in fewer) room y there named)

@@ -174,6 +174,9 @@ mod CallsDenied
 mod WalksWhole
 mod CallEnds
 mod CallNumbers
+mod CallsBegun
+mod WhyRefused
+mod Unbegun
 mod TriesTold
 mod CopyAgain
 mod Counts

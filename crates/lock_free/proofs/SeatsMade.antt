@@ -5,6 +5,7 @@ use Rattle.machine_model.specs.States.{operation_of}
 use Rattle.lock_free.specs.declared.rules.Pool.{Pool}
 use Rattle.lock_free.specs.declared.rules.View.{View}
 use Rattle.lock_free.specs.declared.sizes.Sizes.{Sizes}
+use Rattle.lock_free.specs.Accounts.{HasWaited}
 use Rattle.lock_free.specs.Answers.{silent, talk_at}
 use Rattle.lock_free.specs.Loading.{now, HasSeen, IsSound}
 use Rattle.lock_free.specs.Places.{AreSizes}
@@ -79,6 +80,9 @@ module _ (words : ℕ) (v : View) (word found : ℕ) (at : View) (h : HasSeen v 
       let (m, is) = h in
       let waited = (m.kept.seats m.id v m.at).waited in
       (waited.steps, ap (λ (x : View). x.account.steps) is ∙ waited.goes_on)
+
+  seen_waited : HasWaited v.actor v.account at.account
+  seen_waited = let (m, is) = h in subst (λ (x : View). HasWaited v.actor v.account x.account) (sym is) (m.kept.seats m.id v m.at).waited
 
   module _ (rests : IsResting v) (actors : HasActors v) (more : v.actor < v.last) where
     -- the last of its actors has never taken a step
@@ -159,6 +163,7 @@ module _ (words : ℕ) (v : View) (word found : ℕ) (at : View) (h : HasSeen v 
           actor = ap (λ (x : View). x.actor) left_is ∙ ap (λ (x : View). x.actor) seen_is;
           last = (let l = ap (λ (x : View). x.last) left_is in omega (arith, l, last, more));
           goes_on = subst (GoesOn v.account.steps) (sym (ap (λ (x : View). x.account.steps) left_is)) seen_goes_on;
+          waited = subst (HasWaited v.actor v.account) (sym (ap (λ (x : View). x.account) left_is)) seen_waited;
           other_table = right_table;
           other_sizes = ap (λ (x : View). x.sizes) right_is ∙ ap (λ (x : View). x.sizes) seen_is;
           other_actor = ap (λ (x : View). x.actor) right_is ∙ last;

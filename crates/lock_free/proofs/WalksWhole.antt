@@ -3,13 +3,13 @@ use Rattle.history.specs.declared.calls.Call.{Call}
 use Rattle.history.specs.declared.calls.Call.TheVariants.{Count, Entries}
 use Rattle.history.specs.declared.replies.Reply.{Reply}
 use Rattle.history.specs.declared.replies.Reply.TheVariants as reply
-use Rattle.std.proofs.Common.{◌≡◌, ℕ, false, List, Result, None, Ok, Err, IfErr, inl, inr, refl, subst}
+use Rattle.std.proofs.Common.{◌≡◌, ℕ, true, false, List, Result, None, Ok, Err, IfErr, refl, subst}
 use Rattle.machine_model.specs.declared.actions.Action.TheVariants as act
 use Rattle.machine_model.specs.declared.lines.Line.{Line}
 use Rattle.machine_model.specs.declared.lines.Line.TheVariants as line
 use Rattle.machine_model.specs.declared.operations.Operation.{Operation}
 use Rattle.machine_model.specs.declared.walking.WalkLine.TheVariants as walk
-use Rattle.machine_model.specs.Calls.{is_close, opens_handle}
+use Rattle.machine_model.specs.Calls.{is_close, needs_read_only, opens_handle}
 use Rattle.machine_model.specs.Operations.{first_line}
 use Rattle.machine_model.specs.Walking.{walked_reply}
 use Rattle.lock_free.specs.declared.call_errors.CallError.{CallError}
@@ -20,12 +20,13 @@ use Rattle.lock_free.specs.declared.walking.WalkError.{WalkError}
 use Rattle.lock_free.specs.declared.walking.WalkError.TheVariants as lack
 use Rattle.lock_free.specs.Answering.{HasAnswered}
 use Rattle.lock_free.specs.Attempts.{HasEndedWith}
-use Rattle.lock_free.specs.Calling.{CalledOrNot, HasCalled, IsCancelled}
+use Rattle.lock_free.specs.Calling.{HasCalled, IsCancelled}
 use Rattle.lock_free.specs.GoingDown.{HasMoved}
 use Rattle.lock_free.specs.Holding.{IsOn}
+use Rattle.lock_free.specs.KeyReplies.{FitsError}
 use Rattle.lock_free.specs.Loading.{IsAt, IsSound}
 use Rattle.lock_free.specs.RunningOn.{MayAnswer, RunsOn}
-use Rattle.lock_free.specs.SeatCalls.{walk_error, IsTold, WasRefused}
+use Rattle.lock_free.specs.SeatCalls.{walk_error, IsTold}
 use Rattle.lock_free.specs.SeatWords.{HasEnded, IsAtEnd}
 use Rattle.lock_free.specs.Stocks.{IsStock, Stocked}
 use Rattle.lock_free.specs.Walks.{HasAllPairs, IsAtStart, IsLeft}
@@ -119,7 +120,7 @@ module _ (n : ℕ) (v : View) (sound : IsSound n v) (rests : RestsWith v None) w
 
   lacking_told : {A : Type 0} (reply_of : A → Reply) (c : Call) (why : CallError) (x : View) → IsWalkLack why → HasAnswered v c None reply.NoSlots x → IsTold reply_of v c (Err why) x
   lacking_told reply_of c error.Memory x lacks a = a
-  lacking_told reply_of c error.Spent x lacks a = inl a
+  lacking_told reply_of c error.Spent x lacks a = a
   lacking_told reply_of c why x lacks a = absurd lacks
 
   pub walk_told : {A : Type 0} (reply_of : A → Reply) (c : Call) (way : Way) (u : View) → HasCalled v c (Ok way) u → IsSound n u → (result : Result A CallError) (x : View) →
@@ -127,13 +128,10 @@ module _ (n : ℕ) (v : View) (sound : IsSound n v) (rests : RestsWith v None) w
   walk_told reply_of c way u begun sound_u (Ok told) x lacks e = ended_answered c way u begun sound_u (reply_of told) x e
   walk_told reply_of c way u begun sound_u (Err why) x lacks e = lacking_told reply_of c why x lacks (ended_answered c way u begun sound_u reply.NoSlots x e)
 
--- it hasn't begun in so many looks
-module _ (v : View) (rests : RestsWith v None) (c : Call) (x : View) (h : CalledOrNot v c (Ok None) x) where
-  pub unbegun_left : HasLeft v x
-  unbegun_left = record { same = call.unpinned_same v None rests c x h.0 h.1 h.2 h.3; rests = call.unpinned_rests v None rests c x h.0 h.1 h.2 h.3 }
-
-  pub unbegun_stock : (stock : Stocked) → IsStock stock v → IsStock stock x
-  unbegun_stock stock owns = call.unpinned_stock v None rests c x h.0 h.1 h.2 h.3 stock owns
-
-  pub unbegun_told : WasRefused v c None error.Spent x
-  unbegun_told = inr (call.unpinned_waited v None rests c x h.0 h.1 h.2 h.3)
+-- why such a call is refused that had begun
+pub lack_fits : {A : Type 0} (kind : ℕ → Call) (handle : ℕ) → needs_read_only (kind handle) ≡ true → is_close (kind handle) ≡ false → (result : Result A CallError) → IfErr result IsWalkLack →
+    IfErr result (FitsError (kind handle))
+lack_fits kind handle reads stays (Ok told) lacks = tt
+lack_fits kind handle reads stays (Err error.Memory) lacks = reads
+lack_fits kind handle reads stays (Err error.Spent) lacks = stays
+lack_fits kind handle reads stays (Err why) lacks = absurd lacks

@@ -1,5 +1,5 @@
 -- A call in a number of tries begins.
-use Rattle.std.proofs.Common.{◌≡◌, ℕ, false, is_some, Option, Ok, refl, sym, ap, ◌∙◌}
+use Rattle.std.proofs.Common.{◌≡◌, ℕ, false, is_some, Option, Ok, refl, ap}
 use Rattle.history.specs.declared.calls.Call.{Call}
 use Rattle.history.specs.declared.calls.Call.TheVariants.{Get, Put, PutIfAbsent, Replace, ReplaceIf, Remove, RemoveIf, Clear, Snapshot, Freeze, Close, Entries, Count}
 use Rattle.machine_model.specs.declared.operations.Operation.{Operation}
@@ -9,7 +9,8 @@ use Rattle.machine_model.specs.Operations.{first_line}
 use Rattle.lock_free.specs.declared.reading.Way.{Way}
 use Rattle.lock_free.specs.declared.rules.View.{View}
 use Rattle.lock_free.specs.Attempts.{IsKeyed, IsTried}
-use Rattle.lock_free.specs.Calling.{HasCalled, IsCaller}
+use Rattle.lock_free.specs.BegunCalls.{IsReadyFor}
+use Rattle.lock_free.specs.Calling.{HasCalled}
 use Rattle.lock_free.specs.Holding.{IsOn}
 use Rattle.lock_free.specs.Loading.{Runs}
 use Rattle.lock_free.specs.Seeking.{IsCalled}
@@ -50,7 +51,7 @@ keyed_tried (Entries h) keyed = absurd keyed
 keyed_tried (Count h) keyed = absurd keyed
 
 -- one that may be tried begins with a new try, and closes nothing
-tried_plain : (c : Call) → IsTried c → (first_line c ≡ new_try) × (is_close c ≡ false)
+pub tried_plain : (c : Call) → IsTried c → (first_line c ≡ new_try) × (is_close c ≡ false)
 tried_plain (Get h k) tried = (refl, refl)
 tried_plain (Put h k v) tried = (refl, refl)
 tried_plain (PutIfAbsent h k v) tried = (refl, refl)
@@ -66,13 +67,8 @@ tried_plain (Entries h) tried = absurd tried
 tried_plain (Count h) tried = absurd tried
 
 module _ (v : View) (opens : Option ℕ) (rests : RestsWith v opens) (c : Call) where
-  pub tried_caller : IsTried c → opens_handle c ≡ is_some opens → IsCaller v c
-  tried_caller tried number = record {
-    idle = rests.idle;
-    free = rests.pin;
-    number = number ∙ sym (ap is_some rests.opens_it);
-    stays = (tried_plain c tried).1;
-  }
+  pub tried_ready : IsTried c → opens_handle c ≡ is_some opens → IsReadyFor v c
+  tried_ready tried number = record { opens = opens; rests = rests; number = number; stays = (tried_plain c tried).1 }
 
   -- it has begun
   module _ (way : Way) (begun : View) (h : HasCalled v c (Ok way) begun) where

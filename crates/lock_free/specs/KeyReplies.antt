@@ -1,9 +1,12 @@
--- What calls on a key are answered, and what callers are told then.
-use Rattle.std.specs.Prelude.{◌≡◌}
+-- What calls are answered, what callers are told then, and why they may be refused.
+use Rattle.std.specs.Prelude.{◌≡◌, ◌||◌, true, false}
 use Rattle.history.specs.declared.calls.Call.{Call}
 use Rattle.history.specs.declared.calls.Call.TheVariants.{Get, Put, PutIfAbsent, Replace, ReplaceIf, Remove, RemoveIf, Clear, Snapshot, Freeze}
 use Rattle.history.specs.declared.replies.Reply.{Reply}
 use Rattle.history.specs.declared.replies.Reply.TheVariants as reply
+use Rattle.machine_model.specs.Calls.{copies, inserts, is_close, needs_read_only, needs_writable, opens_handle}
+use Rattle.lock_free.specs.declared.call_errors.CallError.{CallError}
+use Rattle.lock_free.specs.declared.call_errors.CallError.TheVariants as error
 
 -- the reply tells of a value
 abbrev pub TellsValue : Reply → Type 0
@@ -39,3 +42,16 @@ FitsCall (Clear h) answer = answer ≡ reply.Cleared
 FitsCall (Snapshot h) answer = TellsHandle answer
 FitsCall (Freeze h) answer = TellsHandle answer
 FitsCall call answer = ⊥
+
+-- a call may be refused so
+abbrev pub FitsError : Call → CallError → Type 0
+FitsError call error.NoHandle = Unit {0}
+FitsError call error.ReadOnly = needs_writable call ≡ true
+FitsError call error.NotReadOnly = needs_read_only call ≡ true
+FitsError call error.Crowded = inserts call ≡ true
+FitsError call error.Full = (needs_read_only call || is_close call) ≡ false
+FitsError call error.Spent = is_close call ≡ false
+FitsError call error.HandlesFull = opens_handle call ≡ true
+FitsError call error.Busy = is_close call ≡ true
+FitsError call error.WornOut = copies call ≡ true
+FitsError call error.Memory = needs_read_only call ≡ true

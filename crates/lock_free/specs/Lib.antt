@@ -39,11 +39,13 @@ pub mod Epochs
 pub mod Reclaiming
 pub mod Linking
 pub mod Limbos
+pub mod Freeing
 pub mod Becoming
 pub mod Stocks
 pub mod SeenEntries
 pub mod Changing
 pub mod Halves
+pub mod BegunCalls
 pub mod BuildingUp
 pub mod Updating
 pub mod GoingDown
@@ -75,6 +77,7 @@ pub mod WholeCalls
 pub mod UnderWay
 pub mod TriedCalls
 pub mod KeyReplies
+pub mod NamedTries
 pub mod Naming
 pub mod GetRuns
 pub mod KeyRuns

@@ -1,9 +1,9 @@
 -- What a seat's call is answered, or why it is refused.
-use Rattle.std.specs.Prelude.{◌≡◌, ◌≤◌, ◌⊎◌, ℕ, is_some, Bool, Option, None, Result, Ok, Err}
+use Rattle.std.specs.Prelude.{◌≡◌, ◌≤◌, ◌⊎◌, ℕ, is_some, true, Bool, Option, None, Result, Ok, Err}
 use Rattle.history.specs.declared.calls.Call.{Call}
 use Rattle.history.specs.declared.replies.Reply.{Reply}
 use Rattle.history.specs.declared.replies.Reply.TheVariants as reply
-use Rattle.machine_model.specs.Calls.{handle_of}
+use Rattle.machine_model.specs.Calls.{copies, handle_of}
 use Rattle.machine_model.specs.States.{handle_limit}
 use Rattle.lock_free.specs.declared.call_errors.CallError.{CallError}
 use Rattle.lock_free.specs.declared.call_errors.CallError.TheVariants as error
@@ -42,7 +42,7 @@ WasRefused before call opens error.ReadOnly after = WasDenied before call denial
 WasRefused before call opens error.NotReadOnly after = WasDenied before call denial.NotReadOnly after
 WasRefused before call opens error.Crowded after = HasAnswered before call opens reply.Crowded after
 WasRefused before call opens error.Full after = HasAnswered before call opens reply.NoSlots after
-WasRefused before call opens error.Spent after = HasAnswered before call opens reply.NoSlots after ⊎ HasWaited before.actor before.account after.account
+WasRefused before call opens error.Spent after = HasAnswered before call opens reply.NoSlots after
 WasRefused before call opens error.WornOut after = HasAnswered before call opens reply.NoSlots after
 WasRefused before call opens error.Memory after = HasAnswered before call opens reply.NoSlots after
 WasRefused before call opens why after = ⊥
@@ -52,12 +52,16 @@ abbrev pub IsTold : {A : Type 0} → (A → Reply) → View → Call → Result 
 IsTold {A} reply_of before call (Ok told) after = HasAnswered before call None (reply_of told) after
 IsTold {A} reply_of before call (Err why) after = WasRefused before call None why after
 
--- why an operation has given up: no slot or no generation was had, or it is out of tries
-abbrev pub IsLack : CallError → Type 0
-IsLack error.Full = Unit {0}
-IsLack error.WornOut = Unit {0}
-IsLack error.Spent = Unit {0}
-IsLack why = ⊥
+-- it hasn't begun in its number of tries: nothing of it is in the history, and others alone have gone on
+abbrev pub RanOut : {A : Type 0} → View → Result A CallError → View → Type 0
+RanOut {A} before told after = (told ≡ Err error.Spent) × HasWaited before.actor before.account after.account
+
+-- why an operation of this call has given up: no slot was had, no generation for a root, or it is out of tries
+abbrev pub IsLackOf : Call → CallError → Type 0
+IsLackOf call error.Full = Unit {0}
+IsLackOf call error.WornOut = copies call ≡ true
+IsLackOf call error.Spent = Unit {0}
+IsLackOf call why = ⊥
 
 -- what the caller is told of this reply, with what was lacked where that is a refusal
 abbrev pub told_by : Reply → CallError → Result Reply CallError

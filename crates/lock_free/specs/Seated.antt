@@ -2,6 +2,7 @@
 use Rattle.std.specs.Prelude.{◌≡◌, ◌≤◌, ◌+◌, ℕ, None}
 use Rattle.atomic_table.specs.Seated.{TableId}
 use Rattle.lock_free.specs.declared.rules.View.{View}
+use Rattle.lock_free.specs.Accounts.{HasWaited}
 use Rattle.lock_free.specs.Answers.{silent, talk_at}
 use Rattle.lock_free.specs.Loading.{IsSound}
 use Rattle.lock_free.specs.SeatWords.{IsIdle}
@@ -50,6 +51,8 @@ pub record HasSplit (before left right : Seated) : Type 0 where
   pub actor : left.view.actor ≡ before.view.actor
   pub last : left.view.last + 1 ≡ before.view.last
   pub goes_on : GoesOn before.view.account.steps left.view.account.steps
+  -- nothing was told it by this
+  pub waited : HasWaited before.view.actor before.view.account left.view.account
   pub other_table : right.table ≡ before.table
   pub other_sizes : right.view.sizes ≡ before.view.sizes
   pub other_actor : right.view.actor ≡ before.view.last

@@ -1,8 +1,9 @@
 -- What comes of a seat that has tried a call so many times.
-use Rattle.std.specs.Prelude.{◌≡◌, ℕ, Bool, true, false, is_some, Option, Some, Result, Ok, Err, IfOk}
+use Rattle.std.specs.Prelude.{◌≡◌, ℕ, Bool, true, false, is_some, Option, Some, Result, Ok, Err, IfOk, IfErr}
 use Rattle.history.specs.declared.calls.Call.{Call}
 use Rattle.history.specs.declared.replies.Reply.{Reply}
 use Rattle.history.specs.declared.replies.Reply.TheVariants as reply
+use Rattle.machine_model.specs.declared.operations.Operation.{Operation}
 use Rattle.machine_model.specs.Calls.{opens_handle}
 use Rattle.lock_free.specs.declared.call_errors.CallError.{CallError}
 use Rattle.lock_free.specs.declared.call_runs.Ran.{Ran}
@@ -10,10 +11,11 @@ use Rattle.lock_free.specs.declared.call_runs.Ran.TheVariants as ran
 use Rattle.lock_free.specs.declared.parked_seats.Tried.{Tried}
 use Rattle.lock_free.specs.declared.parked_seats.Tried.TheVariants as tried
 use Rattle.lock_free.specs.declared.rules.View.{View}
-use Rattle.lock_free.specs.KeyReplies.{FitsCall}
+use Rattle.lock_free.specs.KeyReplies.{FitsCall, FitsError}
+use Rattle.lock_free.specs.Loading.{Runs}
 use Rattle.lock_free.specs.Numbers.{without_number}
 use Rattle.lock_free.specs.Seated.{HasGoneOn, IsSeated, Seated}
-use Rattle.lock_free.specs.SeatCalls.{IsTold}
+use Rattle.lock_free.specs.SeatCalls.{IsTold, RanOut}
 use Rattle.lock_free.specs.Stocks.{Stocked}
 use Rattle.lock_free.specs.UnderWay.{number_left, IsParkedSeat, IsUnderWay}
 use Rattle.lock_free.specs.WholeCalls.{IsToldCopy, RestsWith}
@@ -39,16 +41,24 @@ IsToldBy false before call told after = IsTold (λ r. r) before call told after
 pub record HasTold (before : View) (call : Call) (told : Result Reply CallError) (after : View) : Type 0 where
   pub is : IsToldBy (opens_handle call) before call told after
   pub fits : IfOk told (FitsCall call)
+  pub why : IfErr told (FitsError call)
 
 -- the call is under way, with the number of the handle that it opens, if it opens one
 pub record IsParkedCall (before : View) (call : Call) (v : View) : Type 0 where
   pub opens : Option ℕ
   pub number : opens_handle call ≡ is_some opens
   pub is : IsUnderWay before call opens v
+  pub its : (operation : Operation) → Runs v operation → operation.call ≡ call
 
+-- what comes of one that has begun
 abbrev pub HasTriedCall : View → Call → Tried → Type 0
 HasTriedCall before call (tried.Answered seat told) = HasTold before call told seat.view
 HasTriedCall before call (tried.Parked seat) = IsParkedCall before call seat.view
+
+-- it hasn't begun in its number of tries
+abbrev pub NeverBegan : View → Tried → Type 0
+NeverBegan before (tried.Answered seat told) = RanOut before told seat.view
+NeverBegan before (tried.Parked seat) = ⊥
 
 -- ---- the same of the parts of its seat
 

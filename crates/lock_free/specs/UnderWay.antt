@@ -5,21 +5,18 @@ use Rattle.history.specs.declared.calls.Call.{Call}
 use Rattle.history.specs.declared.replies.Reply.{Reply}
 use Rattle.machine_model.specs.declared.actions.Action.TheVariants as act
 use Rattle.lock_free.specs.declared.call_errors.CallError.{CallError}
-use Rattle.lock_free.specs.declared.call_errors.CallError.TheVariants as error
 use Rattle.lock_free.specs.declared.call_runs.Ran.{Ran}
 use Rattle.lock_free.specs.declared.call_runs.Ran.TheVariants as ran
-use Rattle.lock_free.specs.declared.calling.Denial.{Denial}
 use Rattle.lock_free.specs.declared.parking.Parked.{Parked}
 use Rattle.lock_free.specs.declared.rules.View.{View}
-use Rattle.lock_free.specs.Accounts.{HasWaited}
 use Rattle.lock_free.specs.Answering.{HasAnswered}
 use Rattle.lock_free.specs.Attempts.{HasEndedWith}
-use Rattle.lock_free.specs.Calling.{HasCalled}
+use Rattle.lock_free.specs.BegunCalls.{WasDeniedSo}
 use Rattle.lock_free.specs.Limbos.{HasReclaimedSome}
 use Rattle.lock_free.specs.Loading.{IsAt, IsSound}
 use Rattle.lock_free.specs.Parking.{opens_of, IsParked}
 use Rattle.lock_free.specs.RunningOn.{RunsOn}
-use Rattle.lock_free.specs.SeatCalls.{error_of, told_by, IsLack, IsNoRefusal, IsTold}
+use Rattle.lock_free.specs.SeatCalls.{told_by, IsLackOf, RanOut}
 use Rattle.lock_free.specs.SeatWords.{HasEnded}
 use Rattle.lock_free.specs.Seated.{HasActors}
 use Rattle.lock_free.specs.Seeking.{IsCalled}
@@ -36,44 +33,47 @@ IsUnderWay before call opens v = (late after : View) (answer : Reply) → RunsOn
 pub record HasReplied (before : View) (call : Call) (opens : Option ℕ) (told : Result Reply CallError) (after : View) : Type 0 where
   pub answer : Reply
   pub lack : CallError
-  pub lacks : IsLack lack
+  pub lacks : IsLackOf call lack
   pub is : told ≡ told_by answer lack
   pub its : HasAnswered before call opens answer after
 
--- nothing of it is in the history; meanwhile others alone have gone on
+-- it was denied: nothing of it is in the history, and others alone have gone on
 abbrev pub HasNotBegun : View → Call → Result Reply CallError → View → Type 0
 HasNotBegun before call (Ok answer) after = ⊥
-HasNotBegun before call (Err error.Spent) after = HasWaited before.actor before.account after.account
-HasNotBegun before call (Err why) after = (denial : Denial) × (why ≡ error_of denial) × HasCalled before call (Err denial) after
+HasNotBegun before call (Err why) after = WasDeniedSo before call why after
+
+-- it hasn't begun in its number of tries
+abbrev pub HasRunOut : View → Ran → View → Type 0
+HasRunOut before (ran.Told told) after = RanOut before told after
+HasRunOut before (ran.UnderWay access parked) after = ⊥
 
 -- a call for which the seat has reserved this number, or none
 abbrev pub HasRunWith : View → Call → Option ℕ → Ran → View → Type 0
 HasRunWith before call opens (ran.Told told) after = HasReplied before call opens told after ⊎ HasNotBegun before call told after
 HasRunWith before call opens (ran.UnderWay access parked) after = IsUnderWay before call opens after
 
--- one that opens no handle
-abbrev pub HasRun : View → Call → Ran → View → Type 0
-HasRun before call (ran.Told told) after = IsTold (λ r. r) before call told after × IsNoRefusal told
-HasRun before call (ran.UnderWay access parked) after = IsUnderWay before call None after
-
 -- one that had begun before
 abbrev pub HasRunBy : View → Call → Option ℕ → Ran → View → Type 0
 HasRunBy before call opens (ran.Told told) after = HasReplied before call opens told after
 HasRunBy before call opens (ran.UnderWay access parked) after = IsUnderWay before call opens after
 
--- by whichever call is under way
-abbrev pub HasRunOn : View → Ran → View → Type 0
-HasRunOn v result after = (before : View) (call : Call) (opens : Option ℕ) → IsUnderWay before call opens v → HasRunBy before call opens result after
+-- since whenever it began
+abbrev pub HasRunOn : View → Call → Ran → View → Type 0
+HasRunOn v call result after = (before : View) (opens : Option ℕ) → IsUnderWay before call opens v → HasRunBy before call opens result after
 
 -- its operation has ended, this is told of it, and some of what it has retired is free again
-abbrev pub HasFinished : View → Result Reply CallError → View → Type 0
-HasFinished v told after = (answer : Reply) × (lack : CallError) × IsLack lack × (told ≡ told_by answer lack) × (ended : View) × HasEndedWith v answer ended
+abbrev pub HasFinished : View → Call → Result Reply CallError → View → Type 0
+HasFinished v call told after = (answer : Reply) × (lack : CallError) × IsLackOf call lack × (told ≡ told_by answer lack) × (ended : View) × HasEndedWith v answer ended
     × HasReclaimedSome ended after
 
 -- or it is where it was
-abbrev pub HasComeOut : View → Access → Ran → View → Type 0
-HasComeOut v access (ran.Told told) after = HasFinished v told after
-HasComeOut v access (ran.UnderWay same parked) after = (same ≡ access) × (after ≡ v) × IsParked v parked
+abbrev pub HasComeOut : View → Call → Access → Ran → View → Type 0
+HasComeOut v call access (ran.Told told) after = HasFinished v call told after
+HasComeOut v call access (ran.UnderWay same parked) after = (same ≡ access) × (after ≡ v) × IsParked v parked
+
+-- it has run on to there before
+abbrev pub HasRunTill : View → Call → Access → Ran → View → Type 0
+HasRunTill v call access result after = (late : View) × RunsOn v late × HasComeOut late call access result after
 
 -- ---- the seat
 

@@ -62,7 +62,7 @@ WasRefusedCopy before call error.ReadOnly after = WasDeniedCopy before call deni
 WasRefusedCopy before call error.NotReadOnly after = WasDeniedCopy before call denial.NotReadOnly after
 WasRefusedCopy before call error.HandlesFull after = after ≡ before
 WasRefusedCopy before call error.Full after = HasFoundNoSlot before call after
-WasRefusedCopy before call error.Spent after = HasFoundNoSlot before call after ⊎ HasWaited before.actor before.account after.account
+WasRefusedCopy before call error.Spent after = HasFoundNoSlot before call after
 WasRefusedCopy before call error.WornOut after = HasFoundNoSlot before call after
 WasRefusedCopy before call why after = ⊥
 

@@ -11,7 +11,7 @@ use crate::sizes::Sizes;
 use trie_words::Pin;
 
 /// The epoch stands in this word.
-pub(crate) const EPOCH: usize = 0;
+pub(crate) const EPOCH_WORD: usize = 0;
 
 /// So many epochs there are: a seat's word has room for no more.
 const EPOCHS: u64 = 1 << 54;
@@ -24,7 +24,7 @@ pub fn see_epoch(words: &Words, actor: &mut Actor) -> u64
     ensures sound { IsSound words.now.table_id.words actor.new.me.0 }
     ensures seen { HasSeenEpoch actor.old.me result actor.new.me }
 {
-    words.load::<SeesEpoch>(actor, EPOCH)
+    words.load::<SeesEpoch>(actor, EPOCH_WORD)
 }
 
 /// Whether a seat with this pin is in no call, or has begun it in this epoch.
@@ -86,7 +86,7 @@ fn grow(words: &Words, actor: &mut Actor, epoch: u64) -> bool
     ensures sound { IsSound words.now.table_id.words actor.new.me.0 }
     ensures grew { HasAdvanced actor.old.me.0 result actor.new.me.0 }
 {
-    words.compare_exchange::<Advances>(actor, EPOCH, epoch, epoch + 1) == epoch
+    words.compare_exchange::<Advances>(actor, EPOCH_WORD, epoch, epoch + 1) == epoch
 }
 
 /// Lets the epoch grow by one, unless a seat is in a call that it began in an earlier one, or another seat lets it grow meanwhile.

@@ -6,7 +6,7 @@ ghost use Rattle.lock_free.specs.Calling.{access_in, started_by, HasCalled, HasC
 ghost use Rattle.lock_free.specs.Calling.{IsBeginner, IsCancelled, IsCaller, IsRunning, MayGiveUp};
 ghost use Rattle.lock_free.specs.Loading.{IsSound};
 
-use crate::advancing::EPOCH;
+use crate::advancing::EPOCH_WORD;
 use crate::handles::{root_word_of, unmark};
 use crate::loads::{Actor, Words};
 use crate::pins::{finish, pin, unpin};
@@ -213,7 +213,7 @@ pub fn give_up(words: &Words, actor: &mut Actor)
     ensures sound { IsSound words.now.table_id.words actor.new.me.0 }
     ensures gave { HasGivenUp actor.old.me.0 actor.new.me.0 }
 {
-    words.load::<Abandons>(actor, EPOCH);
+    words.load::<Abandons>(actor, EPOCH_WORD);
 }
 
 /// Lets the operation of this seat give up, unless it is to end anyway.
@@ -225,7 +225,7 @@ pub fn cut_short(words: &Words, actor: &mut Actor)
     ensures sound { IsSound words.now.table_id.words actor.new.me.0 }
     ensures cut { HasCutShort actor.old.me.0 actor.new.me.0 }
 {
-    words.load::<CutsShort>(actor, EPOCH);
+    words.load::<CutsShort>(actor, EPOCH_WORD);
 }
 
 /// Ends the operation of this seat at once, as one that gives up. The seat is pinned no more.

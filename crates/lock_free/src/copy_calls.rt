@@ -1,11 +1,11 @@
 //! A seat's calls that copy a map, or empty it.
 
-ghost use Rattle.std.specs.Prelude.{◌≡◌, ◌≤◌, true, None};
+ghost use Rattle.std.specs.Prelude.{◌≡◌, ◌≤◌, true, None, IfErr};
 ghost use Rattle.history.specs.declared.calls.Call.TheVariants.{Clear, Freeze, Snapshot};
 ghost use Rattle.history.specs.declared.replies.Reply.TheVariants as reply;
 ghost use Rattle.machine_model.specs.Calls.{opens_handle};
 ghost use Rattle.lock_free.specs.Attempts.{IsTried};
-ghost use Rattle.lock_free.specs.KeyReplies.{TellsHandle};
+ghost use Rattle.lock_free.specs.KeyReplies.{FitsError, TellsHandle};
 ghost use Rattle.lock_free.specs.Loading.{IsSound};
 ghost use Rattle.lock_free.specs.SeatCalls.{IsTold};
 ghost use Rattle.lock_free.specs.Stocks.{IsStock};
@@ -52,6 +52,7 @@ fn open_copy<R: Wait>(
     ensures stock { IsStock stock.new actor.new.me.0 }
     ensures left { HasLeft actor.old.me.0 actor.new.me.0 }
     ensures told { IsToldCopy actor.old.me.0 call result actor.new.me.0 }
+    ensures why { IfErr result (FitsError call) }
 {
     match run_to_end(rt, words, actor, stock, seat, call) {
         Ok(reply) => Ok(handle_in(reply)),
@@ -79,6 +80,7 @@ fn clear_all<R: Wait>(
     ensures stock { IsStock stock.new actor.new.me.0 }
     ensures left { HasLeft actor.old.me.0 actor.new.me.0 }
     ensures told { IsTold (λ done. reply.Cleared) actor.old.me.0 (Clear handle) result actor.new.me.0 }
+    ensures why { IfErr result (FitsError (Clear handle)) }
 {
     match run_to_end(rt, words, actor, stock, seat, Call::Clear { handle }) {
         Ok(_) => Ok(()),
@@ -103,6 +105,7 @@ impl Seat {
         requires table { self.old.table ≡ words.now.table_id }
         ensures seat { HasGoneOn self.old self.new }
         ensures told { IsToldCopy self.old.view (Snapshot handle) result self.new.view }
+        ensures why { IfErr result (FitsError (Snapshot handle)) }
     {
         let call = Call::Snapshot { handle };
         let (actor, stock) = (&mut self.actor, &mut self.stock);
@@ -118,6 +121,7 @@ impl Seat {
         requires table { self.old.table ≡ words.now.table_id }
         ensures seat { HasGoneOn self.old self.new }
         ensures told { IsToldCopy self.old.view (Freeze handle) result self.new.view }
+        ensures why { IfErr result (FitsError (Freeze handle)) }
     {
         let call = Call::Freeze { handle };
         let (actor, stock) = (&mut self.actor, &mut self.stock);
@@ -133,6 +137,7 @@ impl Seat {
         requires table { self.old.table ≡ words.now.table_id }
         ensures seat { HasGoneOn self.old self.new }
         ensures told { IsTold (λ done. reply.Cleared) self.old.view (Clear handle) result self.new.view }
+        ensures why { IfErr result (FitsError (Clear handle)) }
     {
         let (actor, stock) = (&mut self.actor, &mut self.stock);
         clear_all(rt, words, actor, stock, self.number, handle)

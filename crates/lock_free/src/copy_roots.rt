@@ -16,7 +16,7 @@ use crate::stores::{GENERATION, draft, make_root};
 use trie_words::{Link, Name, Previous};
 
 /// So many generations can be given out.
-pub(crate) const GENERATIONS: u64 = 1 << 36;
+const GENERATIONS: u64 = 1 << 36;
 
 /// Which copy an operation makes.
 #[derive(Clone, Copy, Drop)]
@@ -39,19 +39,28 @@ pub struct NewRoots {
 }
 
 /// Makes a root over the main node of this name in this slot, the last of those that are free, with the generation that is next. Returns
-/// false where no generation is left.
-fn try_roots(tries: u64, words: &Words, actor: &mut Actor, slot: u32, main: Name) -> bool
+/// false where no generation is left, or it is out of tries.
+fn try_roots(
+    tries: u64,
+    words: &Words,
+    actor: &mut Actor,
+    stock: &mut Stock,
+    slot: u32,
+    main: Name,
+) -> bool
     requires table { actor.old.table_id ≡ words.now.table_id }
     requires sound { IsSound words.now.table_id.words actor.old.me.0 }
     requires last { (rest : List ℕ) × (pool_of actor.old.me.0.pool 0 ≡ rest ++ slot ∷ []) }
     requires making { IsAtNewRoot actor.old.me.0 main }
     ensures table { actor.new.table_id ≡ actor.old.table_id }
     ensures sound { IsSound words.now.table_id.words actor.new.me.0 }
+    ensures stock { stock.new ≡ stock.old }
     ensures tried { HasTriedRoot actor.old.me.0 result actor.new.me.0 }
 {
     for _ in 0..tries {
         let generation = words.peek(GENERATION);
         if generation >= GENERATIONS {
+            stock.wear_out();
             return false;
         }
         let link = Link { generation, main };
@@ -81,7 +90,7 @@ fn make_new_root(
     ensures made { HasRoot actor.old.me.0 result actor.new.me.0 }
 {
     let slot = take(tries, words, actor, stock, 0)?;
-    if !try_roots(tries, words, actor, slot, main) {
+    if !try_roots(tries, words, actor, stock, slot, main) {
         return None;
     }
     stock.note(0);

@@ -1,15 +1,16 @@
 //! Gets as a whole: straight where nothing stands in the way, else as calls of any kind.
 
-ghost use Rattle.std.specs.Prelude.{◌≡◌, ◌≤◌, ◌<◌, ◌^◌, ◌∷◌, [], None};
+ghost use Rattle.std.specs.Prelude.{◌≡◌, ◌≤◌, ◌<◌, ◌^◌, ◌∷◌, [], None, IfErr};
 ghost use Rattle.history.specs.declared.calls.Call.TheVariants.{Get};
 ghost use Rattle.history.specs.declared.replies.Reply.TheVariants as reply;
 ghost use Rattle.machine_model.specs.Lines.{new_try};
 ghost use Rattle.lock_free.specs.declared.descending.Found.TheVariants as found;
 ghost use Rattle.lock_free.specs.declared.rules.View.{View};
+ghost use Rattle.lock_free.specs.BegunCalls.{StillBegins};
 ghost use Rattle.lock_free.specs.Descending.{HasFound, IsAtOne, IsOnPath, IsTask};
-ghost use Rattle.lock_free.specs.GetRuns.{HasGotten, IsLookup};
+ghost use Rattle.lock_free.specs.GetRuns.{HasGotten, HasToldGet, IsLookup};
 ghost use Rattle.lock_free.specs.Holding.{IsOn};
-ghost use Rattle.lock_free.specs.KeyReplies.{TellsValue};
+ghost use Rattle.lock_free.specs.KeyReplies.{FitsError, TellsValue};
 ghost use Rattle.lock_free.specs.KeyRuns.{IsCalling};
 ghost use Rattle.lock_free.specs.LinkReads.{IsThere};
 ghost use Rattle.lock_free.specs.Loading.{IsSound};
@@ -26,7 +27,7 @@ use crate::calling::start_within;
 use crate::descending::Path;
 use crate::finding::{Met, meet_single};
 use crate::key_ends::{reached_on, spent_on};
-use crate::laws::seats_are_explained;
+use crate::key_runs::call_late;
 use crate::loads::{Actor, Words};
 use crate::reaching::{Place, Reached, go_down_within};
 use crate::reading::Way;
@@ -106,7 +107,6 @@ fn get_on<R: Wait>(
     ensures told { HasGotten actor.old.me.0 (Get handle key) result actor.new.me.0 }
     ensures left { HasLeft actor.old.me.0 actor.new.me.0 }
 {
-    seats_are_explained();
     match reached_on(rt, words, actor, stock, seat, task, path, reached) {
         Ok(reply) => Ok(value_in(reply)),
         Err(error) => Err(error),
@@ -140,7 +140,6 @@ fn get_spent<R: Wait>(
     ensures told { HasGotten actor.old.me.0 (Get handle key) result actor.new.me.0 }
     ensures left { HasLeft actor.old.me.0 actor.new.me.0 }
 {
-    seats_are_explained();
     let call = Call::Get { handle, key };
     match spent_on(rt, words, actor, stock, seat, call, access) {
         Ok(reply) => Ok(value_in(reply)),
@@ -273,6 +272,37 @@ fn get_begun<R: Wait>(
     get_rooted(rt, words, actor, stock, seat, handle, key, &task, root)
 }
 
+/// A get by this seat, `seat`, which hasn't begun in ever so many looks.
+#[cold]
+#[inline(never)]
+fn get_late<R: Wait>(
+    rt: &R,
+    words: &Words,
+    actor: &mut Actor,
+    stock: &mut Stock,
+    seat: u8,
+    handle: u16,
+    key: u64,
+) -> Result<Option<u64>, CallError>
+    requires table { actor.old.table_id ≡ words.now.table_id }
+    requires sound { IsSound words.now.table_id.words actor.old.me.0 }
+    requires stock { IsStock stock.old actor.old.me.0 }
+    requires its { actor.old.me.0.actor ≡ seat }
+    requires few { actor.old.me.0.actor ≤ actor.old.me.0.sizes.seats }
+    requires low { handle < 256 }
+    requires ready { RestsWith actor.old.me.0 None }
+    ensures table { actor.new.table_id ≡ actor.old.table_id }
+    ensures sound { IsSound words.now.table_id.words actor.new.me.0 }
+    ensures stock { IsStock stock.new actor.new.me.0 }
+    ensures left { HasLeft actor.old.me.0 actor.new.me.0 }
+    ensures told { (before : View) → StillBegins words.now.table_id.words before (Get handle key) actor.old.me.0 → HasToldGet before (Get handle key) result actor.new.me.0 }
+{
+    match call_late(rt, words, actor, stock, seat, Call::Get { handle, key }) {
+        Ok(reply) => Ok(value_in(reply)),
+        Err(error) => Err(error),
+    }
+}
+
 /// A get by this seat, `seat`, as long as it takes.
 #[inline(always)]
 pub(crate) fn run_get<R: Wait>(
@@ -295,6 +325,7 @@ pub(crate) fn run_get<R: Wait>(
     ensures stock { IsStock stock.new actor.new.me.0 }
     ensures left { HasLeft actor.old.me.0 actor.new.me.0 }
     ensures told { IsTold reply.Found actor.old.me.0 (Get handle key) result actor.new.me.0 }
+    ensures why { IfErr result (FitsError (Get handle key)) }
 {
     if handle >= HANDLES {
         return Err(CallError::NoHandle);
@@ -303,7 +334,7 @@ pub(crate) fn run_get<R: Wait>(
     let call = Call::Get { handle, key };
     let way = match start_within(u64::MAX, words, actor, seat, stock.epoch(), &call) {
         Ok(Some(way)) => way,
-        Ok(None) => return Err(CallError::Spent),
+        Ok(None) => return get_late(rt, words, actor, stock, seat, handle, key),
         Err(denial) => return Err(CallError::from(denial)),
     };
     get_begun(rt, words, actor, stock, seat, handle, key, way.access)

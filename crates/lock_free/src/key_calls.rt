@@ -1,15 +1,14 @@
 //! A seat's calls on keys.
 
-ghost use Rattle.std.specs.Prelude.{◌≡◌, IfOk};
+ghost use Rattle.std.specs.Prelude.{◌≡◌, IfErr, IfOk};
 ghost use Rattle.history.specs.declared.calls.Call.TheVariants.{Get, Put, PutIfAbsent, Remove, RemoveIf, Replace, ReplaceIf};
 ghost use Rattle.history.specs.declared.replies.Reply.TheVariants as reply;
 ghost use Rattle.lock_free.specs.Attempts.{IsKeyed};
-ghost use Rattle.lock_free.specs.KeyReplies.{FitsCall, TellsTruth};
+ghost use Rattle.lock_free.specs.KeyReplies.{FitsCall, FitsError, TellsTruth};
 
 use crate::call_errors::CallError;
 use crate::get_runs::{run_get, value_in};
 use crate::key_runs::run_call;
-use crate::laws::seats_are_explained;
 use crate::loads::Words;
 use crate::seating::Seat;
 use history::{Call, Reply};
@@ -41,9 +40,9 @@ impl Seat {
         requires keyed { IsKeyed call }
         ensures seat { HasGoneOn self.old self.new }
         ensures told { IsTold (λ r. r) self.old.view call result self.new.view }
+        ensures why { IfErr result (FitsError call) }
         ensures fits { IfOk result (FitsCall call) }
     {
-        seats_are_explained();
         let (actor, stock) = (&mut self.actor, &mut self.stock);
         run_call(rt, words, actor, stock, self.number, call)
     }
@@ -63,6 +62,7 @@ impl Seat {
         requires table { self.old.table ≡ words.now.table_id }
         ensures seat { HasGoneOn self.old self.new }
         ensures told { IsTold reply.Found self.old.view (Get handle key) result self.new.view }
+        ensures why { IfErr result (FitsError (Get handle key)) }
     {
         let (actor, stock) = (&mut self.actor, &mut self.stock);
         run_get(rt, words, actor, stock, self.number, handle, key)
@@ -83,6 +83,7 @@ impl Seat {
         requires table { self.old.table ≡ words.now.table_id }
         ensures seat { HasGoneOn self.old self.new }
         ensures told { IsToldIfSome self.old.view (Get handle key) result self.new.view }
+        ensures why { IfErr result (FitsError (Get handle key)) }
     {
         Ok(self.get(rt, words, handle, key)?.is_some())
     }
@@ -103,6 +104,7 @@ impl Seat {
         requires table { self.old.table ≡ words.now.table_id }
         ensures seat { HasGoneOn self.old self.new }
         ensures told { IsTold reply.Found self.old.view (Put handle key value) result self.new.view }
+        ensures why { IfErr result (FitsError (Put handle key value)) }
     {
         Ok(value_in(self.call_key(rt, words, Call::Put { handle, key, value })?))
     }
@@ -123,6 +125,7 @@ impl Seat {
         requires table { self.old.table ≡ words.now.table_id }
         ensures seat { HasGoneOn self.old self.new }
         ensures told { IsTold reply.Found self.old.view (PutIfAbsent handle key value) result self.new.view }
+        ensures why { IfErr result (FitsError (PutIfAbsent handle key value)) }
     {
         Ok(value_in(self.call_key(rt, words, Call::PutIfAbsent { handle, key, value })?))
     }
@@ -143,6 +146,7 @@ impl Seat {
         requires table { self.old.table ≡ words.now.table_id }
         ensures seat { HasGoneOn self.old self.new }
         ensures told { IsTold reply.Found self.old.view (Replace handle key value) result self.new.view }
+        ensures why { IfErr result (FitsError (Replace handle key value)) }
     {
         Ok(value_in(self.call_key(rt, words, Call::Replace { handle, key, value })?))
     }
@@ -164,6 +168,7 @@ impl Seat {
         requires table { self.old.table ≡ words.now.table_id }
         ensures seat { HasGoneOn self.old self.new }
         ensures told { IsTold reply.Truth self.old.view (ReplaceIf handle key old new) result self.new.view }
+        ensures why { IfErr result (FitsError (ReplaceIf handle key old new)) }
     {
         let call = Call::ReplaceIf {
             handle,
@@ -189,6 +194,7 @@ impl Seat {
         requires table { self.old.table ≡ words.now.table_id }
         ensures seat { HasGoneOn self.old self.new }
         ensures told { IsTold reply.Found self.old.view (Remove handle key) result self.new.view }
+        ensures why { IfErr result (FitsError (Remove handle key)) }
     {
         Ok(value_in(self.call_key(rt, words, Call::Remove { handle, key })?))
     }
@@ -209,6 +215,7 @@ impl Seat {
         requires table { self.old.table ≡ words.now.table_id }
         ensures seat { HasGoneOn self.old self.new }
         ensures told { IsTold reply.Truth self.old.view (RemoveIf handle key value) result self.new.view }
+        ensures why { IfErr result (FitsError (RemoveIf handle key value)) }
     {
         let call = Call::RemoveIf { handle, key, value };
         Ok(truth_in(self.call_key(rt, words, call)?))

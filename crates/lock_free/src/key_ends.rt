@@ -5,7 +5,7 @@ ghost use Rattle.history.specs.declared.replies.Reply.TheVariants as reply;
 ghost use Rattle.lock_free.specs.declared.descending.Update.TheVariants as update;
 ghost use Rattle.lock_free.specs.Attempts.{IsAttempted, IsEnding, IsToChange, attempted_by};
 ghost use Rattle.lock_free.specs.Descending.{IsHere, IsRemovingAt, IsTask};
-ghost use Rattle.lock_free.specs.KeyRuns.{HasRunOut, IsCalling, IsFoundAs};
+ghost use Rattle.lock_free.specs.KeyRuns.{IsCalling, IsDone, IsFoundAs};
 ghost use Rattle.lock_free.specs.LinkReads.{IsThere};
 ghost use Rattle.lock_free.specs.Loading.{IsSound};
 ghost use Rattle.lock_free.specs.Parking.{HasRunTo};
@@ -15,9 +15,10 @@ ghost use Rattle.lock_free.specs.Stocks.{IsStock};
 
 use crate::attempts::{Attempt, give_value, run_key, take_out};
 use crate::call_errors::CallError;
-use crate::call_runs::{end_call, finish_call};
+use crate::call_runs::finish_call;
 use crate::descending::{Found, Path, remove};
 use crate::finds::{attempt_of, found_on_within};
+use crate::laws::seats_are_explained;
 use crate::leaving::Swapping;
 use crate::loads::{Actor, Words};
 use crate::parking::Came;
@@ -26,6 +27,7 @@ use crate::reading::Given;
 use crate::stock::Stock;
 use crate::swapping::Swapped;
 use crate::tasks::{Task, changed_reply};
+use crate::try_runs::end_call;
 use crate::updating::attempted_by;
 use crate::ways_down::find_there;
 use history::{Access, Call, Reply};
@@ -60,7 +62,7 @@ fn came_of(
 /// Goes on with a call on a key by this seat, `seat`, whose try has come to this, as with a call of any kind.
 #[cold]
 #[inline(never)]
-fn call_on<R: Wait>(
+pub(crate) fn call_on<R: Wait>(
     rt: &R,
     words: &Words,
     actor: &mut Actor,
@@ -80,7 +82,7 @@ fn call_on<R: Wait>(
     ensures table { actor.new.table_id ≡ actor.old.table_id }
     ensures sound { IsSound words.now.table_id.words actor.new.me.0 }
     ensures stock { IsStock stock.new actor.new.me.0 }
-    ensures out { HasRunOut actor.old.me.0 result actor.new.me.0 }
+    ensures out { IsDone actor.old.me.0 call result actor.new.me.0 }
 {
     let came = came_of(words, actor, stock, call, access, attempt);
     end_call(rt, words, actor, stock, seat, call, access, came)
@@ -110,7 +112,7 @@ fn swapped_on<R: Wait>(
     ensures table { actor.new.table_id ≡ actor.old.table_id }
     ensures sound { IsSound words.now.table_id.words actor.new.me.0 }
     ensures stock { IsStock stock.new actor.new.me.0 }
-    ensures out { HasRunOut actor.old.me.0 result actor.new.me.0 }
+    ensures out { IsDone actor.old.me.0 call result actor.new.me.0 }
 {
     let attempt = attempted_by(swapped, call, former);
     call_on(rt, words, actor, stock, seat, call, access, attempt)
@@ -138,7 +140,7 @@ pub(crate) fn spent_on<R: Wait>(
     ensures table { actor.new.table_id ≡ actor.old.table_id }
     ensures sound { IsSound words.now.table_id.words actor.new.me.0 }
     ensures stock { IsStock stock.new actor.new.me.0 }
-    ensures out { HasRunOut actor.old.me.0 result actor.new.me.0 }
+    ensures out { IsDone actor.old.me.0 call result actor.new.me.0 }
 {
     let attempt = Attempt::Comes(Came::Spent);
     call_on(rt, words, actor, stock, seat, call, access, attempt)
@@ -167,7 +169,7 @@ fn found_on<R: Wait>(
     ensures table { actor.new.table_id ≡ actor.old.table_id }
     ensures sound { IsSound words.now.table_id.words actor.new.me.0 }
     ensures stock { IsStock stock.new actor.new.me.0 }
-    ensures out { HasRunOut actor.old.me.0 result actor.new.me.0 }
+    ensures out { IsDone actor.old.me.0 task.now.call result actor.new.me.0 }
 {
     let tried = found_on_within(u64::MAX, words, actor, stock, task, path, found);
     let attempt = attempt_of(words, actor, stock, path, tried);
@@ -200,7 +202,7 @@ pub(crate) fn reached_on<R: Wait>(
     ensures table { actor.new.table_id ≡ actor.old.table_id }
     ensures sound { IsSound words.now.table_id.words actor.new.me.0 }
     ensures stock { IsStock stock.new actor.new.me.0 }
-    ensures out { HasRunOut actor.old.me.0 result actor.new.me.0 }
+    ensures out { IsDone actor.old.me.0 task.now.call result actor.new.me.0 }
 {
     let found = find_there(words, actor, task, path.as_slice(), reached);
     found_on(rt, words, actor, stock, seat, task, path, found)
@@ -233,7 +235,7 @@ pub(crate) fn removal_on<R: Wait>(
     ensures table { actor.new.table_id ≡ actor.old.table_id }
     ensures sound { IsSound words.now.table_id.words actor.new.me.0 }
     ensures stock { IsStock stock.new actor.new.me.0 }
-    ensures out { HasRunOut actor.old.me.0 result actor.new.me.0 }
+    ensures out { IsDone actor.old.me.0 task.now.call result actor.new.me.0 }
 {
     let found = remove(words, actor, path.as_slice(), given, position, former);
     found_on(rt, words, actor, stock, seat, task, path, found)
@@ -260,8 +262,9 @@ pub(crate) fn answer(
     ensures table { actor.new.table_id ≡ actor.old.table_id }
     ensures sound { IsSound words.now.table_id.words actor.new.me.0 }
     ensures stock { IsStock stock.new actor.new.me.0 }
-    ensures out { HasRunOut actor.old.me.0 result actor.new.me.0 }
+    ensures out { IsDone actor.old.me.0 call result actor.new.me.0 }
 {
+    seats_are_explained();
     finish_call(words, actor, stock, seat, call, Some(reply))
 }
 
@@ -288,7 +291,7 @@ fn end_change<R: Wait>(
     ensures table { actor.new.table_id ≡ actor.old.table_id }
     ensures sound { IsSound words.now.table_id.words actor.new.me.0 }
     ensures stock { IsStock stock.new actor.new.me.0 }
-    ensures out { HasRunOut actor.old.me.0 result actor.new.me.0 }
+    ensures out { IsDone actor.old.me.0 call result actor.new.me.0 }
 {
     match swapped {
         Ok(Some(Swapped::Commits(_))) => {
@@ -327,7 +330,7 @@ pub(crate) fn give_and_end<R: Wait>(
     ensures table { actor.new.table_id ≡ actor.old.table_id }
     ensures sound { IsSound words.now.table_id.words actor.new.me.0 }
     ensures stock { IsStock stock.new actor.new.me.0 }
-    ensures out { HasRunOut actor.old.me.0 result actor.new.me.0 }
+    ensures out { IsDone actor.old.me.0 task.now.call result actor.new.me.0 }
 {
     let swapped = give_value(
         u64::MAX,
@@ -371,7 +374,7 @@ pub(crate) fn take_and_end<R: Wait>(
     ensures table { actor.new.table_id ≡ actor.old.table_id }
     ensures sound { IsSound words.now.table_id.words actor.new.me.0 }
     ensures stock { IsStock stock.new actor.new.me.0 }
-    ensures out { HasRunOut actor.old.me.0 result actor.new.me.0 }
+    ensures out { IsDone actor.old.me.0 task.now.call result actor.new.me.0 }
 {
     let swapped = take_out(
         u64::MAX,

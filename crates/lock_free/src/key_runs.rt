@@ -1,24 +1,31 @@
 //! Calls on keys as a whole: straight where nothing stands in the way, else as calls of any kind.
 
 ghost use Rattle.std.specs.Prelude.{◌≡◌, ◌≤◌, ◌<◌, ◌^◌, ◌∷◌, [], None, length};
+ghost use Rattle.machine_model.specs.Calls.{handle_of};
 ghost use Rattle.machine_model.specs.Lines.{new_try};
+ghost use Rattle.lock_free.specs.declared.rules.View.{View};
 ghost use Rattle.lock_free.specs.Attempts.{IsKeyed};
+ghost use Rattle.lock_free.specs.BegunCalls.{StillBegins};
 ghost use Rattle.lock_free.specs.Descending.{IsAtOne, IsFoundAt, IsHere, IsOnPath, IsRemovingAt, IsTask};
 ghost use Rattle.lock_free.specs.Holding.{IsOn};
-ghost use Rattle.lock_free.specs.KeyRuns.{HasRunOut, IsBeside, IsCalling};
+ghost use Rattle.lock_free.specs.KeyRuns.{IsBeside, IsCalling, IsDone};
 ghost use Rattle.lock_free.specs.LinkReads.{IsThere};
 ghost use Rattle.lock_free.specs.Loading.{IsSound};
 ghost use Rattle.lock_free.specs.Reaching.{IsAtPlace};
-ghost use Rattle.lock_free.specs.SeatCalls.{IsNoRefusal, IsTold};
 ghost use Rattle.lock_free.specs.Stocks.{IsStock};
+ghost use Rattle.lock_free.specs.TriedCalls.{HasTold};
 ghost use Rattle.lock_free.specs.WholeCalls.{HasLeft, RestsWith};
 
+use crate::attempts::Attempt;
+use crate::beginning::begin_call;
 use crate::call_errors::CallError;
 use crate::call_runs::HANDLES;
 use crate::calling::start_within;
 use crate::descending::{Path, Rest, rest_in};
 use crate::finding::{Met, meet_single};
-use crate::key_ends::{answer, give_and_end, reached_on, removal_on, spent_on, take_and_end};
+use crate::key_ends::{
+    answer, call_on, give_and_end, reached_on, removal_on, spent_on, take_and_end,
+};
 use crate::loads::{Actor, Words};
 use crate::reaching::{Place, Reached, go_down_within};
 use crate::reading::{Given, Way};
@@ -57,7 +64,7 @@ fn call_removes<R: Wait>(
     ensures table { actor.new.table_id ≡ actor.old.table_id }
     ensures sound { IsSound words.now.table_id.words actor.new.me.0 }
     ensures stock { IsStock stock.new actor.new.me.0 }
-    ensures out { HasRunOut actor.old.me.0 result actor.new.me.0 }
+    ensures out { IsDone actor.old.me.0 task.now.call result actor.new.me.0 }
 {
     match rest_in(given.header.shape, path.len()) {
         Rest::Any => {
@@ -99,7 +106,7 @@ fn call_at_key<R: Wait>(
     ensures table { actor.new.table_id ≡ actor.old.table_id }
     ensures sound { IsSound words.now.table_id.words actor.new.me.0 }
     ensures stock { IsStock stock.new actor.new.me.0 }
-    ensures out { HasRunOut actor.old.me.0 result actor.new.me.0 }
+    ensures out { IsDone actor.old.me.0 task.now.call result actor.new.me.0 }
 {
     let (call, access) = (task.call, task.access);
     match when_found(call, value) {
@@ -144,7 +151,7 @@ fn call_beside<R: Wait>(
     ensures table { actor.new.table_id ≡ actor.old.table_id }
     ensures sound { IsSound words.now.table_id.words actor.new.me.0 }
     ensures stock { IsStock stock.new actor.new.me.0 }
-    ensures out { HasRunOut actor.old.me.0 result actor.new.me.0 }
+    ensures out { IsDone actor.old.me.0 task.now.call result actor.new.me.0 }
 {
     let (call, access) = (task.call, task.access);
     if !inserts(call) {
@@ -183,7 +190,7 @@ fn call_at_single<R: Wait>(
     ensures table { actor.new.table_id ≡ actor.old.table_id }
     ensures sound { IsSound words.now.table_id.words actor.new.me.0 }
     ensures stock { IsStock stock.new actor.new.me.0 }
-    ensures out { HasRunOut actor.old.me.0 result actor.new.me.0 }
+    ensures out { IsDone actor.old.me.0 task.now.call result actor.new.me.0 }
 {
     match meet_single(words, actor, task.key, slot) {
         Met::Found(value) => call_at_key(
@@ -218,7 +225,7 @@ fn call_there<R: Wait>(
     ensures table { actor.new.table_id ≡ actor.old.table_id }
     ensures sound { IsSound words.now.table_id.words actor.new.me.0 }
     ensures stock { IsStock stock.new actor.new.me.0 }
-    ensures out { HasRunOut actor.old.me.0 result actor.new.me.0 }
+    ensures out { IsDone actor.old.me.0 task.now.call result actor.new.me.0 }
 {
     let (call, access, link) = (task.call, task.access, reached.link);
     match reached.place {
@@ -267,7 +274,7 @@ fn call_rooted<R: Wait>(
     ensures table { actor.new.table_id ≡ actor.old.table_id }
     ensures sound { IsSound words.now.table_id.words actor.new.me.0 }
     ensures stock { IsStock stock.new actor.new.me.0 }
-    ensures out { HasRunOut actor.old.me.0 result actor.new.me.0 }
+    ensures out { IsDone actor.old.me.0 task.now.call result actor.new.me.0 }
 {
     let mut path = Path::new();
     path.push(root);
@@ -298,7 +305,7 @@ fn call_begun<R: Wait>(
     ensures table { actor.new.table_id ≡ actor.old.table_id }
     ensures sound { IsSound words.now.table_id.words actor.new.me.0 }
     ensures stock { IsStock stock.new actor.new.me.0 }
-    ensures out { HasRunOut actor.old.me.0 result actor.new.me.0 }
+    ensures out { IsDone actor.old.me.0 call result actor.new.me.0 }
 {
     let handle = call.handle();
     let way = Way { handle, access };
@@ -307,6 +314,44 @@ fn call_begun<R: Wait>(
     };
     let task = Task::new(call, access, stock.sizes().hash, rooted.generation);
     call_rooted(rt, words, actor, stock, seat, &task, rooted.slot)
+}
+
+/// A call on a key by this seat, `seat`, which hasn't begun in ever so many looks: it begins as often as it takes, and goes on as one of any kind.
+#[cold]
+#[inline(never)]
+pub(crate) fn call_late<R: Wait>(
+    rt: &R,
+    words: &Words,
+    actor: &mut Actor,
+    stock: &mut Stock,
+    seat: u8,
+    call: Call,
+) -> Result<Reply, CallError>
+    requires table { actor.old.table_id ≡ words.now.table_id }
+    requires sound { IsSound words.now.table_id.words actor.old.me.0 }
+    requires stock { IsStock stock.old actor.old.me.0 }
+    requires its { actor.old.me.0.actor ≡ seat }
+    requires few { actor.old.me.0.actor ≤ actor.old.me.0.sizes.seats }
+    requires keyed { IsKeyed call }
+    requires low { handle_of call < 256 }
+    requires ready { RestsWith actor.old.me.0 None }
+    ensures table { actor.new.table_id ≡ actor.old.table_id }
+    ensures sound { IsSound words.now.table_id.words actor.new.me.0 }
+    ensures stock { IsStock stock.new actor.new.me.0 }
+    ensures left { HasLeft actor.old.me.0 actor.new.me.0 }
+    ensures told { (before : View) → StillBegins words.now.table_id.words before call actor.old.me.0 → HasTold before call result actor.new.me.0 }
+{
+    let way = begin_call(rt, words, actor, stock, seat, call)?;
+    call_on(
+        rt,
+        words,
+        actor,
+        stock,
+        seat,
+        call,
+        way.access,
+        Attempt::Again,
+    )
 }
 
 /// A call on a key by this seat, `seat`, as long as it takes.
@@ -329,8 +374,7 @@ pub(crate) fn run_call<R: Wait>(
     ensures sound { IsSound words.now.table_id.words actor.new.me.0 }
     ensures stock { IsStock stock.new actor.new.me.0 }
     ensures left { HasLeft actor.old.me.0 actor.new.me.0 }
-    ensures told { IsTold (λ r. r) actor.old.me.0 call result actor.new.me.0 }
-    ensures counts { IsNoRefusal result }
+    ensures told { HasTold actor.old.me.0 call result actor.new.me.0 }
 {
     if call.handle() >= HANDLES {
         return Err(CallError::NoHandle);
@@ -338,7 +382,7 @@ pub(crate) fn run_call<R: Wait>(
     stock.begin();
     let way = match start_within(u64::MAX, words, actor, seat, stock.epoch(), &call) {
         Ok(Some(way)) => way,
-        Ok(None) => return Err(CallError::Spent),
+        Ok(None) => return call_late(rt, words, actor, stock, seat, call),
         Err(denial) => return Err(CallError::from(denial)),
     };
     call_begun(rt, words, actor, stock, seat, call, way.access)

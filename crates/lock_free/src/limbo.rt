@@ -2,9 +2,10 @@
 
 ghost use Rattle.std.specs.Prelude.{◌≡◌, ◌+◌, ◌≤◌, []};
 ghost use Rattle.lock_free.specs.declared.rules.View.{View};
+ghost use Rattle.lock_free.specs.Freeing.{kept_free, FreesFirst, FreesRipe};
 ghost use Rattle.lock_free.specs.Limbos.{link_to, linked_by, HasHung, HasReclaimedSome, HasTurned, IsLimbo, IsNewest};
 ghost use Rattle.lock_free.specs.Loading.{IsSound};
-ghost use Rattle.lock_free.specs.Stocks.{HoldsSlots};
+ghost use Rattle.lock_free.specs.Stocks.{HasRoom, HoldsSlots};
 
 use crate::advancing::{advance, see_epoch};
 use crate::links::{link, see_link};
@@ -114,6 +115,7 @@ fn free_one(words: &Words, actor: &mut Actor, limbo: &mut Limbo, stock: &mut Sto
     ensures limbo { IsLimbo limbo.new actor.new.me.0 }
     ensures ripe { limbo.new.aged.stamp + 3 ≤ actor.new.me.0.epoch }
     ensures reclaimed { HasReclaimedSome actor.old.me.0 actor.new.me.0 }
+    ensures freed { HasRoom stock.old kept_free → FreesFirst limbo.old actor.old.me.0 actor.new.me.0 }
 {
     let Some(slot) = limbo.aged.first else {
         return false;
@@ -141,8 +143,9 @@ fn free_some(tries: u64, words: &Words, actor: &mut Actor, limbo: &mut Limbo, st
     ensures stock { HoldsSlots stock.new actor.new.me.0 }
     ensures limbo { IsLimbo limbo.new actor.new.me.0 }
     ensures reclaimed { HasReclaimedSome actor.old.me.0 actor.new.me.0 }
+    ensures freed { 1 ≤ tries → HasRoom stock.old kept_free → FreesFirst limbo.old actor.old.me.0 actor.new.me.0 }
 {
-    for _ in 0..tries {
+    for _done in 0..tries {
         if !free_one(words, actor, limbo, stock) {
             return;
         }
@@ -167,6 +170,7 @@ pub fn reclaim_some(
     ensures stock { HoldsSlots stock.new actor.new.me.0 }
     ensures limbo { IsLimbo limbo.new actor.new.me.0 }
     ensures reclaimed { HasReclaimedSome actor.old.me.0 actor.new.me.0 }
+    ensures freed { 1 ≤ tries → HasRoom stock.old kept_free → FreesRipe limbo.old actor.old.me.0 actor.new.me.0 }
 {
     limbo.turn();
     if limbo.aged.first.is_none() {

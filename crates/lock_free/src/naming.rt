@@ -7,6 +7,7 @@ ghost use Rattle.std.specs.Prelude.{◌≡◌, ◌<◌, ◌≤◌, ◌↔◌, Al
 ghost use Rattle.history.specs.declared.calls.Call.TheVariants.{Clear, Count, Entries, Freeze, Get, Put, PutIfAbsent, Remove, RemoveIf, Replace, ReplaceIf, Snapshot};
 ghost use Rattle.history.specs.declared.replies.Reply.TheVariants as reply;
 ghost use Rattle.lock_free.specs.Finishing.{IsTold as IsToldAll};
+ghost use Rattle.lock_free.specs.KeyReplies.{FitsError};
 ghost use Rattle.lock_free.specs.Naming.{MapId, no_map};
 ghost use Rattle.lock_free.specs.Seated.{HasGoneOn, HasSplit};
 ghost use Rattle.lock_free.specs.SeatCalls.{IsTold, IsToldIfSome};
@@ -33,7 +34,7 @@ impl MapName for Brand {
 /// The words of the map for which the name stands.
 #[derive(Drop)]
 pub struct NamedWords<N: MapName> {
-    board: Board,
+    pub(crate) board: Board,
     name: PhantomData<N>,
 }
 
@@ -51,7 +52,7 @@ impl<N: MapName> Model for NamedWords<N> {
 /// A seat of the map for which the name stands.
 #[derive(Drop)]
 pub struct NamedSeat<N: MapName> {
-    seat: Seat,
+    pub(crate) seat: Seat,
     name: PhantomData<N>,
 }
 
@@ -114,7 +115,7 @@ impl<N: MapName> NamedWords<N> {
 
 impl<N: MapName> NamedSeat<N> {
     /// The seat under its map's name.
-    fn new(seat: Seat) -> NamedSeat<N>
+    pub(crate) fn new(seat: Seat) -> NamedSeat<N>
         requires { (seat.table ≡ N.map_id.table) × (seat.view.sizes ≡ N.map_id.sizes) }
         ensures { result ≡ seat }
     {
@@ -125,7 +126,7 @@ impl<N: MapName> NamedSeat<N> {
     }
 
     /// The seat without the name.
-    fn into_seat(self) -> Seat
+    pub(crate) fn into_seat(self) -> Seat
         ensures same { result ≡ self }
         ensures name { (result.table ≡ N.map_id.table) × (result.view.sizes ≡ N.map_id.sizes) }
     {
@@ -162,6 +163,7 @@ impl<N: MapName> NamedSeat<N> {
     ) -> Result<Option<u64>, CallError>
         ensures seat { HasGoneOn self.old self.new }
         ensures told { IsTold reply.Found self.old.view (Get handle key) result self.new.view }
+        ensures why { IfErr result (FitsError (Get handle key)) }
     {
         self.seat.get(rt, &words.board.shared, handle, key)
     }
@@ -176,6 +178,7 @@ impl<N: MapName> NamedSeat<N> {
     ) -> Result<bool, CallError>
         ensures seat { HasGoneOn self.old self.new }
         ensures told { IsToldIfSome self.old.view (Get handle key) result self.new.view }
+        ensures why { IfErr result (FitsError (Get handle key)) }
     {
         self.seat.contains(rt, &words.board.shared, handle, key)
     }
@@ -191,6 +194,7 @@ impl<N: MapName> NamedSeat<N> {
     ) -> Result<Option<u64>, CallError>
         ensures seat { HasGoneOn self.old self.new }
         ensures told { IsTold reply.Found self.old.view (Put handle key value) result self.new.view }
+        ensures why { IfErr result (FitsError (Put handle key value)) }
     {
         self.seat.put(rt, &words.board.shared, handle, key, value)
     }
@@ -206,6 +210,7 @@ impl<N: MapName> NamedSeat<N> {
     ) -> Result<Option<u64>, CallError>
         ensures seat { HasGoneOn self.old self.new }
         ensures told { IsTold reply.Found self.old.view (PutIfAbsent handle key value) result self.new.view }
+        ensures why { IfErr result (FitsError (PutIfAbsent handle key value)) }
     {
         self.seat
             .put_if_absent(rt, &words.board.shared, handle, key, value)
@@ -222,6 +227,7 @@ impl<N: MapName> NamedSeat<N> {
     ) -> Result<Option<u64>, CallError>
         ensures seat { HasGoneOn self.old self.new }
         ensures told { IsTold reply.Found self.old.view (Replace handle key value) result self.new.view }
+        ensures why { IfErr result (FitsError (Replace handle key value)) }
     {
         self.seat
             .replace(rt, &words.board.shared, handle, key, value)
@@ -239,6 +245,7 @@ impl<N: MapName> NamedSeat<N> {
     ) -> Result<bool, CallError>
         ensures seat { HasGoneOn self.old self.new }
         ensures told { IsTold reply.Truth self.old.view (ReplaceIf handle key old new) result self.new.view }
+        ensures why { IfErr result (FitsError (ReplaceIf handle key old new)) }
     {
         self.seat
             .replace_if(rt, &words.board.shared, handle, key, old, new)
@@ -254,6 +261,7 @@ impl<N: MapName> NamedSeat<N> {
     ) -> Result<Option<u64>, CallError>
         ensures seat { HasGoneOn self.old self.new }
         ensures told { IsTold reply.Found self.old.view (Remove handle key) result self.new.view }
+        ensures why { IfErr result (FitsError (Remove handle key)) }
     {
         self.seat.remove(rt, &words.board.shared, handle, key)
     }
@@ -269,6 +277,7 @@ impl<N: MapName> NamedSeat<N> {
     ) -> Result<bool, CallError>
         ensures seat { HasGoneOn self.old self.new }
         ensures told { IsTold reply.Truth self.old.view (RemoveIf handle key value) result self.new.view }
+        ensures why { IfErr result (FitsError (RemoveIf handle key value)) }
     {
         self.seat
             .remove_if(rt, &words.board.shared, handle, key, value)
@@ -283,6 +292,7 @@ impl<N: MapName> NamedSeat<N> {
     ) -> Result<u16, CallError>
         ensures seat { HasGoneOn self.old self.new }
         ensures told { IsToldCopy self.old.view (Snapshot handle) result self.new.view }
+        ensures why { IfErr result (FitsError (Snapshot handle)) }
     {
         self.seat.snapshot(rt, &words.board.shared, handle)
     }
@@ -296,6 +306,7 @@ impl<N: MapName> NamedSeat<N> {
     ) -> Result<u16, CallError>
         ensures seat { HasGoneOn self.old self.new }
         ensures told { IsToldCopy self.old.view (Freeze handle) result self.new.view }
+        ensures why { IfErr result (FitsError (Freeze handle)) }
     {
         self.seat.freeze(rt, &words.board.shared, handle)
     }
@@ -309,6 +320,7 @@ impl<N: MapName> NamedSeat<N> {
     ) -> Result<(), CallError>
         ensures seat { HasGoneOn self.old self.new }
         ensures told { IsTold (λ done. reply.Cleared) self.old.view (Clear handle) result self.new.view }
+        ensures why { IfErr result (FitsError (Clear handle)) }
     {
         self.seat.clear(rt, &words.board.shared, handle)
     }
@@ -331,6 +343,7 @@ impl<N: MapName> NamedSeat<N> {
     ) -> Result<Vec<(u64, u64)>, CallError>
         ensures seat { HasGoneOn self.old self.new }
         ensures told { IsTold (λ pairs. reply.Pairs pairs.items) self.old.view (Entries handle) result self.new.view }
+        ensures why { IfErr result (FitsError (Entries handle)) }
     {
         self.seat.entries(alloc, rt, &words.board.shared, handle)
     }
@@ -345,6 +358,7 @@ impl<N: MapName> NamedSeat<N> {
     ) -> Result<u64, CallError>
         ensures seat { HasGoneOn self.old self.new }
         ensures told { IsTold reply.Count self.old.view (Count handle) result self.new.view }
+        ensures why { IfErr result (FitsError (Count handle)) }
     {
         self.seat.count(alloc, rt, &words.board.shared, handle)
     }

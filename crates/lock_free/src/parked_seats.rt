@@ -1,6 +1,6 @@
 //! Calls that have only so many tries, and seats whose call is under way.
 
-ghost use Rattle.std.specs.Prelude.{◌≡◌};
+ghost use Rattle.std.specs.Prelude.{◌≡◌, ◌⊎◌};
 ghost use Rattle.history.specs.declared.calls.Call.{Call};
 ghost use Rattle.lock_free.specs.declared.rules.View.{View};
 ghost use Rattle.lock_free.specs.Attempts.{IsTried};
@@ -81,7 +81,7 @@ fn tried_by(actor: Actor, number: u8, last: u8, stock: Stock, call: Call, ran: R
 }
 
 impl Seat {
-    ghost use Rattle.lock_free.specs.TriedCalls.{GoesOnAs, HasTriedCall};
+    ghost use Rattle.lock_free.specs.TriedCalls.{GoesOnAs, HasTriedCall, NeverBegan};
 
     /// A call on a key, a clear, a snapshot or a freeze. Each of its loops takes so many tries at most, so it ends whatever other threads do.
     /// Where these are used up while something of it is under way, it goes on by `go_on`.
@@ -93,7 +93,7 @@ impl Seat {
         requires table { self.table ≡ words.now.table_id }
         requires tried { IsTried call }
         ensures seat { GoesOnAs self result }
-        ensures tried { HasTriedCall self.view call result }
+        ensures tried { HasTriedCall self.view call result ⊎ NeverBegan self.view result }
     {
         let Seat {
             mut actor,

@@ -1,13 +1,15 @@
 //! What a seat owns in plain memory: slots that are free for it, and those of the nodes that its operation has made.
 
-ghost use Rattle.std.specs.Prelude.{◌≡◌, ℕ, ◌<◌, ◌≤◌, ◌^◌, [], IsTrue, OnSome, length};
+ghost use Rattle.std.specs.Prelude.{◌≡◌, ◌<◌, ◌≤◌, ◌^◌, [], IsTrue, OnSome};
 ghost use Rattle.lock_free.specs.declared.rules.View.{View};
+ghost use Rattle.lock_free.specs.Freeing.{kept_free};
 ghost use Rattle.lock_free.specs.Limbos.{HasHung, HasReclaimedSome, IsLimbo, IsNewestOrNone};
 ghost use Rattle.lock_free.specs.Loading.{IsSound};
 ghost use Rattle.lock_free.specs.Making.{with_slot};
 ghost use Rattle.lock_free.specs.Rules.{pool_of};
-ghost use Rattle.lock_free.specs.Stocks.{HasRoom, HasSlotOrNone, IsLast, IsPopped, IsStock, NotesLast, put_back};
+ghost use Rattle.lock_free.specs.Stocks.{HasRoom, HasSlotOrNone, IsLast, IsStock, NotesLast, put_back};
 
+use crate::free_slots::Free;
 use crate::limbo::{Limbo, hang, reclaim_some};
 use crate::loads::{Actor, Words};
 use crate::reclaiming::Retiree;
@@ -40,82 +42,6 @@ pub struct OwnNode {
     pub slot: u32,
 }
 
-/// Free slots by class, the next one last.
-#[derive(Drop)]
-struct Free {
-    small: ArrayVec<u32, 128>,
-    medium: ArrayVec<u32, 128>,
-    wide: ArrayVec<u32, 128>,
-}
-
-impl Model for Free {
-    ghost use Rattle.lock_free.specs.declared.rules.Pool.{Pool};
-
-    ghost Value = { Pool };
-
-    ghost view = { λ s. record { small = s.small.items; medium = s.medium.items; wide = s.wide.items } };
-}
-
-impl Free {
-    fn new() -> Free
-        ensures small { result.small ≡ [] }
-        ensures medium { result.medium ≡ [] }
-        ensures wide { result.wide ≡ [] }
-    {
-        Free {
-            small: ArrayVec::new(),
-            medium: ArrayVec::new(),
-            wide: ArrayVec::new(),
-        }
-    }
-
-    /// The last one of this class.
-    #[inline(always)]
-    fn last(&self, class: u32) -> Option<u32>
-        ensures { IsLast (pool_of self.now class) result }
-    {
-        match class {
-            0 => self.small.last().copied(),
-            1 => self.medium.last().copied(),
-            _ => self.wide.last().copied(),
-        }
-    }
-
-    /// How many there are of the class that has most.
-    #[inline(always)]
-    fn most(&self) -> usize
-        ensures most { (class : ℕ) → length (pool_of self.now class) ≤ result }
-        ensures fits { result ≤ 128 }
-    {
-        self.small.len().max(self.medium.len()).max(self.wide.len())
-    }
-
-    /// One slot more, the next one of its class.
-    #[inline(always)]
-    fn add(&mut self, class: u32, slot: u32)
-        requires { length (pool_of self.old class) < 128 }
-        ensures { self.new ≡ with_slot self.old class slot }
-    {
-        match class {
-            0 => self.small.push(slot),
-            1 => self.medium.push(slot),
-            _ => self.wide.push(slot),
-        }
-    }
-
-    /// The last one of this class isn't free any more.
-    #[inline(always)]
-    fn pop(&mut self, class: u32) -> Option<u32>
-        ensures { IsPopped self.old class result self.new }
-    {
-        match class {
-            0 => self.small.pop(),
-            1 => self.medium.pop(),
-            _ => self.wide.pop(),
-        }
-    }
-}
-
 /// What a seat owns. It takes no memory but its own.
 #[derive(Drop)]
 pub struct Stock {
@@ -129,6 +55,8 @@ pub struct Stock {
     newly: u32,
     /// Whether its call has found no slot.
     lacks: bool,
+    /// Whether its call has found no generation.
+    worn_out: bool,
 }
 
 impl Model for Stock {
@@ -158,14 +86,16 @@ impl Stock {
             limbo: Limbo::new(),
             newly: 0,
             lacks: false,
+            worn_out: false,
         }
     }
 
-    /// A call begins, which has found no lack of slots yet.
+    /// A call begins, which has found no lack yet.
     pub fn begin(&mut self)
         ensures { self.new ≡ self.old }
     {
         self.lacks = false;
+        self.worn_out = false;
     }
 
     /// Its call has found no slot.
@@ -178,6 +108,18 @@ impl Stock {
     /// Whether its call has found no slot.
     pub fn lacks(&self) -> bool {
         self.lacks
+    }
+
+    /// Its call has found no generation.
+    pub fn wear_out(&mut self)
+        ensures { self.new ≡ self.old }
+    {
+        self.worn_out = true;
+    }
+
+    /// Whether its call has found no generation.
+    pub fn is_worn_out(&self) -> bool {
+        self.worn_out
     }
 
     /// An epoch that the seat has seen, the last one if that isn't out of range. A call that it begins is pinned in it.
@@ -213,7 +155,8 @@ impl Stock {
 
     /// Whether one slot more leaves room for all that a try may make, of any class.
     pub fn takes_back(&self) -> bool
-        ensures { IsTrue result → HasRoom self.now 2 }
+        ensures room { IsTrue result → HasRoom self.now 2 }
+        ensures takes { HasRoom self.now kept_free → IsTrue result }
     {
         self.made.len() + self.free.most() + KEPT_FREE <= MOST_KEPT
     }

@@ -1,23 +1,27 @@
 //! Calls of each kind that can be under way, in a number of tries or as long as it takes. Those that open a handle reserve a number first, and give it back where
 //! they are refused.
 
-ghost use Rattle.std.specs.Prelude.{◌≡◌, ◌<◌, ◌≤◌, ℕ, true, Some, None};
+ghost use Rattle.std.specs.Prelude.{◌≡◌, ◌<◌, ◌≤◌, ◌⊎◌, ℕ, false, Some, None};
 ghost use Rattle.history.specs.declared.calls.Call.{Call as AnyCall};
-ghost use Rattle.machine_model.specs.Calls.{opens_handle};
+ghost use Rattle.machine_model.specs.Calls.{copies, opens_handle};
 ghost use Rattle.lock_free.specs.declared.rules.View.{View};
 ghost use Rattle.lock_free.specs.Attempts.{IsTried};
+ghost use Rattle.lock_free.specs.BegunCalls.{HasReservedFor};
+ghost use Rattle.lock_free.specs.Calling.{IsRunning};
 ghost use Rattle.lock_free.specs.Loading.{IsSound};
+ghost use Rattle.lock_free.specs.Parking.{IsCome};
+ghost use Rattle.lock_free.specs.Seeking.{IsCalled};
 ghost use Rattle.lock_free.specs.Stocks.{IsStock};
 ghost use Rattle.lock_free.specs.TriedCalls.{settled, HasRunTry, HasTold, HoldsNumber, IsParkedCall};
-ghost use Rattle.lock_free.specs.UnderWay.{HasLeftBy, IsGoing};
+ghost use Rattle.lock_free.specs.UnderWay.{HasLeftBy, HasRunOut, IsGoing, IsUnderWay};
 ghost use Rattle.lock_free.specs.WholeCalls.{HasLeft, RestsWith};
 
 use crate::call_errors::CallError;
-use crate::call_runs::{HANDLES, Ran, run_on_within, run_with, run_within};
+use crate::call_runs::{HANDLES, Ran, come_out, run_on_within, run_with, run_within};
 use crate::laws::seats_are_explained;
 use crate::loads::{Actor, Words};
 use crate::numbers::{give_back, reserve};
-use crate::parking::Parked;
+use crate::parking::{Came, Parked};
 use crate::stock::Stock;
 use history::{Access, Call, Reply};
 use std::sync::Wait;
@@ -27,6 +31,28 @@ fn opens_handle(call: Call) -> bool
     ensures { result ≡ opens_handle call }
 {
     matches!(call, Call::Snapshot { .. } | Call::Freeze { .. })
+}
+
+/// Reserves a number for the handle that this call opens, if it opens one.
+#[inline(always)]
+fn reserve_for(words: &Words, actor: &mut Actor, call: Call) -> Result<Option<u16>, CallError>
+    requires table { actor.old.table_id ≡ words.now.table_id }
+    requires sound { IsSound words.now.table_id.words actor.old.me.0 }
+    requires ready { RestsWith actor.old.me.0 None }
+    ensures table { actor.new.table_id ≡ actor.old.table_id }
+    ensures sound { IsSound words.now.table_id.words actor.new.me.0 }
+    ensures reserved { HasReservedFor actor.old.me.0 call result actor.new.me.0 }
+{
+    if call.handle() >= HANDLES {
+        return Err(CallError::NoHandle);
+    }
+    if !opens_handle(call) {
+        return Ok(None);
+    }
+    match reserve(words, actor) {
+        Some(number) => Ok(Some(number)),
+        None => Err(CallError::HandlesFull),
+    }
 }
 
 /// Gives the number back that was reserved for a call, where that was refused.
@@ -47,43 +73,7 @@ fn settle_number(words: &Words, actor: &mut Actor, opens: Option<u16>, ran: &Ran
     }
 }
 
-/// A snapshot or a freeze by this seat, `seat`, each of whose loops takes so many tries at most.
-fn open_within(
-    tries: u64,
-    words: &Words,
-    actor: &mut Actor,
-    stock: &mut Stock,
-    seat: u8,
-    call: Call,
-) -> Ran
-    requires table { actor.old.table_id ≡ words.now.table_id }
-    requires sound { IsSound words.now.table_id.words actor.old.me.0 }
-    requires stock { IsStock stock.old actor.old.me.0 }
-    requires its { actor.old.me.0.actor ≡ seat }
-    requires few { actor.old.me.0.actor ≤ actor.old.me.0.sizes.seats }
-    requires tried { IsTried call }
-    requires opens { opens_handle call ≡ true }
-    requires ready { RestsWith actor.old.me.0 None }
-    ensures table { actor.new.table_id ≡ actor.old.table_id }
-    ensures sound { IsSound words.now.table_id.words actor.new.me.0 }
-    ensures stock { IsStock stock.new actor.new.me.0 }
-    ensures run { HasRunTry actor.old.me.0 call result actor.new.me.0 }
-    ensures left { HasLeftBy actor.old.me.0 call result actor.new.me.0 }
-{
-    seats_are_explained();
-    if call.handle() >= HANDLES {
-        return Ran::Told(Err(CallError::NoHandle));
-    }
-    let Some(number) = reserve(words, actor) else {
-        return Ran::Told(Err(CallError::HandlesFull));
-    };
-    let opens = Some(number);
-    let ran = run_with(tries, words, actor, stock, seat, call, opens);
-    settle_number(words, actor, opens, &ran);
-    ran
-}
-
-/// A call by this seat, `seat`, each of whose loops takes so many tries at most.
+/// A call by this seat, `seat`, whose begin and each of whose loops take so many tries at most.
 pub(crate) fn try_within(
     tries: u64,
     words: &Words,
@@ -102,15 +92,50 @@ pub(crate) fn try_within(
     ensures table { actor.new.table_id ≡ actor.old.table_id }
     ensures sound { IsSound words.now.table_id.words actor.new.me.0 }
     ensures stock { IsStock stock.new actor.new.me.0 }
+    ensures run { HasRunTry actor.old.me.0 call result actor.new.me.0 ⊎ HasRunOut actor.old.me.0 result actor.new.me.0 }
+    ensures left { HasLeftBy actor.old.me.0 call result actor.new.me.0 }
+{
+    seats_are_explained();
+    let opens = match reserve_for(words, actor, call) {
+        Ok(opens) => opens,
+        Err(why) => return Ran::Told(Err(why)),
+    };
+    let ran = run_within(tries, words, actor, stock, seat, call, opens);
+    settle_number(words, actor, opens, &ran);
+    ran
+}
+
+/// A call by this seat, `seat`, which begins as often as it takes.
+#[inline(always)]
+fn try_begun<R: Wait>(
+    rt: &R,
+    words: &Words,
+    actor: &mut Actor,
+    stock: &mut Stock,
+    seat: u8,
+    call: Call,
+) -> Ran
+    requires table { actor.old.table_id ≡ words.now.table_id }
+    requires sound { IsSound words.now.table_id.words actor.old.me.0 }
+    requires stock { IsStock stock.old actor.old.me.0 }
+    requires its { actor.old.me.0.actor ≡ seat }
+    requires few { actor.old.me.0.actor ≤ actor.old.me.0.sizes.seats }
+    requires tried { IsTried call }
+    requires ready { RestsWith actor.old.me.0 None }
+    ensures table { actor.new.table_id ≡ actor.old.table_id }
+    ensures sound { IsSound words.now.table_id.words actor.new.me.0 }
+    ensures stock { IsStock stock.new actor.new.me.0 }
     ensures run { HasRunTry actor.old.me.0 call result actor.new.me.0 }
     ensures left { HasLeftBy actor.old.me.0 call result actor.new.me.0 }
 {
     seats_are_explained();
-    if opens_handle(call) {
-        open_within(tries, words, actor, stock, seat, call)
-    } else {
-        run_within(tries, words, actor, stock, seat, call)
-    }
+    let opens = match reserve_for(words, actor, call) {
+        Ok(opens) => opens,
+        Err(why) => return Ran::Told(Err(why)),
+    };
+    let ran = run_with(rt, words, actor, stock, seat, call, opens);
+    settle_number(words, actor, opens, &ran);
+    ran
 }
 
 /// What is under way of a call by this seat, `seat`, goes on in so many tries.
@@ -144,7 +169,7 @@ pub(crate) fn try_on(
 }
 
 /// The same, until the call is over.
-fn try_until_over<R: Wait>(
+fn until_over<R: Wait>(
     rt: &R,
     words: &Words,
     actor: &mut Actor,
@@ -179,6 +204,43 @@ fn try_until_over<R: Wait>(
     unreachable!()
 }
 
+/// A call that opens no handle, whose tries have come to this, is brought to its end, as long as it takes.
+pub(crate) fn end_call<R: Wait>(
+    rt: &R,
+    words: &Words,
+    actor: &mut Actor,
+    stock: &mut Stock,
+    seat: u8,
+    call: Call,
+    access: Access,
+    came: Came,
+) -> Result<Reply, CallError>
+    requires table { actor.old.table_id ≡ words.now.table_id }
+    requires sound { IsSound words.now.table_id.words actor.old.me.0 }
+    requires stock { IsStock stock.old actor.old.me.0 }
+    requires its { actor.old.me.0.actor ≡ seat }
+    requires few { actor.old.me.0.actor ≤ actor.old.me.0.sizes.seats }
+    requires tried { IsTried call }
+    requires running { IsRunning actor.old.me.0 }
+    requires keyed { copies call ≡ false }
+    requires called { IsCalled actor.old.me.0 call access }
+    requires none { actor.old.me.0.opens ≡ None }
+    requires come { IsCome actor.old.me.0 came }
+    ensures table { actor.new.table_id ≡ actor.old.table_id }
+    ensures sound { IsSound words.now.table_id.words actor.new.me.0 }
+    ensures stock { IsStock stock.new actor.new.me.0 }
+    ensures told { (before : View) → IsUnderWay before call None actor.old.me.0 → HasTold before call result actor.new.me.0 }
+    ensures left { HasLeft actor.old.me.0 actor.new.me.0 }
+{
+    seats_are_explained();
+    match come_out(words, actor, stock, seat, call, access, came) {
+        Ran::Told(told) => told,
+        Ran::UnderWay(allowed, parked) => until_over(
+            rt, words, actor, stock, seat, call, allowed, parked,
+        ),
+    }
+}
+
 /// A call by this seat, `seat`, as long as it takes.
 pub(crate) fn run_to_end<R: Wait>(
     rt: &R,
@@ -201,9 +263,9 @@ pub(crate) fn run_to_end<R: Wait>(
     ensures told { HasTold actor.old.me.0 call result actor.new.me.0 }
     ensures left { HasLeft actor.old.me.0 actor.new.me.0 }
 {
-    match try_within(u64::MAX, words, actor, stock, seat, call) {
+    match try_begun(rt, words, actor, stock, seat, call) {
         Ran::Told(told) => told,
-        Ran::UnderWay(access, parked) => try_until_over(
+        Ran::UnderWay(access, parked) => until_over(
             rt, words, actor, stock, seat, call, access, parked,
         ),
     }

@@ -1,18 +1,19 @@
 //! A seat's calls on all pairs of a read-only handle.
 
-ghost use Rattle.std.specs.Prelude.{◌≡◌, ◌≤◌, None, IfErr};
+ghost use Rattle.std.specs.Prelude.{◌≡◌, ◌≤◌, ◌⊎◌, None, IfErr};
 ghost use Rattle.history.specs.declared.calls.Call.TheVariants.{Count, Entries};
 ghost use Rattle.history.specs.declared.replies.Reply.TheVariants as reply;
 ghost use Rattle.lock_free.specs.Attempts.{HasEndedWith};
+ghost use Rattle.lock_free.specs.KeyReplies.{FitsError};
 ghost use Rattle.lock_free.specs.Loading.{IsSound};
 ghost use Rattle.lock_free.specs.Passing.{IsOnWay};
-ghost use Rattle.lock_free.specs.SeatCalls.{IsTold};
+ghost use Rattle.lock_free.specs.SeatCalls.{IsTold, RanOut};
 ghost use Rattle.lock_free.specs.Stocks.{IsStock};
 ghost use Rattle.lock_free.specs.WholeCalls.{reply_or_none, HasLeft, IsWalkLack, IsWalkOf, RestsWith};
 
+use crate::beginning::{begin_call, begin_call_within};
 use crate::call_errors::CallError;
 use crate::call_runs::HANDLES;
-use crate::calling::{start, start_within};
 use crate::loads::{Actor, Words};
 use crate::reading::Way;
 use crate::seating::{Seat, end, refuse};
@@ -114,15 +115,13 @@ fn list_all<R: Wait>(
     ensures stock { IsStock stock.new actor.new.me.0 }
     ensures left { HasLeft actor.old.me.0 actor.new.me.0 }
     ensures told { IsTold (λ pairs. reply.Pairs pairs.items) actor.old.me.0 (Entries handle) result actor.new.me.0 }
+    ensures why { IfErr result (FitsError (Entries handle)) }
 {
     if handle >= HANDLES {
         return Err(CallError::NoHandle);
     }
-    let epoch = stock.epoch();
-    match start(rt, words, actor, seat, epoch, &Call::Entries { handle }) {
-        Ok(way) => list_from(alloc, u64::MAX, words, actor, stock, seat, way),
-        Err(denial) => Err(CallError::from(denial)),
-    }
+    let way = begin_call(rt, words, actor, stock, seat, Call::Entries { handle })?;
+    list_from(alloc, u64::MAX, words, actor, stock, seat, way)
 }
 
 /// The same, each loop on the way in so many tries.
@@ -145,17 +144,14 @@ fn list_all_within(
     ensures sound { IsSound words.now.table_id.words actor.new.me.0 }
     ensures stock { IsStock stock.new actor.new.me.0 }
     ensures left { HasLeft actor.old.me.0 actor.new.me.0 }
-    ensures told { IsTold (λ pairs. reply.Pairs pairs.items) actor.old.me.0 (Entries handle) result actor.new.me.0 }
+    ensures told { IsTold (λ pairs. reply.Pairs pairs.items) actor.old.me.0 (Entries handle) result actor.new.me.0 ⊎ RanOut actor.old.me.0 result actor.new.me.0 }
+    ensures why { IfErr result (FitsError (Entries handle)) }
 {
     if handle >= HANDLES {
         return Err(CallError::NoHandle);
     }
-    let epoch = stock.epoch();
-    match start_within(tries, words, actor, seat, epoch, &Call::Entries { handle }) {
-        Ok(Some(way)) => list_from(alloc, tries, words, actor, stock, seat, way),
-        Ok(None) => Err(CallError::Spent),
-        Err(denial) => Err(CallError::from(denial)),
-    }
+    let way = begin_call_within(tries, words, actor, stock, seat, Call::Entries { handle })?;
+    list_from(alloc, tries, words, actor, stock, seat, way)
 }
 
 /// How many pairs a read-only handle has, for this seat, `seat`.
@@ -179,15 +175,13 @@ fn count_all<R: Wait>(
     ensures stock { IsStock stock.new actor.new.me.0 }
     ensures left { HasLeft actor.old.me.0 actor.new.me.0 }
     ensures told { IsTold reply.Count actor.old.me.0 (Count handle) result actor.new.me.0 }
+    ensures why { IfErr result (FitsError (Count handle)) }
 {
     if handle >= HANDLES {
         return Err(CallError::NoHandle);
     }
-    let epoch = stock.epoch();
-    match start(rt, words, actor, seat, epoch, &Call::Count { handle }) {
-        Ok(way) => count_from(alloc, u64::MAX, words, actor, stock, seat, way),
-        Err(denial) => Err(CallError::from(denial)),
-    }
+    let way = begin_call(rt, words, actor, stock, seat, Call::Count { handle })?;
+    count_from(alloc, u64::MAX, words, actor, stock, seat, way)
 }
 
 /// The same, each loop on the way in so many tries.
@@ -210,17 +204,14 @@ fn count_all_within(
     ensures sound { IsSound words.now.table_id.words actor.new.me.0 }
     ensures stock { IsStock stock.new actor.new.me.0 }
     ensures left { HasLeft actor.old.me.0 actor.new.me.0 }
-    ensures told { IsTold reply.Count actor.old.me.0 (Count handle) result actor.new.me.0 }
+    ensures told { IsTold reply.Count actor.old.me.0 (Count handle) result actor.new.me.0 ⊎ RanOut actor.old.me.0 result actor.new.me.0 }
+    ensures why { IfErr result (FitsError (Count handle)) }
 {
     if handle >= HANDLES {
         return Err(CallError::NoHandle);
     }
-    let epoch = stock.epoch();
-    match start_within(tries, words, actor, seat, epoch, &Call::Count { handle }) {
-        Ok(Some(way)) => count_from(alloc, tries, words, actor, stock, seat, way),
-        Ok(None) => Err(CallError::Spent),
-        Err(denial) => Err(CallError::from(denial)),
-    }
+    let way = begin_call_within(tries, words, actor, stock, seat, Call::Count { handle })?;
+    count_from(alloc, tries, words, actor, stock, seat, way)
 }
 
 impl Seat {
@@ -241,6 +232,7 @@ impl Seat {
         requires table { self.old.table ≡ words.now.table_id }
         ensures seat { HasGoneOn self.old self.new }
         ensures told { IsTold (λ pairs. reply.Pairs pairs.items) self.old.view (Entries handle) result self.new.view }
+        ensures why { IfErr result (FitsError (Entries handle)) }
     {
         let (actor, stock) = (&mut self.actor, &mut self.stock);
         list_all(alloc, rt, words, actor, stock, self.number, handle)
@@ -260,7 +252,8 @@ impl Seat {
     ) -> Result<Vec<(u64, u64)>, CallError>
         requires table { self.old.table ≡ words.now.table_id }
         ensures seat { HasGoneOn self.old self.new }
-        ensures told { IsTold (λ pairs. reply.Pairs pairs.items) self.old.view (Entries handle) result self.new.view }
+        ensures told { IsTold (λ pairs. reply.Pairs pairs.items) self.old.view (Entries handle) result self.new.view ⊎ RanOut self.old.view result self.new.view }
+        ensures why { IfErr result (FitsError (Entries handle)) }
     {
         let (actor, stock) = (&mut self.actor, &mut self.stock);
         list_all_within(alloc, tries, words, actor, stock, self.number, handle)
@@ -281,6 +274,7 @@ impl Seat {
         requires table { self.old.table ≡ words.now.table_id }
         ensures seat { HasGoneOn self.old self.new }
         ensures told { IsTold reply.Count self.old.view (Count handle) result self.new.view }
+        ensures why { IfErr result (FitsError (Count handle)) }
     {
         let (actor, stock) = (&mut self.actor, &mut self.stock);
         count_all(alloc, rt, words, actor, stock, self.number, handle)
@@ -300,7 +294,8 @@ impl Seat {
     ) -> Result<u64, CallError>
         requires table { self.old.table ≡ words.now.table_id }
         ensures seat { HasGoneOn self.old self.new }
-        ensures told { IsTold reply.Count self.old.view (Count handle) result self.new.view }
+        ensures told { IsTold reply.Count self.old.view (Count handle) result self.new.view ⊎ RanOut self.old.view result self.new.view }
+        ensures why { IfErr result (FitsError (Count handle)) }
     {
         let (actor, stock) = (&mut self.actor, &mut self.stock);
         count_all_within(alloc, tries, words, actor, stock, self.number, handle)

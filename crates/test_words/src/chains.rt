@@ -179,6 +179,23 @@ fn look_at_copy<N: MapName, R: Wait>(
     Ok(is_right && is_empty)
 }
 
+/// A thread's round with one of its chains.
+fn turn<N: MapName, R: Wait>(
+    rt: &R,
+    words: &NamedWords<N>,
+    seat: &mut NamedSeat<N>,
+    load: Load,
+    chain: u64,
+    n: u64,
+) -> Result<(), CallError> {
+    write_chain(rt, words, seat, load, chain, n)?;
+    let round = n.wrapping_add(load.seed);
+    if round % REMOVED == 0 {
+        cut_chain(rt, words, seat, load, chain, round % 19)?;
+    }
+    Ok(())
+}
+
 /// A thread's rounds.
 fn work<N: MapName, R: Wait>(
     rt: &R,
@@ -194,12 +211,8 @@ fn work<N: MapName, R: Wait>(
     };
     for n in 0..load.rounds {
         let round = n.wrapping_add(load.seed);
-        for chain in [first, first + 1] {
-            write_chain(rt, words, seat, load, chain, n)?;
-            if round % REMOVED == 0 {
-                cut_chain(rt, words, seat, load, chain, round % 19)?;
-            }
-        }
+        turn(rt, words, seat, load, first, n)?;
+        turn(rt, words, seat, load, first + 1, n)?;
         if round % EVERY == 0 {
             let is_right = look_at_copy(rt, alloc, words, seat, load, round)?;
             seen.copies = seen.copies.saturating_add(1);

@@ -3,6 +3,8 @@
 //! `test_words mixed THREADS CALLS KEYS HASH SEED` lets so many threads make so many calls each, of all kinds and on so many keys, and
 //! writes the history of what they were told. One atomic count that they share says in which order the calls began and ended.
 //!
+//! `test_words tried ..` does the same in ever more tries, from one on; where these are used up a call goes on by one try after the other.
+//!
 //! `test_words chains THREADS ROUNDS HASH SEED` lets each of them write the keys of its chains in order, over and over, and look at
 //! frozen copies of the map, in which each chain of any thread has to stand in order. The exit status is 3 where one doesn't.
 //!
@@ -12,6 +14,7 @@
 //! done, and nothing written that hangs on the schedule.
 #![tactic(auto)]
 
+mod callers;
 mod calls;
 mod chains;
 mod keys;
@@ -20,9 +23,11 @@ mod maps;
 mod mixed;
 mod seats;
 mod told;
+mod tries;
 mod walks;
 mod words;
 
+use crate::callers::Manner;
 use crate::maps::Trouble;
 use std::process::ExitCode;
 use std::rt::Env;
@@ -42,7 +47,8 @@ enum Task {
 fn task_of(words: &[String]) -> Option<Task> {
     let (name, others) = words.split_first()?;
     match name.as_str() {
-        "mixed" => Some(Task::Mixed(mixed::load_of(others)?)),
+        "mixed" => Some(Task::Mixed(mixed::load_of(Manner::Waits, others)?)),
+        "tried" => Some(Task::Mixed(mixed::load_of(Manner::Tries, others)?)),
         "chains" => Some(Task::Chains(chains::load_of(others)?)),
         "walk" => Some(Task::Walk(walks::load_of(others)?)),
         _ => None,
@@ -63,7 +69,8 @@ fn carry_out<R: Threads + Wait + Sync + Print + AllocGlobal>(
 
 /// A little of each. Whether all is right.
 fn little<R: Threads + Wait + Sync + Print + AllocGlobal>(rt: &R) -> Result<bool, Trouble> {
-    mixed::small(rt)?;
+    mixed::small(rt, Manner::Waits)?;
+    mixed::small(rt, Manner::Tries)?;
     walks::small(rt)?;
     chains::small(rt)
 }

@@ -2,14 +2,13 @@
 
 ghost use Rattle.std.specs.Prelude.{◌≡◌};
 
+use crate::callers::{Caller, Manner};
 use crate::calls::Drawing;
-use crate::made::make;
 use crate::maps::{Trouble, sizes_for};
 use crate::seats::seats_of;
-use crate::told::{Told, write_history};
+use crate::told::write_history;
 use crate::words::{hash, number, threads};
 use ctrie_base::HashKind;
-use history::{Call, Reply};
 use lock_free::{Board, MapName, NamedSeat, NamedWords, Seat, named, open};
 use std::alloc::Global;
 use std::io::{BufWriter, Write};
@@ -22,6 +21,7 @@ use std::thread::Threads;
 /// What is done: so many calls by each of so many threads, on so many keys.
 #[derive(Clone, Copy)]
 pub struct Load {
+    manner: Manner,
     threads: u8,
     calls: u64,
     keys: u64,
@@ -39,13 +39,6 @@ struct Shared {
     there: AtomicU64,
 }
 
-/// A seat, and what it was told.
-#[derive(Drop)]
-struct Caller<N: MapName> {
-    seat: NamedSeat<N>,
-    told: Vec<Told>,
-}
-
 /// Waits for all threads, or a while.
 fn meet(shared: &Shared, threads: u8) {
     shared.there.fetch_add(1, Ordering::SeqCst);
@@ -54,56 +47,6 @@ fn meet(shared: &Shared, threads: u8) {
             return;
         }
         thread::yield_now();
-    }
-}
-
-impl<N: MapName> Caller<N> {
-    /// Makes this call, and notes what it was told, if that is in the history. Returns that.
-    fn call<R: Wait>(
-        &mut self,
-        rt: &R,
-        alloc: Global,
-        words: &NamedWords<N>,
-        shared: &Shared,
-        call: Call,
-    ) -> Result<Option<&Reply>, Trouble> {
-        let begin = shared.count.fetch_add(1, Ordering::SeqCst);
-        let made = make(rt, alloc, words, &mut self.seat, &call);
-        let end = shared.count.fetch_add(1, Ordering::SeqCst);
-        let Some(reply) = made else {
-            return Ok(None);
-        };
-        self.told.push(Told {
-            begin,
-            end,
-            call,
-            reply,
-        })?;
-        Ok(self.told.last().map(|told| &told.reply))
-    }
-
-    /// Lists what each handle names, and closes those that are read-only.
-    fn list_all<R: Wait>(
-        &mut self,
-        rt: &R,
-        alloc: Global,
-        words: &NamedWords<N>,
-        shared: &Shared,
-    ) -> Result<(), Trouble> {
-        for handle in 0..256 {
-            let listed = self.call(rt, alloc, words, shared, Call::Entries { handle })?;
-            if listed.is_some() {
-                self.call(rt, alloc, words, shared, Call::Close { handle })?;
-                continue;
-            }
-            let frozen = self.call(rt, alloc, words, shared, Call::Freeze { handle })?;
-            if let Some(Reply::Opened(copy)) = frozen {
-                let handle = *copy;
-                self.call(rt, alloc, words, shared, Call::Entries { handle })?;
-                self.call(rt, alloc, words, shared, Call::Close { handle })?;
-            }
-        }
-        Ok(())
     }
 }
 
@@ -117,16 +60,29 @@ fn work<N: MapName, R: Wait>(
     seat: NamedSeat<N>,
 ) -> Result<Caller<N>, Trouble> {
     let mut drawing = Drawing::new(load.seed, seat.number(), load.keys, load.hash);
-    let mut caller = Caller {
-        seat,
-        told: Vec::new(alloc),
-    };
+    let mut caller = Caller::new(alloc, seat);
     meet(shared, load.threads);
     for _ in 0..load.calls {
         let call = drawing.call();
-        if let Some(reply) = caller.call(rt, alloc, words, shared, call)? {
+        caller = caller.call_so(rt, alloc, words, &shared.count, load.manner, call)?;
+        if let Some(reply) = caller.reply() {
             drawing.learn(&call, reply);
         }
+    }
+    Ok(caller)
+}
+
+/// Lists what each handle names, and closes those that are read-only.
+fn list_all<N: MapName, R: Wait>(
+    rt: &R,
+    alloc: Global,
+    words: &NamedWords<N>,
+    shared: &Shared,
+    caller: Caller<N>,
+) -> Result<Caller<N>, Trouble> {
+    let mut caller = caller;
+    for handle in 0..256 {
+        caller = caller.list(rt, alloc, words, &shared.count, handle)?;
     }
     Ok(caller)
 }
@@ -159,11 +115,12 @@ fn write_calls<N: MapName + Send + Sync, R: Threads + Wait + Sync + AllocGlobal,
     let mut histories = Vec::new(alloc);
     for caller in callers {
         let mut caller = caller?;
-        if caller.seat.number() == load.threads {
-            caller.list_all(rt, alloc, &words, &shared)?;
+        if caller.number() == load.threads {
+            caller = list_all(rt, alloc, &words, &shared, caller)?;
         }
-        seats.push(caller.seat)?;
-        histories.push(caller.told)?;
+        let (seat, told) = caller.into_parts();
+        seats.push(seat)?;
+        histories.push(told)?;
     }
     if words.finish(alloc, seats).is_err() {
         return Err(Trouble::Memory);
@@ -187,9 +144,10 @@ pub fn write<R: Threads + Wait + Sync + AllocGlobal, W: Write + Drop>(
     Ok(())
 }
 
-/// The load of these words.
-pub fn load_of(words: &[String]) -> Option<Load> {
+/// The load of these words, in which calls are made in this manner.
+pub fn load_of(manner: Manner, words: &[String]) -> Option<Load> {
     Some(Load {
+        manner,
         threads: threads(words.get(0))?,
         calls: number(words.get(1))?,
         keys: number(words.get(2))?,
@@ -198,9 +156,13 @@ pub fn load_of(words: &[String]) -> Option<Load> {
     })
 }
 
-/// Few calls.
-pub fn small<R: Threads + Wait + Sync + Print + AllocGlobal>(rt: &R) -> Result<(), Trouble> {
+/// Few calls, made in this manner.
+pub fn small<R: Threads + Wait + Sync + Print + AllocGlobal>(
+    rt: &R,
+    manner: Manner,
+) -> Result<(), Trouble> {
     let load = Load {
+        manner,
         threads: 2,
         calls: 200,
         keys: 12,

@@ -28,12 +28,17 @@ fn takers(alloc: Global, threads: &[Vec<Told>], count: u64) -> Result<Vec<u8>, T
     let mut actor = 0u8;
     for thread in threads {
         actor = actor.saturating_add(1);
-        for told in thread {
-            mark(&mut takers, told.begin, actor);
-            mark(&mut takers, told.end, actor);
-        }
+        mark_all(&mut takers, thread.as_slice(), actor);
     }
     Ok(takers)
+}
+
+/// The numbers of these calls were taken by this thread.
+fn mark_all(takers: &mut Vec<u8>, thread: &[Told], actor: u8) {
+    for told in thread {
+        mark(takers, told.begin, actor);
+        mark(takers, told.end, actor);
+    }
 }
 
 /// This number was taken by this thread.
@@ -64,14 +69,8 @@ impl Teller {
     }
 }
 
-/// Writes the history of what these threads were told: a line for each begin and end, in the order of the count.
-pub fn write_history<W: Write>(
-    alloc: Global,
-    output: &mut W,
-    threads: Vec<Vec<Told>>,
-    count: u64,
-) -> Result<(), Trouble> {
-    let takers = takers(alloc, threads.as_slice(), count)?;
+/// What these threads were told, each in its own order, the last first.
+fn tellers(alloc: Global, threads: Vec<Vec<Told>>) -> Result<Vec<Teller>, Trouble> {
     let mut tellers = Vec::new(alloc);
     for mut left in threads {
         left.reverse();
@@ -80,6 +79,18 @@ pub fn write_history<W: Write>(
             running: None,
         })?;
     }
+    Ok(tellers)
+}
+
+/// Writes the history of what these threads were told: a line for each begin and end, in the order of the count.
+pub fn write_history<W: Write>(
+    alloc: Global,
+    output: &mut W,
+    threads: Vec<Vec<Told>>,
+    count: u64,
+) -> Result<(), Trouble> {
+    let takers = takers(alloc, threads.as_slice(), count)?;
+    let mut tellers = tellers(alloc, threads)?;
     let mut begun = 0u64;
     for actor in takers {
         let place = usize::from(actor).wrapping_sub(1);

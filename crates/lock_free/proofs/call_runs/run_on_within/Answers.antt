@@ -13,8 +13,8 @@ pub come_out-requires-clause-come : goal.come_out-requires-clause-come
 come_out-requires-clause-come c = c.go_on-came.ensures.run.1
 
 pub returns-clause-run : goal.returns-clause-run
-returns-clause-run c before call opens under =
-    run_out before call opens c.args.actor.now.me.0 c.go_on-came.new.actor.me.0 under c.go_on-came.ensures.run.0 c.args.access c.come_out.result c.come_out.new.actor.me.0 c.come_out.ensures.out
+returns-clause-run c before opens under =
+    run_out before c.args.call opens c.args.actor.now.me.0 c.go_on-came.new.actor.me.0 under c.go_on-came.ensures.run.0 c.args.access c.come_out.result c.come_out.new.actor.me.0 c.come_out.ensures.out
 
 pub returns-clause-left : goal.returns-clause-left
 returns-clause-left c =

@@ -14,3 +14,6 @@ returns-in-Ok-clause-told g c =
 pub returns-in-Err-clause-told : goal.returns-in-Err-clause-told
 returns-in-Err-clause-told g c =
     told_refused c.args.actor.now.me.0 c.run_to_end.new.actor.me.0 c.args.call c.requires.opens (Err c.in-Err.error) (c.in-Err.ensures {u = tt}).told c.in-Err.error refl
+
+pub returns-in-Err-clause-why : goal.returns-in-Err-clause-why
+returns-in-Err-clause-why g c = (c.in-Err.ensures {u = tt}).told.why

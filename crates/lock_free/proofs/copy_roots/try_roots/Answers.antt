@@ -6,7 +6,7 @@ use Rattle.lock_free.proofs.RootMakes.{own_root_word, root_fits, root_ready, sti
 use Rattle.lock_free.proofs.copy_roots.try_roots.Goals as goal
 
 pub loop-init : goal.loop-init
-loop-init c = (refl, c.requires.sound, refl)
+loop-init c = (refl, c.requires.sound, refl, refl)
 
 pub returns-then-generation-ge-GENERATIONS-clause-table : goal.returns-then-generation-ge-GENERATIONS-clause-table
 returns-then-generation-ge-GENERATIONS-clause-table c = c.loop.invariant.0
@@ -60,7 +60,17 @@ loop-preserved c =
       c.make_root.ensures.table ∙ c.draft.ensures.table ∙ c.loop.invariant.0,
       c.make_root.ensures.sound,
       same ∙ drafted ∙ ap (λ (x : View). record c.args.actor.now.me.0 { drafts = x.drafts }) (sym same),
+      c.loop.invariant.3,
     )
 
 pub returns-clause-tried : goal.returns-clause-tried
 returns-clause-tried c = (c.loop.actor.me.0, c.loop.invariant.2, (0, ((λ e. absurd (false≢true e)), (λ e. refl))))
+
+pub returns-then-generation-ge-GENERATIONS-clause-stock : goal.returns-then-generation-ge-GENERATIONS-clause-stock
+returns-then-generation-ge-GENERATIONS-clause-stock c = c.wear_out.ensures ∙ c.loop.invariant.3
+
+pub returns-then-make_root-clause-stock : goal.returns-then-make_root-clause-stock
+returns-then-make_root-clause-stock c = c.loop.invariant.3
+
+pub returns-clause-stock : goal.returns-clause-stock
+returns-clause-stock c = c.loop.invariant.3

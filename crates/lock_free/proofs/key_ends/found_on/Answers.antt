@@ -1,4 +1,4 @@
-use Rattle.lock_free.proofs.KeyEnds.{attempted_as, attempted_runs, calling_on, out_since}
+use Rattle.lock_free.proofs.KeyEnds.{attempted_as, attempted_runs, calling_on, done_since}
 use Rattle.lock_free.proofs.RunningOn.{runs_on_both}
 use Rattle.lock_free.proofs.key_ends.found_on.Goals as goal
 
@@ -18,5 +18,6 @@ returns-clause-out g c =
     let v = c.args.actor.now.me.0 in
     let w = c.found_on_within-tried.new.actor.me.0 in
     let x = c.attempt_of-attempt.new.actor.me.0 in
-    out_since v x (runs_on_both v w x c.found_on_within-tried.ensures.runs (attempted_runs w x c.attempt_of-attempt.result c.attempt_of-attempt.ensures.attempted)) c.call_on.result
+    done_since v x (runs_on_both v w x c.found_on_within-tried.ensures.runs (attempted_runs w x c.attempt_of-attempt.result c.attempt_of-attempt.ensures.attempted)) c.args.task.now.call
+    c.call_on.result
     c.call_on.new.actor.me.0 c.call_on.ensures.out

@@ -1,5 +1,5 @@
 use Rattle.lock_free.specs.Attempts.{attempted_by}
-use Rattle.lock_free.proofs.KeyEnds.{attempted_as, attempted_runs, calling_on, out_since}
+use Rattle.lock_free.proofs.KeyEnds.{attempted_as, attempted_runs, calling_on, done_since}
 use Rattle.lock_free.proofs.key_ends.give_and_end.Goals as goal
 
 pub end_change-requires-clause-calling : goal.end_change-requires-clause-calling
@@ -14,6 +14,6 @@ end_change-requires-clause-at g c =
 
 pub returns-clause-out : goal.returns-clause-out
 returns-clause-out g c =
-    out_since c.args.actor.now.me.0 c.give_value-swapped.new.actor.me.0 (attempted_runs c.args.actor.now.me.0 c.give_value-swapped.new.actor.me.0 (attempted_by c.give_value-swapped.result
-    c.args.task.now.call c.args.former) c.give_value-swapped.ensures.attempted) c.end_change.result c.end_change.new.actor.me.0
+    done_since c.args.actor.now.me.0 c.give_value-swapped.new.actor.me.0 (attempted_runs c.args.actor.now.me.0 c.give_value-swapped.new.actor.me.0 (attempted_by c.give_value-swapped.result
+    c.args.task.now.call c.args.former) c.give_value-swapped.ensures.attempted) c.args.task.now.call c.end_change.result c.end_change.new.actor.me.0
     c.end_change.ensures.out

@@ -1,6 +1,6 @@
 use Rattle.std.proofs.Common.{sym, subst}
 use Rattle.lock_free.specs.Descending.{HasFound, IsHere, IsRemovingAt}
-use Rattle.lock_free.proofs.KeyEnds.{calling_on, found_as, found_runs, found_stock, found_task, out_since}
+use Rattle.lock_free.proofs.KeyEnds.{calling_on, found_as, found_runs, found_stock, found_task, done_since}
 use Rattle.lock_free.proofs.key_ends.removal_on.Goals as goal
 
 pub remove-found-requires-clause-at : goal.remove-found-requires-clause-at
@@ -35,6 +35,6 @@ found_on-requires-clause-at g c =
 
 pub returns-clause-out : goal.returns-clause-out
 returns-clause-out g c =
-    out_since c.args.actor.now.me.0 c.remove-found.new.actor.me.0 (found_runs c.args.actor.now.me.0 c.remove-found.new.actor.me.0 c.args.path.now.items c.remove-found.result (subst (λ xs.
-    HasFound c.args.actor.now.me.0 xs c.remove-found.result c.remove-found.new.actor.me.0) c.as_slice.ensures.value c.remove-found.ensures.found))
+    done_since c.args.actor.now.me.0 c.remove-found.new.actor.me.0 (found_runs c.args.actor.now.me.0 c.remove-found.new.actor.me.0 c.args.path.now.items c.remove-found.result (subst (λ xs.
+    HasFound c.args.actor.now.me.0 xs c.remove-found.result c.remove-found.new.actor.me.0) c.as_slice.ensures.value c.remove-found.ensures.found)) c.args.task.now.call
     c.found_on.result c.found_on.new.actor.me.0 c.found_on.ensures.out

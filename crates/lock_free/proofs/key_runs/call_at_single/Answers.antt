@@ -3,7 +3,7 @@ use Rattle.lock_free.specs.declared.finding.Met.TheVariants as met
 use Rattle.lock_free.proofs.BranchEntries.{beside_there, met_runs, met_stock, met_task, one_found, single_ready}
 use Rattle.lock_free.proofs.CallBegins.{same_run}
 use Rattle.lock_free.proofs.CallsUnderWay.{few_then}
-use Rattle.lock_free.proofs.KeyEnds.{calling_on, out_since}
+use Rattle.lock_free.proofs.KeyEnds.{calling_on, done_since}
 use Rattle.lock_free.proofs.OfTasks.{on_key}
 use Rattle.lock_free.proofs.key_runs.call_at_single.Goals as goal
 
@@ -36,8 +36,8 @@ call_at_key-requires-clause-at g c =
 
 pub returns-in-Found-clause-out : goal.returns-in-Found-clause-out
 returns-in-Found-clause-out g c =
-    out_since c.args.actor.now.me.0 c.meet_single.new.actor.me.0 (met_runs c.args.actor.now.me.0 c.meet_single.new.actor.me.0 c.args.path.now.items c.args.given c.args.position c.args.slot
-    c.requires.at (met.Found c.in-Found.value) c.in-Found.ensures.met) c.call_at_key.result c.call_at_key.new.actor.me.0 c.call_at_key.ensures.out
+    done_since c.args.actor.now.me.0 c.meet_single.new.actor.me.0 (met_runs c.args.actor.now.me.0 c.meet_single.new.actor.me.0 c.args.path.now.items c.args.given c.args.position c.args.slot
+    c.requires.at (met.Found c.in-Found.value) c.in-Found.ensures.met) c.args.task.now.call c.call_at_key.result c.call_at_key.new.actor.me.0 c.call_at_key.ensures.out
 
 pub call_beside-requires-clause-stock : goal.call_beside-requires-clause-stock
 call_beside-requires-clause-stock g c =
@@ -61,8 +61,8 @@ call_beside-requires-clause-at g c =
 
 pub returns-in-Other-clause-out : goal.returns-in-Other-clause-out
 returns-in-Other-clause-out g c =
-    out_since c.args.actor.now.me.0 c.meet_single.new.actor.me.0 (met_runs c.args.actor.now.me.0 c.meet_single.new.actor.me.0 c.args.path.now.items c.args.given c.args.position c.args.slot
-    c.requires.at met.Other c.in-Other.ensures.met) c.call_beside.result c.call_beside.new.actor.me.0 c.call_beside.ensures.out
+    done_since c.args.actor.now.me.0 c.meet_single.new.actor.me.0 (met_runs c.args.actor.now.me.0 c.meet_single.new.actor.me.0 c.args.path.now.items c.args.given c.args.position c.args.slot
+    c.requires.at met.Other c.in-Other.ensures.met) c.args.task.now.call c.call_beside.result c.call_beside.new.actor.me.0 c.call_beside.ensures.out
 
 pub call_at_key-requires-clause-its : goal.call_at_key-requires-clause-its
 call_at_key-requires-clause-its g c =

@@ -3,9 +3,10 @@ use Rattle.machine_model.specs.Beneath.ctrie_base.specs.Hashes.{hash_of}
 use Rattle.machine_model.specs.Lines.{new_try}
 use Rattle.lock_free.specs.declared.leaving.Left.TheVariants as left
 use Rattle.lock_free.specs.declared.rooting.Rooted.{Rooted}
+use Rattle.lock_free.specs.KeyRuns.{IsDone}
 use Rattle.lock_free.specs.Leaving.{HasLeftOff}
 use Rattle.lock_free.proofs.GetsWhole.{off_may, off_runs_on}
-use Rattle.lock_free.proofs.KeyEnds.{calling_on, calling_task, out_since}
+use Rattle.lock_free.proofs.KeyEnds.{calling_on, calling_task, done_since}
 use Rattle.lock_free.proofs.Leavings.{left_stock}
 use Rattle.lock_free.proofs.ParkedOn.{way_called}
 use Rattle.lock_free.proofs.RunningOn.{runs_on_rooted}
@@ -34,8 +35,8 @@ spent_on-requires-clause-may g c =
 
 pub returns-in_default-clause-out : goal.returns-in_default-clause-out
 returns-in_default-clause-out g c =
-    out_since c.args.actor.now.me.0 c.seek_root_within.new.actor.me.0 (off_runs_on c.args.actor.now.me.0 c.requires.at c.seek_root_within.new.actor.me.0 (subst (λ (r : Option Rooted). IfNone r
-    (HasLeftOff c.args.actor.now.me.0 left.MayGiveUp c.seek_root_within.new.actor.me.0)) c.in_default.is c.seek_root_within.ensures.left))
+    done_since c.args.actor.now.me.0 c.seek_root_within.new.actor.me.0 (off_runs_on c.args.actor.now.me.0 c.requires.at c.seek_root_within.new.actor.me.0 (subst (λ (r : Option Rooted). IfNone r
+    (HasLeftOff c.args.actor.now.me.0 left.MayGiveUp c.seek_root_within.new.actor.me.0)) c.in_default.is c.seek_root_within.ensures.left)) c.args.call
     c.spent_on.result c.spent_on.new.actor.me.0 c.spent_on.ensures.out
 
 pub call_rooted-requires-clause-stock : goal.call_rooted-requires-clause-stock
@@ -66,6 +67,6 @@ call_rooted-requires-clause-at g c =
 
 pub returns-clause-out : goal.returns-clause-out
 returns-clause-out g c =
-    out_since c.args.actor.now.me.0 c.seek_root_within.new.actor.me.0 (runs_on_rooted c.args.actor.now.me.0 c.seek_root_within.new.actor.me.0 c.in-Some.rooted (c.in-Some.ensures {u =
-    tt}).rooted) c.call_rooted.result
-    c.call_rooted.new.actor.me.0 c.call_rooted.ensures.out
+    done_since c.args.actor.now.me.0 c.seek_root_within.new.actor.me.0 (runs_on_rooted c.args.actor.now.me.0 c.seek_root_within.new.actor.me.0 c.in-Some.rooted (c.in-Some.ensures {u =
+    tt}).rooted) c.args.call c.call_rooted.result c.call_rooted.new.actor.me.0
+    (subst (λ k. IsDone c.seek_root_within.new.actor.me.0 k c.call_rooted.result c.call_rooted.new.actor.me.0) c.new-task.ensures.given.0 c.call_rooted.ensures.out)

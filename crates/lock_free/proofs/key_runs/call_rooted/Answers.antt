@@ -7,7 +7,7 @@ use Rattle.lock_free.specs.declared.reaching.Reached.{Reached}
 use Rattle.lock_free.specs.Descending.{IsOnPath}
 use Rattle.lock_free.specs.Leaving.{OrSpent}
 use Rattle.lock_free.specs.Reaching.{HasReached}
-use Rattle.lock_free.proofs.KeyEnds.{calling_on, out_since, spent_may, spent_runs, spent_stock}
+use Rattle.lock_free.proofs.KeyEnds.{calling_on, done_since, spent_may, spent_runs, spent_stock}
 use Rattle.lock_free.proofs.PlacesReached.{reached_runs_on, reached_stock, reached_task}
 use Rattle.lock_free.proofs.key_runs.call_rooted.Goals as goal
 
@@ -35,9 +35,9 @@ spent_on-requires-clause-may g c =
 
 pub returns-in_default-clause-out : goal.returns-in_default-clause-out
 returns-in_default-clause-out g c =
-    out_since c.args.actor.now.me.0 c.go_down_within.new.actor.me.0 (spent_runs c.args.actor.now.me.0 c.go_down_within.new.actor.me.0 (subst (λ (r : Option Reached). OrSpent (λ (x : Reached).
+    done_since c.args.actor.now.me.0 c.go_down_within.new.actor.me.0 (spent_runs c.args.actor.now.me.0 c.go_down_within.new.actor.me.0 (subst (λ (r : Option Reached). OrSpent (λ (x : Reached).
     HasReached c.args.actor.now.me.0 c.args.task.now c.go_down_within.new.path.items x c.go_down_within.new.actor.me.0) r c.args.actor.now.me.0 c.go_down_within.new.actor.me.0) c.in_default.is
-    c.go_down_within.ensures.reached))
+    c.go_down_within.ensures.reached)) c.args.task.now.call
     c.spent_on.result c.spent_on.new.actor.me.0 c.spent_on.ensures.out
 
 pub call_there-requires-clause-stock : goal.call_there-requires-clause-stock
@@ -65,6 +65,7 @@ call_there-requires-clause-at g c = (c.in-Some.ensures {u = tt}).reached.at
 pub returns-clause-out : goal.returns-clause-out
 returns-clause-out g c =
     let at = subst (λ xs. IsOnPath c.args.actor.now.me.0 xs) (sym (c.push.ensures.items ∙ ap (λ xs. xs ++ c.args.root ∷ []) c.new-path.ensures)) c.requires.at in
-    out_since c.args.actor.now.me.0 c.go_down_within.new.actor.me.0 (reached_runs_on c.args.actor.now.me.0 (line.Key (key.Read at.0 (reading (current at.0)))) at.1
-    c.go_down_within.new.actor.me.0 c.args.task.now c.go_down_within.new.path.items c.in-Some.reached (c.in-Some.ensures {u = tt}).reached) c.call_there.result c.call_there.new.actor.me.0
+    done_since c.args.actor.now.me.0 c.go_down_within.new.actor.me.0 (reached_runs_on c.args.actor.now.me.0 (line.Key (key.Read at.0 (reading (current at.0)))) at.1
+    c.go_down_within.new.actor.me.0 c.args.task.now c.go_down_within.new.path.items c.in-Some.reached (c.in-Some.ensures {u = tt}).reached) c.args.task.now.call c.call_there.result
+    c.call_there.new.actor.me.0
     c.call_there.ensures.out

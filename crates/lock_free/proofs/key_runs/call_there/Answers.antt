@@ -11,7 +11,7 @@ use Rattle.lock_free.specs.Reaching.{IsAtPlace}
 use Rattle.lock_free.specs.Holding.{IsOn}
 use Rattle.lock_free.proofs.Descents.{task_stayed}
 use Rattle.lock_free.proofs.HeadersSeen.{as_given, as_placed, built_held, built_on, built_place, built_stayed, one_given, one_held, one_stayed}
-use Rattle.lock_free.proofs.KeyEnds.{calling_on, out_since}
+use Rattle.lock_free.proofs.KeyEnds.{calling_on, done_since}
 use Rattle.lock_free.proofs.PlacesReached.{answers_absent, builds_absent}
 use Rattle.lock_free.proofs.RunningOn.{runs_on_stayed}
 use Rattle.lock_free.proofs.StockStays.{stock_stayed}
@@ -53,10 +53,10 @@ call_at_single-requires-clause-at g c =
 
 pub returns-in-Single-clause-out : goal.returns-in-Single-clause-out
 returns-in-Single-clause-out g c =
-    out_since c.args.actor.now.me.0 c.see_given-given.new.actor.me.0 (runs_on_stayed c.args.actor.now.me.0 c.see_given-given.new.actor.me.0 (one_stayed c.args.words.now.table_id.words
+    done_since c.args.actor.now.me.0 c.see_given-given.new.actor.me.0 (runs_on_stayed c.args.actor.now.me.0 c.see_given-given.new.actor.me.0 (one_stayed c.args.words.now.table_id.words
     c.args.actor.now.me.0 c.requires.sound c.args.path.now.items c.args.reached.link c.in-Single.position c.in-Single.slot (subst (λ (p : Place). IsThere c.args.actor.now.me.0
     c.args.path.now.items c.args.reached.link (IsAtPlace c.args.actor.now.me.0 c.args.task.now p)) c.in-Single.is c.requires.at) c.see_given-given.new.actor.me.0 c.see_given-given.ensures.sound
-    c.see_given-given.result.header c.see_given-given.ensures.seen)) c.call_at_single.result
+    c.see_given-given.result.header c.see_given-given.ensures.seen)) c.args.task.now.call c.call_at_single.result
     c.call_at_single.new.actor.me.0 c.call_at_single.ensures.out
 
 pub answer-requires-clause-ending : goal.answer-requires-clause-ending
@@ -121,8 +121,8 @@ give_and_end-requires-clause-at g c =
 pub returns-else-not-inserts-clause-out : goal.returns-else-not-inserts-clause-out
 returns-else-not-inserts-clause-out g c =
     let at = subst (λ (p : Place). IsThere c.args.actor.now.me.0 c.args.path.now.items c.args.reached.link (IsAtPlace c.args.actor.now.me.0 c.args.task.now p)) c.in-Absent.is c.requires.at in
-    out_since c.args.actor.now.me.0 c.see_given-given-in-Absent.new.actor.me.0 (runs_on_stayed c.args.actor.now.me.0 c.see_given-given-in-Absent.new.actor.me.0 (built_stayed
+    done_since c.args.actor.now.me.0 c.see_given-given-in-Absent.new.actor.me.0 (runs_on_stayed c.args.actor.now.me.0 c.see_given-given-in-Absent.new.actor.me.0 (built_stayed
     c.args.words.now.table_id.words c.args.actor.now.me.0 c.requires.sound c.args.path.now.items c.args.reached.link site.Absent None at.0 at.1.0 at.1.1 at.1.2 (builds_absent
     c.args.task.now.call site.Absent c.args.actor.now.me.0 at.1.0 at.1.1 at.1.3 (sym c.inserts.ensures ∙ c.if-not-inserts.false)) c.see_given-given-in-Absent.new.actor.me.0
-    c.see_given-given-in-Absent.ensures.sound c.see_given-given-in-Absent.result.header c.see_given-given-in-Absent.ensures.seen)) c.give_and_end.result
+    c.see_given-given-in-Absent.ensures.sound c.see_given-given-in-Absent.result.header c.see_given-given-in-Absent.ensures.seen)) c.args.task.now.call c.give_and_end.result
     c.give_and_end.new.actor.me.0 c.give_and_end.ensures.out

@@ -2,9 +2,11 @@ use Rattle.std.proofs.Common.{◌≡◌, ◌+◌, ◌≤◌}
 use Rattle.lock_free.specs.Limbos.{HasReclaimedSome, IsLimbo}
 use Rattle.lock_free.specs.Loading.{IsSound}
 use Rattle.lock_free.specs.Stocks.{HoldsSlots}
+use Rattle.lock_free.proofs.LetGo.{FreedSoFar}
 use Rattle.lock_free.proofs.limbo.free_some.Given as goal
 
-abbrev pub invariant-loop : goal.invariant-loop
-invariant-loop l =
+abbrev pub invariant-loop-done : goal.invariant-loop-done
+invariant-loop-done l =
     (l.actor.table_id ≡ l.initial.actor.table_id) × IsSound l.words.table_id.words l.actor.me.0 × HoldsSlots l.stock l.actor.me.0 × IsLimbo l.limbo l.actor.me.0
     × (l.limbo.aged.stamp + 3 ≤ l.actor.me.0.epoch) × HasReclaimedSome l.initial.actor.me.0 l.actor.me.0
+    × FreedSoFar l._done l.initial.limbo l.initial.stock l.initial.actor.me.0 l.limbo l.stock l.actor.me.0

@@ -1,58 +1,59 @@
-use Rattle.std.proofs.Common.{None, sym, subst, refl}
+use Rattle.std.proofs.Common.{None, Err, refl, ap, ◌∙◌}
+use Rattle.std.proofs.lemmas.Result.{err_from_is_err_and}
 use Rattle.history.specs.declared.calls.Call.TheVariants.{Entries}
 use Rattle.history.specs.declared.replies.Reply.TheVariants as reply
-use Rattle.lock_free.specs.SeatCalls.{WasRefused}
 use Rattle.lock_free.specs.WholeCalls.{reply_or_none}
-use Rattle.lock_free.proofs.LimboStays.{pinned_late}
-use Rattle.lock_free.proofs.CallBegins.{denied_stock, stock_begun}
-use Rattle.lock_free.proofs.CallsDenied.{denied_left, denied_refused, no_handle_denied}
-use Rattle.lock_free.proofs.WalksWhole.{begun_walk, ended_left, walk_told, entries_walk}
+use Rattle.lock_free.proofs.CallsDenied.{no_handle_denied}
+use Rattle.lock_free.proofs.CallsUnderWay.{left_again}
+use Rattle.lock_free.proofs.Unbegun.{denied_told, denied_why}
+use Rattle.lock_free.proofs.WalksWhole.{begun_walk, entries_walk, ended_left, lack_fits, walk_told}
 use Rattle.lock_free.proofs.walk_calls.list_all.Goals as goal
 
-pub start-requires-clause-late : goal.start-requires-clause-late
-start-requires-clause-late g c = pinned_late c.args.stock.now c.args.stock.now c.args.actor.now.me.0 c.requires.stock refl c.epoch-epoch.result c.epoch-epoch.ensures.seen
+pub begin_call-requires-clause-ready : goal.begin_call-requires-clause-ready
+begin_call-requires-clause-ready g c =
+    record { opens = None; rests = c.requires.ready; number = refl; stays = refl }
 
 pub returns-then-handle-ge-HANDLES-clause-told : goal.returns-then-handle-ge-HANDLES-clause-told
-returns-then-handle-ge-HANDLES-clause-told g c = no_handle_denied c.args.actor.now.me.0 (Entries c.args.handle) c.if-handle-ge-HANDLES.true
-
-pub list_from-requires-clause-stock : goal.list_from-requires-clause-stock
-list_from-requires-clause-stock g c =
-    let v = c.args.actor.now.me.0 in
-    let u = c.start.new.actor.me.0 in
-    stock_begun v None c.requires.ready (Entries c.args.handle) c.in-Ok.way u (c.in-Ok.ensures {u = tt}).called c.args.stock.now c.requires.stock
+returns-then-handle-ge-HANDLES-clause-told g c =
+    no_handle_denied c.args.actor.now.me.0 (Entries c.args.handle) c.if-handle-ge-HANDLES.true
 
 pub list_from-requires-clause-at : goal.list_from-requires-clause-at
 list_from-requires-clause-at g c =
     let v = c.args.actor.now.me.0 in
-    let u = c.start.new.actor.me.0 in
-    begun_walk c.args.words.now.table_id.words v c.requires.sound c.requires.ready Entries c.args.handle (entries_walk c.args.handle) c.in-Ok.way u (c.in-Ok.ensures {u = tt}).called
+    let u = c.begin_call.new.actor.me.0 in
+    begun_walk c.args.words.now.table_id.words v c.requires.sound c.requires.ready Entries c.args.handle (entries_walk c.args.handle) c.in_ok-way.way u (c.in_ok-way.ensures {u = tt}).begun
 
-pub returns-in-Ok-clause-left : goal.returns-in-Ok-clause-left
-returns-in-Ok-clause-left g c =
+pub returns-clause-left : goal.returns-clause-left
+returns-clause-left g c =
     let v = c.args.actor.now.me.0 in
-    let u = c.start.new.actor.me.0 in
-    ended_left c.args.words.now.table_id.words v c.requires.sound c.requires.ready (Entries c.args.handle) c.in-Ok.way u (c.in-Ok.ensures {u = tt}).called c.start.ensures.sound
+    let u = c.begin_call.new.actor.me.0 in
+    ended_left c.args.words.now.table_id.words v c.requires.sound c.requires.ready (Entries c.args.handle) c.in_ok-way.way u (c.in_ok-way.ensures {u = tt}).begun c.begin_call.ensures.sound
     (reply_or_none (λ pairs. reply.Pairs pairs.items) c.list_from.result) c.list_from.new.actor.me.0 c.list_from.ensures.ended
 
-pub returns-in-Ok-clause-told : goal.returns-in-Ok-clause-told
-returns-in-Ok-clause-told g c =
+pub returns-clause-told : goal.returns-clause-told
+returns-clause-told g c =
     let v = c.args.actor.now.me.0 in
-    let u = c.start.new.actor.me.0 in
-    walk_told c.args.words.now.table_id.words v c.requires.sound c.requires.ready (λ pairs. reply.Pairs pairs.items) (Entries c.args.handle) c.in-Ok.way u (c.in-Ok.ensures {u = tt}).called
-    c.start.ensures.sound
-    c.list_from.result c.list_from.new.actor.me.0 c.list_from.ensures.lacks c.list_from.ensures.ended
+    let u = c.begin_call.new.actor.me.0 in
+    walk_told c.args.words.now.table_id.words v c.requires.sound c.requires.ready (λ pairs. reply.Pairs pairs.items) (Entries c.args.handle) c.in_ok-way.way u
+    (c.in_ok-way.ensures {u = tt}).begun c.begin_call.ensures.sound c.list_from.result
+    c.list_from.new.actor.me.0 c.list_from.ensures.lacks c.list_from.ensures.ended
 
-pub returns-in-Err-clause-stock : goal.returns-in-Err-clause-stock
-returns-in-Err-clause-stock g c =
-    denied_stock c.args.actor.now.me.0 None c.requires.ready (Entries c.args.handle) c.in-Err.denial c.start.new.actor.me.0 (c.in-Err.ensures {u = tt}).called c.args.stock.now c.requires.stock
+pub returns-clause-why : goal.returns-clause-why
+returns-clause-why g c =
+    lack_fits Entries c.args.handle refl refl c.list_from.result c.list_from.ensures.lacks
 
-pub returns-in-Err-clause-left : goal.returns-in-Err-clause-left
-returns-in-Err-clause-left g c =
-    denied_left c.args.actor.now.me.0 c.requires.ready (Entries c.args.handle) c.in-Err.denial c.start.new.actor.me.0 (c.in-Err.ensures {u = tt}).called
+pub returns-in_err-way-clause-left : goal.returns-in_err-way-clause-left
+returns-in_err-way-clause-left g c = left_again c.args.actor.now.me.0 c.begin_call.new.actor.me.0 c.requires.ready c.in_err-way.ensures.rests
 
-pub returns-in-Err-clause-told : goal.returns-in-Err-clause-told
-returns-in-Err-clause-told g c =
-    let v = c.args.actor.now.me.0 in
-    let x = c.start.new.actor.me.0 in
-    subst (λ e. WasRefused v (Entries c.args.handle) None e x) (sym c.from.ensures)
-    (denied_refused v c.requires.ready (Entries c.args.handle) c.in-Err.denial x (c.in-Err.ensures {u = tt}).called)
+pub returns-in_err-way-clause-told : goal.returns-in_err-way-clause-told
+returns-in_err-way-clause-told g c =
+    let p = err_from_is_err_and c.from_residual.result c.from_residual.ensures.1 in
+    let is = p.1 ∙ ap (λ e. Err e) p.2 in
+    denied_told (λ pairs. reply.Pairs pairs.items) c.args.actor.now.me.0 c.requires.ready (Entries c.args.handle) c.in_err-way.field-0.0 c.begin_call.new.actor.me.0
+    c.from_residual.result is c.in_err-way.ensures.begun
+
+pub returns-in_err-way-clause-why : goal.returns-in_err-way-clause-why
+returns-in_err-way-clause-why g c =
+    let p = err_from_is_err_and c.from_residual.result c.from_residual.ensures.1 in
+    let is = p.1 ∙ ap (λ e. Err e) p.2 in
+    denied_why c.args.actor.now.me.0 (Entries c.args.handle) c.in_err-way.field-0.0 c.begin_call.new.actor.me.0 c.from_residual.result is c.in_err-way.ensures.begun

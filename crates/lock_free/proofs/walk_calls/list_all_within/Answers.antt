@@ -1,81 +1,68 @@
-use Rattle.std.proofs.Common.{None, Ok, sym, subst, refl}
+use Rattle.std.proofs.Common.{None, Err, inl, refl, ap, ◌∙◌}
+use Rattle.std.proofs.lemmas.Result.{err_from_is_err_and}
 use Rattle.history.specs.declared.calls.Call.TheVariants.{Entries}
 use Rattle.history.specs.declared.replies.Reply.TheVariants as reply
-use Rattle.lock_free.specs.Calling.{CalledOrNot}
-use Rattle.lock_free.specs.SeatCalls.{WasRefused}
 use Rattle.lock_free.specs.WholeCalls.{reply_or_none}
-use Rattle.lock_free.proofs.LimboStays.{pinned_late}
-use Rattle.lock_free.proofs.CallBegins.{denied_stock, stock_begun}
-use Rattle.lock_free.proofs.CallsDenied.{denied_left, denied_refused, no_handle_denied}
-use Rattle.lock_free.proofs.WalksWhole.{begun_walk, ended_left, unbegun_left, unbegun_stock, unbegun_told, walk_told, entries_walk}
+use Rattle.lock_free.proofs.CallsDenied.{no_handle_denied}
+use Rattle.lock_free.proofs.CallsBegun.{begun_so}
+use Rattle.lock_free.proofs.CallsUnderWay.{left_again}
+use Rattle.lock_free.proofs.Unbegun.{unbegun_told, unbegun_why}
+use Rattle.lock_free.proofs.WalksWhole.{begun_walk, entries_walk, ended_left, lack_fits, walk_told}
 use Rattle.lock_free.proofs.walk_calls.list_all_within.Goals as goal
 
-pub start_within-requires-clause-late : goal.start_within-requires-clause-late
-start_within-requires-clause-late c = pinned_late c.args.stock.now c.args.stock.now c.args.actor.now.me.0 c.requires.stock refl c.epoch-epoch.result c.epoch-epoch.ensures.seen
+pub begin_call_within-requires-clause-ready : goal.begin_call_within-requires-clause-ready
+begin_call_within-requires-clause-ready c =
+    record { opens = None; rests = c.requires.ready; number = refl; stays = refl }
 
 pub returns-then-handle-ge-HANDLES-clause-told : goal.returns-then-handle-ge-HANDLES-clause-told
-returns-then-handle-ge-HANDLES-clause-told c = no_handle_denied c.args.actor.now.me.0 (Entries c.args.handle) c.if-handle-ge-HANDLES.true
-
-pub list_from-requires-clause-stock : goal.list_from-requires-clause-stock
-list_from-requires-clause-stock c =
-    let v = c.args.actor.now.me.0 in
-    let u = c.start_within.new.actor.me.0 in
-    stock_begun v None c.requires.ready (Entries c.args.handle) c.in-Ok-Some.way u
-    (subst (λ o. CalledOrNot v (Entries c.args.handle) (Ok o) u) c.in-Ok-Some.field-0-is (c.in-Ok-Some.ensures {u = tt}).called) c.args.stock.now c.requires.stock
+returns-then-handle-ge-HANDLES-clause-told c =
+    inl (no_handle_denied c.args.actor.now.me.0 (Entries c.args.handle) c.if-handle-ge-HANDLES.true)
 
 pub list_from-requires-clause-at : goal.list_from-requires-clause-at
 list_from-requires-clause-at c =
     let v = c.args.actor.now.me.0 in
-    let u = c.start_within.new.actor.me.0 in
-    begun_walk c.args.words.now.table_id.words v c.requires.sound c.requires.ready Entries c.args.handle (entries_walk c.args.handle) c.in-Ok-Some.way u
-    (subst (λ o. CalledOrNot v (Entries c.args.handle) (Ok o) u) c.in-Ok-Some.field-0-is (c.in-Ok-Some.ensures {u = tt}).called)
+    let u = c.begin_call_within.new.actor.me.0 in
+    begun_walk c.args.words.now.table_id.words v c.requires.sound c.requires.ready Entries c.args.handle (entries_walk c.args.handle) c.in_ok-way.way u
+    (begun_so v (Entries c.args.handle) c.in_ok-way.way u (c.in_ok-way.ensures {u = tt}).begun)
 
-pub returns-in-Ok-Some-clause-left : goal.returns-in-Ok-Some-clause-left
-returns-in-Ok-Some-clause-left c =
+pub list_from-requires-clause-way : goal.list_from-requires-clause-way
+list_from-requires-clause-way c =
     let v = c.args.actor.now.me.0 in
-    let u = c.start_within.new.actor.me.0 in
-    ended_left c.args.words.now.table_id.words v c.requires.sound c.requires.ready (Entries c.args.handle) c.in-Ok-Some.way u
-    (subst (λ o. CalledOrNot v (Entries c.args.handle) (Ok o) u) c.in-Ok-Some.field-0-is (c.in-Ok-Some.ensures {u = tt}).called) c.start_within.ensures.sound
+    let u = c.begin_call_within.new.actor.me.0 in
+    (begun_so v (Entries c.args.handle) c.in_ok-way.way u (c.in_ok-way.ensures {u = tt}).begun).3
+
+pub returns-clause-left : goal.returns-clause-left
+returns-clause-left c =
+    let v = c.args.actor.now.me.0 in
+    let u = c.begin_call_within.new.actor.me.0 in
+    ended_left c.args.words.now.table_id.words v c.requires.sound c.requires.ready (Entries c.args.handle) c.in_ok-way.way u
+    (begun_so v (Entries c.args.handle) c.in_ok-way.way u (c.in_ok-way.ensures {u = tt}).begun) c.begin_call_within.ensures.sound
     (reply_or_none (λ pairs. reply.Pairs pairs.items) c.list_from.result) c.list_from.new.actor.me.0 c.list_from.ensures.ended
 
-pub returns-in-Ok-Some-clause-told : goal.returns-in-Ok-Some-clause-told
-returns-in-Ok-Some-clause-told c =
+pub returns-clause-told : goal.returns-clause-told
+returns-clause-told c =
     let v = c.args.actor.now.me.0 in
-    let u = c.start_within.new.actor.me.0 in
-    walk_told c.args.words.now.table_id.words v c.requires.sound c.requires.ready (λ pairs. reply.Pairs pairs.items) (Entries c.args.handle) c.in-Ok-Some.way u
-    (subst (λ o. CalledOrNot v (Entries c.args.handle) (Ok o) u) c.in-Ok-Some.field-0-is (c.in-Ok-Some.ensures {u = tt}).called) c.start_within.ensures.sound
-    c.list_from.result c.list_from.new.actor.me.0 c.list_from.ensures.lacks c.list_from.ensures.ended
+    let u = c.begin_call_within.new.actor.me.0 in
+    inl (walk_told c.args.words.now.table_id.words v c.requires.sound c.requires.ready (λ pairs. reply.Pairs pairs.items) (Entries c.args.handle) c.in_ok-way.way u
+    (begun_so v (Entries c.args.handle) c.in_ok-way.way u (c.in_ok-way.ensures {u = tt}).begun) c.begin_call_within.ensures.sound c.list_from.result
+    c.list_from.new.actor.me.0 c.list_from.ensures.lacks c.list_from.ensures.ended)
 
-pub returns-in-Err-clause-stock : goal.returns-in-Err-clause-stock
-returns-in-Err-clause-stock c =
-    denied_stock c.args.actor.now.me.0 None c.requires.ready (Entries c.args.handle) c.in-Err.denial c.start_within.new.actor.me.0 (c.in-Err.ensures {u = tt}).called c.args.stock.now c.requires.stock
+pub returns-clause-why : goal.returns-clause-why
+returns-clause-why c =
+    lack_fits Entries c.args.handle refl refl c.list_from.result c.list_from.ensures.lacks
 
-pub returns-in-Err-clause-left : goal.returns-in-Err-clause-left
-returns-in-Err-clause-left c =
-    denied_left c.args.actor.now.me.0 c.requires.ready (Entries c.args.handle) c.in-Err.denial c.start_within.new.actor.me.0 (c.in-Err.ensures {u = tt}).called
+pub returns-in_err-way-clause-left : goal.returns-in_err-way-clause-left
+returns-in_err-way-clause-left c = left_again c.args.actor.now.me.0 c.begin_call_within.new.actor.me.0 c.requires.ready c.in_err-way.ensures.rests
 
-pub returns-in-Err-clause-told : goal.returns-in-Err-clause-told
-returns-in-Err-clause-told c =
-    let v = c.args.actor.now.me.0 in
-    let x = c.start_within.new.actor.me.0 in
-    subst (λ e. WasRefused v (Entries c.args.handle) None e x) (sym c.from.ensures)
-    (denied_refused v c.requires.ready (Entries c.args.handle) c.in-Err.denial x (c.in-Err.ensures {u = tt}).called)
+pub returns-in_err-way-clause-told : goal.returns-in_err-way-clause-told
+returns-in_err-way-clause-told c =
+    let p = err_from_is_err_and c.from_residual.result c.from_residual.ensures.1 in
+    let is = p.1 ∙ ap (λ e. Err e) p.2 in
+    unbegun_told (λ pairs. reply.Pairs pairs.items) c.args.actor.now.me.0 c.requires.ready (Entries c.args.handle) c.in_err-way.field-0.0 c.begin_call_within.new.actor.me.0
+    c.from_residual.result is c.in_err-way.ensures.begun
 
-pub returns-in-Ok-None-clause-stock : goal.returns-in-Ok-None-clause-stock
-returns-in-Ok-None-clause-stock c =
-    let v = c.args.actor.now.me.0 in
-    let u = c.start_within.new.actor.me.0 in
-    unbegun_stock v c.requires.ready (Entries c.args.handle) u (subst (λ o. CalledOrNot v (Entries c.args.handle) (Ok o) u) c.in-Ok-None.field-0-is (c.in-Ok-None.ensures {u = tt}).called)
-    c.args.stock.now c.requires.stock
-
-pub returns-in-Ok-None-clause-left : goal.returns-in-Ok-None-clause-left
-returns-in-Ok-None-clause-left c =
-    let v = c.args.actor.now.me.0 in
-    let u = c.start_within.new.actor.me.0 in
-    unbegun_left v c.requires.ready (Entries c.args.handle) u (subst (λ o. CalledOrNot v (Entries c.args.handle) (Ok o) u) c.in-Ok-None.field-0-is (c.in-Ok-None.ensures {u = tt}).called)
-
-pub returns-in-Ok-None-clause-told : goal.returns-in-Ok-None-clause-told
-returns-in-Ok-None-clause-told c =
-    let v = c.args.actor.now.me.0 in
-    let u = c.start_within.new.actor.me.0 in
-    unbegun_told v c.requires.ready (Entries c.args.handle) u (subst (λ o. CalledOrNot v (Entries c.args.handle) (Ok o) u) c.in-Ok-None.field-0-is (c.in-Ok-None.ensures {u = tt}).called)
+pub returns-in_err-way-clause-why : goal.returns-in_err-way-clause-why
+returns-in_err-way-clause-why c =
+    let p = err_from_is_err_and c.from_residual.result c.from_residual.ensures.1 in
+    let is = p.1 ∙ ap (λ e. Err e) p.2 in
+    unbegun_why c.args.actor.now.me.0 (Entries c.args.handle) c.in_err-way.field-0.0 c.begin_call_within.new.actor.me.0 c.from_residual.result is refl c.in_err-way.ensures.begun

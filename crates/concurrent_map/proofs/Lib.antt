@@ -1,0 +1,4 @@
+mod SameMap
+mod Told
+mod Splitting
+mod Finished

@@ -1,0 +1,4 @@
+pub mod Seats
+pub mod Calls
+pub mod Room
+pub mod Finishing
