@@ -1,5 +1,5 @@
 -- What a seat is told, in the words of histories.
-use Rattle.std.proofs.Common.{arith, ◌≡◌, sym, ap, subst, ◌∙◌, ℕ, Bool, Option, None, Some, Result, Ok, Err}
+use Rattle.std.proofs.Common.{arith, ◌≡◌, ◌⊎◌, inl, inr, sym, ap, subst, ◌∙◌, ℕ, Bool, Option, None, Some, Result, Ok, Err}
 use Rattle.history.specs.declared.calls.Call.{Call}
 use Rattle.history.specs.declared.replies.Reply.{Reply}
 use Rattle.lock_free.specs.declared.call_errors.CallError.{CallError}
@@ -13,7 +13,7 @@ use Rattle.lock_free.specs.SeatCalls as lf
 use Rattle.lock_free.specs.Seated.{HasGoneOn, Seated}
 use Rattle.lock_free.specs.Telling.{history_of, GoesOn, HistoriesGoOn}
 use Rattle.lock_free.specs.WholeCalls as whole
-use Rattle.concurrent_map.specs.Calls.{IsSameSeat, IsTold, IsToldClose, IsToldHandle, IsToldIfSome, WasAnswered, WasNotMade, WasRefused}
+use Rattle.concurrent_map.specs.Calls.{IsSameSeat, IsTold, RanOut, IsToldClose, IsToldHandle, IsToldIfSome, WasAnswered, WasNotMade, WasRefused}
 use Rattle.concurrent_map.specs.Seats.{SeatState, state_of_seat}
 use Rattle.concurrent_map.proofs.SameMap.{same_id}
 
@@ -38,7 +38,7 @@ was_answered s t call opens reply on it = record {
   answers = it.answers;
 }
 
-was_not_made : (s t : Seated) → HistoriesGoOn → OthersTellNothing → AreSizes s.view.sizes → HasGoneOn s t → HasWaited s.view.actor s.view.account t.view.account →
+pub was_not_made : (s t : Seated) → HistoriesGoOn → OthersTellNothing → AreSizes s.view.sizes → HasGoneOn s t → HasWaited s.view.actor s.view.account t.view.account →
     WasNotMade (state_of_seat s) (state_of_seat t)
 was_not_made s t go_on others sizes on waited = record {
   same = same s t on;
@@ -65,7 +65,7 @@ denied s t call go_on others sizes on error.Busy was = elim was [ ]
 
 -- ---- what is told, where the seat is this one and the call is that one
 
-told_reply_of : {A : Type 0} → (reply_of : A → Reply) → (s t : Seated) (call : Call) (result : Result A CallError) → HistoriesGoOn → OthersTellNothing → AreSizes s.view.sizes →
+pub told_reply_of : {A : Type 0} → (reply_of : A → Reply) → (s t : Seated) (call : Call) (result : Result A CallError) → HistoriesGoOn → OthersTellNothing → AreSizes s.view.sizes →
     HasGoneOn s t → lf.IsTold reply_of s.view call result t.view → IsTold reply_of (state_of_seat s) call result (state_of_seat t)
 told_reply_of {A} reply_of s t call (Ok told) go_on others sizes on is = was_answered s t call None _ on is
 told_reply_of {A} reply_of s t call (Err why) go_on others sizes on is = denied s t call go_on others sizes on why is
@@ -89,6 +89,15 @@ told_if_some s t before asked call result seat same_call go_on others sizes on i
     subst (λ b. IsToldIfSome b call result (state_of_seat t)) seat
     (subst (λ k. IsToldIfSome (state_of_seat s) k result (state_of_seat t)) same_call (told_some s t asked result go_on others sizes on is))
 
+-- or that it has not begun
+pub told_or_out : {A : Type 0} → (reply_of : A → Reply) → (s t : Seated) (before : SeatState) (asked call : Call) (result : Result A CallError) →
+    state_of_seat s ≡ before → asked ≡ call → HistoriesGoOn → OthersTellNothing → AreSizes s.view.sizes → HasGoneOn s t →
+    lf.IsTold reply_of s.view asked result t.view ⊎ lf.RanOut s.view result t.view → IsTold reply_of before call result (state_of_seat t) ⊎ RanOut before result (state_of_seat t)
+told_or_out {A} reply_of s t before asked call result seat same_call go_on others sizes on (inl is) =
+    inl (told_reply reply_of s t before asked call result seat same_call go_on others sizes on is)
+told_or_out {A} reply_of s t before asked call result seat same_call go_on others sizes on (inr (out, waited)) =
+    inr (out, subst (λ b. WasNotMade b (state_of_seat t)) seat (was_not_made s t go_on others sizes on waited))
+
 -- ---- copies
 
 stayed : (s t : Seated) → HistoriesGoOn → AreSizes s.view.sizes → HasGoneOn s t → t.view ≡ s.view → WasNotMade (state_of_seat s) (state_of_seat t)
@@ -98,7 +107,7 @@ stayed s t go_on sizes on e = record {
   answers = ap (λ (v : View). answers_of v.actor v.sizes v.account) e;
 }
 
-denied_copy : (s t : Seated) (call : Call) → HistoriesGoOn → OthersTellNothing → AreSizes s.view.sizes → HasGoneOn s t → (why : CallError) →
+pub denied_copy : (s t : Seated) (call : Call) → HistoriesGoOn → OthersTellNothing → AreSizes s.view.sizes → HasGoneOn s t → (why : CallError) →
     whole.WasRefusedCopy s.view call why t.view → (opens : Option ℕ) × WasRefused (state_of_seat s) call opens why (state_of_seat t)
 denied_copy s t call go_on others sizes on error.NoHandle was = (None, was_not_made s t go_on others sizes on was.waited)
 denied_copy s t call go_on others sizes on error.ReadOnly was = (None, was_not_made s t go_on others sizes on was.waited)
@@ -111,7 +120,7 @@ denied_copy s t call go_on others sizes on error.Crowded was = elim was [ ]
 denied_copy s t call go_on others sizes on error.Busy was = elim was [ ]
 denied_copy s t call go_on others sizes on error.Memory was = elim was [ ]
 
-told_copy : (s t : Seated) (call : Call) (result : Result ℕ CallError) → HistoriesGoOn → OthersTellNothing → AreSizes s.view.sizes → HasGoneOn s t →
+pub told_copy : (s t : Seated) (call : Call) (result : Result ℕ CallError) → HistoriesGoOn → OthersTellNothing → AreSizes s.view.sizes → HasGoneOn s t →
     whole.IsToldCopy s.view call result t.view → IsToldHandle (state_of_seat s) call result (state_of_seat t)
 told_copy s t call (Ok handle) go_on others sizes on is = was_answered s t call (Some handle) _ on is
 told_copy s t call (Err why) go_on others sizes on is = denied_copy s t call go_on others sizes on why is

@@ -68,3 +68,7 @@ IsToldHandle before call (Err why) after = (opens : Option ℕ) × WasRefused be
 abbrev pub IsToldClose : {A : Type 0} → SeatState → ℕ → Result A CallError → SeatState → Type 0
 IsToldClose {A} before handle (Ok done) after = WasAnswered before (Close handle) None Closed after
 IsToldClose {A} before handle (Err why) after = WasNotMade before after
+
+-- It has not begun in its number of tries: nothing of it is in the history.
+abbrev pub RanOut : {A : Type 0} → SeatState → Result A CallError → SeatState → Type 0
+RanOut {A} before told after = (told ≡ Err error.Spent) × WasNotMade before after

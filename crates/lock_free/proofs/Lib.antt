@@ -228,7 +228,7 @@ mod Gathering
 mod GetsWhole
 mod Talks
 mod AnswersTold
-mod KeyValues
+pub mod KeyValues
 mod Tidied
 mod Timelines
 mod OwnKeys

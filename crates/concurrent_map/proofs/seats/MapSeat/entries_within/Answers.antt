@@ -1,0 +1,11 @@
+use Rattle.std.proofs.Common.{ap}
+use Rattle.history.specs.declared.calls.Call.TheVariants.{Entries}
+use Rattle.history.specs.declared.replies.Reply.TheVariants as reply
+use Rattle.concurrent_map.proofs.Told.{told_or_out}
+use Rattle.concurrent_map.proofs.seats.MapSeat.entries_within.Goals as goal
+
+pub returns-clause-told : goal.returns-clause-told
+returns-clause-told c =
+    let laws = c.histories_stay.ensures in
+    told_or_out (λ pairs. reply.Pairs pairs.items) _ _ _ _ _ _ c.self.view_is (ap (λ h. Entries h) c.number.ensures)
+    laws.go_on laws.others c.self.invariant c.entries_within.ensures.seat c.entries_within.ensures.told
