@@ -64,10 +64,12 @@ abbrev pub IsToldHandle : SeatState → Call → Result ℕ CallError → SeatSt
 IsToldHandle before call (Ok handle) after = WasAnswered before call (Some handle) (Opened handle) after
 IsToldHandle before call (Err why) after = (opens : Option ℕ) × WasRefused before call opens why after
 
--- The handle is closed.
+-- The handle is closed; or there is none that is open, or it is busy: for no other reason is a close refused.
 abbrev pub IsToldClose : {A : Type 0} → SeatState → ℕ → Result A CallError → SeatState → Type 0
 IsToldClose {A} before handle (Ok done) after = WasAnswered before (Close handle) None Closed after
-IsToldClose {A} before handle (Err why) after = WasNotMade before after
+IsToldClose {A} before handle (Err error.NoHandle) after = WasNotMade before after
+IsToldClose {A} before handle (Err error.Busy) after = WasNotMade before after
+IsToldClose {A} before handle (Err why) after = ⊥
 
 -- It has not begun in its number of tries: nothing of it is in the history.
 abbrev pub RanOut : {A : Type 0} → SeatState → Result A CallError → SeatState → Type 0

@@ -58,7 +58,7 @@ gives call = false
 abbrev pub GivesNone : ℕ → ℕ → Answered → Type 0
 GivesNone handle key one = (touches handle key one.call one.opens ≡ false) ⊎ (gives one.call ≡ false)
 
--- A task is done once: of two that remove a key, where nobody gives it a value in between, one alone is answered yes.
+-- A task is done once: of two that remove a key, where nobody gives it a value in between, one at most is answered yes.
 abbrev pub TasksAreDoneOnce : Type 0
 TasksAreDoneOnce =
     (hash : ℕ → ℕ) (handle key first second : ℕ) (between : List Answered) (before removed now after : HandleMap) →

@@ -12,7 +12,7 @@ pub fn no_count_is_lost()
     ensures { NoCountIsLost }
 {}
 
-/// A law: a task is done once. Of those that remove a key by `remove_if`, while nobody gives it a value, one alone is answered yes.
+/// A law: a task is done once. Of those that remove a key by `remove_if`, while nobody gives it a value, one at most is answered yes.
 pub fn tasks_are_done_once()
     ensures { TasksAreDoneOnce }
 {}

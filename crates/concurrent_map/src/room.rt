@@ -16,7 +16,7 @@ fn slots_for(keys: u32, seats: u8, each: u8, more: u8) -> u32
 }
 
 /// The sizes of a map for this many keys, which has this many seats. Its slots are those that a trie of keys with random hashes takes at
-/// most, and some for calls that are under way: 59 bytes a key, 1.1 kB a seat, and 4 kB.
+/// most, and some for calls that are under way: 59 bytes a key, 4 kB a seat, and 6.7 kB.
 pub fn sizes_for(keys: u32, hash: HashKind, seats: u8) -> Sizes
     ensures { result ≡ sizes_for keys hash seats }
 {
