@@ -148,9 +148,6 @@ module _ (n : ℕ) (before : View) (sound : IsSound n before) (task : Task) (t :
     pub one_ready : entry.is_single ≡ true → IsHere middle slots given (IsAtOne middle position entry.slot)
     one_ready is = (way, branch, place_mid, (subst (λ b. IsEntryIn middle branch position entry.slot b) is entry_is, on_mid))
 
-    pub one_done : (after : View) (result : Found) → HasFound middle slots result after → HasFound before slots result after
-    one_done after result h = found_stayed before middle after slots result g.0 h
-
     pub link_ready : entry.is_single ≡ false → IsAtBelow middle entry.slot
     link_ready is = (way, branch, position, on_mid, subst (λ b. IsEntryIn middle branch position entry.slot b) is entry_is)
 

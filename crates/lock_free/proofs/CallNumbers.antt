@@ -114,14 +114,6 @@ module _ (w : View) (c : Call) (access : Access) (called : IsCalled w c access) 
         copied = λ e. ap (λ (z : Operation). z.opens) (runs_one w o q runs its.is.at.1) ∙ its.number;
       }
 
--- none of a call on a key
-pub parked_none : (w : View) (c : Call) (access : Access) → IsCalled w c access → copies c ≡ false → (p : Parked) → IsParked w p → opens_of p ≡ None
-parked_none w c access called keyed (parked.Repairs s) its = refl
-parked_none w c access called keyed (parked.Changes s former) its = refl
-parked_none w c access called keyed (parked.Climbs s former) its = refl
-parked_none w c access called keyed (parked.Copies s number) its =
-    absurd (false≢true (sym keyed ∙ ap copies (sym (called its.is.at.0 its.is.at.1).0) ∙ its.copies))
-
 -- ---- it is over
 
 none_left : (told : Result Reply CallError) → number_left None told ≡ None

@@ -8,16 +8,12 @@ use Rattle.lock_free.specs.declared.call_errors.CallError.{CallError}
 use Rattle.lock_free.specs.declared.call_errors.CallError.TheVariants as error
 use Rattle.lock_free.specs.declared.rules.View.{View}
 use Rattle.lock_free.specs.Answering.{HasAnswered}
-use Rattle.lock_free.specs.Loading.{IsSound}
 use Rattle.lock_free.specs.Numbers.{reserving, without_number}
 use Rattle.lock_free.specs.SeatCalls.{IsLackOf}
 use Rattle.lock_free.specs.Stocks.{IsStock, Stocked}
 use Rattle.lock_free.specs.WholeCalls.{HasFoundNoSlot, IsToldCopy, RestsWith, WasRefusedCopy}
 use Rattle.lock_free.proofs.BetweenCalls.{idle_stock}
 use Rattle.lock_free.proofs.Waiting.{waited_none}
-
-pub reserved_sound : (n : ℕ) (v : View) (number : ℕ) → IsSound n v → IsSound n (reserving v number)
-reserved_sound n v number h = record { size = h.size; range = h.range; bounds = h.bounds; keys = h.keys; counted = h.counted; inside = h.inside; free = h.free }
 
 pub reserved_rests : (v : View) (number : ℕ) → RestsWith v None → RestsWith (reserving v number) (Some number)
 reserved_rests v number r = record { idle = r.idle; pin = r.pin; entered = r.entered; opens_it = refl }

@@ -243,11 +243,6 @@ module _ (before : View) (first : List ℕ) (start : IsOnPath before first) (tas
     pub stock_there : (n : ℕ) → IsSound n v → (stock : Stocked) → IsStock stock v → IsStock stock w
     stock_there n sound stock is = stock_moved n v w sound on_read.0 on_read.1 stock is (λ o. its_line) h.moved
 
-  -- and from there to this
-  pub found_sought : (slots2 : List ℕ) (result : Found) (w : View) → HasFound v slots2 result w → (slots3 : List ℕ) (more : Sought) (z : View) → HasSought w slots3 more z → HasSought before
-      slots3 more z
-  found_sought slots2 result w h slots3 more z e = sought_later before w z (its_line slots2 result w h) slots3 more (ended_there slots2 result w h) e
-
   -- its SWAP is under way
   pub found_leaves : (slots2 : List ℕ) (result : Found) (w : View) → HasFound v slots2 result w → (s : Swapping) (z : View) → LeavesSwap IsRepair w s z → LeavesSwap IsRepair before s z
   found_leaves slots2 result w h s z left =

@@ -1,7 +1,6 @@
 -- What is told of a call in a number of tries, once its number is given back where it was refused.
-use Rattle.std.proofs.Common.{◌≡◌, ◌≤◌, ◌<◌, ℕ, Bool, true, false, is_some, inl, inr, Option, Some, None, Result, Ok, Err, IfOk, IfErr, refl, sym, ap, subst, ◌∙◌}
+use Rattle.std.proofs.Common.{◌≡◌, ◌≤◌, ℕ, Bool, true, false, is_some, inl, inr, Option, Some, None, Result, Ok, Err, IfOk, IfErr, refl, sym, ap, subst, ◌∙◌}
 use Rattle.std.proofs.lemmas.Bool.{false≢true}
-use Rattle.std.proofs.lemmas.Option.{none-some}
 use Rattle.history.specs.declared.calls.Call.{Call}
 use Rattle.history.specs.declared.calls.Call.TheVariants.{Snapshot, Freeze}
 use Rattle.history.specs.declared.replies.Reply.{Reply}
@@ -18,7 +17,6 @@ use Rattle.lock_free.specs.declared.call_runs.Ran.TheVariants as ran
 use Rattle.lock_free.specs.declared.calling.Denial.{Denial}
 use Rattle.lock_free.specs.declared.calling.Denial.TheVariants as denial
 use Rattle.lock_free.specs.declared.parking.Parked.{Parked}
-use Rattle.lock_free.specs.declared.parking.Parked.TheVariants as parked
 use Rattle.lock_free.specs.declared.rules.View.{View}
 use Rattle.lock_free.specs.Answering.{HasAnswered}
 use Rattle.lock_free.specs.Attempts.{IsTried}
@@ -27,7 +25,6 @@ use Rattle.lock_free.specs.Calling.{HasCalled}
 use Rattle.lock_free.specs.KeyReplies.{FitsCall, FitsError, TellsHandle}
 use Rattle.lock_free.specs.Loading.{IsSound, Runs}
 use Rattle.lock_free.specs.Numbers.{reserving, without_number}
-use Rattle.lock_free.specs.Parking.{opens_of, IsParked}
 use Rattle.lock_free.specs.SeatCalls.{error_of, told_by, IsTold, WasDenied, WasRefused}
 use Rattle.lock_free.specs.Stocks.{IsStock, Stocked}
 use Rattle.lock_free.specs.Telling.{SeatsAreExplained}
@@ -55,10 +52,6 @@ replied_settled : (v w : View) (c : Call) (opens : Option ℕ) (told : Result Re
 replied_settled v w c opens told h number result =
     record { answer = h.answer; lack = h.lack; lacks = h.lacks; is = h.is; its = answered_settled v w c opens h.answer h.its number result }
 
-pub holds_number : (v w : View) (c : Call) (opens : Option ℕ) (result : Ran) → HasLeftWith v c opens result w → HoldsNumber w opens result
-holds_number v w c opens (ran.Told told) h = h.1
-holds_number v w c opens (ran.UnderWay access p) h = tt
-
 same_returned : (v w : View) → SameSeat v w → SameSeat v (without_number w)
 same_returned v w s = record { sizes = s.sizes; actor = s.actor; last = s.last; goes_on = s.goes_on }
 
@@ -78,13 +71,6 @@ settled_owns w None result rests stock owns = owns
 pub holds_left : (v w : View) (c : Call) (opens : Option ℕ) (result : Ran) → HasLeftWith v c opens result w → HoldsNumber w opens result
 holds_left v w c opens (ran.Told told) h = h.1
 holds_left v w c opens (ran.UnderWay access p) h = tt
-
--- a handle's number is low
-pub parked_low : (v : View) (p : Parked) → IsParked v p → (number : ℕ) → opens_of p ≡ Some number → number < 256
-parked_low v (parked.Copies s opens) its number e = (its.opening number e).0
-parked_low v (parked.Repairs s) its number e = absurd (none-some number e)
-parked_low v (parked.Changes s former) its number e = absurd (none-some number e)
-parked_low v (parked.Climbs s former) its number e = absurd (none-some number e)
 
 -- ---- what is told
 
