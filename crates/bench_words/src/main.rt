@@ -11,10 +11,10 @@
 //! calls were refused, and how many of two sums are wrong: the keys, and the values, that came and didn't go by what the threads were told
 //! are those that are found in the end, outside that time.
 //!
-//! Slots of singles aren't used again, so a map wants slots for all changes of its life.
+//! A map wants some slots more than its keys take: those that are retired are used again a little later.
 //!
 //! The exit status is 1 where the words are none of these, and 2 where memory or a map of these sizes isn't had. Without words few calls of
-//! each load are made, and nothing is written that hangs on time or schedule.
+//! each load are made, and a map grows in few slots; nothing is written that hangs on time or schedule.
 #![tactic(auto)]
 
 mod caller;

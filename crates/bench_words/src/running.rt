@@ -218,7 +218,27 @@ pub(crate) fn small<R: Threads + Wait + Sync + Clock + Print + AllocGlobal>(
             let _ = println!(rt; "{name}: {} refused, {} wrong", done.refused, done.wrong);
         }
     }
+    let done = run(rt, tight())?;
+    let _ = println!(rt; "tight: {} refused, {} wrong", done.refused, done.wrong);
     Ok(())
+}
+
+/// A map that grows, by one thread, in so few slots that those of replaced nodes have to become free in between, wide ones too, while more
+/// medium ones are free than the thread wants: all keys have room in it.
+fn tight() -> Task {
+    Task {
+        load: Load::Spread,
+        filled: 0,
+        count: 6_000,
+        keys: 6_000,
+        sizes: Sizes {
+            seats: 1,
+            hash: HashKind::Low,
+            small: 20_000,
+            medium: 2_000,
+            wide: 400,
+        },
+    }
 }
 
 /// Few calls of this load, by two threads.

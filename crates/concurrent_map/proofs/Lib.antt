@@ -1,8 +1,11 @@
 mod SameMap
 mod Told
 mod TriesTold
+mod AccessTold
+mod ScansTold
 mod Splitting
 mod Finished
 mod Counts
 mod Exports
+mod Listings
 mod Tasks

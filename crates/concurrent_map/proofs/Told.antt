@@ -25,7 +25,7 @@ history_goes_on s t go_on sizes on =
     subst (λ z. GoesOn (history_of s.view.sizes s.view.account) (history_of z t.view.account)) (sym on.sizes)
     (go_on s.view.sizes s.view.account t.view.account (omega arith, sizes.some, sizes.many) on.goes_on)
 
-was_answered : (s t : Seated) (call : Call) (opens : Option ℕ) (reply : Reply) → HasGoneOn s t → HasAnswered s.view call opens reply t.view →
+pub was_answered : (s t : Seated) (call : Call) (opens : Option ℕ) (reply : Reply) → HasGoneOn s t → HasAnswered s.view call opens reply t.view →
     WasAnswered (state_of_seat s) call opens reply (state_of_seat t)
 was_answered s t call opens reply on it = record {
   same = same s t on;
@@ -50,7 +50,7 @@ was_not_made s t go_on others sizes on waited = record {
 
 -- ---- calls without a handle of their own
 
-denied : (s t : Seated) (call : Call) → HistoriesGoOn → OthersTellNothing → AreSizes s.view.sizes → HasGoneOn s t → (why : CallError) → lf.WasRefused s.view call None why t.view →
+pub denied : (s t : Seated) (call : Call) → HistoriesGoOn → OthersTellNothing → AreSizes s.view.sizes → HasGoneOn s t → (why : CallError) → lf.WasRefused s.view call None why t.view →
     WasRefused (state_of_seat s) call None why (state_of_seat t)
 denied s t call go_on others sizes on error.NoHandle was = was_not_made s t go_on others sizes on was.waited
 denied s t call go_on others sizes on error.ReadOnly was = was_not_made s t go_on others sizes on was.waited

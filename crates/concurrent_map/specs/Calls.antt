@@ -1,11 +1,11 @@
 -- What a call of a seat is answered, and what then stands in the history that its seat has seen.
-use Rattle.std.specs.Prelude.{◌≡◌, ◌++◌, ◌∷◌, [], ℕ, is_some, Bool, All, List, Option, Some, None, Result, Ok, Err}
+use Rattle.std.specs.Prelude.{◌≡◌, ◌++◌, ◌∷◌, [], ℕ, is_some, slice_get, Bool, All, List, Option, Some, None, Result, Ok, Err}
 use Rattle.history.specs.declared.calls.Call.{Call}
 use Rattle.history.specs.declared.calls.Call.TheVariants.{Close}
 use Rattle.history.specs.declared.events.Event.{Event}
 use Rattle.history.specs.declared.events.Event.TheVariants.{Begin, End}
 use Rattle.history.specs.declared.replies.Reply.{Reply}
-use Rattle.history.specs.declared.replies.Reply.TheVariants.{Closed, Crowded, Found, NoSlots, Opened}
+use Rattle.history.specs.declared.replies.Reply.TheVariants.{Closed, Crowded, Found, NoSlots, Opened, Pairs}
 use Rattle.lock_free.specs.declared.call_errors.CallError.{CallError}
 use Rattle.lock_free.specs.declared.call_errors.CallError.TheVariants as error
 use Rattle.lock_free.specs.Answering.{IsOfOthers}
@@ -58,6 +58,11 @@ IsTold {A} reply_of before call (Err why) after = WasRefused before call None wh
 abbrev pub IsToldIfSome : SeatState → Call → Result Bool CallError → SeatState → Type 0
 IsToldIfSome before call (Ok told) after = (value : Option ℕ) × (told ≡ is_some value) × WasAnswered before call None (Found value) after
 IsToldIfSome before call (Err why) after = WasRefused before call None why after
+
+-- it is the first pair of the list that is the reply
+abbrev pub IsToldFirst : SeatState → Call → Result (Option (ℕ × ℕ)) CallError → SeatState → Type 0
+IsToldFirst before call (Ok first) after = (pairs : List (ℕ × ℕ)) × (first ≡ slice_get pairs 0) × WasAnswered before call None (Pairs pairs) after
+IsToldFirst before call (Err why) after = WasRefused before call None why after
 
 -- It is the handle that the call has opened.
 abbrev pub IsToldHandle : SeatState → Call → Result ℕ CallError → SeatState → Type 0

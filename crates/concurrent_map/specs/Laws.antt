@@ -1,6 +1,7 @@
 -- Laws of orders that explain calls: what threads may count on, whatever the order is.
 use Rattle.std.specs.Prelude.{◌≡◌, ◌≢◌, ◌⊎◌, ◌+◌, ◌&&◌, ℕ, Bool, true, false, All, List, [], ◌∷◌, Some, None, if◌then◌else◌}
 use Rattle.std.specs.FinMap as map
+use Rattle.std.specs.List.Sorted.{IsPermutation}
 use Rattle.history.specs.declared.calls.Call.{Call}
 use Rattle.history.specs.declared.calls.Call.TheVariants.{Get, Put, PutIfAbsent, ReplaceIf, RemoveIf, Snapshot, Freeze, Close, Entries}
 use Rattle.history.specs.declared.replies.Reply.{Reply}
@@ -9,6 +10,7 @@ use Rattle.history.specs.Effects.{writable_map_of, Effect}
 use Rattle.history.specs.Orders.{Answered, Replays}
 use Rattle.history.specs.Worlds.{HandleMap, KeyMap}
 use Rattle.lock_free.specs.OneKey.{touches, value_in}
+use Rattle.lock_free.specs.Scans.{by_key}
 
 -- ---- exports
 
@@ -18,6 +20,15 @@ ExportsAreOfTheFreeze =
     (hash : ℕ → ℕ) (handle copy : ℕ) (between : List Answered) (before frozen now after : HandleMap) (listed : List (ℕ × ℕ)) →
     Effect hash before (Freeze handle) (Some copy) (Opened copy) frozen → All (λ one. one.call ≢ Close copy) between → Replays hash between frozen now →
     Effect hash now (Entries copy) None (Pairs listed) after → (m : KeyMap) × (writable_map_of before handle ≡ Some m) × (listed ≡ map.entries m)
+
+-- ---- listings in parts
+
+-- The parts of a listing of a copy, all together, have each pair once that the map had where the copy was frozen, and no other one.
+abbrev pub ScansListOneMoment : Type 0
+ScansListOneMoment =
+    (hash : ℕ → ℕ) (handle copy : ℕ) (between : List Answered) (before frozen now after : HandleMap) (told : List (ℕ × ℕ)) →
+    Effect hash before (Freeze handle) (Some copy) (Opened copy) frozen → All (λ one. one.call ≢ Close copy) between → Replays hash between frozen now →
+    Effect hash now (Entries copy) None (Pairs (by_key told)) after → (m : KeyMap) × (writable_map_of before handle ≡ Some m) × IsPermutation told (map.entries m)
 
 -- ---- counts
 

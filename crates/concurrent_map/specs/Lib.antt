@@ -2,6 +2,8 @@ pub mod Beneath
 pub mod Seats
 pub mod Calls
 pub mod Tries
+pub mod Accesses
+pub mod Scans
 pub mod Room
 pub mod Finishing
 pub mod Laws

@@ -4,7 +4,7 @@ ghost use Rattle.std.specs.Prelude.{◌⊎◌, IfErr};
 ghost use Rattle.history.specs.declared.calls.Call.TheVariants.{Count, Entries};
 ghost use Rattle.history.specs.declared.replies.Reply.TheVariants as reply;
 ghost use Rattle.lock_free.specs.KeyReplies.{FitsError};
-ghost use Rattle.concurrent_map.specs.Calls.{IsTold, RanOut};
+ghost use Rattle.concurrent_map.specs.Calls.{IsTold, IsToldFirst, RanOut};
 
 use crate::handles::Handle;
 use crate::maps::ConcurrentMap;
@@ -59,6 +59,28 @@ impl MapSeat {
         self.seat
             .count(alloc, rt, &map.board.shared, handle.number())
     }
+
+    /// The pair of the least key of a copy for readers; none where it has no pair. It lists the copy, and takes the memory of that list.
+    ///
+    /// # Errors
+    ///
+    /// As of `entries`.
+    pub fn first<R: Wait>(
+        &mut self,
+        alloc: Global,
+        rt: &R,
+        map: &ConcurrentMap,
+        handle: Handle,
+    ) -> Result<Option<(u64, u64)>, CallError>
+        requires { IsSeatOf map.now self.old }
+        ensures seat { IsSeatOf map.now self.new }
+        ensures told { IsToldFirst self.old (Entries handle) result self.new }
+        ensures why { IfErr result (FitsError (Entries handle)) }
+    {
+        let pairs = self.entries(alloc, rt, map, handle)?;
+        Ok(pairs.first().copied())
+    }
+
     /// The same as `entries`, in so many tries at most: it ends whatever other threads do.
     ///
     /// # Errors

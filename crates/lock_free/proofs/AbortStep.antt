@@ -33,8 +33,10 @@ use Rattle.lock_free.proofs.Looking.{went, o_there, acts_there, same_action}
 use Rattle.lock_free.proofs.Moments.{allowed, took_by}
 use Rattle.lock_free.proofs.OneStep.Settles.{stands}
 use Rattle.lock_free.proofs.OneStep.Settling.{abort_settles, abort_misses, abort_own}
-use Rattle.lock_free.proofs.Settled.{all_then, settle_kept}
+use Rattle.lock_free.proofs.Settled.{all_then}
+use Rattle.lock_free.proofs.SettleHolds.{settle_kept}
 use Rattle.lock_free.proofs.Stood.{stands_there, stands_no_more}
+use Rattle.lock_free.proofs.Lettings.{TakesNone}
 
 -- an offer that the seat knows is one of the account's
 pub known_there : (v : View) (s : Table.State Call View) (kept : IsKept v.sizes s) (id : ℕ) → get_elem? s.views id ≡ some v → (k : Known) → Contains v.account.offers k → Contains kept.account.offers k
@@ -94,7 +96,7 @@ module _ (v : View) (k : Known) (known : Contains v.account.offers k) (p : IsAt 
     taken e =
         let settles = abort_settles v.sizes there kept.bounds v.actor o runs k (acts_there v word found m does p) (stood e) in (
           subst (λ ws. IsKept v.sizes (record { words = ws; homes = s.homes; views = set s.views id (seen v (gone_on v.actor there)) })) (words_hit v s kept id at word 0 taken_back e word refl)
-              (settle_kept v.sizes s kept id v at o runs taken_back k here settles on e),
+              (settle_kept v.sizes s kept id v at o runs taken_back k here settles on e (subst (TakesNone kept.stands state o) (sym (acts_there v word found m does p)) tt)),
           (
             sound_by v s kept id at (gone_on v.actor there) kept.stands _ (all_then v.sizes s kept id v at o runs taken_back k here settles on e),
             took_by v s kept id at o runs (gone_on v.actor there) (abort_own v.sizes there kept.bounds v.actor o runs k (acts_there v word found m does p)),
@@ -104,7 +106,8 @@ module _ (v : View) (k : Known) (known : Contains v.account.offers k) (p : IsAt 
     pub leaves : Leaves v s kept id at word 0 taken_back
     leaves = elim (cases_eq found 0) [
       | inl e ↦ taken e
-      | inr differs ↦ missed v s kept id at word 0 taken_back o runs (abort_misses v.sizes there kept.bounds v.actor o runs k (acts_there v word found m does p) (no_more differs)) differs
+      | inr differs ↦ missed v s kept id at word 0 taken_back o runs (abort_misses v.sizes there kept.bounds v.actor o runs k (acts_there v word found m does p) (no_more differs))
+          (subst (TakesNone kept.stands state o) (sym (acts_there v word found m does p)) tt) differs
     ]
 
     pub stood_by : stands_in (word_at state (handle_of o.call)) k.offer ≡ (found == 0)

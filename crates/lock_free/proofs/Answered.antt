@@ -10,6 +10,7 @@ use Rattle.std.proofs.lemmas.Bool.{eq-eqb}
 use Rattle.std.proofs.lemmas.List.Elements.{All-nil}
 use Rattle.std.proofs.lemmas.Option.{same_Some}
 use Rattle.history.specs.Histories.{IsWellFormed}
+use Rattle.machine_model.specs.Beneath.slot_arena.specs.declared.refs.Ref.{Ref}
 use Rattle.machine_model.specs.declared.actions.Action.TheVariants as act
 use Rattle.machine_model.specs.declared.operations.Operation.{Operation}
 use Rattle.machine_model.specs.declared.steps.Step.TheVariants as step
@@ -26,10 +27,11 @@ use Rattle.lock_free.specs.Answering.{CallsAreAnswered, ClosesAreAnswered, Refus
 use Rattle.lock_free.specs.Answers.{Begun, Talk, after_event, answers_of, talk_of}
 use Rattle.lock_free.specs.Beginning.{closed_by}
 use Rattle.lock_free.specs.Calling.{first_operation, once_begun, HasBegun}
+use Rattle.lock_free.specs.Closing.{with_marks}
 use Rattle.lock_free.specs.HandleWords.{ShutBy}
 use Rattle.lock_free.specs.Loading.{IsAt, IsSound, Runs}
 use Rattle.lock_free.specs.RunningOn.{RunsOn}
-use Rattle.lock_free.specs.SeatWords.{HasEnded, once_ended, pinned_for}
+use Rattle.lock_free.specs.SeatWords.{HasEnded, once_ended, pinned_for, unpinned}
 use Rattle.lock_free.specs.Telling.{history_of, GoesOn}
 use Rattle.lock_free.proofs.AnswersTold.{begins_tell_nothing, ends_are_told, others_tell_nothing, runs_told}
 use Rattle.lock_free.proofs.Followings.{goes_both}
@@ -57,13 +59,13 @@ begun_talk actor id call opens history =
 -- ---- from the begin to the end
 
 module _ (words : ℕ) (before : View) (call : Call) (sound : IsSound words before) (account : Account) (epoch passed : ℕ) (pool : Pool) (drafts : List (ℕ × ℕ)) (opening : Option ℕ)
-    (retired : List Retired) (links : List (ℕ × ℕ)) (begun : Account)
-    (waited : HasWaited before.actor before.account begun) (bounds_begun : AreBounds (bounds_for before.sizes begun.steps)) where
+    (retired : List Retired) (owed : List Ref) (links : List (ℕ × ℕ)) (begun : Account) (waited : HasWaited before.actor before.account begun)
+    (bounds_begun : AreBounds (bounds_for before.sizes begun.steps)) where
   abbrev started : View
   started = once_begun before call begun
 
   abbrev late : View
-  late = record started { account = account; epoch = epoch; passed = passed; pool = pool; drafts = drafts; opening = opening; retired = retired; links = links }
+  late = record started { account = account; epoch = epoch; passed = passed; pool = pool; drafts = drafts; opening = opening; retired = retired; owed = owed; links = links }
 
   abbrev first : Operation
   first = first_operation before begun call
@@ -174,6 +176,7 @@ module _ (words : ℕ) (before begun late after : View) (call : Call) (found : _
     drafts = late.drafts;
     opening = late.opening;
     retired = late.retired;
+    owed = late.owed;
     links = late.links;
   }
   late_is = on.still.is ∙ ap (λ (x : View). record x {
@@ -183,8 +186,8 @@ module _ (words : ℕ) (before begun late after : View) (call : Call) (found : _
     pool = late.pool;
     drafts = late.drafts;
     opening = late.opening;
-    retired =
-        late.retired;
+    retired = late.retired;
+    owed = late.owed;
     links = late.links;
   }) b.after_is
 
@@ -196,7 +199,7 @@ module _ (words : ℕ) (before begun late after : View) (call : Call) (found : _
 
   pub begun_answered : HasAnswered before call before.opens answer after
   begun_answered =
-      answered_so words before call sound late.account late.epoch late.passed late.pool late.drafts late.opening late.retired late.links b.account b.waited.waited b.waited.sound.bounds
+      answered_so words before call sound late.account late.epoch late.passed late.pool late.drafts late.opening late.retired late.owed late.links b.account b.waited.waited b.waited.sound.bounds
       (subst (λ (x : View). running x.sizes x.account x.actor first_one) begun_is b.runs)
       (subst (λ (x : View). history_of x.sizes x.account ≡ history_of before.sizes b.account ++ event.Begin first_one.id before.actor call before.opens ∷ []) begun_is b.told)
       (subst (λ (x : View). AreBounds (bounds_for x.sizes x.account.steps)) begun_is then.bounds)
@@ -232,14 +235,16 @@ begun_and_ended actor id call opens answer history =
 
 pub closes_are_answered : ClosesAreAnswered
 closes_are_answered words before after handle sound h =
-    let w = h.watched.saw in
-    let at_is : h.at ≡ record before { account = w.account; closing = h.watched.marks } = h.watched.after_is ∙ ap (λ (x : View). record x { closing = h.watched.marks }) w.after_is in
-    let s = subst (λ (x : View). ShutBy x handle after) at_is h.shuts in
+    let p = h.closes in
+    let w = h.saw in
+    let s = subst (λ (x : View). ShutBy (pinned_for (with_marks x h.marks) p.pinned p.call) handle p.shut.name p.shut.closed) w.after_is p.shut.shuts in
+    let all_is = p.after_is ∙ ap unpinned p.shut.released.kept.is
+    ∙ ap (λ (x : View). unpinned (record x { epoch = p.rest.epoch; passed = p.rest.passed; retired = p.rest.retired; owed = p.rest.owed; links = p.rest.links })) s.after_is in
     let waited = waited_both before.actor before.account w.account s.account w.waited.waited s.waited.waited in
     let is = subst (λ (x : View). history_of x.sizes x.account ≡ history_of before.sizes s.account ++ event.Begin s.id before.actor (Close handle) None ∷ event.End s.id reply.Closed ∷ [])
     s.after_is s.told in
     let on : GoesOn before.account.steps s.account.steps = (waited.steps, waited.goes_on) in
-    subst (HasAnswered before (Close handle) None reply.Closed) (sym s.after_is)
+    subst (HasAnswered before (Close handle) None reply.Closed) (sym all_is)
     (record {
       continues = record {
         sizes = refl;

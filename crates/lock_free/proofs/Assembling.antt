@@ -18,13 +18,14 @@ use Rattle.lock_free.specs.declared.rules.View.{View}
 use Rattle.lock_free.specs.declared.rules.Closing.{Closing}
 use Rattle.lock_free.specs.declared.sizes.Sizes.{Sizes}
 use Rattle.lock_free.specs.Accounts.{bounds_for, state_of}
+use Rattle.lock_free.specs.Holdings.{AreHeld}
 use Rattle.lock_free.specs.Places.{HaveTaken, words_of, generation_word, root_word}
 use Rattle.lock_free.specs.Rules.{Standing, NodesStand, RootsStand, IsClosing, SaysClosing, latest, IsFree, IsOpening, Reserves, HasSeat, IsSeat, HasActor, IsKept}
 use Rattle.lock_free.specs.Roots.{NoOffer}
 use Rattle.lock_free.specs.Trying.{KeepsTries}
 use Rattle.lock_free.proofs.Meanings.{ran, reserved, reserves_on}
 
-within : {A : Type 0} (xs : List A) (n : ℕ) (x : A) → get_elem? xs n ≡ some x → n < length xs
+pub within : {A : Type 0} (xs : List A) (n : ℕ) (x : A) → get_elem? xs n ≡ some x → n < length xs
 within [] n x e = absurd (some-ne-none x (sym e))
 within (y ∷ ys) zero x e = omega arith
 within (y ∷ ys) (suc n) x e = let h = within ys n x e in omega (arith, h)
@@ -191,7 +192,7 @@ module _ (sizes : Sizes) (s : Table.State Call View) (kept : IsKept sizes s) (id
       (own : IsSeat sizes account stands words later)
       (others : (other : ℕ) (w : View) → get_elem? s.views other ≡ some w → (other ≡ id → ⊥) → IsSeat sizes account stands words w)
       (free : (b name : ℕ) → IsFree later b name → IsFree v b name ⊎ ((other : ℕ) (w : View) (c : ℕ) → get_elem? s.views other ≡ some w → (other ≡ id → ⊥) → IsFree w c name → ⊥))
-      (reserves : Numbers account words) where
+      (reserves : Numbers account words) (held : AreHeld sizes account stands words later_views) where
     seats_then : (other : ℕ) (w : View) → get_elem? later_views other ≡ some w → IsSeat sizes account stands words w
     seats_then other w e = elim (at_set s.views id other later w e) [
       | inl h ↦ subst (λ x. IsSeat sizes account stands words x) h.1 own
@@ -262,4 +263,5 @@ module _ (sizes : Sizes) (s : Table.State Call View) (kept : IsKept sizes s) (id
       alone = alone_then;
       pools = pools_then;
       numbers = numbers_then;
+      held = held;
     }

@@ -31,7 +31,7 @@ use Rattle.lock_free.specs.declared.calling.Started.TheVariants as started
 use Rattle.lock_free.specs.declared.rules.View.{View}
 use Rattle.lock_free.specs.declared.sizes.Sizes.{Sizes}
 use Rattle.lock_free.specs.Accounts.{past_of, state_of}
-use Rattle.lock_free.specs.Beginning.{Begins}
+use Rattle.lock_free.specs.Beginning.{Begins, taking}
 use Rattle.lock_free.specs.Calling.{IsBeginner, access_in, once_begun, refusal_of, runs_unless, started_by, HasBegun, HasTriedToStart, has_started}
 use Rattle.lock_free.specs.HandleWords.{is_marked, TellsRoot}
 use Rattle.lock_free.specs.Loading.{IsSound, Saw}
@@ -47,6 +47,9 @@ use Rattle.lock_free.proofs.OneStep.Telling.{begin_told}
 use Rattle.lock_free.proofs.OpenHandles.{not_closing}
 use Rattle.lock_free.proofs.RootCodes.{kind, root_back}
 use Rattle.lock_free.proofs.SeenRoots.{tells_by}
+use Rattle.lock_free.proofs.Lettings.{beginning_lets}
+use Rattle.lock_free.specs.Live.{IsLive}
+use Rattle.lock_free.proofs.LetGoSince.{beginning_let_go}
 
 -- nobody in the list has reserved the number
 nobody_has : (n : ℕ) (xs : List (Option Operation)) → ((k : ℕ) (o : Operation) → get_or xs k None ≡ Some o → reserved_by (Some o) ≡ Some n → ⊥) → list_any (λ o. is_number n (reserved_by o)) xs ≡ false
@@ -170,7 +173,8 @@ module _ (v : View) (call : Call) (b : IsBeginner v call) (low : handle_of call 
       runs = (
         once_begun v call there,
         begin_kept v.sizes s kept id v at (taken.Begin v.actor call v.opens) call begins idle b.pin b.pinned b.its low (ap is_some is_open)
-            (λ who h. not_closing w who fits few (subst (λ n. SaysClosing n who) code h)),
+            (λ who h. not_closing w who fits few (subst (λ n. SaysClosing n who) code h)) (beginning_lets kept.stands kept.stands (λ j e. e) (IsLive state) state call)
+            (beginning_let_go v.sizes s kept v.actor call v.opens (taking (taken.Begin v.actor call v.opens) there) refl),
         has_begun,
         sound,
         refl,

@@ -1,6 +1,6 @@
 -- An operation begins, at the load that finds its handle open. If it is to open another handle, the seat has reserved that one's number before.
 use Rattle.history.specs.declared.calls.Call.{Call}
-use Rattle.std.proofs.Common.{◌≡◌, ◌≢◌, ◌+◌, ◌⊎◌, ℕ, ◌<◌, inl, inr, true, false, [], ◌∷◌, get_or, is_some, set, slice_index, Some, None, refl, sym, ap, subst, ◌∙◌, arith}
+use Rattle.std.proofs.Common.{◌≡◌, ◌≢◌, ◌+◌, ◌⊎◌, ℕ, ◌<◌, ◌≤◌, inl, inr, true, false, [], ◌∷◌, Contains, get_or, is_some, set, slice_index, Some, None, refl, sym, ap, subst, ◌∙◌, arith}
 use Rattle.std.proofs.Common.{append-nil}
 use Rattle.std.specs.Prelude.{option_map}
 use Rattle.std.proofs.lemmas.Bool.{cases_eq}
@@ -24,11 +24,25 @@ use Rattle.lock_free.specs.Places.{root_word}
 use Rattle.lock_free.specs.Roots.{AreMarked, IsItsTry}
 use Rattle.lock_free.specs.Rules.{SaysClosing, IsSpare, IsHeld, Reserves, IsSeat, IsKept, first_account}
 use Rattle.lock_free.specs.Trying.{try_of, try_at}
+use Rattle.proof_garbage.specs.Beneath.proof_generations.proofs.Handles.Running.{place_of_actor}
 use Rattle.lock_free.proofs.Assembling.{AllStand, all_stand, closing_at, opening_stays, Numbers, assembled, other_actor}
 use Rattle.lock_free.proofs.Meanings.{unmarked_at, unmarked_then, marked_at}
 use Rattle.lock_free.proofs.RootSteps as root
+use Rattle.lock_free.proofs.BegunSince.{begun_since}
+use Rattle.lock_free.proofs.OneStep.Standing.{has}
+use Rattle.lock_free.proofs.PlainStay.{plain_begun}
 use Rattle.lock_free.proofs.Seats.{idle_then, ran_so, Stays, other_kept, own_else}
-use Rattle.lock_free.proofs.Waiting.{waited_none, waited_more, quiet_more, other_quiet}
+use Rattle.lock_free.proofs.Waiting.{grown_steps, waited_none, waited_more, quiet_more, other_quiet}
+use Rattle.machine_model.specs.Beneath.slot_arena.specs.declared.refs.Ref.{Ref}
+use Rattle.proof_claims.specs.Changes.{change_of}
+use Rattle.lock_free.specs.Claims.{held_now}
+use Rattle.lock_free.specs.Holdings.{AreHeld}
+use Rattle.lock_free.proofs.HeldGone.{IsLetting, less_next, LetsGoSince}
+use Rattle.lock_free.proofs.HeldLeads.{alike_slots}
+use Rattle.lock_free.proofs.HeldStep.{held_step}
+use Rattle.lock_free.proofs.Idle.{empty_has}
+use Rattle.lock_free.proofs.LinesStay.{lines_private}
+use Rattle.lock_free.specs.Live.{IsLive}
 
 module _ (sizes : Sizes) (s : Table.State Call View) (kept : IsKept sizes s) (id : ℕ) (v : View) (at : get_elem? s.views id ≡ some v) (taken : Step) (call : Call)
     (begins : Begins sizes kept.account v.actor taken call v.opens) (idle : operation_of (state_of sizes kept.account) v.actor ≡ None) where
@@ -82,6 +96,15 @@ module _ (sizes : Sizes) (s : Table.State Call View) (kept : IsKept sizes s) (id
       subst (λ names. HasWaited actor first (record account_then { names = names })) (append-nil kept.account.names)
       (waited_more actor first kept.account (taken ∷ []) [] [] [] (All-cons (IsOfOther actor) taken [] (begins.its actor differs) (All-nil (IsOfOther actor))) h)
 
+  -- its number is new
+  new_id : now.begun ≤ begins.operation.id
+  new_id =
+      begun_since sizes kept.account account_then all_then.bounds (record { steps = taken ∷ []; goes_on = refl; names = []; more_names = sym (append-nil kept.account.names) }) v.actor idle
+      begins.operation begins.own
+
+  below_id : begins.operation.id < next.begun
+  below_id = let place = place_of_actor next v.actor begins.operation begins.own in (has sizes account_then all_then.bounds).0.ids.below place.0 begins.operation place.2
+
   own_call : (o : Operation) → operation_of next v.actor ≡ Some o → o ≡ begins.operation
   own_call o e = same_Some o begins.operation (sym e ∙ begins.own)
 
@@ -120,6 +143,7 @@ module _ (sizes : Sizes) (s : Table.State Call View) (kept : IsKept sizes s) (id
       still_open = λ other w at_w g inside e. ap is_some (root_then g) ∙ e;
       taken = λ b n small h. h;
       spare = λ other w b name e apart free. (spare_then name ((kept.seats other w e).spare b name free).1, λ j its. refl);
+      plain = plain_begun sizes kept.account account_then kept.bounds (taken ∷ []) refl s.words s.words v.actor begins.operation begins.own new_id below_id;
     }
 
     own_then : IsSeat sizes account_then kept.stands s.words view_then
@@ -144,12 +168,30 @@ module _ (sizes : Sizes) (s : Table.State Call View) (kept : IsKept sizes s) (id
       runners = runners_then;
     }
 
+    private_then : (a : ℕ) (o : Operation) → operation_of next a ≡ Some o → (r : Ref) → Contains o.private r → (p : Operation) × (operation_of now a ≡ Some p) × Contains p.private r
+    private_then a o e r c = elim (cases_eq a v.actor) [
+      | inl own ↦
+          absurd (empty_has r (subst (λ rs. Contains rs r) begins.alone
+          (subst (λ (x : Operation). Contains x.private r) (same_Some o begins.operation (sym e ∙ ap (operation_of next) own ∙ begins.own)) c)))
+      | inr other ↦ (o, sym (begins.others a other) ∙ e, c)
+    ]
+
+    held_begun : IsLetting kept.stands kept.stands (IsLive now) (change_of now (held_now sizes kept.account) taken) → LetsGoSince sizes kept.account account_then kept.stands kept.stands →
+        AreHeld sizes account_then kept.stands s.words (set s.views id view_then)
+    held_begun letting let_go =
+        held_step sizes s kept id v at account_then (grown_steps kept.account account_then (taken ∷ []) refl refl) refl refl (alike_slots now next begins.leaves.nodes) begins.leaves.live private_then
+        (less_next sizes kept.account kept.bounds kept.stands kept.stands (λ j e. e) (IsLive now) taken letting account_then refl)
+        let_go view_then refl refl (λ k. omega arith)
+        (lines_private sizes s kept id v at account_then view_then begins.others begins.leaves.bounds begins.operation begins.own begins.alone) s.words (λ c is. refl)
+
     -- the rule holds
-    pub begin_kept : IsKept sizes (record { words = s.words; homes = s.homes; views = set s.views id view_then })
-    begin_kept =
+    pub begin_kept : IsLetting kept.stands kept.stands (IsLive now) (change_of now (held_now sizes kept.account) taken) →
+        LetsGoSince sizes kept.account (taking taken kept.account) kept.stands kept.stands →
+        IsKept sizes (record { words = s.words; homes = s.homes; views = set s.views id view_then })
+    begin_kept letting let_go =
         assembled sizes s kept id v at view_then refl refl account_then kept.stands s.words all_then
         (λ g who below says. elim (cases_eq g (handle_of call)) [
           | inl same ↦ absurd (unmarked who (subst (λ n. SaysClosing (slice_index s.words (root_word n)) who) same says))
           | inr differs ↦ closing_at sizes s kept id v at view_then refl refl g who (λ e. absurd (differs (sym (same_Some (handle_of call) g e)))) (λ c is this its. is)
               (kept.closings g who below says)
-        ]) own_then (other_kept sizes s kept id v at account_then kept.stands s.words stays) (λ b name f. inl f) numbers_then
+        ]) own_then (other_kept sizes s kept id v at account_then kept.stands s.words stays) (λ b name f. inl f) numbers_then (held_begun letting let_go)

@@ -2,6 +2,7 @@
 use Rattle.std.proofs.Common.{◌≡◌, ◌<◌, ◌≤◌, ◌+◌, ◌-◌, ◌==◌, ◌∷◌, inl, inr, ℕ, zero, suc, Bool, true, false}
 use Rattle.std.proofs.Common.{List, [], Option, Some, None, refl, sym, ap, ap₂, subst, ◌∙◌, length, Contains, get_or, if◌then◌else◌, arith}
 use Rattle.std.proofs.lemmas.Bool.{true≢false}
+use Rattle.std.proofs.lemmas.Option.{same_Some}
 use Rattle.std.proofs.lemmas.List.Elements.{Contains-get_or, Contains-append_left, Contains-append_right}
 use Rattle.arrayvec.specs.ArrayVec.{ArrayVec}
 use Rattle.trie_words.specs.declared.entries.Entry.{Entry}
@@ -19,25 +20,33 @@ use Rattle.machine_model.specs.declared.lines.Line.TheVariants as line
 use Rattle.machine_model.specs.declared.operations.Operation.{Operation}
 use Rattle.machine_model.specs.Building.{key_in, old_hash}
 use Rattle.machine_model.specs.Calls.{key_of}
-use Rattle.machine_model.specs.Operations.{line_action}
+use Rattle.machine_model.specs.Operations.{action_of, line_action}
 use Rattle.machine_model.specs.Paths.{depth_of, hash_in}
 use Rattle.nodes.specs.Builders.{pair}
 use Rattle.nodes.specs.Levels.{index_in, list_depth, parting}
 use Rattle.proof_linearizable.specs.Beneath.proof_contents.specs.Lines.Changes.{Known, KnowsBuild, KnowsLine, Neighbour}
+use Rattle.proof_linearizable.specs.Beneath.proof_shape.proofs.Runs.Entries.{pair_entries}
 use Rattle.proof_memory.specs.Laws.{IsInUse}
 use Rattle.proof_memory.specs.Wants.{AllHold, Holds as Claimed, EntryIs, ASingle, entry_is, is_branch, is_branch_or_list, line_wants}
 use Rattle.proof_memory.proofs.Claims.Uses.{safe_of, meets_of}
 use Rattle.lock_free.specs.declared.building.Builder.{Builder}
 use Rattle.lock_free.specs.declared.reading.Given.{Given}
+use Rattle.lock_free.specs.declared.reclaiming.Kind.TheVariants as kinds
 use Rattle.lock_free.specs.declared.rules.View.{View}
 use Rattle.lock_free.specs.Accounts.{place_of}
 use Rattle.lock_free.specs.Becoming.{HasNew}
 use Rattle.lock_free.specs.BuildingUp.{HasLedOrNone, HasLinked, HasPaired, HasReached, IsAtLink, IsAtPair, IsBuilder, IsMain, MakesPair}
+use Rattle.lock_free.specs.Changing.{HasBuilt}
 use Rattle.lock_free.specs.Entries.{HasStayed, entry_in, IsEntryIn, HoldsEntry, HasSeenEntry}
 use Rattle.lock_free.specs.Holding.{IsOn}
 use Rattle.lock_free.specs.Live.{IsLive, at_hand, line_claims, refs_of_claims}
 use Rattle.lock_free.specs.Loading.{now, IsAt, IsSound, IsUsed, Holds, HoldsSlot, HasSeenKey, HasPosition}
-use Rattle.lock_free.specs.SeenEntries.{entry_to, unowned, HasMadeNext}
+use Rattle.lock_free.specs.Nodes.{class_of}
+use Rattle.lock_free.specs.OwesAt.{owes_on}
+use Rattle.lock_free.specs.Owing.{names_made}
+use Rattle.lock_free.specs.Raising.{MayHoldOne}
+use Rattle.lock_free.specs.Reclaiming.{kind_of_node}
+use Rattle.lock_free.specs.SeenEntries.{entry_to, unowned}
 use Rattle.lock_free.specs.Stocks.{Stocked, IsStock}
 use Rattle.lock_free.proofs.StockStays.{stock_stayed}
 use Rattle.lock_free.proofs.AllEntries.{entry_same, holds_on}
@@ -52,7 +61,9 @@ use Rattle.lock_free.proofs.Laters.{later_both, saw_later}
 use Rattle.lock_free.proofs.Leads.{over_none}
 use Rattle.lock_free.proofs.OnLines.{line_is, finds_now, stays_on}
 use Rattle.lock_free.proofs.Pools.{first_there}
-use Rattle.lock_free.proofs.Reachings.{reached_both, reached_on, reached_new, reached_stayed, stopped_here, stopped_then, builder_then}
+use Rattle.lock_free.proofs.Reachings.{reached_both, reached_on, reached_new, reached_stayed, stopped_then, builder_then}
+use Rattle.lock_free.proofs.Resting.{reached_rested}
+use Rattle.lock_free.proofs.MainNames.{build_shared, pair_named}
 
 -- ---- what the claims say
 
@@ -177,19 +188,13 @@ module _ (n : ℕ) (v : View) (sound : IsSound n v) (by : Builder) (given : Give
   depth_known : depth ≡ parting (list_depth v.sizes.hash - (depth_of path + 1)) (hash_of v.sizes.hash beside.other) (hash_of v.sizes.hash (key_of o.call)) (depth_of path + 1)
   depth_known = pair_known.1.2
 
-  holds_old : Holds v old
-  holds_old = (
-    o,
-    on.1.1,
-    inr (
-      main,
-      m.header.slot,
-      main_at_hand,
-      m.header.used,
+  old_there : Contains (entries_of m.header.slot.node) old
+  old_there =
       subst (λ e. Contains (entries_of m.header.slot.node) e) (ap (λ x. get_or (entries_of x) position no_ref) (sym main_node))
-          (Contains-get_or (entries_of m.header.slot.node) position no_ref inside),
-    ),
-  )
+      (Contains-get_or (entries_of m.header.slot.node) position no_ref inside)
+
+  holds_old : Holds v old
+  holds_old = (o, on.1.1, inr (main, m.header.slot, main_at_hand, m.header.used, old_there))
 
   -- ---- its entry is seen
 
@@ -283,6 +288,33 @@ module _ (n : ℕ) (v : View) (sound : IsSound n v) (by : Builder) (given : Give
             let least = least_parting (list_depth by.hashes - (by.depth + 1)) hash by.hash (by.depth + 1) in
             omega (arith, least, d_so)
 
+        -- what the pair names is the new single, or the old one, which stands in the main node
+        pub pair_holds : MayHoldOne v2 kinds.Single 0 seen_old.slot
+        pair_holds = record {
+          one = old;
+          hand = (
+            holds_on v v2 stayed old holds_old,
+            record {
+              slot = old_slot.0;
+              used = old_slot.1;
+              class_is = ap class_of old_slot.2;
+              place = sym (ap (λ (e : Entry). e.slot) (seen_to ∙ to_then v1 g.0 ∙ sym (to_then v2 stayed)));
+            },
+          );
+          its_kind = ap kind_of_node (node_is (now v2) old old_slot.0 old_slot.1 ∙ old_slot.2);
+          shared = build_shared n v2 sound2 (build.Pair path main position made depth) on2 old
+              (subst (λ x. Contains (entries_of x) old) (sym (main_then v2 stayed ∙ main_node)) old_there);
+          names = λ operation runs k c.
+              (let same = same_Some making.operation operation (sym making.runs ∙ runs) in
+              let named = subst (λ ks. Contains ks k) (ap (λ p. names_made (action_of (now v2) p)) (sym same) ∙ ap names_made making.acts) c in
+              elim (pair_entries by.hashes d hash by.hash old made k (pair_named by.hashes d hash by.hash old made k named)) [
+                | inl is_old ↦ inr is_old
+                | inr is_new ↦
+                    inl (subst (λ z. Contains (owes_on operation.private z) k) (sym (line_is v2 l on2 operation (operation.is_marked, runs)))
+                    (subst (Contains (made ∷ [])) (sym is_new) (first_there made [])))
+              ]);
+        }
+
         pub pair_stock : (stock : Stocked) → IsStock stock v → IsStock stock v2
         pair_stock stock is = stock_stayed n v v2 sound on.0 on.1 stock is stayed
 
@@ -291,13 +323,13 @@ module _ (n : ℕ) (v : View) (sound : IsSound n v) (by : Builder) (given : Give
         elsewhere P h q c x y other =
             let same = ap parts_in (sym (line_is v l on other.0 other.1) ∙ other.2) in subst (λ (z : List Ref × Ref). P z.0 z.1) same h
 
-        pub pair_none : (v3 : View) → HasMadeNext v2 None v3 → HasPaired v position None v3
+        pub pair_none : (v3 : View) → HasBuilt v2 None v3 → HasPaired v position None v3
         pair_none v3 none q c x y other =
-            stopped_then v v2 v3 l reached2 (stopped_here v2 v3 (build.Pair path main position made depth) on2 (none (pair by.hashes d hash by.hash old made) making))
+            stopped_then v v2 v3 l reached2 (build.Pair path main position made depth, reached_rested v2 v3 l on2 (none (pair by.hashes d hash by.hash old made) making))
 
         -- ---- the pair is made
 
-        module _ (v3 : View) (name : ℕ) (new : HasMadeNext v2 (Some name) v3) where
+        module _ (v3 : View) (name : ℕ) (new : HasBuilt v2 (Some name) v3) where
           abbrev h : HasNew v2 (pair by.hashes d hash by.hash old made) name v3
           h = new (pair by.hashes d hash by.hash old made) making
 

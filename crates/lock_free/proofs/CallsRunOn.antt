@@ -89,7 +89,7 @@ module _ (v w : View) (slots : List ℕ) (task : Task) where
 
 updated_same : (former : Option ℕ) (result : Swapped) (o : Operation) → IsSame o (updated former result o)
 updated_same former (Commits had) o = refl
-updated_same former Fails o = refl
+updated_same former (Fails r) o = refl
 updated_same former Misses o = refl
 
 module _ (v w : View) (former : Option ℕ) where
@@ -104,8 +104,8 @@ module _ (v w : View) (former : Option ℕ) where
     pub updated_commits : (had : Option Retiree) → HasUpdated v former (Some (Commits had)) w → IsOn w (line.End (changed_reply o.call former))
     updated_commits had h = (updated former (Commits had) o, h.comes o r, refl)
 
-    pub updated_fails : HasUpdated v former (Some Fails) w → IsOn w new_try
-    updated_fails h = (updated former Fails o, h.comes o r, refl)
+    pub updated_fails : (had : Retiree) → HasUpdated v former (Some (Fails had)) w → IsOn w new_try
+    updated_fails had h = (updated former (Fails had) o, h.comes o r, refl)
 
     pub updated_misses : HasUpdated v former (Some Misses) w → IsOn w new_try
     updated_misses h = (updated former Misses o, h.comes o r, refl)
@@ -114,12 +114,12 @@ module _ (v w : View) (former : Option ℕ) where
 
 changed_same : (path : List Ref) (former : Option ℕ) (c : Change) (result : Swapped) (o : Operation) → IsSame o (changed_by path former c result o)
 changed_same path former c (Commits had) o = refl
-changed_same path former c Fails o = refl
+changed_same path former c (Fails r) o = refl
 changed_same path former c Misses o = refl
 
 module _ (v w : View) (path : List Ref) (main : Ref) (its : Change) (former : Option ℕ) (on : IsOn v (line.Build (build.Main path main its former))) where
   pub changed_runs_on : (result : Option Swapped) → HasChanged v result w → RunsOn v w
-  changed_runs_on None h = runs_on_stayed v w (h path main its former on)
+  changed_runs_on None h = runs_on_become v w (λ o. o) (λ o. refl) (h path main its former on)
   changed_runs_on (Some result) h = runs_on_become v w (changed_by path former its result) (changed_same path former its result) (h path main its former on)
 
   pub changed_full : HasChanged v None w → MayAnswer w reply.NoSlots
@@ -130,8 +130,8 @@ module _ (v w : View) (path : List Ref) (main : Ref) (its : Change) (former : Op
     pub changed_commits : (had : Option Retiree) → HasChanged v (Some (Commits had)) w → IsOn w (changed_to path former its o)
     changed_commits had h = (changed_by path former its (Commits had) o, (h path main its former on).comes o r, refl)
 
-    pub changed_fails : HasChanged v (Some Fails) w → IsOn w new_try
-    changed_fails h = (changed_by path former its Fails o, (h path main its former on).comes o r, refl)
+    pub changed_fails : (had : Retiree) → HasChanged v (Some (Fails had)) w → IsOn w new_try
+    changed_fails had h = (changed_by path former its (Fails had) o, (h path main its former on).comes o r, refl)
 
     pub changed_misses : HasChanged v (Some Misses) w → IsOn w new_try
     changed_misses h = (changed_by path former its Misses o, (h path main its former on).comes o r, refl)

@@ -52,6 +52,10 @@ module _ (n : ℕ) (v : View) (sound : IsSound n v) (name : Name) (bitmap : ℕ)
   flag_so : flag ≡ 2 ^ index
   flag_so = h.is_flag h.on.0 h.on.1
 
+  pub branch_room : has_flag bitmap flag ≡ false → length refs < 32
+  branch_room has =
+      room_there n v sound h.main h.known.slot h.known.used bitmap branch_is.0 branch_is.1 index (omega arith) (subst (λ f. has_flag bitmap f ≡ false) flag_so has)
+
   module _ (w : View) (entries : List Entry) (g : HasSeenEntries v name.slot (count_ones bitmap) entries w) where
     its_size : length entries ≡ length refs
     its_size = size n v sound name (shape.Branch bitmap) flag e h refs refs_are counted few w entries g
@@ -64,14 +68,14 @@ module _ (n : ℕ) (v : View) (sound : IsSound n v) (name : Name) (bitmap : ℕ)
           subst (λ f. position_of f bitmap ≤ length entries) (sym flag_so)
               (subst (λ k. position_of (2 ^ index) bitmap ≤ k) (sym its_size) (place_least n v sound h.main h.known.slot h.known.used bitmap branch_is.0 branch_is.1 index)),
           subst (λ k. k < 32) (sym its_size)
-              (room_there n v sound h.main h.known.slot h.known.used bitmap branch_is.0 branch_is.1 index (omega arith) (subst (λ f. has_flag bitmap f ≡ false) flag_so has)),
+              (branch_room has),
         )
         by (edit.Update position entry) has = subst (λ k. position < k) (counted ∙ sym its_size) has
         by (edit.Remove position) has = subst (λ k. position < k) (counted ∙ sym its_size) has
         by (edit.Entomb single) has = tt
 
     module _ (kept : IsNoTomb e) (sound_w : IsSound n w) where
-      new_node : its_node n v sound name (shape.Branch bitmap) flag e h ≡ Branch (edited_bitmap bitmap flag e) (entries_from (refs_edited refs (position_of flag bitmap) h.its))
+      pub new_node : its_node n v sound name (shape.Branch bitmap) flag e h ≡ Branch (edited_bitmap bitmap flag e) (entries_from (refs_edited refs (position_of flag bitmap) h.its))
       new_node =
           ap (λ f. changed f (node_at (now v).heap h.main) h.its) (flag_is n v sound name (shape.Branch bitmap) flag e h)
           ∙ ap (λ x. changed flag x h.its) (node_is (now v) h.main h.known.slot h.known.used ∙ branch_is.1) ∙ branch_changed v e h.its h.is_change kept flag bitmap branch_is.0

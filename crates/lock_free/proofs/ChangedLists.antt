@@ -53,7 +53,7 @@ module _ (n : ℕ) (v : View) (sound : IsSound n v) (name : Name) (count : ℕ) 
         by (edit.Entomb single) has = tt
 
     module _ (kept : IsNoTomb e) (sound_w : IsSound n w) where
-      new_node : its_node n v sound name (shape.List count) flag e h ≡ Listed (entries_from (refs_edited refs count h.its))
+      pub new_node : its_node n v sound name (shape.List count) flag e h ≡ Listed (entries_from (refs_edited refs count h.its))
       new_node =
           ap (λ f. changed f (node_at (now v).heap h.main) h.its) (flag_is n v sound name (shape.List count) flag e h)
           ∙ ap (λ x. changed flag x h.its) (node_is (now v) h.main h.known.slot h.known.used ∙ list_is.1) ∙ list_changed v e h.its h.is_change kept flag list_is.0

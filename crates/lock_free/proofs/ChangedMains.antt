@@ -28,10 +28,10 @@ use Rattle.lock_free.specs.Becoming.{HasNew, line_made, made_on}
 use Rattle.lock_free.specs.Changing.{count_in, edited, CanEdit, HasBuilt, IsChange, IsChanging}
 use Rattle.lock_free.specs.Entries.{HasStayed}
 use Rattle.lock_free.specs.Halves.{FitsHalf}
-use Rattle.lock_free.specs.Live.{IsLive, refs_of_claims, line_claims}
+use Rattle.lock_free.specs.Live.{IsLive, at_hand, refs_of_claims, line_claims}
 use Rattle.lock_free.specs.Loading.{now, Runs, IsAt, IsSound, Holds}
 use Rattle.lock_free.specs.Making.{over_of, IsOverBy}
-use Rattle.lock_free.specs.SeenEntries.{entry_to, unowned, AreEntriesTo, HasEntries, HasMadeNext, HasSeenEntries, IsOver}
+use Rattle.lock_free.specs.SeenEntries.{entry_to, unowned, AreEntriesTo, HasEntries, HasSeenEntries, IsOver}
 use Rattle.lock_free.specs.Stocks.{Stocked, IsStock}
 use Rattle.lock_free.proofs.AllEntries.{entry_same}
 use Rattle.lock_free.proofs.Asked.{live_in_use}
@@ -46,6 +46,7 @@ use Rattle.lock_free.proofs.MainMakes.{same_length}
 use Rattle.lock_free.proofs.OnLines.{line_is, finds_now, stays_on}
 use Rattle.lock_free.proofs.OwnMakes.{one_node}
 use Rattle.lock_free.proofs.Pools.{first_there}
+use Rattle.lock_free.proofs.Resting.{rested_both, rested_stayed}
 use Rattle.lock_free.proofs.StockStays.{stock_stayed}
 
 -- a node that was made after something was seen
@@ -77,16 +78,15 @@ module _ (n : ℕ) (v : View) (sound : IsSound n v) (name : Name) (what : Shape)
   pub kind : is_branch_or_list h.known.slot.node ≡ true
   kind = subst (λ x. is_branch_or_list x ≡ true) known_node (meets_of claims.1.1.0)
 
+  pub main_at_hand : Contains (at_hand (now v) o) h.main
+  main_at_hand =
+      Contains-append_left (refs_of_claims (line_claims (now v) o)) o.private h.main
+      (subst (λ (x : Line). Contains (refs_of_claims (line_claims (now v) (record o { line = x }))) h.main) (sym h.on.2)
+      (Contains-append_right h.path (h.main ∷ refs_of_claims (change_wants h.main (flag_on (now v).limits.hash o.call h.path) h.former h.its)) h.main
+      (first_there h.main (refs_of_claims (change_wants h.main (flag_on (now v).limits.hash o.call h.path) h.former h.its)))))
+
   pub holds_main : Holds v h.main
-  holds_main = (
-    o,
-    h.on.1.1,
-    inl
-        (Contains-append_left (refs_of_claims (line_claims (now v) o)) o.private h.main
-        (subst (λ (x : Line). Contains (refs_of_claims (line_claims (now v) (record o { line = x }))) h.main) (sym h.on.2)
-        (Contains-append_right h.path (h.main ∷ refs_of_claims (change_wants h.main (flag_on (now v).limits.hash o.call h.path) h.former h.its)) h.main
-        (first_there h.main (refs_of_claims (change_wants h.main (flag_on (now v).limits.hash o.call h.path) h.former h.its)))))),
-  )
+  holds_main = (o, h.on.1.1, inl main_at_hand)
 
   pub flag_is : flag_in (now v) o h.path ≡ flag
   flag_is = ap (λ k. flag_on k o.call h.path) (hash_is v.sizes v.account) ∙ sym (h.is_flag h.on.0 h.on.1)
@@ -164,11 +164,11 @@ module _ (n : ℕ) (v : View) (sound : IsSound n v) (name : Name) (what : Shape)
     main_still = main_node_on v w (follows_later v w s.later) h.main h.known.slot h.known.used h.known.is_main
 
     -- and what is built then is built now
-    pub built_then : (result : Option ℕ) (after : View) → IsAt w (act.Make its_node) → HasMadeNext w result after → HasBuilt v result after
-    built_then None after m made node p = subst (HasStayed v) (sym (made its_node m)) s
-    built_then (Some made_name) after m made node p =
+    pub built_then : (result : Option ℕ) (after : View) → IsAt w (act.Make its_node) → HasBuilt w result after → HasBuilt v result after
+    built_then None after m built node p = rested_both v w after (rested_stayed v w s) (built its_node m)
+    built_then (Some made_name) after m built node p =
         new_stayed v w after s node made_name (λ q r made. subst (λ x. line_made (now w) q x made ≡ line_made (now v) q x made) (sym (line_is v l h.on q r)) refl)
-        (made node (subst (λ x. IsAt w (act.Make x)) (one_node v its_node node at_make p) m))
+        (built node (subst (λ x. IsAt w (act.Make x)) (one_node v its_node node at_make p) m))
 
     pub stock_then : (stock : Stocked) → IsStock stock v → IsStock stock w
     stock_then stock is = stock_stayed n v w sound h.on.0 h.on.1 stock is s
@@ -219,7 +219,7 @@ module _ (n : ℕ) (v : View) (sound : IsSound n v) (name : Name) (what : Shape)
       pub over_there : IsOver w (previous.Pending name)
       over_there = over_it n w sound_w name what flag e later_h
 
-      pub built_there : (result : Option ℕ) (after : View) → HasMadeNext w result after → HasBuilt v result after
+      pub built_there : (result : Option ℕ) (after : View) → HasBuilt w result after → HasBuilt v result after
       built_there result after = built_then n v sound name what flag e h w g.0 result after make_there
 
     pub stock_there : (stock : Stocked) → IsStock stock v → IsStock stock w

@@ -18,8 +18,8 @@ use Rattle.lock_free.specs.BuildingUp.{grown}
 use Rattle.lock_free.specs.Loading.{now, Runs}
 use Rattle.lock_free.specs.Passing.{IsOnWay}
 use Rattle.lock_free.specs.Stocks.{HasSwapped}
-use Rattle.lock_free.specs.Swaps.{is_done, swap_done, IsAtSwap, IsSwapping}
-use Rattle.lock_free.proofs.Followings.{follows_both, link_on, placed_on}
+use Rattle.lock_free.specs.Swaps.{is_done, swap_done, IsAtSwap, IsSwapping, SwapDrops}
+use Rattle.lock_free.proofs.Followings.{follows_both, link_on, main_node_on, placed_on}
 use Rattle.lock_free.proofs.Reachings.{reached_new, way_then}
 use Rattle.machine_model.specs.Beneath.slot_arena.specs.declared.nodes.Node.{Node}
 use Rattle.machine_model.specs.declared.building.Change.{Change}
@@ -30,7 +30,7 @@ use Rattle.proof_memory.specs.Wants.{is_branch_or_list}
 use Rattle.lock_free.specs.declared.changing.Edit.{Edit}
 use Rattle.lock_free.specs.Becoming.{HasNew}
 use Rattle.lock_free.specs.BuildingUp.{HasReached}
-use Rattle.lock_free.specs.Changing.{HasBuilt, IsChanging}
+use Rattle.lock_free.specs.Changing.{drops_of, HasBuilt, IsChanging}
 use Rattle.lock_free.specs.Loading.{IsSound}
 use Rattle.lock_free.specs.Updating.{changed_by, HasChanged, HasChangedBy, IsAtChange}
 use Rattle.lock_free.proofs.AfterChanges.{after_changed, grown_to}
@@ -39,7 +39,10 @@ use Rattle.lock_free.proofs.OnLines.{line_is}
 use Rattle.lock_free.specs.Leaving.{HasLeftSwap, IsUpdate, LeavesChange, LeavesSwap}
 use Rattle.lock_free.specs.declared.leaving.Swapping.{Swapping}
 use Rattle.lock_free.proofs.RunningOn.{runs_on_become}
-use Rattle.lock_free.proofs.SwapsBegun.{leaves_swap}
+use Rattle.lock_free.proofs.SwapsBegun.{leaves_swap, told_so}
+use Rattle.lock_free.specs.declared.leaving.Drops.{Drops}
+use Rattle.lock_free.specs.Dropping.{AreDropped}
+use Rattle.lock_free.proofs.DroppedEntries.{drops_new}
 use Rattle.lock_free.specs.Classes.{shape_class}
 use Rattle.lock_free.proofs.MainClasses.{class_known}
 use Rattle.lock_free.proofs.NewNodes.{class_on}
@@ -90,6 +93,14 @@ module _ (n : ℕ) (v w : View) (sound : IsSound n v) (indirection : ℕ) (given
       class_on v w new.become.follows h.main at.link.main_used ∙ class_known n v sound h.main h.header h.known ∙ ap shape_class h.is_shape ∙ sym is,
     )
 
+    -- what it drops
+    pub change_told : (d : Drops) → d ≡ drops_of e → SwapDrops w d
+    change_told d is =
+        told_so w (purpose.Update h.path h.former) (current h.path) h.main new.made swaps d
+        (subst (AreDropped w h.main new.made) (sym is)
+        (drops_new n v sound given.link.main given.header.shape flag e h w new.made (flag_in (now v) (record h.on.0 { is_marked = h.on.1.0 }) h.path) new.node_is
+        (main_node_on v w new.become.follows h.main h.known.slot h.known.used h.known.is_main)))
+
     comes_by : (s : Swapped) (o : Operation) → swap_done (purpose.Update h.path h.former) (node_at (now w).heap new.made) (is_done s) (grown reached.more next o) ≡ changed_by h.path h.former h.its s o
     comes_by (Commits had) o =
         ap (λ l. record o { private = []; line = l })
@@ -97,7 +108,7 @@ module _ (n : ℕ) (v w : View) (sound : IsSound n v) (indirection : ℕ) (given
         ∙ after_changed (grown reached.more next o) h.path h.former (flag_in (now v) (record h.on.0 { is_marked = h.on.1.0 }) h.path) (node_at (now v).heap h.main) h.its
         (subst (λ x. is_branch_or_list x ≡ true) (sym (known_node n v sound given.link.main given.header.shape flag e h)) (kind n v sound given.link.main given.header.shape flag e h))
         ∙ grown_to o h.path h.former reached.more next h.its)
-    comes_by Fails o = refl
+    comes_by (Fails r) o = refl
     comes_by Misses o = refl
 
     pub change_done : (s : Swapped) (after : View) → HasSwapped w s after → HasChanged v (Some s) after

@@ -32,7 +32,7 @@ use Rattle.lock_free.proofs.Assembling.{closing_at}
 use Rattle.lock_free.proofs.Closers.{seat_kept}
 use Rattle.lock_free.proofs.Exchanged.{words_then, words_hit, words_miss}
 use Rattle.lock_free.proofs.Fates.{settled_decides, settled_still}
-use Rattle.lock_free.proofs.Framing.{class_small}
+use Rattle.lock_free.proofs.Framing.{class_small, node_end}
 use Rattle.lock_free.proofs.Moments.{allowed, same_place, seat}
 use Rattle.lock_free.proofs.OpenHandles.{clean_kept, root_fits, settled_is}
 use Rattle.lock_free.proofs.Rewritten.{IsPlainWord, is_writable}
@@ -41,7 +41,7 @@ use Rattle.lock_free.proofs.Within.{two_words}
 -- the slot is one of the table
 pub placed_small : (words : ℕ) (v : View) → IsSound words v → (r : Ref) (name : ℕ) → IsPlaced v r name → name < 2 ^ 27
 placed_small words v sound r name p =
-    let inside = sound.inside (slot_of r) p.0.0 p.0.1 in
+    let inside = node_end v.sizes p.0.0.node (place_of v.account r) (sound.inside (slot_of r) p.0.0 p.0.1) in
     let two = two_words (class_of p.0.0.node) (class_small p.0.0.node) in
     let range = sound.range in
     let place = p.1 in

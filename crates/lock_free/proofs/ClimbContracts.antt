@@ -1,13 +1,17 @@
 -- CLIMB makes the parent's main node anew.
-use Rattle.std.proofs.Common.{◌≡◌, ◌<◌, ◌==◌, ◌&&◌, ℕ, Bool, true, false, List, [], ◌∷◌, length, length-set, slice_set, count_ones, Option, None, Some, refl, sym, ap, ap₂, subst, ◌∙◌, arith, eqb-true}
+use Rattle.std.proofs.Common.{◌≡◌, ◌⊎◌, ◌<◌, ◌==◌, ◌&&◌, ◌++◌, ℕ, Bool, true, false, List, [], ◌∷◌, Contains, length, length-set, slice_set, count_ones, Option, None, Some, inl, inr, refl, sym}
+use Rattle.std.proofs.Common.{ap, ap₂, subst, ◌∙◌, arith, eqb-true}
 use Rattle.std.proofs.lemmas.Bool.{true≢false}
+use Rattle.std.proofs.lemmas.List.{get_or-set_same}
+use Rattle.std.proofs.lemmas.List.Elements.{Contains-append_left, Contains-append_right}
 use Rattle.nodes.specs.Builders.{contracted, renewed}
 use Rattle.trie_words.specs.declared.entries.Entry.{Entry}
 use Rattle.trie_words.specs.declared.headers.Previous.TheVariants as previous
 use Rattle.trie_words.specs.declared.links.Link.{Link}
 use Rattle.machine_model.specs.Beneath.slot_arena.specs.declared.refs.Ref.{Ref}
 use Rattle.machine_model.specs.Beneath.slot_arena.specs.declared.nodes.Node.{Node}
-use Rattle.machine_model.specs.Beneath.slot_arena.specs.declared.nodes.Node.TheVariants.{Tomb}
+use Rattle.machine_model.specs.Beneath.slot_arena.specs.declared.nodes.Node.TheVariants.{Branch, Tomb}
+use Rattle.machine_model.specs.Beneath.slot_arena.specs.declared.nodes.Slot.{Slot}
 use Rattle.machine_model.specs.Beneath.slot_arena.specs.Heaps.{no_ref, node_at, entries_of, bitmap_of}
 use Rattle.machine_model.specs.declared.actions.Action.TheVariants as act
 use Rattle.machine_model.specs.declared.lines.Line.{Line}
@@ -17,11 +21,13 @@ use Rattle.machine_model.specs.declared.operations.Operation.{Operation}
 use Rattle.machine_model.specs.declared.repairs.Climb.{Climb}
 use Rattle.machine_model.specs.declared.repairs.ClimbLine.TheVariants as climb
 use Rattle.machine_model.specs.declared.roots.RootLine.TheVariants as root
-use Rattle.machine_model.specs.Calls.{changed_reply}
 use Rattle.machine_model.specs.Climbing.{climbed, climbing, higher}
 use Rattle.machine_model.specs.GivingUp.{given_up}
 use Rattle.machine_model.specs.Operations.{swapped, climbed_on}
 use Rattle.machine_model.specs.Paths.{above, current, is_below_root}
+use Rattle.proof_linearizable.specs.Beneath.proof_shape.proofs.Runs.Entries.{of_set}
+use Rattle.proof_memory.proofs.Claims.Uses.{safe_of}
+use Rattle.proof_memory.specs.Wants.{is_branch_or_list, is_entry}
 use Rattle.lock_free.specs.declared.climbing.Climbed.{Climbed}
 use Rattle.lock_free.specs.declared.climbing.Climbed.TheVariants as outcome
 use Rattle.lock_free.specs.declared.reading.Way.{Way}
@@ -29,23 +35,31 @@ use Rattle.lock_free.specs.declared.rules.View.{View}
 use Rattle.lock_free.specs.declared.swapping.Swapped.{Swapped}
 use Rattle.lock_free.specs.declared.swapping.Swapped.TheVariants.{Commits}
 use Rattle.lock_free.specs.Becoming.{Follows, HasBecome, HasNew}
+use Rattle.lock_free.specs.Changing.{HasBuilt, HasBuiltNode}
 use Rattle.lock_free.specs.Climbs.{IsContracting, ContractsParent, HasContracted, ClimbedBy, IsAskingAgain}
-use Rattle.lock_free.specs.Contracting.{IsAtContracted}
+use Rattle.lock_free.specs.Contracting.{counted_in, IsAtContracted}
 use Rattle.lock_free.specs.GoingDown.{HasMoved}
 use Rattle.lock_free.specs.Holding.{IsOn}
-use Rattle.lock_free.specs.Loading.{now, Runs, IsSound}
+use Rattle.lock_free.specs.Live.{at_hand, line_claims, refs_of_claims}
+use Rattle.lock_free.specs.Loading.{now, Holds, IsAt, IsUsed, Runs, IsSound}
 use Rattle.lock_free.specs.Nodes.{is_single}
 use Rattle.lock_free.specs.Passing.{IsOnWay}
-use Rattle.lock_free.specs.Repairing.{GivesUp, HasEndedBy, HasStart}
-use Rattle.lock_free.specs.SeenEntries.{HasMadeNext, HasNewOrNone, IsOver}
+use Rattle.lock_free.specs.Repairing.{HasEndedBy, HasStart}
+use Rattle.lock_free.specs.Raising.{MayHold}
+use Rattle.lock_free.specs.SeenEntries.{IsOver}
 use Rattle.lock_free.specs.Stocks.{Stocked, IsStock, HasSwapped}
 use Rattle.lock_free.specs.Swaps.{IsAtSwap, is_done}
 use Rattle.lock_free.proofs.BecomesOn.{stock_moved, start_become, way_become}
 use Rattle.lock_free.proofs.ClimbLooks.{no_climb}
+use Rattle.lock_free.proofs.ContractedNames.{contracted_holds}
 use Rattle.lock_free.proofs.EntriesTo.{Used, entry_to_on}
-use Rattle.lock_free.proofs.Followings.{follows_self, follows_both, follows_later, used_on}
+use Rattle.lock_free.proofs.Followings.{follows_both, follows_later, used_on}
 use Rattle.lock_free.proofs.GoingOver.{as_many}
-use Rattle.lock_free.proofs.OnLines.{line_is}
+use Rattle.lock_free.proofs.LeftWords.{single_entry}
+use Rattle.lock_free.proofs.MainNames.{entry_there}
+use Rattle.lock_free.proofs.OnLines.{finds_now, line_is}
+use Rattle.lock_free.proofs.Pools.{one_there}
+use Rattle.lock_free.proofs.SharedEntries.{climb_shared}
 use Rattle.lock_free.proofs.Replaces.{at_make, is_over, at_swap, is_swapping, swap_way, swap_follows, swap_comes}
 use Rattle.lock_free.specs.declared.leaving.Swapping.{Swapping}
 use Rattle.lock_free.specs.Becoming.{made_on}
@@ -77,6 +91,9 @@ lone_put (y ∷ []) k x r low is = one k low is
         zero_is : k ≡ 0
         zero_is = omega (arith, low)
 lone_put (y ∷ z ∷ zs) k x r low is = absurd (omega (arith, (ap length is), (length-set (y ∷ z ∷ zs) k x)))
+
+put_there : (xs : List Ref) (k : ℕ) (x : Ref) → k < length xs → Contains (slice_set xs k x) x
+put_there xs k x low = (k, subst (λ n. k < n) (sym (length-set xs k x)) low, get_or-set_same xs k x x low)
 
 -- which of both is made
 tomb_made : (may : Bool) (bitmap : ℕ) (refs : List Ref) (x : Ref) → (may && (length refs == 1)) ≡ true → ((r : Ref) → refs ≡ r ∷ [] → r ≡ x) → contracted may bitmap refs ≡ Tomb x
@@ -128,12 +145,16 @@ module _ (n : ℕ) (v0 : View) (sound0 : IsSound n v0) (parent : ℕ) (link : Li
   abbrev makes : Bool → Node → ℕ → Node
   makes b x place = contracted b (bitmap_of x) (slice_set (entries_of x) place c.single)
 
+  makes_it : IsAt v0 (act.Make node)
+  makes_it =
+      at_make v0 l0 at0 (act.Make node) (ap act.Make (ap (λ p. makes (is_below_root (above c.path)) (node_at (now v0).heap main) p) (k.place_is its (at0.1.0, at0.1.1))
+      ∙ ap₂ (λ b x. makes b x k.place) k.below_is k.node))
+
   pub its_making : IsAtContracted v0 may bitmap entries
   its_making = record {
     refs = refs;
     entombs = may;
-    making = at_make v0 l0 at0 (act.Make node) (ap act.Make (ap (λ p. makes (is_below_root (above c.path)) (node_at (now v0).heap main) p) (k.place_is its (at0.1.0, at0.1.1))
-        ∙ ap₂ (λ b x. makes b x k.place) k.below_is k.node));
+    making = makes_it;
     names = k.entries_are;
     lone = λ r is.
         (let same = lone r is in
@@ -146,25 +167,75 @@ module _ (n : ℕ) (v0 : View) (sound0 : IsSound n v0) (parent : ℕ) (link : Li
   pub its_over : IsOver v0 (previous.Pending link.main)
   its_over = is_over v0 l0 at0 (current (above c.path)) main link refl k.link_is
 
+  -- what the node names: the tomb's single, and entries of the main node
+  set_or_other : (x : Ref) → Contains refs x → Contains k.refs.items x ⊎ (x ≡ c.single)
+  set_or_other x held = of_set k.refs.items k.place c.single x held
+
+  main_is : k.link_is.main_used.0.node ≡ Branch bitmap k.refs
+  main_is = sym (node_is (now v0) main k.link_is.main_used.0 k.link_is.main_used.1) ∙ k.node
+
+  in_slot : (x : Ref) → Contains k.refs.items x → Contains (entries_of k.link_is.main_used.0.node) x
+  in_slot x stays = subst (λ y. Contains (entries_of y) x) (sym main_is) stays
+
+  its_used : (x : Ref) → Contains refs x → (slot : Slot) × IsUsed v0 x slot × (is_entry slot.node ≡ true)
+  its_used x held = elim (set_or_other x held) [
+    | inl stays ↦ entry_there n v0 sound0 main k.link_is.main_used.0 k.link_is.main_used.1 (ap is_branch_or_list main_is) x (in_slot x stays)
+        (let claims = finds_now v0 l0 at0 n sound0 in safe_of claims.1.1.1.0)
+    | inr is ↦ subst (λ y. (slot : Slot) × IsUsed v0 y slot × (is_entry slot.node ≡ true)) (sym is) (
+      k.used.0,
+      k.used.1,
+      subst (λ y. is_entry y ≡ true) (node_is (now v0) c.single k.used.0 k.used.1)
+          (single_entry (node_at (now v0).heap c.single) (sym (ap (λ (x : Entry). x.is_single) k.names) ∙ k.alone)),
+    )
+  ]
+
+  hand : (x : Ref) → Contains (c.path ++ (c.single ∷ main ∷ main ∷ [])) x → Contains (at_hand (now v0) its) x
+  hand x there =
+      Contains-append_left (refs_of_claims (line_claims (now v0) its)) its.private x
+      (subst (λ (l : Line). Contains (refs_of_claims (line_claims (now v0) (record its { line = l }))) x) (sym at0.2) there)
+
+  its_held : (x : Ref) → Contains refs x → Holds v0 x
+  its_held x held = elim (set_or_other x held) [
+    | inl stays ↦ (
+      its,
+      at0.1.1,
+      inr (main, k.link_is.main_used.0, hand main (Contains-append_right c.path (c.single ∷ main ∷ main ∷ []) main (1, omega arith, refl)), k.link_is.main_used.1, in_slot x stays),
+    )
+    | inr is ↦ (its, at0.1.1, inl (hand x (Contains-append_right c.path (c.single ∷ main ∷ main ∷ []) x (0, omega arith, sym is))))
+  ]
+
+  pub its_owes : MayHold v0 (counted_in link.main.own entries (single ∷ [])) None
+  its_owes =
+      contracted_holds v0 l0 at0 (current (above c.path)) main refl link.main k.link_is.is.names may bitmap refs makes_it its_used its_held (climb_shared n v0 sound0 (climb.Contracted c main) at0)
+      (c.single ∷ []) among others entries (single ∷ []) k.entries_are (ap (λ (x : Entry). x ∷ []) k.names)
+    where
+      among : (x : Ref) → Contains (c.single ∷ []) x → Contains refs x
+      among x one = subst (Contains refs) (sym (one_there c.single x one)) (put_there k.refs.items k.place c.single k.inside)
+
+      others : (x : Ref) → Contains refs x → Contains (c.single ∷ []) x ⊎ Contains (entries_of (node_at (now v0).heap main)) x
+      others x held = elim (set_or_other x held) [
+        | inl stays ↦ inr (subst (λ y. Contains (entries_of y) x) (sym k.node) stays)
+        | inr is ↦ inl (0, omega arith, sym is)
+      ]
+
   elsewhere : (result : Climbed) (w : View) → ClimbedBy v0 c result w → HasContracted v0 result w
   elsewhere result w here d m other = subst (λ (x : Climb × Ref). ClimbedBy v0 x.0 result w) (ap contracted_parts (sym (line_is v0 l0 at0 other.0 other.1) ∙ other.2)) here
 
-  module _ (v1 : View) (result : Option ℕ) (made : HasMadeNext v0 result v1) where
-    new : HasNewOrNone v0 node result v1
-    unfolding its_making
-    new = made node its_making.making
+  module _ (v1 : View) (result : Option ℕ) (made : HasBuilt v0 result v1) where
+    new : HasBuiltNode v0 node result v1
+    new = made node makes_it
 
     pub gives_up : result ≡ None → HasContracted v0 outcome.Full v1
     gives_up none =
-        let same : v1 ≡ v0 = subst (λ r. HasNewOrNone v0 node r v1) none new in
-        elsewhere outcome.Full v1 (subst (λ x. GivesUp (λ o. changed_reply o.call c.former) v0 x) (sym same) (record {
-          follows = follows_self v0;
-          runs = λ o runs. (o.private, o.line, runs, ap (λ l. given_up o.call l) (line_is v0 l0 at0 o runs));
-        }))
+        let rested = subst (λ r. HasBuiltNode v0 node r v1) none new in
+        elsewhere outcome.Full v1 (record {
+          follows = rested.follows;
+          runs = λ o runs. (o.private, o.line, rested.comes o runs, ap (λ l. given_up o.call l) (line_is v0 l0 at0 o runs));
+        })
 
     module _ (fresh : ℕ) (had : result ≡ Some fresh) where
       it : HasNew v0 node fresh v1
-      it = subst (λ r. HasNewOrNone v0 node r v1) had new
+      it = subst (λ r. HasBuiltNode v0 node r v1) had new
 
       pub its_swap : (class : ℕ) → class ≡ class_for (count_ones bitmap) → IsAtSwap v1 parent link class fresh
       its_swap class is =

@@ -1,12 +1,14 @@
 -- The exchange that takes a closer's mark for 0 closes the handle, once the closer has found all other seats in no call on it.
 use Rattle.history.specs.declared.calls.Call.{Call}
 use Rattle.history.specs.declared.calls.Call.TheVariants.{Close}
-use Rattle.std.proofs.Common.{◌≡◌, ◌≢◌, ◌^◌, ℕ, ◌<◌, ◌≤◌, inl, inr, true, List, [], ◌∷◌, ◌++◌, Contains, is_some, set, slice_index, Some, None, refl, sym, ap, subst, ◌∙◌, arith, append-nil}
+use Rattle.std.proofs.Common.{◌≡◌, ◌≢◌, ◌^◌, ℕ, ◌<◌, ◌≤◌, inl, inr, true, Option, List, [], ◌∷◌, ◌++◌, Contains, get_or, is_some, set, slice_index, Some, None, refl, sym, ap}
+use Rattle.std.proofs.Common.{subst, ◌∙◌, arith, append-nil}
 use Rattle.std.proofs.Common.{append_assoc}
 use Rattle.std.specs.Prelude.{option_map}
 use Rattle.std.proofs.lemmas.Bool.{cases_eq, true≢false}
 use Rattle.std.proofs.lemmas.Option.{none-some, same_Some}
-use Rattle.std.proofs.lemmas.List.Elements.{All-cons, All-nil, All-append}
+use Rattle.std.proofs.lemmas.List.{get_or-set_other}
+use Rattle.std.proofs.lemmas.List.Elements.{All-cons, All-nil, All-append, Contains-push}
 use mathlib.Core.Option.{some, some-injective}
 use lib.ListN.{get_elem?}
 use Rattle.atomic_table.specs.Table as Table
@@ -32,7 +34,7 @@ use Rattle.lock_free.specs.Beginning.{Closes, closed_by}
 use Rattle.lock_free.specs.Fates.{TellsFate}
 use Rattle.lock_free.specs.Places.{pin_word, root_word}
 use Rattle.lock_free.specs.Roots.{MeansRoot, IsPending, NoOffer, fate, undecided}
-use Rattle.lock_free.specs.Rules.{IsClosing, SaysClosing, IsFree, IsHeld, Reserves, Names, IsOpening, IsSeat, IsKept, latest, first_account}
+use Rattle.lock_free.specs.Rules.{IsClosing, SaysClosing, IsFree, IsHeld, Reserves, Names, NamesOffer, IsOpening, IsSeat, IsKept, latest, first_account}
 use Rattle.lock_free.specs.Trying.{try_of, KeepsTries, as_before}
 use Rattle.lock_free.proofs.Assembling.{AllStand, all_stand, closing_at, opening_stays, assembled}
 use Rattle.lock_free.proofs.Closers.{newest}
@@ -42,9 +44,36 @@ use Rattle.lock_free.proofs.Meanings.{ran, reserved, reserves_on, marks_kept, st
 use Rattle.lock_free.proofs.RootCodes.{kind, same_kind}
 use Rattle.lock_free.proofs.RootFound.{said, slot_fits}
 use Rattle.lock_free.proofs.RootSteps as root
+use Rattle.lock_free.proofs.PlainStay.{names_none, plain_still}
 use Rattle.lock_free.proofs.Seats.{idle_then as pinned_then, ran_so, Stays, StaysSpare, other_kept, own_else}
 use Rattle.lock_free.proofs.Stood.{plain_not}
-use Rattle.lock_free.proofs.Waiting.{waited_none, waited_more, quiet_more}
+use Rattle.lock_free.proofs.Waiting.{grown_steps, waited_none, waited_more, quiet_more}
+use Rattle.history.specs.declared.calls.Access.{Access}
+use Rattle.machine_model.specs.Beneath.slot_arena.specs.declared.refs.Ref.{Ref}
+use Rattle.machine_model.specs.declared.roots.RootWord.TheVariants.{Plain}
+use Rattle.machine_model.specs.Counting.{refs_of_root}
+use Rattle.machine_model.specs.Machine.{begin_denial}
+use Rattle.machine_model.proofs.Fates.{place_of_actor}
+use Rattle.proof_garbage.proofs.Private.{private_along}
+use Rattle.proof_memory.specs.Laws.{IsInUse}
+use Rattle.lock_free.specs.declared.rules.Pinned.{Pinned}
+use Rattle.lock_free.specs.Accounts.{bounds_for}
+use Rattle.lock_free.specs.Counts.{IsCount, references, references_in}
+use Rattle.lock_free.specs.HandleWords.{owes_closed}
+use Rattle.lock_free.specs.Holdings.{AreHeld, IsHere}
+use Rattle.lock_free.specs.Live.{from_root, IsLive}
+use Rattle.lock_free.specs.Owing.{owing}
+use Rattle.lock_free.specs.Roots.{open_with}
+use Rattle.lock_free.proofs.ClosedClaims.{close_fewer, close_less, close_let_go}
+use Rattle.lock_free.proofs.CountWords.{handle_apart}
+use Rattle.lock_free.proofs.GivenCounted.{given_counted, given_unlet}
+use Rattle.lock_free.proofs.HeldGives.{held_gives}
+use Rattle.lock_free.proofs.HeldLeads.{alike_slots}
+use Rattle.lock_free.proofs.OneStep.Found.{live_used}
+use Rattle.lock_free.proofs.SeatOwing.{seat_owing}
+use Rattle.lock_free.proofs.HeldStep.{held_step}
+use Rattle.lock_free.proofs.LinesStay.{lines_idle}
+use Rattle.lock_free.proofs.HeldFrom.{live_from}
 
 module _ (sizes : Sizes) (s : Table.State Call View) (kept : IsKept sizes s) (id : ℕ) (v : View) (at : get_elem? s.views id ≡ some v) (handle : ℕ) (low : handle < handle_limit) (looked : ℕ)
     (others : List Closing) (closing : v.closing ≡ record { handle = handle; looked = looked } ∷ others)
@@ -117,7 +146,8 @@ module _ (sizes : Sizes) (s : Table.State Call View) (kept : IsKept sizes s) (id
 
   -- ---- the exchange
 
-  module _ (closes : Closes sizes kept.account v.actor handle) where
+  module _ (closes : Closes sizes kept.account v.actor handle) (may : begin_denial now v.actor (Close handle) None ≡ None) (access : Access) (its_root : Ref)
+      (was : root_at now handle ≡ open_with access (Plain its_root)) where
     abbrev pub account_then : Account
     account_then = closed_by v.actor handle kept.account
 
@@ -130,8 +160,11 @@ module _ (sizes : Sizes) (s : Table.State Call View) (kept : IsKept sizes s) (id
     abbrev pub words_then : List ℕ
     words_then = set s.words (root_word handle) (root_code word.Closed)
 
+    abbrev seen_then : View
+    seen_then = record v { account = account_then }
+
     abbrev pub view_then : View
-    view_then = record v { account = account_then }
+    view_then = owing seen_then (owes_closed v.pin its_root v.owed)
 
     keeps : KeepsTries kept.account.offers now next
     keeps = as_before (λ a. ap (λ o. option_map try_of o) (closes.operations a))
@@ -247,19 +280,30 @@ module _ (sizes : Sizes) (s : Table.State Call View) (kept : IsKept sizes s) (id
       still_open = still_open;
       taken = root.taken_rooted sizes kept.account kept.stands s.words all handle low (root_code word.Closed);
       spare = λ other w b name e apart free. spare_by other w b name e free;
+      plain =
+          plain_still sizes kept.account account_then kept.bounds both refl s.words words_then closes.operations
+          (λ g below slot named. elim (cases_eq g handle) [
+            | inl same ↦
+                absurd (names_none word.Closed tt (λ e. omega (arith, e)) (λ e. omega (arith, e)) slot
+                (subst (λ n. NamesOffer n slot) (ap (λ n. slice_index words_then (root_word n)) same ∙ root_here) named))
+            | inr differs ↦ subst (λ n. NamesOffer n slot) (root_beside g differs) named
+          ]);
     }
 
     idle_then : (o : Operation) → operation_of next v.actor ≡ Some o → ⊥
     idle_then o e = none-some o (sym idle ∙ sym (closes.operations v.actor) ∙ e)
 
-    own_then : IsSeat sizes account_then kept.stands words_then view_then
-    own_then =
+    seat_then : IsSeat sizes account_then kept.stands words_then seen_then
+    seat_then =
         own_else sizes s kept id v at account_then kept.stands words_then stays account_then (waited_none v.actor account_then)
         (λ a above below. waits a (first_account sizes) (λ is. absurd (omega (arith, above, is))) (seat.rested a above below)) all_then.counted v.pin v.entered v.closing v.opens v.opening
         (pin_same v.actor seat.low ∙ seat.pinned) (λ p is. pinned_then sizes s kept id v at account_then kept.stands words_then stays v.actor p (seat.pinned_idle p is))
         (λ g e. (let x = seat.entered g e in (x.0, still_open id v at g e x.1, x.2))) (λ o e. absurd (idle_then o e)) (held id v at)
         (λ o e. absurd (idle_then o e))
         (λ g slot o n. (let x = seat.opening g slot o n in record { low = x.low; fits = x.fits; is = named v g slot x ∙ x.is; free = x.free })) (λ b name free. spare_by id v b name at free)
+
+    own_then : IsSeat sizes account_then kept.stands words_then view_then
+    own_then = seat_owing sizes account_then kept.stands words_then seen_then (owes_closed v.pin its_root v.owed) seat_then
 
     closed_says : (who : ℕ) → SaysClosing (root_code word.Closed) who → ⊥
     closed_says who (inl h) = let same = same_kind word.Closed (word.ClosingWritable h.0 who) tt h.1 h.2 in omega (arith, same)
@@ -274,6 +318,63 @@ module _ (sizes : Sizes) (s : Table.State Call View) (kept : IsKept sizes s) (id
           opening_stays sizes s kept id v at view_then refl refl next g slot (λ r f. (reserves_on kept.account.offers now next keeps v g r, f))
           (λ other w e apart f r. reserves_on kept.account.offers now next keeps w g r) (kept.openings g slot below fits (sym (root_beside g differs) ∙ is) nothing)
     ]
+
+    -- ---- claims
+
+    few : v.actor ≤ sizes.seats
+    few = let top = seat.top in let most = seat.most in omega (arith, top, most)
+
+    same_counts : (c : ℕ) → IsCount sizes c → references words_then c ≡ references s.words c
+    same_counts c is = ap references_in (get_or-set_other s.words (root_word handle) c (root_code word.Closed) 0 ((handle_apart sizes handle low).1 c is))
+
+    -- where it doesn't hold the root, and where it does
+    held_seen : AreHeld sizes account_then kept.stands words_then (set s.views id seen_then)
+    held_seen =
+        held_step sizes s kept id v at account_then (grown_steps kept.account account_then both refl refl) refl refl (alike_slots now next closes.leaves.nodes) closes.leaves.live
+        (λ a o e r c. (o, sym (closes.operations a) ∙ e, c))
+        (close_less sizes kept.account kept.bounds kept.keys v.actor handle few low idle may kept.stands)
+        (λ k gone stood. inl (close_let_go sizes kept.account kept.bounds kept.keys v.actor handle few low idle may kept.stands k gone)) seen_then refl refl (λ k. omega arith)
+        (lines_idle sizes s kept id v at account_then seen_then (λ a differs. closes.operations a) (closes.operations v.actor ∙ idle)) words_then same_counts
+
+    root_lives : IsLive now its_root
+    root_lives = from_root handle its_root (subst (λ r. Contains (refs_of_root r) its_root) (sym was) (Contains-push [] its_root))
+
+    pub root_used : IsInUse now.heap its_root
+    root_used = live_used sizes kept.account kept.bounds its_root root_lives
+
+    root_stands : IsHere sizes account_then kept.stands its_root
+    root_stands = ((alike_slots now next closes.leaves.nodes).stays its_root root_used, kept.nodes.live its_root root_lives)
+
+    -- no operation has a root to itself
+    root_known : (a : ℕ) (operation : Operation) → operation_of next a ≡ Some operation → Contains operation.private its_root → ⊥
+    root_known a operation runs c =
+        let limits = bounds_for sizes kept.account.steps in
+        let (j, its, at_j) = place_of_actor now a operation (sym (closes.operations a) ∙ runs) in
+        private_along limits kept.bounds kept.account.steps j operation at_j its_root c
+        (from_root handle its_root (subst (λ r. Contains (refs_of_root r) its_root) (sym was) (Contains-push [] its_root)))
+
+    one_there : (k : Ref) → Contains (its_root ∷ []) k → its_root ≡ k
+    one_there k (i, within, at_i) = let zero_is : i ≡ 0 = omega arith in subst (λ n. get_or (its_root ∷ []) n k ≡ k) zero_is at_i
+
+    held_root : AreHeld sizes account_then kept.stands words_then (set s.views id (owing seen_then (its_root ∷ v.owed)))
+    held_root =
+        held_gives sizes account_then kept.stands words_then s.views id v at seen_then (its_root ∷ []) held_seen (λ k c. subst (IsHere sizes account_then kept.stands) (one_there k c) root_stands)
+        (λ k c a o runs its. absurd (root_known a o runs (subst (λ r. Contains o.private r) (sym (one_there k c)) its)))
+        (given_counted sizes s kept id v at account_then refl (alike_slots now next closes.leaves.nodes) words_then same_counts seen_then refl refl (its_root ∷ [])
+        (close_fewer sizes kept.account kept.bounds kept.keys v.actor handle few low idle may kept.stands access its_root was))
+        (λ k gone.
+        given_unlet sizes s kept id v at account_then refl (alike_slots now next closes.leaves.nodes) words_then same_counts seen_then refl refl (its_root ∷ [])
+        (close_fewer sizes kept.account kept.bounds kept.keys v.actor handle few low idle may kept.stands access its_root was) k
+        (close_let_go sizes kept.account kept.bounds kept.keys v.actor handle few low idle may kept.stands k gone))
+        (λ k from. kept.nodes.live k (live_from sizes s kept account_then (alike_slots now next closes.leaves.nodes).names (Contains (its_root ∷ []))
+        (λ r c. subst (IsLive now) (one_there r c) root_lives) k from))
+
+    held_by : (pin : Option Pinned) → AreHeld sizes account_then kept.stands words_then (set s.views id (owing seen_then (owes_closed pin its_root v.owed)))
+    held_by None = held_seen
+    held_by (Some pinned) = held_root
+
+    held_closed : AreHeld sizes account_then kept.stands words_then (set s.views id view_then)
+    held_closed = held_by v.pin
 
     -- the rule holds
     pub close_kept : IsKept sizes (record { words = words_then; homes = s.homes; views = set s.views id view_then })
@@ -291,4 +392,4 @@ module _ (sizes : Sizes) (s : Table.State Call View) (kept : IsKept sizes s) (id
           number = λ g r. inl (reserved kept.account.offers now next keeps v g r);
           others = λ other w e apart g r. reserved kept.account.offers now next keeps w g r;
           runners = λ a o e. inr (ran kept.account.offers now next keeps a o e);
-        })
+        }) held_closed

@@ -22,6 +22,7 @@ use Rattle.lock_free.specs.Rules.{IsClosing, SaysClosing, IsSeat, IsKept, latest
 use Rattle.lock_free.proofs.Assembling.{all_stand, here, closing_at, numbers_stay, assembled}
 use Rattle.lock_free.proofs.Meanings.{no_tries}
 use Rattle.lock_free.proofs.Seats.{ran_so, Stays, other_kept, names_kept, own_else}
+use Rattle.lock_free.proofs.HeldStill.{held_views}
 
 -- the mark that was made last, and the others
 pub newest : (c : Closing) (marks : List Closing) → latest (c ∷ marks) c.handle ≡ Some c
@@ -55,6 +56,7 @@ module _ (sizes : Sizes) (s : Table.State Call View) (kept : IsKept sizes s) (id
       still_open = λ other w at_w g inside e. e;
       taken = λ b n small h. h;
       spare = λ other x b name e apart free. (((kept.seats other x e).spare b name free).1, λ j its. refl);
+      plain = λ d h. h;
     }
 
     own_then : IsSeat sizes kept.account kept.stands s.words view_then
@@ -72,6 +74,7 @@ module _ (sizes : Sizes) (s : Table.State Call View) (kept : IsKept sizes s) (id
         (other_kept sizes s kept id v at kept.account kept.stands s.words stays)
         (λ b name f. inl f)
         (numbers_stay sizes s kept id v at view_then refl refl kept.account s.words (no_tries kept.account.offers now) (λ slot none. none) (λ g below. refl) refl (λ slot g e free. free))
+        (held_views sizes s kept id v at view_then refl refl refl)
 
   -- ---- closing
 

@@ -28,7 +28,7 @@ use Rattle.lock_free.specs.declared.sizes.Sizes.{Sizes}
 use Rattle.lock_free.specs.Accounts.{state_of, running, gone_on}
 use Rattle.lock_free.specs.Fates.{IsUnsettled}
 use Rattle.lock_free.specs.Loading.{Moment, now, seen, IsAt, IsSound}
-use Rattle.lock_free.specs.OfferWords.{IsAtComplete, TookUnmarked, HasCompleted, has_completed, outcome_by, carried_by}
+use Rattle.lock_free.specs.OfferWords.{IsAtComplete, TellsCarried, TookUnmarked, HasCompleted, has_completed, outcome_by, carried_by}
 use Rattle.lock_free.specs.Places.{words_of}
 use Rattle.lock_free.specs.Roots.{open_with, carried_out, IsItsTry}
 use Rattle.lock_free.specs.Rules.{IsSeat, IsKept, IsRuled}
@@ -39,43 +39,45 @@ use Rattle.lock_free.proofs.Looking.{o_there, acts_there, same_action}
 use Rattle.lock_free.proofs.Moments.{allowed, waited_so}
 use Rattle.lock_free.proofs.OneStep.Settles.{stands}
 use Rattle.lock_free.proofs.OneStep.Settling.{complete_settles, complete_misses, complete_own}
-use Rattle.lock_free.proofs.Settled.{all_then, settle_kept}
+use Rattle.lock_free.proofs.Settled.{all_then}
+use Rattle.lock_free.proofs.SettleHolds.{settle_kept}
 use Rattle.lock_free.proofs.Stood.{stands_there, stands_no_more}
+use Rattle.lock_free.proofs.Lettings.{TakesNone}
 
 module _ (v : View) (k : Known) (main : Ref) (known : Contains v.account.offers k) (p : IsAt v (act.Complete k.offer main)) (on : k.handle ≡ handle_of p.operation.call) (expected : Bool)
     (test : IsUnsettled v.sizes v.account k → (main == k.offer.expected) ≡ expected) where
   abbrev does : Action
   does = act.Complete k.offer main
 
-  abbrev word : ℕ
+  abbrev pub word : ℕ
   word = 2 * k.slot
 
-  abbrev outcome : ℕ
+  abbrev pub outcome : ℕ
   outcome = outcome_by expected
 
   module _ (s : Table.State Call View) (kept : IsKept v.sizes s) (id : ℕ) (at : get_elem? s.views id ≡ some v) where
-    abbrev found : ℕ
+    abbrev pub found : ℕ
     found = slice_index s.words word
 
     abbrev m : Moment v word found
     m = record { table = s; kept = kept; id = id; at = at; finds = refl }
 
-    abbrev there : Account
+    abbrev pub there : Account
     there = kept.account
 
-    abbrev state : State
+    abbrev pub state : State
     state = state_of v.sizes there
 
-    abbrev o : Operation
+    abbrev pub o : Operation
     o = record p.operation { is_marked = (o_there v word found m does p).0 }
 
-    runs : running v.sizes there v.actor o
+    pub runs : running v.sizes there v.actor o
     runs = (o_there v word found m does p).1
 
-    acts : action_of state o ≡ act.Complete k.offer main
+    pub acts : action_of state o ≡ act.Complete k.offer main
     acts = acts_there v word found m does p
 
-    here : Contains there.offers k
+    pub here : Contains there.offers k
     here = known_there v s kept id at k known
 
     seat : IsSeat v.sizes there kept.stands s.words v
@@ -84,14 +86,14 @@ module _ (v : View) (k : Known) (main : Ref) (known : Contains v.account.offers 
     low : handle_of o.call < handle_limit
     low = (seat.entered (handle_of o.call) (seat.calls o runs)).0
 
-    stood : found ≡ 0 → root_at state (handle_of o.call) ≡ open_with Writable (Offer k.offer)
+    pub stood : found ≡ 0 → root_at state (handle_of o.call) ≡ open_with Writable (Offer k.offer)
     stood e = subst (λ h. root_at state h ≡ open_with Writable (Offer k.offer)) on (stands_there v.sizes s kept k here e)
 
-    no_more : found ≢ 0 → stands_in (word_at state (handle_of o.call)) k.offer ≡ false
+    pub no_more : found ≢ 0 → stands_in (word_at state (handle_of o.call)) k.offer ≡ false
     no_more differs = stands_no_more v.sizes s kept k here differs (handle_of o.call) low
 
     -- where it is undecided it wasn't settled before
-    unsettled : found ≡ 0 → IsUnsettled v.sizes v.account k
+    pub unsettled : found ≡ 0 → IsUnsettled v.sizes v.account k
     unsettled e n settled =
         let there_too = settled_still v.sizes v.account there seat.waited.steps seat.waited.goes_on k n settled in
         settled_decides n k.offer _ _ settled.settled (sym ((kept.roots.fates k here).once n there_too) ∙ e)
@@ -100,7 +102,7 @@ module _ (v : View) (k : Known) (main : Ref) (known : Contains v.account.offers 
     after = seen v (gone_on v.actor there)
 
     -- whatever it finds, the operation has taken its step
-    took : TookUnmarked v there after
+    pub took : TookUnmarked v there after
     took q runs_q =
         let own = complete_own v.sizes there kept.bounds v.actor o runs k main acts in
         let same : o ≡ q = same_Some o q (sym runs ∙ runs_q) in
@@ -113,13 +115,14 @@ module _ (v : View) (k : Known) (main : Ref) (known : Contains v.account.offers 
     hits e =
         let settles = complete_settles v.sizes there kept.bounds v.actor o runs k main acts (stood e) expected (test (unsettled e)) in (
           subst (λ ws. IsKept v.sizes (record { words = ws; homes = s.homes; views = set s.views id after })) (words_hit v s kept id at word 0 outcome e word refl)
-              (settle_kept v.sizes s kept id v at o runs outcome k here settles on e),
+              (settle_kept v.sizes s kept id v at o runs outcome k here settles on e (subst (TakesNone kept.stands (state_of v.sizes there) o) (sym acts) tt)),
           sound_by v s kept id at (gone_on v.actor there) kept.stands _ (all_then v.sizes s kept id v at o runs outcome k here settles on e),
         )
 
     misses : found ≢ 0 → Settled
     misses differs =
-        let x = missed v s kept id at word 0 outcome o runs (complete_misses v.sizes there kept.bounds v.actor o runs k main acts (no_more differs)) differs in (x.0, x.1.0)
+        let x = missed v s kept id at word 0 outcome o runs (complete_misses v.sizes there kept.bounds v.actor o runs k main acts (no_more differs))
+        (subst (TakesNone kept.stands (state_of v.sizes there) o) (sym acts) tt) differs in (x.0, x.1.0)
 
     pub leaves : Settled × TookUnmarked v there after
     leaves = (elim (cases_eq found 0) [ inl e ↦ hits e | inr differs ↦ misses differs ], took)
@@ -157,31 +160,32 @@ parts_in (act.Complete offer main) other = (offer, main)
 parts_in action other = other
 
 -- what the seat is told
-pub complete_told : (before : View) (slot : ℕ) (expected : Bool) → IsAtComplete before slot expected → (found : ℕ) (after : View) → (m : Moment before (2 * slot) found) →
-    after ≡ seen before (gone_on before.actor m.kept.account) → TookUnmarked before m.kept.account after → HasCompleted before (carried_by found expected) after
-complete_told before slot expected a found then_view m after_is took =
-    (m.kept.account, waited_so before m.table m.kept m.id m.at, after_is, took, tells_it)
-  where
-    finds : slice_index m.table.words (2 * a.its.slot) ≡ found
-    finds = ap (λ n. slice_index m.table.words (2 * n)) a.place ∙ m.finds
+module _ (before : View) (slot : ℕ) (expected : Bool) (a : IsAtComplete before slot expected) (found : ℕ) (m : Moment before (2 * slot) found) where
+  finds : slice_index m.table.words (2 * a.its.slot) ≡ found
+  finds = ap (λ n. slice_index m.table.words (2 * n)) a.place ∙ m.finds
 
-    moment : Moment before (2 * a.its.slot) (slice_index m.table.words (2 * a.its.slot))
-    moment = record { table = m.table; kept = m.kept; id = m.id; at = m.at; finds = refl }
+  abbrev moment : Moment before (2 * a.its.slot) (slice_index m.table.words (2 * a.its.slot))
+  moment = record { table = m.table; kept = m.kept; id = m.id; at = m.at; finds = refl }
 
-    ran : Operation
-    ran = record a.acts.operation { is_marked = (o_there before (2 * a.its.slot) (slice_index m.table.words (2 * a.its.slot)) moment (act.Complete a.its.offer a.main) a.acts).0 }
+  abbrev ran : Operation
+  ran = record a.acts.operation { is_marked = (o_there before (2 * a.its.slot) (slice_index m.table.words (2 * a.its.slot)) moment (act.Complete a.its.offer a.main) a.acts).0 }
 
-    ran_runs : running before.sizes m.kept.account before.actor ran
-    ran_runs = (o_there before (2 * a.its.slot) (slice_index m.table.words (2 * a.its.slot)) moment (act.Complete a.its.offer a.main) a.acts).1
+  ran_runs : running before.sizes m.kept.account before.actor ran
+  ran_runs = (o_there before (2 * a.its.slot) (slice_index m.table.words (2 * a.its.slot)) moment (act.Complete a.its.offer a.main) a.acts).1
 
-    tells_it : (offer : Descriptor) (main : Ref) (q : IsAt before (act.Complete offer main)) (operation : Operation) → running before.sizes m.kept.account before.actor operation → IsItsTry
-        operation offer →
-        (is_carried_out (word_at (now (seen before m.kept.account)) (handle_of operation.call)) offer main || operation.is_marked) ≡ carried_by found expected
-    tells_it offer main q operation runs_it its =
-        let both : (a.its.offer, a.main) ≡ (offer, main) = ap (λ x. parts_in x (offer, main)) (same_action before (act.Complete a.its.offer a.main) (act.Complete offer main) a.acts q) in
-        let same_op : ran ≡ operation = same_Some ran operation (sym ran_runs ∙ runs_it) in
-        subst (λ (x : Descriptor × Ref). IsItsTry operation x.0 → (is_carried_out (word_at (now (seen before m.kept.account)) (handle_of operation.call)) x.0 x.1 || operation.is_marked) ≡
-        carried_by found expected) both
-        (subst (λ (x : Operation). IsItsTry x a.its.offer → (is_carried_out (word_at (now (seen before m.kept.account)) (handle_of x.call)) a.its.offer a.main || x.is_marked) ≡ carried_by found
-        expected) same_op
-        (λ t. tells before a.its a.main a.here a.acts a.on expected a.test m.table m.kept m.id m.at t ∙ ap (λ n. carried_by n expected) finds)) its
+  -- it is about this offer
+  pub its_offer : (offer : Descriptor) (main : Ref) → IsAt before (act.Complete offer main) → ◌≡◌ {A = Descriptor × Ref} (a.its.offer, a.main) (offer, main)
+  its_offer offer main q = ap (λ x. parts_in x (offer, main)) (same_action before (act.Complete a.its.offer a.main) (act.Complete offer main) a.acts q)
+
+  pub tells_it : TellsCarried before m.kept.account (carried_by found expected)
+  tells_it offer main q operation runs_it its =
+      let both = its_offer offer main q in
+      let same_op : ran ≡ operation = same_Some ran operation (sym ran_runs ∙ runs_it) in
+      subst (λ (x : Descriptor × Ref). IsItsTry operation x.0 → (is_carried_out (word_at (now (seen before m.kept.account)) (handle_of operation.call)) x.0 x.1 || operation.is_marked) ≡
+      carried_by found expected) both
+      (subst (λ (x : Operation). IsItsTry x a.its.offer → (is_carried_out (word_at (now (seen before m.kept.account)) (handle_of x.call)) a.its.offer a.main || x.is_marked) ≡
+      carried_by found expected) same_op
+      (λ t. tells before a.its a.main a.here a.acts a.on expected a.test m.table m.kept m.id m.at t ∙ ap (λ n. carried_by n expected) finds)) its
+
+  pub complete_told : (after : View) → after ≡ seen before (gone_on before.actor m.kept.account) → TookUnmarked before m.kept.account after → HasCompleted before (carried_by found expected) after
+  complete_told w after_is took = (m.kept.account, waited_so before m.table m.kept m.id m.at, after_is, took, tells_it)

@@ -29,7 +29,7 @@ use Rattle.lock_free.specs.OfferWords.{HasCompleted, IsAtComplete}
 use Rattle.lock_free.specs.OfReads.{read_to}
 use Rattle.lock_free.specs.Passing.{HasCome, HasGiven, HasPassed, IsPassing, IsPlaced, IsReading, Later}
 use Rattle.lock_free.specs.Places.{words_of}
-use Rattle.lock_free.specs.Rooting.{HasHelped, IsCompleting, completing_of}
+use Rattle.lock_free.specs.Rooting.{HasHelped, HasReadExpected, IsCompleting, completing_of}
 use Rattle.lock_free.specs.RootWords.{HasSeenOlds, KnowsOffer, SaysOlds}
 use Rattle.lock_free.proofs.Comings.{come_on, saw_come, saw_runs}
 use Rattle.lock_free.proofs.CompleteLines.{completing_acts, completing_given, completing_holds, completing_reads, completing_reading, swap_holds}
@@ -149,7 +149,7 @@ module _ (n : ℕ) (v1 : View) (sound1 : IsSound n v1) (handle : ℕ) (s : Compl
           expected_at : place_of v3.account its.offer.expected ≡ place_of olds3.0.account its.offer.expected
           expected_at = ap (λ (x : View). place_of x.account its.offer.expected) olds3.0.after_is
 
-      pub completing3 : IsAtComplete v3 s.offer (name == pair3.high)
+      completing3 : IsAtComplete v3 s.offer (name == pair3.high)
       completing3 = record {
         its = its;
         main = main;
@@ -166,8 +166,14 @@ module _ (n : ℕ) (v1 : View) (sound1 : IsSound n v1) (handle : ℕ) (s : Compl
         comes = λ o runs. saw_runs v2 v3 olds3.0 (read_to (Gives main) o) (gives.come.comes o runs);
       }
 
-      pub helped : (carried : Bool) (after : View) → HasCompleted v3 carried after → IsSound n v3 → HasHelped v1 carried after
-      helped carried after h sound3 = (main, v3, come3, h, subst (λ k. IsSound k v3) sound1.size sound3)
+      -- the READ has come to its end
+      pub expected3 : HasReadExpected v1 s.offer (name == pair3.high) v3
+      expected3 = record { main = main; come = come3; at = completing3 }
+
+-- and the offer is settled by it
+pub helped_by : (n : ℕ) (v w : View) (slot : ℕ) (expected : Bool) → IsSound n v → HasReadExpected v slot expected w → IsSound n w → (carried : Bool) (after : View) → HasCompleted w carried after →
+    HasHelped v carried after
+helped_by n v w slot expected sound r sound_w carried after h = (r.main, w, r.come, h, subst (λ k. IsSound k w) sound.size sound_w)
 
 -- ---- from its first line
 

@@ -1,5 +1,5 @@
 -- An operation's own offer is completed, from whichever line its READ is on.
-use Rattle.std.proofs.Common.{◌≡◌, ℕ, Bool, refl, sym, ap, subst, ◌∙◌}
+use Rattle.std.proofs.Common.{◌≡◌, ◌++◌, ℕ, Bool, true, false, map, append-nil, refl, sym, ap, subst, ◌∙◌}
 use Rattle.std.proofs.lemmas.Option.{same_Some}
 use Rattle.trie_words.specs.declared.entries.Pair.{Pair}
 use Rattle.machine_model.specs.Beneath.slot_arena.specs.declared.refs.Ref.{Ref}
@@ -20,20 +20,27 @@ use Rattle.lock_free.specs.declared.leaving.Completing.{Completing}
 use Rattle.lock_free.specs.declared.reading.ReadFrom.TheVariants as resume
 use Rattle.lock_free.specs.declared.reading.Way.{Way}
 use Rattle.lock_free.specs.declared.rules.View.{View}
-use Rattle.lock_free.specs.Accounts.{bounds_for}
-use Rattle.lock_free.specs.CopySteps.{HasCopied, HasCopiedOn, IsOwnCompleting, IsToComplete, copied_line}
+use Rattle.lock_free.specs.Accounts.{bounds_for, gone_on}
+use Rattle.lock_free.specs.CopySteps.{as_before, HasCopied, HasCopiedOn, HasLeftRoots, IsOwnCompleting, IsToComplete, copied_line}
+use Rattle.lock_free.specs.Counts.{how_often}
+use Rattle.lock_free.specs.GoingDown.{HasMoved}
 use Rattle.lock_free.specs.Leaving.{HasCompletedOn, IsCompleteOf}
 use Rattle.lock_free.specs.Loading.{now, seen, IsAt, IsSound, Runs, Saw}
 use Rattle.lock_free.specs.OfReads.{complete_on, on_read, read_to}
+use Rattle.lock_free.specs.Limbos.{hanging_of, having_retired}
+use Rattle.lock_free.specs.Outcomes.{ArePlaced, HasConcluded, IsConcluding, concluded, root_retired, roots_left}
 use Rattle.lock_free.specs.Passing.{HasCome, IsOnWay, IsPlaced, IsReading, Later}
-use Rattle.lock_free.specs.Places.{words_of}
-use Rattle.lock_free.specs.Rooting.{HasHelped, completing_of}
+use Rattle.lock_free.specs.Rooting.{HasReadExpected, completing_of}
 use Rattle.lock_free.specs.Roots.{IsItsTry}
 use Rattle.lock_free.specs.RootWords.{HasSeenOlds}
+use Rattle.lock_free.specs.Stocks.{IsStock, Stocked}
 use Rattle.lock_free.proofs.Comings.{come_on, runs_one, saw_come, saw_runs}
 use Rattle.lock_free.proofs.CopyReads.{complete_step, completing_with, copy_line}
 use Rattle.lock_free.proofs.Laters.{gone_later, later_both, saw_later}
+use Rattle.lock_free.proofs.LimboStays.{limbo_stays}
+use Rattle.lock_free.proofs.Looking.{same_action}
 use Rattle.lock_free.proofs.OffersLater.{offer_later}
+use Rattle.lock_free.proofs.StockStays.{stock_later, stock_moved}
 use Rattle.machine_model.specs.Operations.{read_of}
 
 -- who sees something is on the same way
@@ -80,49 +87,122 @@ module _ (before : View) (handle : ℕ) (s : Completing) (to : IsOwnCompleting b
         };
       }
 
-  -- it comes to its end
-  module _ (after : View) (n : ℕ) (sound_after : IsSound n after) (carried : Bool) (helped : HasHelped before carried after) where
-    abbrev main : Ref
-    main = helped.0
+  pub on_stock : (n : ℕ) → IsSound n before → (next : Completing) (after : View) → HasCopiedOn before handle s.offer next after → (stock : Stocked) → IsStock stock before → IsStock stock after
+  on_stock n sound next after h stock is =
+      stock_moved n before after sound o to.at.1 stock is (λ q. on_read q.line h.reads) (record { later = h.come.later; comes = h.come.comes })
 
-    abbrev middle : View
-    middle = helped.1
+  -- it comes to its end
+  module _ (w : View) (n : ℕ) (sound : IsSound n before) (sound_w : IsSound n w) (expected : Bool) (r : HasReadExpected before s.offer expected w) where
+    abbrev main : Ref
+    main = r.main
 
     -- each operation is then to settle the offer with it
-    comes : (q : Operation) → Runs before q → Runs middle (record q { line = completing_with offer main })
-    comes q r =
-        subst (λ l. Runs middle (read_to (Gives main) (record q { line = l })) → Runs middle (record q { line = completing_with offer main })) (sym (copy_line before (copy.Complete its_complete)
-        to.at q r)) (λ x. x) (helped.2.comes q r)
+    comes : (q : Operation) → Runs before q → Runs w (record q { line = completing_with offer main })
+    comes q runs =
+        subst (λ l. Runs w (read_to (Gives main) (record q { line = l })) → Runs w (record q { line = completing_with offer main })) (sym (copy_line before (copy.Complete its_complete)
+        to.at q runs)) (λ x. x) (r.come.comes q runs)
 
-    ran : Runs middle (record o { line = completing_with offer main })
+    pub ran : Runs w (record o { line = completing_with offer main })
     ran = comes o to.at.1
 
-    abbrev at_complete : IsAt middle (act.Complete offer main)
-    at_complete = record { operation = record o { line = completing_with offer main; is_marked = ran.0 }; runs = ran.1; acts = refl }
+    abbrev o_then : Operation
+    o_then = record o { line = completing_with offer main; is_marked = ran.0 }
 
-    abbrev account : Account
-    account = helped.3.0
+    abbrev pub at_complete : IsAt w (act.Complete offer main)
+    at_complete = record { operation = o_then; runs = ran.1; acts = refl }
 
-    abbrev state : State
-    state = now (seen middle account)
+    same_operation : o_then ≡ r.at.acts.operation
+    same_operation = same_Some o_then r.at.acts.operation (sym ran.1 ∙ r.at.acts.runs)
 
-    later_then : Later middle after
-    later_then = subst (λ x. Later middle x) (sym helped.3.2) (gone_later (words_of before.sizes) middle helped.4 account helped.3.1
-        (subst (λ (x : View). AreBounds (bounds_for x.sizes x.account.steps)) helped.3.2 sound_after.bounds))
+    same_offer : offer ≡ r.at.its.offer
+    same_offer =
+        let same = same_action w (act.Complete offer main) (act.Complete r.at.its.offer r.at.main) at_complete r.at.acts in
+        cc same
 
-    ends : (q : Operation) → Runs before q → Runs after (record q { line = copied_line carried q })
-    ends q r =
-        let (mark, runs) = comes q r in
-        let there = helped.3.1.stays (record q { line = completing_with offer main; is_marked = mark }) runs in
-        let q_there : Operation = record q { line = completing_with offer main; is_marked = there.0 } in
-        let same = runs_one before q o r to.at.1 in
-        let its : IsItsTry q_there offer = record { its = ap (λ (z : Operation). z.id) same ∙ to.its_try.its; now = ap (λ (z : Operation). z.attempt) same ∙ to.its_try.now } in
-        let tells = helped.3.4 offer main at_complete q_there there.1 its in
-        let took = helped.3.3 q_there there.1 in
-        subst (λ (z : Operation). Runs after z) (complete_step state (record q { is_marked = there.0 }) offer main carried tells) took
+    pub concluding : IsConcluding w s.offer expected
+    concluding = record {
+      at = r.at;
+      completing = record { offer = offer; line = complete.Swap main };
+      own = ap (λ (z : Operation). z.line) (sym same_operation);
+      its_try = subst (λ z. IsItsTry z r.at.its.offer) same_operation (subst (IsItsTry o_then) same_offer (record { its = to.its_try.its; now = to.its_try.now }));
+    }
 
-    pub copied_own : HasCopied before carried after
-    copied_own = record { later = later_both before middle after helped.2.later later_then; comes = ends }
+    -- and finds what came of it
+    module _ (after : View) (sound_after : IsSound n after) (carried : Bool) (h : HasConcluded w carried after) where
+      abbrev account : Account
+      account = h.account
+
+      abbrev state : State
+      state = now (seen w account)
+
+      abbrev gone : View
+      gone = seen w (gone_on w.actor account)
+
+      -- what the step says of its view, and as it was before
+      is_after : after ≡ concluded w account h.epoch (roots_left carried offer)
+      is_after = h.after_is offer main at_complete
+
+      gone_is : gone ≡ as_before before after
+      gone_is =
+          ap (λ (x : View). record gone { epoch = x.epoch; passed = x.passed; retired = x.retired; owed = x.owed; links = x.links }) r.come.later.is
+          ∙ sym (ap (as_before before) is_after)
+
+      pub later_then : Later w (as_before before after)
+      later_then = subst (λ x. Later w x) gone_is (gone_later n w sound_w account h.waited
+          (subst (λ (x : View). AreBounds (bounds_for x.sizes x.account.steps)) is_after sound_after.bounds))
+
+      pub ends : (q : Operation) → Runs before q → Runs after (record q { line = copied_line carried q })
+      ends q runs =
+          let (mark, runs_w) = comes q runs in
+          let there = h.waited.stays (record q { line = completing_with offer main; is_marked = mark }) runs_w in
+          let q_there : Operation = record q { line = completing_with offer main; is_marked = there.0 } in
+          let same = runs_one before q o runs to.at.1 in
+          let its : IsItsTry q_there offer = record { its = ap (λ (z : Operation). z.id) same ∙ to.its_try.its; now = ap (λ (z : Operation). z.attempt) same ∙ to.its_try.now } in
+          let tells = h.tells offer main at_complete q_there there.1 its in
+          let took = h.took q_there there.1 in
+          subst (λ (z : Operation). Runs after z) (complete_step state (record q { is_marked = there.0 }) offer main carried tells) took
+
+      pub moved_own : HasMoved (copied_line carried) before (as_before before after)
+      moved_own = record { later = later_both before w (as_before before after) r.come.later later_then; comes = ends }
+
+      -- ---- its stock, but for what it has retired
+
+      hanging_as : hanging_of (having_retired after before.retired) ≡ hanging_of (as_before before after)
+      hanging_as =
+          ap (λ (x : View). (x.sizes, before.retired, x.links, x.epoch)) is_after
+          ∙ ap (λ (x : View). (w.sizes, before.retired, x.links, x.epoch)) r.come.later.is
+          ∙ sym (ap (λ (x : View). (x.sizes, before.retired, before.links, before.epoch)) is_after)
+
+      stock_as : (stock : Stocked) → IsStock stock before → IsStock stock (having_retired after before.retired)
+      stock_as stock is =
+          let m = stock_moved n before (as_before before after) sound o to.at.1 stock is (copied_line carried) moved_own in
+          record { sizes = m.sizes; pool = m.pool; made = m.made; limbo = limbo_stays stock.limbo (as_before before after) (having_retired after before.retired) hanging_as m.limbo }
+
+      retired_is : after.retired ≡ before.retired ++ map (root_retired after.account h.epoch) (roots_left carried offer)
+      retired_is =
+          ap (λ (x : View). x.retired) is_after ∙ ap (λ (x : View). x.retired ++ map (root_retired (gone_on w.actor account) h.epoch) (roots_left carried offer)) r.come.later.is
+          ∙ ap (λ (x : View). before.retired ++ map (root_retired x.account h.epoch) (roots_left carried offer)) (sym is_after)
+
+      -- it was carried out
+      pub carried_stock : carried ≡ true → (stock : Stocked) → IsStock stock before → IsStock stock after
+      carried_stock truly stock is =
+          subst (λ xs. IsStock stock (having_retired after xs))
+          (sym (append-nil before.retired) ∙ ap (λ b. before.retired ++ map (root_retired after.account h.epoch) (roots_left b offer)) (sym truly) ∙ sym retired_is) (stock_as stock is)
+
+      -- or taken back
+      pub left_roots : carried ≡ false → (stock : Stocked) → IsStock stock before → HasLeftRoots stock s.offer after
+      left_roots falsely stock is = record {
+        operation = record o { line = copied_line carried o };
+        runs = ends o to.at.1;
+        handle = handle;
+        its = offer_later before (as_before before after) (later_both before w (as_before before after) r.come.later later_then) handle s.offer to.its;
+        rest = before.retired;
+        epoch = h.epoch;
+        is = retired_is ∙ ap (λ b. before.retired ++ map (root_retired after.account h.epoch) (roots_left b offer)) falsely;
+        made = subst (λ b. ArePlaced after.account (roots_left b offer)) falsely
+            (subst (λ (x : View). ArePlaced x.account (roots_left carried offer)) (sym is_after) (h.made offer main at_complete));
+        holds = stock_as stock is;
+      }
 
 -- ---- from its first line
 
@@ -156,8 +236,20 @@ module _ (n : ℕ) (v0 : View) (sound0 : IsSound n v0) (handle slot : ℕ) (to :
         from = (to.at.0, runs, ap read_of to.at.2);
       }
 
+  pub own_stock : (stock : Stocked) → IsStock stock v0 → IsStock stock v1
+  own_stock stock is = stock_later n v0 v1 sound0 to.at.0 to.at.1 stock is later1 to.at.0 (saw_runs v0 v1 olds.0 to.at.0 to.at.1) refl
+
   pub own_copied : (carried : Bool) (after : View) → HasCopied v1 carried after → HasCopied v0 carried after
-  own_copied carried after h = record { later = later_both v0 v1 after later1 h.later; comes = λ q r. h.comes q (saw_runs v0 v1 olds.0 q r) }
+  own_copied carried after h =
+      let owed_is : v1.owed ≡ v0.owed = ap (λ (x : View). x.owed) olds.0.after_is in
+      record {
+        moved = record {
+          later = later_both v0 v1 (as_before v0 after) later1
+              (subst (Later v1) (ap (λ (x : View). record after { epoch = x.epoch; passed = x.passed; retired = x.retired; owed = x.owed; links = x.links }) olds.0.after_is) h.moved.later);
+          comes = λ q r. h.moved.comes q (saw_runs v0 v1 olds.0 q r);
+        };
+        owed = λ k. h.owed k ∙ ap (how_often k) owed_is;
+      }
 
   pub own_on : (next : Completing) (after : View) → HasCopiedOn v1 handle slot next after → HasCopiedOn v0 handle slot next after
   own_on next after h = record { same = h.same; reads = h.reads; come = come_on v0 v1 after read.Main (Goes h.reads) come1 h.come; is = h.is }

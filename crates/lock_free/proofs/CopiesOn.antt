@@ -6,16 +6,16 @@ use Rattle.lock_free.specs.declared.copy_roots.CopyKind.{CopyKind}
 use Rattle.lock_free.specs.declared.leaving.Completing.{Completing}
 use Rattle.lock_free.specs.declared.leaving.Left.TheVariants as left
 use Rattle.lock_free.specs.declared.rules.View.{View}
-use Rattle.lock_free.specs.CopySteps.{copied_line, HasCopied, HasCopiedOn, HasLeftCopy, IsOwnCompleting, IsToOpenAll}
+use Rattle.lock_free.specs.CopySteps.{as_before, copied_line, HasCopied, HasCopiedOn, HasLeftCopy, IsOwnCompleting, IsToOpenAll}
 use Rattle.lock_free.specs.Loading.{IsSound, Saw}
-use Rattle.lock_free.specs.OfReads.{on_read, read_to}
+use Rattle.lock_free.specs.OfReads.{read_to}
 use Rattle.lock_free.specs.Passing.{Later}
 use Rattle.lock_free.specs.Places.{words_in, words_of}
 use Rattle.lock_free.specs.Stocks.{IsStock, Stocked}
 use Rattle.lock_free.proofs.Comings.{saw_runs}
 use Rattle.lock_free.proofs.Laters.{saw_later}
 use Rattle.lock_free.proofs.RunningOn.{still_later}
-use Rattle.lock_free.proofs.StockStays.{stock_later, stock_moved}
+use Rattle.lock_free.proofs.StockStays.{stock_later}
 
 -- what is to be opened stays so
 pub to_open_later : (v w : View) (k : CopyKind) (opens : Option ℕ) (slot : ℕ) → Later v w → IsToOpenAll v k opens slot → IsToOpenAll w k opens slot
@@ -51,16 +51,10 @@ module _ (n : ℕ) (u : View) (sound : IsSound n u) (k : CopyKind) (handle : ℕ
       opening = subst (IsToOpenAll v k opens) (sym h.same) (to_open_later u v k opens s.offer h.come.later opening);
     }
 
-    pub left_stock_on : (stock : Stocked) → IsStock stock u → IsStock stock v
-    left_stock_on stock is = stock_moved n u v sound o to.at.1 stock is (λ q. on_read q.line h.reads) (record { later = h.come.later; comes = h.come.comes })
-
   -- its offer is settled
   module _ (carried : Bool) (h : HasCopied u carried v) where
-    pub settled_stock : (stock : Stocked) → IsStock stock u → IsStock stock v
-    settled_stock stock is = stock_moved n u v sound o to.at.1 stock is (copied_line carried) h
-
     pub settled_opening : IsToOpenAll v k opens s.offer
-    settled_opening = to_open_later u v k opens s.offer h.later opening
+    settled_opening = to_open_later u (as_before u v) k opens s.offer h.moved.later opening
 
   -- it was carried out, and what it opens is open
   module _ (h : HasCopied u true v) (sound_v : IsSound n v) (w : View) (saw : Saw v w) where
@@ -69,4 +63,4 @@ module _ (n : ℕ) (u : View) (sound : IsSound n u) (k : CopyKind) (handle : ℕ
 
     pub opened_stock_on : (stock : Stocked) → IsStock stock v → IsStock stock w
     opened_stock_on stock is =
-        stock_later n v w sound_v o_end (h.comes o to.at.1) stock is (saw_later n v sound_v w saw) o_end (saw_runs v w saw o_end (h.comes o to.at.1)) refl
+        stock_later n v w sound_v o_end (h.moved.comes o to.at.1) stock is (saw_later n v sound_v w saw) o_end (saw_runs v w saw o_end (h.moved.comes o to.at.1)) refl

@@ -16,7 +16,7 @@ use Rattle.lock_free.specs.declared.parking.Parked.TheVariants as parked
 use Rattle.lock_free.specs.declared.reading.Way.{Way}
 use Rattle.lock_free.specs.declared.rules.View.{View}
 use Rattle.lock_free.specs.Calling.{HasCalled}
-use Rattle.lock_free.specs.CopySteps.{copied_line, copy_kind, HasCopied, HasLeftCopy, HasMadeCopy, HasSettledCopy, IsAtTry, IsCopying, IsOwnCompleting, IsToOpenAll, LeavesCopy}
+use Rattle.lock_free.specs.CopySteps.{as_before, copied_line, copy_kind, HasCopied, HasLeftCopy, HasMadeCopy, HasSettledCopy, IsAtTry, IsCopying, IsOwnCompleting, IsToOpenAll, LeavesCopy}
 use Rattle.lock_free.specs.Holding.{IsOn}
 use Rattle.lock_free.specs.Loading.{IsSound, Runs, Saw}
 use Rattle.lock_free.specs.Parking.{HasRunTo, IsCopyLeft, IsToOpenAs}
@@ -29,17 +29,18 @@ use Rattle.lock_free.proofs.CallNumbers.{opens_first}
 use Rattle.lock_free.proofs.CallsRunOn.{copied_runs_on, copy_full}
 use Rattle.lock_free.proofs.Comings.{runs_one, saw_runs}
 use Rattle.lock_free.proofs.Laters.{saw_later}
+use Rattle.lock_free.proofs.OwingLater.{still_as}
 use Rattle.lock_free.proofs.RunningOn.{still_both, still_later}
 
 -- ---- its own offer is settled
 
 pub settled_by : (u v : View) (done : Bool) → HasCopied u done v → HasSettledCopy u done v
-settled_by u v done h = record { still = still_later u v h.later; comes = h.comes }
+settled_by u v done h = record { still = still_as u v (still_later u (as_before u v) h.moved.later); comes = h.moved.comes }
 
 pub settled_saw : (n : ℕ) (u v : View) → IsSound n v → (done : Bool) → HasCopied u done v → (w : View) → Saw v w → HasSettledCopy u done w
 settled_saw n u v sound done h w saw = record {
-  still = still_both u v w (still_later u v h.later) (still_later v w (saw_later n v sound w saw));
-  comes = λ q r. saw_runs v w saw (record q { line = copied_line done q }) (h.comes q r);
+  still = still_both u v w (still_as u v (still_later u (as_before u v) h.moved.later)) (still_later v w (saw_later n v sound w saw));
+  comes = λ q r. saw_runs v w saw (record q { line = copied_line done q }) (h.moved.comes q r);
 }
 
 -- ---- what it comes to

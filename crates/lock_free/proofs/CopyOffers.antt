@@ -35,7 +35,8 @@ second_named v (Some r) (Some name) h = h.1
 second_named v None (Some name) h = absurd h
 second_named v (Some r) None h = absurd h
 
-module _ (u : View) (k : CopyKind) (handle : ℕ) (opens : Option ℕ) (c : IsCopying u k handle opens) (root_name main_name : ℕ) (ready : IsReady u k root_name main_name) (roots : Roots) (a : View)
+module _ (u : View) (k : CopyKind) (handle : ℕ) (opens : Option ℕ) (c : IsCopying u k handle opens) (root_name main_name class : ℕ) (ready : IsReady u k root_name main_name class) (roots : Roots)
+    (a : View)
     (made : HasNewRoots u k ready.0 ready.1 roots a) where
   abbrev root : Ref
   root = ready.0
@@ -77,7 +78,7 @@ module _ (u : View) (k : CopyKind) (handle : ℕ) (opens : Option ℕ) (c : IsCo
     root_place = (placed_on u a made.follows root root_name ready.4).1
 
     main_place : place_of a.account main ≡ main_name
-    main_place = (placed_on u a made.follows main main_name ready.3).1
+    main_place = (placed_on u a made.follows main main_name ((ready.3.slot, ready.3.used), ready.3.place)).1
 
     at_offer : IsAt e (act.Offer offer)
     at_offer = record { operation = record offering_it { is_marked = its_run.0 }; runs = its_run.1; acts = refl }

@@ -17,7 +17,7 @@ use Rattle.machine_model.specs.GivingUp.{copy_given_up}
 use Rattle.machine_model.specs.Operations.{action_of}
 use Rattle.lock_free.specs.declared.copy_roots.CopyKind.TheVariants as kind
 use Rattle.lock_free.specs.declared.rules.View.{View}
-use Rattle.lock_free.specs.Becoming.{Follows, HasNew, line_made}
+use Rattle.lock_free.specs.Becoming.{Follows, HasNew, HasRested, line_made}
 use Rattle.lock_free.specs.CopySteps.{IsAtCopy, IsAtNewRoot, IsKind, copy_kind, given_line, HasStopped, HasNewRoot, HasRoot, HasNewRoots}
 use Rattle.lock_free.specs.Loading.{now, IsAt, Runs}
 use Rattle.lock_free.specs.Passing.{IsPlaced}
@@ -54,6 +54,13 @@ module _ (v : View) (l : CopyLine) (at : IsAtCopy v l) where
     still = still_with v w (record v { pool = w.pool; drafts = w.drafts }) is (goes_self v.account.steps);
     stops = λ o r. (o.private, l, subst (λ x. Runs x (record o { line = line.Copy l })) (sym is) (stands_on o r), may);
   }
+
+-- once references were counted and let go of again
+pub stopped_rested : (v : View) (l : CopyLine) → IsAtCopy v l → copy_given_up l ≡ Some reply.NoSlots → (w : View) → HasRested v w → HasStopped v w
+stopped_rested v l at may w rests = record {
+  still = still_follows v w rests.follows;
+  stops = λ o r. (o.private, l, rests.comes (record o { line = line.Copy l }) (stands_on v l at o r), may);
+}
 
 pub unchanged : (v w : View) → w ≡ v → w ≡ record v { pool = w.pool; drafts = w.drafts }
 unchanged v w e = e ∙ ap (λ (x : View). record v { pool = x.pool; drafts = x.drafts }) (sym e)
@@ -96,13 +103,13 @@ module _ (before : View) (root main : Ref) (at : IsAtCopy before (copy.Successor
 
     pub main_at_second : (main_name : ℕ) → IsPlaced before main main_name → IsAtNewRoot after (record { slot = main_name; own = false })
     main_at_second main_name placed =
-        (copy.Second root main new.made, main, at_second, refl, placed_on before after new.become.follows main main_name placed, λ own. absurd (false≢true own))
+        (copy.Second root main new.made, main, at_second, refl, placed_on before after new.become.follows main main_name placed, (λ own. absurd (false≢true own), λ b. absurd b))
 
     module _ (then : View) where
-      pub second_missing : then ≡ record after { pool = then.pool; drafts = then.drafts } → HasStopped before then
-      second_missing is =
+      pub second_missing : HasRested after then → HasStopped before then
+      second_missing rests =
           stopped_on before after then (λ o. (o.private ++ new.made ∷ [], line.Copy (copy.Second root main new.made))) new.become.follows first_comes
-          (stopped after (copy.Second root main new.made) at_second refl then is)
+          (stopped_rested after (copy.Second root main new.made) at_second refl then rests)
 
       pub both_made : (second : ℕ) → HasRoot after (Some second) then → HasNewRoots before kind.Snapshot root main (record { successor = name; second = Some second }) then
       both_made second g =
@@ -145,7 +152,7 @@ module _ (before : View) (root main : Ref) (at : IsAtCopy before (copy.Empty roo
         (record at.0 { private = at.0.private ++ new_branch.made ∷ []; line = line.Copy (copy.Cleared root main new_branch.made) }, branch_comes at.0 at.1, refl)
 
     pub root_over_it : IsAtNewRoot middle (record { slot = branch; own = true })
-    root_over_it = (copy.Cleared root main new_branch.made, new_branch.made, at_cleared, refl, new_branch.placed, λ own. refl)
+    root_over_it = (copy.Cleared root main new_branch.made, new_branch.made, at_cleared, refl, new_branch.placed, (λ own. refl, λ b. refl))
 
     module _ (then : View) where
       pub root_missing : then ≡ record middle { pool = then.pool; drafts = then.drafts } → HasStopped before then

@@ -19,10 +19,12 @@ use Rattle.lock_free.specs.declared.copy_roots.CopyKind.{CopyKind}
 use Rattle.lock_free.specs.declared.reading.Given.{Given}
 use Rattle.lock_free.specs.declared.reading.Way.{Way}
 use Rattle.lock_free.specs.declared.rules.View.{View}
-use Rattle.lock_free.specs.CopySteps.{HasCopied, HasOriginal, HasPrepared, HasReadOriginal, HasStopped, HasTried, IsAtOriginal, IsCopying}
-use Rattle.lock_free.specs.CopySteps.{IsReady, IsToComplete, IsToOpenAll, copied_line, copied_on, copy_kind, given_line, is_snapshot}
+use Rattle.lock_free.specs.CopySteps.{HasCopied, HasOriginal, HasPrepared, HasReadOriginal, HasStopped, HasTried, IsAtOriginal, IsCopying, IsKind}
+use Rattle.lock_free.specs.CopySteps.{IsReady, IsToComplete, IsToOpenAll, copied_on, copy_kind, given_line, is_snapshot}
 use Rattle.lock_free.specs.Exchanging.{given_up}
+use Rattle.lock_free.specs.Classes.{shape_class}
 use Rattle.lock_free.specs.Loading.{now, seen, IsAt, IsSound, Runs, Saw, Waited}
+use Rattle.lock_free.specs.Nodes.{class_of}
 use Rattle.lock_free.specs.Making.{with_slots}
 use Rattle.lock_free.specs.Offering.{known_at, offered_by}
 use Rattle.lock_free.specs.Passing.{IsOnWay}
@@ -38,9 +40,12 @@ use Rattle.lock_free.proofs.LimboStays.{limbo_so}
 use Rattle.lock_free.proofs.Comings.{runs_one, saw_runs}
 use Rattle.lock_free.proofs.CopyRoots.{given_so}
 use Rattle.lock_free.proofs.Followings.{follows_later, goes_both}
+use Rattle.lock_free.proofs.GivenBack.{node_is}
 use Rattle.lock_free.proofs.Laters.{placed_later, saw_later, waited_later}
+use Rattle.lock_free.proofs.MainClasses.{class_known}
 use Rattle.lock_free.proofs.NewNodes.{all_made_same, own_used}
 use Rattle.lock_free.proofs.OfferMisses.{same_offer}
+use Rattle.lock_free.proofs.OwingLater.{still_as}
 use Rattle.lock_free.proofs.Pools.{first_there}
 use Rattle.lock_free.proofs.RunningOn.{still_both, still_later, still_with}
 use Rattle.lock_free.proofs.StockStays.{stock_later, stock_moved}
@@ -48,7 +53,7 @@ use Rattle.lock_free.proofs.SwapsMade.{back_is}
 use Rattle.machine_model.specs.declared.reading.After.TheVariants.{Goes}
 use Rattle.machine_model.specs.Reading.{reading}
 use Rattle.lock_free.specs.declared.leaving.Completing.{Completing}
-use Rattle.lock_free.specs.CopySteps.{HasCopiedOn, LeavesCopy}
+use Rattle.lock_free.specs.CopySteps.{as_before, HasCopiedOn, LeavesCopy}
 use Rattle.lock_free.specs.OfReads.{at_line, on_read, read_to}
 use Rattle.lock_free.specs.Passing.{HasCome}
 use Rattle.machine_model.specs.declared.reading.ReadLine.{ReadLine}
@@ -98,12 +103,17 @@ module _ (n : ℕ) (u : View) (sound : IsSound n u) (k : CopyKind) (handle : ℕ
   ready_line : line_then o ≡ line.Copy (given_line k root main)
   ready_line = given_so o.call root main ∙ ap (λ x. line.Copy (given_line x root main)) (c.which o at.1.1)
 
-  pub ready_then : IsReady v k name given.link.main.slot
-  ready_then = (
+  pub ready_then : IsSound n v → (class : ℕ) → class ≡ shape_class given.header.shape → IsReady v k name given.link.main.slot class
+  ready_then sound_v class is = (
     root,
     main,
     (record o { line = line.Copy (given_line k root main) }, subst (λ l. Runs v (record o { line = l })) ready_line runs_then, refl),
-    (r.link.main_used, r.link.is.names.place),
+    record {
+      slot = r.header.slot;
+      used = r.header.used;
+      class_is = sym (ap class_of (node_is (now v) main r.header.slot r.header.used)) ∙ class_known n v sound_v main given.header r.header ∙ sym is;
+      place = r.link.is.names.place;
+    },
     placed_later u v r.moved.later root name at.2,
   )
 
@@ -165,7 +175,7 @@ module _ (n : ℕ) (u : View) (sound : IsSound n u) (k : CopyKind) (handle : ℕ
 
     -- by its step the seat stays what it was
     still_step : (x : View) (account : Account) → Waited w account → (y : View) →
-        x ≡ record w { account = y.account; epoch = y.epoch; passed = y.passed; pool = y.pool; drafts = y.drafts; opening = y.opening; retired = y.retired; links = y.links } →
+        x ≡ record w { account = y.account; epoch = y.epoch; passed = y.passed; pool = y.pool; drafts = y.drafts; opening = y.opening; retired = y.retired; owed = y.owed; links = y.links } →
         y.account.steps ≡ account.steps ++ step.Go w.actor ∷ [] → IsStill u x
     still_step x account waited y is more =
         still_both u w x still_w
@@ -258,6 +268,9 @@ module _ (n : ℕ) (u : View) (sound : IsSound n u) (k : CopyKind) (handle : ℕ
             its_try = record { its = (is_offering o at.1.1).its_try.its; now = (is_offering o at.1.1).its_try.now };
           })
 
+      pub kind_then : IsKind x k
+      kind_then q s = ap (λ (z : Operation). copy_kind z.call) (runs_one x q (completes o) s (completing_it o at.1.1)) ∙ c.which o at.1.1
+
       -- what it opens, once it is carried out
       to_open : (number : ℕ) → opens ≡ Some number → IsToOpen x number slot (is_snapshot k)
       to_open number is =
@@ -279,7 +292,7 @@ module _ (n : ℕ) (u : View) (sound : IsSound n u) (k : CopyKind) (handle : ℕ
           let it = on o at.1.1 in
           (ap (λ (z : Operation). z.access) same ∙ it.0, ap (λ (z : Operation). handle_of z.call) same ∙ it.1)
 
-      stock_then : (stock noted next : Stocked) → IsStock stock w → noted.sizes ≡ stock.sizes → NotesLast stock 1 noted → next.sizes ≡ noted.sizes → next.pool ≡ noted.pool → next.made ≡ [] →
+      pub stock_then : (stock noted next : Stocked) → IsStock stock w → noted.sizes ≡ stock.sizes → NotesLast stock 1 noted → next.sizes ≡ noted.sizes → next.pool ≡ noted.pool → next.made ≡ [] →
           next.limbo ≡ stock.limbo → IsStock next x
       stock_then stock noted next is sizes notes sizes_next pool none limbo = record {
         sizes = sizes_next ∙ sizes ∙ is.sizes ∙ ap (λ (z : View). z.sizes) (sym stood_so);
@@ -290,12 +303,6 @@ module _ (n : ℕ) (u : View) (sound : IsSound n u) (k : CopyKind) (handle : ℕ
 
       -- its COMPLETE is under way
       module _ (sound_x : IsSound n x) (next : Completing) (y : View) (h : HasCopiedOn x handle slot next y) where
-        pub left_stock : (stock noted next : Stocked) → IsStock stock w → noted.sizes ≡ stock.sizes → NotesLast stock 1 noted → next.sizes ≡ noted.sizes → next.pool ≡ noted.pool → next.made ≡ [] →
-            next.limbo ≡ stock.limbo → IsStock next y
-        left_stock stock noted next is sizes notes sizes_next pool none limbo =
-            stock_moved n x y sound_x (completes o) (completing_it o at.1.1) next (stock_then stock noted next is sizes notes sizes_next pool none limbo) (λ q. on_read q.line h.reads)
-            (record { later = h.come.later; comes = h.come.comes })
-
         opens_left : IsToOpenAll y k opens slot
         opens_left number is =
             let (has, two) = to_open number is in (
@@ -322,15 +329,10 @@ module _ (n : ℕ) (u : View) (sound : IsSound n u) (k : CopyKind) (handle : ℕ
 
       -- and is completed
       module _ (sound_x : IsSound n x) (carried : Bool) (y : View) (copied : HasCopied x carried y) where
-        pub copied_stock : (stock noted next : Stocked) → IsStock stock w → noted.sizes ≡ stock.sizes → NotesLast stock 1 noted → next.sizes ≡ noted.sizes → next.pool ≡ noted.pool → next.made ≡ [] →
-            next.limbo ≡ stock.limbo → IsStock next y
-        copied_stock stock noted next is sizes notes sizes_next pool none limbo =
-            stock_moved n x y sound_x (completes o) (completing_it o at.1.1) next (stock_then stock noted next is sizes notes sizes_next pool none limbo) (copied_line carried) copied
-
         pub copied_tried : HasTried u carried y
         copied_tried = record {
-          still = still_both u x y (still_step x then stands.1.0 stood stood_so refl) (still_later x y copied.later);
-          comes = λ q s. copied.comes (completes q) (completing_it q s);
+          still = still_both u x y (still_step x then stands.1.0 stood stood_so refl) (still_as x y (still_later x (as_before x y) copied.moved.later));
+          comes = λ q s. copied.moved.comes (completes q) (completing_it q s);
         }
 
         pub opens_all : IsToOpenAll y k opens slot
@@ -340,10 +342,10 @@ module _ (n : ℕ) (u : View) (sound : IsSound n u) (k : CopyKind) (handle : ℕ
               (
                 record {
                   its = has.its;
-                  here = copied.later.offers has.its has.here;
+                  here = copied.moved.later.offers has.its has.here;
                   place = has.place;
                   opens = has.opens;
-                  inside = subst (λ (z : View). 2 * slot + words_in 1 ≤ words_of z.sizes) (sym copied.later.is) has.inside;
+                  inside = subst (λ (z : View). 2 * slot + words_in 1 ≤ words_of z.sizes) (sym copied.moved.later.is) has.inside;
                 },
                 two,
               ),

@@ -5,7 +5,7 @@ use Rattle.std.proofs.lemmas.List.Elements.{Contains-get_or}
 use mathlib.Core.Option.{some, none}
 use lib.ListN.{get_elem?}
 use prog.Atomic.{either}
-use Rattle.atomic_table.specs.Table.{Me, Allows, step}
+use Rattle.atomic_table.specs.Table.{Me, step}
 use Rattle.atomic_table.specs.Table as Table
 use Rattle.trie_words.specs.Codes.{IsHeader, header_code}
 use Rattle.trie_words.specs.declared.headers.Header.{Header}
@@ -43,6 +43,9 @@ use Rattle.lock_free.proofs.LinkWords.{same_generation}
 use Rattle.lock_free.proofs.Looking.{went, link_there, same_action}
 use Rattle.lock_free.proofs.Moments.{allowed, took_by, its_place, node_apart}
 use Rattle.lock_free.proofs.Verdicts.{o, runs, main_is, shape_now, previous_now, case_is, Case, was_pending, was_decided}
+use Rattle.lock_free.proofs.Lettings.{TakesNone}
+use Rattle.lock_free.proofs.Looking.{acts_there, main_there}
+use Rattle.machine_model.specs.Operations.{action_of}
 
 -- what an exchange writes over a header that is pending
 verdict_says : (licensed : Bool) (verdict : Prev) (says : Previous) (name : Name) (replaced : Ref) → says ≡ previous.Pending name → verdict ≡ (if licensed then prev.None else prev.Failed replaced) →
@@ -94,6 +97,16 @@ module _ (v : View) (i main replaced : Ref) (told : Option ℕ) (p : IsAt v (act
     abbrev Left : Type 0
     Left = Leaves v s kept id at word old new
 
+    -- the main node stands, and the one over which it was pending
+    takes : TakesNone kept.stands (state_of v.sizes there) (o v word found m i main replaced told p its_word header fits over)
+        (action_of (state_of v.sizes there) (o v word found m i main replaced told p its_word header fits over))
+    takes =
+        let does = act.Decide i main replaced told in
+        subst (TakesNone kept.stands (state_of v.sizes there) (o v word found m i main replaced told p its_word header fits over)) (sym (acts_there v word found m does p)) (
+          kept.nodes.live replaced (main_there v word found m does replaced (Contains-get_or (main ∷ replaced ∷ []) 1 replaced (omega arith)) p).0.lives,
+          (main_is v word found m i main replaced told p its_word header fits over).0.lives,
+        )
+
     module _ (d : Decides v.sizes there v.actor (o v word found m i main replaced told p its_word header fits over) main replaced)
         (verdict : d.verdict ≡ (if is_licensed (state_of v.sizes there).heap i told then prev.None else prev.Failed replaced))
         (same : d.slot ≡ (main_is v word found m i main replaced told p its_word header fits over).0.slot)
@@ -127,7 +140,7 @@ module _ (v : View) (i main replaced : Ref) (told : Option ℕ) (p : IsAt v (act
       decided_so e = (
         subst (λ ws. IsKept v.sizes (record { words = ws; homes = s.homes; views = set s.views id after })) (words_hit v s kept id at word old new e (2 * place_of there main) at_place)
             (decide_kept v.sizes s kept id v at (o v word found m i main replaced told p its_word header fits over)
-            (runs v word found m i main replaced told p its_word header fits over) main replaced d here is_main new says),
+            (runs v word found m i main replaced told p its_word header fits over) main replaced d here is_main new says takes),
         (
           sound_by v s kept id at (gone_on v.actor there) kept.stands _
               (all_then v.sizes there v.actor (o v word found m i main replaced told p its_word header fits over) main replaced d kept.stands s.words (all_stand v.sizes s kept) here is_main new says),
@@ -139,7 +152,8 @@ module _ (v : View) (i main replaced : Ref) (told : Option ℕ) (p : IsAt v (act
     by_case : Case v word found m i main replaced told p its_word header fits over → Left
     by_case (was_pending d verdict same stands e pending) = decided_so d verdict same stands e
     by_case (was_decided reads differs pending) =
-        missed v s kept id at word old new (o v word found m i main replaced told p its_word header fits over) (runs v word found m i main replaced told p its_word header fits over) reads differs
+        missed v s kept id at word old new (o v word found m i main replaced told p its_word header fits over) (runs v word found m i main replaced told p its_word header fits over) reads
+        takes differs
 
     pub leaves : Left
     leaves = by_case case

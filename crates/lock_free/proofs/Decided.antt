@@ -1,5 +1,5 @@
 -- The exchange of a main node's header decides it.
-use Rattle.std.proofs.Common.{◌≡◌, ◌≢◌, ◌+◌, ◌*◌, ◌⊎◌, ℕ, ◌<◌, ◌≤◌, inl, inr, Bool, true, false, List, [], ◌∷◌, set, get_or, slice_index, Some, None, refl, sym, ap, subst, ◌∙◌, arith, length}
+use Rattle.std.proofs.Common.{◌≡◌, ◌≢◌, ◌*◌, ◌⊎◌, ℕ, ◌<◌, ◌≤◌, inl, inr, Bool, true, false, List, [], ◌∷◌, set, get_or, slice_index, Some, None, refl, sym, ap, subst, ◌∙◌, arith, length}
 use Rattle.std.proofs.Common.{length-set}
 use Rattle.std.proofs.lemmas.Bool.{cases_eq, true≢false}
 use Rattle.std.proofs.lemmas.List.{get_or-set_same}
@@ -25,7 +25,7 @@ use Rattle.lock_free.specs.declared.sizes.Sizes.{Sizes}
 use Rattle.lock_free.specs.Accounts.{state_of, place_at, gone_on}
 use Rattle.lock_free.specs.Deciding.{says_then, Decides}
 use Rattle.lock_free.specs.Nodes.{StandsAs, InTable, AreEntries, SaysPrevious, decided, ahead, pending, failed, SaysHeader, class_of, IsAhead}
-use Rattle.lock_free.specs.Places.{first_slot_word, words_in, words_of, generation_word, root_word, IsTaken}
+use Rattle.lock_free.specs.Places.{first_slot_word, generation_word, root_word, IsSlot, IsTaken}
 use Rattle.lock_free.specs.Roots.{MeansRoot, fate}
 use Rattle.lock_free.specs.Rules.{Standing, Stands, NodesStand, RootsStand, IsSpare}
 use Rattle.lock_free.specs.Steps.{nothing}
@@ -190,11 +190,11 @@ module _ (sizes : Sizes) (account : Account) (actor : ℕ) (operation : Operatio
     apart = λ j k x y a c e. (let b = before j x (which j x a.1) in let d = before k y (which k y c.1) in all.nodes.apart j k b.0 d.0 (a.0, b.1) (c.0, d.1) e);
     offers = λ o c k slot h. (let b = before k slot (which k slot h.1) in all.nodes.offers o c k b.0 (h.0, b.1));
     written = λ k slot h. written_by k slot h.0 (which k slot h.1);
-    inside = λ k slot e. (let b = before k slot (which k slot e) in subst (λ n. 2 * place_at account k + words_in (class_of n) ≤ words_of sizes) (sym b.2) (all.nodes.inside k b.0 b.1));
+    inside = λ k slot e. (let b = before k slot (which k slot e) in subst (λ n. IsSlot sizes (class_of n) (place_at account k)) (sym b.2) (all.nodes.inside k b.0 b.1));
     owners = owners_kept account account_then now next refl refl decides.aheads all.nodes.owners;
     owned = own_longer sizes account account_then (step.Go actor ∷ []) refl refl all.nodes.owned;
     live = λ r h. all.nodes.live r (decides.live r h);
-    reached = reached_kept sizes account account_then (step.Go actor) refl stands stands all.nodes.reached (λ r h. all.nodes.live r (decides.live r h)) (λ r was h. h);
+    reached = reached_kept sizes account account_then all.bounds (step.Go actor) refl stands stands all.nodes.reached (λ r h. all.nodes.live r (decides.live r h)) (λ r was h. h);
   }
 
   roots_then : RootsStand sizes account_then words_then

@@ -31,7 +31,7 @@ use Rattle.lock_free.specs.Loading.{HasHeader, HasLink}
 use Rattle.lock_free.specs.Nodes.{class_of, IsAhead, SaysPrevious, decided, ahead, pending, failed, SaysShape, of_branch, of_tomb, of_list, SaysHeader}
 use Rattle.lock_free.specs.Rules.{IsKept}
 use Rattle.lock_free.proofs.Asked.{live_in_use, is_well_formed}
-use Rattle.lock_free.proofs.Framing.{class_small}
+use Rattle.lock_free.proofs.Framing.{class_small, node_end}
 use Rattle.lock_free.proofs.Within.{two_words}
 
 module _ (v : View) (s : Table.State Call View) (kept : IsKept v.sizes s) where
@@ -44,7 +44,7 @@ module _ (v : View) (s : Table.State Call View) (kept : IsKept v.sizes s) where
   pub place_small : (r : Ref) → IsLive state r → place_of there r < 2 ^ 27
   place_small r live =
       let is = live_in_use v.sizes there kept.bounds r live in
-      let h = kept.nodes.inside (slot_of r) is.0 is.1 in
+      let h = node_end v.sizes is.0.node (place_of there r) (kept.nodes.inside (slot_of r) is.0 is.1) in
       let two = two_words (class_of is.0.node) (class_small is.0.node) in
       let range = kept.range.within in
       omega (arith, h, two, range)
@@ -55,7 +55,7 @@ module _ (v : View) (s : Table.State Call View) (kept : IsKept v.sizes s) where
   unfolding stored
   node_lives r q slot live is c = from_slot r q live (subst (λ o. Contains (refs_of_slot o) q) (sym is) c)
 
-  ahead_lives : (i a f : Ref) → IsAhead state i a f → IsLive state a
+  pub ahead_lives : (i a f : Ref) → IsAhead state i a f → IsLive state a
   ahead_lives i a f h =
       from_operation h.actor h.operation a h.runs tt
       (Contains-append_left (refs_of_claims (line_claims state h.operation)) h.operation.private a

@@ -17,7 +17,10 @@ use Rattle.lock_free.proofs.Assembling.{AllStand, all_stand, closing_stays, numb
 use Rattle.lock_free.proofs.Drafts.{which}
 use Rattle.lock_free.proofs.Framing.{other_word, low_word, taken_over, all_over}
 use Rattle.lock_free.proofs.Geometry.{IsWordOf, slots_apart, inside, root_below}
+use Rattle.lock_free.proofs.PlainStay.{plain_elsewhere}
 use Rattle.lock_free.proofs.Seats.{ran_so, numbers_so, Stays, other_kept, own_still}
+use Rattle.lock_free.proofs.HeldStill.{held_words}
+use Rattle.lock_free.proofs.CountWords.{slot_apart}
 
 module _ (sizes : Sizes) (s : Table.State Call View) (kept : IsKept sizes s) (id : ℕ) (v : View) (at : get_elem? s.views id ≡ some v) (class name : ℕ) (free : IsFree v class name) (j : ℕ)
     (its : IsWordOf class name j)
@@ -71,6 +74,7 @@ module _ (sizes : Sizes) (s : Table.State Call View) (kept : IsKept sizes s) (id
               (let both = slots_apart sizes s.words kept.taken b class other_name name j f.0 free.0 y.0 is_spare.0 (subst (λ m. IsWordOf b other_name m) same its_word) its in
               apart (kept.pools other id w v b class name e at (subst (λ m. IsFree w b m) both.1 f) free))),
         ));
+    plain = plain_elsewhere sizes kept.account s.words words_then root_same;
   }
 
   drafted : (d : ℕ × ℕ) → (d ≡ (j, x)) ⊎ ((d.0 ≢ j) × Contains v.drafts d) → AreDrafts words_then view_then d
@@ -96,3 +100,4 @@ module _ (sizes : Sizes) (s : Table.State Call View) (kept : IsKept sizes s) (id
       (λ b n f. inl f)
       (numbers_stay sizes s kept id v at view_then refl refl kept.account words_then (no_tries kept.account.offers (state_of sizes kept.account)) (λ slot none. none) root_same refl
       (λ slot handle e free. free))
+      (held_words sizes s kept id v at view_then refl refl refl j x (slot_apart sizes s.words kept.taken class name j free.0 is_spare.0 its).1)

@@ -1,7 +1,7 @@
 -- The store of 0 to a seat's own word ends its operation.
 use Rattle.history.specs.declared.calls.Call.{Call}
 use Rattle.history.specs.declared.replies.Reply.{Reply}
-use Rattle.std.proofs.Common.{◌≡◌, ◌⊎◌, ◌<◌, ◌≤◌, ℕ, inl, inr, Bool, true, false, set, Option, Some, refl, sym, ap, subst, ◌∙◌, arith}
+use Rattle.std.proofs.Common.{◌≡◌, ◌⊎◌, ◌<◌, ◌≤◌, ℕ, inl, inr, Bool, true, false, set, Option, Some, refl, sym, ap, subst, ◌∙◌, arith, []}
 use Rattle.std.proofs.lemmas.Option.{none-some, same_Some}
 use mathlib.Core.Option.{some, none}
 use lib.ListN.{get_elem?}
@@ -14,7 +14,7 @@ use Rattle.machine_model.specs.Operations.{action_of}
 use Rattle.lock_free.specs.declared.accounts.Account.{Account}
 use Rattle.lock_free.specs.declared.rules.View.{View}
 use Rattle.lock_free.specs.declared.sizes.Sizes.{Sizes}
-use Rattle.lock_free.specs.Accounts.{running}
+use Rattle.lock_free.specs.Accounts.{running, state_of}
 use Rattle.lock_free.specs.Beginning.{Ends}
 use Rattle.lock_free.specs.Loading.{now, seen, IsAt, IsSound, Runs, Waited}
 use Rattle.lock_free.specs.Places.{pin_word, words_of}
@@ -25,6 +25,7 @@ use Rattle.lock_free.proofs.Ended.{all_then, end_kept}
 use Rattle.lock_free.proofs.Moments.{allowed_unpinned, waited_so, free_inside}
 use Rattle.lock_free.proofs.OneStep.Sitting.{ends_of}
 use Rattle.lock_free.proofs.OneStep.Telling.{end_told}
+use Rattle.lock_free.proofs.Lettings.{TakesNone}
 
 keeps_by : (mark : Bool) (number : Option ℕ) (g : ℕ) → left_by mark number ≡ Some g → (number ≡ Some g) × (mark ≡ false)
 keeps_by true number g e = absurd (none-some g e)
@@ -62,7 +63,9 @@ module _ (v : View) (answer : Reply) (p : IsAt v (act.End answer)) (s : Table.St
   after = once_ended v stays.0 there
 
   pub kept_after : IsKept v.sizes (record { words = set s.words (pin_word v.actor) 0; homes = s.homes; views = set s.views id after })
-  kept_after = end_kept v.sizes s kept id v at o stays.1 ends (left_by stays.0 v.opens) (keeps_by stays.0 v.opens) (drops_by stays.0 v.opens)
+  kept_after =
+      end_kept v.sizes s kept id v at o stays.1 ends (left_by stays.0 v.opens) (keeps_by stays.0 v.opens) (drops_by stays.0 v.opens)
+      (subst (TakesNone kept.stands (state_of v.sizes there) o) (sym ends_so) tt)
 
   pub sound_after : IsSound (words_of v.sizes) after
   sound_after =

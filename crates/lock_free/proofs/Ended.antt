@@ -1,6 +1,7 @@
 -- The store of 0 to a seat's own word ends its operation.
 use Rattle.history.specs.declared.calls.Call.{Call}
 use Rattle.std.proofs.Common.{◌≡◌, ◌≢◌, ◌⊎◌, ℕ, ◌<◌, ◌≤◌, inl, inr, true, false, List, [], ◌∷◌, get_or, is_some, set, slice_index, Option, Some, None, refl, sym, ap, subst, ◌∙◌, arith, append-nil}
+use Rattle.std.proofs.Common.{Contains, get_or-set_other}
 use Rattle.std.specs.Prelude.{option_map}
 use Rattle.std.proofs.lemmas.Bool.{cases_eq, true≢false}
 use Rattle.std.proofs.lemmas.Option.{none-some, same_Some}
@@ -24,8 +25,20 @@ use Rattle.lock_free.specs.Trying.{try_of, try_at}
 use Rattle.lock_free.proofs.Assembling.{AllStand, all_stand, closing_stays, opening_stays, Numbers, assembled, other_actor}
 use Rattle.lock_free.proofs.Meanings.{unmarked_at, unmarked_then, marked_at}
 use Rattle.lock_free.proofs.RootSteps as root
+use Rattle.lock_free.proofs.PlainStay.{plain_running}
 use Rattle.lock_free.proofs.Seats.{ran_so, Stays, StaysSpare, other_kept, own_else}
-use Rattle.lock_free.proofs.Waiting.{waited_none, waited_more, quiet_more}
+use Rattle.lock_free.proofs.Waiting.{grown_steps, waited_none, waited_more, quiet_more}
+use Rattle.machine_model.specs.Beneath.slot_arena.specs.declared.refs.Ref.{Ref}
+use Rattle.machine_model.specs.Operations.{action_of}
+use Rattle.lock_free.specs.Counts.{references_in}
+use Rattle.lock_free.specs.Holdings.{AreHeld}
+use Rattle.lock_free.proofs.CountWords.{pin_apart}
+use Rattle.lock_free.proofs.HeldLeads.{alike_slots}
+use Rattle.lock_free.proofs.HeldStep.{going_less, held_step}
+use Rattle.lock_free.proofs.Lettings.{TakesNone}
+use Rattle.lock_free.proofs.LinesStay.{lines_idle}
+use Rattle.lock_free.proofs.SeatOwing.{seat_owing}
+use Rattle.lock_free.proofs.LetGoSince.{going_let_go}
 
 -- the seat keeps the number that it has reserved, where its operation hasn't opened it
 module _ (sizes : Sizes) (s : Table.State Call View) (kept : IsKept sizes s) (id : ℕ) (v : View) (at : get_elem? s.views id ≡ some v) (operation : Operation)
@@ -47,7 +60,7 @@ module _ (sizes : Sizes) (s : Table.State Call View) (kept : IsKept sizes s) (id
   words_then = set s.words (pin_word v.actor) 0
 
   abbrev pub view_then : View
-  view_then = record v { account = account_then; pin = None; entered = None; opens = opens; opening = None }
+  view_then = record v { account = account_then; pin = None; entered = None; opens = opens; opening = None; owed = [] }
 
   seat : IsSeat sizes kept.account kept.stands s.words v
   seat = kept.seats id v at
@@ -114,15 +127,17 @@ module _ (sizes : Sizes) (s : Table.State Call View) (kept : IsKept sizes s) (id
     still_open = λ other w at_w g inside e. ap is_some (root_then g) ∙ e;
     taken = root.taken_pinned sizes kept.account kept.stands s.words all v.actor seat.low most 0;
     spare = λ other w b name e apart free. stays_spare other w b name e free;
+    plain = plain_running sizes kept.account account_then kept.bounds ((step.Go v.actor) ∷ []) refl s.words words_then v.actor operation runs;
   }
 
   own_then : IsSeat sizes account_then kept.stands words_then view_then
   own_then =
-      own_else sizes s kept id v at account_then kept.stands words_then stays account_then (waited_none v.actor account_then)
+      seat_owing sizes account_then kept.stands words_then (record v { account = account_then; pin = None; entered = None; opens = opens; opening = None }) []
+      (own_else sizes s kept id v at account_then kept.stands words_then stays account_then (waited_none v.actor account_then)
       (λ a above below. waits a (first_account sizes) (λ is. absurd (omega (arith, above, is))) (seat.rested a above below)) all_then.counted None None v.closing opens None
       (root.at_p sizes kept.account kept.stands s.words all v.actor seat.low most 0) (λ p is. absurd (none-some p is)) (λ g e. absurd (none-some g e)) (λ o e. absurd (none-some o (sym ends.own ∙ e)))
       (λ g r. still_held g (seat.opens g (own_reserved g r.0))) (λ o e. absurd (none-some o (sym ends.own ∙ e))) (λ g slot o n. absurd (none-some slot n))
-      (λ b name free. stays_spare id v b name at free)
+      (λ b name free. stays_spare id v b name at free))
 
   reserves_else : (w : View) (g : ℕ) → w.actor ≢ v.actor → Reserves now w g → Reserves next w g
   reserves_else w g differs r = (r.0, unmarked_then now next w.actor (same_try w.actor differs) r.1)
@@ -146,10 +161,25 @@ module _ (sizes : Sizes) (s : Table.State Call View) (kept : IsKept sizes s) (id
     ];
   }
 
+  private_then : (a : ℕ) (o : Operation) → operation_of next a ≡ Some o → (r : Ref) → Contains o.private r → (p : Operation) × (operation_of now a ≡ Some p) × Contains p.private r
+  private_then a o e r c = elim (cases_eq a v.actor) [
+    | inl own ↦ absurd (none-some o (sym ends.own ∙ ap (operation_of next) (sym own) ∙ e))
+    | inr other ↦ (o, sym (ends.others a other) ∙ e, c)
+  ]
+
+  held_ended : TakesNone kept.stands now operation (action_of now operation) → AreHeld sizes account_then kept.stands words_then (set s.views id view_then)
+  held_ended takes =
+      held_step sizes s kept id v at account_then (grown_steps kept.account account_then (step.Go v.actor ∷ []) refl refl) refl refl (alike_slots now next ends.leaves.nodes) ends.leaves.live
+      private_then
+      (going_less sizes s kept v.actor operation runs takes account_then refl) (going_let_go sizes s kept v.actor operation runs takes account_then refl)
+      view_then refl refl (λ k. omega arith) (lines_idle sizes s kept id v at account_then view_then ends.others ends.own)
+      words_then
+      (λ c is. ap references_in (get_or-set_other s.words (pin_word v.actor) c 0 0 ((pin_apart sizes v.actor most).1 c is)))
+
   -- the rule holds
-  pub end_kept : IsKept sizes (record { words = words_then; homes = s.homes; views = set s.views id view_then })
-  end_kept =
+  pub end_kept : TakesNone kept.stands now operation (action_of now operation) → IsKept sizes (record { words = words_then; homes = s.homes; views = set s.views id view_then })
+  end_kept takes =
       assembled sizes s kept id v at view_then refl refl account_then kept.stands words_then all_then
       (λ g who below says. closing_stays sizes s kept id v at view_then refl refl (λ h e. absurd (none-some h e)) refl g who
       (kept.closings g who below (subst (λ n. SaysClosing n who) (root_same g below) says))) own_then
-      (other_kept sizes s kept id v at account_then kept.stands words_then stays) (λ b name f. inl f) numbers_then
+      (other_kept sizes s kept id v at account_then kept.stands words_then stays) (λ b name f. inl f) numbers_then (held_ended takes)

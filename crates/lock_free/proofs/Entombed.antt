@@ -16,22 +16,21 @@ use Rattle.machine_model.specs.declared.building.Change.TheVariants as change
 use Rattle.machine_model.specs.Building.{changed}
 use Rattle.machine_model.specs.Paths.{flag_in}
 use Rattle.proof_memory.specs.Wants.{AllHold, change_wants, flag_on, is_branch_or_list}
-use Rattle.proof_memory.proofs.Claims.Uses.{safe_of}
+use Rattle.proof_memory.proofs.Claims.Uses.{meets_of, safe_of}
 use Rattle.lock_free.specs.declared.changing.Edit.{Edit}
 use Rattle.lock_free.specs.declared.changing.Edit.TheVariants as edit
 use Rattle.lock_free.specs.declared.rules.View.{View}
 use Rattle.lock_free.specs.Accounts.{place_of}
-use Rattle.lock_free.specs.Changing.{HasBuilt, IsChange, IsChanging}
-use Rattle.lock_free.specs.Entries.{HasStayed}
+use Rattle.lock_free.specs.Changing.{IsChange, IsChanging}
 use Rattle.lock_free.specs.Live.{IsLive}
 use Rattle.lock_free.specs.Loading.{now, IsAt, IsSound}
+use Rattle.lock_free.specs.Nodes.{is_single}
 use Rattle.lock_free.specs.Passing.{IsPlaced}
-use Rattle.lock_free.specs.SeenEntries.{HasMadeNext}
 use Rattle.lock_free.proofs.Asked.{live_in_use}
 use Rattle.lock_free.proofs.ChangedMains.{o, claims, kind, at_make}
 use Rattle.lock_free.proofs.GivenBack.{node_is}
-use Rattle.lock_free.proofs.Laters.{later_self}
 use Rattle.lock_free.proofs.MainLooks.{tomb_says}
+use Rattle.lock_free.proofs.TombSingles.{same_kind}
 
 -- the single that is left
 left_in : (v : View) (name : Name) (c : Change) → IsChange v (edit.Entomb name) c → (single : Ref) × (c ≡ change.Entomb single) × (place_of v.account single ≡ name.slot)
@@ -46,11 +45,6 @@ entombed flag (Listed singles) single is = refl
 entombed flag (Indirection generation main) single is = absurd (true≢false (sym is))
 entombed flag (Single key value) single is = absurd (true≢false (sym is))
 entombed flag (Tomb other) single is = absurd (true≢false (sym is))
-
--- what was built where nothing was seen before
-pub at_once : (v : View) (result : Option ℕ) (after : View) (node : Node) → IsAt v (act.Make node) → HasMadeNext v result after → HasBuilt v result after
-at_once v None after node m made other p = subst (HasStayed v) (sym (made node m)) (record { later = later_self v; comes = λ q r. r })
-at_once v (Some name) after node m made other p = made other p
 
 module _ (n : ℕ) (v : View) (sound : IsSound n v) (name : Name) (what : Shape) (flag : ℕ) (e : Edit) (h : IsChanging v name what flag e) where
   module _ (single : Name) (is : e ≡ edit.Entomb single) where
@@ -73,8 +67,20 @@ module _ (n : ℕ) (v : View) (sound : IsSound n v) (name : Name) (what : Shape)
           (u, left.2),
         )
 
-    pub tomb_built : (result : Option ℕ) (after : View) → HasMadeNext v result after → HasBuilt v result after
-    tomb_built result after = at_once v result after (Tomb tomb_ready.0) tomb_ready.1
+    -- it is the single that is left
+    pub tomb_left : h.its ≡ change.Entomb tomb_ready.0
+    unfolding tomb_ready
+    tomb_left = left.1
+
+    single_by : (c : Change) → c ≡ change.Entomb left.0 → AllHold (IsLive (now v)) (now v).heap
+        (change_wants h.main (flag_on v.sizes.hash (o n v sound name what flag e h).call h.path) h.former c) → is_single (node_at (now v).heap left.0) ≡ true
+    single_by c same wants =
+        same_kind (node_at (now v).heap left.0)
+        (meets_of (subst (λ d. AllHold (IsLive (now v)) (now v).heap (change_wants h.main (flag_on v.sizes.hash (o n v sound name what flag e h).call h.path) h.former d)) same wants).0)
+
+    pub left_is_single : is_single (node_at (now v).heap tomb_ready.0) ≡ true
+    unfolding tomb_ready
+    left_is_single = single_by h.its left.1 (claims n v sound name what flag e h).1.1.1
 
   -- it is no tomb
   pub no_tomb : (entry : Entry) → what ≡ shape.Tomb entry → ⊥

@@ -21,7 +21,7 @@ use Rattle.lock_free.specs.Nodes.{class_of, half_in, is_single}
 use Rattle.lock_free.specs.Passing.{Later}
 use Rattle.lock_free.proofs.Asked.{live_in_use}
 use Rattle.lock_free.proofs.Comings.{saw_runs}
-use Rattle.lock_free.proofs.Framing.{class_small}
+use Rattle.lock_free.proofs.Framing.{class_small, node_end}
 use Rattle.lock_free.proofs.GivenBack.{node_is}
 use Rattle.lock_free.proofs.Holding.{held_then}
 use Rattle.lock_free.proofs.Laters.{main_kind, saw_later, waited_later}
@@ -32,7 +32,7 @@ use Rattle.lock_free.proofs.Within.{two_words}
 -- a node's slot is below 2^27
 pub slot_small : (n : ℕ) (v : View) → IsSound n v → (r : Ref) (slot : Slot) → IsUsed v r slot → place_of v.account r < 2 ^ 27
 slot_small n v sound r slot used =
-    let inside = sound.inside (slot_of r) slot used in
+    let inside = node_end v.sizes slot.node (place_of v.account r) (sound.inside (slot_of r) slot used) in
     let two = two_words (class_of slot.node) (class_small slot.node) in
     let range = sound.range in
     omega (arith, inside, two, range)

@@ -1,5 +1,5 @@
 -- What the rule says of the epoch stays where neither the epoch changes nor what it says of seats.
-use Rattle.std.proofs.Common.{◌≡◌, ◌≢◌, ◌⊎◌, ◌+◌, ◌≤◌, inl, inr, ℕ, List, set, slice_index, Option, Some, None, refl, sym, ap, subst, ◌∙◌, arith}
+use Rattle.std.proofs.Common.{◌≡◌, ◌≢◌, ◌⊎◌, ◌+◌, ◌≤◌, inl, inr, ℕ, List, set, slice_index, Option, Some, None, refl, sym, ap, subst, ◌∙◌, arith, []}
 use Rattle.std.proofs.lemmas.List.{get_or-set_other, set-get_or}
 use Rattle.std.proofs.lemmas.Option.{none-some}
 use mathlib.Core.Option.{some}
@@ -74,9 +74,21 @@ module _ (views : List View) (id : ℕ) (v : View) (at : get_elem? views id ≡ 
 abbrev pub rest_of : View → List Heard × ℕ × ℕ × ℕ × Option Pinned × List Retired × List ℕ × List (ℕ × ℕ)
 rest_of v = (v.heard, v.actor, v.epoch, v.passed, v.pin, v.retired, v.owed, v.links)
 
+-- but for the references that it holds itself
+abbrev pub rest_beside : View → List Heard × ℕ × ℕ × ℕ × Option Pinned × List Retired × List ℕ × List (ℕ × ℕ)
+rest_beside v = (v.heard, v.actor, v.epoch, v.passed, v.pin, v.retired, [], v.links)
+
+pub beside_as_was : (v w : View) → rest_beside w ≡ rest_beside v → IsAsWas v w
+beside_as_was v w same = record {
+  actor = ap (λ r. r.1) same;
+  epoch = ap (λ r. r.2) same;
+  passed = ap (λ r. r.3) same;
+  pinned = λ p is. sym (ap (λ r. r.4) same) ∙ is;
+}
+
 -- of one that isn't pinned then
 abbrev pub rest_unpinned : View → List Heard × ℕ × ℕ × ℕ × Option Pinned × List Retired × List ℕ × List (ℕ × ℕ)
-rest_unpinned v = (v.heard, v.actor, v.epoch, v.passed, None, v.retired, v.owed, v.links)
+rest_unpinned v = (v.heard, v.actor, v.epoch, v.passed, None, v.retired, [], v.links)
 
 pub rest_as_was : (v w : View) → rest_of w ≡ rest_of v → IsAsWas v w
 rest_as_was v w same = record {

@@ -16,12 +16,11 @@ use Rattle.lock_free.specs.declared.sizes.Sizes.{Sizes}
 use Rattle.lock_free.specs.Epochs.{HasAdvanced, HasChecked, going_by, has_advanced, has_checked, has_seen_epoch, is_in, knowing}
 use Rattle.lock_free.specs.Loading.{IsSound}
 use Rattle.lock_free.specs.Places.{epoch_word, pin_word}
-use Rattle.lock_free.specs.Counts.{AreCounted}
 use Rattle.lock_free.specs.Links.{AreLinked, link_in}
 use Rattle.lock_free.specs.Rules.{AreEpochs, AreRetired, IsKept, IsPinned, IsRuled, pin_word_of}
 use Rattle.lock_free.proofs.Assembling.{here}
 use Rattle.lock_free.proofs.CountWords.{count_not_epoch}
-use Rattle.lock_free.proofs.CountsStay.{counted_then}
+use Rattle.lock_free.proofs.OwedStay.{owed_same}
 use Rattle.lock_free.proofs.LinksStay.{linked_then}
 use Rattle.lock_free.proofs.EpochStays.{epoch_in}
 use Rattle.lock_free.proofs.EpochWord.{grown, grown_kept}
@@ -146,13 +145,13 @@ pub see_allowed : (sizes : Sizes) (size id : ℕ) (me : Me Call View) (some_seat
 see_allowed sizes size id me some_seats =
     allowed_by sizes size id me epoch_word (λ n. n) (has_seen_epoch (step size epoch_word 0 0 none) me)
     some_seats
-    (λ s kept epochs retired counted linked at. (let v = knowing me.0 (epoch_in s.words) in let same = sym (set-get_or s.words epoch_word 0) in (
+    (λ s kept epochs retired owed linked at. (let v = knowing me.0 (epoch_in s.words) in let same = sym (set-get_or s.words epoch_word 0) in (
       v,
       subst (λ ws. IsKept me.0.sizes (record { words = ws; homes = s.homes; views = set s.views id v })) same (known_kept me.0 s kept id at (epoch_in s.words) 0),
       subst (λ ws. AreEpochs ws (set s.views id v)) same
           (known_epochs me.0 s kept id at epochs (epoch_in s.words) 0 (omega arith) (λ j w e none p is. (let low = (kept.seats j w e).low in absurd (omega (arith, none, low))))),
       subst (λ ws. AreRetired me.0.sizes ws (set s.views id v)) same (retired_then s.views id me.0 at v refl (λ p is. is) me.0.sizes s.words s.words (omega arith) retired),
-      subst (λ ws. AreCounted me.0.sizes ws (set s.views id v)) same (counted_then s.views id me.0 at v refl me.0.sizes s.words s.words (λ c is. refl) counted),
+      owed_same s.views id me.0 at v refl refl refl owed,
       subst (λ ws. AreLinked me.0.sizes ws (set s.views id v)) same (linked_then s.views id me.0 at v refl (λ x c. c) me.0.sizes s.words s.words (λ c is. refl) linked),
       refl,
       (epochs.seen id me.0 at, refl, its_slots me.0.sizes s kept id me.0 at retired refl),
@@ -211,7 +210,7 @@ check_allowed sizes size id me some_seats =
     let word = pin_word (me.0.passed + 1) in
     allowed_by sizes size id me word (λ n. n) (has_checked (step size word 0 0 none) me)
     some_seats
-    (λ s kept epochs retired counted linked at. (
+    (λ s kept epochs retired owed linked at. (
     let x = goes_by me s kept id at epochs (is_in me.0.epoch (pin_of (slice_index s.words word))) refl in
     let same = sym (set-get_or s.words word 0) in (
       x.0,
@@ -219,8 +218,7 @@ check_allowed sizes size id me some_seats =
       subst (λ ws. AreEpochs ws (set s.views id x.0)) same x.1.1,
       subst (λ ws. AreRetired me.0.sizes ws (set s.views id x.0)) same
           (retired_then s.views id me.0 at x.0 x.1.2.0 (λ p is. sym x.1.2.1 ∙ is) me.0.sizes s.words s.words (omega arith) retired),
-      subst (λ ws. AreCounted me.0.sizes ws (set s.views id x.0)) same
-          (counted_then s.views id me.0 at x.0 x.1.2.2 me.0.sizes s.words s.words (λ c is. refl) counted),
+      owed_same s.views id me.0 at x.0 x.1.2.2 x.1.2.1 x.1.2.0 owed,
       subst (λ ws. AreLinked me.0.sizes ws (set s.views id x.0)) same
           (linked_then s.views id me.0 at x.0 x.1.2.3 (λ y c. subst (λ xs. Contains xs y) (sym x.1.2.0) c) me.0.sizes s.words s.words (λ c is. refl) linked),
       x.1.3,
@@ -269,13 +267,12 @@ advance_allowed sizes size id me some_seats epoch its all =
     subst (λ e. Allows (IsRuled sizes) size id me epoch_word (λ n. either (n == e) (e + 1) n) (has_advanced (step size epoch_word e (e + 1) none) me)) its
     (allowed_by sizes size id me epoch_word (λ n. either (n == me.0.epoch) (me.0.epoch + 1) n) (has_advanced (step size epoch_word me.0.epoch (me.0.epoch + 1) none) me)
     some_seats
-    (λ s kept epochs retired counted linked at. (let x = grows_or_not me all s kept id at epochs in (
+    (λ s kept epochs retired owed linked at. (let x = grows_or_not me all s kept id at epochs in (
       x.0,
       x.1.0,
       x.1.1,
       retired_then s.views id me.0 at x.0 x.1.2.1 (λ p is. sym x.1.2.2 ∙ is) me.0.sizes s.words _ x.1.2.0 retired,
-      counted_then s.views id me.0 at x.0 x.1.2.3 me.0.sizes s.words _
-          (λ c is. get_or-set_other s.words epoch_word c _ 0 (count_not_epoch me.0.sizes c is)) counted,
+      owed_same s.views id me.0 at x.0 x.1.2.3 x.1.2.2 x.1.2.1 owed,
       linked_then s.views id me.0 at x.0 x.1.2.4 (λ y c. subst (λ xs. Contains xs y) (sym x.1.2.1) c) me.0.sizes s.words _
           (λ c is. ap link_in (get_or-set_other s.words epoch_word c _ 0 (count_not_epoch me.0.sizes c is))) linked,
       x.1.3,

@@ -14,7 +14,10 @@ use Rattle.lock_free.proofs.Assembling.{AllStand, all_stand, assembled, closing_
 use Rattle.lock_free.proofs.Framing.{else_word, no_slot, nodes_below, roots_below}
 use Rattle.lock_free.proofs.Geometry.{IsWordOf, root_not_epoch}
 use Rattle.lock_free.proofs.Meanings.{no_tries}
+use Rattle.lock_free.proofs.PlainStay.{plain_elsewhere}
 use Rattle.lock_free.proofs.Seats.{Stays, StaysSpare, names_kept, other_kept, own_else, ran_so}
+use Rattle.lock_free.proofs.HeldStill.{held_words}
+use Rattle.lock_free.proofs.CountWords.{count_not_epoch}
 
 module _ (sizes : Sizes) (s : Table.State Call View) (kept : IsKept sizes s) (id : ℕ) (v : View) (at : get_elem? s.views id ≡ some v) (x : ℕ) where
   abbrev all : AllStand sizes kept.account kept.stands s.words
@@ -80,6 +83,7 @@ module _ (sizes : Sizes) (s : Table.State Call View) (kept : IsKept sizes s) (id
     still_open = λ other w at_w g entered e. e;
     taken = taken_then;
     spare = λ other w b name e apart free. stays_spare other w b name e free;
+    plain = plain_elsewhere sizes kept.account s.words grown root_same;
   }
 
   own_then : IsSeat sizes kept.account kept.stands grown v
@@ -96,3 +100,4 @@ module _ (sizes : Sizes) (s : Table.State Call View) (kept : IsKept sizes s) (id
       (λ g who below says. closing_stays sizes s kept id v at v refl refl (λ h e. e) refl g who (kept.closings g who below (subst (λ n. SaysClosing n who) (root_same g below) says))) own_then
       (other_kept sizes s kept id v at kept.account kept.stands grown stays) (λ b name f. inl f)
       (numbers_stay sizes s kept id v at v refl refl kept.account grown (no_tries kept.account.offers now) (λ slot none. none) root_same refl (λ slot g e free. free))
+      (held_words sizes s kept id v at v refl refl refl epoch_word x (λ c is. count_not_epoch sizes c is))

@@ -12,13 +12,15 @@ use Rattle.machine_model.specs.declared.operations.Operation.{Operation}
 use Rattle.lock_free.specs.declared.accounts.Account.{Account}
 use Rattle.lock_free.specs.declared.rules.View.{View}
 use Rattle.lock_free.specs.declared.sizes.Sizes.{Sizes}
-use Rattle.lock_free.specs.Accounts.{running, gone_on}
+use Rattle.machine_model.specs.Operations.{action_of}
+use Rattle.lock_free.specs.Accounts.{running, gone_on, state_of}
 use Rattle.lock_free.specs.Loading.{seen, IsSound, Took, has_gone}
 use Rattle.lock_free.specs.Places.{words_of}
 use Rattle.lock_free.specs.Rules.{IsKept, IsRuled}
 use Rattle.lock_free.specs.Steps.{Reads}
 use Rattle.lock_free.proofs.Assembling.{AllStand}
 use Rattle.lock_free.proofs.Keeping.{keys_gone, kept_then}
+use Rattle.lock_free.proofs.Lettings.{TakesNone}
 use Rattle.lock_free.proofs.Moments.{free_inside, took_by}
 
 -- ---- what an exchange writes
@@ -53,10 +55,11 @@ module _ (v : View) (s : Table.State Call View) (kept : IsKept v.sizes s) (id : 
   pub words_miss : slice_index s.words word ≢ old → s.words ≡ words_then
   words_miss differs = sym (ap (set s.words word) (either_miss (slice_index s.words word) old new differs) ∙ set-get_or s.words word 0)
 
-  pub missed : (o : Operation) → running v.sizes kept.account v.actor o → Reads v.sizes kept.account v.actor o → slice_index s.words word ≢ old → Leaves
-  missed o runs reads differs = (
+  pub missed : (o : Operation) → running v.sizes kept.account v.actor o → Reads v.sizes kept.account v.actor o →
+      TakesNone kept.stands (state_of v.sizes kept.account) o (action_of (state_of v.sizes kept.account) o) → slice_index s.words word ≢ old → Leaves
+  missed o runs reads takes differs = (
     subst (λ ws. IsKept v.sizes (record { words = ws; homes = s.homes; views = set s.views id (seen v (gone_on v.actor kept.account)) })) (words_miss differs)
-        (kept_then v.sizes s kept id v at o runs reads),
+        (kept_then v.sizes s kept id v at o runs reads takes),
     (
       record {
         size = refl;

@@ -69,7 +69,7 @@ follows_self v = record {
 
 pub follows_both : (u v w : View) → Follows u v → Follows v w → Follows u w
 follows_both u v w p q = record {
-  is = q.is ∙ ap (λ (x : View). record x { account = w.account; epoch = w.epoch; passed = w.passed; pool = w.pool; drafts = w.drafts; retired = w.retired; links = w.links }) p.is;
+  is = q.is ∙ ap (λ (x : View). record x { account = w.account; epoch = w.epoch; passed = w.passed; pool = w.pool; drafts = w.drafts; retired = w.retired; owed = w.owed; links = w.links }) p.is;
   places = λ r slot used. (let x = p.nodes r slot used in q.places r x.0 x.1 ∙ p.places r slot used);
   owns = λ a b c h. q.owns a b c (p.owns a b c h);
   nodes = λ r slot used. (let x = p.nodes r slot used in let y = q.nodes r x.0 x.1 in (y.0, y.1, same_both slot.node x.0.node y.0.node x.2 y.2));
@@ -79,7 +79,7 @@ follows_both u v w p q = record {
 pub follows_later : (v w : View) → Later v w → Follows v w
 follows_later v w l = record {
   is = l.is
-      ∙ ap (λ (x : View). record v { account = w.account; epoch = x.epoch; passed = x.passed; pool = x.pool; drafts = x.drafts; retired = x.retired; links = x.links }) (sym l.is);
+      ∙ ap (λ (x : View). record v { account = w.account; epoch = x.epoch; passed = x.passed; pool = x.pool; drafts = x.drafts; retired = x.retired; owed = x.owed; links = x.links }) (sym l.is);
   places = l.places;
   owns = l.owns;
   nodes = l.nodes;

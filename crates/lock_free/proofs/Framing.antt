@@ -15,10 +15,10 @@ use Rattle.lock_free.specs.declared.accounts.Known.{Known}
 use Rattle.lock_free.specs.declared.sizes.Sizes.{Sizes}
 use Rattle.lock_free.specs.Accounts.{state_of, place_at}
 use Rattle.lock_free.specs.Nodes.{StandsAs, AreEntries, InTable, entry_word, class_of}
-use Rattle.lock_free.specs.Places.{first_slot_word, words_in, slots_in, class_for, IsTaken, HaveTaken, taken_word, generation_word, root_word, pin_word}
+use Rattle.lock_free.specs.Places.{first_slot_word, words_in, words_of, slots_in, class_for, IsSlot, IsTaken, HaveTaken, taken_word, generation_word, root_word, pin_word}
 use Rattle.lock_free.specs.Roots.{MeansRoot, IsWritten, AreMarked, fate}
 use Rattle.lock_free.specs.Rules.{Standing, Stands, NodesStand, RootsStand, IsSpare}
-use Rattle.lock_free.proofs.Geometry.{IsWordOf, slots_apart, above, inside, root_below}
+use Rattle.lock_free.proofs.Geometry.{IsWordOf, slot_end, slots_apart, above, inside, root_below}
 use Rattle.lock_free.proofs.Assembling.{AllStand}
 use Rattle.lock_free.proofs.Fates.{fate_said}
 use Rattle.lock_free.proofs.Meanings.{means_kept, marks_kept, pending_kept, no_tries}
@@ -32,7 +32,7 @@ room_by n position true twelve a b most low = grind (arith, a, most, low)
 room_by n position false true a b most low = grind (arith, a, b, most, low)
 room_by n position false false a b most low = grind (arith, a, b, most, low)
 
-entry_inside : (n name position : ℕ) → n ≤ 32 → position < n → IsWordOf (class_for n) name (entry_word name position)
+pub entry_inside : (n name position : ℕ) → n ≤ 32 → position < n → IsWordOf (class_for n) name (entry_word name position)
 entry_inside n name position most low =
     let room = room_by n position (nat_le n 2) (nat_le n 12) refl refl most low in
     record { low = omega arith; high = omega (arith, room) }
@@ -53,7 +53,7 @@ class_below n = by (nat_le n 2) (nat_le n 12)
     by false true = omega arith
     by false false = omega arith
 
-first_inside : (n name : ℕ) → IsWordOf (class_for n) name (2 * name)
+pub first_inside : (n name : ℕ) → IsWordOf (class_for n) name (2 * name)
 first_inside n name = let some = class_has n in record { low = omega arith; high = omega (arith, some) }
 
 pub class_small : (node : Node) → class_of node < 3
@@ -62,6 +62,10 @@ class_small (Single key value) = omega arith
 class_small (Tomb single) = omega arith
 class_small (Branch bitmap entries) = class_below (length entries.items)
 class_small (Listed singles) = class_below (length singles.items)
+
+-- all words of a node's slot are the table's
+pub node_end : (sizes : Sizes) (node : Node) (name : ℕ) → IsSlot sizes (class_of node) name → 2 * name + words_in (class_of node) ≤ words_of sizes
+node_end sizes node name h = slot_end sizes (class_of node) name (class_small node) h
 
 pub has_words : (class : ℕ) → class < 3 → 0 < words_in class
 has_words zero low = omega arith
@@ -74,7 +78,7 @@ first_word node name = let some = has_words (class_of node) (class_small node) i
 
 -- ---- a store to a spare slot's word
 
-got_within : {A : Type 0} (xs : List A) (n : ℕ) (x : A) → slice_get xs n ≡ Some x → n < length xs
+pub got_within : {A : Type 0} (xs : List A) (n : ℕ) (x : A) → slice_get xs n ≡ Some x → n < length xs
 got_within [] n x e = absurd (none-some x e)
 got_within (y ∷ ys) zero x e = omega arith
 got_within (y ∷ ys) (suc n) x e = let h = got_within ys n x e in omega (arith, h)

@@ -12,12 +12,12 @@ use Rattle.lock_free.specs.declared.accounts.Account.{Account}
 use Rattle.lock_free.specs.declared.rules.View.{View}
 use Rattle.lock_free.specs.declared.sizes.Sizes.{Sizes}
 use Rattle.lock_free.specs.Accounts.{bounds_for, HasWaited}
-use Rattle.lock_free.specs.Finishing.{seen_by, HasHeard, HasHeardMore, IsTold}
+use Rattle.lock_free.specs.Finishing.{seen_by, unoffered, HasHeard, HasHeardMore, IsTold}
 use Rattle.lock_free.specs.Rules.{first_account, IsKept, IsRuled}
 use Rattle.lock_free.proofs.AnswersTold.{never_told, others_say_nothing}
 use Rattle.lock_free.proofs.Hearing.{still_heard}
 use Rattle.lock_free.proofs.HistoriesOn.{histories_go_on}
-use Rattle.lock_free.proofs.Waiting.{waited_both}
+use Rattle.lock_free.proofs.Waiting.{both_unoffered, waited_both, waited_unoffered}
 
 pub none_rest : {X : Type 0} (rest : List X) (n : ℕ) → n ≡ length rest → n ≡ 0 → rest ≡ []
 none_rest [] n is none = refl
@@ -36,7 +36,7 @@ all_heard of v w xs x all more one =
 
 -- all that the seat has seen has happened; its actor has taken no step since, and those after it never one
 record Rests (sizes : Sizes) (account : Account) (w : View) : Type 0 where
-  waited : HasWaited w.actor w.account account
+  waited : HasWaited w.actor (unoffered w.account) account
   rested : (a : ℕ) → w.actor < a → a ≤ w.last → HasWaited a (first_account sizes) account
 
 module _ (law : EveryOrderIsLegal) (sizes : Sizes) (s : Table.State Call View) (ruled : IsRuled sizes s) where
@@ -52,7 +52,7 @@ module _ (law : EveryOrderIsLegal) (sizes : Sizes) (s : Table.State Call View) (
     explained = law (bounds_for sizes kept.account.steps) kept.account.steps kept.bounds kept.keys;
     told = λ k d low. histories_go_on sizes (get_or views k d).account kept.account (bounds_of (get_or views k d).account)
         ((rest k d low).waited.steps, (rest k d low).waited.goes_on);
-    talks = λ k d low. others_say_nothing (get_or views k d).actor sizes (get_or views k d).account kept.account (bounds_of (get_or views k d).account) (rest k d low).waited;
+    talks = λ k d low. others_say_nothing (get_or views k d).actor sizes (unoffered (get_or views k d).account) kept.account (bounds_of (get_or views k d).account) (rest k d low).waited;
     rested = λ k d low a above below. never_told a sizes kept.account (bounds_of (first_account sizes)) ((rest k d low).rested a above below);
   }
 
@@ -61,18 +61,18 @@ module _ (law : EveryOrderIsLegal) (sizes : Sizes) (s : Table.State Call View) (
     last_rests w more =
         let seat = kept.seats id v at in
         record {
-          waited = subst (λ (x : View). HasWaited x.actor x.account kept.account) more.is seat.waited;
+          waited = waited_unoffered w.actor w.account kept.account (subst (λ (x : View). HasWaited x.actor x.account kept.account) more.is seat.waited);
           rested = subst (λ (x : View). (a : ℕ) → x.actor < a → a ≤ x.last → HasWaited a (first_account sizes) kept.account) more.is seat.rested;
         }
 
     heard_rests : (w : View) → HasHeard v w → Rests sizes kept.account w
     heard_rests w h =
-        let g = ruled.heard id v at (seen_by w h.account) h.it in
+        let g = ruled.heard id v at (seen_by w (unoffered h.account)) h.it in
         let seat = kept.seats g.id g.view g.at in
         record {
           waited =
-              waited_both w.actor w.account h.account kept.account h.waited
-              (subst (λ n. HasWaited n h.account kept.account) g.actor (subst (λ x. HasWaited g.view.actor x kept.account) g.account seat.waited));
+              waited_both w.actor (unoffered w.account) (unoffered h.account) kept.account (both_unoffered w.actor w.account h.account h.waited)
+              (subst (λ n. HasWaited n (unoffered h.account) kept.account) g.actor (subst (λ x. HasWaited g.view.actor x kept.account) g.account seat.waited));
           rested = λ a above below. seat.rested a (subst (λ n. n < a) (sym g.actor) above) (subst (λ n. a ≤ n) (sym g.last) below);
         }
 

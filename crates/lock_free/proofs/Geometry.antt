@@ -2,7 +2,7 @@
 use Rattle.std.proofs.Common.{◌≡◌, ◌≢◌, ◌+◌, ◌*◌, ◌<◌, ◌≤◌, ℕ, zero, suc, List, refl, ap, subst, arith, if◌then◌else◌}
 use Rattle.std.proofs.lemmas.Bool.{ne_eqb}
 use Rattle.lock_free.specs.declared.sizes.Sizes.{Sizes}
-use Rattle.lock_free.specs.Places.{epoch_word, part_of, stride, words_in, slots_in, first_slot_word, words_of, root_word, IsTaken, HaveTaken}
+use Rattle.lock_free.specs.Places.{epoch_word, part_of, stride, words_in, slots_in, first_slot_word, words_of, root_word, IsSlot, IsTaken, HaveTaken}
 
 -- the word is one of the slot's
 pub record IsWordOf (class name i : ℕ) : Type 0 where
@@ -70,6 +70,12 @@ module _ (sizes : Sizes) (words : List ℕ) (have : HaveTaken sizes words) where
   inside class name i small t w = inside_by class i small (lies class name i small t w)
 
 -- all of a slot's words are the table's
+pub slot_end : (sizes : Sizes) (class name : ℕ) → class < 3 → IsSlot sizes class name → 2 * name + words_in class ≤ words_of sizes
+slot_end sizes zero name low h = omega (arith, h.few, h.first)
+slot_end sizes (suc zero) name low h = omega (arith, h.few, h.first)
+slot_end sizes (suc (suc zero)) name low h = omega (arith, h.few, h.first)
+slot_end sizes (suc (suc (suc class))) name low h = absurd (omega (arith, low))
+
 pub end_inside : (sizes : Sizes) (words : List ℕ) (have : HaveTaken sizes words) (class name : ℕ) → class < 3 → IsTaken sizes words class name → 2 * name + words_in class ≤ words_of sizes
 end_inside sizes words have zero name small t = let h = inside sizes words have 0 name (2 * name + 1) small t (record { low = omega arith; high = omega arith }) in omega (arith, h)
 end_inside sizes words have (suc zero) name small t = let h = inside sizes words have 1 name (2 * name + 6) small t (record { low = omega arith; high = omega arith }) in omega (arith, h)

@@ -1,7 +1,7 @@
 -- A load lets a seat's operation give up.
 use Rattle.history.specs.declared.calls.Call.{Call}
 use Rattle.history.specs.declared.replies.Reply.{Reply}
-use Rattle.std.proofs.Common.{◌≤◌, ◌≡◌, ◌<◌, ℕ, Bool, set, Some, refl, sym, ap, subst, ◌∙◌, arith, inr}
+use Rattle.std.proofs.Common.{◌≤◌, ◌≡◌, ◌<◌, ℕ, Bool, if◌then◌else◌, set, Some, refl, sym, ap, subst, ◌∙◌, arith, inr}
 use Rattle.std.proofs.lemmas.List.{set-get_or}
 use Rattle.std.proofs.lemmas.Option.{same_Some}
 use mathlib.Core.Option.{some, none}
@@ -13,20 +13,29 @@ use Rattle.machine_model.specs.declared.operations.Operation.{Operation}
 use Rattle.machine_model.specs.declared.steps.Step.TheVariants as machine
 use Rattle.machine_model.specs.GivingUp.{gave_up, given_up}
 use Rattle.machine_model.specs.Operations.{action_of}
+use Rattle.machine_model.specs.States.{operation_of}
 use Rattle.lock_free.specs.declared.accounts.Account.{Account}
 use Rattle.lock_free.specs.declared.rules.View.{View}
 use Rattle.lock_free.specs.declared.sizes.Sizes.{Sizes}
-use Rattle.lock_free.specs.Accounts.{running}
+use Rattle.lock_free.specs.Accounts.{running, state_of}
 use Rattle.lock_free.specs.Beginning.{taking}
 use Rattle.lock_free.specs.Calling.{GaveUp, HasGivenUp, MayGiveUp, once_given_up, has_given_up}
 use Rattle.lock_free.specs.Loading.{now, seen, IsAt, IsSound, Runs, Waited}
 use Rattle.lock_free.specs.Places.{epoch_word, words_of}
-use Rattle.lock_free.specs.Rules.{IsKept, IsRuled}
+use Rattle.lock_free.specs.Rules.{AreOwed, AreRetired, IsKept, IsRuled}
 use Rattle.lock_free.specs.Steps.{Leads}
 use Rattle.lock_free.proofs.Asked.{is_one_of}
-use Rattle.lock_free.proofs.Abandoned.{abandon_kept, abandon_sound}
-use Rattle.lock_free.proofs.Moments.{allowed, waited_so}
-use Rattle.lock_free.proofs.OneStep.GivesUp.{gives_up}
+use Rattle.lock_free.proofs.Abandoned.{abandon_kept, abandon_sound, owed_abandoned}
+use Rattle.lock_free.proofs.Moments.{allowed_giving, waited_so}
+use Rattle.lock_free.proofs.OneStep.GivesUp.{gives_up, is_taken}
+use Rattle.proof_claims.specs.Changes as changes
+use Rattle.proof_claims.specs.Changes.{change_giving_up, change_of}
+use Rattle.proof_claims.specs.Held.{held_after}
+use Rattle.lock_free.specs.Claims.{held_now}
+use Rattle.lock_free.proofs.OneStep.HeldLonger.{held_next}
+use Rattle.lock_free.proofs.HoldsGifts.{holds_given_up}
+use Rattle.lock_free.specs.LettingGo.{HoldsGivenUp}
+use Rattle.lock_free.specs.Owing.{owes_given_up}
 
 module _ (v : View) (operation : Operation) (answer : Reply) (runs : Runs v operation) (may : given_up operation.call operation.line ≡ Some answer) (s : Table.State Call View)
     (kept : IsKept v.sizes s) (id : ℕ) (at : get_elem? s.views id ≡ some v) where
@@ -49,11 +58,24 @@ module _ (v : View) (operation : Operation) (answer : Reply) (runs : Runs v oper
   abbrev pub after : View
   after = once_given_up v there operation.private
 
+  gives : held_now v.sizes (taking (machine.GiveUp v.actor) there) ≡ held_after (changes.given_up o.private) (held_now v.sizes there)
+  gives =
+      let held = held_now v.sizes there in
+      held_next v.sizes there.steps kept.bounds (machine.GiveUp v.actor)
+      ∙ ap (λ b. if b then held_after (change_giving_up (operation_of (state_of v.sizes there) v.actor)) held else held) (is_taken v.sizes there kept.bounds v.actor o stays.1 answer may kept.quiet)
+      ∙ ap (λ x. held_after (change_giving_up x) held) stays.1
+
+  changes_so : change_of (state_of v.sizes there) (held_now v.sizes there) (machine.GiveUp v.actor) ≡ changes.given_up o.private
+  changes_so = ap change_giving_up stays.1
+
   pub kept_after : IsKept v.sizes (record { words = s.words; homes = s.homes; views = set s.views id after })
-  kept_after = abandon_kept v s kept id at o (gave_up o answer) stays.1 (machine.GiveUp v.actor) tt (λ a differs e. differs (sym e)) leads refl refl
+  kept_after = abandon_kept v s kept id at o (gave_up o answer) stays.1 (machine.GiveUp v.actor) tt (λ a differs e. differs (sym e)) leads refl refl refl gives changes_so
 
   pub sound_after : IsSound (words_of v.sizes) after
-  sound_after = abandon_sound v s kept id at o (gave_up o answer) stays.1 (machine.GiveUp v.actor) tt (λ a differs e. differs (sym e)) leads refl refl
+  sound_after = abandon_sound v s kept id at o (gave_up o answer) stays.1 (machine.GiveUp v.actor) tt (λ a differs e. differs (sym e)) leads refl refl refl gives changes_so
+
+  owed_after : AreRetired v.sizes s.words s.views → AreOwed s.views → AreOwed (set s.views id after)
+  owed_after = owed_abandoned v s kept id at o (gave_up o answer) stays.1 (machine.GiveUp v.actor) tt (λ a differs e. differs (sym e)) leads refl refl refl gives changes_so
 
   -- whichever operation the seat's is said to be
   pub has_given_up_so : HasGivenUp v after
@@ -64,6 +86,8 @@ module _ (v : View) (operation : Operation) (answer : Reply) (runs : Runs v oper
         account = there;
         waited = waits;
         after_is = ap (λ (x : Operation). once_given_up v there x.private) (sym same);
+        holds = subst (λ ks. HoldsGivenUp v other (owes_given_up v there ks)) (ap (λ (x : Operation). x.private) same)
+            (holds_given_up v s kept id at (record other { is_marked = mark }) is);
         runs = (
           stays.0,
           leads.own ∙ ap (λ (x : Operation). Some (gave_up (record x { is_marked = stays.0 }) answer)) (sym same)
@@ -74,7 +98,7 @@ module _ (v : View) (operation : Operation) (answer : Reply) (runs : Runs v oper
 pub give_up_allowed : (sizes : Sizes) (size id : ℕ) (me : Me Call View) (some_seats : 1 ≤ me.0.sizes.seats) → MayGiveUp me.0 →
     Allows (IsRuled sizes) size id me epoch_word (λ n. n) (has_given_up (step size epoch_word 0 0 none) me)
 give_up_allowed sizes size id me some_seats (operation, answer, runs, may) =
-    allowed sizes size id me epoch_word (λ n. n) (has_given_up (step size epoch_word 0 0 none) me)
+    allowed_giving sizes size id me epoch_word (λ n. n) (has_given_up (step size epoch_word 0 0 none) me)
     some_seats (λ s kept at. inr refl)
     (λ s kept at. (
       after me.0 operation answer runs may s kept id at,
@@ -82,7 +106,7 @@ give_up_allowed sizes size id me some_seats (operation, answer, runs, may) =
           (kept_after me.0 operation answer runs may s kept id at),
       (has_given_up_so me.0 operation answer runs may s kept id at, sound_after me.0 operation answer runs may s kept id at, refl),
     ))
-    (λ s kept at. refl)
+    (λ s kept at. refl) (λ s kept at retired owed. owed_after me.0 operation answer runs may s kept id at retired owed)
 
 -- the word is one of the table's
 pub epoch_inside : (words : ℕ) (v : View) → IsSound words v → epoch_word < words

@@ -18,6 +18,7 @@ module _ (views : List View) (id : ℕ) (v : View) (at : get_elem? views id ≡ 
     actor = g.actor;
     last = g.last;
     account = g.account;
+    bare = g.bare;
   }
     where
       apart : g.id ≡ id → ⊥

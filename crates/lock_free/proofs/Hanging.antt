@@ -1,12 +1,14 @@
 -- Slots that hang in a chain hang there still where none of their links changes; and names of slots that are left.
-use Rattle.std.proofs.Common.{◌≡◌, ◌≢◌, ◌<◌, ◌++◌, inl, inr, ℕ, zero, suc, List, [], ◌∷◌, Contains, Option, Some, None, if◌then◌else◌, sym, ap, subst, ◌∙◌, arith, ne_eqb}
-use Rattle.std.proofs.lemmas.List.Elements.{Contains-append_left, Contains-append_right, Contains-append_cases}
+use Rattle.std.proofs.Common.{◌≡◌, ◌≢◌, ◌<◌, ◌++◌, inl, inr, ℕ, zero, suc, Bool, true, false, cond, filter, map, List, [], ◌∷◌, Contains, Option, Some, None, if◌then◌else◌, sym, ap, subst}
+use Rattle.std.proofs.Common.{◌∙◌, arith, ne_eqb}
+use Rattle.std.proofs.lemmas.List.Elements.{All-contains, All-filter, All-contains_itself, Contains-append_left, Contains-append_right, Contains-append_cases}
 use Rattle.lock_free.specs.declared.rules.Retired.{Retired}
 use Rattle.lock_free.specs.declared.sizes.Sizes.{Sizes}
-use Rattle.lock_free.specs.Limbos.{Hangs, link_to, linked_by}
+use Rattle.lock_free.specs.Limbos.{Hangs, link_to, linked_by, names}
 use Rattle.lock_free.specs.Places.{count_word, IsSlot}
 use Rattle.lock_free.specs.Rules.{Once}
-use Rattle.lock_free.proofs.Pools.{first_or_more, first_there, more_there}
+use Rattle.lock_free.proofs.Idle.{empty_has}
+use Rattle.lock_free.proofs.Pools.{contains_map, first_or_more, first_there, mapped, more_there}
 
 abbrev pub word_of : Sizes → Retired → ℕ
 word_of sizes x = count_word sizes x.class x.name
@@ -59,3 +61,31 @@ once_out (x ∷ xs) n ys h =
         | inr more ↦ below.1 more
       ],
     )
+
+-- of these no two have one name
+pub one_named : (xs : List Retired) → Once (names xs) → (x y : Retired) → Contains xs x → Contains xs y → x.name ≡ y.name → x ≡ y
+one_named [] h x y cx cy e = absurd (empty_has x cx)
+one_named (z ∷ xs) h x y cx cy e = elim (first_or_more z xs x cx) [
+  | inl first ↦ elim (first_or_more z xs y cy) [
+    | inl other ↦ first ∙ sym other
+    | inr more ↦ absurd (h.0 (subst (Contains (names xs)) (sym e ∙ ap (λ (r : Retired). r.name) first) (contains_map (λ (r : Retired). r.name) xs y more)))
+  ]
+  | inr more ↦ elim (first_or_more z xs y cy) [
+    | inl other ↦ absurd (h.0 (subst (Contains (names xs)) (e ∙ ap (λ (r : Retired). r.name) other) (contains_map (λ (r : Retired). r.name) xs x more)))
+    | inr others ↦ one_named xs h.1 x y more others e
+  ]
+]
+
+-- no number stands twice in what is left
+pub once_left : (of : Retired → ℕ) (f : Retired → Bool) (xs : List Retired) → Once (map of xs) → Once (map of (filter f xs))
+once_left of f [] h = tt
+once_left of f (x ∷ xs) h = by (f x) (once_left of f xs h.1)
+  where
+    fewer : (n : ℕ) → Contains (map of (filter f xs)) n → Contains (map of xs) n
+    fewer n c =
+        let (y, there, is) = mapped of (filter f xs) n c in
+        subst (Contains (map of xs)) is (contains_map of xs y (All-contains (Contains xs) (filter f xs) y (All-filter f (Contains xs) xs (All-contains_itself xs)) there))
+
+    by : (b : Bool) → Once (map of (filter f xs)) → Once (map of (cond b (x ∷ filter f xs) (filter f xs)))
+    by true rest = ((λ c. h.0 (fewer (of x) c)), rest)
+    by false rest = rest

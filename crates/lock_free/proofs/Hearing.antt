@@ -1,31 +1,36 @@
 -- A seat hears of another one, which is given up.
 use Rattle.history.specs.declared.calls.Call.{Call}
-use Rattle.std.proofs.Common.{◌≡◌, ◌≢◌, ◌≤◌, ℕ, inl, inr, List, [], ◌∷◌, Contains, set, slice_index, refl, sym, ap, subst, ◌∙◌, arith}
+use Rattle.std.proofs.Common.{◌≡◌, ◌≢◌, ◌≤◌, ℕ, inl, inr, List, [], ◌∷◌, Contains, None, set, slice_index, refl, sym, ap, subst, ◌∙◌, arith}
 use Rattle.std.proofs.lemmas.List.{set-get_or}
+use Rattle.std.proofs.lemmas.Option.{none-some}
 use mathlib.Core.Option.{Option, some, none}
 use lib.ListN.{get_elem?}
 use Rattle.atomic_table.specs.Table as Table
 use Rattle.atomic_table.specs.Table.{Me, Act, gives, keeps, chain, carried_after, homes_after, Valid, Allows, Joins, step}
 use Rattle.atomic_table.proofs.Lists.{at_set, set_else}
 use Rattle.lock_free.proofs.CountWords.{count_same}
-use Rattle.lock_free.proofs.CountsStay.{counted_then}
-use Rattle.lock_free.proofs.LinksStay.{linked_then}
+use Rattle.lock_free.proofs.OwedStay.{owed_same, owed_then}
+use Rattle.lock_free.proofs.LinksStay.{Knew, knew_none, knew_then, linked_then, links_stay}
 use Rattle.lock_free.specs.Links.{link_in}
 use Rattle.lock_free.proofs.EpochStays.{IsAsWas, Was, epochs_stay, stays_elsewhere, was_one, was_then}
 use Rattle.lock_free.specs.declared.rules.Heard.{Heard}
 use Rattle.lock_free.specs.declared.rules.View.{View}
 use Rattle.lock_free.specs.declared.sizes.Sizes.{Sizes}
 use Rattle.lock_free.specs.Accounts.{state_of}
-use Rattle.lock_free.specs.Finishing.{gone, has_emptied, hearing, no_sizes, seen_by, HasHeard, HasHeardMore}
+use Rattle.lock_free.specs.Finishing.{gone, has_emptied, hearing, seen_by, unoffered, HasHeard, HasHeardMore}
 use Rattle.lock_free.specs.Loading.{HasSeen, IsSound}
-use Rattle.lock_free.specs.Rules.{IsSeat, IsKept, IsRuled, WasGivenUp}
+use Rattle.lock_free.specs.Rules.{IsFree, IsSeat, IsKept, IsRuled, WasGivenUp}
 use Rattle.lock_free.proofs.Assembling.{all_stand, closing_stays, here, numbers_stay, assembled}
 use Rattle.lock_free.proofs.GivenBack.{first_or}
 use Rattle.lock_free.proofs.GoneSeats.{given_up_still, heard_still}
 use Rattle.lock_free.proofs.Meanings.{no_tries}
 use Rattle.lock_free.proofs.Moments.{seen_view, seen_kept}
-use Rattle.lock_free.proofs.RetiredStay.{epoch_still, retired_then}
+use Rattle.lock_free.proofs.Idle.{empty_has, none_free, none_twice}
+use Rattle.lock_free.proofs.RetiredStay.{Retires, epoch_still, retired_stay, retired_then, retires_none, retires_then}
 use Rattle.lock_free.proofs.Pools.{first_there, more_there}
+use Rattle.lock_free.proofs.HeldStill.{held_fewer, held_views}
+use Rattle.lock_free.proofs.Waiting.{waited_unoffered}
+use Rattle.lock_free.proofs.LinesStay.{lines_idle, unpinned_idle}
 
 -- ---- the rule
 
@@ -51,20 +56,20 @@ homed sizes s kept homes = record {
   alone = kept.alone;
   pools = kept.pools;
   numbers = kept.numbers;
+  held = kept.held;
 }
 
--- nor of whom a seat has heard, nor of the sizes of one that is given up
-module _ (sizes : Sizes) (s : Table.State Call View) (kept : IsKept sizes s) (id : ℕ) (v : View) (at : get_elem? s.views id ≡ some v) (its_sizes : Sizes) (heard : List Heard)
-    (same : 1 ≤ its_sizes.seats → its_sizes ≡ sizes) where
+-- nor of whom a seat has heard
+module _ (sizes : Sizes) (s : Table.State Call View) (kept : IsKept sizes s) (id : ℕ) (v : View) (at : get_elem? s.views id ≡ some v) (heard : List Heard) where
   abbrev later : View
-  later = record v { sizes = its_sizes; heard = heard }
+  later = record v { heard = heard }
 
   mine : IsSeat sizes kept.account kept.stands s.words v
   mine = kept.seats id v at
 
   later_seat : IsSeat sizes kept.account kept.stands s.words later
   later_seat = record {
-    same = same;
+    same = mine.same;
     low = mine.low;
     top = mine.top;
     most = mine.most;
@@ -83,6 +88,7 @@ module _ (sizes : Sizes) (s : Table.State Call View) (kept : IsKept sizes s) (id
     spare = mine.spare;
     once = mine.once;
     drafts = mine.drafts;
+    plain = mine.plain;
   }
 
   later_kept : IsKept sizes (record { words = s.words; homes = s.homes; views = set s.views id later })
@@ -91,12 +97,57 @@ module _ (sizes : Sizes) (s : Table.State Call View) (kept : IsKept sizes s) (id
       (λ handle who low says. closing_stays sizes s kept id v at later refl refl (λ h e. e) refl handle who (kept.closings handle who low says)) later_seat
       (λ other w e apart. kept.seats other w e) (λ b n f. inl f)
       (numbers_stay sizes s kept id v at later refl refl kept.account s.words (no_tries kept.account.offers (state_of sizes kept.account)) (λ slot none. none) (λ handle low. refl) refl
-      (λ slot handle e free. free))
+      (λ slot handle e free. free)) (held_views sizes s kept id v at later refl refl refl)
+
+-- nor of the slots of a seat that is given up while it rests
+module _ (sizes : Sizes) (s : Table.State Call View) (kept : IsKept sizes s) (id : ℕ) (v : View) (at : get_elem? s.views id ≡ some v) (unpinned : v.pin ≡ None) (opens_none : v.opens ≡ None) where
+  abbrev emptied : View
+  emptied = gone v
+
+  its : IsSeat sizes kept.account kept.stands s.words v
+  its = kept.seats id v at
+
+  pub nothing_free : (b name : ℕ) → IsFree emptied b name → ⊥
+  nothing_free = none_free sizes v.actor v.last v.account
+
+  left_seat : IsSeat sizes kept.account kept.stands s.words emptied
+  left_seat = record {
+    same = λ some_seats. absurd (omega (arith, some_seats));
+    low = its.low;
+    top = its.top;
+    most = its.most;
+    waited = waited_unoffered v.actor v.account kept.account its.waited;
+    counts = its.counts;
+    rested = its.rested;
+    rests = its.rests;
+    pinned = its.pinned;
+    pinned_idle = its.pinned_idle;
+    retired = λ x c. absurd (empty_has x c);
+    entered = its.entered;
+    calls = its.calls;
+    opens = its.opens;
+    opening = λ handle slot o n. absurd (none-some handle (sym opens_none ∙ o));
+    reserves = its.reserves;
+    spare = λ b name f. absurd (nothing_free b name f);
+    once = none_twice sizes v.actor v.last v.account;
+    drafts = λ d c. absurd (empty_has d c);
+    plain = its.plain;
+  }
+
+  left_kept : IsKept sizes (record { words = s.words; homes = s.homes; views = set s.views id emptied })
+  left_kept =
+      assembled sizes s kept id v at emptied refl refl kept.account kept.stands s.words (all_stand sizes s kept)
+      (λ handle who low says. closing_stays sizes s kept id v at emptied refl refl (λ h e. e) refl handle who (kept.closings handle who low says)) left_seat
+      (λ other w e apart. kept.seats other w e) (λ b n f. absurd (nothing_free b n f))
+      (numbers_stay sizes s kept id v at emptied refl refl kept.account s.words (no_tries kept.account.offers (state_of sizes kept.account)) (λ slot none. none) (λ handle low. refl) refl
+      (λ slot handle o free. absurd (none-some handle (sym opens_none ∙ o))))
+      (held_fewer sizes s kept id v at emptied refl (λ k. omega arith) (λ k c. absurd (empty_has k c)) (λ n. omega arith) (λ y c. absurd (empty_has y c))
+      (lines_idle sizes s kept id v at kept.account emptied (λ a differs. refl) (unpinned_idle sizes s kept id v at unpinned)) s.words (λ c is. refl))
 
 -- ---- the one hears of the other
 
-module _ (sizes : Sizes) (id : ℕ) (v : View) (some_v : 1 ≤ v.sizes.seats) (other : ℕ) (w : View) (some_w : 1 ≤ w.sizes.seats) (s : Table.State Call View) (ruled : IsRuled sizes s)
-    (at : get_elem? s.views id ≡ some v) (apart : other ≢ id) (e : get_elem? (set s.views id (hearing v w)) other ≡ some w) where
+module _ (sizes : Sizes) (id : ℕ) (v : View) (some_v : 1 ≤ v.sizes.seats) (other : ℕ) (w : View) (some_w : 1 ≤ w.sizes.seats) (rests : (w.pin ≡ None) × (w.opens ≡ None))
+    (s : Table.State Call View) (ruled : IsRuled sizes s) (at : get_elem? s.views id ≡ some v) (apart : other ≢ id) (e : get_elem? (set s.views id (hearing v w)) other ≡ some w) where
   abbrev there : Table.State Call View
   there = record { words = s.words; homes = s.homes; views = set s.views id (hearing v w) }
 
@@ -104,15 +155,15 @@ module _ (sizes : Sizes) (id : ℕ) (v : View) (some_v : 1 ≤ v.sizes.seats) (o
   views_then = set (set s.views id (hearing v w)) other (gone w)
 
   kept_there : IsKept sizes there
-  kept_there = later_kept sizes s ruled.kept id v at v.sizes (seen_by w w.account ∷ v.heard) (ruled.kept.seats id v at).same
+  kept_there = later_kept sizes s ruled.kept id v at (seen_by w (unoffered w.account) ∷ v.heard)
 
   kept_then : IsKept sizes (record { words = s.words; homes = s.homes; views = views_then })
-  kept_then = later_kept sizes there kept_there other w e no_sizes w.heard (λ some_seats. absurd (omega (arith, some_seats)))
+  kept_then = left_kept sizes there kept_there other w e rests.0 rests.1
 
   old : (h : Heard) → WasGivenUp s.views h → WasGivenUp views_then h
   old h g = given_up_still (set s.views id (hearing v w)) other w e some_w (gone w) h (given_up_still s.views id v at some_v (hearing v w) h g)
 
-  new : (h : Heard) → seen_by w w.account ≡ h → WasGivenUp views_then h
+  new : (h : Heard) → seen_by w (unoffered w.account) ≡ h → WasGivenUp views_then h
   new h same = record {
     id = other;
     view = gone w;
@@ -121,6 +172,7 @@ module _ (sizes : Sizes) (id : ℕ) (v : View) (some_v : 1 ≤ v.sizes.seats) (o
     actor = ap (λ (x : Heard). x.actor) same;
     last = ap (λ (x : Heard). x.last) same;
     account = ap (λ (x : Heard). x.account) same;
+    bare = (refl, refl, refl, refl);
   }
 
   was_there : get_elem? s.views other ≡ some w
@@ -130,7 +182,7 @@ module _ (sizes : Sizes) (id : ℕ) (v : View) (some_v : 1 ≤ v.sizes.seats) (o
   heard_then k x f h c = elim (at_set (set s.views id (hearing v w)) other k (gone w) x f) [
     | inl p ↦ old h (ruled.heard other w was_there h (subst (λ (y : View). Contains y.heard h) (sym p.1) c))
     | inr p ↦ elim (at_set s.views id k (hearing v w) x p.1) [
-      | inl q ↦ elim (first_or (seen_by w w.account) v.heard h (subst (λ (y : View). Contains y.heard h) (sym q.1) c)) [
+      | inl q ↦ elim (first_or (seen_by w (unoffered w.account)) v.heard h (subst (λ (y : View). Contains y.heard h) (sym q.1) c)) [
         | inl same ↦ new h same
         | inr before ↦ old h (ruled.heard id v at h before)
       ]
@@ -142,15 +194,10 @@ module _ (sizes : Sizes) (id : ℕ) (v : View) (some_v : 1 ≤ v.sizes.seats) (o
   heard_ruled = record {
     kept = kept_then;
     epochs = epochs_stay s.words s.words s.views views_then refl (λ k x f. was k x f) ruled.epochs;
-    retired =
-        retired_then (set s.views id (hearing v w)) other w e (gone w) refl (λ p is. is) sizes s.words s.words (omega arith)
-        (retired_then s.views id v at (hearing v w) refl (λ p is. is) sizes s.words s.words (omega arith) ruled.retired);
-    counted =
-        counted_then (set s.views id (hearing v w)) other w e (gone w) refl sizes s.words s.words (λ c is. refl)
-        (counted_then s.views id v at (hearing v w) refl sizes s.words s.words (λ c is. refl) ruled.counted);
-    linked =
-        linked_then (set s.views id (hearing v w)) other w e (gone w) refl (λ x c. c) sizes s.words s.words (λ c is. refl)
-        (linked_then s.views id v at (hearing v w) refl (λ x c. c) sizes s.words s.words (λ c is. refl) ruled.linked);
+    retired = retired_stay sizes s.words s.words s.views views_then (omega arith) retires ruled.retired;
+    owed = owed_then (set s.views id (hearing v w)) other w e (gone w) (λ k c. absurd (empty_has k c)) (λ x c. absurd (empty_has x c))
+        (owed_same s.views id v at (hearing v w) refl refl refl ruled.owed);
+    linked = links_stay sizes s.words s.words s.views views_then (λ c is. refl) knows ruled.linked;
     heard = heard_then;
   }
     where
@@ -160,8 +207,21 @@ module _ (sizes : Sizes) (id : ℕ) (v : View) (some_v : 1 ≤ v.sizes.seats) (o
         | inr p ↦ was_then s.views id v at (hearing v w) (record { actor = refl; epoch = refl; passed = refl; pinned = λ q e. e }) k x p.1
       ]
 
-pub hearing_joins : (sizes : Sizes) (id : ℕ) (v : View) → 1 ≤ v.sizes.seats → (other : ℕ) (w : View) → 1 ≤ w.sizes.seats → Joins (IsRuled sizes) id v other w (hearing v w) (gone w)
-hearing_joins sizes id v some_v other w some_w s ruled at apart e = heard_ruled sizes id v some_v other w some_w s ruled at apart e
+      retires : (k : ℕ) (x : View) → get_elem? views_then k ≡ some x → Retires s.views k x
+      retires k x f = elim (at_set (set s.views id (hearing v w)) other k (gone w) x f) [
+        | inl p ↦ retires_none (ap (λ (y : View). y.retired) (sym p.1)) (ap (λ (y : View). y.pin) (sym p.1) ∙ rests.0)
+        | inr p ↦ retires_then s.views id v at (hearing v w) refl (λ q is. is) k x p.1
+      ]
+
+      knows : (k : ℕ) (x : View) → get_elem? views_then k ≡ some x → Knew s.views x
+      knows k x f = elim (at_set (set s.views id (hearing v w)) other k (gone w) x f) [
+        | inl p ↦ knew_none (ap (λ (y : View). y.links) (sym p.1))
+        | inr p ↦ knew_then s.views id v at (hearing v w) refl (λ y c. c) k x p.1
+      ]
+
+pub hearing_joins : (sizes : Sizes) (id : ℕ) (v : View) → 1 ≤ v.sizes.seats → (other : ℕ) (w : View) → 1 ≤ w.sizes.seats → (w.pin ≡ None) × (w.opens ≡ None) →
+    Joins (IsRuled sizes) id v other w (hearing v w) (gone w)
+hearing_joins sizes id v some_v other w some_w rests s ruled at apart e = heard_ruled sizes id v some_v other w some_w rests s ruled at apart e
 
 -- ---- a seat gives back whatever slots it has
 
@@ -200,9 +260,7 @@ module _ (sizes : Sizes) (size id : ℕ) (me : Me Call View) (word : ℕ) (some_
           retired =
               retired_then s.views id me.0 at view refl (λ p is. is) sizes s.words (set s.words word (slice_index s.words word))
               (epoch_still s.words (set s.words word (slice_index s.words word)) (stays_elsewhere s.words word (λ n. n) (inr refl))) ruled.retired;
-          counted =
-              counted_then s.views id me.0 at view refl sizes s.words (set s.words word (slice_index s.words word))
-              (count_same sizes word (λ n. n) s.words (inr refl)) ruled.counted;
+          owed = owed_same s.views id me.0 at view refl refl refl ruled.owed;
           linked =
               linked_then s.views id me.0 at view refl (λ x c. c) sizes s.words (set s.words word (slice_index s.words word))
               (λ c is. ap link_in (count_same sizes word (λ n. n) s.words (inr refl) c is)) ruled.linked;
@@ -216,19 +274,23 @@ module _ (sizes : Sizes) (size id : ℕ) (me : Me Call View) (word : ℕ) (some_
 pub emptied_some : (w : View) (word found : ℕ) (left : View) → HasSeen w word found left → 1 ≤ w.sizes.seats → 1 ≤ left.sizes.seats
 emptied_some w word found left (m, is) some_seats = subst (λ (x : View). 1 ≤ x.sizes.seats) (sym is) some_seats
 
+-- it rests still
+pub emptied_rests : (w : View) (word found : ℕ) (left : View) → HasSeen w word found left → (w.pin ≡ None) × (w.opens ≡ None) → (left.pin ≡ None) × (left.opens ≡ None)
+emptied_rests w word found left (m, is) rests = subst (λ (x : View). (x.pin ≡ None) × (x.opens ≡ None)) (sym is) rests
+
 pub has_heard : (v w : View) (word found : ℕ) (left : View) → HasSeen w word found left → (after : View) → after ≡ hearing v left → HasHeard after w
 has_heard v w word found left (m, is) after heard = record {
   account = m.kept.account;
   it =
-      subst (λ (x : View). Contains x.heard (seen_by w m.kept.account)) (sym (heard ∙ ap (hearing v) is))
-      (first_there (seen_by w m.kept.account) v.heard);
+      subst (λ (x : View). Contains x.heard (seen_by w (unoffered m.kept.account))) (sym (heard ∙ ap (hearing v) is))
+      (first_there (seen_by w (unoffered m.kept.account)) v.heard);
   waited = (m.kept.seats m.id w m.at).waited;
 }
 
 pub has_heard_more : (v left after : View) → after ≡ hearing v left → HasHeardMore v after
 has_heard_more v left after heard = record {
   is = heard ∙ ap (λ (x : View). record v { heard = x.heard }) (sym heard);
-  all = λ h c. subst (λ (x : View). Contains x.heard h) (sym heard) (more_there (seen_by left left.account) v.heard h c);
+  all = λ h c. subst (λ (x : View). Contains x.heard h) (sym heard) (more_there (seen_by left (unoffered left.account)) v.heard h c);
 }
 
 -- ---- more and more
@@ -237,7 +299,7 @@ pub heard_both : (u v w : View) → HasHeardMore u v → HasHeardMore v w → Ha
 heard_both u v w p q = record { is = q.is ∙ ap (λ (x : View). record x { heard = w.heard }) p.is; all = λ h c. q.all h (p.all h c) }
 
 pub still_heard : (v w other : View) → HasHeardMore v w → HasHeard v other → HasHeard w other
-still_heard v w other more h = record { account = h.account; it = more.all (seen_by other h.account) h.it; waited = h.waited }
+still_heard v w other more h = record { account = h.account; it = more.all (seen_by other (unoffered h.account)) h.it; waited = h.waited }
 
 pub heard_sound : (n : ℕ) (v w : View) → HasHeardMore v w → IsSound n v → IsSound n w
 heard_sound n v w more s =

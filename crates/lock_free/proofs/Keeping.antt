@@ -32,22 +32,32 @@ use Rattle.lock_free.specs.declared.rules.Retired.{Retired}
 use Rattle.lock_free.specs.declared.rules.View.{View}
 use Rattle.lock_free.specs.declared.sizes.Sizes.{Sizes}
 use Rattle.lock_free.specs.Accounts.{state_of, place_at, place_of, HasGrown, HasWaited, IsOfOther, gone_on}
+use Rattle.lock_free.specs.Owing.{owing}
+use Rattle.lock_free.specs.Holdings.{AreHeld}
 use Rattle.lock_free.specs.Live.{IsLive}
+use Rattle.machine_model.specs.Operations.{action_of}
 use Rattle.lock_free.specs.Nodes.{StandsAs, class_of, IsAhead, IsOver, is_single, SaysPrevious, decided, ahead, pending, failed, SaysHeader, SaysShape, of_branch, of_tomb, of_list, IsEntryOf}
 use Rattle.lock_free.specs.Nodes.{AreEntries, half_of, InTable}
 use Rattle.lock_free.specs.Roots.{MeansRoot, IsWritten, second_of, fate}
-use Rattle.lock_free.specs.Reclaiming.{retiring}
-use Rattle.lock_free.specs.Rules.{Standing, Stands, NodesStand, RootsStand, Once, pool_of, IsFree, IsSpare, IsSeat, IsKept, WasGarbage}
+use Rattle.lock_free.specs.Reclaiming.{retiring, retiring_all}
+use Rattle.lock_free.specs.Rules.{Standing, Stands, NodesStand, RootsStand, Once, pool_of, IsFree, IsRetired, IsSpare, IsSeat, IsKept, WasGarbage}
 use Rattle.lock_free.specs.Steps.{Dropped, nothing, Leads, Reads}
 use Rattle.lock_free.proofs.OwnBits.{own_longer}
 use Rattle.lock_free.proofs.Assembling.{AllStand, closing_stays, numbers_stay, assembled}
 use Rattle.lock_free.proofs.Meanings.{means_kept, marks_kept, stood_still}
+use Rattle.lock_free.proofs.PlainStay.{plain_running}
 use Rattle.lock_free.proofs.Seats.{ran_so, numbers_so, Stays, other_kept, own_kept, drafts_kept}
-use Rattle.lock_free.proofs.RetiredMore.{seat_retiring}
+use Rattle.lock_free.proofs.RetiredMore.{seat_retiring, seat_retiring_all}
+use Rattle.lock_free.proofs.HeldStep.{going_less}
+use Rattle.lock_free.proofs.HeldLeads.{held_leads}
+use Rattle.lock_free.proofs.Lettings.{TakesNone, private_fewer, none_made}
+use Rattle.lock_free.proofs.SeatOwing.{seat_owing}
 use Rattle.lock_free.proofs.Owners.{owners_kept}
 use Rattle.lock_free.proofs.Fates.{fate_kept, words_same}
 use Rattle.lock_free.proofs.OneStep.Reached.{reached_kept}
 use Rattle.lock_free.proofs.Waiting.{waited_more, quiet_more, other_quiet}
+use Rattle.lock_free.proofs.LinesStay.{going_owes}
+use Rattle.lock_free.proofs.LetGoSince.{going_let_go}
 
 -- an operation's step names no key
 pub keys_gone : (steps : List Step) (actor : ℕ) → KeysFit steps → KeysFit (steps ++ step.Go actor ∷ [])
@@ -172,7 +182,7 @@ module _ (sizes : Sizes) (s : Table.State Call View) (kept : IsKept sizes s) (id
     owners = owners_kept kept.account account_then now next_state refl refl leads.aheads kept.nodes.owners;
     owned = own_longer sizes kept.account account_then (taken ∷ []) refl refl kept.nodes.owned;
     live = live_stands;
-    reached = reached_kept sizes kept.account account_then taken refl kept.stands stands_then kept.nodes.reached live_stands
+    reached = reached_kept sizes kept.account account_then kept.bounds taken refl kept.stands stands_then kept.nodes.reached live_stands
         (λ r was h. live_then (dropped (slot_of r)) (slot_of r) refl (leads.reached r was) h);
   }
 
@@ -224,6 +234,7 @@ module _ (sizes : Sizes) (s : Table.State Call View) (kept : IsKept sizes s) (id
     still_open = λ other w at_w handle inside e. ap (λ rs. is_some (get_or rs handle None)) leads.roots ∙ e;
     taken = λ b name small h. h;
     spare = λ other w b name e apart free. (spare_then name ((kept.seats other w e).spare b name free).1, λ j its_word. refl);
+    plain = plain_running sizes kept.account account_then kept.bounds (taken ∷ []) refl s.words s.words v.actor operation runs;
   }
 
   -- what is free for the seat then was so before, or is the slot of a node that it gives up
@@ -272,29 +283,52 @@ module _ (sizes : Sizes) (s : Table.State Call View) (kept : IsKept sizes s) (id
         (λ handle slot o n. (n, λ x. (refl, more 1 slot x.free.0 x.free.1))) v.drafts spare_own once
         (λ d c. drafts_kept sizes s kept id v at account_then stands_then s.words stays view_then d (seat.drafts d c) (λ b name free. ((free.0, more b name free.0 free.1), λ j its_word. refl)))
 
-    -- the rule holds
-    pub drop_kept : IsKept sizes (record { words = s.words; homes = s.homes; views = set s.views id view_then })
-    drop_kept =
-        assembled sizes s kept id v at view_then refl refl account_then stands_then s.words all_then
-        (λ handle who low says. closing_stays sizes s kept id v at view_then refl refl (λ h e. e) refl handle who (kept.closings handle who low says)) own_then
+    -- the rule holds, where the seat holds these references then
+    pub drop_kept : (owed : List Ref) → AreHeld sizes account_then stands_then s.words (set s.views id (owing view_then owed)) → IsKept sizes
+        (record { words = s.words; homes = s.homes; views = set s.views id (owing view_then owed) })
+    drop_kept owed held =
+        let w = owing view_then owed in
+        assembled sizes s kept id v at w refl refl account_then stands_then s.words all_then
+        (λ handle who low says. closing_stays sizes s kept id v at w refl refl (λ h e. e) refl handle who (kept.closings handle who low says))
+        (seat_owing sizes account_then stands_then s.words view_then owed own_then)
         (other_kept sizes s kept id v at account_then stands_then s.words stays) not_others
-        (numbers_stay sizes s kept id v at view_then refl refl account_then s.words leads.tries (λ slot none. none) (λ handle low. refl) refl
-        (λ slot handle e free. (free.0, more 1 slot free.0 free.1)))
+        (numbers_stay sizes s kept id v at w refl refl account_then s.words leads.tries (λ slot none. none) (λ handle low. refl) refl
+        (λ slot handle e free. (free.0, more 1 slot free.0 free.1))) held
 
 -- ---- reads
 
 module _ (sizes : Sizes) (s : Table.State Call View) (kept : IsKept sizes s) (id : ℕ) (v : View) (at : get_elem? s.views id ≡ some v) (operation : Operation)
-    (runs : operation_of (state_of sizes kept.account) v.actor ≡ Some operation) (reads : Reads sizes kept.account v.actor operation) where
+    (runs : operation_of (state_of sizes kept.account) v.actor ≡ Some operation) (reads : Reads sizes kept.account v.actor operation)
+    (takes : TakesNone kept.stands (state_of sizes kept.account) operation (action_of (state_of sizes kept.account) operation)) where
   abbrev pub then_view : View
   then_view = record v { account = gone_on v.actor kept.account }
+
+  pub held_read : AreHeld sizes (gone_on v.actor kept.account) (standing kept.stands nothing) s.words (set s.views id then_view)
+  held_read =
+      held_leads sizes s kept id v at operation (operation_after (state_of sizes kept.account) operation) runs (step.Go v.actor) nothing reads (λ k here e. absurd (true≢false (sym e)))
+      (λ k e. absurd (true≢false (sym e))) (λ k c. private_fewer kept.stands (state_of sizes kept.account) operation (action_of (state_of sizes kept.account) operation) takes k c)
+      (going_less sizes s kept v.actor operation runs takes (gone_on v.actor kept.account) refl) (λ j k has stood. refl) (λ j k has. refl)
+      (going_let_go sizes s kept v.actor operation runs takes (gone_on v.actor kept.account) refl) then_view refl refl (λ k. omega arith) (λ k c. refl)
+      (λ k.
+      (let now = state_of sizes kept.account in
+      let old = kept.held.lines id v at operation runs k in
+      let less = going_owes sizes kept.account kept.bounds v.actor operation runs (none_made kept.stands now operation (action_of now operation) takes) k in omega (arith, old, less)))
 
   pub kept_then : IsKept sizes (record { words = s.words; homes = s.homes; views = set s.views id then_view })
   kept_then =
       drop_kept sizes s kept id v at operation (operation_after (state_of sizes kept.account) operation) runs (step.Go v.actor) tt (λ a differs e. differs (sym e)) nothing reads refl refl v.pool
-      (kept.seats id v at).once (λ b name small h. h) (λ b name small h. inl h)
+      (kept.seats id v at).once (λ b name small h. h) (λ b name small h. inl h) v.owed held_read
 
-  -- the same where the seat has retired one slot more
-  module _ (x : Retired) (was : WasGarbage sizes x) (grown : HasGrown x.account (gone_on v.actor kept.account)) (still : kept.stands x.number ≡ true) where
+  -- the same where the seat holds these references then
+  pub kept_owing : (owed : List Ref) → AreHeld sizes (gone_on v.actor kept.account) (standing kept.stands nothing) s.words (set s.views id (owing then_view owed)) → IsKept sizes
+      (record { words = s.words; homes = s.homes; views = set s.views id (owing then_view owed) })
+  kept_owing owed held =
+      drop_kept sizes s kept id v at operation (operation_after (state_of sizes kept.account) operation) runs (step.Go v.actor) tt (λ a differs e. differs (sym e)) nothing reads refl refl v.pool
+      (kept.seats id v at).once (λ b name small h. h) (λ b name small h. inl h) owed held
+
+  -- and has retired one slot more
+  module _ (owed : List Ref) (x : Retired) (was : WasGarbage sizes x) (grown : HasGrown x.account (gone_on v.actor kept.account)) (still : kept.stands x.number ≡ true)
+      (held : AreHeld sizes (gone_on v.actor kept.account) (standing kept.stands nothing) s.words (set s.views id (retiring (owing then_view owed) x))) where
     abbrev after : Account
     after = gone_on v.actor kept.account
 
@@ -304,6 +338,9 @@ module _ (sizes : Sizes) (s : Table.State Call View) (kept : IsKept sizes s) (id
     abbrev next : Operation
     next = operation_after (state_of sizes kept.account) operation
 
+    abbrev w : View
+    w = retiring (owing then_view owed) x
+
     gone_others : (a : ℕ) → a ≢ v.actor → IsOfOther a (step.Go v.actor)
     gone_others a differs e = differs (sym e)
 
@@ -311,12 +348,46 @@ module _ (sizes : Sizes) (s : Table.State Call View) (kept : IsKept sizes s) (id
     gone_seat =
         own_then sizes s kept id v at operation next runs (step.Go v.actor) tt gone_others nothing reads refl refl v.pool (kept.seats id v at).once (λ b name small h. h) (λ b name small h. inl h)
 
-    pub kept_retiring : IsKept sizes (record { words = s.words; homes = s.homes; views = set s.views id (retiring then_view x) })
+    pub kept_retiring : IsKept sizes (record { words = s.words; homes = s.homes; views = set s.views id (retiring (owing then_view owed) x) })
     kept_retiring =
-        assembled sizes s kept id v at (retiring then_view x) refl refl after after_stands s.words
+        assembled sizes s kept id v at w refl refl after after_stands s.words
         (all_then sizes s kept id v at operation next runs (step.Go v.actor) tt gone_others nothing reads refl refl)
-        (λ handle who low says. closing_stays sizes s kept id v at (retiring then_view x) refl refl (λ h e. e) refl handle who (kept.closings handle who low says))
-        (seat_retiring sizes after after_stands s.words then_view x (record { was = was; grown = grown; still = still }) gone_seat)
+        (λ handle who low says. closing_stays sizes s kept id v at w refl refl (λ h e. e) refl handle who (kept.closings handle who low says))
+        (seat_retiring sizes after after_stands s.words (owing then_view owed) x (record { was = was; grown = grown; still = still })
+        (seat_owing sizes after after_stands s.words then_view owed gone_seat))
         (other_kept sizes s kept id v at after after_stands s.words (stays sizes s kept id v at operation next runs (step.Go v.actor) tt gone_others nothing reads refl refl))
         (λ b name free. inl free)
-        (numbers_stay sizes s kept id v at (retiring then_view x) refl refl after s.words reads.tries (λ slot none. none) (λ handle low. refl) refl (λ slot handle e free. free))
+        (numbers_stay sizes s kept id v at w refl refl after s.words reads.tries (λ slot none. none) (λ handle low. refl) refl (λ slot handle e free. free)) held
+
+  -- the same of more than one
+  module _ (owed : List Ref) (xs : List Retired) (are : (x : Retired) → Contains xs x → IsRetired sizes (gone_on v.actor kept.account) (standing kept.stands nothing) x)
+      (held : AreHeld sizes (gone_on v.actor kept.account) (standing kept.stands nothing) s.words (set s.views id (retiring_all (owing then_view owed) xs))) where
+    abbrev account_after : Account
+    account_after = gone_on v.actor kept.account
+
+    abbrev stands_after : Standing
+    stands_after = standing kept.stands nothing
+
+    abbrev its_next : Operation
+    its_next = operation_after (state_of sizes kept.account) operation
+
+    abbrev view_after : View
+    view_after = retiring_all (owing then_view owed) xs
+
+    others_gone : (a : ℕ) → a ≢ v.actor → IsOfOther a (step.Go v.actor)
+    others_gone a differs e = differs (sym e)
+
+    seat_gone : IsSeat sizes account_after stands_after s.words then_view
+    seat_gone =
+        own_then sizes s kept id v at operation its_next runs (step.Go v.actor) tt others_gone nothing reads refl refl v.pool (kept.seats id v at).once (λ b name small h. h)
+        (λ b name small h. inl h)
+
+    pub kept_retiring_all : IsKept sizes (record { words = s.words; homes = s.homes; views = set s.views id (retiring_all (owing then_view owed) xs) })
+    kept_retiring_all =
+        assembled sizes s kept id v at view_after refl refl account_after stands_after s.words
+        (all_then sizes s kept id v at operation its_next runs (step.Go v.actor) tt others_gone nothing reads refl refl)
+        (λ handle who low says. closing_stays sizes s kept id v at view_after refl refl (λ h e. e) refl handle who (kept.closings handle who low says))
+        (seat_retiring_all sizes account_after stands_after s.words (owing then_view owed) xs are (seat_owing sizes account_after stands_after s.words then_view owed seat_gone))
+        (other_kept sizes s kept id v at account_after stands_after s.words (stays sizes s kept id v at operation its_next runs (step.Go v.actor) tt others_gone nothing reads refl refl))
+        (λ b name free. inl free)
+        (numbers_stay sizes s kept id v at view_after refl refl account_after s.words reads.tries (λ slot none. none) (λ handle low. refl) refl (λ slot handle e free. free)) held

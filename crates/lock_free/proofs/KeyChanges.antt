@@ -94,7 +94,7 @@ module _ (v : View) (task : Task) (t : IsTask v task) (slots : List ℕ) (some :
       subst (λ call. IsOn w (line.End (changed_reply call former))) (t.calls at.on.0 at.on.1).0
           (updated_commits v w former at.on.0 at.on.1 had h),
     )
-    gave w (Some Fails) h = (updated_runs_on v w former (Some Fails) h, updated_fails v w former at.on.0 at.on.1 h)
+    gave w (Some (Fails had)) h = (updated_runs_on v w former (Some (Fails had)) h, updated_fails v w former at.on.0 at.on.1 had h)
     gave w (Some Misses) h = (updated_runs_on v w former (Some Misses) h, updated_misses v w former at.on.0 at.on.1 h)
 
     pub gave_parked : (w : View) (s : Swapping) → LeavesSwap (IsUpdate former) v s w → HasAttempted v (attempt.Comes (came.Parked (parked.Changes s former))) w
@@ -140,9 +140,9 @@ module _ (v : View) (task : Task) (t : IsTask v task) (slots : List ℕ) (some :
       subst (λ call. IsOn w (line.End (changed_reply call (Some former)))) (t.calls at.on.0 at.on.1).0
           (changed_commits v w at.path at.main (change.Remove position) (Some former) at.on at.on.0 at.on.1 had h),
     )
-    removed w (Some Fails) h = (
-      changed_runs_on v w at.path at.main (change.Remove position) (Some former) at.on (Some Fails) h,
-      changed_fails v w at.path at.main (change.Remove position) (Some former) at.on at.on.0 at.on.1 h,
+    removed w (Some (Fails had)) h = (
+      changed_runs_on v w at.path at.main (change.Remove position) (Some former) at.on (Some (Fails had)) h,
+      changed_fails v w at.path at.main (change.Remove position) (Some former) at.on at.on.0 at.on.1 had h,
     )
     removed w (Some Misses) h = (
       changed_runs_on v w at.path at.main (change.Remove position) (Some former) at.on (Some Misses) h,

@@ -76,10 +76,10 @@ module _ (n : ℕ) (v : View) (sound : IsSound n v) (task : Task) (t : IsTask v 
     pub tomb_full : HasChanged v None w → HasAttempted v (attempt.Comes came.Spent) w
     tomb_full h = (changed_runs_on v w at.path at.main (change.Entomb at.other) (Some former) at.on None h, changed_full v w at.path at.main (change.Entomb at.other) (Some former) at.on h)
 
-    pub tomb_fails : HasChanged v (Some Fails) w → HasAttempted v attempt.Again w
-    tomb_fails h = (
-      changed_runs_on v w at.path at.main (change.Entomb at.other) (Some former) at.on (Some Fails) h,
-      changed_fails v w at.path at.main (change.Entomb at.other) (Some former) at.on first_on.0 first_on.1 h,
+    pub tomb_fails : (had : Retiree) → HasChanged v (Some (Fails had)) w → HasAttempted v attempt.Again w
+    tomb_fails had h = (
+      changed_runs_on v w at.path at.main (change.Entomb at.other) (Some former) at.on (Some (Fails had)) h,
+      changed_fails v w at.path at.main (change.Entomb at.other) (Some former) at.on first_on.0 first_on.1 had h,
     )
 
     pub tomb_misses : HasChanged v (Some Misses) w → HasAttempted v attempt.Again w

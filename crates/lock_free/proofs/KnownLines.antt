@@ -89,19 +89,19 @@ says_so account k node s t (of_list es) is = same_Some (shape.List (length es.it
 -- ---- so there is a place for the change
 
 module _ (n : ℕ) (v : View) (sound : IsSound n v) (name : Name) (what : Shape) (flag : ℕ) (e : Edit) (h : IsChanging v name what flag e) where
-  abbrev o0 : Operation
+  abbrev pub o0 : Operation
   o0 = record h.on.0 { is_marked = h.on.1.0 }
 
-  abbrev K : Known
+  abbrev pub K : Known
   K = known n v sound o0 h.on.1.1
 
-  change_known : KnowsChange K o0.call (depth_of h.path) h.main h.former h.its
+  pub change_known : KnowsChange K o0.call (depth_of h.path) h.main h.former h.its
   change_known = subst (KnowsLine K o0.call) h.on.2 (knows n v sound o0 h.on.1.1)
 
   main_used : IsInUse (now v).heap h.main
   main_used = safe_of (subst (λ l. AllHold (IsInUse (now v).heap) (now v).heap (line_wants v.sizes.hash o0.call o0.access l)) h.on.2 (claimed n v sound o0 h.on.1.1)).1.1.0
 
-  node_known : h.known.slot.node ≡ K.node h.main
+  pub node_known : h.known.slot.node ≡ K.node h.main
   node_known = sym (node_is (now v) h.main h.known.slot h.known.used) ∙ sym (under n v sound o0 h.on.1.1 h.main main_used)
 
   abbrev index : ℕ

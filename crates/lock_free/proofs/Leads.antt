@@ -31,6 +31,8 @@ use Rattle.lock_free.specs.SeenEntries.{entry_to, HasMadeNext, IsOver}
 use Rattle.lock_free.proofs.KeyMoves.{hash_is}
 use Rattle.lock_free.proofs.OnLines.{line_is}
 use Rattle.lock_free.proofs.Reachings.{reached_both, reached_on, reached_new, stopped_here, stopped_then, builder_then}
+use Rattle.lock_free.specs.Owing.{HoldsRaised}
+use Rattle.lock_free.proofs.RaisedLines.{raised_link, raised_rung}
 
 -- what isn't swapped in itself is decided
 pub over_none : (v : View) (l : Line) → IsOn v l → over_of l ≡ None → IsOver v previous.None
@@ -194,6 +196,9 @@ module _ (size : ℕ) (before : View) (by : Builder) (depth name0 : ℕ) (at : I
       pub makes_rung : (flag : ℕ) → flag ≡ flag_of by.hash (depth + by.depth - n) → MakesRung v flag name
       makes_rung flag is = rung_ready v by path main position its.link (depth + by.depth - n) there builder flag name is its.entry
 
+      pub rung_raised : HoldsRaised v
+      rung_raised = raised_rung v path main position its.link (depth + by.depth - n) there
+
       pub rung_none : (w : View) → HasMadeNext v None w → HasLinked before depth None w
       rung_none w made q m c k other =
           stopped_then before v w (line.Build (build.Rung path main position its.link (depth + by.depth - n))) on_rung
@@ -224,6 +229,9 @@ module _ (size : ℕ) (before : View) (by : Builder) (depth name0 : ℕ) (at : I
           new.placed,
           link_building w by path main position new.made (depth + by.depth - n) there_w builder_w,
         )
+
+        pub link_raised : HoldsRaised w
+        link_raised = raised_link w path main position new.made (depth + by.depth - n) there_w
 
         pub next_none : (x : View) → HasMadeNext w None x → HasLinked before depth None x
         next_none x none q m c k other =

@@ -136,7 +136,7 @@ module _ (n : ℕ) (v : View) (sound : IsSound n v) (handle name : ℕ) (w : Vie
 
     -- the one that is seen
     pub same_generation : generation_at state_w.heap found.root ≡ generation
-    same_generation = sym generation_then ∙ sym (generation_later w z later_z found.root (found.at.slot, found.at.used)) ∙ seen_it.1 found.root found.at
+    same_generation = sym generation_then ∙ sym (generation_later w z later_z found.root (found.at.slot, found.at.used)) ∙ seen_it.1 found.root found.at found.found
 
     abbrev told : Option ℕ
     told = Some (generation_at state_w.heap found.root)

@@ -8,16 +8,22 @@ use Rattle.lock_free.specs.Making.{with_slot}
 use Rattle.lock_free.specs.Reclaiming.{AddsRetired}
 use Rattle.lock_free.specs.Stocks.{Stocked, HoldsSlots, IsStock}
 use Rattle.lock_free.specs.Storing.{with_free}
+use Rattle.lock_free.proofs.KindsApart.{shallow_kind}
 
 pub limbo_stays : (limbo : Limbo) (v w : View) → hanging_of w ≡ hanging_of v → IsLimbo limbo v → IsLimbo limbo w
 limbo_stays limbo v w same h = subst (λ (p : Hanging). IsLimbo limbo (record w { epoch = p.3; sizes = p.0; retired = p.1; links = p.2 })) (sym same) (record {
-  young = h.young;
-  aged = h.aged;
-  is_young = record { hangs = h.is_young.hangs; stamps = h.is_young.stamps };
-  is_aged = record { hangs = h.is_aged.hangs; stamps = h.is_aged.stamps };
+  hung = λ what class low.
+      (let k = h.hung what class low in
+      record {
+        young = k.young;
+        aged = k.aged;
+        is_young = record { hangs = k.is_young.hangs; stamps = k.is_young.stamps };
+        is_aged = record { hangs = k.is_aged.hangs; stamps = k.is_aged.stamps };
+        once = k.once;
+        held = k.held;
+        all = k.all;
+      });
   once = h.once;
-  held = h.held;
-  all = h.all;
   slots = h.slots;
   seen = h.seen;
 })
@@ -40,6 +46,7 @@ newest_now limbo (Some r) v w h sizes links epoch (item, is, its) = record {
   item = item;
   its_class = its.0;
   its_name = its.1;
+  its_kind = shallow_kind w.sizes item its.2;
   rest = v.retired;
   is = is;
   hanging = limbo_stays limbo v (having_retired w v.retired)

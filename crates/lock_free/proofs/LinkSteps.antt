@@ -1,6 +1,6 @@
 -- The link of a slot that was retired is looked at, or is another one then.
 use Rattle.history.specs.declared.calls.Call.{Call}
-use Rattle.std.proofs.Common.{◌≡◌, ◌≢◌, ◌+◌, ◌-◌, ◌*◌, ◌<◌, ◌≤◌, ◌%◌, ◌^◌, ℕ, List, inl, inr, Contains, set, slice_index, refl, sym, ap, subst, ◌∙◌, arith}
+use Rattle.std.proofs.Common.{◌≡◌, ◌≢◌, ◌+◌, ◌-◌, ◌<◌, ◌≤◌, ◌%◌, ◌^◌, ℕ, List, inl, inr, Contains, set, slice_index, refl, sym, ap, subst, ◌∙◌, arith}
 use Rattle.std.proofs.lemmas.Bool.{cases_eq}
 use Rattle.std.proofs.lemmas.List.{get_or-set_same, get_or-set_other}
 use mathlib.Core.Option.{some, none}
@@ -11,16 +11,17 @@ use Rattle.atomic_table.specs.Table as Table
 use Rattle.lock_free.specs.declared.rules.Retired.{Retired}
 use Rattle.lock_free.specs.declared.rules.View.{View}
 use Rattle.lock_free.specs.declared.sizes.Sizes.{Sizes}
-use Rattle.lock_free.specs.Counts.{AreCounted, IsCount, extra, owed_on}
+use Rattle.lock_free.specs.Counts.{IsCount, references, references_in}
 use Rattle.lock_free.specs.Linking.{has_linked, has_seen_link, linking}
 use Rattle.lock_free.specs.Links.{AreLinked, IsLinked, link_in}
 use Rattle.lock_free.specs.Loading.{IsSound}
 use Rattle.lock_free.specs.Making.{with_draft}
 use Rattle.lock_free.specs.Places.{count_word}
-use Rattle.lock_free.specs.Rules.{AreEpochs, AreRetired, IsKept, IsRuled}
+use Rattle.lock_free.specs.Rules.{AreEpochs, AreOwed, AreRetired, IsKept, IsRuled}
 use Rattle.lock_free.proofs.CountKept.{count_kept}
 use Rattle.lock_free.proofs.CountWords.{count_inside, count_not_epoch}
-use Rattle.lock_free.proofs.CountsStay.{counts_stay, owed_set}
+use Rattle.lock_free.proofs.HeldStill.{held_then}
+use Rattle.lock_free.proofs.OwedStay.{owed_same}
 use Rattle.lock_free.proofs.Drafts.{which}
 use Rattle.lock_free.proofs.EpochStays.{epoch_in, epochs_stay, stays_elsewhere, was_then}
 use Rattle.lock_free.proofs.Moments.{allowed_by}
@@ -28,8 +29,8 @@ use Rattle.lock_free.proofs.RetiredSlots.{one_seat}
 use Rattle.lock_free.proofs.RetiredStay.{epoch_still, retired_then}
 
 module _ (v : View) (s : Table.State Call View) (kept : IsKept v.sizes s) (epochs : AreEpochs s.words s.views) (retired : AreRetired v.sizes s.words s.views)
-    (counted : AreCounted v.sizes s.words s.views) (linked : AreLinked v.sizes s.words s.views) (id : ℕ) (at : get_elem? s.views id ≡ some v) (x : Retired) (c : Contains v.retired x)
-    (word : ℕ) (is : IsCount v.sizes word) (its : word ≡ count_word v.sizes x.class x.name) (f : ℕ → ℕ) (low : f (slice_index s.words word) % 2 ^ 32 ≡ slice_index s.words word % 2 ^ 32) where
+    (owed : AreOwed s.views) (linked : AreLinked v.sizes s.words s.views) (id : ℕ) (at : get_elem? s.views id ≡ some v) (x : Retired) (c : Contains v.retired x)
+    (word : ℕ) (is : IsCount v.sizes word) (its : word ≡ count_word v.sizes x.class x.name) (f : ℕ → ℕ) (counts : references_in (f (slice_index s.words word)) ≡ references s.words word) where
   abbrev new : ℕ
   new = f (slice_index s.words word)
 
@@ -48,14 +49,11 @@ module _ (v : View) (s : Table.State Call View) (kept : IsKept v.sizes s) (epoch
   same_epoch : epoch_in words_then ≡ epoch_in s.words
   same_epoch = stays_elsewhere s.words word f (inl (count_not_epoch v.sizes word is))
 
-  same_extra : (other : ℕ) → extra words_then other ≡ extra s.words other
-  same_extra other = elim (cases_eq other word) [
-    | inl same ↦ subst (λ n. extra words_then n ≡ extra s.words n) (sym same) (ap (λ n. n % 2 ^ 32) is_new ∙ low)
-    | inr differs ↦ ap (λ n. n % 2 ^ 32) (is_old other differs)
+  same_references : (other : ℕ) → references words_then other ≡ references s.words other
+  same_references other = elim (cases_eq other word) [
+    | inl same ↦ subst (λ n. references words_then n ≡ references s.words n) (sym same) (ap references_in is_new ∙ counts)
+    | inr differs ↦ ap references_in (is_old other differs)
   ]
-
-  balance : (other : ℕ) → IsCount v.sizes other → owed_on other (set s.views id w) + extra s.words other ≤ owed_on other s.views + extra words_then other
-  balance other count = let all = owed_set other s.views id v at w in let same = same_extra other in omega (arith, all, same)
 
   -- ---- links
 
@@ -95,12 +93,13 @@ module _ (v : View) (s : Table.State Call View) (kept : IsKept v.sizes s) (epoch
   -- ---- all of it
 
   pub leaves : IsKept v.sizes (record { words = words_then; homes = s.homes; views = set s.views id w }) × AreEpochs words_then (set s.views id w)
-      × AreRetired v.sizes words_then (set s.views id w) × AreCounted v.sizes words_then (set s.views id w) × AreLinked v.sizes words_then (set s.views id w)
+      × AreRetired v.sizes words_then (set s.views id w) × AreOwed (set s.views id w) × AreLinked v.sizes words_then (set s.views id w)
   leaves = (
-    count_kept v.sizes s kept id v at word is new v.owed (with_draft v.links word (link_in new)),
+    count_kept v.sizes s kept id v at word is new v.owed (with_draft v.links word (link_in new))
+        (held_then v.sizes s kept id v at w refl refl refl words_then (λ other is_other. same_references other)),
     epochs_stay s.words words_then s.views (set s.views id w) same_epoch (was_then s.views id v at w (record { actor = refl; epoch = refl; passed = refl; pinned = λ p e. e })) epochs,
     retired_then s.views id v at w refl (λ p e. e) v.sizes s.words words_then (epoch_still s.words words_then same_epoch) retired,
-    counts_stay v.sizes s.words words_then s.views (set s.views id w) balance counted,
+    owed_same s.views id v at w refl refl refl owed,
     linked_then,
   )
 
@@ -111,18 +110,24 @@ pub see_link_allowed : (sizes : Sizes) (size id : ℕ) (me : Me Call View) (some
 see_link_allowed sizes size id me some_seats word is x c its =
     allowed_by sizes size id me word (λ n. n) (has_seen_link (step size word 0 0 none) me)
     some_seats
-    (λ s kept epochs retired counted linked at. (let y = leaves me.0 s kept epochs retired counted linked id at x c word is its (λ n. n) refl in
+    (λ s kept epochs retired owed linked at. (let y = leaves me.0 s kept epochs retired owed linked id at x c word is its (λ n. n) refl in
     (linking me.0 word (link_in (slice_index s.words word)), y.0, y.1, y.2, y.3, y.4, refl, refl)))
 
+-- the link that the seat knows becomes this one, and nothing else changes
+kept_by_link : (found known new : ℕ) → known < 2 ^ 32 → new < 2 ^ 32 → link_in found ≡ known → references_in ((found + (new + (2 ^ 64 - known)) % 2 ^ 64) % 2 ^ 64) ≡ references_in found
+kept_by_link found known new low fits is = omega (arith, low, fits, is)
+
 pub link_allowed : (sizes : Sizes) (size id : ℕ) (me : Me Call View) (some_seats : 1 ≤ me.0.sizes.seats) (word : ℕ) → IsCount me.0.sizes word → (known : ℕ) → Contains me.0.links (word, known) →
-    (change : ℕ) → change % 2 ^ 32 ≡ 0 → Allows (IsRuled sizes) size id me word (λ n. (n + change) % 2 ^ 64) (has_linked (step size word change 0 none) me)
-link_allowed sizes size id me some_seats word is known has change high =
+    (new change : ℕ) → known < 2 ^ 32 → new < 2 ^ 32 → change ≡ (new + (2 ^ 64 - known)) % 2 ^ 64 →
+    Allows (IsRuled sizes) size id me word (λ n. (n + change) % 2 ^ 64) (has_linked (step size word change 0 none) me)
+link_allowed sizes size id me some_seats word is known has new change low fits by =
     allowed_by sizes size id me word (λ n. (n + change) % 2 ^ 64) (has_linked (step size word change 0 none) me)
     some_seats
-    (λ s kept epochs retired counted linked at. (
+    (λ s kept epochs retired owed linked at. (
     let z = linked.linked id me.0 at (word, known) has in
     let found = slice_index s.words word in
-    let y = leaves me.0 s kept epochs retired counted linked id at z.item z.its word is z.word (λ n. (n + change) % 2 ^ 64) (omega (arith, high)) in
+    let y = leaves me.0 s kept epochs retired owed linked id at z.item z.its word is z.word (λ n. (n + change) % 2 ^ 64)
+    (ap (λ c. references_in ((found + c) % 2 ^ 64)) by ∙ kept_by_link found known new low fits z.is) in
     (linking me.0 word (link_in ((found + change) % 2 ^ 64)), y.0, y.1, y.2, y.3, y.4, refl, (λ old knows. (linked.linked id me.0 at (word, old) knows).is, refl))))
 
 pub linking_sound : (words : ℕ) (v : View) (word link : ℕ) → IsSound words v → IsSound words (linking v word link)
@@ -134,6 +139,5 @@ pub retired_word : (v : View) (sizes : Sizes) → v.sizes ≡ sizes → (x : Ret
     word ≡ count_word v.sizes x.class x.name
 retired_word v sizes same x class name c n word is = is ∙ ap (λ z. count_word z class name) (sym same) ∙ ap (λ z. count_word v.sizes z name) (sym c) ∙ ap (count_word v.sizes x.class) (sym n)
 
-pub new_link : (found old new change : ℕ) → found < 2 ^ 64 → old < 2 ^ 32 → new < 2 ^ 32 → link_in found ≡ old → change ≡ (new + (2 ^ 32 - old)) % 2 ^ 32 →
-    link_in ((found + change * 2 ^ 32) % 2 ^ 64) ≡ new
-new_link found old new change a b c d e = omega (arith, a, b, c, d, e)
+pub new_link : (found old new change : ℕ) → old < 2 ^ 32 → new < 2 ^ 32 → link_in found ≡ old → change ≡ (new + (2 ^ 64 - old)) % 2 ^ 64 → link_in ((found + change) % 2 ^ 64) ≡ new
+new_link found old new change low fits is by = omega (arith, low, fits, is, by)

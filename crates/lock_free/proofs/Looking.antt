@@ -222,6 +222,9 @@ module _ (before : View) (name word found : ℕ) (after : View) (h : HasSeen bef
   pub seen_main : word ≡ 2 * name → held_at (λ account state r. SaysMain account state r (header_of found))
   seen_main its r holds place = says_main before word found h.0 r (held r holds) (its ∙ ap (λ n. 2 * n) (sym place))
 
+  pub seen_link : word ≡ 2 * name → held_at (λ account state r. SaysLink account state r (link_of found))
+  seen_link its r holds place = says_link before word found h.0 r (held r holds) (its ∙ ap (λ n. 2 * n) (sym place))
+
   pub seen_key : word ≡ 2 * name → held_at (λ account state r. SaysKey state r found)
   seen_key its r holds place = says_key before word found h.0 r (held r holds) (its ∙ ap (λ n. 2 * n) (sym place))
 

@@ -1,5 +1,5 @@
 -- Words, steps and nodes once a node is made in a spare slot whose words have it.
-use Rattle.std.proofs.Common.{◌≡◌, ◌≢◌, ◌+◌, ◌*◌, ◌⊎◌, ℕ, ◌≤◌, inl, inr, Bool, true, List, [], ◌∷◌, ◌++◌, Contains, length, get_or, slice_index, Option, Some, None, refl, sym, ap, subst, ◌∙◌}
+use Rattle.std.proofs.Common.{◌≡◌, ◌≢◌, ◌⊎◌, ℕ, ◌≤◌, inl, inr, Bool, true, List, [], ◌∷◌, ◌++◌, Contains, length, get_or, slice_index, Option, Some, None, refl, sym, ap, subst, ◌∙◌}
 use Rattle.std.proofs.Common.{arith}
 use Rattle.std.proofs.Common.{length-append}
 use Rattle.std.proofs.lemmas.Bool.{cases_eq}
@@ -23,7 +23,7 @@ use Rattle.lock_free.specs.Accounts.{state_of, place_at, place_of}
 use Rattle.lock_free.specs.Nodes.{StandsAs, InTable, class_of}
 use Rattle.lock_free.specs.Making.{over_of, DraftsNode, made_at, refs_of_offer, Makes}
 use Rattle.lock_free.specs.Live.{IsLive}
-use Rattle.lock_free.specs.Places.{IsTaken, words_in, root_word, words_of, HaveTaken, generation_word}
+use Rattle.lock_free.specs.Places.{IsSlot, IsTaken, root_word, words_of, HaveTaken, generation_word}
 use Rattle.lock_free.specs.Roots.{MeansRoot, IsWritten, second_of, fate}
 use Rattle.lock_free.specs.Rules.{Standing, Stands, NodesStand, RootsStand, IsSpare}
 use Rattle.lock_free.specs.Trying.{as_before}
@@ -32,7 +32,7 @@ use Rattle.lock_free.proofs.OwnBits.{own_made}
 use Rattle.lock_free.proofs.Meanings.{means_kept, marks_kept, stood_still}
 use Rattle.lock_free.proofs.Assembling.{AllStand}
 use Rattle.lock_free.proofs.Framing.{class_small}
-use Rattle.lock_free.proofs.Geometry.{end_inside}
+use Rattle.lock_free.proofs.CountWords.{slot_taken}
 use Rattle.lock_free.proofs.Owners.{owners_made}
 use Rattle.lock_free.proofs.Made.{place_else, place_last, same_place, stands_too, stands_new, stands_else, stood_stands, new_stands}
 use Rattle.lock_free.proofs.Fates.{fate_kept, words_same}
@@ -107,14 +107,14 @@ module _ (sizes : Sizes) (account : Account) (actor : ℕ) (operation : Operatio
     inside = λ k slot e. elim (cases_eq k k0) [
       | inl new ↦
           (let is = same_Some makes.made slot (sym makes.stands ∙ ap (λ n. get_or (state_of sizes later).heap.slots n None) (sym new) ∙ e) in
-          subst (λ m. 2 * place_at later k + words_in (class_of m) ≤ words_of sizes) (new_node slot is)
-          (subst (λ p. 2 * p + words_in (class_of node) ≤ words_of sizes) (sym (place_new k new)) (end_inside sizes words all.taken (class_of node) name (class_small node) taken)))
-      | inr other ↦ subst (λ p. 2 * p + words_in (class_of slot.node) ≤ words_of sizes) (sym (place_old k other)) (all.nodes.inside k slot (sym (makes.nodes k other) ∙ e))
+          subst (λ m. IsSlot sizes (class_of m) (place_at later k)) (new_node slot is)
+          (subst (IsSlot sizes (class_of node)) (sym (place_new k new)) (slot_taken sizes words all.taken (class_of node) name (class_small node) taken)))
+      | inr other ↦ subst (IsSlot sizes (class_of slot.node)) (sym (place_old k other)) (all.nodes.inside k slot (sym (makes.nodes k other) ∙ e))
     ];
     owners = owners_made sizes account actor operation name own node more makes all.nodes.owners;
     owned = own_made sizes account actor operation name own node more makes all.counted all.nodes.owned owns;
     live = live_stands;
-    reached = reached_kept sizes account later (step.Go actor) refl stands later_stands all.nodes.reached live_stands (λ r was h. stands_by r h);
+    reached = reached_kept sizes account later all.bounds (step.Go actor) refl stands later_stands all.nodes.reached live_stands (λ r was h. stands_by r h);
   }
     where
       stands_by : (r : Ref) → stands (slot_of r) ≡ true → later_stands (slot_of r) ≡ true

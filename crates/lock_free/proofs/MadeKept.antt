@@ -27,6 +27,10 @@ use Rattle.lock_free.proofs.Geometry.{IsWordOf, slots_apart, inside, root_below}
 use Rattle.lock_free.proofs.Made.{stands_too}
 use Rattle.lock_free.proofs.MadeAll.{all_then, nodes_then, roots_then}
 use Rattle.lock_free.proofs.MadeSeats.{its_spare, made_kept}
+use Rattle.lock_free.specs.Counts.{references_in}
+use Rattle.lock_free.proofs.CountWords.{count_above}
+use Rattle.lock_free.proofs.HeldStep.{slot_beside}
+use Rattle.lock_free.proofs.MadeSeats.{Takes}
 
 -- what is written in the words that are meant is written in those that are there
 drafts_in : (account : Account) (heap : Heap) (over : Option (Ref × Ref)) (has there : Has) (name : ℕ) (own : Bool) (node : Node) → ((j w : ℕ) → has j w → there j w) →
@@ -95,10 +99,12 @@ module _ (sizes : Sizes) (s : Table.State Call View) (kept : IsKept sizes s) (id
         (subst (λ n. IsWordOf b other n) same its) inside_it).1)
 
     -- the rule holds
-    pub make_kept : IsKept sizes (record { words = words_then; homes = s.homes; views = set s.views id (made_by v (class_of node) name rest own node kept.account) })
-    make_kept =
+    pub make_kept : Takes sizes s kept id v at operation runs name own node 0 makes rest pool →
+        IsKept sizes (record { words = words_then; homes = s.homes; views = set s.views id (made_by v (class_of node) name rest own node kept.account) })
+    make_kept evidence =
         made_kept sizes s kept id v at operation runs name own node 0 makes rest pool words_then all_made (λ a most. low (pin_word a) (omega (arith, most)))
-        (λ handle below. (let where_it_is = root_below handle below in low (root_word handle) (omega (arith, where_it_is.1)))) still slot_same unopened
+        (λ handle below. (let where_it_is = root_below handle below in low (root_word handle) (omega (arith, where_it_is.1)))) still slot_same unopened evidence
+        (slot_beside sizes s kept (class_of node) name (class_small node) is_spare.0 last inside_it value)
 
   -- ---- by the exchange of the count of generations
 
@@ -147,9 +153,11 @@ module _ (sizes : Sizes) (s : Table.State Call View) (kept : IsKept sizes s) (id
         (λ handle low e. (let where_it_is = root_below handle low in absurd (omega (arith, e, where_it_is.0)))))
 
     -- the rule holds
-    pub make_root_kept : IsKept sizes (record { words = root_words; homes = s.homes; views = set s.views id (made_by v (class_of node) name rest own node kept.account) })
-    make_root_kept =
+    pub make_root_kept : Takes sizes s kept id v at operation runs name own node 1 makes rest pool →
+        IsKept sizes (record { words = root_words; homes = s.homes; views = set s.views id (made_by v (class_of node) name rest own node kept.account) })
+    make_root_kept evidence =
         made_kept sizes s kept id v at operation runs name own node 1 makes rest pool root_words root_made (λ a most. beside (pin_word a) (λ e. absurd (omega (arith, e))))
         (λ handle below. (let where_it_is = root_below handle below in beside (root_word handle) (λ e. absurd (omega (arith, e, where_it_is.0))))) root_taken
         (λ b other low differs taken j its. beside j (no_slot sizes kept.account kept.stands s.words kept.taken kept.nodes kept.roots generation_word before_slots
-        (given_out + 1) root_taken b other low taken j its)) unopened
+        (given_out + 1) root_taken b other low taken j its)) unopened evidence
+        (λ c is. ap references_in (beside c (λ same. (let far = count_above sizes c is in omega (arith, far, same)))))

@@ -51,7 +51,7 @@ use Rattle.lock_free.specs.Becoming.{line_made, made_on}
 -- ---- lines that make nothing
 
 module _ (state : State) where
-  read_none : (i : Ref) (l : ReadLine) → made_node state (read_action i l) ≡ None
+  pub read_none : (i : Ref) (l : ReadLine) → made_node state (read_action i l) ≡ None
   read_none i read.Main = refl
   read_none i (read.Prev main) = refl
   read_none i (read.AskRoot main previous) = refl
@@ -59,15 +59,15 @@ module _ (state : State) where
   read_none i (read.Decide main previous told) = refl
   read_none i (read.Restore main previous) = refl
 
-  complete_none : (offer : Descriptor) (l : CompleteLine) → made_node state (complete_action_at offer l) ≡ None
+  pub complete_none : (offer : Descriptor) (l : CompleteLine) → made_node state (complete_action_at offer l) ≡ None
   complete_none offer (complete.Reading l) = read_none offer.root l
   complete_none offer (complete.Swap main) = refl
 
-  root_none : (l : RootLine) → made_node state (root_action l) ≡ None
+  pub root_none : (l : RootLine) → made_node state (root_action l) ≡ None
   root_none root.Read = refl
   root_none (root.Completing c) = complete_none c.offer c.line
 
-  swap_none : (i a f : Ref) (l : SwapLine) → made_node state (action_at i a f l) ≡ None
+  pub swap_none : (i a f : Ref) (l : SwapLine) → made_node state (action_at i a f l) ≡ None
   swap_none i a f swap.Publish = refl
   swap_none i a f (swap.Deciding l) = read_none i l
   swap_none i a f swap.Check = refl

@@ -9,7 +9,7 @@ use Rattle.machine_model.specs.Beneath.slot_arena.specs.Heaps.{node_at}
 use Rattle.machine_model.specs.Beneath.slot_arena.specs.Refs.{slot_of}
 use Rattle.lock_free.specs.declared.accounts.Account.{Account}
 use Rattle.lock_free.specs.declared.rules.View.{View}
-use Rattle.lock_free.specs.Loading.{now, IsSound, IsUsed}
+use Rattle.lock_free.specs.Loading.{now, HasHeader, IsSound, IsUsed}
 use Rattle.lock_free.specs.Classes.{shape_class}
 use Rattle.lock_free.specs.Nodes.{class_of, SaysShape, of_branch, of_tomb, of_list}
 use Rattle.lock_free.specs.Passing.{KnowsMain}
@@ -27,6 +27,10 @@ module _ (n : ℕ) (v : View) (sound : IsSound n v) (main : Ref) where
   -- by its header
   pub class_known : (header : Header) → KnowsMain v main header → class_of (node_at (now v).heap main) ≡ shape_class header.shape
   class_known header k = ap class_of (node_is (now v) main k.slot k.used) ∙ class_in k.slot k.used v.account k.slot.node header.shape refl k.is_shape
+
+  -- the same where that one was read
+  pub header_class : (account : Account) (header : Header) → HasHeader account (now v) main header → class_of (node_at (now v).heap main) ≡ shape_class header.shape
+  header_class account header h = ap class_of (node_is (now v) main h.slot h.stores) ∙ class_in h.slot h.stores account h.slot.node header.shape refl h.is_shape
 
   -- by the bitmap of a branch
   pub branch_class : (bitmap : ℕ) → IsBranch v main bitmap → class_of (node_at (now v).heap main) ≡ class_for (count_ones bitmap)

@@ -1,6 +1,6 @@
 -- The last store in a free slot makes the node that is written there: the operation's step.
 use Rattle.history.specs.declared.calls.Call.{Call}
-use Rattle.std.proofs.Common.{◌≤◌, ◌≡◌, ◌≢◌, ◌*◌, ℕ, inl, inr, Bool, true, List, [], ◌∷◌, Contains, set, Option, Some, None, refl, sym, ap, subst, ◌∙◌, arith}
+use Rattle.std.proofs.Common.{◌≤◌, ◌≡◌, ◌≢◌, ◌*◌, ℕ, inl, inr, Bool, true, List, [], ◌∷◌, Contains, set, Option, Some, None, refl, sym, ap, subst, ◌∙◌, arith, length, ◌+◌}
 use Rattle.std.proofs.lemmas.List.Elements.{Contains-get_or, Contains-append_left, Contains-push}
 use Rattle.std.proofs.lemmas.Bool.{cases_eq}
 use Rattle.std.proofs.lemmas.Option.{same_Some}
@@ -22,7 +22,7 @@ use Rattle.lock_free.proofs.Geometry.{IsWordOf}
 use Rattle.lock_free.proofs.GivenBack.{node_is}
 use Rattle.lock_free.proofs.Made.{got_in}
 use Rattle.lock_free.proofs.MadeKept.{all_made, make_kept}
-use Rattle.lock_free.proofs.Moments.{allowed, waited_so, before, seat, live_place, still_own, free_inside, own_apart}
+use Rattle.lock_free.proofs.Moments.{allowed_owing, waited_so, before, seat, live_place, still_own, free_inside, own_apart}
 use Rattle.lock_free.proofs.Pools.{pool_same, pool_else}
 use Rattle.lock_free.proofs.OneStep.Openers.{openers_make_roots}
 use Rattle.machine_model.specs.Beneath.slot_arena.specs.declared.refs.Ref.{Ref}
@@ -35,7 +35,7 @@ use Rattle.machine_model.specs.States.{State}
 use Rattle.lock_free.specs.declared.accounts.Account.{Account}
 use Rattle.lock_free.specs.declared.rules.View.{View}
 use Rattle.lock_free.specs.declared.sizes.Sizes.{Sizes}
-use Rattle.lock_free.specs.Accounts.{state_of, place_of, running, IsOwn}
+use Rattle.lock_free.specs.Accounts.{state_of, place_of, running, IsOwn, bounds_for}
 use Rattle.lock_free.specs.Loading.{now, IsAt, IsSound, Took}
 use Rattle.lock_free.specs.Making.{over_of, Drafted, IsOverBy, shape_with, DraftsHeader, DraftsNode, made_at, made_by, Makes}
 use Rattle.lock_free.specs.Nodes.{Has, is_single, AreEntries, class_of}
@@ -43,6 +43,30 @@ use Rattle.lock_free.specs.Places.{words_of}
 use Rattle.lock_free.specs.Rules.{pool_of, IsFree, IsKept, IsRuled}
 use Rattle.lock_free.specs.Storing.{IsOwnWord, Writes, IsAtMake, IsAdded, has_made}
 use Rattle.lock_free.proofs.Added.{added}
+use Rattle.machine_model.specs.Acting.{private_after, with_made}
+use Rattle.machine_model.specs.Beneath.slot_arena.specs.Heaps.{next_ref}
+use Rattle.machine_model.specs.Beneath.slot_arena.specs.Refs.{ref_to}
+use Rattle.machine_model.specs.Moves.{GoesOn}
+use Rattle.machine_model.specs.declared.steps.Step.TheVariants as machine
+use Rattle.proof_claims.specs.Changes.{change_by, change_going}
+use Rattle.proof_claims.specs.Changes as claiming
+use Rattle.proof_claims.specs.Held.{takes, held_after}
+use Rattle.proof_memory.specs.Laws.{IsInUse}
+use Rattle.lock_free.specs.Claims.{HoldsAll, held_now}
+use Rattle.lock_free.specs.Owing.{HoldsRaised, next_change, names_made}
+use Rattle.lock_free.proofs.MadeSeats.{Takes}
+use Rattle.lock_free.proofs.OneStep.Taking.{made_next}
+use Rattle.lock_free.specs.Claims.{owes_after}
+use Rattle.lock_free.specs.Rules.{AreOwed}
+use Rattle.lock_free.proofs.OwesMade.{made_owed}
+use Rattle.lock_free.proofs.OneStep.Found.{live_used}
+use Rattle.lock_free.proofs.TakenLater.{taken_holds}
+use Rattle.lock_free.proofs.MadeOwe.{OwesOneMore, owes_one_more}
+use Rattle.lock_free.proofs.Keeping.{keys_gone}
+use Rattle.lock_free.proofs.HeldStep.{taken_now}
+use Rattle.lock_free.specs.OwesAt.{owes_at}
+use Rattle.lock_free.proofs.OwesPrivate.{line_apart}
+use Rattle.proof_memory.specs.Making.{made_node}
 
 -- what is written is written so later too, where places stay, whose own nodes are, and which entries are singles
 module _ (before after : Account) (first later : Heap) (has : Has) (name : ℕ) (own : Bool) (over : Option (Ref × Ref))
@@ -103,7 +127,7 @@ single_stays (Tomb single) after same = ap is_single same.1
 single_stays (Listed singles) after same = ap is_single same.1
 
 module _ (v : View) (word value : ℕ) (node : Node) (rest : List ℕ) (name : ℕ) (own : Bool) (p : IsAt v (act.Make node)) (w : Writes v p.operation.line word value node rest name own)
-    (s : Table.State Call View) (kept : IsKept v.sizes s) (id : ℕ) (at : get_elem? s.views id ≡ some v) where
+    (holding : HoldsRaised v) (s : Table.State Call View) (kept : IsKept v.sizes s) (id : ℕ) (at : get_elem? s.views id ≡ some v) where
   abbrev there : Account
   there = kept.account
 
@@ -147,8 +171,56 @@ module _ (v : View) (word value : ℕ) (node : Node) (rest : List ℕ) (name : �
   unopened : (handle : ℕ) → v.opens ≡ Some handle → class_of node ≢ 1
   unopened handle opens is = openers_make_roots v.sizes there v.actor o stays.1 handle (sym ((kept.seats id v at).reserves o stays.1) ∙ opens) node acts
 
+  next_is : next_ref state.heap ≡ Some (ref_to (length there.names + 1) (length there.names))
+  next_is = made_next v.sizes there.steps kept.bounds kept.quiet (machine.Go v.actor) ∙ ap (λ n. Some (ref_to (n + 1) n)) (sym kept.counted)
+
+  -- what it names the seat held when it was at hand, and holds still; what was an indirection's own is
+  change_there : next_change v there ≡ claiming.makes state (held_now v.sizes there) o (refs_of_node node) (Some (ref_to (length there.names + 1) (length there.names)))
+  change_there =
+      ap (change_going state (held_now v.sizes there)) stays.1 ∙ ap (change_by state (held_now v.sizes there) o) acts ∙ ap (claiming.makes state (held_now v.sizes there) o (refs_of_node node)) next_is
+
+  held_then : held_now v.sizes (made_at v.actor name own node there) ≡ held_after (claiming.makes state (held_now v.sizes there) o (refs_of_node node)
+      (Some (ref_to (length there.names + 1) (length there.names)))) (held_now v.sizes there)
+  held_then =
+      taken_now v.sizes there kept.bounds v.actor o stays.1 (subst GoesOn (sym acts) tt) (made_at v.actor name own node there) refl
+      ∙ ap (λ c. held_after c (held_now v.sizes there)) change_there
+
+  holds : HoldsAll (takes (next_change v there)) v.owed
+  holds =
+      taken_holds v s kept id at p.operation p.runs stays.0 stays.1 (refs_of_node node) (ap names_made p.acts) (ref_to (length there.names + 1) (length there.names)) change_there
+      (made_at v.actor name own node there) makes.bounds (keys_gone there.steps v.actor kept.keys) held_then holding
+
+  -- the main node of an indirection that is made
+  meets : (generation : ℕ) (main : Ref) → node ≡ Indirection generation main → IsInUse state.heap main
+  meets generation main is =
+      live_used v.sizes there kept.bounds main (made_names_live v.sizes there kept.bounds v.actor o stays.1 node acts main
+      (subst (λ n. Contains (refs_of_node n) main) (sym is) (Contains-get_or (main ∷ []) 0 main (omega arith))))
+
+  evidence : Takes v.sizes s kept id v at o stays.1 name own node 0 makes rest w.last
+  evidence = record {
+    named = refs_of_node node;
+    goes = subst GoesOn (sym acts) tt;
+    changes = change_there;
+    private = ap (private_after state o.private) acts ∙ ap (with_made o.private) next_is;
+    holds = holds;
+    owed_line =
+        subst (λ ns. OwesOneMore ns (ref_to (length there.names + 1) (length there.names)) (owes_at o) (owes_at (operation_after state o))) (ap names_made acts)
+        (owes_one_more state o (ref_to (length there.names + 1) (length there.names)) next_is node (line_apart (bounds_for v.sizes there.steps) kept.bounds there.steps v.actor o stays.1)
+        (ap (made_node state) acts));
+    owes = refl;
+    may = w.owns;
+    meets = meets;
+  }
+
   pub kept_after : IsKept v.sizes (record { words = set s.words word value; homes = s.homes; views = set s.views id after })
-  kept_after = make_kept v.sizes s kept id v at o stays.1 name own node rest w.last w.small unopened makes word value inside_it drafts_there w.owns
+  kept_after = make_kept v.sizes s kept id v at o stays.1 name own node rest w.last w.small unopened makes word value inside_it drafts_there w.owns evidence
+
+  pub owed_after : AreOwed s.views → AreOwed (set s.views id after)
+  unfolding evidence
+  owed_after =
+      let change = claiming.makes state (held_now v.sizes there) o (refs_of_node node) (Some (ref_to (length there.names + 1) (length there.names))) in
+      made_owed v s kept id at o stays.1 after change (λ x. refl) refl (subst (λ x. HoldsAll (takes x) v.owed) evidence.changes holds)
+      (ap (λ x. owes_after x (held_now v.sizes there).claims v.owed) evidence.changes) refl refl
 
   was_free : (b n : ℕ) → IsFree after b n → IsFree v b n
   was_free b n free = elim (cases_eq b (class_of node)) [
@@ -178,27 +250,27 @@ module _ (v : View) (word value : ℕ) (node : Node) (rest : List ℕ) (name : �
   pub added_after : IsAdded v there node after
   added_after = added v (class_of node) name rest own node there kept.bounds kept.quiet kept.counted o 0 makes
 
-pub make_allowed : (sizes : Sizes) (size id : ℕ) (me : Me Call View) (some_seats : 1 ≤ me.0.sizes.seats) (word value : ℕ) → IsAtMake me.0 word value →
+pub make_allowed : (sizes : Sizes) (size id : ℕ) (me : Me Call View) (some_seats : 1 ≤ me.0.sizes.seats) (word value : ℕ) → IsAtMake me.0 word value → HoldsRaised me.0 →
     Allows (IsRuled sizes) size id me word (λ n. value)
     (λ n. has_made (step size word value 0 none) me value)
-make_allowed sizes size id me some_seats word value (node, rest, name, own, p, w) =
-    allowed sizes size id me word (λ n. value) (λ n. has_made (step size word value 0 none) me value)
+make_allowed sizes size id me some_seats word value (node, rest, name, own, p, w) holding =
+    allowed_owing sizes size id me word (λ n. value) (λ n. has_made (step size word value 0 none) me value)
     some_seats (λ s kept at. inl (own_apart me.0 s kept id at (class_of node) name (class_small node, subst (λ xs. Contains xs name) (sym w.last) (Contains-push rest name)) word w.low w.high))
     (λ s kept at. (
       made_by me.0 (class_of node) name rest own node kept.account,
-      kept_after me.0 word value node rest name own p w s kept id at,
+      kept_after me.0 word value node rest name own p w holding s kept id at,
       (
         (
           kept.account,
           waited_so me.0 s kept id at,
-          took_after me.0 word value node rest name own p w s kept id at,
-          (node, rest, name, own, p, w, refl, added_after me.0 word value node rest name own p w s kept id at),
+          took_after me.0 word value node rest name own p w holding s kept id at,
+          (node, rest, name, own, p, w, refl, added_after me.0 word value node rest name own p w holding s kept id at),
         ),
-        sound_after me.0 word value node rest name own p w s kept id at,
+        sound_after me.0 word value node rest name own p w holding s kept id at,
         refl,
       ),
     ))
-    (λ s kept at. refl)
+    (λ s kept at. refl) (λ s kept at. owed_after me.0 word value node rest name own p w holding s kept id at)
 
 -- its last word is free for the seat till then
 pub is_own_word : (v : View) (word value : ℕ) → IsAtMake v word value → IsOwnWord v word

@@ -29,13 +29,12 @@ use Rattle.lock_free.specs.declared.rules.Pinned.{Pinned}
 use Rattle.lock_free.specs.declared.rules.View.{View}
 use Rattle.lock_free.specs.declared.sizes.Sizes.{Sizes}
 use Rattle.lock_free.specs.Accounts.{bounds_for, state_of, place_at, place_of, running, gone_on, OwnIs, later}
-use Rattle.lock_free.specs.Counts.{AreCounted}
 use Rattle.lock_free.specs.Links.{AreLinked, link_in}
 use Rattle.lock_free.specs.Live.{refs_of_claims, at_hand, from_operation, from_slot, IsLive}
 use Rattle.lock_free.specs.Loading.{now, IsUsed, IsSound, seen, Waited, Took, has_seen, has_gone, Holds}
 use Rattle.lock_free.specs.Nodes.{StandsAs, InTable, class_of}
 use Rattle.lock_free.specs.Places.{words_in, words_of}
-use Rattle.lock_free.specs.Rules.{AreEpochs, AreRetired, IsFree, IsSeat, IsKept, IsRuled}
+use Rattle.lock_free.specs.Rules.{AreEpochs, AreOwed, AreRetired, IsFree, IsKept, IsRuled, IsSeat}
 use Rattle.lock_free.specs.Steps.{Reads}
 use Rattle.lock_free.proofs.Asked.{in_use_made, live_in_use, nodes_stay}
 use Rattle.lock_free.proofs.Assembling.{all_stand, closing_stays, numbers_stay, assembled}
@@ -44,13 +43,16 @@ use Rattle.lock_free.proofs.Definition.{IsReading, reads_of, waits, bounds_befor
 use Rattle.lock_free.proofs.Framing.{class_small, first_word}
 use Rattle.lock_free.proofs.Geometry.{end_inside}
 use Rattle.lock_free.proofs.CountWords.{Apart, Beside, count_same, elsewhere_so, slot_apart}
-use Rattle.lock_free.proofs.CountsStay.{counted_then}
+use Rattle.lock_free.proofs.Idle.{empty_has}
+use Rattle.lock_free.proofs.OwedStay.{owed_same, owed_then}
 use Rattle.lock_free.proofs.LinksStay.{linked_then}
-use Rattle.lock_free.proofs.EpochStays.{Elsewhere, IsAsWas, epochs_stay, rest_as_was, rest_of, rest_unpinned, stays_elsewhere, unpinned_as_was, was_then}
+use Rattle.lock_free.proofs.EpochStays.{Elsewhere, IsAsWas, epochs_stay, rest_of, rest_unpinned, stays_elsewhere, unpinned_as_was, was_then, rest_beside, beside_as_was}
 use Rattle.lock_free.proofs.GoneSeats.{heard_still}
-use Rattle.lock_free.proofs.RetiredStay.{epoch_still, retired_then, same_pin, same_retired}
+use Rattle.lock_free.proofs.RetiredStay.{epoch_still, retired_then}
 use Rattle.lock_free.proofs.Keeping.{keys_gone, kept_then}
 use Rattle.lock_free.proofs.Waiting.{waited_none}
+use Rattle.lock_free.proofs.HeldStill.{held_views}
+use Rattle.lock_free.proofs.Lettings.{reading_takes}
 
 -- An access is allowed where the rule holds after it, by the sizes that the seat knows.
 module _ (sizes : Sizes) (size id : ℕ) (me : Me Call View) (word : ℕ) (f : ℕ → ℕ) (then : ℕ → Me Call View → Type 0) where
@@ -66,17 +68,17 @@ module _ (sizes : Sizes) (size id : ℕ) (me : Me Call View) (word : ℕ) (f : �
 
   -- The seat wasn't given up, has heard of nobody more, and what the rule says of the epoch and of retired slots holds after it too.
   abbrev pub CanBeBy : Type 0
-  CanBeBy = (s : Table.State Call View) → IsKept me.0.sizes s → AreEpochs s.words s.views → AreRetired me.0.sizes s.words s.views → AreCounted me.0.sizes s.words s.views →
+  CanBeBy = (s : Table.State Call View) → IsKept me.0.sizes s → AreEpochs s.words s.views → AreRetired me.0.sizes s.words s.views → AreOwed s.views →
       AreLinked me.0.sizes s.words s.views → get_elem? s.views id ≡ some me.0 →
       (w : View) × IsKept me.0.sizes (after_it s w) × AreEpochs (after_it s w).words (after_it s w).views × AreRetired me.0.sizes (after_it s w).words (after_it s w).views
-      × AreCounted me.0.sizes (after_it s w).words (after_it s w).views × AreLinked me.0.sizes (after_it s w).words (after_it s w).views × (w.heard ≡ me.0.heard)
+      × AreOwed (after_it s w).views × AreLinked me.0.sizes (after_it s w).words (after_it s w).views × (w.heard ≡ me.0.heard)
       × then (slice_index s.words word) (w, me.1)
 
   pub allowed_by : 1 ≤ me.0.sizes.seats → CanBeBy → Allows (IsRuled sizes) size id me word f then
   allowed_by some_seats h s ruled length_is at low =
       let its = (ruled.kept.seats id me.0 at).same some_seats in
       let x = h s (subst (λ z. IsKept z s) (sym its) ruled.kept) ruled.epochs (subst (λ z. AreRetired z s.words s.views) (sym its) ruled.retired)
-      (subst (λ z. AreCounted z s.words s.views) (sym its) ruled.counted) (subst (λ z. AreLinked z s.words s.views) (sym its) ruled.linked) at in (
+      ruled.owed (subst (λ z. AreLinked z s.words s.views) (sym its) ruled.linked) at in (
         x.0,
         keeps,
         tt,
@@ -84,7 +86,7 @@ module _ (sizes : Sizes) (size id : ℕ) (me : Me Call View) (word : ℕ) (f : �
           kept = subst (λ z. IsKept z (after_it s x.0)) its x.1;
           epochs = x.2;
           retired = subst (λ z. AreRetired z (after_it s x.0).words (after_it s x.0).views) its x.3;
-          counted = subst (λ z. AreCounted z (after_it s x.0).words (after_it s x.0).views) its x.4;
+          owed = x.4;
           linked = subst (λ z. AreLinked z (after_it s x.0).words (after_it s x.0).views) its x.5;
           heard = heard_still s.views id me.0 at some_seats x.0 x.6 ruled.heard;
         },
@@ -104,10 +106,8 @@ module _ (sizes : Sizes) (size id : ℕ) (me : Me Call View) (word : ℕ) (f : �
       retired_then s.views id me.0 at w same pin me.0.sizes s.words (after_it s w).words (epoch_still s.words (after_it s w).words (stays_elsewhere s.words word f elsewhere)) h
 
   -- and where it holds what it held
-  counts_then : (s : Table.State Call View) → get_elem? s.views id ≡ some me.0 → Beside me.0.sizes word f s.words → (w : View) → w.owed ≡ me.0.owed →
-      AreCounted me.0.sizes s.words s.views → AreCounted me.0.sizes (after_it s w).words (after_it s w).views
-  counts_then s at beside w owed h =
-      counted_then s.views id me.0 at w owed me.0.sizes s.words (after_it s w).words (count_same me.0.sizes word f s.words beside) h
+  owes_then : (s : Table.State Call View) → get_elem? s.views id ≡ some me.0 → (w : View) → rest_of w ≡ rest_of me.0 → AreOwed s.views → AreOwed (after_it s w).views
+  owes_then s at w same h = owed_same s.views id me.0 at w (ap (λ r. r.6) same) (ap (λ r. r.4) same) (ap (λ r. r.5) same) h
 
   -- and where it knows the links that it knew
   links_then : (s : Table.State Call View) → get_elem? s.views id ≡ some me.0 → Beside me.0.sizes word f s.words → (w : View) → w.retired ≡ me.0.retired → w.links ≡ me.0.links →
@@ -116,32 +116,43 @@ module _ (sizes : Sizes) (size id : ℕ) (me : Me Call View) (word : ℕ) (f : �
       linked_then s.views id me.0 at w links (λ x c. subst (λ xs. Contains xs x) (sym retired) c) me.0.sizes s.words (after_it s w).words
       (λ c is. ap link_in (count_same me.0.sizes word f s.words beside c is)) h
 
-  pub allowed : 1 ≤ me.0.sizes.seats → Always (λ s kept at. Beside me.0.sizes word f s.words) → (h : CanBe) → Always (λ s kept at. rest_of (h s kept at).0 ≡ rest_of me.0) →
-      Allows (IsRuled sizes) size id me word f then
-  allowed some_seats beside h same =
+  -- where it holds other references then, of nodes to which its operation leads, all else stays as above
+  pub allowed_giving : 1 ≤ me.0.sizes.seats → Always (λ s kept at. Beside me.0.sizes word f s.words) → (h : CanBe) → Always (λ s kept at. rest_beside (h s kept at).0 ≡ rest_beside me.0) →
+      Always (λ s kept at. AreRetired me.0.sizes s.words s.views → AreOwed s.views → AreOwed (set s.views id (h s kept at).0)) → Allows (IsRuled sizes) size id me word f then
+  allowed_giving some_seats beside h same owes =
       allowed_by some_seats
-      (λ s kept epochs retired counted linked at. (let x = h s kept at in (
+      (λ s kept epochs retired owed linked at. (let x = h s kept at in (
         x.0,
         x.1,
-        epochs_then s at (elsewhere_so me.0.sizes word f s.words (beside s kept at)) x.0 (rest_as_was me.0 x.0 (same s kept at)) epochs,
-        slots_then s at (elsewhere_so me.0.sizes word f s.words (beside s kept at)) x.0 (same_retired me.0 x.0 (same s kept at)) (same_pin me.0 x.0 (same s kept at)) retired,
-        counts_then s at (beside s kept at) x.0 (ap (λ r. r.6) (same s kept at)) counted,
+        epochs_then s at (elsewhere_so me.0.sizes word f s.words (beside s kept at)) x.0 (beside_as_was me.0 x.0 (same s kept at)) epochs,
+        slots_then s at (elsewhere_so me.0.sizes word f s.words (beside s kept at)) x.0 (ap (λ r. r.5) (same s kept at)) (beside_as_was me.0 x.0 (same s kept at)).pinned retired,
+        owes s kept at retired owed,
         links_then s at (beside s kept at) x.0 (ap (λ r. r.5) (same s kept at)) (ap (λ r. r.7) (same s kept at)) linked,
         ap (λ r. r.0) (same s kept at),
         x.2,
       )))
 
-  -- the seat isn't pinned then
+  pub allowed_owing : 1 ≤ me.0.sizes.seats → Always (λ s kept at. Beside me.0.sizes word f s.words) → (h : CanBe) → Always (λ s kept at. rest_beside (h s kept at).0 ≡ rest_beside me.0) →
+      Always (λ s kept at. AreOwed s.views → AreOwed (set s.views id (h s kept at).0)) → Allows (IsRuled sizes) size id me word f then
+  allowed_owing some_seats beside h same owes = allowed_giving some_seats beside h same (λ s kept at retired owed. owes s kept at owed)
+
+  pub allowed : 1 ≤ me.0.sizes.seats → Always (λ s kept at. Beside me.0.sizes word f s.words) → (h : CanBe) → Always (λ s kept at. rest_of (h s kept at).0 ≡ rest_of me.0) →
+      Allows (IsRuled sizes) size id me word f then
+  allowed some_seats beside h same =
+      allowed_owing some_seats beside h (λ s kept at. ap (λ r. (r.0, r.1, r.2, r.3, r.4, r.5, [], r.7)) (same s kept at)) (λ s kept at. owes_then s at (h s kept at).0 (same s kept at))
+
+  -- the seat isn't pinned then, and holds no reference
   pub allowed_unpinned : 1 ≤ me.0.sizes.seats → Always (λ s kept at. Beside me.0.sizes word f s.words) → (h : CanBe) →
       Always (λ s kept at. rest_of (h s kept at).0 ≡ rest_unpinned me.0) → Allows (IsRuled sizes) size id me word f then
   allowed_unpinned some_seats beside h same =
       allowed_by some_seats
-      (λ s kept epochs retired counted linked at. (let x = h s kept at in (
+      (λ s kept epochs retired owed linked at. (let x = h s kept at in (
         x.0,
         x.1,
         epochs_then s at (elsewhere_so me.0.sizes word f s.words (beside s kept at)) x.0 (unpinned_as_was me.0 x.0 (same s kept at)) epochs,
         slots_then s at (elsewhere_so me.0.sizes word f s.words (beside s kept at)) x.0 (ap (λ r. r.5) (same s kept at)) (unpinned_as_was me.0 x.0 (same s kept at)).pinned retired,
-        counts_then s at (beside s kept at) x.0 (ap (λ r. r.6) (same s kept at)) counted,
+        owed_then s.views id me.0 at x.0 (λ k c. absurd (empty_has k (subst (λ ks. Contains ks k) (ap (λ r. r.6) (same s kept at)) c)))
+            (λ y c. subst (λ ys. Contains ys y) (ap (λ r. r.5) (same s kept at)) c) owed,
         links_then s at (beside s kept at) x.0 (ap (λ r. r.5) (same s kept at)) (ap (λ r. r.7) (same s kept at)) linked,
         ap (λ r. r.0) (same s kept at),
         x.2,
@@ -165,7 +176,7 @@ same_entries (Single key value) after same = ap entries_of same.1
 same_entries (Tomb single) after same = ap entries_of same.1
 same_entries (Listed singles) after same = ap entries_of same.1
 
-entry_named : (node : Node) (r : Ref) → Contains (entries_of node) r → Contains (refs_of_node node) r
+pub entry_named : (node : Node) (r : Ref) → Contains (entries_of node) r → Contains (refs_of_node node) r
 entry_named (Indirection generation main) r c = let low = c.1 in absurd (omega (arith, low))
 entry_named (Branch bitmap entries) r c = c
 entry_named (Single key value) r c = c
@@ -174,8 +185,7 @@ entry_named (Listed singles) r c = c
 
 -- what is an entry of a live main node is live
 pub entry_lives : (sizes : Sizes) (account : Account) (main r : Ref) (slot : Slot) → IsLive (state_of sizes account) main → get_or (state_of sizes account).heap.slots
-    (slot_of main) None ≡ Some slot → Contains (entries_of slot.node) r →
-    IsLive (state_of sizes account) r
+    (slot_of main) None ≡ Some slot → Contains (entries_of slot.node) r → IsLive (state_of sizes account) r
 unfolding stored
 entry_lives sizes account main r slot live is c =
     from_slot main r live (subst (λ o. Contains (refs_of_slot o) r) (sym is) (Contains-append_left (refs_of_node slot.node) (refs_of_prev slot.prev) r (entry_named slot.node r c)))
@@ -306,6 +316,7 @@ module _ (v : View) (s : Table.State Call View) (kept : IsKept v.sizes s) (id : 
     spare = seat.spare;
     once = seat.once;
     drafts = seat.drafts;
+    plain = seat.plain;
   }
 
   pub seen_kept : IsKept v.sizes (record { words = s.words; homes = s.homes; views = set s.views id seen_view })
@@ -314,7 +325,7 @@ module _ (v : View) (s : Table.State Call View) (kept : IsKept v.sizes s) (id : 
       (λ handle who low says. closing_stays v.sizes s kept id v at seen_view refl refl (λ h e. e) refl handle who (kept.closings handle who low says)) seen_seat
       (λ other w e apart. kept.seats other w e) (λ b n f. inl f)
       (numbers_stay v.sizes s kept id v at seen_view refl refl there s.words (no_tries there.offers (state_of v.sizes there)) (λ slot none. none) (λ handle low. refl) refl
-      (λ slot handle e free. free))
+      (λ slot handle e free. free)) (held_views v.sizes s kept id v at seen_view refl refl refl)
 
   -- ---- a load that is the operation's step
 
@@ -332,7 +343,9 @@ module _ (v : View) (s : Table.State Call View) (kept : IsKept v.sizes s) (id : 
     gone_view = seen v (gone_on v.actor there)
 
     pub gone_kept : IsKept v.sizes (record { words = s.words; homes = s.homes; views = set s.views id gone_view })
-    gone_kept = kept_then v.sizes s kept id v at o_there here.1 reads
+    gone_kept =
+        kept_then v.sizes s kept id v at o_there here.1 reads (reading_takes kept.stands (state_of v.sizes there) o_there (action_of (state_of v.sizes there) o_there)
+        (subst IsReading (sym here.2) reading))
 
     pub gone_sound : IsSound (words_of v.sizes) gone_view
     gone_sound = record {

@@ -23,8 +23,10 @@ use Rattle.lock_free.specs.declared.reading.Given.{Given}
 use Rattle.lock_free.specs.declared.rules.View.{View}
 use Rattle.lock_free.specs.Accounts.{place_of}
 use Rattle.lock_free.specs.Becoming.{HasNew}
-use Rattle.lock_free.specs.BuildingUp.{HasBuiltUp, HasReached, HasStopped, IsBuilder, IsMain}
-use Rattle.lock_free.specs.Changing.{HasBuilt, HasBuiltNode, IsChange, IsChanging, IsNoTomb}
+use Rattle.lock_free.specs.Dropping.{AreDropped}
+use Rattle.lock_free.proofs.DroppedEntries.{drops_new}
+use Rattle.lock_free.specs.BuildingUp.{drops_at, HasBuiltUp, HasReached, HasStopped, IsBuilder, IsMain}
+use Rattle.lock_free.specs.Changing.{drops_of, HasBuilt, HasBuiltNode, IsChange, IsChanging, IsNoTomb}
 use Rattle.lock_free.specs.Holding.{IsOn}
 use Rattle.lock_free.specs.Loading.{now, IsAt, IsSound}
 use Rattle.lock_free.specs.Nodes.{is_single}
@@ -33,7 +35,8 @@ use Rattle.lock_free.proofs.AfterChanges.{after_changed, is_answered}
 use Rattle.lock_free.proofs.ChangedMains.{its_node, at_make, kind, known_node}
 use Rattle.lock_free.proofs.Followings.{main_node_on}
 use Rattle.lock_free.proofs.OnLines.{line_is}
-use Rattle.lock_free.proofs.Reachings.{reached_both, reached_on, reached_new, reached_stayed, stopped_here, builder_then, main_then, builder_flag}
+use Rattle.lock_free.proofs.Resting.{reached_rested}
+use Rattle.lock_free.proofs.Reachings.{reached_both, reached_on, reached_new, stopped_here, builder_then, main_then, builder_flag}
 
 -- the entry of a single that was made
 pub single_entry : (v w : View) (key value name : ℕ) (h : HasNew v (Single key value) name w) → record { slot = name; own = false; is_single = true } ≡ entry_to w h.made
@@ -78,16 +81,16 @@ module _ (n : ℕ) (v w : View) (sound_w : IsSound n w) (x : Line) (at : IsOn v 
     is_change = is;
   }
 
-  pub built_up : IsNoTomb e → (result : Option ℕ) (after : View) → HasBuilt w result after → HasBuiltUp v path main former result after
+  pub built_up : IsNoTomb e → (place : Site) → drops_of e ≡ drops_at place → (result : Option ℕ) (after : View) → HasBuilt w result after → HasBuiltUp v path main place former result after
   unfolding changing
-  built_up kept result after built =
+  built_up kept place told result after built =
       from result (built (its_node n w sound_w given.link.main given.header.shape flag e changing) (at_make n w sound_w given.link.main given.header.shape flag e changing))
     where
-      from : (r : Option ℕ) → HasBuiltNode w (its_node n w sound_w given.link.main given.header.shape flag e changing) r after → HasBuiltUp v path main former r after
+      from : (r : Option ℕ) → HasBuiltNode w (its_node n w sound_w given.link.main given.header.shape flag e changing) r after → HasBuiltUp v path main place former r after
       from None s = (
         build.Main path main its former,
         reached_both v w after (line.Build (build.Main path main its former)) (line.Build (build.Main path main its former)) h
-            (reached_stayed w after (line.Build (build.Main path main its former)) on_main s),
+            (reached_rested w after (line.Build (build.Main path main its former)) on_main s),
       )
       from (Some name) new = record {
         fresh = new.made;
@@ -98,6 +101,9 @@ module _ (n : ℕ) (v w : View) (sound_w : IsSound n w) (x : Line) (at : IsOn v 
             (sym (main_node_on w after new.become.follows main m_then.header.slot m_then.header.used m_then.header.is_main));
         reached = reached_both v w after (line.Build (build.Main path main its former)) (line.Swap (purpose.Update path former) (swapping (current path) main new.made)) h
             (reached_new w after (line.Build (build.Main path main its former)) on_main _ name new (line.Swap (purpose.Update path former) (swapping (current path) main new.made)) (λ o r. refl));
+        drops = subst (AreDropped after main new.made) told
+            (drops_new n w sound_w given.link.main given.header.shape flag e changing after new.made (flag_in (now w) (record on_main.0 { is_marked = on_main.1.0 }) path) new.node_is
+            (main_node_on w after new.become.follows main m_then.header.slot m_then.header.used m_then.header.is_main));
         answers = λ o.
             ap (after_update o path former) new.node_is
             ∙ after_changed o path former (flag_in (now w) (record on_main.0 { is_marked = on_main.1.0 }) path) (node_at (now w).heap main) its

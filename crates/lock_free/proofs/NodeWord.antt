@@ -16,14 +16,18 @@ use Rattle.lock_free.specs.declared.rules.View.{View}
 use Rattle.lock_free.specs.declared.sizes.Sizes.{Sizes}
 use Rattle.lock_free.specs.Accounts.{state_of, place_at, HasWaited, IsOfOther}
 use Rattle.lock_free.specs.Nodes.{class_of}
+use Rattle.lock_free.specs.Owing.{owing}
+use Rattle.lock_free.specs.Holdings.{AreHeld}
 use Rattle.lock_free.specs.Places.{root_word}
-use Rattle.lock_free.specs.Rules.{Stands, IsClosing, SaysClosing, IsFree, IsSpare, IsSeat, IsKept}
+use Rattle.lock_free.specs.Rules.{Stands, SaysClosing, IsFree, IsSpare, IsSeat, IsKept}
 use Rattle.lock_free.specs.Trying.{SameTries, as_before}
 use Rattle.lock_free.proofs.Assembling.{AllStand, all_stand, closing_stays, numbers_stay, assembled}
 use Rattle.lock_free.proofs.Framing.{else_word, still_taken, node_far, not_of_spare, root_beside, pin_beside}
 use Rattle.lock_free.proofs.Geometry.{IsWordOf}
+use Rattle.lock_free.proofs.PlainStay.{plain_running}
 use Rattle.lock_free.proofs.Seats.{ran_so, numbers_so, Stays, StaysSpare, other_kept, own_kept, drafts_kept}
 use Rattle.lock_free.proofs.Waiting.{waited_more}
+use Rattle.lock_free.proofs.SeatOwing.{seat_owing}
 
 -- one more step of this actor's operation, and more that is known of whose main nodes are
 abbrev pub owning : ℕ → List Owned → Account → Account
@@ -77,11 +81,8 @@ module _ (sizes : Sizes) (s : Table.State Call View) (kept : IsKept sizes s) (id
     still_open = λ other w at_w handle inside e. ap (λ rs. is_some (get_or rs handle None)) roots ∙ e;
     taken = still_taken sizes kept.account s.words kept.taken i (node_far sizes kept.account kept.stands s.words all k slot stood i its value) value;
     spare = λ other w b name e apart free. spare_stays other w b name e free;
+    plain = plain_running sizes kept.account account_then kept.bounds ((step.Go v.actor) ∷ []) refl s.words words_then v.actor operation runs;
   }
-
-  closings_then : (handle who : ℕ) → handle < handle_limit → SaysClosing (slice_index words_then (root_word handle)) who → IsClosing (set s.views id view_then) handle who
-  closings_then handle who low says =
-      closing_stays sizes s kept id v at view_then refl refl (λ h e. e) refl handle who (kept.closings handle who low (subst (λ n. SaysClosing n who) (root_same handle low) says))
 
   own_then : IsSeat sizes account_then kept.stands words_then view_then
   own_then =
@@ -94,7 +95,12 @@ module _ (sizes : Sizes) (s : Table.State Call View) (kept : IsKept sizes s) (id
       (λ d c. drafts_kept sizes s kept id v at account_then kept.stands words_then stays view_then d (seat.drafts d c) (λ b name free. (free, (spare_stays id v b name at free).1)))
 
   -- the rule holds
-  pub node_word_kept : IsKept sizes (record { words = words_then; homes = s.homes; views = set s.views id view_then })
-  node_word_kept =
-      assembled sizes s kept id v at view_then refl refl account_then kept.stands words_then all_then closings_then own_then (other_kept sizes s kept id v at account_then kept.stands words_then stays)
-      (λ b name free. inl free) (numbers_stay sizes s kept id v at view_then refl refl account_then words_then (as_before tries) (λ slot none. none) root_same refl (λ slot handle e free. free))
+  pub node_word_kept : (owed : List ℕ) → AreHeld sizes account_then kept.stands words_then (set s.views id (owing view_then owed)) → IsKept sizes
+      (record { words = words_then; homes = s.homes; views = set s.views id (owing view_then owed) })
+  node_word_kept owed held =
+      let w = owing view_then owed in
+      assembled sizes s kept id v at w refl refl account_then kept.stands words_then all_then
+      (λ handle who low says.
+      closing_stays sizes s kept id v at w refl refl (λ h e. e) refl handle who (kept.closings handle who low (subst (λ n. SaysClosing n who) (root_same handle low) says)))
+      (seat_owing sizes account_then kept.stands words_then view_then owed own_then) (other_kept sizes s kept id v at account_then kept.stands words_then stays)
+      (λ b name free. inl free) (numbers_stay sizes s kept id v at w refl refl account_then words_then (as_before tries) (λ slot none. none) root_same refl (λ slot handle e free. free)) held

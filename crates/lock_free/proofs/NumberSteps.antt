@@ -107,7 +107,8 @@ name_allowed sizes size id me some_seats number slot low n fits =
           ) in
           name_kept me.0.sizes s kept id me.0 at number reserves
           (none_stands me.0 s kept id at number reserves
-          (λ p runs c at_line. (let both = sym at_line ∙ ap (λ (x : Operation). x.line) (same p runs) ∙ n.on in let wrong : ⊥ = cc both in wrong))) slot n.free),
+          (λ p runs c at_line. (let both = sym at_line ∙ ap (λ (x : Operation). x.line) (same p runs) ∙ n.on in let wrong : ⊥ = cc both in wrong))) slot n.free
+          (λ nothing. none-some o (sym (nothing me.0.actor) ∙ is.1))),
       λ other is. ap (λ x. (naming me.0 x, me.1)) (slot_same slot other (sym (root_back (word.Opening slot) fits) ∙ is)),
     ))
     (λ s kept at. refl)

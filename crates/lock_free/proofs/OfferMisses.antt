@@ -1,6 +1,6 @@
 -- Another root than its own stands where an operation is to offer, or another offer: it gives up all that it has made.
 use Rattle.history.specs.declared.calls.Call.{Call}
-use Rattle.std.proofs.Common.{◌≡◌, ℕ, Bool, false, set, Some, refl, sym, ap, subst, ◌∙◌}
+use Rattle.std.proofs.Common.{◌≡◌, ℕ, Bool, false, [], set, Some, refl, sym, ap, subst, ◌∙◌}
 use Rattle.std.proofs.lemmas.Option.{same_Some}
 use mathlib.Core.Option.{some}
 use lib.ListN.{get_elem?}
@@ -12,6 +12,7 @@ use Rattle.machine_model.specs.declared.roots.Descriptor.{Descriptor}
 use Rattle.machine_model.specs.declared.steps.Step.TheVariants as machine
 use Rattle.machine_model.specs.Acting.{operation_after}
 use Rattle.machine_model.specs.Calls.{handle_of}
+use Rattle.machine_model.specs.Moves.{GoesOn}
 use Rattle.machine_model.specs.Operations.{action_of}
 use Rattle.machine_model.specs.States.{State, word_at}
 use Rattle.machine_model.specs.Swapping.{is_plain}
@@ -22,13 +23,19 @@ use Rattle.lock_free.specs.Exchanging.{given_up}
 use Rattle.lock_free.specs.Loading.{now, IsAt, IsSound, Runs, Took}
 use Rattle.lock_free.specs.Places.{words_of}
 use Rattle.lock_free.specs.RootOffers.{HasMissed}
-use Rattle.lock_free.specs.Rules.{IsKept}
+use Rattle.lock_free.specs.Rules.{AreOwed, AreRetired, IsKept}
 use Rattle.lock_free.specs.Steps.{Leads}
-use Rattle.lock_free.proofs.Abandoned.{abandon_kept, abandon_sound}
+use Rattle.lock_free.proofs.Abandoned.{abandon_kept, abandon_sound, owed_abandoned}
 use Rattle.lock_free.proofs.Asked.{is_one_of}
 use Rattle.lock_free.proofs.Looking.{same_action}
 use Rattle.lock_free.proofs.Moments.{waited_so}
 use Rattle.lock_free.proofs.OneStep.Missing.{offer_given_up}
+use Rattle.machine_model.specs.Acting.{private_after}
+use Rattle.proof_claims.specs.Changes as changing
+use Rattle.proof_claims.specs.Changes.{change_by, change_going, offers, change_of}
+use Rattle.proof_claims.specs.Held.{held_after}
+use Rattle.lock_free.specs.Claims.{held_now}
+use Rattle.lock_free.proofs.HeldStep.{taken_now}
 
 abbrev offer_in : Action → Descriptor → Descriptor
 offer_in (act.Offer offer) other = offer
@@ -64,11 +71,28 @@ module _ (v : View) (offer : Descriptor) (p : IsAt v (act.Offer offer)) (s : Tab
     leads : Leads v.sizes there (gone_on v.actor there) v.actor (is_one_of ran.private) (operation_after state ran)
     leads = offer_given_up v.sizes there kept.bounds v.actor ran ran_runs offer ran_acts kept.roots.stood kept.quiet another
 
+    changes : change_of state (held_now v.sizes there) (machine.Go v.actor) ≡ changing.given_up ran.private
+    changes =
+        let held = held_now v.sizes there in
+        ap (change_going state held) ran_runs ∙ ap (change_by state held ran) ran_acts ∙ ap (λ b. offers b ran.private (handle_of ran.call) offer) another
+
+    gives_up : held_now v.sizes (gone_on v.actor there) ≡ held_after (changing.given_up ran.private) (held_now v.sizes there)
+    gives_up =
+        let held = held_now v.sizes there in
+        taken_now v.sizes there kept.bounds v.actor ran ran_runs (subst GoesOn (sym ran_acts) tt) (gone_on v.actor there) refl
+        ∙ ap (λ c. held_after c held) changes
+
+    none_left : (operation_after state ran).private ≡ []
+    none_left = ap (private_after state ran.private) ran_acts
+
     pub dropped_kept : IsKept v.sizes (record { words = s.words; homes = s.homes; views = set s.views id dropped })
-    dropped_kept = abandon_kept v s kept id at ran (operation_after state ran) ran_runs (machine.Go v.actor) tt (λ a d e. d (sym e)) leads refl refl
+    dropped_kept = abandon_kept v s kept id at ran (operation_after state ran) ran_runs (machine.Go v.actor) tt (λ a d e. d (sym e)) leads refl refl none_left gives_up changes
 
     pub dropped_sound : IsSound (words_of v.sizes) dropped
-    dropped_sound = abandon_sound v s kept id at ran (operation_after state ran) ran_runs (machine.Go v.actor) tt (λ a d e. d (sym e)) leads refl refl
+    dropped_sound = abandon_sound v s kept id at ran (operation_after state ran) ran_runs (machine.Go v.actor) tt (λ a d e. d (sym e)) leads refl refl none_left gives_up changes
+
+    pub owed_dropped : AreRetired v.sizes s.words s.views → AreOwed s.views → AreOwed (set s.views id dropped)
+    owed_dropped = owed_abandoned v s kept id at ran (operation_after state ran) ran_runs (machine.Go v.actor) tt (λ a d e. d (sym e)) leads refl refl none_left gives_up changes
 
     dropped_took : Took v there dropped
     dropped_took q runs_q = leads.own ∙ ap (λ x. Some (operation_after state x)) (same_Some ran q (sym ran_runs ∙ runs_q))

@@ -25,7 +25,7 @@ use Rattle.lock_free.specs.Nodes.{class_of}
 use Rattle.lock_free.specs.Roots.{IsWritten, fate, second_of, undecided}
 use Rattle.lock_free.specs.RootWords.{SaysNews, SaysOlds, HasSeenNews, HasSeenOlds}
 use Rattle.lock_free.proofs.AbortStep.{known_there}
-use Rattle.lock_free.proofs.Framing.{class_small}
+use Rattle.lock_free.proofs.Framing.{class_small, node_end}
 use Rattle.lock_free.proofs.Looking.{saw}
 use Rattle.lock_free.proofs.Moments.{held_there, its_place}
 use Rattle.lock_free.proofs.OneStep.Found.{live_used, slot_at}
@@ -61,7 +61,7 @@ module _ (before : View) (word found : ℕ) (m : Moment before word found) (k : 
   small : (r : Ref) → Contains (refs_of_offer k.offer) r → place_of there r < 2 ^ 32
   small r in_it =
       let u = used r in_it in
-      let inside = m.kept.nodes.inside (slot_of r) u.0 u.1 in
+      let inside = node_end before.sizes u.0.node (place_of there r) (m.kept.nodes.inside (slot_of r) u.0 u.1) in
       let two = two_words (class_of u.0.node) (class_small u.0.node) in
       let range = m.kept.range.within in
       omega (arith, inside, two, range)
@@ -141,6 +141,7 @@ module _ (before : View) (word found : ℕ) (m : Moment before word found) (k : 
         used r (seconds_in r (subst (λ o. Contains (refs_of_option o) r) (sym e) (Contains-get_or (r ∷ []) 0 r (omega arith)))),
         ap (second_of there) (sym e) ∙ sym (ap (λ (p : Pair). p.high) news_found),
       );
+      alone = λ e. ap (λ (p : Pair). p.high) news_found ∙ ap (second_of there) e;
     }
 
 -- what the seat is told

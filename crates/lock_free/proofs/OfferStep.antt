@@ -1,6 +1,6 @@
 -- The exchange of a handle's word that is to bring an offer to stand: it finds its root there, another one, or what is no root.
 use Rattle.history.specs.declared.calls.Call.{Call}
-use Rattle.std.proofs.Common.{◌≤◌, ◌≡◌, ◌≢◌, ◌+◌, ◌*◌, ◌<◌, ◌^◌, ◌==◌, ℕ, inl, inr, true, false, List, [], ◌∷◌, ◌++◌}
+use Rattle.std.proofs.Common.{◌≤◌, ◌≡◌, ◌≢◌, ◌+◌, ◌*◌, ◌<◌, ◌^◌, ◌==◌, ℕ, inl, inr, true, false, List, [], ◌∷◌, ◌++◌, cond, map}
 use Rattle.std.proofs.Common.{Contains, set, slice_index, Option, Some, None, refl, sym, ap, subst, ◌∙◌, arith, eq-eqb, ne_eqb, get_or, if◌then◌else◌}
 use Rattle.std.proofs.Common.{append-nil}
 use Rattle.std.proofs.lemmas.Bool.{cases_eq}
@@ -34,7 +34,6 @@ use Rattle.machine_model.specs.States.{State, root_at, word_at, word_of, handle_
 use Rattle.machine_model.specs.Swapping.{is_plain}
 use Rattle.proof_garbage.specs.Beneath.proof_generations.proofs.Offers.Standing.{offer_line}
 use Rattle.proof_memory.specs.Wants.{line_wants, offer_wants}
-use Rattle.lock_free.proofs.EpochStays.{rest_of}
 use Rattle.lock_free.proofs.CountWords.{handle_apart}
 use Rattle.lock_free.specs.declared.accounts.Account.{Account}
 use Rattle.lock_free.specs.declared.root_offers.Proposed.TheVariants.{Stands, Misses, Meets}
@@ -50,21 +49,32 @@ use Rattle.lock_free.specs.Offering.{DraftsOffer, Offers, offered_by}
 use Rattle.lock_free.specs.Places.{root_word, words_of}
 use Rattle.lock_free.specs.RootOffers.{WritesOffer, IsToOffer, HasProposed, proposed_by, has_proposed}
 use Rattle.lock_free.specs.Roots.{SaysRoot, SaysPlain, open_with, second_of}
-use Rattle.lock_free.specs.Rules.{Stands as StandsIn, IsSeat, IsKept, pool_of, IsRuled}
+use Rattle.lock_free.specs.Rules.{AreOwed, AreRetired, Stands as StandsIn, IsSeat, IsKept, pool_of, IsRuled}
 use Rattle.lock_free.proofs.Asked.{live_in_use, slots_tell}
 use Rattle.lock_free.proofs.Exchanged.{words_then, words_hit, words_miss}
-use Rattle.lock_free.proofs.Moments.{allowed, seen_kept, waited_so, live_place, held_there, free_inside}
-use Rattle.lock_free.proofs.Offered.{all_then, offer_kept}
-use Rattle.lock_free.proofs.OfferMisses.{same_offer, ran, ran_runs, ran_acts, dropped, dropped_kept, dropped_sound, has_missed}
+use Rattle.lock_free.proofs.Moments.{allowed_giving, seen_kept, waited_so, live_place, held_there, free_inside}
+use Rattle.lock_free.proofs.Offered.{all_then}
+use Rattle.lock_free.proofs.OfferHolds.{offer_kept}
+use Rattle.lock_free.proofs.OfferMisses.{same_offer, ran, ran_runs, ran_acts, dropped, dropped_kept, owed_dropped, dropped_sound, has_missed}
 use Rattle.lock_free.proofs.OneStep.Offering as offering
 use Rattle.lock_free.proofs.RootCodes.{kind, same_kind, root_back}
 use Rattle.lock_free.proofs.SeenRoots.{root_told}
 use Rattle.lock_free.proofs.Spending as spending
-use Rattle.lock_free.proofs.Framing.{class_small}
+use Rattle.lock_free.proofs.Framing.{class_small, node_end}
 use Rattle.lock_free.proofs.Within.{both_inside, two_words}
+use Rattle.std.proofs.lemmas.List.Sums.{sum_by-cons}
+use Rattle.proof_claims.specs.Changes.{change_by, change_going}
+use Rattle.proof_claims.specs.Changes as claiming
+use Rattle.proof_claims.specs.Held.{Claim, takes}
+use Rattle.lock_free.specs.Claims.{HoldsAll, held_now, owes_after}
+use Rattle.lock_free.specs.Counts.{how_often}
+use Rattle.lock_free.proofs.OwedStay.{owed_then}
+use Rattle.lock_free.proofs.EpochStays.{rest_beside}
+use Rattle.lock_free.proofs.OfferHolds.{Takes, owes_so}
+use Rattle.lock_free.specs.OwesAt.{owes_on}
 
 -- the references that stand in the line of an offer are at hand
-refs_at_hand : (offer : Descriptor) → refs_of_claims (offer_wants offer) ≡ refs_of_offer offer
+pub refs_at_hand : (offer : Descriptor) → refs_of_claims (offer_wants offer) ≡ refs_of_offer offer
 refs_at_hand offer = ap (λ rs. offer.root ∷ offer.expected ∷ offer.successor ∷ rs) (append-nil (refs_of_option offer.second))
 
 second_same : (before after : Account) (o : Option Ref) → ((r : Ref) → Contains (refs_of_option o) r → place_of after r ≡ place_of before r) → second_of after o ≡ second_of before o
@@ -94,6 +104,21 @@ drafts_moved before after drafts slot offer same d = record {
   where
     named : (k : ℕ) → k < 3 → Contains (refs_of_offer offer) (get_or (refs_of_offer offer) k offer.root)
     named k few = Contains-get_or (refs_of_offer offer) k offer.root (omega (arith, few))
+
+-- the roots that it offers are what the step takes
+second_taken : (opens : Option ℕ) (second : Option Ref) (k : Ref) → how_often k (map (λ (c : Claim). c.on) (claiming.second_claims opens second)) ≤ how_often k (refs_of_option second)
+second_taken (Some opens) (Some second) k = omega arith
+second_taken (Some opens) None k = omega arith
+second_taken None second k = omega arith
+
+taken_offered : (offer : Descriptor) (private : List Ref) (handle : ℕ) (owed : List Ref) → HoldsAll (offer.successor ∷ refs_of_option offer.second) owed →
+    HoldsAll (takes (claiming.offers true private handle offer)) owed
+taken_offered offer private handle owed owes k =
+    let most = owes k in
+    let second = second_taken offer.opens offer.second k in
+    let first = sum_by-cons (λ (x : Ref). cond {A = ℕ} (x == k) 1 0) offer.successor (map (λ (c : Claim). c.on) (claiming.second_claims offer.opens offer.second)) in
+    let all = sum_by-cons (λ (x : Ref). cond {A = ℕ} (x == k) 1 0) offer.successor (refs_of_option offer.second) in
+    omega (arith, most, second, first, all)
 
 module _ (v : View) (root slot : ℕ) (offer : Descriptor) (rest : List ℕ) (p : IsAt v (act.Offer offer)) (w : WritesOffer v root slot offer rest) where
   abbrev handle : ℕ
@@ -171,7 +196,8 @@ module _ (v : View) (root slot : ℕ) (offer : Descriptor) (rest : List ℕ) (p 
     abbrev Left : RootWord → View → Type 0
     Left x after =
         IsKept v.sizes (record { words = words_then v s kept id at (root_word handle) old new; homes = s.homes; views = set s.views id after })
-        × (IsSound (words_of v.sizes) after × HasProposed v handle slot (proposed_by root x) after) × (rest_of after ≡ rest_of v)
+        × (IsSound (words_of v.sizes) after × HasProposed v handle slot (proposed_by root x) after) × (rest_beside after ≡ rest_beside v)
+        × (AreRetired v.sizes s.words s.views → AreOwed s.views → AreOwed (set s.views id after))
 
     module _ (plain : root_at state handle ≡ open_with Writable (Plain offer.root)) where
       offers : Offers v.sizes there v.actor slot o offer
@@ -182,6 +208,17 @@ module _ (v : View) (root slot : ℕ) (offer : Descriptor) (rest : List ℕ) (p 
 
       plain_so : is_plain (word_at state handle) offer.root ≡ true
       plain_so = ap (λ r. is_plain (word_of r) offer.root) plain ∙ eq-eqb offer.root offer.root refl
+
+      evidence : Takes v.sizes s kept id v at o runs slot offer offers rest w.last drafted w.names
+      evidence = record {
+        acts = acts;
+        holds =
+            taken_offered offer o.private handle v.owed
+            (λ k. (let all = kept.held.lines id v at o runs k in let its = ap (λ l. how_often k (owes_on o.private l)) at_line in omega (arith, all, its)));
+        owes =
+            ap (λ c. owes_after c (held_now v.sizes there).claims v.owed)
+            (ap (change_going state (held_now v.sizes there)) runs ∙ ap (change_by state (held_now v.sizes there) o) acts ∙ ap (λ b. claiming.offers b o.private handle offer) plain_so);
+      }
 
       offered_sound : IsSound (words_of v.sizes) offered
       offered_sound =
@@ -216,13 +253,15 @@ module _ (v : View) (root slot : ℕ) (offer : Descriptor) (rest : List ℕ) (p 
         offered,
         (
           subst (λ ws. IsKept v.sizes (record { words = ws; homes = s.homes; views = set s.views id offered })) (words_hit v s kept id at (root_word handle) old new e (root_word handle) refl)
-              (offer_kept v.sizes s kept id v at o runs slot offer offers rest w.last drafted w.names),
+              (offer_kept v.sizes s kept id v at o runs slot offer offers rest w.last drafted w.names evidence),
           (
             offered_sound,
             subst (λ x. HasProposed v handle slot x offered) (ap (λ b. if b then Stands else Misses) (sym (eq-eqb other root is)))
                 (there, (waited_so v s kept id at, offered_took, tells_plain), tells_offered),
           ),
           refl,
+          λ retired h.
+              owed_then s.views id v at offered (λ k c. (owes_so v.sizes s kept id v at o runs slot offer offers rest w.last drafted w.names evidence k c, refl)) (λ y c. c) h,
         ),
       )
 
@@ -242,6 +281,7 @@ module _ (v : View) (root slot : ℕ) (offer : Descriptor) (rest : List ℕ) (p 
               subst (λ x. HasProposed v handle slot x after) (ap (λ b. if b then Stands else Misses) (sym (ne_eqb other root differs))) (has_missed v offer p s kept id at another),
             ),
             refl,
+            owed_dropped v offer p s kept id at another,
           ),
         )
 
@@ -260,6 +300,7 @@ module _ (v : View) (root slot : ℕ) (offer : Descriptor) (rest : List ℕ) (p 
               (record { table = s; kept = kept; id = id; at = at; finds = refl }, refl))),
         ),
         refl,
+        λ retired h. owed_then s.views id v at (seen v there) (λ k c. (c, refl)) (λ y c. c) h,
       ),
     )
 
@@ -270,7 +311,7 @@ module _ (v : View) (root slot : ℕ) (offer : Descriptor) (rest : List ℕ) (p 
     small_root =
         let mine = (lives offer.root (root_of_offer offer)).1 in
         let used = live_in_use v.sizes there kept.bounds offer.root mine in
-        let inside = kept.nodes.inside (slot_of offer.root) used.0 used.1 in
+        let inside = node_end v.sizes used.0.node (place_of there offer.root) (kept.nodes.inside (slot_of offer.root) used.0 used.1) in
         let some = two_words (class_of used.0.node) (class_small used.0.node) in
         let range = kept.range.within in
         omega (arith, inside, some, range, root_place)
@@ -320,7 +361,7 @@ pub offer_allowed : (sizes : Sizes) (size id : ℕ) (me : Me Call View) (some_se
     AllowsOffer sizes size id me (root_word named) (root_code (word.Writable root)) (root_code (word.Offered slot))
 offer_allowed sizes size id me some_seats named root slot (offer, rest, p, w, on) =
     subst (λ h. AllowsOffer sizes size id me (root_word h) (root_code (word.Writable root)) (root_code (word.Offered slot))) on
-    (allowed sizes size id me (root_word (handle_of p.operation.call)) (λ n. either (n == root_code (word.Writable root)) (root_code (word.Offered slot)) n)
+    (allowed_giving sizes size id me (root_word (handle_of p.operation.call)) (λ n. either (n == root_code (word.Writable root)) (root_code (word.Offered slot)) n)
     (has_proposed (step size (root_word (handle_of p.operation.call)) (root_code (word.Writable root)) (root_code (word.Offered slot)) none) me)
     some_seats (λ s kept at. inl (handle_apart me.0.sizes (handle_of p.operation.call) (low me.0 root slot offer rest p w s kept id at)))
     (λ s kept at. (let x = leaves me.0 root slot offer rest p w s kept id at in (
@@ -332,7 +373,7 @@ offer_allowed sizes size id me some_seats named root slot (offer, rest, p, w, on
         refl,
       ),
     )))
-    (λ s kept at. (leaves me.0 root slot offer rest p w s kept id at).1.2))
+    (λ s kept at. (leaves me.0 root slot offer rest p w s kept id at).1.2) (λ s kept at. (leaves me.0 root slot offer rest p w s kept id at).1.3))
 
 -- both slots are in range
 pub offer_fits : (words : ℕ) (v : View) (named root slot : ℕ) → IsSound words v → IsToOffer v named root slot → (root < 2 ^ 27) × (slot < 2 ^ 27)

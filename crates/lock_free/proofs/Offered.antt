@@ -19,8 +19,7 @@ use Rattle.machine_model.specs.declared.operations.Operation.{Operation}
 use Rattle.machine_model.specs.Acting.{operation_after}
 use Rattle.machine_model.specs.Calls.{handle_of}
 use Rattle.machine_model.specs.Keys.{FitsKey}
-use Rattle.machine_model.specs.declared.roots.RootWord.TheVariants.{Offer}
-use Rattle.machine_model.specs.States.{State, operation_of, root_at, word_at, word_of, handle_limit}
+use Rattle.machine_model.specs.States.{State, operation_of, root_at, word_of, handle_limit}
 use Rattle.lock_free.specs.declared.accounts.Account.{Account}
 use Rattle.lock_free.specs.declared.accounts.Known.{Known}
 use Rattle.lock_free.specs.declared.rules.View.{View}
@@ -40,10 +39,13 @@ use Rattle.lock_free.proofs.Pools.{first_or_more, first_there, more_there}
 use Rattle.lock_free.proofs.RootCodes.{same_kind}
 use Rattle.lock_free.proofs.RootFound.{not_plain, slot_fits, offered_is, opening_is, later_is}
 use Rattle.lock_free.proofs.RootSteps as root
+use Rattle.lock_free.proofs.SeatOwing.{seat_owing}
+use Rattle.lock_free.proofs.PlainStay.{plain_running}
 use Rattle.lock_free.proofs.Seats.{ran_so, Stays, other_kept, own_kept}
 use Rattle.lock_free.proofs.Spending as spending
 use Rattle.lock_free.proofs.Stood.{plain_not}
 use Rattle.lock_free.proofs.Waiting.{waited_more, quiet_more}
+use Rattle.lock_free.specs.Holdings.{AreHeld}
 
 module _ (sizes : Sizes) (s : Table.State Call View) (kept : IsKept sizes s) (id : ℕ) (v : View) (at : get_elem? s.views id ≡ some v) (operation : Operation)
     (runs : operation_of (state_of sizes kept.account) v.actor ≡ Some operation) (slot : ℕ) (offer : Descriptor) (offers : Offers sizes kept.account v.actor slot operation offer)
@@ -257,13 +259,10 @@ module _ (sizes : Sizes) (s : Table.State Call View) (kept : IsKept sizes s) (id
         (kept.roots.pending k old before))
   ]
 
-  not_there_yet : (d : Descriptor) → word_at now handle ≡ Offer d → ⊥
-  not_there_yet d e = plain_not offer.root d (sym (ap word_of offers.stood) ∙ e)
-
   fates_all : (k : Known) → Contains account_then.offers k → TellsFate sizes account_then k (fate words_then k)
   fates_all =
-      fates_more sizes kept.account account_then (step.Go v.actor) refl new offers.never not_there_yet (λ h differs. ap word_of (offers.roots h differs)) s.words words_then fate_new fate_old
-      kept.roots.fates
+      fates_more sizes kept.account account_then (step.Go v.actor) refl new offers.never (λ d e. plain_not offer.root d (sym (ap word_of offers.stood) ∙ e))
+      (λ h differs. ap word_of (offers.roots h differs)) s.words words_then fate_new fate_old kept.roots.fates
 
   -- ---- all that stands
 
@@ -344,15 +343,17 @@ module _ (sizes : Sizes) (s : Table.State Call View) (kept : IsKept sizes s) (id
         (let x = (kept.seats other w e).spare b name free in
         let differs : name ≢ slot = λ same. apart (kept.pools other id w v b 1 slot e at (subst (λ n. IsFree w b n) same free) its_own) in
         (spare_then name differs x.1, slot_same b name free.0 x.0));
+    plain = plain_running sizes kept.account account_then kept.bounds ((step.Go v.actor) ∷ []) refl s.words words_then v.actor operation runs;
   }
 
   own_then : IsSeat sizes account_then kept.stands words_then view_then
   own_then =
-      own_kept sizes s kept id v at account_then kept.stands words_then stays operation (operation_after now operation) runs offers.own refl refl (held id v at) all_then.counted
+      seat_owing sizes account_then kept.stands words_then (record view_then { owed = v.owed }) view_then.owed
+      (own_kept sizes s kept id v at account_then kept.stands words_then stays operation (operation_after now operation) runs offers.own refl refl (held id v at) all_then.counted
       (pin_same v.actor seat.low) view_then.pool None (λ g n o e. absurd (none-some n e)) []
       (λ b name f. (let before = spending.was_free sizes s kept id v at 1 medium slot rest pool b name f.0 f.1 in
       let x = seat.spare b name before.0 in (still_taken b name f.0 x.0, spare_then name before.1 x.1)))
-      (spending.once_then sizes s kept id v at 1 medium slot rest pool) (λ d c. absurd (omega (arith, c.1)))
+      (spending.once_then sizes s kept id v at 1 medium slot rest pool) (λ d c. absurd (omega (arith, c.1))))
 
   closings_then : (g who : ℕ) → g < handle_limit → SaysClosing (slice_index words_then (root_word g)) who → IsClosing (set s.views id view_then) g who
   closings_then g who below says = elim (cases_eq g handle) [
@@ -392,8 +393,8 @@ module _ (sizes : Sizes) (s : Table.State Call View) (kept : IsKept sizes s) (id
     runners = λ a o e. inr (ran kept.account.offers now next keeps a o e);
   }
 
-  -- the rule holds
-  pub offer_kept : IsKept sizes (record { words = words_then; homes = s.homes; views = set s.views id view_then })
-  offer_kept =
+  -- the rule holds, where each reference is counted still
+  pub offered_kept : AreHeld sizes account_then kept.stands words_then (set s.views id view_then) → IsKept sizes (record { words = words_then; homes = s.homes; views = set s.views id view_then })
+  offered_kept held_still =
       assembled sizes s kept id v at view_then refl refl account_then kept.stands words_then all_then closings_then own_then (other_kept sizes s kept id v at account_then kept.stands words_then stays)
-      (λ b name f. inl (spending.was_free sizes s kept id v at 1 medium slot rest pool b name f.0 f.1).0) numbers_then
+      (λ b name f. inl (spending.was_free sizes s kept id v at 1 medium slot rest pool b name f.0 f.1).0) numbers_then held_still

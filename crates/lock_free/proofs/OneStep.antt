@@ -36,3 +36,6 @@ pub mod Makes
 pub mod Openers
 pub mod GivesUp
 pub mod Entries
+pub mod HeldWide
+pub mod HeldLonger
+pub mod Holders

@@ -34,7 +34,7 @@ use Rattle.lock_free.specs.Rules.{IsClosing, SaysClosing, IsSeat, IsKept}
 use Rattle.lock_free.proofs.Asked.{live_in_use}
 use Rattle.lock_free.proofs.Assembling.{all_stand, here, closing_at}
 use Rattle.lock_free.proofs.Closers.{newest, older}
-use Rattle.lock_free.proofs.Framing.{has_words, class_small}
+use Rattle.lock_free.proofs.Framing.{has_words, class_small, node_end}
 use Rattle.lock_free.proofs.RootCodes.{kind, same_kind}
 use Rattle.lock_free.proofs.RootFound.{slot_fits, offered_is, opening_is}
 use Rattle.lock_free.proofs.RootSteps as root
@@ -85,7 +85,7 @@ module _ (sizes : Sizes) (s : Table.State Call View) (kept : IsKept sizes s) (ha
   pub root_fits : (access : Access) (q : Ref) → root_at now handle ≡ open_with access (Plain q) → place_of kept.account q < 2 ^ 27
   root_fits access q plain =
       let used = live_in_use sizes kept.account kept.bounds q (from_root handle q (subst (λ r. Contains (refs_of_root r) q) (sym plain) (Contains-get_or (q ∷ []) 0 q (omega arith)))) in
-      let inside = kept.nodes.inside (slot_of q) used.0 used.1 in
+      let inside = node_end sizes used.0.node (place_of kept.account q) (kept.nodes.inside (slot_of q) used.0 used.1) in
       let some = has_words (class_of used.0.node) (class_small used.0.node) in
       let range = kept.range.within in
       omega (arith, inside, some, range)

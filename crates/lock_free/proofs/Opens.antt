@@ -4,7 +4,7 @@ use Rattle.std.proofs.Common.{inl, inr, map, arith}
 use Rattle.std.proofs.lemmas.List.{get_or-set_same, get_or-set_other, length-replicate}
 use Rattle.std.proofs.lemmas.List.Elements.{All-nil}
 use Rattle.std.proofs.lemmas.Option.{none-some}
-use mathlib.Core.Option.{some, some-injective, some-ne-none}
+use mathlib.Core.Option.{some}
 use lib.ListN.{get_elem?}
 use Rattle.atomic_table.specs.Table.{opening}
 use Rattle.history.specs.declared.calls.Call.{Call}
@@ -21,22 +21,30 @@ use Rattle.machine_model.specs.Beneath.slot_arena.proofs.Live.{slot_of_ref}
 use Rattle.machine_model.specs.Keys.{FitsKey}
 use Rattle.machine_model.specs.Machine.{AreBounds}
 use Rattle.machine_model.specs.States.{root_at, handle_limit}
+use Rattle.machine_model.proofs.Grown.{node_standing}
+use Rattle.proof_memory.specs.Laws.{IsInUse}
 use Rattle.lock_free.specs.declared.accounts.Account.{Account}
 use Rattle.lock_free.specs.declared.accounts.Owned.{Owned}
 use Rattle.lock_free.specs.declared.rules.Retired.{Retired}
 use Rattle.lock_free.specs.declared.rules.View.{View}
 use Rattle.lock_free.specs.declared.sizes.Sizes.{Sizes}
 use Rattle.lock_free.specs.Accounts.{bounds_for, state_of, place_at, OwnIs, first, later}
+use Rattle.lock_free.specs.Counts.{IsCount, references}
+use Rattle.lock_free.specs.Holdings.{AreHeld, count_of}
 use Rattle.lock_free.specs.Loading.{IsSound}
 use Rattle.lock_free.specs.Nodes.{IsAhead, AreOwners, StandsAs, InTable, class_of, of_branch, decided}
 use Rattle.lock_free.specs.Opening.{counted_words, first_words, first_link, first_handle}
 use Rattle.lock_free.specs.Owning.{IsOwnBy, at_first}
-use Rattle.lock_free.specs.Places.{AreSizes, HaveTaken, IsTaken, branch_slot, epoch_word, root_slot, words_of, words_in, generation_word, taken_word, root_word, pin_word}
+use Rattle.lock_free.specs.Places.{AreSizes, HaveTaken, IsSlot, IsTaken, branch_slot, count_word, epoch_word, root_slot, words_of, words_in, generation_word, taken_word, root_word, pin_word}
 use Rattle.lock_free.specs.Roots.{MeansRoot}
 use Rattle.lock_free.specs.Rules.{Once, first_account, first_view, Standing, NodesStand, RootsStand, SaysClosing, IsSeat, IsKept, IsRuled}
+use Rattle.lock_free.proofs.CountWords.{count_above, count_beside, slot_taken}
+use Rattle.lock_free.proofs.FirstHeld.{held_first, only_view}
+use Rattle.lock_free.proofs.Framing.{class_small}
 use Rattle.lock_free.proofs.Geometry.{next_root}
 use Rattle.lock_free.proofs.FirstState.{IsFirst, branch, link, births_are, generations_are, node_found, root_is, no_root, nobody_runs, none_runs}
 use Rattle.lock_free.proofs.Idle.{empty_has, none_free, none_twice}
+use Rattle.lock_free.proofs.OneStep.Found.{slot_at}
 use Rattle.lock_free.proofs.RootCodes.{kind, same_kind}
 use Rattle.lock_free.proofs.Waiting.{waited_none}
 
@@ -44,10 +52,6 @@ zeros : (n k : ℕ) → slice_index (replicate n 0) k ≡ 0
 zeros zero k = refl
 zeros (suc n) zero = refl
 zeros (suc n) (suc k) = zeros n k
-
-only_view : (v w : View) (id : ℕ) → get_elem? (v ∷ []) id ≡ some w → (id ≡ 0) × (v ≡ w)
-only_view v w zero e = (refl, some-injective v w e)
-only_view v w (suc id) e = absurd (some-ne-none w (sym e))
 
 -- somebody owns something
 some_owned : (xs : List Owned) (i m : ℕ) (b : Bool) → OwnIs xs i m b → 0 < length xs
@@ -145,9 +149,9 @@ module _ (sizes : Sizes) where
     few_at k slot branch = omega arith
     few_at k slot link = omega arith
 
-    inside_at : (k : ℕ) (slot : Slot) → IsFirst k slot → 2 * place_at account k + words_in (class_of slot.node) ≤ words_of sizes
-    inside_at k slot branch = let two = ok.root in omega (arith, two)
-    inside_at k slot link = let two = ok.root in omega (arith, two)
+    inside_at : (k : ℕ) (slot : Slot) → IsFirst k slot → IsSlot sizes (class_of slot.node) (place_at account k)
+    inside_at k slot branch = record { number = 0; few = (let two = ok.root in omega (arith, two)); first = omega arith }
+    inside_at k slot link = record { number = 1; few = (let two = ok.root in omega (arith, two)); first = omega arith }
 
     apart_at : (j k : ℕ) (x y : Slot) → IsFirst j x → IsFirst k y → place_at account j ≡ place_at account k → j ≡ k
     apart_at j k x y branch branch e = refl
@@ -279,10 +283,35 @@ module _ (sizes : Sizes) where
       spare = λ class name free. absurd (none_free sizes 1 sizes.seats account class name free);
       once = none_twice sizes 1 sizes.seats account;
       drafts = λ d c. absurd (empty_has d c);
+      plain = λ d c. absurd (empty_has d c);
     }
 
     abbrev its : (w : View) (id : ℕ) → get_elem? (first_view sizes ∷ []) id ≡ some w → (id ≡ 0) × (first_view sizes ≡ w)
     its w id e = only_view (first_view sizes) w id e
+
+    -- all counts are 0 beside the first reference
+    one_reference : (c : ℕ) → IsCount sizes c → references (first_words sizes) c ≡ 1
+    one_reference c is =
+        let far = count_above sizes c is in
+        let root : IsTaken sizes (first_words sizes) 0 (root_slot sizes) = record { number = 1; few = omega (arith, taken_is); first = omega arith } in
+        let beside = count_beside sizes (first_words sizes) have_taken c is 0 (root_slot sizes) (2 * root_slot sizes) (omega arith) root (record { low = omega arith; high = omega arith }) in
+        let zero = zero_is c (λ e. beside (sym e)) (λ e. omega (arith, far, e)) (λ e. omega (arith, far, e)) (λ e. omega (arith, far, e)) in
+        omega (arith, zero)
+
+    counts_of : (k : Ref) → IsInUse (state_of sizes account).heap k → IsCount sizes (count_of sizes account k)
+    counts_of k (slot, standing) =
+        let heap = (state_of sizes account).heap in
+        let taken = taken_at (slot_of k) slot (node_found sizes (slot_of k) slot (slot_at heap k slot standing)) in
+        record {
+          class = class_of slot.node;
+          small = class_small slot.node;
+          name = place_at account (slot_of k);
+          slot = slot_taken sizes (first_words sizes) have_taken (class_of slot.node) (place_at account (slot_of k)) (class_small slot.node) taken;
+          is = ap (λ n. count_word sizes (class_of n) (place_at account (slot_of k))) (node_standing heap k slot standing);
+        }
+
+    held_is : AreHeld sizes account all_stand (first_words sizes) (first_view sizes ∷ [])
+    held_is = held_first sizes all_stand (λ k. refl) (first_words sizes) one_reference counts_of
 
     pub opens : IsKept sizes (opening {S = Call} (first_words sizes) [] (first_view sizes))
     opens = record {
@@ -305,6 +334,7 @@ module _ (sizes : Sizes) where
       alone = λ i j v w a ei ej hv hw. (its v i ei).0 ∙ sym (its w j ej).0;
       pools = λ i j v w b c name ei ej hv hw. (its v i ei).0 ∙ sym (its w j ej).0;
       numbers = λ i j v w handle ei ej hv hw. (its v i ei).0 ∙ sym (its w j ej).0;
+      held = held_is;
     }
 
     none_retired : (id : ℕ) (v : View) → get_elem? (first_view sizes ∷ []) id ≡ some v → (x : Retired) → Contains v.retired x → ⊥
@@ -325,7 +355,10 @@ module _ (sizes : Sizes) where
         once = λ id v e. subst (λ xs. Once (map (λ (x : Retired). x.number) xs)) (ap (λ (x : View). x.retired) (its v id e).1) tt;
         apart = λ i j v w ei ej x y c d same. absurd (none_retired i v ei x c);
       };
-      counted = record { claims = []; counted = λ c is. omega arith };
+      owed = record {
+        pinned = λ id v e k c. absurd (empty_has k (subst (λ ks. Contains ks k) (ap (λ (x : View). x.owed) (sym (its v id e).1)) c));
+        early = λ i j v w ei ej x k cx ck same p is. absurd (none_retired i v ei x cx);
+      };
       linked = record { linked = λ id v e d c. absurd (empty_has d (subst (λ ds. Contains ds d) (ap (λ (x : View). x.links) (sym (its v id e).1)) c)) };
       heard = λ id v e h c. (let none = (subst (λ hs. Contains hs h) (ap (λ (x : View). x.heard) (sym (its v id e).1)) c).1 in absurd (omega (arith, none)));
     }

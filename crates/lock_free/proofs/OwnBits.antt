@@ -115,7 +115,7 @@ module _ (sizes : Sizes) (account : Account) (actor : ℕ) (operation : Operatio
         goes_on = sym (append-nil (account.steps ++ step.Go actor ∷ []));
         operation = operation;
         runs = makes.runs;
-        how = builds (owns own_is) (let birth = birth_of_ref (k + 1) k in omega (arith, birth, counted));
+        how = builds (owns.0 own_is) (let birth = birth_of_ref (k + 1) k in omega (arith, birth, counted));
         has = ((makes.made, there), ap is_indirection node_there);
         stands = ap main_of node_there;
       }

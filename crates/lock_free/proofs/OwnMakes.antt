@@ -25,7 +25,7 @@ use Rattle.lock_free.specs.Places.{words_in}
 use Rattle.lock_free.specs.Rules.{IsFree, pool_of}
 use Rattle.lock_free.specs.SeenEntries.{HasMadeNext}
 use Rattle.lock_free.specs.Stocks.{Stocked, IsStock, NotesLast, HasSlot}
-use Rattle.lock_free.specs.Owning.{IsBuilding, MayOwn}
+use Rattle.lock_free.specs.Owning.{MayOwn}
 use Rattle.lock_free.specs.Storing.{IsOwnWord, drafted, IsAtMake, IsAdded, HasMade}
 use Rattle.lock_free.proofs.LimboStays.{limbo_so}
 use Rattle.lock_free.proofs.EntryLooks.{slot_small}
@@ -165,7 +165,7 @@ module _ (before : View) (name : ℕ) (mid : View) (slot : HasSlot before 0 name
 -- ---- an indirection
 
 module _ (n : ℕ) (before : View) (sound : IsSound n before) (name : ℕ) (mid : View) (slot : HasSlot before 0 name mid) (generation : ℕ) (small : generation < 2 ^ 36) (main : Name) (r : Ref)
-    (p : IsAt before (act.Make (Indirection generation r))) (placed : IsPlaced before r main.slot) (owns : main.own ≡ true → IsBuilding p.operation.line r) where
+    (p : IsAt before (act.Make (Indirection generation r))) (placed : IsPlaced before r main.slot) (owns : MayOwn p.operation.line (Indirection generation r) main.own) where
   pub link_fits : IsLink (record { generation = generation; main = main })
   link_fits = (small, subst (λ k. k < 2 ^ 27) placed.1 (slot_small n before sound r placed.0.0 placed.0.1))
 

@@ -32,10 +32,10 @@ use Rattle.proof_memory.specs.Wants.{is_indirection}
 use Rattle.proof_memory.proofs.Heap.Moves.{born}
 use Rattle.proof_memory.proofs.Safety.AtEachTime.{safe_along}
 use Rattle.proof_memory.proofs.Safety.AtTimes.{node_found}
-use Rattle.proof_reuse.proofs.InLists.{state_then, time_within}
-use Rattle.proof_reuse.specs.Beneath.proof_followed.proofs.LastStep as one_more
-use Rattle.proof_reuse.specs.Beneath.proof_owned.specs.Owned.{IsOwn, swapped, built, first as owned_first}
-use Rattle.proof_reuse.specs.Beneath.proof_owned.proofs.MainsInUse.{main_used}
+use Rattle.proof_claims.specs.Beneath.proof_reuse.proofs.InLists.{state_then, time_within}
+use Rattle.proof_claims.specs.Beneath.proof_reuse.specs.Beneath.proof_followed.proofs.LastStep as one_more
+use Rattle.proof_claims.specs.Beneath.proof_reuse.specs.Beneath.proof_owned.specs.Owned.{IsOwn, swapped, built, first as owned_first}
+use Rattle.proof_claims.specs.Beneath.proof_reuse.specs.Beneath.proof_owned.proofs.MainsInUse.{main_used}
 use Rattle.proof_waiting.specs.Beneath.proof_slots.specs.Lasting.{widened}
 use Rattle.proof_waiting.specs.Beneath.proof_slots.specs.Unswept.{HasNoSweeps}
 use Rattle.proof_waiting.specs.Beneath.proof_slots.proofs.Unswept.Kept.{one_ref}

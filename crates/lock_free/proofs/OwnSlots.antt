@@ -16,6 +16,7 @@ use Rattle.lock_free.specs.Places.{stride, words_in, words_of, part_of, slots_in
 use Rattle.lock_free.specs.Rules.{pool_of, IsKept, IsRuled}
 use Rattle.lock_free.specs.Storing.{IsOwnWord, drafted, has_drafted, with_free, has_taken}
 use Rattle.lock_free.proofs.CountWords.{before_apart}
+use Rattle.lock_free.proofs.Geometry.{slot_end}
 use Rattle.lock_free.proofs.Drafting.{draft_kept}
 use Rattle.lock_free.proofs.Exchanged.{words_hit, words_miss}
 use Rattle.lock_free.proofs.Moments.{allowed, own_apart}
@@ -46,12 +47,6 @@ slot_at sizes zero count low = ((part_of sizes 0 + 2 * count) / 2, omega arith)
 slot_at sizes (suc zero) count low = ((part_of sizes 1 + 8 * count) / 2, omega arith)
 slot_at sizes (suc (suc zero)) count low = ((part_of sizes 2 + 24 * count) / 2, omega arith)
 slot_at sizes (suc (suc (suc class))) count low = absurd (omega (arith, low))
-
-slot_inside : (sizes : Sizes) (class count name : ℕ) → class < 3 → count < slots_in sizes class → 2 * name ≡ part_of sizes class + stride class * count → 2 * name + words_in class ≤ words_of sizes
-slot_inside sizes zero count name low few is = omega (arith, few, is)
-slot_inside sizes (suc zero) count name low few is = omega (arith, few, is)
-slot_inside sizes (suc (suc zero)) count name low few is = omega (arith, few, is)
-slot_inside sizes (suc (suc (suc class))) count name low few is = absurd (omega (arith, low))
 
 same_slot : (a b n : ℕ) → 2 * a ≡ n → 2 * b ≡ n → a ≡ b
 same_slot a b n p q = omega (arith, p, q)
@@ -129,4 +124,5 @@ taken_sound words v class count name small few is h =
     free_then : (b n : ℕ) → b < 3 → Contains (pool_of v.pool b) n ⊎ ((b ≡ class) × (name ≡ n)) → 2 * n + words_in b ≤ words_of v.sizes
     free_then b n low (inl old) = h.free b n (low, old)
     free_then b n low (inr new) =
-        subst (λ c. 2 * n + words_in c ≤ words_of v.sizes) (sym new.0) (subst (λ m. 2 * m + words_in class ≤ words_of v.sizes) new.1 (slot_inside v.sizes class count name small few is))
+        subst (λ c. 2 * n + words_in c ≤ words_of v.sizes) (sym new.0)
+        (subst (λ m. 2 * m + words_in class ≤ words_of v.sizes) new.1 (slot_end v.sizes class name small (record { number = count; few = few; first = is })))

@@ -12,7 +12,7 @@ use Rattle.machine_model.specs.GivingUp.{gave_up}
 use Rattle.lock_free.specs.declared.leaving.Swapping.{Swapping}
 use Rattle.lock_free.specs.declared.parking.Came.TheVariants as came
 use Rattle.lock_free.specs.declared.rules.View.{View}
-use Rattle.lock_free.specs.declared.swapping.Decided.{Decided}
+use Rattle.lock_free.specs.declared.reclaiming.Decided.{Decided}
 use Rattle.lock_free.specs.Calling.{cut_short, CutBy, GaveUp, HasCutShort}
 use Rattle.lock_free.specs.Exchanging.{given_back}
 use Rattle.lock_free.specs.Leaving.{EndsOrMay, HasDecidedSwap, HasSwappedOn, IsClimbAfter, IsRepair, IsSwapLeft, IsUpdate}
@@ -21,7 +21,7 @@ use Rattle.lock_free.specs.Parking.{HasRunTo, HasWoundUp, IsBare, IsSwapFor, Sti
 use Rattle.lock_free.specs.Passing.{IsOnWay}
 use Rattle.lock_free.specs.Seeking.{IsCalled}
 use Rattle.lock_free.specs.Stocks.{made_of, own_of, IsStock, Stocked}
-use Rattle.lock_free.specs.Swaps.{is_done, retired_by, swap_done, swapped_by}
+use Rattle.lock_free.specs.Swaps.{is_done, swap_done, swapped_by}
 use Rattle.lock_free.specs.Limbos.{Hanging, hanging_of, IsLimbo}
 use Rattle.lock_free.proofs.LimboStays.{limbo_so}
 use Rattle.lock_free.proofs.Comings.{saw_runs}
@@ -84,7 +84,7 @@ module _ (v : View) (s : Swapping) (left : IsSwapLeft v s) (result : Decided) (w
 
   pub decided_owns : (stock next : Stocked) → IsStock stock v → next ≡ record stock { limbo = next.limbo } → IsLimbo next.limbo w → IsStock next w
   decided_owns =
-      bare_stock v w (retiring_sizes (retired_by (swapped_by result)) v w h.later) (retiring_pool (retired_by (swapped_by result)) v w h.later) (is_bare v first left.its.runs left.its.none)
+      bare_stock v w (retiring_sizes v w h.later) (retiring_pool v w h.later) (is_bare v first left.its.runs left.its.none)
       decided_bare
 
   pub then_bare : IsBare w

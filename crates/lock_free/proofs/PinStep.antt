@@ -5,7 +5,7 @@ use Rattle.machine_model.specs.Calls.{handle_of}
 use Rattle.lock_free.specs.declared.rules.Retired.{Retired}
 use Rattle.proof_garbage.specs.Grace.{HaveEnded}
 use Rattle.history.specs.declared.calls.Call.{Call}
-use Rattle.std.proofs.Common.{◌≤◌, ◌≡◌, ◌≢◌, ◌⊎◌, inl, inr, List, slice_index, ◌+◌, ◌-◌, ◌*◌, ◌/◌, ◌%◌, ◌^◌, ◌<◌, ◌==◌, ℕ, set, Option}
+use Rattle.std.proofs.Common.{◌≤◌, ◌≡◌, ◌≢◌, ◌⊎◌, inl, inr, List, slice_index, ◌+◌, ◌-◌, ◌*◌, ◌/◌, ◌%◌, ◌^◌, ◌<◌, ◌==◌, ℕ, set, Option, []}
 use Rattle.std.proofs.Common.{Contains, map, Some, None, refl, sym, ap, subst, ◌∙◌, arith, ne_eqb, if◌then◌else◌}
 use Rattle.std.proofs.lemmas.List.{set-set}
 use Rattle.std.proofs.lemmas.Option.{same_Some, none-some}
@@ -29,11 +29,12 @@ use Rattle.lock_free.specs.SeatWords.{IsIdle, pinned_for, unpinned, has_pinned, 
 use Rattle.lock_free.proofs.PinnedFor.{asks_kept}
 use Rattle.lock_free.proofs.Assembling.{here}
 use Rattle.lock_free.proofs.CountWords.{count_same, pin_apart}
-use Rattle.lock_free.proofs.CountsStay.{counted_then}
+use Rattle.lock_free.proofs.OwedStay.{owed_then}
 use Rattle.lock_free.proofs.LinksStay.{linked_then}
 use Rattle.lock_free.specs.Links.{link_in}
 use Rattle.lock_free.proofs.EpochStays.{epoch_in, pinned_still, stays_elsewhere}
 use Rattle.lock_free.proofs.Exchanged.{words_hit}
+use Rattle.lock_free.proofs.Idle.{empty_has}
 use Rattle.lock_free.proofs.Moments.{allowed_by, allowed_unpinned}
 use Rattle.lock_free.proofs.OneStep.Idle.{idle_stays}
 use Rattle.lock_free.proofs.Pinning.{pin_kept}
@@ -61,7 +62,7 @@ module _ (v : View) (idle : IsIdle v) (s : Table.State Call View) (kept : IsKept
   Leaves pin after = IsKept v.sizes (record { words = set s.words (pin_word v.actor) (pin_word_of pin); homes = s.homes; views = set s.views id after })
 
   pub unpins : Leaves None (unpinned v)
-  unpins = pin_kept v.sizes s kept id v at (idle_there v s kept id at idle) None (λ p is. absurd (none-some p is))
+  unpins = pin_kept v.sizes s kept id v at (idle_there v s kept id at idle) None [] (λ k. omega arith) (λ p is. absurd (none-some p is))
 
   -- who is pinned then has pinned itself while nothing ran there
   its_idle : (pin : Pinned) → pin.account ≡ kept.account → (p : Pinned) → Some pin ≡ Some p → HasPinnedIdle v.sizes kept.account v.actor p
@@ -73,8 +74,8 @@ module _ (v : View) (idle : IsIdle v) (s : Table.State Call View) (kept : IsKept
 
   pub asks : (pin : Pinned) (call : Call) → pin.account ≡ kept.account → Leaves (Some pin) (pinned_for v pin call)
   asks pin call its_account =
-      let pinned = record v { pin = Some pin; entered = None } in
-      let first = pin_kept v.sizes s kept id v at (idle_there v s kept id at idle) (Some pin) (its_idle pin its_account) in
+      let pinned = record v { pin = Some pin; entered = None; owed = [] } in
+      let first = pin_kept v.sizes s kept id v at (idle_there v s kept id at idle) (Some pin) [] (λ k. omega arith) (its_idle pin its_account) in
       subst (λ views. IsKept v.sizes (record { words = set s.words (pin_word v.actor) (pin_code pin.pin); homes = s.homes; views = views })) (set-set s.views id pinned (pinned_for v pin call))
       (asks_kept v.sizes (record { words = set s.words (pin_word v.actor) (pin_code pin.pin); homes = s.homes; views = set s.views id pinned }) first id pinned
       (here v.sizes s kept id v at pinned refl refl) (Some call) v.epoch v.passed)
@@ -185,7 +186,7 @@ pub pin_allowed : (sizes : Sizes) (size id : ℕ) (me : Me Call View) (some_seat
 pin_allowed sizes size id me some_seats pin call fits late idle free =
     allowed_by sizes size id me (pin_word me.0.actor) (λ n. either (n == 0) (pin_code pin) n) (has_pinned (step size (pin_word me.0.actor) 0 (pin_code pin) (some call)) me)
     some_seats
-    (λ s kept epochs retired counted linked at. (
+    (λ s kept epochs retired owed linked at. (
       pinning me.0 pin fits late call s kept,
       subst (λ ws. IsKept me.0.sizes (record { words = ws; homes = s.homes; views = set s.views id (pinning me.0 pin fits late call s kept) }))
           (words_hit me.0 s kept id at (pin_word me.0.actor) 0 (pin_code pin) ((kept.seats id me.0 at).pinned ∙ ap pin_word_of free) (pin_word me.0.actor) refl)
@@ -196,10 +197,7 @@ pin_allowed sizes size id me some_seats pin call fits late idle free =
       retired_pinned me.0 pin fits late call s kept id at epochs
           (set s.words (pin_word me.0.actor) (either (slice_index s.words (pin_word me.0.actor) == 0) (pin_code pin) (slice_index s.words (pin_word me.0.actor))))
           (stays_elsewhere s.words (pin_word me.0.actor) (λ n. either (n == 0) (pin_code pin) n) (inl (λ e. omega (arith, e)))) retired,
-      counted_then s.views id me.0 at (pinning me.0 pin fits late call s kept) refl me.0.sizes s.words
-          (set s.words (pin_word me.0.actor) (either (slice_index s.words (pin_word me.0.actor) == 0) (pin_code pin) (slice_index s.words (pin_word me.0.actor))))
-          (count_same me.0.sizes (pin_word me.0.actor) (λ n. either (n == 0) (pin_code pin) n) s.words
-          (inl (pin_apart me.0.sizes me.0.actor (let seat = kept.seats id me.0 at in omega (arith, seat.top, seat.most))))) counted,
+      owed_then s.views id me.0 at (pinning me.0 pin fits late call s kept) (λ k c. absurd (empty_has k c)) (λ x c. c) owed,
       linked_then s.views id me.0 at (pinning me.0 pin fits late call s kept) refl (λ x c. c) me.0.sizes s.words
           (set s.words (pin_word me.0.actor) (either (slice_index s.words (pin_word me.0.actor) == 0) (pin_code pin) (slice_index s.words (pin_word me.0.actor))))
           (λ c is. ap link_in (count_same me.0.sizes (pin_word me.0.actor) (λ n. either (n == 0) (pin_code pin) n) s.words

@@ -10,6 +10,7 @@ use Rattle.lock_free.specs.Accounts.{state_of}
 use Rattle.lock_free.specs.Rules.{IsSeat, IsKept}
 use Rattle.lock_free.proofs.Assembling.{all_stand, closing_stays, numbers_stay, assembled}
 use Rattle.lock_free.proofs.Meanings.{no_tries}
+use Rattle.lock_free.proofs.HeldStill.{held_views}
 
 module _ (sizes : Sizes) (s : Table.State Call View) (kept : IsKept sizes s) (id : ℕ) (v : View) (at : get_elem? s.views id ≡ some v) (call : Option Call) (epoch passed : ℕ) where
   abbrev then : View
@@ -38,6 +39,7 @@ module _ (sizes : Sizes) (s : Table.State Call View) (kept : IsKept sizes s) (id
         spare = h.spare;
         once = h.once;
         drafts = h.drafts;
+        plain = h.plain;
       }
 
   pub asks_kept : IsKept sizes (record { words = s.words; homes = s.homes; views = set s.views id then })
@@ -46,4 +48,4 @@ module _ (sizes : Sizes) (s : Table.State Call View) (kept : IsKept sizes s) (id
       (λ handle who low says. closing_stays sizes s kept id v at then refl refl (λ h e. e) refl handle who (kept.closings handle who low says)) own
       (λ other w e apart. kept.seats other w e) (λ b n f. inl f)
       (numbers_stay sizes s kept id v at then refl refl kept.account s.words (no_tries kept.account.offers (state_of sizes kept.account)) (λ slot none. none) (λ handle low. refl) refl
-      (λ slot handle e free. free))
+      (λ slot handle e free. free)) (held_views sizes s kept id v at then refl refl refl)

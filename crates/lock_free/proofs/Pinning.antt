@@ -1,6 +1,6 @@
 -- A seat that runs nothing stores its own word: it pins itself, or goes out of a call that it hasn't begun.
 use Rattle.history.specs.declared.calls.Call.{Call}
-use Rattle.std.proofs.Common.{◌≡◌, ℕ, ◌<◌, ◌≤◌, inl, List, set, slice_index, Option, None, refl, sym, subst, ◌∙◌, arith, Some}
+use Rattle.std.proofs.Common.{◌≡◌, ℕ, ◌<◌, ◌≤◌, inl, List, set, slice_index, Option, None, refl, sym, subst, ◌∙◌, arith, Some, ap}
 use Rattle.std.proofs.lemmas.Option.{none-some}
 use mathlib.Core.Option.{some}
 use lib.ListN.{get_elem?}
@@ -15,10 +15,19 @@ use Rattle.lock_free.specs.Rules.{SaysClosing, IsFree, IsHeld, Reserves, IsSeat,
 use Rattle.lock_free.proofs.Assembling.{AllStand, all_stand, closing_stays, numbers_stay, assembled}
 use Rattle.lock_free.proofs.Meanings.{no_tries}
 use Rattle.lock_free.proofs.RootSteps as root
+use Rattle.lock_free.proofs.PlainStay.{plain_elsewhere}
 use Rattle.lock_free.proofs.Seats.{ran_so, Stays, StaysSpare, other_kept, names_kept, own_else}
+use Rattle.lock_free.proofs.HeldStill.{held_fewer}
+use Rattle.lock_free.proofs.CountWords.{pin_apart}
+use Rattle.lock_free.proofs.SeatOwing.{seat_owing}
+use Rattle.lock_free.proofs.LinesStay.{lines_idle}
+use Rattle.lock_free.proofs.ClaimsThere.{has_often, often_has}
+use Rattle.lock_free.specs.Counts.{how_often, references_in}
+use Rattle.machine_model.specs.Beneath.slot_arena.specs.declared.refs.Ref.{Ref}
+use Rattle.std.proofs.lemmas.List.{get_or-set_other}
 
 module _ (sizes : Sizes) (s : Table.State Call View) (kept : IsKept sizes s) (id : ℕ) (v : View) (at : get_elem? s.views id ≡ some v)
-    (idle : operation_of (state_of sizes kept.account) v.actor ≡ None) (pin : Option Pinned)
+    (idle : operation_of (state_of sizes kept.account) v.actor ≡ None) (pin : Option Pinned) (owed : List Ref) (fewer : (k : Ref) → how_often k owed ≤ how_often k v.owed)
     (its : (p : Pinned) → pin ≡ Some p → HasPinnedIdle sizes kept.account v.actor p) where
   abbrev all : AllStand sizes kept.account kept.stands s.words
   all = all_stand sizes s kept
@@ -30,7 +39,7 @@ module _ (sizes : Sizes) (s : Table.State Call View) (kept : IsKept sizes s) (id
   words_then = set s.words (pin_word v.actor) (pin_word_of pin)
 
   abbrev pub view_then : View
-  view_then = record v { pin = pin; entered = None }
+  view_then = record v { pin = pin; entered = None; owed = owed }
 
   seat : IsSeat sizes kept.account kept.stands s.words v
   seat = kept.seats id v at
@@ -59,15 +68,18 @@ module _ (sizes : Sizes) (s : Table.State Call View) (kept : IsKept sizes s) (id
     still_open = λ other w at_w g inside e. e;
     taken = root.taken_pinned sizes kept.account kept.stands s.words all v.actor seat.low most (pin_word_of pin);
     spare = λ other w b name e apart free. stays_spare other w b name e free;
+    plain = plain_elsewhere sizes kept.account s.words words_then root_same;
   }
 
   own_then : IsSeat sizes kept.account kept.stands words_then view_then
   own_then =
-      own_else sizes s kept id v at kept.account kept.stands words_then stays v.account seat.waited seat.rested seat.counts pin None v.closing v.opens v.opening
+      seat_owing sizes kept.account kept.stands words_then (record v { pin = pin; entered = None }) owed
+      (own_else sizes s kept id v at kept.account kept.stands words_then stays v.account seat.waited seat.rested seat.counts pin None v.closing v.opens v.opening
       (root.at_p sizes kept.account kept.stands s.words all v.actor seat.low most (pin_word_of pin)) its (λ g e. absurd (none-some g e)) (λ o e. absurd (none-some o (sym idle ∙ e))) (held id v at)
       seat.reserves
-      (λ g slot o n. (let x = seat.opening g slot o n in names_kept sizes s kept id v at kept.account kept.stands words_then stays v view_then g slot x (root_same g x.low) x.free))
-      (λ b name free. stays_spare id v b name at free)
+      (λ g slot o n. (let x = seat.opening g slot o n in
+      names_kept sizes s kept id v at kept.account kept.stands words_then stays v (record v { pin = pin; entered = None }) g slot x (root_same g x.low) x.free))
+      (λ b name free. stays_spare id v b name at free))
 
   -- the rule holds
   pub pin_kept : IsKept sizes (record { words = words_then; homes = s.homes; views = set s.views id view_then })
@@ -78,3 +90,7 @@ module _ (sizes : Sizes) (s : Table.State Call View) (kept : IsKept sizes s) (id
       (kept.closings g who below (subst (λ n. SaysClosing n who) (root_same g below) says))) own_then
       (other_kept sizes s kept id v at kept.account kept.stands words_then stays) (λ b name f. inl f)
       (numbers_stay sizes s kept id v at view_then refl refl kept.account words_then (no_tries kept.account.offers now) (λ slot none. none) root_same refl (λ slot g e free. free))
+      (held_fewer sizes s kept id v at view_then refl fewer
+      (λ k c. (let some = has_often k owed c in let most = fewer k in often_has k v.owed (omega (arith, some, most)))) (λ n. omega arith) (λ y c. c)
+      (lines_idle sizes s kept id v at kept.account view_then (λ a differs. refl) idle) words_then
+      (λ c is. ap references_in (get_or-set_other s.words (pin_word v.actor) c (pin_word_of pin) 0 ((pin_apart sizes v.actor most).1 c is))))

@@ -23,7 +23,6 @@ use Rattle.machine_model.specs.declared.steps.Step.TheVariants as machine
 use Rattle.machine_model.specs.Acting.{operation_after}
 use Rattle.machine_model.specs.States.{State}
 use Rattle.lock_free.proofs.CountWords.{Apart}
-use Rattle.lock_free.proofs.EpochStays.{rest_of}
 use Rattle.lock_free.specs.declared.accounts.Account.{Account}
 use Rattle.lock_free.specs.declared.rules.View.{View}
 use Rattle.lock_free.specs.declared.sizes.Sizes.{Sizes}
@@ -31,17 +30,41 @@ use Rattle.lock_free.specs.Accounts.{state_of, place_of, running, gone_on}
 use Rattle.lock_free.specs.Exchanging.{IsLinkTo, IsAtPublish, given_up, HasSwapped, HasPublished, has_published}
 use Rattle.lock_free.specs.Loading.{Moment, now, seen, IsAt, Took}
 use Rattle.lock_free.specs.Publishing.{swapped_in, Publishes}
-use Rattle.lock_free.specs.Rules.{IsKept, IsRuled}
+use Rattle.lock_free.specs.LettingGo.{HoldsGivenUp}
+use Rattle.lock_free.specs.Rules.{AreOwed, AreRetired, IsKept, IsRuled}
 use Rattle.lock_free.specs.Steps.{Leads}
 use Rattle.lock_free.proofs.Asked.{links_of, mains_of, is_one_of, publishes_or_not}
 use Rattle.lock_free.proofs.Assembling.{all_stand}
 use Rattle.lock_free.proofs.Exchanged.{LeavesAt, words_hit, words_miss, sound_by}
-use Rattle.lock_free.proofs.Abandoned.{abandon_kept, abandon_sound}
+use Rattle.lock_free.proofs.Abandoned.{abandon_kept, abandon_sound, owed_abandoned}
 use Rattle.lock_free.proofs.LinkWords.{i_there, generation_now, hit, miss}
 use Rattle.lock_free.proofs.Looking.{main_there, o_there, acts_there, same_action}
-use Rattle.lock_free.proofs.Moments.{IsThere, allowed, took_by, waited_so, its_place, node_apart}
+use Rattle.lock_free.proofs.Moments.{IsThere, allowed_giving, took_by, waited_so, its_place, node_apart}
 use Rattle.lock_free.proofs.PublishedAll.{all_then}
 use Rattle.lock_free.proofs.PublishedKept.{publish_kept}
+use Rattle.machine_model.specs.Acting.{private_after}
+use Rattle.proof_claims.specs.Changes as changing
+use Rattle.proof_claims.specs.Changes.{change_by, change_going, publishes, change_of}
+use Rattle.lock_free.specs.Claims.{held_now}
+use Rattle.lock_free.proofs.HeldStep.{taken_now}
+use Rattle.proof_claims.specs.Held.{held_after, takes}
+use Rattle.lock_free.specs.Claims.{HoldsAll}
+use Rattle.lock_free.specs.Owing.{next_change, owes_then, owing}
+use Rattle.lock_free.proofs.ClaimsThere.{often_has}
+use Rattle.lock_free.proofs.HoldsGifts.{holds_given_up}
+use Rattle.lock_free.proofs.OwedStay.{owed_then}
+use Rattle.lock_free.proofs.EpochStays.{rest_beside}
+use Rattle.lock_free.proofs.PublishedKept.{published_had}
+use Rattle.lock_free.specs.Counts.{how_often}
+use Rattle.lock_free.proofs.ClaimsThere.{has_often}
+use Rattle.lock_free.proofs.CountsStay.{often_first, often_other}
+use Rattle.lock_free.proofs.PublishedKept.{changes}
+use Rattle.std.proofs.lemmas.Bool.{cases_eq}
+use Rattle.lock_free.proofs.SeatOwing.{owing_sound}
+use Rattle.lock_free.specs.Places.{words_of}
+use Rattle.machine_model.specs.Moves.{GoesOn}
+use Rattle.machine_model.specs.Operations.{action_of}
+use Rattle.lock_free.specs.OwesAt.{owes_on}
 
 module _ (v : View) (i replaced made : Ref) (p : IsAt v (act.Publish i replaced made)) (name : ℕ) (place : place_of v.account i ≡ name) (link : Link) (fits : IsLink link)
     (is : IsLinkTo v i replaced link)
@@ -110,9 +133,27 @@ module _ (v : View) (i replaced made : Ref) (p : IsAt v (act.Publish i replaced 
     -- ---- it is swapped in
 
     abbrev swapped : View
-    swapped = seen v (swapped_in v.actor i made there)
+    swapped = owing (seen v (swapped_in v.actor i made there)) (owes_then v there)
 
     module _ (r : Publishes v.sizes there (swapped_in v.actor i made there) v.actor o i replaced made) where
+      -- the seat holds what is to be swapped in
+      owed : Contains v.owed made
+      owed =
+          let all = kept.held.lines id v at o runs made in
+          let its = ap (λ l. how_often made (owes_on o.private l)) r.on.1 in
+          let one = often_first made [] in
+          often_has made v.owed (omega (arith, all, its, one))
+
+      holds : HoldsAll (takes (next_change v there)) v.owed
+      holds =
+          subst (λ c. HoldsAll (takes c) v.owed) (sym (changes v.sizes s kept id v at o runs i replaced made r here)) (λ k. elim (cases_eq made k) [
+            | inl same ↦
+                (let some = has_often made v.owed owed in
+                let one = often_first made [] in
+                subst (λ r. how_often r (made ∷ []) ≤ how_often r v.owed) same (omega (arith, some, one)))
+            | inr differs ↦ (let none = often_other k made [] differs in omega (arith, none))
+          ])
+
       same_generation : r.generation ≡ link.generation
       same_generation =
           sym (ap generation_of (ap (λ (x : Slot). x.node) (same_Some link_is.0.slot r.link (sym link_is.0.used ∙ r.link_is)) ∙ r.link_node))
@@ -133,9 +174,10 @@ module _ (v : View) (i replaced made : Ref) (p : IsAt v (act.Publish i replaced 
       swaps e = (
         subst (λ ws. IsKept v.sizes (record { words = ws; homes = s.homes; views = set s.views id swapped }))
             (ap (set s.words (2 * place_of there i)) new_is ∙ words_hit v s kept id at word old new e (2 * place_of there i) at_place)
-            (publish_kept v.sizes s kept id v at o runs i replaced made r here),
+            (publish_kept v.sizes s kept id v at o runs i replaced made r here holds),
         (
-          sound_by v s kept id at (swapped_in v.actor i made there) kept.stands _ (all_then v.sizes there v.actor o i replaced made r kept.stands s.words (all_stand v.sizes s kept) here),
+          owing_sound (words_of v.sizes) (seen v (swapped_in v.actor i made there)) (owes_then v there)
+              (sound_by v s kept id at (swapped_in v.actor i made there) kept.stands _ (all_then v.sizes there v.actor o i replaced made r kept.stands s.words (all_stand v.sizes s kept) here)),
           took_by v s kept id at o runs (swapped_in v.actor i made there) r.own,
         ),
       )
@@ -145,31 +187,68 @@ module _ (v : View) (i replaced made : Ref) (p : IsAt v (act.Publish i replaced 
     abbrev dropped : View
     dropped = given_up v there p.operation.private
 
+    acts : action_of state o ≡ act.Publish i replaced made
+    acts = acts_there v word found m does p
+
+    misses_so : found ≢ old → change_of state (held_now v.sizes there) (machine.Go v.actor) ≡ changing.given_up o.private
+    misses_so differs =
+        let held = held_now v.sizes there in
+        ap (change_going state held) runs ∙ ap (change_by state held o) acts ∙ ap (λ b. publishes b o.private i made) (ne_eqb (main_at state.heap i) replaced (λ e. differs (found_old e)))
+
+    gives_up : found ≢ old → held_now v.sizes (gone_on v.actor there) ≡ held_after (changing.given_up o.private) (held_now v.sizes there)
+    gives_up differs =
+        let held = held_now v.sizes there in
+        taken_now v.sizes there kept.bounds v.actor o runs (subst GoesOn (sym acts) tt) (gone_on v.actor there) refl
+        ∙ ap (λ c. held_after c held) (misses_so differs)
+
+    none_left : (operation_after state o).private ≡ []
+    none_left = ap (private_after state o.private) acts
+
     module _ (leads : Leads v.sizes there (gone_on v.actor there) v.actor (is_one_of o.private) (operation_after state o)) where
       drops : found ≢ old → Left dropped
       drops differs = (
         subst (λ ws. IsKept v.sizes (record { words = ws; homes = s.homes; views = set s.views id dropped })) (words_miss v s kept id at word old new differs)
-            (abandon_kept v s kept id at o (operation_after state o) runs (machine.Go v.actor) tt (λ a d e. d (sym e)) leads refl refl),
+            (abandon_kept v s kept id at o (operation_after state o) runs (machine.Go v.actor) tt (λ a d e. d (sym e)) leads refl refl none_left (gives_up differs) (misses_so differs)),
         (
-          abandon_sound v s kept id at o (operation_after state o) runs (machine.Go v.actor) tt (λ a d e. d (sym e)) leads refl refl,
+          abandon_sound v s kept id at o (operation_after state o) runs (machine.Go v.actor) tt (λ a d e. d (sym e)) leads refl refl none_left (gives_up differs) (misses_so differs),
           λ q runs_q. leads.own ∙ ap (λ x. Some (operation_after state x)) (same_Some o q (sym runs ∙ runs_q)),
         ),
       )
 
+      owed_dropped : found ≢ old → AreRetired v.sizes s.words s.views → AreOwed s.views → AreOwed (set s.views id dropped)
+      owed_dropped differs =
+          owed_abandoned v s kept id at o (operation_after state o) runs (machine.Go v.actor) tt (λ a d e. d (sym e)) leads refl refl none_left (gives_up differs) (misses_so differs)
+
     -- ---- either
 
     abbrev Either : Type 0
-    Either = (after : View) × Left after × ((main_at state.heap i == replaced) ≡ (found == old)) × ((found == old) ≡ true → after ≡ swapped) × ((found == old) ≡ false → after ≡ dropped)
-        × (rest_of after ≡ rest_of v)
+    Either = (after : View) × Left after × ((main_at state.heap i == replaced) ≡ (found == old)) × ((found == old) ≡ true → after ≡ swapped)
+        × ((found == old) ≡ false → (after ≡ dropped) × HoldsGivenUp v p.operation after.owed)
+        × (rest_beside after ≡ rest_beside v) × (AreRetired v.sizes s.words s.views → AreOwed s.views → AreOwed (set s.views id after))
 
     pub leaves : Either
     leaves = elim (publishes_or_not v.sizes there kept.bounds v.actor o runs kept.quiet i replaced made (acts_there v word found m does p)) [
       | inl x ↦
-          (let e = found_old x.1 in
-          (swapped, swaps x.0 e, eq-eqb (main_at state.heap i) replaced x.1 ∙ sym (eq-eqb found old e), λ h. refl, λ h. absurd (true≢false (sym (eq-eqb found old e) ∙ h)), refl))
+          (let e = found_old x.1 in (
+            swapped,
+            swaps x.0 e,
+            eq-eqb (main_at state.heap i) replaced x.1 ∙ sym (eq-eqb found old e),
+            λ h. refl,
+            λ h. absurd (true≢false (sym (eq-eqb found old e) ∙ h)),
+            refl,
+            λ retired h.
+                owed_then s.views id v at swapped (λ k c. (published_had v.sizes s kept id v at o runs i replaced made x.0 here (holds x.0) k c, refl)) (λ y c. c) h,
+          ))
       | inr x ↦
-          (let d = found_other x.1 in
-          (dropped, drops x.0 d, ne_eqb (main_at state.heap i) replaced x.1 ∙ sym (ne_eqb found old d), λ h. absurd (true≢false (sym h ∙ ne_eqb found old d)), λ h. refl, refl))
+          (let d = found_other x.1 in (
+            dropped,
+            drops x.0 d,
+            ne_eqb (main_at state.heap i) replaced x.1 ∙ sym (ne_eqb found old d),
+            λ h. absurd (true≢false (sym h ∙ ne_eqb found old d)),
+            λ h. (refl, holds_given_up v s kept id at p.operation p.runs),
+            refl,
+            owed_dropped x.0 d,
+          ))
     ]
 
 -- the three nodes that it names
@@ -178,14 +257,18 @@ published_in (act.Publish i replaced made) = (i, (replaced, made))
 published_in action = (no_ref, (no_ref, no_ref))
 
 swapped_so : (before : View) (account : Account) (stood : Bool) (after : View) (i replaced made : Ref) (p : IsAt before (act.Publish i replaced made)) →
-    (main_at (now (seen before account)).heap i == replaced) ≡ stood → (stood ≡ true → after ≡ seen before (swapped_in before.actor i made account)) →
-    (stood ≡ false → after ≡ given_up before account p.operation.private) →
+    (main_at (now (seen before account)).heap i == replaced) ≡ stood → (stood ≡ true → after ≡ owing (seen before (swapped_in before.actor i made account)) (owes_then before account)) →
+    (stood ≡ false → (after ≡ given_up before account p.operation.private) × HoldsGivenUp before p.operation after.owed) →
     HasSwapped before account stood after
 swapped_so before account stood after i replaced made p first hit_is miss_is j other g q =
     let same = ap published_in (same_action before (act.Publish i replaced made) (act.Publish j other g) p q) in (
       subst (λ (x : Ref × (Ref × Ref)). (main_at (now (seen before account)).heap x.0 == x.1.0) ≡ stood) same first,
-      λ h. subst (λ (x : Ref × (Ref × Ref)). after ≡ seen before (swapped_in before.actor x.0 x.1.1 account)) same (hit_is h),
-      λ h. miss_is h ∙ ap (λ (x : Operation). given_up before account x.private) (same_Some p.operation q.operation (sym p.runs ∙ q.runs)),
+      λ h. subst (λ (x : Ref × (Ref × Ref)). after ≡ owing (seen before (swapped_in before.actor x.0 x.1.1 account)) (owes_then before account)) same (hit_is h),
+      λ h.
+          (let one = same_Some p.operation q.operation (sym p.runs ∙ q.runs) in (
+            (miss_is h).0 ∙ ap (λ (x : Operation). given_up before account x.private) one,
+            subst (λ (x : Operation). HoldsGivenUp before x after.owed) one (miss_is h).1,
+          )),
     )
 
 abbrev pub AllowsPublish : Sizes → ℕ → ℕ → Me Call View → ℕ → ℕ → ℕ → Type 0
@@ -200,7 +283,7 @@ pub publish_allowed : (sizes : Sizes) (size id : ℕ) (me : Me Call View) (some_
 publish_allowed sizes size id me some_seats name link fits fresh (i, replaced, made, p, place, is, fresh_place) =
     let old = link_code link in
     let new = link_code (record { generation = link.generation; main = record { slot = fresh; own = true } }) in
-    allowed sizes size id me (2 * name) (λ n. either (n == old) new n) (has_published (step size (2 * name) old new none) me)
+    allowed_giving sizes size id me (2 * name) (λ n. either (n == old) new n) (has_published (step size (2 * name) old new none) me)
     some_seats (λ s kept at. inl (is_elsewhere me.0 i replaced made p name place link fits is fresh fresh_place s kept id at))
     (λ s kept at. (let x = leaves me.0 i replaced made p name place link fits is fresh fresh_place s kept id at in (
       x.0,
@@ -216,6 +299,7 @@ publish_allowed sizes size id me some_seats name link fits fresh (i, replaced, m
       ),
     )))
     (λ s kept at. (leaves me.0 i replaced made p name place link fits is fresh fresh_place s kept id at).5)
+    (λ s kept at. (leaves me.0 i replaced made p name place link fits is fresh fresh_place s kept id at).6)
 
 -- what the seat is told
 pub publish_told : (before : View) (word found : ℕ) (old : ℕ) (after : View) → (m : Moment before word found) × Took before m.kept.account after × HasSwapped before m.kept.account

@@ -21,7 +21,7 @@ use Rattle.lock_free.specs.declared.accounts.Known.{Known}
 use Rattle.lock_free.specs.declared.sizes.Sizes.{Sizes}
 use Rattle.lock_free.specs.Accounts.{state_of, place_at, place_of, first}
 use Rattle.lock_free.specs.Nodes.{StandsAs, InTable, class_of}
-use Rattle.lock_free.specs.Places.{first_slot_word, words_in, words_of, generation_word, root_word, IsTaken}
+use Rattle.lock_free.specs.Places.{first_slot_word, generation_word, root_word, IsSlot, IsTaken}
 use Rattle.lock_free.specs.Publishing.{swapped_in, with_main_of, over, Publishes}
 use Rattle.lock_free.specs.Roots.{MeansRoot, second_of, fate}
 use Rattle.lock_free.specs.Rules.{Standing, Stands, NodesStand, RootsStand}
@@ -158,12 +158,12 @@ module _ (sizes : Sizes) (account : Account) (actor : ℕ) (operation : Operatio
     apart = λ j k x y p q same. (let b = before j x (which j x p.1) in let c = before k y (which k y q.1) in all.nodes.apart j k b.0 c.0 (p.0, b.1) (q.0, c.1) same);
     offers = λ x c k slot h. (let b = before k slot (which k slot h.1) in all.nodes.offers x c k b.0 (h.0, b.1));
     written = λ k slot h. written_by k slot h.0 (which k slot h.1);
-    inside = λ k slot e. (let b = before k slot (which k slot e) in subst (λ c. 2 * place_at account k + words_in c ≤ words_of sizes) (sym b.2) (all.nodes.inside k b.0 b.1));
+    inside = λ k slot e. (let b = before k slot (which k slot e) in subst (λ c. IsSlot sizes c (place_at account k)) (sym b.2) (all.nodes.inside k b.0 b.1));
     owners = owners_published sizes account actor operation i a f publishes all.nodes.owners (made_before (slot_of i) publishes.link publishes.link_is)
         (made_before (slot_of f) publishes.fresh publishes.fresh_is);
     owned = own_published sizes account actor operation i a f publishes all.nodes.owned;
     live = λ r h. all.nodes.live r (publishes.live r h);
-    reached = reached_kept sizes account later (step.Go actor) refl stands stands all.nodes.reached (λ r h. all.nodes.live r (publishes.live r h)) (λ r was h. h);
+    reached = reached_kept sizes account later all.bounds (step.Go actor) refl stands stands all.nodes.reached (λ r h. all.nodes.live r (publishes.live r h)) (λ r was h. h);
   }
 
   meaning_then : (handle found : ℕ) (r : Option Root) → MeansRoot account words_then handle found r → MeansRoot later words_then handle found r

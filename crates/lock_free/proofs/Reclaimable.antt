@@ -1,4 +1,5 @@
 -- Once the epoch has grown three times since a slot was retired nobody is on its node, and nobody comes to be.
+use Rattle.history.specs.declared.calls.Access.{Access}
 use Rattle.history.specs.declared.calls.Call.{Call}
 use Rattle.std.proofs.Common.{◌≡◌, ◌≢◌, ◌⊎◌, ◌+◌, ◌≤◌, ◌++◌, inl, inr, ℕ, List, [], ◌∷◌, Contains, length, Some, refl, sym, ap, subst, ◌∙◌, append-nil, arith}
 use mathlib.Core.Option.{some}
@@ -8,19 +9,19 @@ use Rattle.machine_model.specs.Beneath.slot_arena.specs.Refs.{slot_of}
 use Rattle.machine_model.specs.Beneath.slot_arena.specs.declared.refs.Ref.{Ref}
 use Rattle.machine_model.specs.Calls.{handle_of}
 use Rattle.machine_model.specs.Machine.{AreBounds, run}
-use Rattle.machine_model.specs.States.{State, operation_of}
+use Rattle.machine_model.specs.States.{State, operation_of, root_at}
 use Rattle.machine_model.specs.declared.operations.Operation.{Operation}
 use Rattle.machine_model.specs.declared.roots.RootWord.TheVariants.{Plain}
 use Rattle.machine_model.specs.declared.steps.Bounds.{Bounds}
 use Rattle.machine_model.specs.declared.steps.Step.{Step}
 use Rattle.proof_garbage.specs.Grace.{HaveEnded}
 use Rattle.proof_memory.specs.Laws.{IsInUse}
-use Rattle.proof_reuse.proofs.SwapIns.{none_swapped_back}
-use Rattle.proof_reuse.proofs.Unknown.{unknown_after_grace}
-use Rattle.proof_reuse.specs.Beneath.proof_followed.proofs.Grace.{dies}
-use Rattle.proof_reuse.specs.Beneath.proof_followed.specs.Followed as followed
-use Rattle.proof_reuse.specs.Beneath.proof_followed.specs.Followed.{IsFollowed}
-use Rattle.proof_reuse.specs.Laws.{IsGarbage}
+use Rattle.proof_claims.specs.Beneath.proof_reuse.proofs.SwapIns.{none_swapped_back}
+use Rattle.proof_claims.specs.Beneath.proof_reuse.proofs.Unknown.{unknown_after_grace}
+use Rattle.proof_claims.specs.Beneath.proof_reuse.specs.Beneath.proof_followed.proofs.Grace.{dies}
+use Rattle.proof_claims.specs.Beneath.proof_reuse.specs.Beneath.proof_followed.specs.Followed as followed
+use Rattle.proof_claims.specs.Beneath.proof_reuse.specs.Beneath.proof_followed.specs.Followed.{IsFollowed}
+use Rattle.proof_claims.specs.Beneath.proof_reuse.specs.Laws.{IsGarbage}
 use Rattle.proof_waiting.specs.Beneath.proof_slots.proofs.Unswept.Kept.{nothing_is_freed, one_ref}
 use Rattle.proof_waiting.specs.Beneath.proof_slots.proofs.Unswept.Shrinking.{unswept_behind}
 use Rattle.proof_waiting.specs.Beneath.proof_slots.specs.Lasting.{widened}
@@ -30,7 +31,7 @@ use Rattle.lock_free.specs.declared.rules.Pinned.{Pinned}
 use Rattle.lock_free.specs.declared.rules.Retired.{Retired}
 use Rattle.lock_free.specs.declared.rules.View.{View}
 use Rattle.lock_free.specs.declared.sizes.Sizes.{Sizes}
-use Rattle.lock_free.specs.Accounts.{bounds_for, state_of, running, HasGrown, WasRoot}
+use Rattle.lock_free.specs.Accounts.{bounds_for, state_of, running, HasGrown, MayBeFound, WasRoot}
 use Rattle.lock_free.specs.Live.{IsKnown, IsLive, from_root, from_operation, from_slot}
 use Rattle.lock_free.specs.Rules.{AreEpochs, AreRetired, IsKept, IsRetired, WasGarbage}
 use Rattle.lock_free.proofs.BegunSince.{begun_grown, begun_since, first_bounds}
@@ -54,12 +55,12 @@ split_live state (from_slot q r k c) = elim (split_live state k) [
   | inr (actor, operation, e, known) ↦ inr (actor, operation, e, from_slot q r known c)
 ]
 
-more_known : (state : State) (P Q : ℕ → Type 0) → ((id : ℕ) → P id → Q id) → {r : Ref} → IsKnown state P r → IsKnown state Q r
+pub more_known : (state : State) (P Q : ℕ → Type 0) → ((id : ℕ) → P id → Q id) → {r : Ref} → IsKnown state P r → IsKnown state Q r
 more_known state P Q f (from_root handle r c) = from_root handle r c
 more_known state P Q f (from_operation actor operation r e p c) = from_operation actor operation r e (f operation.id p) c
 more_known state P Q f (from_slot q r k c) = from_slot q r (more_known state P Q f k) c
 
-quiet_first : (xs ys : List Step) → HasNoSweeps (xs ++ ys) → HasNoSweeps xs
+pub quiet_first : (xs ys : List Step) → HasNoSweeps (xs ++ ys) → HasNoSweeps xs
 quiet_first [] ys h = tt
 quiet_first (x ∷ xs) ys h = (h.0, quiet_first xs ys h.1)
 
@@ -117,6 +118,17 @@ module _ (sizes : Sizes) (account : Account) (bounds : AreBounds (bounds_for siz
       (subst (λ (s : State). IsKnown s (λ id. (run limits (first ++ after.steps)).begun ≤ id) was.node) (sym (ap (run limits) all_is))
       (more_known (state_of sizes account) (λ id. (state_of sizes middle).begun ≤ id) (λ id. (run limits (first ++ after.steps)).begun ≤ id)
       (λ id le. subst (λ n. n ≤ id) (sym (ap (λ l. (run limits l).begun) middle_is ∙ prefix_begun sizes account bounds middle grown)) le) known))
+
+-- nor is it a root
+module _ (sizes : Sizes) (account : Account) (bounds : AreBounds (bounds_for sizes account.steps)) (x : Retired) (was : WasGarbage sizes x) (grown : HasGrown x.account account) where
+  pub no_root : (handle : ℕ) (access : Access) → root_at (state_of sizes account) handle ≡ Some (record { access = access; word = Plain was.node }) → ⊥
+  no_root handle access is =
+      let limits = bounds_for sizes account.steps in
+      let gone = x.account.steps in
+      let g = subst (λ (z : State). IsGarbage z was.node) (sym (prefix_is sizes account bounds x.account grown)) (garbage_wide _ _ (state_of sizes x.account) was.node was.garbage) in
+      (dies limits bounds gone was.node g.in_use g.unfollowed g.unbrought grown.steps (none_swapped_back limits bounds gone was.node g.in_use g.private_to_none grown.steps)).0
+      (subst (λ l. IsFollowed (run limits l) (λ n. (run limits gone).begun ≤ n) was.node) grown.goes_on
+      (followed.from_root handle (record { access = access; word = Plain was.node }) was.node is refl))
 
 -- ---- when the epoch has grown so often
 
@@ -180,7 +192,7 @@ module _ (sizes : Sizes) (s : Table.State Call View) (kept : IsKept sizes s) (ep
       let one = one_ref state.heap r is.was.node (live_used sizes kept.account kept.bounds r live) in_use (same ∙ sym is.was.number) in
       dead (subst (IsLive state) one live)
 
-  -- ---- it was no root
+  -- ---- nobody who runs may have found it as a root
 
   -- of two beginnings of one list one goes on as the other
   comparable : (xs left ys other : List Step) → xs ++ left ≡ ys ++ other → ((rest : List Step) × (ys ≡ xs ++ rest)) ⊎ ((rest : List Step) × (xs ≡ ys ++ rest))
@@ -193,29 +205,34 @@ module _ (sizes : Sizes) (s : Table.State Call View) (kept : IsKept sizes s) (ep
         | inr p ↦ inr (p.0, ap (λ w. w ∷ xs) first ∙ ap (λ l. y ∷ l) p.1)
       ]
 
-  module _ (h : WasRoot sizes kept.account is.was.node) where
-    abbrev gone : List Step
-    gone = x.account.steps
+  abbrev gone : List Step
+  gone = x.account.steps
 
-    -- it came to be one after it was garbage
-    later_root : (rest : List Step) → h.steps ≡ gone ++ rest → ⊥
-    later_root rest e =
-        let then : Account = record { steps = h.steps; names = x.account.names; owned = []; offers = [] } in
-        let grown : HasGrown x.account then = record { steps = rest; goes_on = e; names = []; more_names = sym (append-nil x.account.names) } in
-        let ok = bounds_less sizes h.steps h.more (subst (λ l. AreBounds (bounds_for sizes l)) h.goes_on kept.bounds) in
-        let limits = bounds_for sizes h.steps in
-        let g = subst (λ (z : State). IsGarbage z is.was.node) (sym (prefix_is sizes then ok x.account grown)) (garbage_wide _ _ (state_of sizes x.account) is.was.node is.was.garbage) in
-        (dies limits ok gone is.was.node g.in_use g.unfollowed g.unbrought rest (none_swapped_back limits ok gone is.was.node g.in_use g.private_to_none rest)).0
-        (subst (λ l. IsFollowed (run limits l) (λ n. (run limits gone).begun ≤ n) is.was.node) e
-        (followed.from_root h.handle (record { access = h.access; word = Plain is.was.node }) is.was.node h.was refl))
+  -- it came to be one after it was garbage
+  later_root : (h : WasRoot sizes kept.account is.was.node) (rest : List Step) → h.steps ≡ gone ++ rest → ⊥
+  later_root h rest e =
+      let then : Account = record { steps = h.steps; names = x.account.names; owned = []; offers = [] } in
+      let grown : HasGrown x.account then = record { steps = rest; goes_on = e; names = []; more_names = sym (append-nil x.account.names) } in
+      let ok = bounds_less sizes h.steps h.more (subst (λ l. AreBounds (bounds_for sizes l)) h.goes_on kept.bounds) in
+      no_root sizes then ok x is.was grown h.handle h.access h.was
 
-    never_root : ⊥
-    never_root = elim (comparable h.steps h.more gone is.grown.steps (sym h.goes_on ∙ is.grown.goes_on)) [
-      | inl p ↦ is.was.unrooted (record { steps = h.steps; more = p.0; goes_on = p.1; handle = h.handle; access = h.access; was = h.was })
-      | inr p ↦ later_root p.0 p.1
-    ]
+  which : (h : WasRoot sizes kept.account is.was.node) → ((rest : List Step) × (gone ≡ h.steps ++ rest)) ⊎ ((rest : List Step) × (h.steps ≡ gone ++ rest))
+  which h = comparable h.steps h.more gone is.grown.steps (sym h.goes_on ∙ is.grown.goes_on)
 
-  pub not_root : (r : Ref) → WasRoot sizes kept.account r → slot_of r ≢ x.number
-  not_root r h same =
-      let one = one_ref state.heap r is.was.node (reached_used sizes kept.account kept.bounds kept.quiet r h) in_use (same ∙ sym is.was.number) in
-      never_root (subst (WasRoot sizes kept.account) one h)
+  -- it was one before: who runs has begun since
+  never_found : MayBeFound sizes kept.account is.was.node → ⊥
+  never_found h = elim (which h.root) [
+    | inl p ↦
+        (let first : Account = record { steps = h.root.steps; names = x.account.names; owned = []; offers = [] } in
+        let grown : HasGrown first x.account = record { steps = p.0; goes_on = p.1; names = []; more_names = sym (append-nil x.account.names) } in
+        let more = begun_grown sizes first x.account (first_bounds sizes x.account kept.account kept.bounds is.grown) grown in
+        let since = all_ended h.actor h.operation h.runs in
+        let began = h.began in
+        omega (arith, more, since, began))
+    | inr p ↦ later_root h.root p.0 p.1
+  ]
+
+  pub not_found : (r : Ref) → MayBeFound sizes kept.account r → slot_of r ≢ x.number
+  not_found r h same =
+      let one = one_ref state.heap r is.was.node (reached_used sizes kept.account kept.bounds kept.quiet r h.root) in_use (same ∙ sym is.was.number) in
+      never_found (subst (MayBeFound sizes kept.account) one h)

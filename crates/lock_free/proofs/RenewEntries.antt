@@ -1,10 +1,14 @@
 -- RENEW at an entry: it is kept, or a new indirection comes to its place.
-use Rattle.std.proofs.Common.{◌≡◌, ◌++◌, ℕ, Bool, true, false, List, [], ◌∷◌, length, Option, None, Some, append-nil, refl, sym, ap, ap₂, subst, ◌∙◌, unwrap_or}
-use Rattle.std.proofs.lemmas.Bool.{false≢true}
+use Rattle.std.proofs.Common.{◌≡◌, ◌++◌, ℕ, Bool, true, false, List, [], ◌∷◌, inl, inr, Contains, length, Option, None, Some, append-nil, refl, sym, ap, ap₂, subst, ◌∙◌, unwrap_or}
+use Rattle.std.proofs.lemmas.Bool.{false≢true, true≢false}
+use Rattle.std.proofs.lemmas.List.Elements.{Contains-append_left, Contains-append_right}
+use Rattle.std.proofs.lemmas.Option.{same_Some}
 use Rattle.history.specs.declared.replies.Reply.TheVariants as reply
 use Rattle.trie_words.specs.declared.entries.Entry.{Entry}
 use Rattle.machine_model.specs.Beneath.slot_arena.specs.declared.refs.Ref.{Ref}
-use Rattle.machine_model.specs.Beneath.slot_arena.specs.declared.nodes.Node.TheVariants.{Indirection}
+use Rattle.machine_model.specs.Beneath.slot_arena.specs.declared.nodes.Node.{Node}
+use Rattle.machine_model.specs.Beneath.slot_arena.specs.declared.nodes.Node.TheVariants.{Indirection, Single}
+use Rattle.machine_model.specs.Beneath.slot_arena.specs.Heaps.{node_at}
 use Rattle.machine_model.specs.declared.actions.Action.TheVariants as act
 use Rattle.machine_model.specs.declared.lines.Line.{Line}
 use Rattle.machine_model.specs.declared.lines.Line.TheVariants as line
@@ -14,32 +18,60 @@ use Rattle.machine_model.specs.declared.repairs.RenewLine.TheVariants as renew
 use Rattle.machine_model.specs.Operations.{action_of}
 use Rattle.machine_model.specs.Reading.{reading}
 use Rattle.machine_model.specs.Renewing.{renew_next}
+use Rattle.proof_memory.specs.Wants.{done_wants, is_indirection, is_main_node, AMain, Claim, Is}
 use Rattle.lock_free.specs.declared.reading.Given.{Given}
 use Rattle.lock_free.specs.declared.reading.Passed.TheVariants as passed
 use Rattle.lock_free.specs.declared.reading.Way.{Way}
 use Rattle.lock_free.specs.declared.reading.ReadFrom.{ReadFrom}
 use Rattle.lock_free.specs.declared.reading.ReadFrom.TheVariants as resume
+use Rattle.lock_free.specs.declared.reclaiming.Kind.TheVariants as kinds
+use Rattle.lock_free.specs.declared.renewing.RenewedEntry.{RenewedEntry}
 use Rattle.lock_free.specs.declared.rules.View.{View}
-use Rattle.lock_free.specs.Becoming.{HasNew, made_on}
+use Rattle.lock_free.specs.Accounts.{bounds_for}
+use Rattle.lock_free.specs.Becoming.{HasNew, HasRested, made_on}
+use Rattle.lock_free.specs.Changing.{HasBuilt, HasBuiltNode}
+use Rattle.lock_free.specs.Classes.{shape_class}
 use Rattle.lock_free.specs.Entries.{entry_in}
 use Rattle.lock_free.specs.Holding.{IsOn, HasComeTo}
 use Rattle.lock_free.specs.Leaving.{Halts}
+use Rattle.lock_free.specs.Live.{at_hand, line_claims, refs_of_claim, refs_of_claims}
 use Rattle.lock_free.specs.Loading.{now, Runs, IsAt, IsSound}
-use Rattle.lock_free.specs.Nodes.{is_single}
-use Rattle.lock_free.specs.Owning.{IsBuilding}
+use Rattle.lock_free.specs.Nodes.{class_of, is_single}
+use Rattle.lock_free.specs.Owing.{names_made}
+use Rattle.lock_free.specs.Owning.{IsBuilding, MayOwn}
 use Rattle.lock_free.specs.Passing.{Later, IsPlaced, IsReading, IsPassing, IsOnWay, HasPassed, HasGiven}
-use Rattle.lock_free.specs.Repairing.{HasStart, IsAtRenewed, renew_looked, HasLookedOld, GivesUp, RenewedOrNot, HasRenewed}
-use Rattle.lock_free.specs.SeenEntries.{HasMadeNext, HasNewOrNone}
+use Rattle.lock_free.specs.Raising.{IsShared, MayHoldOne}
+use Rattle.lock_free.specs.Reclaiming.{kind_of_node}
+use Rattle.lock_free.specs.Repairing.{HasStart, IsAtRenewed, renew_looked, HasLookedOld, RenewedOrNot, HasRenewed}
 use Rattle.lock_free.specs.Stocks.{Stocked, IsStock}
 use Rattle.lock_free.proofs.BecomesOn.{become_so, moved_become, start_become, stock_moved}
 use Rattle.lock_free.proofs.EntriesTo.{entry_named, entry_to_on}
-use Rattle.lock_free.proofs.Followings.{become_both, follows_later}
+use Rattle.lock_free.proofs.Followings.{become_both, follows_both, follows_later}
+use Rattle.lock_free.proofs.GivenBack.{node_is}
 use Rattle.lock_free.proofs.KeyHolds.{LooksIn, node_then}
 use Rattle.lock_free.proofs.Laters.{placed_later}
+use Rattle.lock_free.proofs.MainClasses.{class_known}
 use Rattle.lock_free.proofs.NextEntries.{holds_next}
 use Rattle.lock_free.proofs.OnLines.{line_is, moves_on, reading_on, given_moved, moved_both, way_on}
+use Rattle.lock_free.proofs.OwesPrivate.{renew_links}
+use Rattle.lock_free.proofs.Pools.{first_there, one_there}
 use Rattle.lock_free.proofs.RepairLooks.{renew_same, renew_parts}
 use Rattle.lock_free.proofs.Leavings.{halts_gives, halts_later, halts_stock, line_may, read_halts}
+
+-- the last of its claims
+last_claim : (cs : List Claim) (child : Ref) → Contains (refs_of_claims (cs ++ Is child AMain ∷ [])) child
+last_claim [] child = first_there child []
+last_claim (c ∷ cs) child = Contains-append_right (refs_of_claim c) (refs_of_claims (cs ++ Is child AMain ∷ [])) child (last_claim cs child)
+
+-- a main node is no indirection
+main_no_link : (n : Node) → is_main_node n ≡ true → is_indirection n ≡ true → ⊥
+main_no_link (Indirection generation main) is link = true≢false (sym is)
+main_no_link node is link = true≢false (sym link)
+
+pub main_kind_is : (n : Node) → is_main_node n ≡ true → kind_of_node n ≡ kinds.Main
+main_kind_is (Indirection generation main) is = absurd (true≢false (sym is))
+main_kind_is (Single key value) is = absurd (true≢false (sym is))
+main_kind_is node is = refl
 
 module _ (n : ℕ) (v0 v1 : View) (sound0 : IsSound n v0) (entry : Entry) (is_at : IsAtRenewed v0 entry) (kept : Bool) (looked : HasLookedOld v0 kept v1) where
   abbrev path : List Ref
@@ -69,7 +101,7 @@ module _ (n : ℕ) (v0 v1 : View) (sound0 : IsSound n v0) (entry : Entry) (is_at
   later1 : Later v0 v1
   later1 = (looked path main done at0).later
 
-  elsewhere : (result : Option Entry) (w : View) → RenewedOrNot v0 path main done result w → HasRenewed v0 result w
+  elsewhere : (result : Option RenewedEntry) (w : View) → RenewedOrNot v0 path main done result w → HasRenewed v0 result w
   elsewhere result w here p m d other =
       subst (λ (x : List Ref × Ref × List Ref). RenewedOrNot v0 x.0 x.1 x.2 result w) (ap renew_parts (sym (line_is v0 l0 at0 other.0 other.1) ∙ other.2)) here
 
@@ -82,15 +114,15 @@ module _ (n : ℕ) (v0 v1 : View) (sound0 : IsSound n v0) (entry : Entry) (is_at
   no_more : (next : Line) (o : Operation) → record o { line = next } ≡ record o { private = o.private ++ []; line = next }
   no_more next o = ap (λ ps. record o { private = ps; line = next }) (sym (append-nil o.private))
 
-  pub kept_renewed : kept ≡ true → HasRenewed v0 (Some entry) v1
+  pub kept_renewed : kept ≡ true → HasRenewed v0 (Some (record { entry = entry; is_kept = true })) v1
   kept_renewed is =
       let next = renew_next (now v0) path main (done ++ e ∷ []) in
-      elsewhere (Some entry) v1 (record {
+      elsewhere (Some (record { entry = entry; is_kept = true })) v1 (record {
         one = e;
-        more = [];
         become = become_so v0 v1 (λ o. record o { line = next }) (λ o. record o { private = o.private ++ []; line = next }) (λ o runs. no_more next o) (moved_become v0 v1 (λ o. next)
             (come_by true is));
         names = entry_named v0 main (length done) entry is_at.4 ∙ sym (entry_to_on v0 v1 (follows_later v0 v1 later1) e h.entry_used);
+        stood = λ kept. refl;
       })
 
   -- ---- it is read
@@ -157,29 +189,62 @@ module _ (n : ℕ) (v0 v1 : View) (sound0 : IsSound n v0) (entry : Entry) (is_at
               (ap (λ g. act.Make (Indirection g child)) (its_start at2.0 at2.1));
         }
 
-        pub link_making : (r : Ref) × (p : IsAt v2 (act.Make (Indirection start r))) × IsPlaced v2 r given.link.main.slot × (false ≡ true → IsBuilding p.operation.line r)
-        link_making = (child, its_making, (g.link.main_used, g.link.is.names.place), λ e. absurd (false≢true e))
+        -- the main node isn't private: what is so are indirections
+        apart : (k : Ref) → k ≡ child → IsShared v2 k
+        apart k same operation runs c =
+            let on = line_is v2 l2 at2 operation (operation.is_marked, runs) in
+            let link = renew_links (bounds_for v2.sizes v2.account.steps) sound2.bounds v2.account.steps v2.actor operation runs (renew.Link path main done child) on k c in
+            main_no_link (node_at (now v2).heap child) (subst (λ x. is_main_node x ≡ true) (sym (node_is (now v2) child g.header.slot g.header.used)) g.header.is_main)
+            (subst (λ r. is_indirection (node_at (now v2).heap r) ≡ true) same link)
 
-        module _ (v3 : View) (result : Option ℕ) (made : HasMadeNext v2 result v3) where
+        at_hand_child : Contains (at_hand (now v2) (record at2.0 { is_marked = at2.1.0 })) child
+        at_hand_child =
+            let o : Operation = record at2.0 { is_marked = at2.1.0 } in
+            Contains-append_left (refs_of_claims (line_claims (now v2) o)) o.private child
+            (subst (λ (x : Line). Contains (refs_of_claims (line_claims (now v2) (record o { line = x }))) child) (sym at2.2) (last_claim (done_wants path main done) child))
+
+        pub link_holds : (class : ℕ) → class ≡ shape_class given.header.shape → MayHoldOne v2 kinds.Main class given.link.main.slot
+        link_holds class is = record {
+          one = child;
+          hand = (
+            (record at2.0 { is_marked = at2.1.0 }, at2.1.1, inl at_hand_child),
+            record {
+              slot = g.header.slot;
+              used = g.header.used;
+              class_is = sym (ap class_of (node_is (now v2) child g.header.slot g.header.used)) ∙ class_known n v2 sound2 child given.header g.header ∙ sym is;
+              place = g.link.is.names.place;
+            },
+          );
+          its_kind = ap kind_of_node (node_is (now v2) child g.header.slot g.header.used) ∙ main_kind_is g.header.slot.node g.header.is_main;
+          shared = apart child refl;
+          names = λ operation runs k c.
+              (let same = same_Some its_making.operation operation (sym its_making.runs ∙ runs) in
+              inr (one_there child k (subst (λ ks. Contains ks k) (ap (λ o. names_made (action_of (now v2) o)) (sym same) ∙ ap names_made its_making.acts) c)));
+        }
+
+        pub link_making : (r : Ref) × (p : IsAt v2 (act.Make (Indirection start r))) × IsPlaced v2 r given.link.main.slot × MayOwn p.operation.line (Indirection start r) false
+        unfolding at2 its_making
+        link_making = (child, its_making, (g.link.main_used, g.link.is.names.place), (λ e. absurd (false≢true e), λ b. absurd (subst (λ x. IsBuilding x child) at2.2 b)))
+
+        module _ (v3 : View) (result : Option ℕ) (built : HasBuilt v2 result v3) where
           pub none_renewed : result ≡ None → HasRenewed v0 None v3
           none_renewed is =
-              let same : v3 ≡ v2 = subst (λ r. HasNewOrNone v2 (Indirection start child) r v3) is (made (Indirection start child) its_making) in
-              elsewhere None v3 (subst (λ x. GivesUp (λ o. reply.NoSlots) v0 x) (sym same) (record {
-                follows = follows_later v0 v2 come02.later;
-                runs = λ o runs. (o.private, l2, come02.comes o runs, refl);
-              }))
+              let rests : HasRested v2 v3 = subst (λ r. HasBuiltNode v2 (Indirection start child) r v3) is (built (Indirection start child) its_making) in
+              elsewhere None v3 (record {
+                follows = follows_both v0 v2 v3 (follows_later v0 v2 come02.later) rests.follows;
+                runs = λ o runs. (o.private, l2, rests.comes (record o { line = l2 }) (come02.comes o runs), refl);
+              })
 
-          pub some_renewed : (slot : ℕ) → result ≡ Some slot → HasRenewed v0 (Some (record { slot = slot; own = false; is_single = false })) v3
+          pub some_renewed : (slot : ℕ) → result ≡ Some slot → HasRenewed v0 (Some (record { entry = record { slot = slot; own = false; is_single = false }; is_kept = false })) v3
           some_renewed slot is =
-              let new : HasNew v2 (Indirection start child) slot v3 = subst (λ r. HasNewOrNone v2 (Indirection start child) r v3) is (made (Indirection start child)
-              its_making) in
+              let new : HasNew v2 (Indirection start child) slot v3 = subst (λ r. HasBuiltNode v2 (Indirection start child) r v3) is (built (Indirection start child) its_making) in
               let next = renew_next (now v0) path main (done ++ new.made ∷ []) in
               let same = node_then v0 main (length done) h v2 come02.later in
-              elsewhere (Some (record { slot = slot; own = false; is_single = false })) v3 (record {
+              elsewhere (Some (record { entry = record { slot = slot; own = false; is_single = false }; is_kept = false })) v3 (record {
                 one = new.made;
-                more = new.made ∷ [];
                 become = become_so v0 v3 (λ o. made_on (now v2) new.made (record o { line = l2 })) (λ o. record o { private = o.private ++ new.made ∷ []; line = next })
                     (λ o runs. ap (λ x. record o { private = o.private ++ new.made ∷ []; line = x }) (renew_same (now v2) (now v0) path main same (done ++ new.made ∷ [])))
                     (become_both v0 v2 v3 (λ o. record o { line = l2 }) (made_on (now v2) new.made) (moved_become v0 v2 (λ o. l2) come02) new.become);
                 names = ap₂ (λ s b. record { slot = s; own = false; is_single = b }) (sym new.placed.1) (sym (ap is_single new.node_is));
+                stood = λ kept. absurd (false≢true kept);
               })

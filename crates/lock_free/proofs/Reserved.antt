@@ -24,12 +24,15 @@ use Rattle.lock_free.specs.Accounts.{state_of}
 use Rattle.lock_free.specs.Offering.{HasOwner}
 use Rattle.lock_free.specs.Places.{pin_word, root_word}
 use Rattle.lock_free.specs.Roots.{NoOffer, fate, undecided, meant, open_with}
-use Rattle.lock_free.specs.Rules.{IsClosing, SaysClosing, IsFree, IsHeld, Reserves, Names, IsOpening, IsSeat, IsKept}
+use Rattle.lock_free.specs.Rules.{IsClosing, SaysClosing, IsFree, IsHeld, Reserves, Names, NamesOffer, IsOpening, IsSeat, IsKept, RunsNothing}
 use Rattle.lock_free.proofs.Assembling.{AllStand, all_stand, here, closing_stays, opening_stays, assembled}
 use Rattle.lock_free.proofs.RootCodes.{kind, same_kind}
 use Rattle.lock_free.proofs.RootFound.{slot_fits, offered_is, opening_is}
 use Rattle.lock_free.proofs.RootSteps as root
+use Rattle.lock_free.proofs.PlainStay.{names_none, plain_over}
 use Rattle.lock_free.proofs.Seats.{ran_so, Stays, StaysSpare, other_kept, own_else}
+use Rattle.lock_free.proofs.HeldStill.{held_words}
+use Rattle.lock_free.proofs.CountWords.{handle_apart}
 
 -- ---- no offer stands that opens the seat's number, but its own operation's
 
@@ -79,7 +82,7 @@ module _ (sizes : Sizes) (s : Table.State Call View) (kept : IsKept sizes s) (id
     λ is. no_pending k c stands (opening_is sizes kept.account s.words kept.roots o its_held.low k c (k_fits k c) is).0,
   )
 
-  module _ (w : HandleWord) (fits : IsRootWord w) (unmarked : kind w < 6) where
+  module _ (w : HandleWord) (fits : IsRootWord w) (unmarked : kind w < 6) (quiet : RunsNothing now → (slot : ℕ) → NamesOffer (root_code w) slot → ⊥) where
     abbrev pub words_then : List ℕ
     words_then = set s.words (root_word o) (root_code w)
 
@@ -119,6 +122,7 @@ module _ (sizes : Sizes) (s : Table.State Call View) (kept : IsKept sizes s) (id
       still_open = λ other x at_x g inside e. e;
       taken = root.taken_rooted sizes kept.account kept.stands s.words all o its_held.low (root_code w);
       spare = λ other x b name e apart free. stays_spare other x b name e free;
+      plain = plain_over sizes kept.account s.words words_then o root_beside (λ idle slot n. quiet idle slot (subst (λ x. NamesOffer x slot) root_here n));
     }
 
     not_closing : (who : ℕ) → SaysClosing (root_code w) who → ⊥
@@ -145,7 +149,7 @@ module _ (sizes : Sizes) (s : Table.State Call View) (kept : IsKept sizes s) (id
 
   -- ---- the offer that is to open it is named
 
-  module _ (slot : ℕ) (free : IsFree v 1 slot) where
+  module _ (slot : ℕ) (free : IsFree v 1 slot) (busy : RunsNothing now → ⊥) where
     fits_slot : slot < 2 ^ 27
     fits_slot = slot_fits sizes s.words kept.range kept.taken slot (seat.spare 1 slot free).0
 
@@ -158,8 +162,11 @@ module _ (sizes : Sizes) (s : Table.State Call View) (kept : IsKept sizes s) (id
     few : kind (word.Opening slot) < 6
     few = omega arith
 
+    running : RunsNothing now → (x : ℕ) → NamesOffer (root_code (word.Opening slot)) x → ⊥
+    running idle x n = busy idle
+
     here_is : slice_index named_words (root_word o) ≡ root_code (word.Opening slot)
-    here_is = root_here (word.Opening slot) fits_slot few
+    here_is = root_here (word.Opening slot) fits_slot few running
 
     all_named : AllStand sizes kept.account kept.stands named_words
     all_named =
@@ -192,16 +199,17 @@ module _ (sizes : Sizes) (s : Table.State Call View) (kept : IsKept sizes s) (id
           })
       | inr differs ↦
           opening_stays sizes s kept id v at naming refl refl now g x (λ r f. (r, f)) (λ other w e apart f r. r)
-          (kept.openings g x below fits (sym (root_beside (word.Opening slot) fits_slot few g differs) ∙ is) nothing)
+          (kept.openings g x below fits (sym (root_beside (word.Opening slot) fits_slot few running g differs) ∙ is) nothing)
     ]
 
     -- the rule holds
     pub name_kept : IsKept sizes (record { words = named_words; homes = s.homes; views = set s.views id naming })
     name_kept =
-        assembled sizes s kept id v at naming refl refl kept.account kept.stands named_words all_named (closings_then (word.Opening slot) fits_slot few v.opens (Some slot))
-        (own_by (word.Opening slot) fits_slot few v.opens (Some slot) named_held seat.reserves named_it)
-        (other_kept sizes s kept id v at kept.account kept.stands named_words (stays (word.Opening slot) fits_slot few)) (λ b name f. inl f)
+        assembled sizes s kept id v at naming refl refl kept.account kept.stands named_words all_named (closings_then (word.Opening slot) fits_slot few running v.opens (Some slot))
+        (own_by (word.Opening slot) fits_slot few running v.opens (Some slot) named_held seat.reserves named_it)
+        (other_kept sizes s kept id v at kept.account kept.stands named_words (stays (word.Opening slot) fits_slot few running)) (λ b name f. inl f)
         (record { openings = openings_named; number = λ g r. inl r; others = λ other w e apart g r. r; runners = λ a p e. inr (p, e) })
+        (held_words sizes s kept id v at naming refl refl refl (root_word o) (root_code (word.Opening slot)) (handle_apart sizes o its_held.low).1)
 
   -- ---- the number is given back
 
@@ -215,6 +223,9 @@ module _ (sizes : Sizes) (s : Table.State Call View) (kept : IsKept sizes s) (id
     low_kind : kind word.Closed < 6
     low_kind = omega arith
 
+    closes : RunsNothing now → (x : ℕ) → NamesOffer (root_code word.Closed) x → ⊥
+    closes nothing = names_none word.Closed tt (λ e. omega (arith, e)) (λ e. omega (arith, e))
+
     all_free : AllStand sizes kept.account kept.stands free_words
     all_free =
         root.all_rooted sizes kept.account kept.stands s.words all o its_held.low (root_code word.Closed) (record { what = word.Closed; fits = tt; code = refl; says = its_held.closed }) unnamed
@@ -223,17 +234,18 @@ module _ (sizes : Sizes) (s : Table.State Call View) (kept : IsKept sizes s) (id
         (set s.views id freeing) g x
     openings_free g x below fits is nothing = elim (cases_eq g o) [
       | inl same ↦
-          (let wrong = same_kind word.Closed (word.Opening x) tt fits (sym (root_here word.Closed tt low_kind) ∙ ap (λ n. slice_index free_words (root_word n)) (sym same) ∙ is) in absurd
+          (let wrong = same_kind word.Closed (word.Opening x) tt fits (sym (root_here word.Closed tt low_kind closes) ∙ ap (λ n. slice_index free_words (root_word n)) (sym same) ∙ is) in absurd
           (omega (arith, wrong)))
       | inr differs ↦
           opening_stays sizes s kept id v at freeing refl refl now g x (λ r f. absurd (differs (same_Some g o (sym r.0 ∙ reserves.0)))) (λ other w e apart f r. r)
-          (kept.openings g x below fits (sym (root_beside word.Closed tt low_kind g differs) ∙ is) nothing)
+          (kept.openings g x below fits (sym (root_beside word.Closed tt low_kind closes g differs) ∙ is) nothing)
     ]
 
     -- the rule holds
     pub give_back_kept : IsKept sizes (record { words = free_words; homes = s.homes; views = set s.views id freeing })
     give_back_kept =
-        assembled sizes s kept id v at freeing refl refl kept.account kept.stands free_words all_free (closings_then word.Closed tt low_kind None None)
-        (own_by word.Closed tt low_kind None None (λ g r. absurd (none-some g r.0)) (λ p e. absurd (none-some p (sym idle ∙ e))) (λ g x p n. absurd (none-some g p)))
-        (other_kept sizes s kept id v at kept.account kept.stands free_words (stays word.Closed tt low_kind)) (λ b name f. inl f)
+        assembled sizes s kept id v at freeing refl refl kept.account kept.stands free_words all_free (closings_then word.Closed tt low_kind closes None None)
+        (own_by word.Closed tt low_kind closes None None (λ g r. absurd (none-some g r.0)) (λ p e. absurd (none-some p (sym idle ∙ e))) (λ g x p n. absurd (none-some g p)))
+        (other_kept sizes s kept id v at kept.account kept.stands free_words (stays word.Closed tt low_kind closes)) (λ b name f. inl f)
         (record { openings = openings_free; number = λ g r. absurd (none-some g r.0); others = λ other w e apart g r. r; runners = λ a p e. inr (p, e) })
+        (held_words sizes s kept id v at freeing refl refl refl (root_word o) (root_code word.Closed) (handle_apart sizes o its_held.low).1)

@@ -15,13 +15,16 @@ use Rattle.lock_free.specs.Accounts.{state_of}
 use Rattle.lock_free.specs.Numbers.{reserving}
 use Rattle.lock_free.specs.Places.{pin_word, root_word}
 use Rattle.lock_free.specs.Roots.{NoOffer}
-use Rattle.lock_free.specs.Rules.{IsFree, IsHeld, Reserves, IsOpening, IsSeat, IsKept, SaysClosing}
+use Rattle.lock_free.specs.Rules.{IsFree, IsHeld, NamesOffer, Reserves, IsOpening, IsSeat, IsKept, SaysClosing}
 use Rattle.lock_free.proofs.Assembling.{AllStand, all_stand, closing_stays, opening_stays, Numbers, assembled}
 use Rattle.lock_free.proofs.OpenHandles.{not_closing}
 use Rattle.lock_free.proofs.RootCodes.{same_kind}
 use Rattle.lock_free.proofs.RootFound.{said}
 use Rattle.lock_free.proofs.RootSteps as root
+use Rattle.lock_free.proofs.PlainStay.{names_none, plain_over}
 use Rattle.lock_free.proofs.Seats.{ran_so, Stays, StaysSpare, other_kept, own_else}
+use Rattle.lock_free.proofs.HeldStill.{held_words}
+use Rattle.lock_free.proofs.CountWords.{handle_apart}
 
 module _ (sizes : Sizes) (s : Table.State Call View) (kept : IsKept sizes s) (id : ℕ) (v : View) (at : get_elem? s.views id ≡ some v) (idle : operation_of (state_of sizes kept.account) v.actor ≡ None)
     (opens_none : v.opens ≡ None) (o : ℕ) (below : o < handle_limit) (found : slice_index s.words (root_word o) ≡ 0) where
@@ -86,6 +89,8 @@ module _ (sizes : Sizes) (s : Table.State Call View) (kept : IsKept sizes s) (id
     still_open = λ other w at_w g inside e. e;
     taken = root.taken_rooted sizes kept.account kept.stands s.words all o below (root_code word.Reserved);
     spare = λ other w b name e apart free. spare other w b name e free;
+    plain = plain_over sizes kept.account s.words words_then o root_beside
+        (λ idle slot n. names_none word.Reserved tt (λ e. omega (arith, e)) (λ e. omega (arith, e)) slot (subst (λ x. NamesOffer x slot) root_here n));
   }
 
   own_then : IsSeat sizes kept.account kept.stands words_then (reserving v o)
@@ -121,3 +126,4 @@ module _ (sizes : Sizes) (s : Table.State Call View) (kept : IsKept sizes s) (id
         | inr differs ↦
             closing_stays sizes s kept id v at (reserving v o) refl refl (λ h e. e) refl g who (kept.closings g who low (subst (λ n. SaysClosing n who) (root_beside g differs) says))
       ]) own_then (other_kept sizes s kept id v at kept.account kept.stands words_then stays) (λ b name f. inl f) numbers_then
+      (held_words sizes s kept id v at (reserving v o) refl refl refl (root_word o) (root_code word.Reserved) (handle_apart sizes o below).1)

@@ -36,6 +36,7 @@ use Rattle.lock_free.proofs.LinkWords.{i_there, generation_now, hit, miss}
 use Rattle.lock_free.proofs.Looking.{went, main_there, o_there, acts_there, same_action}
 use Rattle.lock_free.proofs.Moments.{IsThere, seat, allowed, took_by, its_place, still_own, node_apart}
 use Rattle.lock_free.proofs.Restored.{all_then, restore_kept}
+use Rattle.lock_free.proofs.Lettings.{TakesNone}
 
 module _ (v : View) (i main former : Ref) (p : IsAt v (act.Restore i main former)) (name : ℕ) (place : place_of v.account i ≡ name) (link : Link) (fits : IsLink link) (is : IsLinkTo v i main link)
     (former_name : Name) where
@@ -124,7 +125,8 @@ module _ (v : View) (i main former : Ref) (p : IsAt v (act.Restore i main former
       put_back e = (
         subst (λ ws. IsKept v.sizes (record { words = ws; homes = s.homes; views = set s.views id after }))
             (ap (set s.words (2 * place_of there i)) new_is ∙ words_hit v s kept id at word old new e (2 * place_of there i) at_place)
-            (restore_kept v.sizes s kept id v at o runs i main former r here former_name.own owned),
+            (restore_kept v.sizes s kept id v at o runs i main former r here former_name.own owned (subst (TakesNone kept.stands state o) (sym (acts_there v word found m does p)) tt)
+            (main_there v word found m does former former_in p).0.lives),
         (
           sound_by v s kept id at (gone_on v.actor there) kept.stands _ (all_then v.sizes there v.actor o i main former r kept.stands s.words (all_stand v.sizes s kept) here former_name.own owned),
           took_by v s kept id at o runs (gone_on v.actor there) r.own,
@@ -137,7 +139,7 @@ module _ (v : View) (i main former : Ref) (p : IsAt v (act.Restore i main former
         | inl names ↦ put_back names x.0 (found_old x.1)
         | inr gone ↦ absurd (gone_stays v.sizes v.actor v.account there (seat v s kept id at).waited kept.bounds p.operation p.runs i main former p.acts gone x.1)
       ]
-      | inr x ↦ missed v s kept id at word old new o runs x.0 (found_other x.1)
+      | inr x ↦ missed v s kept id at word old new o runs x.0 (subst (TakesNone kept.stands state o) (sym (acts_there v word found m does p)) tt) (found_other x.1)
     ]
 
     -- it was found if the failed one stood there still

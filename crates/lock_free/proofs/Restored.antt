@@ -1,6 +1,6 @@
 -- The exchange of an indirection's word puts the main node before a failed one back.
 use Rattle.history.specs.declared.calls.Call.{Call}
-use Rattle.std.proofs.Common.{◌≡◌, ◌≢◌, ◌+◌, ◌*◌, ◌⊎◌, ℕ, ◌<◌, ◌≤◌, inl, inr, Bool, true, List, [], ◌∷◌, set, get_or, slice_index, Option, Some, None, refl, sym, ap, subst, ◌∙◌, arith, length}
+use Rattle.std.proofs.Common.{◌≡◌, ◌≢◌, ◌*◌, ◌⊎◌, ℕ, ◌<◌, ◌≤◌, inl, inr, Bool, true, List, [], ◌∷◌, set, get_or, slice_index, Option, Some, None, refl, sym, ap, subst, ◌∙◌, arith, length}
 use Rattle.std.proofs.Common.{length-set}
 use Rattle.std.proofs.lemmas.Bool.{cases_eq}
 use Rattle.std.proofs.lemmas.List.{get_or-set_same}
@@ -31,7 +31,7 @@ use Rattle.lock_free.specs.declared.sizes.Sizes.{Sizes}
 use Rattle.lock_free.specs.Accounts.{state_of, place_at, place_of, gone_on, OwnIs}
 use Rattle.lock_free.specs.Nodes.{Has, StandsAs, InTable, AreEntries, IsEntryOf, is_single, half_of, IsOver, SaysPrevious, decided, ahead, pending, failed, SaysShape, of_branch, of_tomb, of_list}
 use Rattle.lock_free.specs.Nodes.{SaysHeader, class_of}
-use Rattle.lock_free.specs.Places.{first_slot_word, words_in, words_of, generation_word, root_word, IsTaken}
+use Rattle.lock_free.specs.Places.{first_slot_word, generation_word, root_word, IsSlot, IsTaken}
 use Rattle.lock_free.specs.Publishing.{with_main_of}
 use Rattle.lock_free.specs.Restoring.{Restores}
 use Rattle.lock_free.specs.Roots.{MeansRoot, second_of, fate}
@@ -47,7 +47,16 @@ use Rattle.lock_free.proofs.Owners.{owners_kept}
 use Rattle.lock_free.proofs.NodeWord.{node_word_kept}
 use Rattle.lock_free.proofs.Fates.{fate_kept, words_same}
 use Rattle.lock_free.proofs.OneStep.Reached.{reached_kept}
-use Rattle.lock_free.proofs.Waiting.{quiet_more}
+use Rattle.lock_free.proofs.Waiting.{grown_steps, quiet_more}
+use Rattle.machine_model.specs.Operations.{action_of}
+use Rattle.proof_memory.specs.Wants.{is_indirection}
+use Rattle.lock_free.proofs.HeldStep.{alike_written, going_less, going_private, held_step, slot_beside}
+use Rattle.lock_free.proofs.Lettings.{TakesNone, none_made}
+use Rattle.lock_free.proofs.LinesStay.{lines_went, going_owes}
+use Rattle.machine_model.specs.Acting.{operation_after}
+use Rattle.lock_free.proofs.LetGoSince.{going_let_go}
+use Rattle.lock_free.specs.Live.{IsLive}
+use Rattle.lock_free.proofs.Pools.{one_there}
 
 module _ (sizes : Sizes) (account : Account) (actor : ℕ) (operation : Operation) (i main former : Ref) (restores : Restores sizes account actor operation i main former) (stands : Standing)
     (words : List ℕ)
@@ -194,11 +203,11 @@ module _ (sizes : Sizes) (account : Account) (actor : ℕ) (operation : Operatio
     apart = λ j k x y a c e. (let b = before j x (which j x a.1) in let d = before k y (which k y c.1) in all.nodes.apart j k b.0 d.0 (a.0, b.1) (c.0, d.1) e);
     offers = λ o c k slot h. (let b = before k slot (which k slot h.1) in all.nodes.offers o c k b.0 (h.0, b.1));
     written = λ k slot h. written_by k slot h.0 (which k slot h.1);
-    inside = λ k slot e. (let b = before k slot (which k slot e) in subst (λ c. 2 * place_at account k + words_in c ≤ words_of sizes) (sym b.2) (all.nodes.inside k b.0 b.1));
+    inside = λ k slot e. (let b = before k slot (which k slot e) in subst (λ c. IsSlot sizes c (place_at account k)) (sym b.2) (all.nodes.inside k b.0 b.1));
     owners = owners_kept account account_then now next refl refl restores.aheads all.nodes.owners;
     owned = own_longer sizes account account_then (step.Go actor ∷ []) refl refl all.nodes.owned;
     live = λ r h. all.nodes.live r (restores.live r h);
-    reached = reached_kept sizes account account_then (step.Go actor) refl stands stands all.nodes.reached (λ r h. all.nodes.live r (restores.live r h)) (λ r was h. h);
+    reached = reached_kept sizes account account_then all.bounds (step.Go actor) refl stands stands all.nodes.reached (λ r h. all.nodes.live r (restores.live r h)) (λ r was h. h);
   }
 
   meaning_then : (handle found : ℕ) (r : Option Root) → MeansRoot account words_then handle found r → MeansRoot account_then words_then handle found r
@@ -252,13 +261,28 @@ module _ (sizes : Sizes) (s : Table.State Call View) (kept : IsKept sizes s) (id
   kept_all = all_stand sizes s kept
 
   -- the rule holds
-  pub restore_kept : IsKept sizes (record {
-    words = words_then sizes kept.account v.actor operation i main former restores kept.stands s.words kept_all here own owned;
-    homes = s.homes;
-    views = set s.views id (record v { account = gone_on v.actor kept.account });
-  })
-  restore_kept =
+  pub restore_kept : TakesNone kept.stands (state_of sizes kept.account) operation (action_of (state_of sizes kept.account) operation) → IsLive (state_of sizes kept.account) former →
+      IsKept sizes (record {
+        words = words_then sizes kept.account v.actor operation i main former restores kept.stands s.words kept_all here own owned;
+        homes = s.homes;
+        views = set s.views id (record v { account = gone_on v.actor kept.account });
+      })
+  restore_kept takes lives =
       node_word_kept sizes s kept id v at operation runs (slot_of i) restores.link (here, restores.link_is) (2 * place_of kept.account i) (first_word restores.link.node (place_of kept.account i))
       (value sizes kept.account v.actor operation i main former restores kept.stands s.words kept_all here own owned) []
       (all_then sizes kept.account v.actor operation i main former restores kept.stands s.words kept_all here own owned)
-      (spare_then sizes kept.account v.actor operation i main former restores kept.stands s.words kept_all here own owned) restores.roots restores.others restores.own restores.tries
+      (spare_then sizes kept.account v.actor operation i main former restores kept.stands s.words kept_all here own owned) restores.roots restores.others restores.own restores.tries v.owed
+      (held_step sizes s kept id v at (gone_on v.actor kept.account) (grown_steps kept.account (gone_on v.actor kept.account) (step.Go v.actor ∷ []) refl refl) refl refl
+      (alike_written (state_of sizes kept.account) (state_of sizes (gone_on v.actor kept.account)) (slot_of i) restores.link (with_main_of restores.link restores.generation former) restores.link_is
+      restores.link_then refl (ap class_of (sym restores.link_node)) (ap is_indirection (sym restores.link_node))
+      (λ r c. inr (subst (IsLive (state_of sizes kept.account)) (sym (one_there former r c)) lives)) restores.nodes) restores.live
+      (going_private sizes s kept v.actor operation runs takes (gone_on v.actor kept.account) refl (state_of sizes (gone_on v.actor kept.account)) restores.others restores.own)
+      (going_less sizes s kept v.actor operation runs takes (gone_on v.actor kept.account) refl)
+      (going_let_go sizes s kept v.actor operation runs takes (gone_on v.actor kept.account) refl) (record v { account = gone_on v.actor kept.account }) refl refl (λ k. omega arith)
+      (lines_went sizes s kept id v at (gone_on v.actor kept.account) (record v { account = gone_on v.actor kept.account }) restores.others operation
+      (operation_after (state_of sizes kept.account) operation) runs restores.own
+      (going_owes sizes kept.account kept.bounds v.actor operation runs (none_made kept.stands (state_of sizes kept.account) operation (action_of (state_of sizes kept.account) operation) takes)) refl)
+      (words_then sizes kept.account v.actor operation i main former restores kept.stands s.words kept_all here own owned)
+      (slot_beside sizes s kept (class_of restores.link.node) (place_of kept.account i) (class_small restores.link.node) (kept.nodes.within (slot_of i) restores.link (here, restores.link_is))
+      (2 * place_of kept.account i) (first_word restores.link.node (place_of kept.account i))
+      (value sizes kept.account v.actor operation i main former restores kept.stands s.words kept_all here own owned)))

@@ -1,14 +1,10 @@
--- The main node that a SWAP has replaced can be retired by the last step of the SWAP: it is garbage then, and nobody has retired it before.
-use Rattle.std.proofs.Common.{◌≡◌, ◌≢◌, ◌+◌, ◌++◌, ℕ, List, [], ◌∷◌, length, true, Some, refl, sym, ap, subst, ◌∙◌, append_assoc, arith}
-use Rattle.std.proofs.lemmas.Bool.{true≢false}
-use Rattle.machine_model.specs.Beneath.slot_arena.specs.declared.nodes.Node.{Node}
-use Rattle.machine_model.specs.Beneath.slot_arena.specs.declared.nodes.Node.TheVariants.{Indirection, Branch, Single, Tomb, List as Listed}
+-- The main node that a SWAP lets go of can be retired by its last step: it is garbage then, and nobody has retired it before.
+use Rattle.std.proofs.Common.{◌≡◌, ◌≢◌, ◌+◌, ◌++◌, ℕ, List, [], ◌∷◌, length, true, false, Some, refl, sym, ap, subst, ◌∙◌, append_assoc, arith}
 use Rattle.machine_model.specs.Beneath.slot_arena.specs.declared.nodes.Slot.{Slot}
 use Rattle.machine_model.specs.Beneath.slot_arena.specs.declared.refs.Ref.{Ref}
 use Rattle.machine_model.specs.Beneath.slot_arena.specs.Heaps.{node_at}
 use Rattle.machine_model.specs.Beneath.slot_arena.specs.Refs.{slot_of}
 use Rattle.machine_model.specs.declared.reading.SwapLine.TheVariants as swap
-use Rattle.machine_model.specs.declared.roots.RootWord.TheVariants.{Plain}
 use Rattle.machine_model.specs.declared.steps.Step.{Step}
 use Rattle.machine_model.specs.declared.steps.Step.TheVariants as step
 use Rattle.machine_model.specs.Grown.{standing}
@@ -20,31 +16,36 @@ use Rattle.machine_model.specs.Times.{states_of, last_of}
 use Rattle.machine_model.proofs.Grown.{node_standing}
 use Rattle.proof_commits.specs.Runs.{HasIndirection}
 use Rattle.proof_memory.specs.Laws.{IsInUse, SameNode}
-use Rattle.proof_memory.specs.Wants.{AllHold, is_indirection, is_main_node, line_wants, purpose_wants, swap_wants}
+use Rattle.proof_memory.specs.Wants.{AllHold, is_main_node, line_wants, purpose_wants, swap_wants}
 use Rattle.proof_memory.proofs.Claims.Uses.{first_hold, meets_of, safe_of}
 use Rattle.proof_memory.proofs.Safety.AtEachTime.{safe_along}
 use Rattle.proof_memory.proofs.Safety.AtTimes.{line_finds_in}
 use Rattle.machine_model.proofs.Along.{limits_along}
-use Rattle.proof_reuse.proofs.SwappedOut.{swapped_out_garbage, replaced_once}
-use Rattle.proof_reuse.specs.Beneath.proof_owned.specs.Owned.{IsOwn}
-use Rattle.proof_reuse.specs.Laws.{HasReplaced, IsGarbage}
+use Rattle.proof_claims.specs.Beneath.proof_reuse.proofs.SwappedOut.{swapped_out_garbage, replaced_once}
+use Rattle.proof_claims.specs.Beneath.proof_reuse.specs.Beneath.proof_owned.specs.Owned.{IsOwn}
+use Rattle.proof_claims.specs.Dropped.{HasFailed}
+use Rattle.proof_claims.specs.Beneath.proof_reuse.specs.Laws.{HasReplaced, IsGarbage}
 use Rattle.proof_waiting.specs.Beneath.proof_slots.specs.Unswept.{HasNoSweeps}
 use Rattle.proof_waiting.specs.Beneath.proof_slots.proofs.Unswept.Kept.{one_ref}
 use Rattle.lock_free.specs.declared.accounts.Account.{Account}
 use Rattle.lock_free.specs.declared.rules.Retired.{Retired}
 use Rattle.lock_free.specs.declared.sizes.Sizes.{Sizes}
-use Rattle.lock_free.specs.Accounts.{bounds_for, state_of, place_at, gone_on, HasGrown, WasRoot}
+use Rattle.lock_free.specs.Accounts.{bounds_for, state_of, place_at, gone_on, HasGrown}
 use Rattle.lock_free.specs.Nodes.{class_of}
 use Rattle.lock_free.specs.Owning.{IsOwnBy}
-use Rattle.lock_free.specs.Rules.{WasGarbage, WasReplaced}
+use Rattle.lock_free.specs.Rules.{WasGarbage, WasLetGo, WasReplaced, by_commit, by_outcome, by_refusal}
+use Rattle.lock_free.specs.TakenBack.{WasTakenBack}
 use Rattle.lock_free.proofs.NewNodes.{class_same}
 use Rattle.lock_free.proofs.OneStep.Found.{slot_at, used_made}
-use Rattle.lock_free.proofs.OneStep.LinksWide.{replaced_wide}
+use Rattle.lock_free.proofs.OneStep.LinksWide.{failed_wide, replaced_wide}
 use Rattle.lock_free.proofs.OneStep.Longer.{bounds_less, bounds_more}
 use Rattle.lock_free.proofs.OneStep.Parts.{run_part, part_goes, used_still}
 use Rattle.lock_free.proofs.OneStep.Retired.{retired_used}
 use Rattle.lock_free.proofs.OwnBits.{own_by_longer}
-use Rattle.lock_free.proofs.OwnNodes.{kind_stays, link_still, own_in}
+use Rattle.lock_free.proofs.OwnNodes.{link_still, own_in}
+use Rattle.lock_free.proofs.StayDecided.{refused_never_replaced}
+use Rattle.lock_free.proofs.SwapChecks.{both_kinds}
+use Rattle.lock_free.proofs.TakenRoots.{root_link}
 use Rattle.lock_free.proofs.Waiting.{quiet_more}
 
 -- ---- who has replaced a main node
@@ -71,21 +72,10 @@ module _ (sizes : Sizes) (steps : List Step) (ok : AreBounds (bounds_for sizes s
 goes_by_check : (before then : State) (actor : ℕ) (i m f : Ref) (h : HasReplaced before actor i m f) → GoesOn (action_of then h.operation)
 goes_by_check before then actor i m f h = subst (λ l. GoesOn (line_action then h.operation l)) (sym h.checks) tt
 
-both_kinds : (node : Node) → is_indirection node ≡ true → is_main_node node ≡ true → ⊥
-both_kinds (Indirection generation main) link main_node = true≢false (sym main_node)
-both_kinds (Branch bitmap entries) link main_node = true≢false (sym link)
-both_kinds (Single key value) link main_node = true≢false (sym link)
-both_kinds (Tomb single) link main_node = true≢false (sym link)
-both_kinds (Listed singles) link main_node = true≢false (sym link)
+-- ---- it is let go of by this step
 
-module _ (sizes : Sizes) (account : Account) (bounds : AreBounds (bounds_for sizes account.steps)) (quiet : HasNoSweeps account.steps) (actor : ℕ) (i m f : Ref)
-    (h : HasReplaced (state_of sizes account) actor i m f) (own : IsOwnBy sizes account (slot_of i) (slot_of m)) where
-  link_now : HasIndirection (state_of sizes account) i
-  link_now = replaced_link sizes account.steps bounds actor i m f h
-
-  pub used_now : IsInUse (state_of sizes account).heap m
-  used_now = replaced_used sizes account.steps bounds actor i m f h
-
+module _ (sizes : Sizes) (account : Account) (bounds : AreBounds (bounds_for sizes account.steps)) (quiet : HasNoSweeps account.steps) (actor : ℕ) (m : Ref)
+    (used_now : IsInUse (state_of sizes account).heap m) where
   -- ---- after the last step
 
   abbrev pub after : Account
@@ -94,52 +84,29 @@ module _ (sizes : Sizes) (account : Account) (bounds : AreBounds (bounds_for siz
   abbrev last_step : List Step
   last_step = step.Go actor ∷ []
 
-  ok : AreBounds (bounds_for sizes after.steps)
+  pub ok : AreBounds (bounds_for sizes after.steps)
   ok = bounds_more sizes account.steps last_step bounds
 
-  quiet_after : HasNoSweeps after.steps
+  pub quiet_after : HasNoSweeps after.steps
   quiet_after = quiet_more account.steps (step.Go actor) quiet tt
 
   pub used_then : (slot : Slot) × (standing (state_of sizes after).heap m ≡ Some slot) × SameNode used_now.0.node slot.node
   used_then = used_still sizes after.steps account.steps last_step refl ok quiet_after m used_now
 
-  link_then : HasIndirection (state_of sizes after) i
-  link_then = link_still sizes after ok quiet_after account.steps last_step refl i link_now
-
-  own_then : IsOwnBy sizes after (slot_of i) (slot_of m)
-  own_then = own_by_longer sizes account after last_step refl (slot_of i) (slot_of m) own
-
-  garbage : IsGarbage (state_of sizes after) m
-  garbage =
-      swapped_out_garbage (bounds_for sizes after.steps) account.steps last_step ok actor i m f
-      (subst (λ (s : State). HasReplaced s actor i m f) (sym (run_part sizes after.steps account.steps last_step refl ok))
-      (replaced_wide (length last_step) (length after.steps + 1) (state_of sizes account) actor i m f h)) (own_in sizes after ok quiet_after i m link_then (used_then.0, used_then.1) own_then)
-      (used_then.0, used_then.1)
-
-  unrooted : WasRoot sizes after m → ⊥
-  unrooted root =
-      let before = bounds_less sizes root.steps root.more (subst (λ l. AreBounds (bounds_for sizes l)) root.goes_on ok) in
-      let claims = (safe_along (bounds_for sizes root.steps) before root.steps).words root.handle (record { access = root.access; word = Plain m }) root.was in
-      let link = link_still sizes after ok quiet_after root.steps root.more root.goes_on m (safe_of claims.0, meets_of claims.0) in
-      let kind = kind_stays used_now.0.node used_then.0.node used_then.2 in
-      let was = sym kind ∙ ap is_indirection (sym (node_standing (state_of sizes after).heap m used_then.0 used_then.1)) ∙ link.1 in
-      both_kinds used_now.0.node was
-      (ap is_main_node (sym (node_standing (state_of sizes account).heap m used_now.0 used_now.1)) ∙ replaced_main sizes account.steps bounds actor i m f h)
-
   -- what the seat has retired then, in this epoch
   abbrev pub item : ℕ → Retired
-  item stamp = record { class = class_of used_then.0.node; name = place_at after (slot_of m); number = slot_of m; stamp = stamp; account = after }
+  item stamp = record { class = class_of used_then.0.node; name = place_at after (slot_of m); number = slot_of m; stamp = stamp; account = after; deep = false }
 
   pub item_class : class_of used_then.0.node ≡ class_of (node_at (state_of sizes account).heap m)
   item_class = class_same used_now.0.node used_then.0.node used_then.2 ∙ ap class_of (sym (node_standing (state_of sizes account).heap m used_now.0 used_now.1))
 
-  pub was_garbage : length account.names ≡ (state_of sizes account).heap.births → (stamp : ℕ) → WasGarbage sizes (item stamp)
-  was_garbage counted stamp = record {
+  pub was_garbage : length account.names ≡ (state_of sizes account).heap.births → IsGarbage (state_of sizes (gone_on actor account)) m → (stamp : ℕ) → WasLetGo sizes (item stamp) m → WasGarbage sizes
+      (item stamp)
+  was_garbage counted garbage stamp goes = record {
     node = m;
     number = refl;
     garbage = garbage;
-    replaced = record { before = account.steps; actor = actor; goes_on = refl; link = i; fresh = f; replaced = h; own = own_then };
-    unrooted = unrooted;
+    let_go = λ shallow. goes;
     slot = used_then.0;
     stored = slot_at (state_of sizes after).heap m used_then.0 used_then.1;
     class = refl;
@@ -147,38 +114,96 @@ module _ (sizes : Sizes) (account : Account) (bounds : AreBounds (bounds_for siz
     place = refl;
   }
 
-  -- ---- nobody has retired it before
+  -- nobody has retired it before, if no step has let go of it before
+  pub not_retired : (x : Retired) → WasGarbage sizes x → HasGrown x.account account → x.deep ≡ false → (WasLetGo sizes x m → ⊥) → x.number ≢ slot_of m
+  not_retired x was grown shallow never same =
+      let node_is = one_ref (state_of sizes account).heap was.node m (retired_used sizes account bounds quiet x was grown) used_now (was.number ∙ same) in
+      never (subst (WasLetGo sizes x) node_is (was.let_go shallow))
 
-  module _ (x : Retired) (was : WasGarbage sizes x) (grown : HasGrown x.account account) where
-    abbrev r : WasReplaced sizes x was.node
-    r = was.replaced
+-- ---- a step that let go of a node before, in these steps
 
-    through_is : account.steps ≡ (r.before ++ step.Go r.actor ∷ []) ++ grown.steps
-    through_is = grown.goes_on ∙ ap (λ l. l ++ grown.steps) r.goes_on
+module _ (sizes : Sizes) (account : Account) (bounds : AreBounds (bounds_for sizes account.steps)) (x : Retired) (grown : HasGrown x.account account) (before : List Step) (actor : ℕ)
+    (goes_on : x.account.steps ≡ before ++ step.Go actor ∷ []) where
+  pub through_is : account.steps ≡ (before ++ step.Go actor ∷ []) ++ grown.steps
+  through_is = grown.goes_on ∙ ap (λ l. l ++ grown.steps) goes_on
 
-    parts : account.steps ≡ r.before ++ (step.Go r.actor ∷ grown.steps)
-    parts = through_is ∙ append_assoc r.before (step.Go r.actor ∷ []) grown.steps
+  pub parts : account.steps ≡ before ++ (step.Go actor ∷ grown.steps)
+  parts = through_is ∙ append_assoc before (step.Go actor ∷ []) grown.steps
 
-    before_ok : AreBounds (bounds_for sizes r.before)
-    before_ok = bounds_less sizes r.before (step.Go r.actor ∷ grown.steps) (subst (λ l. AreBounds (bounds_for sizes l)) parts bounds)
+  pub before_ok : AreBounds (bounds_for sizes before)
+  before_ok = bounds_less sizes before (step.Go actor ∷ grown.steps) (subst (λ l. AreBounds (bounds_for sizes l)) parts bounds)
 
-    module _ (same : x.number ≡ slot_of m) where
-      node_is : was.node ≡ m
-      node_is = one_ref (state_of sizes account).heap was.node m (retired_used sizes account bounds quiet x was grown) used_now (was.number ∙ same)
+  -- by the bounds of all of them
+  pub replaced_then : (i m f : Ref) → HasReplaced (run (bounds_for sizes before) before) actor i m f → HasReplaced (run (bounds_for sizes account.steps) before) actor i m f
+  replaced_then i m f h =
+      subst (λ (s : State). HasReplaced s actor i m f) (sym (run_part sizes account.steps before (step.Go actor ∷ grown.steps) parts bounds))
+      (replaced_wide (length (step.Go actor ∷ grown.steps)) (length account.steps + 1) (run (bounds_for sizes before) before) actor i m f h)
 
-      first : HasReplaced (run (bounds_for sizes account.steps) r.before) r.actor r.link m r.fresh
-      first =
-          subst (λ n. HasReplaced (run (bounds_for sizes account.steps) r.before) r.actor r.link n r.fresh) node_is
-          (subst (λ (s : State). HasReplaced s r.actor r.link was.node r.fresh) (sym (run_part sizes account.steps r.before (step.Go r.actor ∷ grown.steps) parts bounds))
-          (replaced_wide (length (step.Go r.actor ∷ grown.steps)) (length account.steps + 1) (run (bounds_for sizes r.before) r.before) r.actor r.link was.node r.fresh r.replaced))
+  pub failed_then : (i m f : Ref) → HasFailed (run (bounds_for sizes before) before) actor i m f → HasFailed (run (bounds_for sizes account.steps) before) actor i m f
+  failed_then i m f h =
+      subst (λ (s : State). HasFailed s actor i m f) (sym (run_part sizes account.steps before (step.Go actor ∷ grown.steps) parts bounds))
+      (failed_wide (length (step.Go actor ∷ grown.steps)) (length account.steps + 1) (run (bounds_for sizes before) before) actor i m f h)
+
+-- what was made to be a root is an indirection ever after
+pub was_root : (sizes : Sizes) (account : Account) (bounds : AreBounds (bounds_for sizes account.steps)) (quiet : HasNoSweeps account.steps) (x : Retired)
+    (grown : HasGrown x.account account) (m : Ref) → WasTakenBack sizes x m → HasIndirection (state_of sizes account) m
+was_root sizes account bounds quiet x grown m r =
+    link_still sizes account bounds quiet r.before (step.Go r.actor ∷ grown.steps) (parts sizes account bounds x grown r.before r.actor r.goes_on) m
+    (root_link sizes (record { steps = r.before; names = []; owned = []; offers = [] }) (before_ok sizes account bounds x grown r.before r.actor r.goes_on)
+    r.actor r.offer r.main r.sees r.undone m r.made)
+
+-- ---- it was the indirection's own, and was replaced
+
+module _ (sizes : Sizes) (account : Account) (bounds : AreBounds (bounds_for sizes account.steps)) (quiet : HasNoSweeps account.steps) (actor : ℕ) (i m f : Ref)
+    (h : HasReplaced (state_of sizes account) actor i m f) (own : IsOwnBy sizes account (slot_of i) (slot_of m)) where
+  link_now : HasIndirection (state_of sizes account) i
+  link_now = replaced_link sizes account.steps bounds actor i m f h
+
+  used_m : IsInUse (state_of sizes account).heap m
+  used_m = replaced_used sizes account.steps bounds actor i m f h
+
+  abbrev gone : Account
+  gone = gone_on actor account
+
+  bounds_then : AreBounds (bounds_for sizes gone.steps)
+  bounds_then = bounds_more sizes account.steps (step.Go actor ∷ []) bounds
+
+  quiet_then : HasNoSweeps gone.steps
+  quiet_then = quiet_more account.steps (step.Go actor) quiet tt
+
+  link_then : HasIndirection (state_of sizes gone) i
+  link_then = link_still sizes gone bounds_then quiet_then account.steps (step.Go actor ∷ []) refl i link_now
+
+  pub own_then : IsOwnBy sizes (gone_on actor account) (slot_of i) (slot_of m)
+  own_then = own_by_longer sizes account gone (step.Go actor ∷ []) refl (slot_of i) (slot_of m) own
+
+  pub replaced_garbage : IsGarbage (state_of sizes (gone_on actor account)) m
+  replaced_garbage =
+      let later = used_still sizes gone.steps account.steps (step.Go actor ∷ []) refl bounds_then quiet_then m used_m in
+      swapped_out_garbage (bounds_for sizes gone.steps) account.steps (step.Go actor ∷ []) bounds_then actor i m f
+      (subst (λ (s : State). HasReplaced s actor i m f) (sym (run_part sizes gone.steps account.steps (step.Go actor ∷ []) refl bounds_then))
+      (replaced_wide (length (step.Go actor ∷ [])) (length gone.steps + 1) (state_of sizes account) actor i m f h)) (own_in sizes gone bounds_then quiet_then i m link_then (later.0, later.1) own_then)
+      (later.0, later.1)
+
+  -- no step has let go of it before
+  module _ (x : Retired) (grown : HasGrown x.account account) where
+    module _ (r : WasReplaced sizes x m) where
+      its : HasReplaced (run (bounds_for sizes account.steps) r.before) r.actor r.link m r.fresh
+      its = replaced_then sizes account bounds x grown r.before r.actor r.goes_on r.link m r.fresh r.replaced
+
+      through : account.steps ≡ (r.before ++ step.Go r.actor ∷ []) ++ grown.steps
+      through = through_is sizes account bounds x grown r.before r.actor r.goes_on
+
+      all : account.steps ≡ r.before ++ (step.Go r.actor ∷ grown.steps)
+      all = parts sizes account bounds x grown r.before r.actor r.goes_on
 
       its_link : HasIndirection (state_of sizes account) r.link
-      its_link = link_still sizes account bounds quiet r.before (step.Go r.actor ∷ grown.steps) parts r.link (replaced_link sizes r.before before_ok r.actor r.link was.node r.fresh r.replaced)
+      its_link =
+          link_still sizes account bounds quiet r.before (step.Go r.actor ∷ grown.steps) all r.link
+          (replaced_link sizes r.before (before_ok sizes account bounds x grown r.before r.actor r.goes_on) r.actor r.link m r.fresh r.replaced)
 
       its_own : IsOwnBy sizes account (slot_of r.link) (slot_of m)
-      its_own =
-          subst (λ n. IsOwnBy sizes account (slot_of r.link) (slot_of n)) node_is
-          (own_by_longer sizes x.account account grown.steps grown.goes_on (slot_of r.link) (slot_of was.node) r.own)
+      its_own = own_by_longer sizes x.account account grown.steps grown.goes_on (slot_of r.link) (slot_of m) r.own
 
       abbrev Own : List Step → Ref → Type 0
       Own l j = IsOwn (states_of (bounds_for sizes account.steps) l) (last_of (bounds_for sizes account.steps) l) j m
@@ -186,11 +211,18 @@ module _ (sizes : Sizes) (account : Account) (bounds : AreBounds (bounds_for siz
       twice : ⊥
       twice =
           replaced_once (bounds_for sizes account.steps) bounds r.before grown.steps r.actor actor r.link i m r.fresh f _ _
-          (part_goes sizes account.steps r.before (step.Go r.actor ∷ grown.steps) parts bounds r.actor first.operation first.runs
-          (goes_by_check (run (bounds_for sizes account.steps) r.before) (run (bounds_for sizes account.steps) r.before) r.actor r.link m r.fresh first)) first
-          (subst (λ l. HasReplaced (run (bounds_for sizes account.steps) l) actor i m f) through_is h)
-          (subst (λ l. Own l r.link) through_is (own_in sizes account bounds quiet r.link m its_link used_now its_own))
-          (subst (λ l. Own l i) through_is (own_in sizes account bounds quiet i m link_now used_now own))
+          (part_goes sizes account.steps r.before (step.Go r.actor ∷ grown.steps) all bounds r.actor its.operation its.runs
+          (goes_by_check (run (bounds_for sizes account.steps) r.before) (run (bounds_for sizes account.steps) r.before) r.actor r.link m r.fresh its)) its
+          (subst (λ l. HasReplaced (run (bounds_for sizes account.steps) l) actor i m f) through h)
+          (subst (λ l. Own l r.link) through (own_in sizes account bounds quiet r.link m its_link used_m its_own))
+          (subst (λ l. Own l i) through (own_in sizes account bounds quiet i m link_now used_m own))
 
-    pub not_retired : x.number ≢ slot_of m
-    not_retired same = twice same
+    pub never_let_go : WasLetGo sizes x m → ⊥
+    never_let_go (by_commit r) = twice r
+    never_let_go (by_refusal r) =
+        refused_never_replaced (bounds_for sizes account.steps) bounds account.steps r.before (step.Go r.actor ∷ grown.steps)
+        (parts sizes account bounds x grown r.before r.actor r.goes_on) r.actor r.link
+        r.over m (failed_then sizes account bounds x grown r.before r.actor r.goes_on r.link r.over m r.failed) actor i f h
+    never_let_go (by_outcome r) =
+        both_kinds (node_at (state_of sizes account).heap m) (was_root sizes account bounds quiet x grown m r).1
+        (replaced_main sizes account.steps bounds actor i m f h)

@@ -10,12 +10,12 @@ use Rattle.lock_free.specs.declared.rules.Pinned.{Pinned}
 use Rattle.lock_free.specs.declared.rules.Retired.{Retired}
 use Rattle.lock_free.specs.declared.rules.View.{View}
 use Rattle.lock_free.specs.declared.sizes.Sizes.{Sizes}
-use Rattle.lock_free.specs.Reclaiming.{retiring}
+use Rattle.lock_free.specs.Reclaiming.{retiring, retiring_all}
 use Rattle.lock_free.specs.Rules.{AreEpochs, AreRetired, IsApartFrom, IsFarFrom, IsRetired, IsSeat, Once, Standing}
 use Rattle.lock_free.proofs.EpochStays.{epoch_in}
 use Rattle.lock_free.proofs.Pools.{mapped, once_more}
 
-only_one : (x y : Retired) → Contains (x ∷ []) y → x ≡ y
+pub only_one : (x y : Retired) → Contains (x ∷ []) y → x ≡ y
 only_one x y (zero, within, is) = is
 only_one x y (suc n, within, is) = absurd (omega (arith, within))
 
@@ -46,6 +46,34 @@ module _ (sizes : Sizes) (account : Account) (stands : Standing) (words : List �
     spare = h.spare;
     once = h.once;
     drafts = h.drafts;
+    plain = h.plain;
+  }
+
+-- the same of more than one
+module _ (sizes : Sizes) (account : Account) (stands : Standing) (words : List ℕ) (w : View) (xs : List Retired)
+    (are : (x : Retired) → Contains xs x → IsRetired sizes account stands x) where
+  pub seat_retiring_all : IsSeat sizes account stands words w → IsSeat sizes account stands words (retiring_all w xs)
+  seat_retiring_all h = record {
+    same = h.same;
+    low = h.low;
+    top = h.top;
+    most = h.most;
+    waited = h.waited;
+    counts = h.counts;
+    rested = h.rested;
+    rests = h.rests;
+    pinned = h.pinned;
+    pinned_idle = h.pinned_idle;
+    retired = λ y c. elim (Contains-append_cases w.retired xs y c) [ inl before ↦ h.retired y before | inr new ↦ are y new ];
+    entered = h.entered;
+    calls = h.calls;
+    opens = h.opens;
+    reserves = h.reserves;
+    opening = λ handle slot o n. (let z = h.opening handle slot o n in record { low = z.low; fits = z.fits; is = z.is; free = z.free });
+    spare = h.spare;
+    once = h.once;
+    drafts = h.drafts;
+    plain = h.plain;
   }
 
 -- ---- all that is retired

@@ -1,6 +1,6 @@
 -- The slot that a seat has retired: its node stands there still, and no other seat has retired it.
 use Rattle.history.specs.declared.calls.Call.{Call}
-use Rattle.std.proofs.Common.{◌≡◌, ◌<◌, ◌+◌, ◌++◌, ℕ, List, [], ◌∷◌, Contains, get_or, length, map, slice_index, Some, None, sym, ap, subst, ◌∙◌}
+use Rattle.std.proofs.Common.{◌≡◌, ◌<◌, ◌+◌, ◌++◌, ℕ, Bool, true, false, refl, List, [], ◌∷◌, Contains, get_or, length, map, slice_index, Some, None, sym, ap, subst, ◌∙◌}
 use mathlib.Core.Option.{some}
 use lib.ListN.{get_elem?}
 use Rattle.atomic_table.specs.Table as Table
@@ -21,9 +21,11 @@ use Rattle.lock_free.specs.Accounts.{bounds_for, state_of, place_at}
 use Rattle.lock_free.specs.Nodes.{class_of}
 use Rattle.lock_free.specs.Epochs.{AreItsSlots}
 use Rattle.lock_free.specs.Places.{count_word, epoch_word, IsSlot, IsTaken}
+use Rattle.lock_free.specs.Reclaiming.{kind_by, kind_of}
 use Rattle.lock_free.specs.Rules.{AreRetired, IsKept, IsRetired, Once, Stands}
 use Rattle.lock_free.proofs.CountWords.{count_once, slot_taken}
 use Rattle.lock_free.proofs.Framing.{class_small}
+use Rattle.lock_free.proofs.KindsApart.{kind_same, stored_kind}
 use Rattle.lock_free.proofs.Moments.{place_stays}
 use Rattle.lock_free.proofs.OneStep.Found.{ref_at, slot_at}
 use Rattle.lock_free.proofs.OneStep.Widened.{slot_in}
@@ -49,9 +51,8 @@ module _ (sizes : Sizes) (s : Table.State Call View) (kept : IsKept sizes s) (id
       ap (λ (z : State). get_or z.heap.slots x.number None) (prefix_is sizes kept.account kept.bounds x.account is.grown)
       ∙ slot_in (length is.grown.steps) (length kept.account.steps + 1) (state_of sizes x.account) x.number ∙ is.was.stored
 
-  -- the node stands there still
-  pub stands_still : (slot : Slot) × (get_or state.heap.slots x.number None ≡ Some slot) × (class_of slot.node ≡ x.class)
-  stands_still =
+  there_still : (slot : Slot) × (get_or state.heap.slots x.number None ≡ Some slot) × SameNode is.was.slot.node slot.node
+  there_still =
       let limits = bounds_for sizes kept.account.steps in
       let (r, place, stands) = ref_at _ (safe_along limits kept.bounds x.account.steps) x.number is.was.slot found in
       let (later, then, same) = nothing_is_freed limits x.account.steps is.grown.steps r is.was.slot kept.bounds
@@ -59,8 +60,21 @@ module _ (sizes : Sizes) (s : Table.State Call View) (kept : IsKept sizes s) (id
         later,
         ap (λ l. get_or (run limits l).heap.slots x.number None) is.grown.goes_on
             ∙ ap (λ j. get_or (run limits (x.account.steps ++ is.grown.steps)).heap.slots j None) (sym place) ∙ slot_at _ r later then,
-        same_class is.was.slot.node later.node same ∙ is.was.class,
+        same,
       )
+
+  -- the node stands there still
+  pub stands_still : (slot : Slot) × (get_or state.heap.slots x.number None ≡ Some slot) × (class_of slot.node ≡ x.class)
+  stands_still = (there_still.0, there_still.1, same_class is.was.slot.node there_still.0.node there_still.2 ∙ is.was.class)
+
+  -- and is of the same kind
+  pub kind_still : kind_of sizes x ≡ kind_by x.deep stands_still.0.node
+  unfolding stands_still there_still
+  kind_still = stored_kind sizes x is.was.slot is.was.stored ∙ by x.deep
+    where
+      by : (deep : Bool) → kind_by deep is.was.slot.node ≡ kind_by deep there_still.0.node
+      by true = sym (kind_same is.was.slot.node there_still.0.node there_still.2)
+      by false = refl
 
   pub it_stands : Stands kept.stands state x.number stands_still.0
   it_stands = (is.still, stands_still.1)

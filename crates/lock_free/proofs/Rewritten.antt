@@ -1,7 +1,7 @@
 -- A store to the word of an open handle whose root doesn't stand by an offer any more: it says the same root in other words. So an offer that is settled is taken out
 -- of it, and a seat's mark that it would close the handle is made or taken away.
 use Rattle.history.specs.declared.calls.Call.{Call}
-use Rattle.std.proofs.Common.{◌≡◌, ◌≢◌, ◌^◌, ℕ, ◌<◌, ◌≤◌, inl, inr, true, List, Contains, set, slice_index, is_some, Option, Some, None, refl, sym, ap, ◌∙◌, arith}
+use Rattle.std.proofs.Common.{◌≡◌, ◌≢◌, ◌^◌, ℕ, ◌<◌, ◌≤◌, inl, inr, true, List, Contains, set, slice_index, is_some, Option, Some, None, refl, sym, ap, subst, ◌∙◌, arith}
 use Rattle.std.proofs.lemmas.Bool.{cases_eq}
 use Rattle.std.proofs.lemmas.Option.{none-some}
 use mathlib.Core.Option.{some}
@@ -25,12 +25,15 @@ use Rattle.lock_free.specs.declared.sizes.Sizes.{Sizes}
 use Rattle.lock_free.specs.Accounts.{state_of, place_of}
 use Rattle.lock_free.specs.Places.{pin_word, root_word}
 use Rattle.lock_free.specs.Roots.{SaysRoot, NoOffer, fate, undecided, meant, opened_by, open_with}
-use Rattle.lock_free.specs.Rules.{IsClosing, SaysClosing, IsFree, IsHeld, Reserves, Names, IsOpening, IsSeat, IsKept}
+use Rattle.lock_free.specs.Rules.{IsClosing, SaysClosing, IsFree, IsHeld, Reserves, Names, NamesOffer, IsOpening, IsSeat, IsKept}
 use Rattle.lock_free.proofs.Assembling.{AllStand, all_stand, opening_stays, Numbers, assembled}
 use Rattle.lock_free.proofs.RootCodes.{kind, same_kind}
 use Rattle.lock_free.proofs.RootFound.{not_plain, slot_fits, offered_is, opening_is, later_is}
 use Rattle.lock_free.proofs.RootSteps as root
+use Rattle.lock_free.proofs.PlainStay.{names_none, plain_over}
 use Rattle.lock_free.proofs.Seats.{ran_so, Stays, StaysSpare, other_kept, names_kept, own_else}
+use Rattle.lock_free.proofs.HeldStill.{held_words}
+use Rattle.lock_free.proofs.CountWords.{handle_apart}
 
 -- the word says that this is the root of an open handle, which a seat may be about to close
 pub data IsPlainWord (access : Access) (place : ℕ) : HandleWord → Type 0 where
@@ -65,6 +68,12 @@ module _ (sizes : Sizes) (s : Table.State Call View) (kept : IsKept sizes s) (id
   not_opening x (is_read_only a) e = omega (arith, e)
   not_opening x (is_closing_writable a n) e = omega (arith, e)
   not_opening x (is_closing_read_only a n) e = omega (arith, e)
+
+  not_offered : (x : HandleWord) → IsPlainWord access (place_of kept.account q) x → kind x ≢ 3
+  not_offered x (is_writable a) e = omega (arith, e)
+  not_offered x (is_read_only a) e = omega (arith, e)
+  not_offered x (is_closing_writable a n) e = omega (arith, e)
+  not_offered x (is_closing_read_only a n) e = omega (arith, e)
 
   -- another handle's root
   not_closed : (g : ℕ) → root_at now g ≡ None → g ≢ handle
@@ -118,6 +127,8 @@ module _ (sizes : Sizes) (s : Table.State Call View) (kept : IsKept sizes s) (id
     still_open = λ other w at_w g inside e. e;
     taken = root.taken_rooted sizes kept.account kept.stands s.words all handle low (root_code w);
     spare = λ other x b name e apart free. stays_spare other x b name e free;
+    plain = plain_over sizes kept.account s.words words_then handle root_beside
+        (λ idle slot n. names_none w fits (not_offered w is) (not_opening w is) slot (subst (λ x. NamesOffer x slot) root_here n));
   }
 
   -- what the seat has entered and would close then
@@ -158,3 +169,4 @@ module _ (sizes : Sizes) (s : Table.State Call View) (kept : IsKept sizes s) (id
         assembled sizes s kept id v at view_then refl refl kept.account kept.stands words_then all_then closings own_then
         (other_kept sizes s kept id v at kept.account kept.stands words_then stays) (λ b name f. inl f)
         numbers_then
+        (held_words sizes s kept id v at view_then refl refl refl (root_word handle) (root_code w) (handle_apart sizes handle low).1)

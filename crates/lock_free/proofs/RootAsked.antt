@@ -15,26 +15,29 @@ use Rattle.machine_model.specs.Beneath.slot_arena.specs.Refs.{slot_of}
 use Rattle.machine_model.specs.declared.actions.Action.TheVariants as act
 use Rattle.machine_model.specs.declared.operations.Operation.{Operation}
 use Rattle.machine_model.specs.declared.steps.Step.TheVariants as taken
+use Rattle.machine_model.specs.Acting.{operation_after}
 use Rattle.machine_model.specs.Moves.{GoesOn}
 use Rattle.machine_model.specs.Operations.{action_of}
 use Rattle.machine_model.specs.States.{State, root_at}
+use Rattle.proof_garbage.specs.Beneath.proof_generations.proofs.Handles.Running.{place_of_actor}
 use Rattle.lock_free.proofs.EpochStays.{rest_of}
 use Rattle.lock_free.specs.declared.accounts.Account.{Account}
 use Rattle.lock_free.specs.declared.asking.Named.{Named}
 use Rattle.lock_free.specs.declared.asking.Named.TheVariants as named
 use Rattle.lock_free.specs.declared.rules.View.{View}
 use Rattle.lock_free.specs.declared.sizes.Sizes.{Sizes}
-use Rattle.lock_free.specs.Accounts.{state_of, gone_on}
+use Rattle.lock_free.specs.Accounts.{state_of, gone_on, running}
 use Rattle.lock_free.specs.HandleWords.{TellsRoot}
 use Rattle.lock_free.specs.Loading.{now, seen, HasGone, HasSeen, IsSound, SameSlots}
 use Rattle.lock_free.specs.Places.{root_word, words_of}
 use Rattle.lock_free.specs.Roots.{MeansRoot, SaysRoot, SaysPlain}
-use Rattle.lock_free.specs.RootWords.{AsksAt, IsRootAt, HasFoundRoot, HasAskedRoot, LoadedAs, has_asked, named_by}
+use Rattle.lock_free.specs.RootWords.{AsksAt, IsFound, IsRootAt, HasFoundRoot, HasAskedRoot, LoadedAs, has_asked, named_by}
 use Rattle.lock_free.specs.Rules.{IsKept, IsRuled}
-use Rattle.lock_free.proofs.Definition.{IsReading}
+use Rattle.lock_free.proofs.Definition.{IsReading, waits}
 use Rattle.lock_free.proofs.Looking.{saw, same_slots, went}
-use Rattle.lock_free.proofs.Moments.{allowed, seen_view, seen_kept, waited_so, gone_view, gone_kept, gone_sound, gone_took}
+use Rattle.lock_free.proofs.Moments.{allowed, seat, seen_view, seen_kept, waited_so, gone_view, gone_kept, gone_sound, gone_took}
 use Rattle.lock_free.proofs.OneStep.Handled.{handle_low}
+use Rattle.lock_free.proofs.OneStep.Standing.{has}
 use Rattle.lock_free.proofs.OneStep.Roots.{root_is_link}
 use Rattle.lock_free.proofs.RootCodes.{root_back}
 use Rattle.lock_free.proofs.SeenRoots.{root_told}
@@ -125,6 +128,19 @@ module _ (before : View) (handle : ℕ) (low : handle < 256) (asks : AsksAt befo
             was = h.is;
           };
         } in
+        let runs = waits before.sizes before.actor before.account account (seat before g.0.table g.0.kept g.0.id g.0.at).waited g.0.kept.bounds asks.acts.operation asks.acts.runs in
+        let o : Operation = record asks.acts.operation { is_marked = runs.0 } in
+        let place = place_of_actor state before.actor o runs.1 in
+        let its : IsFound (seen before (gone_on before.actor account)) h.root = (
+          record {
+            root = there.reached;
+            actor = before.actor;
+            operation = operation_after state o;
+            runs = subst (λ (x : View). running x.sizes x.account x.actor (operation_after state o)) g.1 (g.2 o runs.1);
+            began = (has before.sizes account g.0.kept.bounds).0.ids.below place.0 o place.2;
+          },
+          refl,
+        ) in
         record {
           went = went before slot (root_word handle) found after g;
           access = access;
@@ -132,6 +148,7 @@ module _ (before : View) (handle : ℕ) (low : handle < 256) (asks : AsksAt befo
           is = h.is;
           same = same;
           at = subst (λ x. IsRootAt x h.root slot) (sym g.1) there;
+          found = subst (λ x. IsFound x h.root) (sym g.1) its;
         }
 
   told_by : (w : HandleWord) → root_of found ≡ w → LoadedAs (named_by w) before (root_word handle) found after → HasAskedRoot before handle (named_by w) after

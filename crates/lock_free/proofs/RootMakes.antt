@@ -50,6 +50,10 @@ root_building : (v : View) (l : CopyLine) (main : Ref) (h : IsAtCopy v l) (e : m
 unfolding at_root
 root_building v l main (o, (mark, runs), on) e own = subst (λ x. IsBuilding x main) (sym on) own
 
+root_built : (v : View) (l : CopyLine) (main : Ref) (h : IsAtCopy v l) (e : main_for l ≡ Some main) → IsBuilding (at_root v l main h e).operation.line main → IsBuilding (line.Copy l) main
+unfolding at_root
+root_built v l main (o, (mark, runs), on) e b = subst (λ x. IsBuilding x main) on b
+
 -- ---- it is written
 
 module _ (n : ℕ) (before : View) (sound : IsSound n before) (slot : ℕ) (last : (rest : List ℕ) × (pool_of before.pool 0 ≡ rest ++ slot ∷ [])) (main : Name) (at : IsAtNewRoot before main) where
@@ -83,7 +87,7 @@ module _ (n : ℕ) (before : View) (sound : IsSound n before) (slot : ℕ) (last
                 subst (λ x. Contains (drafted (record before { drafts = d.drafts }) (2 * slot) value).drafts (2 * slot, x))
                 (value_is ∙ ap (λ k. link_code (record { generation = generation; main = record { slot = k; own = main.own } })) (sym at.4.1)) (first_there (2 * slot, value) _);
             used = at.4.0;
-            owns = λ own. root_building before at.0 r at.2 at.3 (at.5 own);
+            owns = (λ own. root_building before at.0 r at.2 at.3 (at.5.0 own), λ b. at.5.1 (root_built before at.0 r at.2 at.3 b));
           },
         )
 

@@ -179,7 +179,7 @@ module _ (n : ℕ) (v : View) (sound : IsSound n v) (way : Way) (at : IsAtRoot v
     later = later_both v w z (went_later n v sound n w then found.went) later_z;
     root = found.root;
     at = root_later w z later_z found.root slot found.at;
-    generation = seen_it.1 found.root found.at;
+    generation = seen_it.1 found.root found.at found.found;
     comes = λ o runs. saw_runs w z seen_it.0 (rooted found.root generation o o.line) (comes_by o runs);
   }
 

@@ -30,7 +30,18 @@ still_self v = record { is = refl; goes_on = goes_self v.account.steps }
 
 pub still_both : (u v w : View) → IsStill u v → IsStill v w → IsStill u w
 still_both u v w p q = record {
-  is = q.is ∙ ap (λ (x : View). record x { account = w.account; epoch = w.epoch; passed = w.passed; pool = w.pool; drafts = w.drafts; opening = w.opening; retired = w.retired; links = w.links }) p.is;
+  is = q.is ∙ ap (λ (x : View). record x {
+    account = w.account;
+    epoch = w.epoch;
+    passed = w.passed;
+    pool = w.pool;
+    drafts = w.drafts;
+    opening = w.opening;
+    retired = w.retired;
+    owed =
+        w.owed;
+    links = w.links;
+  }) p.is;
   goes_on = goes_both u.account.steps v.account.steps w.account.steps p.goes_on q.goes_on;
 }
 
@@ -43,16 +54,38 @@ pub still_with : (v w x : View) → w ≡ record v {
   drafts = x.drafts;
   opening = x.opening;
   retired = x.retired;
+  owed = x.owed;
   links = x.links;
 } → GoesOn v.account.steps x.account.steps → IsStill v w
 still_with v w x is more = record {
-  is = is ∙ ap (λ (z : View). record v { account = z.account; epoch = z.epoch; passed = z.passed; pool = z.pool; drafts = z.drafts; opening = z.opening; retired = z.retired; links = z.links })
+  is = is ∙ ap (λ (z : View). record v {
+    account = z.account;
+    epoch = z.epoch;
+    passed = z.passed;
+    pool = z.pool;
+    drafts = z.drafts;
+    opening = z.opening;
+    retired = z.retired;
+    owed = z.owed;
+    links =
+        z.links;
+  })
       (sym is);
   goes_on = subst (λ (z : View). GoesOn v.account.steps z.account.steps) (sym is) more;
 }
 
 pub still_follows : (v w : View) → Follows v w → IsStill v w
-still_follows v w f = still_with v w (record v { account = w.account; epoch = w.epoch; passed = w.passed; pool = w.pool; drafts = w.drafts; retired = w.retired; links = w.links }) f.is f.goes_on
+still_follows v w f = still_with v w (record v {
+  account = w.account;
+  epoch = w.epoch;
+  passed = w.passed;
+  pool = w.pool;
+  drafts = w.drafts;
+  retired = w.retired;
+  owed = w.owed;
+  links =
+      w.links;
+}) f.is f.goes_on
 
 pub still_later : (v w : View) → Later v w → IsStill v w
 still_later v w l = still_with v w (record v { account = w.account }) l.is l.goes_on

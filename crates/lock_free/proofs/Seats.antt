@@ -17,7 +17,7 @@ use Rattle.lock_free.specs.declared.rules.View.{View}
 use Rattle.lock_free.specs.declared.sizes.Sizes.{Sizes}
 use Rattle.lock_free.specs.Accounts.{state_of, HasGrown, HasWaited}
 use Rattle.lock_free.specs.Places.{pin_word, root_word, IsTaken}
-use Rattle.lock_free.specs.Rules.{Standing, AreDrafts, Once, pool_of, IsFree, IsSpare, IsSeat, IsKept, Reserves, IsHeld, Names, HasPinnedIdle, IsRetired, pin_word_of, first_account}
+use Rattle.lock_free.specs.Rules.{Standing, AreDrafts, Once, pool_of, IsFree, IsSpare, IsSeat, IsKept, Reserves, IsHeld, Names, HasPinnedIdle, IsPlainSo, IsRetired, pin_word_of, first_account}
 use Rattle.lock_free.proofs.Assembling.{not_its, other_actor}
 use Rattle.lock_free.specs.Trying.{KeepsTries}
 use Rattle.lock_free.proofs.Geometry.{IsWordOf}
@@ -73,6 +73,8 @@ module _ (sizes : Sizes) (s : Table.State Call View) (kept : IsKept sizes s) (id
         (root_at (state_of sizes account) handle) ≡ true
     pub taken : (b name : ℕ) → b < 3 → IsTaken sizes s.words b name → IsTaken sizes words b name
     pub spare : (other : ℕ) (w : View) (b name : ℕ) → get_elem? s.views other ≡ some w → (other ≡ id → ⊥) → IsFree w b name → StaysSpare b name
+    -- handles whose words name no offer
+    pub plain : (d : ℕ × ℕ) → IsPlainSo sizes kept.account s.words d → IsPlainSo sizes account words d
 
   -- the seat with what is free for it then and what it has written there
   abbrev pub seat_then : Pool → Option ℕ → List (ℕ × ℕ) → View
@@ -132,6 +134,7 @@ module _ (sizes : Sizes) (s : Table.State Call View) (kept : IsKept sizes s) (id
               (let x = h.drafts d c in
               let slot = x.1 in
               ((stays.spare other w slot.0 slot.1 e apart slot.2).1 d.0 (record { low = slot.3; high = slot.4 }) ∙ x.0, slot));
+          plain = λ d c. stays.plain d (h.plain d c);
         }
 
     -- and the seat itself, where the access is its operation's step, with what is free for it then and what it has written there
@@ -170,6 +173,7 @@ module _ (sizes : Sizes) (s : Table.State Call View) (kept : IsKept sizes s) (id
             spare = spare;
             once = once;
             drafts = written;
+            plain = λ d c. stays.plain d (h.plain d c);
           }
 
     -- and the seat itself, where it pins itself, enters a handle, would close one, or reserves a number
@@ -214,6 +218,7 @@ module _ (sizes : Sizes) (s : Table.State Call View) (kept : IsKept sizes s) (id
               spare = λ b name f. (let x = h.spare b name f in (stays.taken b name f.0 x.0, (spare b name f).0));
               once = h.once;
               drafts = λ d c. drafts_kept seat_else d (h.drafts d c) (λ b name f. (f, (spare b name f).1));
+              plain = λ d c. stays.plain d (h.plain d c);
             }
 
 -- ---- an access that is no step
@@ -251,4 +256,5 @@ module _ (sizes : Sizes) (s : Table.State Call View) (kept : IsKept sizes s) (id
         spare = spare;
         once = once;
         drafts = written;
+        plain = λ d c. stays.plain d (h.plain d c);
       }

@@ -1,7 +1,7 @@
 -- An exchange of an offer's first word carries it out or takes it back.
 use Rattle.history.specs.declared.calls.Call.{Call}
-use Rattle.std.proofs.Common.{◌≡◌, ◌≢◌, ◌+◌, ◌*◌, ◌^◌, ◌==◌, ℕ, ◌<◌, ◌≤◌, inl, inr, true, List, [], ◌∷◌, Contains, set, slice_index, is_some, Some, None, refl, sym, ap, subst, ◌∙◌, arith}
-use Rattle.std.proofs.Common.{append-nil, length-set}
+use Rattle.std.proofs.Common.{◌≡◌, ◌≢◌, ◌+◌, ◌*◌, ◌^◌, ◌==◌, ℕ, ◌<◌, ◌≤◌, inl, inr, true, List, [], ◌∷◌, Contains, set, slice_index, is_some, Some, None, refl, sym, ap}
+use Rattle.std.proofs.Common.{append-nil, arith, length-set, subst, ◌∙◌}
 use Rattle.std.proofs.lemmas.Bool.{cases_eq, true≢false}
 use Rattle.std.proofs.lemmas.Option.{none-some}
 use Rattle.std.proofs.lemmas.List.{get_or-set_same}
@@ -29,6 +29,7 @@ use Rattle.lock_free.specs.Accounts.{state_of, place_at, HasWaited, IsOfOther, g
 use Rattle.lock_free.specs.Nodes.{class_of}
 use Rattle.lock_free.specs.Places.{first_slot_word, generation_word, pin_word, root_word, IsTaken}
 use Rattle.lock_free.specs.Roots.{MeansRoot, NoOffer, IsWritten, AreMarked, IsPending, fate, undecided, meant, opened_by, open_with, carried_out}
+use Rattle.lock_free.specs.declared.rules.Retired.{Retired}
 use Rattle.lock_free.specs.Rules.{NodesStand, IsClosing, SaysClosing, IsSpare, IsHeld, Reserves, IsSeat, IsKept}
 use Rattle.lock_free.specs.Fates.{TellsFate, IsSettled, IsMarkedThen, is_carried_out, is_taken_back}
 use Rattle.lock_free.specs.Settling.{Settles}
@@ -39,10 +40,13 @@ use Rattle.lock_free.proofs.Geometry.{IsWordOf, slots_apart, above, inside, root
 use Rattle.lock_free.proofs.Meanings.{means_then, stood_still, pending_kept, unmarked_then}
 use Rattle.lock_free.proofs.RootFound.{slot_fits, opening_is}
 use Rattle.lock_free.proofs.RootSteps as root
+use Rattle.lock_free.proofs.PlainStay.{plain_running}
 use Rattle.lock_free.proofs.Seats.{Stays, other_kept, own_kept, drafts_kept}
 use Rattle.lock_free.proofs.Stood.{meant_offer, offer_is, plain_not}
 use Rattle.lock_free.proofs.Tries.{is_or_not, ran_settled, reserved_settled, not_owner, marks_settled, marks_else, opener}
 use Rattle.lock_free.proofs.Waiting.{waited_more, quiet_more}
+use Rattle.machine_model.specs.Beneath.slot_arena.specs.declared.refs.Ref.{Ref}
+use Rattle.lock_free.specs.Holdings.{AreHeld}
 
 module _ (sizes : Sizes) (s : Table.State Call View) (kept : IsKept sizes s) (id : ℕ) (v : View) (at : get_elem? s.views id ≡ some v) (operation : Operation)
     (runs : operation_of (state_of sizes kept.account) v.actor ≡ Some operation) (n : ℕ) (k : Known) (here : Contains kept.account.offers k)
@@ -276,7 +280,7 @@ module _ (sizes : Sizes) (s : Table.State Call View) (kept : IsKept sizes s) (id
 
   -- ---- seats
 
-  waits : (actor : ℕ) (first : Account) → actor ≢ v.actor → HasWaited actor first kept.account → HasWaited actor first account_then
+  pub waits : (actor : ℕ) (first : Account) → actor ≢ v.actor → HasWaited actor first kept.account → HasWaited actor first account_then
   waits actor first differs h =
       subst (λ names. HasWaited actor first (record account_then { names = names })) (append-nil kept.account.names)
       (waited_more actor first kept.account (step.Go v.actor ∷ []) [] [] [] (All-cons (IsOfOther actor) (step.Go v.actor) [] (λ e. differs (sym e)) (All-nil (IsOfOther actor))) h)
@@ -330,9 +334,10 @@ module _ (sizes : Sizes) (s : Table.State Call View) (kept : IsKept sizes s) (id
     still_open = λ other w at_w g inside e. open_still g e;
     taken = taken_still;
     spare = λ other w b name e apart free. (let x = (kept.seats other w e).spare b name free in (spare_then name x.1, slot_same b name free.0 x.0 x.1));
+    plain = plain_running sizes kept.account account_then kept.bounds ((step.Go v.actor) ∷ []) refl s.words words_then v.actor operation runs;
   }
 
-  own_then : IsSeat sizes account_then kept.stands words_then view_then
+  pub own_then : IsSeat sizes account_then kept.stands words_then view_then
   own_then =
       own_kept sizes s kept id v at account_then kept.stands words_then stays operation settles.next runs settles.own settles.same_call settles.same_opens (held id v at) all_then.counted
       (before_slots (pin_word v.actor) (let top = seat.top in let most = seat.most in omega (arith, top, most))) v.pool v.opening (λ g slot o m. (m, λ x. (root_same g x.low, x.free.1))) v.drafts
@@ -340,9 +345,14 @@ module _ (sizes : Sizes) (s : Table.State Call View) (kept : IsKept sizes s) (id
       (λ d c. drafts_kept sizes s kept id v at account_then kept.stands words_then stays view_then d (seat.drafts d c)
       (λ b name f. (f, (let x = seat.spare b name f in slot_same b name f.0 x.0 x.1))))
 
-  closings_then : (g who : ℕ) → g < handle_limit → SaysClosing (slice_index words_then (root_word g)) who → IsClosing (set s.views id view_then) g who
-  closings_then g who below says =
-      closing_stays sizes s kept id v at view_then refl refl (λ h e. e) refl g who (kept.closings g who below (subst (λ m. SaysClosing m who) (root_same g below) says))
+  -- with what it owes and has retired then
+  abbrev pub Then : List Ref → List Retired → View
+  Then owed retired = record view_then { owed = owed; retired = retired }
+
+  closings_then : (owed : List Ref) (retired : List Retired) (g who : ℕ) → g < handle_limit → SaysClosing (slice_index words_then (root_word g)) who →
+      IsClosing (set s.views id (Then owed retired)) g who
+  closings_then owed retired g who below says =
+      closing_stays sizes s kept id v at (Then owed retired) refl refl (λ h e. e) refl g who (kept.closings g who below (subst (λ m. SaysClosing m who) (root_same g below) says))
 
   -- a number whose word names no offer isn't the one that is opened
   not_its : (g slot : ℕ) → g < handle_limit → IsRootWord (word.Opening slot) → slice_index words_then (root_word g) ≡ root_code (word.Opening slot) → NoOffer account_then slot → k.offer.opens ≡
@@ -357,11 +367,11 @@ module _ (sizes : Sizes) (s : Table.State Call View) (kept : IsKept sizes s) (id
       owner_opens h its = sym h.opens ∙ sym ((kept.seats other w e).reserves h.was (ap (operation_of now) its ∙ h.ran)) ∙ r.0
   reserves_then (is_taken_back is same) other w e g r unopened = (r.0, unmarked_then now next w.actor (same w.actor) r.1)
 
-  numbers_then : Numbers sizes s kept id v at view_then refl refl account_then words_then
-  numbers_then = record {
+  numbers_then : (owed : List Ref) (retired : List Retired) → Numbers sizes s kept id v at (Then owed retired) refl refl account_then words_then
+  numbers_then owed retired = record {
     openings = λ g slot below fits is nothing.
         (let unopened : k.offer.opens ≡ Some g → ⊥ = not_its g slot below fits is nothing in
-        opening_stays sizes s kept id v at view_then refl refl next g slot (λ r f. (reserves_then settles.tries id v at g r unopened, f))
+        opening_stays sizes s kept id v at (Then owed retired) refl refl next g slot (λ r f. (reserves_then settles.tries id v at g r unopened, f))
         (λ other w e apart f r. reserves_then settles.tries other w e g r unopened)
         (kept.openings g slot below fits (sym (root_same g below) ∙ is) nothing));
     number = λ g h. inl (reserved_settled n k.offer now next settles.tries v g h);
@@ -369,8 +379,9 @@ module _ (sizes : Sizes) (s : Table.State Call View) (kept : IsKept sizes s) (id
     runners = λ a o e. (let p = ran_settled n k.offer now next settles.tries a o e in inr (p.was, p.runs));
   }
 
-  -- the rule holds
-  pub settle_kept : IsKept sizes (record { words = words_then; homes = s.homes; views = set s.views id view_then })
-  settle_kept =
-      assembled sizes s kept id v at view_then refl refl account_then kept.stands words_then all_then closings_then own_then (other_kept sizes s kept id v at account_then kept.stands words_then stays)
-      (λ b name f. inl f) numbers_then
+  -- the rule holds, where each reference is counted still
+  pub settle_all : (owed : List Ref) (retired : List Retired) → IsSeat sizes account_then kept.stands words_then (Then owed retired) →
+      AreHeld sizes account_then kept.stands words_then (set s.views id (Then owed retired)) → IsKept sizes (record { words = words_then; homes = s.homes; views = set s.views id (Then owed retired) })
+  settle_all owed retired its is_held =
+      assembled sizes s kept id v at (Then owed retired) refl refl account_then kept.stands words_then all_then (closings_then owed retired) its
+      (other_kept sizes s kept id v at account_then kept.stands words_then stays) (λ b name f. inl f) (numbers_then owed retired) is_held

@@ -18,6 +18,7 @@ use Rattle.machine_model.specs.declared.reading.ReadLine.{ReadLine}
 use Rattle.machine_model.specs.declared.reading.ReadLine.TheVariants as read
 use Rattle.machine_model.specs.Reading.{is_licensed, is_pending, verdict_by, after_decide, after_restore}
 use Rattle.proof_memory.specs.Wants.{is_main_node}
+use Rattle.lock_free.specs.Accounts.{place_of}
 use Rattle.lock_free.specs.declared.reading.Passed.{Passed}
 use Rattle.lock_free.specs.declared.reading.Passed.TheVariants as passed
 use Rattle.lock_free.specs.declared.reading.ReadFrom.TheVariants as resume
@@ -30,7 +31,7 @@ use Rattle.lock_free.specs.Passing.{Later, HasCome, IsReading, IsOnWay, KnowsLin
 use Rattle.lock_free.specs.Passing.{PassedBy, HasPassed, pending_line, IsDeciding, IsPending, HasLicense, StillAsks, IsFailed}
 use Rattle.lock_free.proofs.Asked.{mains_of, main_stands, gone_stays}
 use Rattle.lock_free.proofs.Comings.{at_read, all_read, came, come_on, reading_one, reading_then, saw_come, way_then}
-use Rattle.lock_free.proofs.Framing.{class_small}
+use Rattle.lock_free.proofs.Framing.{class_small, node_end}
 use Rattle.lock_free.proofs.Laters.{main_kind, went_later, saw_later, used_later, placed_later, named_later, link_later, main_later, pending_later, pending_over}
 use Rattle.lock_free.proofs.OnePass.{passes_on}
 use Rattle.lock_free.proofs.ReadHolds.{reading_holds}
@@ -189,7 +190,7 @@ module _ (before : View) (indirection : ℕ) (link : Link) (former : Name) (f : 
   pub former_small : (n : ℕ) → IsSound n before → former.slot < 2 ^ 27
   former_small n sound =
       let used = f.7.0 in
-      let inside = sound.inside (slot_of old) used.0 used.1 in
+      let inside = node_end before.sizes used.0.node (place_of before.account old) (sound.inside (slot_of old) used.0 used.1) in
       let two = two_words (class_of used.0.node) (class_small used.0.node) in
       let range = sound.range in
       let place = f.7.1 in

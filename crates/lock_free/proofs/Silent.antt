@@ -7,7 +7,7 @@ use Rattle.lock_free.specs.declared.sizes.Sizes.{Sizes}
 use Rattle.lock_free.specs.Accounts.{HasWaited, IsOfOther}
 use Rattle.lock_free.specs.Rules.{first_account}
 
-all_last : (P : Step → Type 0) (xs ys : List Step) → All P (xs ++ ys) → All P ys
+pub all_last : (P : Step → Type 0) (xs ys : List Step) → All P (xs ++ ys) → All P ys
 all_last P [] ys h = h
 all_last P (x ∷ xs) ys h = all_last P xs ys (All-tail P x (xs ++ ys) h)
 

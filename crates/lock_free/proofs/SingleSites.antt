@@ -22,8 +22,8 @@ use Rattle.lock_free.specs.declared.changing.Edit.TheVariants as edit
 use Rattle.lock_free.specs.declared.reading.Given.{Given}
 use Rattle.lock_free.specs.declared.rules.View.{View}
 use Rattle.lock_free.specs.Becoming.{HasNew}
-use Rattle.lock_free.specs.BuildingUp.{former_at, sited, HasBuiltSingle, HasBuiltUp, HasEdit, HasEditAt, HasPaired, HasReached, IsAtPair, IsAtSingle, IsAtSite, IsBuilder, IsMain}
-use Rattle.lock_free.specs.Changing.{HasBuilt, IsChanging}
+use Rattle.lock_free.specs.BuildingUp.{drops_at, former_at, sited, HasBuiltSingle, HasBuiltUp, HasEdit, HasEditAt, HasPaired, HasReached, IsAtPair, IsAtSingle, IsAtSite, IsBuilder, IsMain}
+use Rattle.lock_free.specs.Changing.{drops_of, HasBuilt, IsChanging}
 use Rattle.lock_free.specs.Entries.{HasStayed}
 use Rattle.lock_free.specs.Holding.{IsOn}
 use Rattle.lock_free.specs.Loading.{now, Runs, IsSound}
@@ -156,11 +156,11 @@ module _ (n : ℕ) (v : View) (sound : IsSound n v) (by : Builder) (given : Give
       pub site_changing : IsChanging x given.link.main given.header.shape flag e
       site_changing = changing n v x sound_x (line.Build (build.Single path main place former)) on by given path main b m got.0 former on_main e got.2 flag flag_is
 
-      pub site_built : (result : Option ℕ) (after : View) → HasBuilt x result after → HasBuiltSingle v place former result after
-      site_built result after built q c other =
+      pub site_built : drops_of e ≡ drops_at place → (result : Option ℕ) (after : View) → HasBuilt x result after → HasBuiltSingle v place former result after
+      site_built told result after built q c other =
           let same = one_place v path q main c place former on other in
-          subst (λ (z : List Ref × Ref). HasBuiltUp v z.0 z.1 former result after) (both path q main c same.0 same.1)
-          (built_up n v x sound_x (line.Build (build.Single path main place former)) on by given path main b m got.0 former on_main e got.2 flag flag_is got.3 result after built)
+          subst (λ (z : List Ref × Ref). HasBuiltUp v z.0 z.1 place former result after) (both path q main c same.0 same.1)
+          (built_up n v x sound_x (line.Build (build.Single path main place former)) on by given path main b m got.0 former on_main e got.2 flag flag_is got.3 place told result after built)
         where
           both : (p q : List Ref) (r s : Ref) → p ≡ q → r ≡ s → ◌≡◌ {A = List Ref × Ref} (p, r) (q, s)
           both p q r s e f = ap (λ (z : List Ref). (z, r)) e ∙ ap (λ (z : Ref). (q, z)) f

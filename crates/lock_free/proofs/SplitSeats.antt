@@ -1,5 +1,5 @@
 -- A seat is split: its last actor gets a seat of its own.
-use Rattle.std.proofs.Common.{◌≡◌, ◌≢◌, ◌+◌, ℕ, zero, suc, ◌<◌, ◌≤◌, ◌⊎◌, Contains, inl, inr, List, [], ◌∷◌, ◌++◌, Some, length, set, length-set, refl, sym, ap, subst, ◌∙◌, arith}
+use Rattle.std.proofs.Common.{◌≡◌, ◌≢◌, ℕ, zero, suc, ◌<◌, ◌≤◌, ◌⊎◌, Contains, inl, inr, List, [], ◌∷◌, ◌++◌, Some, length, set, length-set, refl, sym, ap, subst, ◌∙◌, arith}
 use Rattle.std.proofs.lemmas.Bool.{cases_eq}
 use Rattle.std.proofs.lemmas.Option.{none-some}
 use Rattle.std.proofs.lemmas.List.Sums.{sum_by_push}
@@ -9,23 +9,33 @@ use Rattle.atomic_table.specs.Table.{Splits}
 use Rattle.atomic_table.specs.Table as Table
 use Rattle.atomic_table.proofs.Lists.{at_set, at_longer, set_here, set_else}
 use Rattle.history.specs.declared.calls.Call.{Call}
+use Rattle.machine_model.specs.Beneath.slot_arena.specs.Refs.{slot_of}
 use Rattle.machine_model.specs.declared.operations.Operation.{Operation}
 use Rattle.machine_model.specs.States.{State, operation_of}
 use Rattle.lock_free.specs.declared.rules.Heard.{Heard}
+use Rattle.lock_free.specs.declared.rules.Retired.{Retired}
 use Rattle.lock_free.specs.declared.rules.View.{View}
 use Rattle.lock_free.specs.declared.sizes.Sizes.{Sizes}
 use Rattle.lock_free.specs.Accounts.{state_of}
 use Rattle.lock_free.specs.Loading.{IsSound}
-use Rattle.lock_free.specs.Counts.{AreCounted, IsCount, extra, how_often, owed_on}
-use Rattle.lock_free.specs.Rules.{AreEpochs, AreRetired, latest, IsClosing, IsOpening, IsFree, Reserves, HasActor, HasSeat, IsSeat, IsKept, IsRuled, WasGivenUp}
+use Rattle.lock_free.specs.Counts.{how_often, owed_on}
+use Rattle.lock_free.specs.Holdings.{AreHeld, retired_in, retired_on}
+use Rattle.lock_free.specs.Rules.{AreEpochs, AreOwed, AreRetired, HasActor, HasSeat, IsClosing, IsFree, IsKept, IsOpening, IsRuled, IsSeat, latest, Reserves, WasGivenUp}
 use Rattle.lock_free.specs.Splitting.{without_last, of_last}
-use Rattle.lock_free.proofs.CountsStay.{counts_stay, owed_set}
+use Rattle.lock_free.proofs.CountsStay.{owed_set}
+use Rattle.lock_free.proofs.HeldStill.{retired_set}
+use Rattle.lock_free.proofs.OwedStay.{Owed, owed_as, owed_none, owed_self, owed_stay}
 use Rattle.lock_free.proofs.LinksStay.{Knew, knew, knew_none, knew_self, links_stay}
 use Rattle.lock_free.specs.Links.{AreLinked}
 use Rattle.lock_free.proofs.EpochStays.{IsAsWas, Was as Before, as_was, epochs_stay, is_new, was_one}
 use Rattle.lock_free.proofs.Idle.{empty_has, none_free, none_twice}
 use Rattle.lock_free.proofs.RetiredStay.{Retires, retired_stay, retires_as, retires_none, retires_self}
 use Rattle.lock_free.proofs.Silent.{waited_since}
+use Rattle.lock_free.specs.Claims.{HoldsAll}
+use Rattle.lock_free.specs.OwesAt.{owes_at}
+use Rattle.lock_free.specs.Reached.{IsDead, IsOwed, IsReached, at_first}
+use Rattle.lock_free.proofs.HeldFrom.{held_within}
+use Rattle.machine_model.specs.Beneath.slot_arena.specs.declared.refs.Ref.{Ref}
 
 at_more : (xs : List View) (x w : View) (k : ℕ) → get_elem? (xs ++ x ∷ []) k ≡ some w → (get_elem? xs k ≡ some w) ⊎ ((k ≡ length xs) × (x ≡ w))
 at_more [] x w zero e = inr (refl, some-injective x w e)
@@ -114,6 +124,7 @@ module _ (sizes : Sizes) (s : Table.State Call View) (kept : IsKept sizes s) (id
         spare = seat.spare;
         once = seat.once;
         drafts = seat.drafts;
+        plain = seat.plain;
       }
 
   idle : (o : Operation) → operation_of state v.last ≡ Some o → ⊥
@@ -142,6 +153,7 @@ module _ (sizes : Sizes) (s : Table.State Call View) (kept : IsKept sizes s) (id
         spare = λ b name free. absurd (none_second b name free);
         once = none_twice v.sizes v.last v.last v.account;
         drafts = λ d c. absurd (empty_has d c);
+        plain = λ d c. absurd (empty_has d c);
       }
 
   seat_by : (k : ℕ) (w : View) → Was k w → SeatThen w
@@ -207,6 +219,56 @@ module _ (sizes : Sizes) (s : Table.State Call View) (kept : IsKept sizes s) (id
       none_by other w (was_other e p) inside apart = h.none other w p inside apart
       none_by other w (was_second e p) inside apart = absurd (none-some handle (ap (λ (x : View). x.entered) p ∙ inside))
 
+  split_owed : (k : ℕ) → owed_on k split_views ≡ owed_on k s.views
+  split_owed k =
+      let both = sum_by_push (λ (x : View). how_often k x.owed) (set s.views id first) second in let one = owed_set k s.views id v at first in omega (arith, both, one)
+
+  split_retired : (n : ℕ) → retired_on n split_views ≡ retired_on n s.views
+  split_retired n = let both = sum_by_push (retired_in n) (set s.views id first) second in let one = retired_set n s.views id v at first in omega (arith, both, one)
+
+  owed_was : (k : ℕ) (x : View) → Was k x → (r : ℕ) → Contains x.owed r → (other : ℕ) × (y : View) × (get_elem? s.views other ≡ some y) × Contains y.owed r × (y.actor ≡ x.actor)
+  owed_was k x (was_first e p) r c = (id, v, at, subst (λ (y : View). Contains y.owed r) (sym p) c, ap (λ (y : View). y.actor) p)
+  owed_was k x (was_other e p) r c = (k, x, p, c, refl)
+  owed_was k x (was_second e p) r c = absurd (empty_has r (subst (λ (y : View). Contains y.owed r) (sym p) c))
+
+  retired_was : (k : ℕ) (x : View) → Was k x → (y : Retired) → Contains x.retired y → (other : ℕ) × (z : View) × (get_elem? s.views other ≡ some z) × Contains z.retired y
+  retired_was k x (was_first e p) y c = (id, v, at, subst (λ (z : View). Contains z.retired y) (sym p) c)
+  retired_was k x (was_other e p) y c = (k, x, p, c)
+  retired_was k x (was_second e p) y c = absurd (empty_has y (subst (λ (z : View). Contains z.retired y) (sym p) c))
+
+  lines_was : (k : ℕ) (x : View) → Was k x → (o : Operation) → operation_of (state_of sizes kept.account) x.actor ≡ Some o → HoldsAll (owes_at o) x.owed
+  lines_was k x (was_first e p) o runs =
+      subst (λ (y : View). HoldsAll (owes_at o) y.owed) p
+      (kept.held.lines id v at o (subst (λ (y : View). operation_of (state_of sizes kept.account) y.actor ≡ Some o) (sym p) runs))
+  lines_was k x (was_other e p) o runs = kept.held.lines k x p o runs
+  lines_was k x (was_second e p) o runs =
+      absurd (none-some o (sym ((kept.seats id v at).rests v.last more (omega arith)).0 ∙ subst (λ (y : View). operation_of (state_of sizes kept.account) y.actor ≡ Some o) (sym p) runs))
+
+  first_was : (r : Ref) → IsOwed split_views r ⊎ IsDead sizes kept.account split_views r → IsReached sizes kept.account s.views r
+  first_was r (inl o) = let y = owed_was o.0 o.1 (was o.0 o.1 o.2) r o.3 in at_first r (inl (y.0, y.1, y.2, y.3))
+  first_was r (inr d) =
+      let z = retired_was d.id d.view (was d.id d.view d.at) d.item d.its in
+      at_first r (inr (record { used = d.used; id = z.0; view = z.1; at = z.2; item = d.item; its = z.3; deep = d.deep; number = d.number }))
+
+  split_held : AreHeld sizes kept.account kept.stands s.words split_views
+  split_held = record {
+    counted = λ k here. (let old = kept.held.counted k here in let seats = split_owed k in let slots = split_retired (slot_of k) in omega (arith, old, seats, slots));
+    spare = kept.held.spare;
+    fresh = kept.held.fresh;
+    owed = λ k x e r c. (let y = owed_was k x (was k x e) r c in kept.held.owed y.0 y.1 y.2 r y.3);
+    known = λ k x e r c a o runs its. (let y = owed_was k x (was k x e) r c in kept.held.known y.0 y.1 y.2 r y.3 a o runs its ∙ y.4);
+    lines = λ k x e. lines_was k x (was k x e);
+    dead = λ k x e y c deep r here is. (let z = retired_was k x (was k x e) y c in kept.held.dead z.0 z.1 z.2 y z.3 deep r here is);
+    unlet = λ k gone here. (let old = kept.held.unlet k gone here in let seats = split_owed k in omega (arith, old, seats));
+    reached = λ r from. kept.held.reached r (held_within sizes kept.account (λ q. IsOwed split_views q ⊎ IsDead sizes kept.account split_views q)
+        (λ q. IsOwed s.views q ⊎ IsDead sizes kept.account s.views q) first_was r from);
+    unborn = kept.held.unborn;
+    gone = kept.held.gone;
+    used = kept.held.used;
+    owned = kept.held.owned;
+    owns = kept.held.owns;
+  }
+
   pub split_kept : IsKept sizes (record { words = s.words; homes = s.homes; views = split_views })
   split_kept = record {
     account = kept.account;
@@ -234,13 +296,14 @@ module _ (sizes : Sizes) (s : Table.State Call View) (kept : IsKept sizes s) (id
     numbers = λ i j x y handle ei ej hx hy.
         alone_then (λ w. Reserves state w handle) (λ w. Reserves state w handle) (λ i j x y ei ej hx hy. kept.numbers i j x y handle ei ej hx hy) (λ h. h) (λ h. absurd (none-some handle h.0)) (λ h. h)
         (λ h. absurd (none-some handle h.0)) (λ h g. none-some handle g.0) (λ h g. none-some handle h.0) i j x y ei ej hx hy;
+    held = split_held;
   }
 
   -- ---- whom seats have heard of
 
   module _ (some_seats : 1 ≤ v.sizes.seats) (heard : (k : ℕ) (x : View) → get_elem? s.views k ≡ some x → (h : Heard) → Contains x.heard h → WasGivenUp s.views h) where
     gone_still : (h : Heard) → WasGivenUp s.views h → WasGivenUp split_views h
-    gone_still h g = record { id = g.id; view = g.view; at = other_at g.id g.view apart g.at; spent = g.spent; actor = g.actor; last = g.last; account = g.account }
+    gone_still h g = record { id = g.id; view = g.view; at = other_at g.id g.view apart g.at; spent = g.spent; actor = g.actor; last = g.last; account = g.account; bare = g.bare }
       where
         apart : g.id ≡ id → ⊥
         apart same = let none = ap (λ (x : View). x.sizes.seats) (sym (mine g.id g.view g.at same)) ∙ g.spent in omega (arith, some_seats, none)
@@ -265,24 +328,24 @@ module _ (sizes : Sizes) (s : Table.State Call View) (kept : IsKept sizes s) (id
     knew_before k x (was_other e p) = knew_self s.views k x p
     knew_before k x (was_second e p) = knew_none (ap (λ (y : View). y.links) (sym p))
 
-    split_balance : (c : ℕ) → IsCount sizes c → owed_on c split_views + extra s.words c ≤ owed_on c s.views + extra s.words c
-    split_balance c is =
-        let both = sum_by_push (λ (x : View). how_often c x.owed) (set s.views id first) second in
-        let one = owed_set c s.views id v at first in omega (arith, both, one)
+    owed_before : (k : ℕ) (x : View) → Was k x → Owed s.views x
+    owed_before k x (was_first e p) = subst (Owed s.views) p (owed_as id v at (λ r c. (c, refl)) (λ y c. c))
+    owed_before k x (was_other e p) = owed_self s.views k x p
+    owed_before k x (was_second e p) = owed_none (ap (λ (y : View). y.owed) (sym p)) (ap (λ (y : View). y.retired) (sym p))
 
-    pub split_ruled : AreEpochs s.words s.views → AreRetired sizes s.words s.views → AreCounted sizes s.words s.views → AreLinked sizes s.words s.views →
+    pub split_ruled : AreEpochs s.words s.views → AreRetired sizes s.words s.views → AreOwed s.views → AreLinked sizes s.words s.views →
         IsRuled sizes (record { words = s.words; homes = s.homes; views = split_views })
-    split_ruled epochs retired counted linked = record {
+    split_ruled epochs retired owed linked = record {
       kept = split_kept;
       epochs = epochs_stay s.words s.words s.views split_views refl (λ k x e. was_before k x (was k x e)) epochs;
       retired = retired_stay sizes s.words s.words s.views split_views (omega arith) (λ k x e. retires_before k x (was k x e)) retired;
-      counted = counts_stay sizes s.words s.words s.views split_views split_balance counted;
+      owed = owed_stay s.views split_views (λ k x e. owed_before k x (was k x e)) owed;
       linked = links_stay sizes s.words s.words s.views split_views (λ c is. refl) (λ k x e. knew_before k x (was k x e)) linked;
       heard = λ k x e h c. heard_by k x (was k x e) h c;
     }
 
 pub splits : (sizes : Sizes) (id : ℕ) (v : View) → 1 ≤ v.sizes.seats → v.actor < v.last → Splits (IsRuled sizes) id v (without_last v) (of_last v)
-splits sizes id v some_seats more s ruled at = split_ruled sizes s ruled.kept id v at more some_seats ruled.heard ruled.epochs ruled.retired ruled.counted ruled.linked
+splits sizes id v some_seats more s ruled at = split_ruled sizes s ruled.kept id v at more some_seats ruled.heard ruled.epochs ruled.retired ruled.owed ruled.linked
 
 pub left_sound : (words : ℕ) (v : View) → IsSound words v → IsSound words (without_last v)
 left_sound words v h = record { size = h.size; range = h.range; bounds = h.bounds; keys = h.keys; counted = h.counted; inside = h.inside; free = h.free }

@@ -1,11 +1,14 @@
 -- A SWAP comes from line to line.
-use Rattle.std.proofs.Common.{◌≡◌, ◌==◌, Bool, true, false, List, [], refl, sym, ap, subst, ◌∙◌}
+use Rattle.std.proofs.Common.{◌≡◌, ◌≢◌, ◌==◌, ℕ, Bool, true, false, List, [], refl, sym, ap, subst, ◌∙◌}
+use Rattle.trie_words.specs.declared.headers.Previous.{Previous}
+use Rattle.trie_words.specs.declared.headers.Previous.TheVariants as previous
 use Rattle.machine_model.specs.Beneath.slot_arena.specs.declared.refs.Ref.{Ref}
 use Rattle.machine_model.specs.Beneath.slot_arena.specs.declared.nodes.Node.{Node}
 use Rattle.machine_model.specs.Beneath.slot_arena.specs.declared.nodes.Node.TheVariants.{Indirection, Branch, Single, Tomb, List as Listed}
 use Rattle.machine_model.specs.Beneath.slot_arena.specs.declared.nodes.Prev.{Prev}
 use Rattle.machine_model.specs.Beneath.slot_arena.specs.declared.nodes.Prev.TheVariants as prev
 use Rattle.machine_model.specs.Beneath.slot_arena.specs.Heaps.{node_at, main_at, prev_at}
+use Rattle.machine_model.specs.Beneath.slot_arena.specs.Refs.{slot_of}
 use Rattle.machine_model.specs.declared.lines.Purpose.{Purpose}
 use Rattle.machine_model.specs.declared.lines.Purpose.TheVariants as purpose
 use Rattle.machine_model.specs.declared.lines.Line.{Line}
@@ -19,11 +22,20 @@ use Rattle.machine_model.specs.Acting.{operation_after}
 use Rattle.machine_model.specs.Operations.{swapped, after_swap}
 use Rattle.machine_model.specs.Swapping.{after_publish, after_check, on_line}
 use Rattle.machine_model.specs.States.{State}
+use Rattle.lock_free.specs.declared.accounts.Account.{Account}
+use Rattle.lock_free.specs.Nodes.{IsAhead, SaysPrevious, decided, ahead, pending, failed}
 use Rattle.lock_free.specs.Swaps.{swap_on, swap_done}
 
 abbrev pub is_none : Prev → Bool
 is_none prev.None = true
 is_none p = false
+
+pub not_none : (account : Account) (state : State) (k : ℕ) (p : Prev) (says : Previous) → says ≢ previous.None → ((j b c : Ref) → IsAhead state j b c → slot_of c ≢ k) →
+    SaysPrevious account state k p says → is_none p ≡ false
+not_none account state k p says isnt met (decided nobody) = absurd (isnt refl)
+not_none account state k p says isnt met (ahead i b c own h its owned) = absurd (met i b c h its)
+not_none account state k p says isnt met (pending q own over) = refl
+not_none account state k p says isnt met (failed q own over) = refl
 
 check_gives : (p : Prev) → after_check p ≡ Gives (is_none p)
 check_gives prev.None = refl

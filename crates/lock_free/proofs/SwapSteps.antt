@@ -1,12 +1,9 @@
 -- A SWAP, put together.
-use Rattle.std.proofs.Common.{◌≡◌, ◌≢◌, ◌^◌, ◌<◌, ◌==◌, ℕ, Bool, true, false, [], ◌∷◌, ◌++◌, Contains, Some, refl, sym, ap, subst, ◌∙◌, arith, append_assoc}
+use Rattle.std.proofs.Common.{◌≡◌, ◌^◌, ◌<◌, ◌==◌, ℕ, Bool, true, false, [], ◌∷◌, ◌++◌, Contains, Some, refl, sym, ap, subst, ◌∙◌, arith, append_assoc}
 use Rattle.std.proofs.lemmas.List.Elements.{Contains-get_or}
 use Rattle.std.proofs.lemmas.Option.{same_Some}
-use Rattle.trie_words.specs.declared.headers.Previous.{Previous}
-use Rattle.trie_words.specs.declared.headers.Previous.TheVariants as previous
 use Rattle.trie_words.specs.declared.links.Link.{Link}
 use Rattle.machine_model.specs.Beneath.slot_arena.specs.declared.refs.Ref.{Ref}
-use Rattle.machine_model.specs.Beneath.slot_arena.specs.declared.nodes.Prev.{Prev}
 use Rattle.machine_model.specs.Beneath.slot_arena.specs.declared.nodes.Slot.{Slot}
 use Rattle.machine_model.specs.Beneath.slot_arena.specs.Heaps.{no_ref, node_at, main_at}
 use Rattle.machine_model.specs.Beneath.slot_arena.specs.Refs.{slot_of}
@@ -29,19 +26,23 @@ use Rattle.lock_free.specs.declared.reading.Way.{Way}
 use Rattle.lock_free.specs.declared.reading.ReadFrom.TheVariants as resume
 use Rattle.lock_free.specs.declared.rules.View.{View}
 use Rattle.lock_free.specs.declared.swapping.Swapped.TheVariants.{Misses}
-use Rattle.lock_free.specs.Accounts.{bounds_for, IsOwn, later, first}
+use Rattle.lock_free.specs.Accounts.{bounds_for, first, later, place_of, IsOwn}
+use Rattle.lock_free.specs.Becoming.{Follows}
 use Rattle.lock_free.specs.Exchanging.{HasPublished, given_up}
+use Rattle.lock_free.specs.LettingGo.{HoldsGivenUp}
 use Rattle.lock_free.specs.Loading.{now, seen, Runs, IsAt, IsSound}
-use Rattle.lock_free.specs.Nodes.{class_of, IsAhead, SaysPrevious, decided, ahead, pending, failed}
+use Rattle.lock_free.specs.Nodes.{class_of}
+use Rattle.lock_free.specs.Owing.{owes_then, owing}
 use Rattle.lock_free.specs.Passing.{Later, IsFrom, IsReading, IsOnWay, IsPlaced}
 use Rattle.lock_free.specs.Publishing.{owned_now, swapped_in}
-use Rattle.lock_free.specs.Swaps.{swap_on, swap_done, IsSwapping, IsAtSwap, HasSwapDone}
+use Rattle.lock_free.specs.Swaps.{swap_on, swap_done, IsSwapping, IsAtSwap, HasSwapDone, HoldsSwapped}
 use Rattle.lock_free.proofs.Asked.{mains_of, main_stands, nodes_go}
 use Rattle.lock_free.proofs.Comings.{runs_one}
-use Rattle.lock_free.proofs.Framing.{class_small}
+use Rattle.lock_free.proofs.Framing.{class_small, node_end}
 use Rattle.lock_free.proofs.GivenBack.{node_is}
-use Rattle.lock_free.proofs.Laters.{main_kind, waited_later, same_both, used_later, placed_later, generation_later}
-use Rattle.lock_free.proofs.SwapRuns.{publishes, misses, is_none}
+use Rattle.lock_free.proofs.Followings.{follows_later, generation_on, placed_on, used_on}
+use Rattle.lock_free.proofs.Laters.{main_kind, waited_later, same_both}
+use Rattle.lock_free.proofs.SwapRuns.{publishes, misses}
 use Rattle.lock_free.proofs.Verdicts.{main_same}
 use Rattle.lock_free.proofs.Within.{two_words}
 
@@ -49,13 +50,6 @@ use Rattle.lock_free.proofs.Within.{two_words}
 abbrev parts_in : Line → Purpose × Ref
 parts_in (line.Swap why s) = (why, s.fresh)
 parts_in l = (purpose.Clean, no_ref)
-
-pub not_none : (account : Account) (state : State) (k : ℕ) (p : Prev) (says : Previous) → says ≢ previous.None → ((j b c : Ref) → IsAhead state j b c → slot_of c ≢ k) →
-    SaysPrevious account state k p says → is_none p ≡ false
-not_none account state k p says isnt met (decided nobody) = absurd (isnt refl)
-not_none account state k p says isnt met (ahead i b c own h its owned) = absurd (met i b c h its)
-not_none account state k p says isnt met (pending q own over) = refl
-not_none account state k p says isnt met (failed q own over) = refl
 
 module _ (v : View) (name : ℕ) (link : Link) (class fresh : ℕ) (is_at : IsAtSwap v name link class fresh) where
   abbrev why : Purpose
@@ -97,7 +91,8 @@ module _ (v : View) (name : ℕ) (link : Link) (class fresh : ℕ) (is_at : IsAt
     abbrev state : State
     state = now (seen v account)
 
-    abbrev what : ((main_at state.heap i == a) ≡ stood) × (stood ≡ true → w ≡ seen v (swapped_in v.actor i f account)) × (stood ≡ false → w ≡ given_up v account o0.private)
+    abbrev what : ((main_at state.heap i == a) ≡ stood) × (stood ≡ true → w ≡ owing (seen v (swapped_in v.actor i f account)) (owes_then v account))
+        × (stood ≡ false → (w ≡ given_up v account o0.private) × HoldsGivenUp v o0 w.owed)
     what = g.3 i a f at_publish
 
     seen_later : Later v (seen v account)
@@ -109,7 +104,7 @@ module _ (v : View) (name : ℕ) (link : Link) (class fresh : ℕ) (is_at : IsAt
         subst (λ (z : Slot). is_main_node z.node ≡ true) (same_Some stands.1.0 is_at.7.0.0 (sym stands.1.1 ∙ is_at.7.0.1)) stands.1.2
 
     -- the fresh node stays what it is
-    pub fresh_same : (x : View) → Later v x → node_at (now x).heap f ≡ node_at (now v).heap f
+    pub fresh_same : (x : View) → Follows v x → node_at (now x).heap f ≡ node_at (now v).heap f
     fresh_same x l =
         let y = l.nodes f is_at.7.0.0 is_at.7.0.1 in
         let main = main_kind is_at.7.0.0.node y.0.node y.2 fresh_main in
@@ -118,7 +113,7 @@ module _ (v : View) (name : ℕ) (link : Link) (class fresh : ℕ) (is_at : IsAt
     -- it isn't swapped in
     pub missed : stood ≡ false → HasSwapDone v Misses w
     missed e = (
-      (account, g.1, λ o r. what.2 e ∙ ap (λ (z : Operation). given_up v account z.private) (runs_one v swaps.0 o swaps.1 r)),
+      (account, g.1, λ o r. (what.2 e).0 ∙ ap (λ (z : Operation). given_up v account z.private) (runs_one v swaps.0 o swaps.1 r)),
       lifted w false goes,
     )
       where
@@ -127,34 +122,45 @@ module _ (v : View) (name : ℕ) (link : Link) (class fresh : ℕ) (is_at : IsAt
             let there = g.1.stays (record o { is_marked = mark }) runs in
             let step = misses why i a f state o there.0 (line_of o (mark, runs)) (what.0 ∙ e) in (
               there.0,
-              g.2 (record o { is_marked = there.0 }) there.1 ∙ ap Some (step ∙ ap (λ node. record (swap_done why node false o) { is_marked = there.0 }) (fresh_same (seen v account) seen_later)),
+              g.2 (record o { is_marked = there.0 }) there.1
+                  ∙ ap Some (step ∙ ap (λ node. record (swap_done why node false o) { is_marked = there.0 }) (fresh_same (seen v account) (follows_later v (seen v account) seen_later))),
             )
+
+    pub missed_holds : stood ≡ false → HoldsSwapped v Misses w
+    missed_holds e o r = subst (λ (z : Operation). HoldsGivenUp v z w.owed) (runs_one v swaps.0 o swaps.1 r) (what.2 e).1
 
     -- it is swapped in
     module _ (e : stood ≡ true) where
-      hit_is : w ≡ seen v (swapped_in v.actor i f account)
+      abbrev there : View
+      there = seen v (swapped_in v.actor i f account)
+
+      pub hit_is : w ≡ owing (seen v (swapped_in v.actor i f g.0)) (owes_then v g.0)
       hit_is = what.1 e
 
       bounds_then : AreBounds (bounds_for v.sizes (swapped_in v.actor i f account).steps)
       bounds_then = subst (λ (x : View). AreBounds (bounds_for x.sizes x.account.steps)) hit_is then.bounds
 
-      pub later_w : Later v w
-      later_w =
-          subst (λ x. Later v x) (sym hit_is)
-          (record {
-            is = refl;
-            places = seen_later.places;
-            owns = λ x y b h. later (owned_now i f) account.owned (slot_of x) (slot_of y) b (seen_later.owns x y b h);
-            nodes = λ r slot u.
-                (let x = seen_later.nodes r slot u in
-                let y = nodes_go v.sizes v.actor account bounds_then (slot_of r) x.0 x.1 in
-                (y.0, y.1, same_both slot.node x.0.node y.0.node x.2 y.2));
-            goes_on = (
-              seen_later.goes_on.0 ++ taken.Go v.actor ∷ [],
-              ap (λ xs. xs ++ taken.Go v.actor ∷ []) seen_later.goes_on.1 ∙ append_assoc v.account.steps seen_later.goes_on.0 (taken.Go v.actor ∷ []),
-            );
-            offers = seen_later.offers;
-          })
+      -- but for what it holds itself
+      pub later_there : Later v (seen v (swapped_in v.actor i f g.0))
+      later_there = record {
+        is = refl;
+        places = seen_later.places;
+        owns = λ x y b h. later (owned_now i f) account.owned (slot_of x) (slot_of y) b (seen_later.owns x y b h);
+        nodes = λ r slot u.
+            (let x = seen_later.nodes r slot u in
+            let y = nodes_go v.sizes v.actor account bounds_then (slot_of r) x.0 x.1 in
+            (y.0, y.1, same_both slot.node x.0.node y.0.node x.2 y.2));
+        goes_on = (
+          seen_later.goes_on.0 ++ taken.Go v.actor ∷ [],
+          ap (λ xs. xs ++ taken.Go v.actor ∷ []) seen_later.goes_on.1 ∙ append_assoc v.account.steps seen_later.goes_on.0 (taken.Go v.actor ∷ []),
+        );
+        offers = seen_later.offers;
+      }
+
+      pub follows_w : Follows v w
+      follows_w =
+          subst (Follows v) (sym hit_is)
+          (record { is = refl; places = later_there.places; owns = later_there.owns; nodes = later_there.nodes; goes_on = later_there.goes_on })
 
       pub goes_w : (o : Operation) → Runs v o → Runs w (swap_on why i a f (swap.Deciding (read.Prev f)) o)
       goes_w o (mark, runs) =
@@ -166,7 +172,7 @@ module _ (v : View) (name : ℕ) (link : Link) (class fresh : ℕ) (is_at : IsAt
 
       fresh_small : fresh < 2 ^ 27
       fresh_small =
-          let inside = sound.inside (slot_of f) is_at.7.0.0 is_at.7.0.1 in
+          let inside = node_end v.sizes is_at.7.0.0.node (place_of v.account f) (sound.inside (slot_of f) is_at.7.0.0 is_at.7.0.1) in
           let two = two_words (class_of is_at.7.0.0.node) (class_small is_at.7.0.0.node) in
           let range = sound.range in
           let place = is_at.7.1 in
@@ -176,16 +182,16 @@ module _ (v : View) (name : ℕ) (link : Link) (class fresh : ℕ) (is_at : IsAt
       owned_w = subst (λ (x : View). IsOwn x.account i f true) (sym hit_is) (first (owned_now i f) account.owned)
 
       pub placed_f : IsPlaced w f fresh
-      placed_f = placed_later v w later_w f fresh is_at.7
+      placed_f = placed_on v w follows_w f fresh is_at.7
 
       pub from_ready : IsFrom w i (resume.Header (record { generation = link.generation; main = record { slot = fresh; own = true } }))
       from_ready = (
         f,
         reading_w,
         record {
-          is = record { generation = is_at.6.is.generation ∙ sym (generation_later v w later_w i is_at.6.link_used); names = record { place = placed_f.1; is_own = owned_w } };
+          is = record { generation = is_at.6.is.generation ∙ sym (generation_on v w follows_w i is_at.6.link_used); names = record { place = placed_f.1; is_own = owned_w } };
           fits = (is_at.6.fits.0, fresh_small);
-          link_used = used_later v w later_w i is_at.6.link_used;
+          link_used = used_on v w follows_w i is_at.6.link_used;
           main_used = placed_f.0;
         },
       )

@@ -1,5 +1,5 @@
 -- A SWAP within a number of tries: its fresh main node is swapped in, and then it comes to its end, or is under way.
-use Rattle.std.proofs.Common.{◌≡◌, ℕ, Bool, true, false, inl, inr, [], None, map, refl, sym, ap, subst, ◌∙◌}
+use Rattle.std.proofs.Common.{◌≡◌, ℕ, Bool, true, false, inl, inr, [], map, refl, sym, ap, subst, ◌∙◌}
 use Rattle.trie_words.specs.declared.links.Link.{Link}
 use Rattle.machine_model.specs.Beneath.slot_arena.specs.declared.refs.Ref.{Ref}
 use Rattle.machine_model.specs.Beneath.slot_arena.specs.Heaps.{node_at}
@@ -9,40 +9,50 @@ use Rattle.machine_model.specs.declared.lines.Purpose.{Purpose}
 use Rattle.machine_model.specs.declared.operations.Operation.{Operation}
 use Rattle.machine_model.specs.declared.reading.ReadLine.TheVariants as read
 use Rattle.machine_model.specs.declared.reading.SwapLine.TheVariants as swap
+use Rattle.lock_free.specs.declared.leaving.Drops.{Drops}
 use Rattle.lock_free.specs.declared.leaving.Swapping.{Swapping}
 use Rattle.lock_free.specs.declared.reading.ReadFrom.TheVariants as resume
 use Rattle.lock_free.specs.declared.limbo.Limbo.{Limbo}
 use Rattle.lock_free.specs.declared.rules.View.{View}
-use Rattle.lock_free.specs.declared.swapping.Decided.{Decided}
-use Rattle.lock_free.specs.declared.swapping.Decided.TheVariants as decided
-use Rattle.lock_free.specs.Reclaiming.{AddsRetired, LaterRetiring}
-use Rattle.lock_free.proofs.Followings.{follows_later}
+use Rattle.lock_free.specs.declared.reclaiming.Decided.{Decided}
+use Rattle.lock_free.specs.declared.reclaiming.Decided.TheVariants as decided
+use Rattle.lock_free.specs.Reclaiming.{LaterRetiring}
+use Rattle.lock_free.proofs.NamesStay.{swap_dropped}
 use Rattle.lock_free.proofs.NewNodes.{class_on}
 use Rattle.lock_free.proofs.LimboStays.{limbo_stays}
-use Rattle.lock_free.proofs.Retirings.{retiring_after}
 use Rattle.lock_free.specs.declared.swapping.Swapped.{Swapped}
 use Rattle.lock_free.specs.declared.swapping.Swapped.TheVariants.{Commits, Fails, Misses}
+use Rattle.lock_free.specs.Becoming.{Follows}
 use Rattle.lock_free.specs.Exchanging.{HasPublished}
+use Rattle.lock_free.specs.Dropping.{AreDropped}
 use Rattle.lock_free.specs.Leaving.{HasDecidedSwap, HasLeftSwap, HasSwappedOn, IsSwapLeft, IsSwapOf, LeavesSwap}
 use Rattle.lock_free.specs.Limbos.{hanging_of, IsLimbo}
-use Rattle.lock_free.specs.Loading.{now, Runs, IsSound}
-use Rattle.lock_free.specs.Passing.{Later}
+use Rattle.lock_free.specs.Loading.{now, seen, Runs, IsSound}
+use Rattle.lock_free.specs.Owing.{owes_then, owing}
+use Rattle.lock_free.specs.Publishing.{swapped_in}
 use Rattle.lock_free.specs.RunningOn.{RunsOn}
 use Rattle.lock_free.specs.Stocks.{Stocked, HasSwapped, IsStock, made_of, own_of, settled_pool}
-use Rattle.lock_free.specs.Swaps.{is_done, retired_by, swap_on, swap_done, swapped_by, IsSwapping, IsAtSwap, HasSwapDone}
+use Rattle.lock_free.specs.Swaps.{is_done, swap_on, swap_done, swapped_by, IsSwapping, IsAtSwap, HasSwapDone, HoldsSwapped, SwapDrops}
 use Rattle.lock_free.proofs.Comings.{runs_one}
-use Rattle.lock_free.proofs.Laters.{placed_later}
-use Rattle.lock_free.proofs.RunningOn.{runs_on_both, still_later}
+use Rattle.lock_free.proofs.Followings.{placed_on}
+use Rattle.lock_free.proofs.Retirings.{retiring_owing}
+use Rattle.lock_free.proofs.RunningOn.{runs_on_both, still_follows}
 use Rattle.lock_free.proofs.SwapRuns.{same_call}
 use Rattle.lock_free.proofs.SwapsMade.{missed_swapped, missed_owns, hit_swapped, hit_owns}
-use Rattle.lock_free.proofs.SwapSteps.{fresh_same, goes_w, later_w, placed_f, from_ready}
+use Rattle.lock_free.proofs.SwapSteps.{fresh_same, follows_w, goes_w, hit_is, later_there, placed_f, from_ready}
 
 -- what a SWAP is, by its line
 abbrev parts_in : Purpose × Ref × Ref × Ref → Line → Purpose × Ref × Ref × Ref
 parts_in other (line.Swap y z) = (y, z.indirection, z.replaced, z.fresh)
 parts_in other l = other
 
-module _ (n : ℕ) (v : View) (name : ℕ) (link : Link) (class fresh : ℕ) (at : IsAtSwap v name link class fresh) where
+-- what is said of the one that it is at is said of it
+pub told_so : (v : View) (why : Purpose) (i a f : Ref) → IsSwapping v why i a f → (d : Drops) → AreDropped v a f d → SwapDrops v d
+told_so v why i a f s d h y j b c other =
+    let same = ap (parts_in (why, i, a, f)) (sym s.2 ∙ ap (λ (z : Operation). z.line) (runs_one v s.0 other.0 s.1 other.1) ∙ other.2) in
+    subst (λ (z : Purpose × Ref × Ref × Ref). AreDropped v z.2 z.3 d) same h
+
+module _ (n : ℕ) (v : View) (name : ℕ) (link : Link) (class fresh : ℕ) (at : IsAtSwap v name link class fresh) (drops : Drops) (told : SwapDrops v drops) where
   abbrev why : Purpose
   why = at.0
 
@@ -71,6 +81,7 @@ module _ (n : ℕ) (v : View) (name : ℕ) (link : Link) (class fresh : ℕ) (at
       fresh = fresh;
       replaced = link.main;
       class = class;
+      drops = drops;
     }
 
     abbrev on_line : Operation → Operation
@@ -79,8 +90,11 @@ module _ (n : ℕ) (v : View) (name : ℕ) (link : Link) (class fresh : ℕ) (at
     goes : (o : Operation) → Runs v o → Runs w (on_line o)
     goes = goes_w v name link class fresh at n sound w then stood g e
 
-    later : Later v w
-    later = later_w v name link class fresh at n sound w then stood g e
+    follows : Follows v w
+    follows = follows_w v name link class fresh at n sound w then stood g e
+
+    is_w : w ≡ owing (seen v (swapped_in v.actor i f g.0)) (owes_then v g.0)
+    is_w = hit_is v name link class fresh at n sound w then stood g e
 
     begun_of : IsSwapOf w why i a f begun
     begun_of = record {
@@ -89,12 +103,14 @@ module _ (n : ℕ) (v : View) (name : ℕ) (link : Link) (class fresh : ℕ) (at
       none = refl;
       at = read.Prev f;
       line_is = refl;
-      placed = placed_later v w later i name at.5;
+      placed = placed_on v w follows i name at.5;
       fresh = placed_f v name link class fresh at n sound w then stood g e;
       from = from_ready v name link class fresh at n sound w then stood g e;
-      old = placed_later v w later a link.main.slot (at.6.main_used, at.6.is.names.place);
-      owns = later.owns i a link.main.own at.6.is.names.is_own;
-      class = class_on v w (follows_later v w later) a at.6.main_used ∙ at.8;
+      old = placed_on v w follows a link.main.slot (at.6.main_used, at.6.is.names.place);
+      owns = follows.owns i a link.main.own at.6.is.names.is_own;
+      class = class_on v w follows a at.6.main_used ∙ at.8;
+      drops = swap_dropped v w follows sound.bounds (record swaps.0 { is_marked = swaps.1.0 }) swaps.1.1 why
+          (record { indirection = i; replaced = a; fresh = f; line = swap.Publish }) swaps.2 drops (told why i a f swaps);
     }
 
     pub begun_left : IsSwapLeft w (record {
@@ -103,25 +119,26 @@ module _ (n : ℕ) (v : View) (name : ℕ) (link : Link) (class fresh : ℕ) (at
       fresh = fresh;
       replaced = link.main;
       class = class;
+      drops = drops;
     })
     begun_left = record { why = why; i = i; replaced = a; made = f; its = begun_of }
 
     -- what it has retired hangs as before
     pub hangs_begun : (limbo : Limbo) → IsLimbo limbo v → IsLimbo limbo w
-    hangs_begun limbo is = limbo_stays limbo v w (ap hanging_of later.is) is
+    hangs_begun limbo is = limbo_stays limbo v w (ap hanging_of is_w) is
 
     pub sizes_begun : w.sizes ≡ v.sizes
-    sizes_begun = ap (λ (x : View). x.sizes) later.is
+    sizes_begun = ap (λ (x : View). x.sizes) is_w
 
     runs_w : RunsOn v w
-    runs_w = record { still = still_later v w later; runs = λ o r. (on_line o, goes o r, refl) }
+    runs_w = record { still = still_follows v w follows; runs = λ o r. (on_line o, goes o r, refl) }
 
     -- it is under way
     pub leaves : (next : Swapping) (z : View) → HasSwappedOn w begun next z → HasLeftSwap v next z
     leaves next z h = record {
       on = runs_on_both v w z runs_w h.on;
-      pool = h.pool ∙ ap (λ (x : View). x.pool) later.is;
-      retired = h.retired ∙ ap (λ (x : View). x.retired) later.is;
+      pool = h.pool ∙ ap (λ (x : View). x.pool) is_w;
+      retired = h.retired ∙ ap (λ (x : View). x.retired) is_w;
       its = all (λ y j b c. IsSwapOf z y j b c next) (h.still why i a f begun_of);
     }
 
@@ -132,15 +149,18 @@ module _ (n : ℕ) (v : View) (name : ℕ) (link : Link) (class fresh : ℕ) (at
           let done = is_done (swapped_by result) in
           let x = h.comes why i a f begun_of (on_line o) (goes o r) in
           let y = subst (λ l. Runs z (record o { private = []; line = l })) (same_call why i a f why (node_at (now w).heap f) done o [] (on_line o).line o.is_marked) x in
-          subst (λ node. Runs z (swap_done why node done o)) (fresh_same v name link class fresh at n sound w then stood g w later) y
+          subst (λ node. Runs z (swap_done why node done o)) (fresh_same v name link class fresh at n sound w then stood g w follows) y
 
-      by_kind : (d : Decided) → LaterRetiring (retired_by (swapped_by d)) w z →
-          ((o : Operation) → Runs v o → Runs z (swap_done why (node_at (now v).heap f) (is_done (swapped_by d)) o)) → HasSwapDone v (swapped_by d) z
-      by_kind (decided.Commits r) l d = (retiring_after r v w z later l, all (λ y j b c. (o : Operation) → Runs v o → Runs z (swap_done y (node_at (now v).heap c) true o)) d)
-      by_kind decided.Fails l d = (retiring_after None v w z later l, all (λ y j b c. (o : Operation) → Runs v o → Runs z (swap_done y (node_at (now v).heap c) false o)) d)
+      retires : LaterRetiring v z
+      retires =
+          retiring_owing v (seen v (swapped_in v.actor i f g.0)) z (owes_then v g.0) (later_there v name link class fresh at n sound w then stood g e) (subst (λ x. LaterRetiring x z) is_w h.later)
+
+      by_kind : (d : Decided) → ((o : Operation) → Runs v o → Runs z (swap_done why (node_at (now v).heap f) (is_done (swapped_by d)) o)) → HasSwapDone v (swapped_by d) z
+      by_kind (decided.Commits r) d = (retires, all (λ y j b c. (o : Operation) → Runs v o → Runs z (swap_done y (node_at (now v).heap c) true o)) d)
+      by_kind (decided.Fails r) d = (retires, all (λ y j b c. (o : Operation) → Runs v o → Runs z (swap_done y (node_at (now v).heap c) false o)) d)
 
       pub done_so : HasSwapDone v (swapped_by result) z
-      done_so = by_kind result h.later its
+      done_so = by_kind result its
 
 -- ---- with the stock
 
@@ -163,20 +183,22 @@ module _ (n : ℕ) (v w : View) (sound : IsSound n v) (last : IsSound n w) (name
       next.made ≡ [] → IsLimbo next.limbo w → IsStock next w
   swapped_owns Misses g = missed_owns n v w sound last name link class fresh at Misses g refl
   swapped_owns (Commits r) g = hit_owns n v w sound last name link class fresh at (Commits r) g (inl (r, refl))
-  swapped_owns Fails g = hit_owns n v w sound last name link class fresh at Fails g (inr refl)
+  swapped_owns (Fails r) g = hit_owns n v w sound last name link class fresh at (Fails r) g (inr (r, refl))
 
   pub swapped_so : (result : Swapped) → HasSwapDone v result w → HasSwapped v result w
   swapped_so Misses g = missed_swapped n v w sound last name link class fresh at Misses g refl
   swapped_so (Commits r) g = hit_swapped n v w sound last name link class fresh at (Commits r) g (inl (r, refl))
-  swapped_so Fails g = hit_swapped n v w sound last name link class fresh at Fails g (inr refl)
+  swapped_so (Fails r) g = hit_swapped n v w sound last name link class fresh at (Fails r) g (inr (r, refl))
 
   pub missed_hangs : HasSwapDone v Misses w → (limbo : Limbo) → IsLimbo limbo v → IsLimbo limbo w
   missed_hangs g limbo is = limbo_stays limbo v w (ap hanging_of (g.0.2 at.4.0 at.4.1)) is
 
-  pub swap_retires : (result : Swapped) → HasSwapDone v result w → AddsRetired (retired_by result) v.retired w.retired
-  swap_retires Misses g = ap (λ (x : View). x.retired) (g.0.2 at.4.0 at.4.1)
-  swap_retires (Commits r) g = g.0.adds
-  swap_retires Fails g = g.0.adds
+-- ---- what the seat holds
+
+-- nothing is said of it where the SWAP came to its end
+pub ended_holds : (v z : View) (d : Decided) → HoldsSwapped v (swapped_by d) z
+ended_holds v z (decided.Commits r) = tt
+ended_holds v z (decided.Fails r) = tt
 
 -- ---- in a program
 

@@ -18,13 +18,13 @@ use Rattle.machine_model.specs.Operations.{swapped}
 use Rattle.machine_model.specs.Paths.{is_below_root}
 use Rattle.lock_free.specs.declared.leaving.Swapping.{Swapping}
 use Rattle.lock_free.specs.declared.rules.View.{View}
-use Rattle.lock_free.specs.declared.swapping.Decided.{Decided}
+use Rattle.lock_free.specs.declared.reclaiming.Decided.{Decided}
 use Rattle.lock_free.specs.Calling.{cut_short}
 use Rattle.lock_free.specs.Climbs.{at_parent}
 use Rattle.lock_free.specs.Leaving.{EndsOrMay, HasDecidedSwap, IsClimbAfter, IsRepair, IsSwapLeft, IsUpdate}
 use Rattle.lock_free.specs.Loading.{now, Runs}
 use Rattle.lock_free.specs.RunningOn.{MayAnswer, RunsOn}
-use Rattle.lock_free.specs.Swaps.{is_done, retired_by, swap_done, swapped_by}
+use Rattle.lock_free.specs.Swaps.{is_done, swap_done, swapped_by}
 use Rattle.lock_free.proofs.Retirings.{still_retiring}
 
 -- it ends with this, or gives up so
@@ -92,7 +92,7 @@ module _ (v : View) (s : Swapping) (left : IsSwapLeft v s) (result : Decided) (w
   comes o r = h.comes left.why left.i left.replaced left.made left.its o r
 
   pub decided_runs_on : RunsOn v w
-  decided_runs_on = record { still = still_retiring (retired_by (swapped_by result)) v w h.later; runs = λ o r. (next o, comes o r, refl) }
+  decided_runs_on = record { still = still_retiring v w h.later; runs = λ o r. (next o, comes o r, refl) }
 
   tells : (o : Operation) → Runs v o → (answer : Reply) → LineTells o (swapped o node left.why done) answer → EndsOrMay w answer
   tells o r answer is = (next o, comes o r, is)

@@ -22,7 +22,7 @@ use Rattle.lock_free.specs.Loading.{now, seen, Runs, IsSound}
 use Rattle.lock_free.specs.Making.{with_slot}
 use Rattle.lock_free.specs.Passing.{Later}
 use Rattle.lock_free.specs.Stocks.{Stocked, IsStock, HasSwapped, own_of, own_nodes, made_of, put_back}
-use Rattle.lock_free.specs.Swaps.{IsAtSwap, IsSwapping, HasSwapDone, retired_by, swap_done, is_done}
+use Rattle.lock_free.specs.Swaps.{IsAtSwap, IsSwapping, HasSwapDone, swap_done, is_done}
 use Rattle.lock_free.proofs.Followings.{follows_later}
 use Rattle.lock_free.proofs.Laters.{gone_later, waited_later}
 use Rattle.lock_free.proofs.NewNodes.{all_made_same, own_used}
@@ -72,16 +72,16 @@ module _ (n : ℕ) (before after : View) (sound : IsSound n before) (last : IsSo
         same : map (made_of (seen before account)) s.0.private ≡ map (made_of before) s.0.private
         same = all_made_same before (seen before account) (follows_later before (seen before account) (waited_later n before sound account g.0.1)) s.0.private (own_used n before sound o s.1.1)
 
-  module _ (result : Swapped) (later : LaterRetiring (retired_by result) before after) (comes : (p : Operation) → Runs before p → Runs after
+  module _ (result : Swapped) (later : LaterRetiring before after) (comes : (p : Operation) → Runs before p → Runs after
       (swap_done why (node_at (now before).heap made) (is_done result) p)) where
     pub hit_become : HasBecome (swap_done why (node_at (now before).heap made) (is_done result)) before after
-    hit_become = record { follows = follows_retiring (retired_by result) before after later; comes = comes }
+    hit_become = record { follows = follows_retiring before after later; comes = comes }
 
     pub hit_stock : (stock next : Stocked) → IsStock stock before → next.sizes ≡ stock.sizes → next.pool ≡ stock.pool → next.made ≡ [] → IsLimbo next.limbo after →
         IsStock next after
     hit_stock stock next is sizes pool none limbo = record {
-      sizes = sizes ∙ is.sizes ∙ sym (retiring_sizes (retired_by result) before after later);
-      pool = pool ∙ is.pool ∙ sym (retiring_pool (retired_by result) before after later);
+      sizes = sizes ∙ is.sizes ∙ sym (retiring_sizes before after later);
+      pool = pool ∙ is.pool ∙ sym (retiring_pool before after later);
       made = none ∙ ap (map (made_of after)) (sym (none_own (is_done result) (comes s.0 s.1)));
       limbo = limbo;
     }
@@ -104,11 +104,11 @@ module _ (n : ℕ) (before after : View) (sound : IsSound n before) (last : IsSo
         IsLimbo next.limbo after → IsStock next after
     missed_owns = missed_stock n before after sound last at.0 at.1 at.2 at.3 this missed
 
-  module _ (is : ((r : Option Retiree) × (result ≡ Commits r)) ⊎ (result ≡ Fails)) where
-    later : LaterRetiring (retired_by result) before after
+  module _ (is : ((r : Option Retiree) × (result ≡ Commits r)) ⊎ ((r : Retiree) × (result ≡ Fails r))) where
+    later : LaterRetiring before after
     later = elim is [
-      | inl e ↦ subst (λ x. LaterRetiring (retired_by x) before after) (sym e.1) (subst (λ x. HasSwapDone before x after) e.1 g).0
-      | inr e ↦ subst (λ x. LaterRetiring (retired_by x) before after) (sym e) (subst (λ x. HasSwapDone before x after) e g).0
+      | inl e ↦ (subst (λ x. HasSwapDone before x after) e.1 g).0
+      | inr e ↦ (subst (λ x. HasSwapDone before x after) e.1 g).0
     ]
 
     pub hit_swapped : HasSwapped before result after

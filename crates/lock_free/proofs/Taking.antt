@@ -19,7 +19,10 @@ use Rattle.lock_free.proofs.Assembling.{AllStand, closing_stays, numbers_stay, a
 use Rattle.lock_free.proofs.Framing.{else_word, class_small, has_words, no_slot, nodes_below, roots_below}
 use Rattle.lock_free.proofs.Geometry.{IsWordOf, slots_apart, root_below}
 use Rattle.lock_free.proofs.Pools.{free_still, was_free, once_with}
+use Rattle.lock_free.proofs.PlainStay.{plain_elsewhere}
 use Rattle.lock_free.proofs.Seats.{ran_so, numbers_so, Stays, other_kept, own_still}
+use Rattle.lock_free.proofs.HeldStill.{held_words}
+use Rattle.lock_free.proofs.CountWords.{before_apart}
 
 pub same_class : (b c : ℕ) → taken_word b ≡ taken_word c → b ≡ c
 same_class b c e = omega (arith, e)
@@ -125,6 +128,7 @@ module _ (sizes : Sizes) (s : Table.State Call View) (kept : IsKept sizes s) (id
     still_open = λ other w at_w handle inside e. e;
     taken = taken_then;
     spare = λ other w b n e apart free. (let x = (kept.seats other w e).spare b n free in (x.1, slot_words b n free.0 x.0));
+    plain = plain_elsewhere sizes kept.account s.words words_then root_same;
   }
 
   own_spare : (b other : ℕ) → IsFree view_then b other → IsTaken sizes words_then b other × IsSpare sizes kept.account kept.stands other
@@ -169,3 +173,5 @@ module _ (sizes : Sizes) (s : Table.State Call View) (kept : IsKept sizes s) (id
       free_then
       (numbers_stay sizes s kept id v at view_then refl refl kept.account words_then (no_tries kept.account.offers (state_of sizes kept.account)) (λ slot none. none) root_same refl
       (λ slot handle e free. (free.0, free_still v.pool class name small 1 slot free.0 free.1)))
+      (held_words sizes s kept id v at view_then refl refl refl (taken_word class) (number + 1)
+      (before_apart sizes (taken_word class) (λ e. omega (arith, e)) (omega (arith, small))).1)

@@ -16,19 +16,21 @@ use Rattle.lock_free.specs.declared.reading.Way.{Way}
 use Rattle.lock_free.specs.declared.rules.View.{View}
 use Rattle.lock_free.specs.declared.swapping.Swapped.{Swapped}
 use Rattle.lock_free.specs.declared.swapping.Swapped.TheVariants.{Commits, Fails, Misses}
-use Rattle.lock_free.specs.BuildingUp.{grown, HasBuiltSingle, HasFresh}
+use Rattle.lock_free.specs.BuildingUp.{drops_at, grown, HasBuiltSingle, HasFresh}
 use Rattle.lock_free.specs.Holding.{IsOn}
 use Rattle.lock_free.specs.Loading.{now, Runs}
 use Rattle.lock_free.specs.Passing.{IsOnWay}
 use Rattle.lock_free.specs.Stocks.{HasSwapped}
-use Rattle.lock_free.specs.Swaps.{is_done, swap_done, IsAtSwap, IsSwapping}
+use Rattle.lock_free.specs.Swaps.{is_done, swap_done, IsAtSwap, IsSwapping, SwapDrops}
 use Rattle.lock_free.specs.Updating.{updated, HasUpdated, IsAtUpdate}
 use Rattle.lock_free.proofs.Followings.{follows_both, placed_on}
 use Rattle.lock_free.proofs.Reachings.{main_then, way_then}
 use Rattle.lock_free.specs.Leaving.{HasLeftSwap, IsUpdate, LeavesSwap}
 use Rattle.lock_free.specs.declared.leaving.Swapping.{Swapping}
 use Rattle.lock_free.proofs.RunningOn.{runs_on_become}
-use Rattle.lock_free.proofs.SwapsBegun.{leaves_swap}
+use Rattle.lock_free.proofs.SwapsBegun.{leaves_swap, told_so}
+use Rattle.lock_free.specs.declared.leaving.Drops.{Drops}
+use Rattle.lock_free.specs.Dropping.{AreDropped}
 use Rattle.lock_free.specs.Classes.{shape_class}
 use Rattle.lock_free.specs.Loading.{IsSound}
 use Rattle.lock_free.proofs.MainClasses.{class_known}
@@ -51,7 +53,7 @@ module _ (v w : View) (by : Builder) (given : Given) (place : Site) (former : Op
   no_update g = g path main on
 
   module _ (name : ℕ) (g : HasBuiltSingle v place former (Some name) w) where
-    abbrev f : HasFresh v path main former name w
+    abbrev f : HasFresh v path main place former name w
     f = g path main on
 
     abbrev then : Line
@@ -76,9 +78,13 @@ module _ (v w : View) (by : Builder) (given : Given) (place : Site) (former : Op
       class_on v w f.reached.become.follows main at.0.4.link.main_used ∙ class_known n v sound main given.header at.0.4.header ∙ sym is,
     )
 
+    -- what it drops
+    pub update_told : (d : Drops) → d ≡ drops_at place → SwapDrops w d
+    update_told d is = told_so w (purpose.Update path former) (current path) main f.fresh this d (subst (AreDropped w main f.fresh) (sym is) f.drops)
+
     comes_to : (s : Swapped) (o : Operation) → swap_done (purpose.Update path former) (node_at (now w).heap f.fresh) (is_done s) (grown f.reached.more then o) ≡ updated former s o
     comes_to (Commits had) o = ap (λ l. record o { private = []; line = l }) (f.answers (grown f.reached.more then o))
-    comes_to Fails o = refl
+    comes_to (Fails r) o = refl
     comes_to Misses o = refl
 
     pub update_done : (s : Swapped) (after : View) → HasSwapped w s after → HasUpdated v former (Some s) after

@@ -1,5 +1,5 @@
 -- How accounts go on.
-use Rattle.std.proofs.Common.{◌++◌, ℕ, List, [], ◌∷◌, All, refl, sym, ap, subst, ◌∙◌, append_assoc, append-nil}
+use Rattle.std.proofs.Common.{◌≡◌, ◌++◌, ℕ, List, [], ◌∷◌, All, refl, sym, ap, subst, ◌∙◌, append_assoc, append-nil}
 use Rattle.std.proofs.lemmas.List.Elements.{All-append, All-nil}
 use Rattle.machine_model.specs.declared.steps.Step.{Step}
 use Rattle.machine_model.specs.declared.steps.Step.TheVariants as step
@@ -9,6 +9,7 @@ use Rattle.lock_free.specs.declared.accounts.Owned.{Owned}
 use Rattle.lock_free.specs.declared.accounts.Known.{Known}
 use Rattle.lock_free.specs.declared.rules.View.{View}
 use Rattle.lock_free.specs.Accounts.{IsOfOther, HasGrown, HasWaited}
+use Rattle.lock_free.specs.Finishing.{unoffered}
 use Rattle.lock_free.specs.Loading.{seen, IsSound, Saw, Waited}
 
 -- one step more that isn't the sweep's
@@ -50,10 +51,42 @@ waited_both actor first middle last h k = record {
   more_offers = k.more_offers ∙ ap (λ xs. k.offers ++ xs) h.more_offers ∙ sym (append_assoc k.offers h.offers first.offers);
 }
 
+-- with fewer offers to begin with
+pub waited_unoffered : (actor : ℕ) (first last : Account) → HasWaited actor first last → HasWaited actor (unoffered first) last
+waited_unoffered actor first last h = record {
+  steps = h.steps;
+  goes_on = h.goes_on;
+  others = h.others;
+  names = h.names;
+  more_names = h.more_names;
+  owned = h.owned;
+  more_owned = h.more_owned;
+  offers = last.offers;
+  more_offers = sym (append-nil last.offers);
+}
+
+-- and with none at the end
+pub both_unoffered : (actor : ℕ) (first last : Account) → HasWaited actor first last → HasWaited actor (unoffered first) (unoffered last)
+both_unoffered actor first last h = record {
+  steps = h.steps;
+  goes_on = h.goes_on;
+  others = h.others;
+  names = h.names;
+  more_names = h.more_names;
+  owned = h.owned;
+  more_owned = h.more_owned;
+  offers = [];
+  more_offers = refl;
+}
+
 -- ---- how it grows, whoever takes the steps
 
 pub grown_none : (account : Account) → HasGrown account account
 grown_none account = record { steps = []; goes_on = sym (append-nil account.steps); names = []; more_names = sym (append-nil account.names) }
+
+-- by these steps
+pub grown_steps : (before after : Account) (steps : List Step) → after.steps ≡ before.steps ++ steps → after.names ≡ before.names → HasGrown before after
+grown_steps before after steps goes_on same = record { steps = steps; goes_on = goes_on; names = []; more_names = same ∙ sym (append-nil before.names) }
 
 pub grown_both : (first middle last : Account) → HasGrown first middle → HasGrown middle last → HasGrown first last
 grown_both first middle last h k = record {

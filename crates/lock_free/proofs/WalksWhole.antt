@@ -52,7 +52,7 @@ count_walk handle = record { line_is = refl; number = refl; stays = refl }
 -- ---- from its begin to its end
 
 -- it has run on, and has ended then
-ended_after : (u w x : View) (answer : Reply) → RunsOn u w → HasEndedWith w answer x → HasEndedWith u answer x
+pub ended_after : (u w x : View) (answer : Reply) → RunsOn u w → HasEndedWith w answer x → HasEndedWith u answer x
 ended_after u w x answer r e = record { late = e.late; on = runs_on_both u w e.late r e.on; ends = e.ends; ended = e.ended }
 
 module _ (n : ℕ) (u : View) (sound : IsSound n u) (kind : ℕ → Call) (at : IsWalkOf kind u) where

@@ -1,5 +1,5 @@
 -- Why a call is refused fits it.
-use Rattle.std.proofs.Common.{◌≡◌, ◌∷◌, [], ℕ, Bool, true, false, ◌&&◌, ◌||◌, Option, Some, Result, IfErr, refl, sym, ap, subst, arith}
+use Rattle.std.proofs.Common.{◌≡◌, ◌∷◌, [], ℕ, Bool, true, false, ◌&&◌, ◌||◌, Option, None, Some, Result, IfErr, refl, sym, ap, subst, arith}
 use Rattle.std.proofs.lemmas.Bool.{true≢false}
 use Rattle.std.proofs.lemmas.Option.{same_Some}
 use Rattle.history.specs.declared.calls.Access.TheVariants.{Writable, ReadOnly}
@@ -39,11 +39,18 @@ module _ (a b c d e f g h : Bool) where
       (a, refuse.NoActor) ∷ (b, refuse.ActorBusy) ∷ (c, refuse.NoHandle) ∷ (d, refuse.ReadOnly) ∷ (e, refuse.NotReadOnly) ∷ (f, refuse.Busy) ∷ (g, refuse.HandlesFull)
       ∷ (h, refuse.Spent) ∷ [])
 
-  writes_by : reason ≡ Some refuse.ReadOnly → d ≡ true
+  pub writes_by : reason ≡ Some refuse.ReadOnly → d ≡ true
   writes_by is = grind (arith, is)
 
-  reads_by : reason ≡ Some refuse.NotReadOnly → e ≡ true
+  pub reads_by : reason ≡ Some refuse.NotReadOnly → e ≡ true
   reads_by is = grind (arith, is)
+
+  -- or has none to deny it
+  pub open_by : reason ≡ None → c ≡ false
+  open_by is = grind (arith, is)
+
+  pub unread_by : reason ≡ None → e ≡ false
+  unread_by is = grind (arith, is)
 
 both_first : (a b : Bool) → (a && b) ≡ true → a ≡ true
 both_first true b e = refl

@@ -15,7 +15,7 @@ use Rattle.lock_free.specs.Loading.{now, IsSound, IsUsed, Holds, HasPosition}
 use Rattle.lock_free.specs.Nodes.{class_of}
 use Rattle.lock_free.specs.Places.{words_in, class_for}
 use Rattle.lock_free.proofs.Asked.{live_in_use}
-use Rattle.lock_free.proofs.Framing.{class_small}
+use Rattle.lock_free.proofs.Framing.{class_small, node_end}
 use Rattle.lock_free.proofs.Moments.{entry_lives}
 
 pub two_words : (class : ℕ) → class < 3 → 2 ≤ words_in class
@@ -30,8 +30,10 @@ held_lives v r (o, runs, inl c) = from_operation v.actor o r runs tt c
 held_lives v r (o, runs, inr (main, slot, c, is, e)) = entry_lives v.sizes v.account main r slot (from_operation v.actor o main runs tt c) is e
 
 module _ (words : ℕ) (v : View) (sound : IsSound words v) where
-  used_inside : (r : Ref) (slot : Slot) → IsUsed v r slot → 2 * place_of v.account r + words_in (class_of slot.node) ≤ words
-  used_inside r slot is = let h = sound.inside (slot_of r) slot is in subst (λ n. 2 * place_of v.account r + words_in (class_of slot.node) ≤ n) (sym sound.size) h
+  pub used_inside : (r : Ref) (slot : Slot) → IsUsed v r slot → 2 * place_of v.account r + words_in (class_of slot.node) ≤ words
+  used_inside r slot is =
+      let h = node_end v.sizes slot.node (place_of v.account r) (sound.inside (slot_of r) slot is) in
+      subst (λ n. 2 * place_of v.account r + words_in (class_of slot.node) ≤ n) (sym sound.size) h
 
   pub both_inside : (r : Ref) (name : ℕ) → IsLive (now v) r → place_of v.account r ≡ name → (2 * name < words) × (2 * name + 1 < words)
   both_inside r name live place =
@@ -48,7 +50,7 @@ module _ (words : ℕ) (v : View) (sound : IsSound words v) where
       by false true few some = let most = some refl in omega (arith, low, most)
       by false false few some = omega (arith, small)
 
-  entries_room : (node : Node) (position : ℕ) → is_branch_or_list node ≡ true → position < length (entries_of node) → position < 32 → 1 + position / 2 < words_in (class_of node)
+  pub entries_room : (node : Node) (position : ℕ) → is_branch_or_list node ≡ true → position < length (entries_of node) → position < 32 → 1 + position / 2 < words_in (class_of node)
   entries_room (Branch bitmap entries) position is low small = room (length entries.items) position low small
   entries_room (Listed singles) position is low small = room (length singles.items) position low small
   entries_room (Indirection generation main) position is low small = absurd (true≢false (sym is))

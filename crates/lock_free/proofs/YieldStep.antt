@@ -12,7 +12,7 @@ use Rattle.machine_model.specs.declared.roots.Descriptor.{Descriptor}
 use Rattle.machine_model.specs.Calls.{handle_of}
 use Rattle.machine_model.specs.States.{word_at, word_of}
 use Rattle.machine_model.specs.Swapping.{is_plain}
-use Rattle.lock_free.proofs.EpochStays.{rest_of}
+use Rattle.lock_free.proofs.EpochStays.{rest_beside}
 use Rattle.lock_free.specs.declared.accounts.Known.{Known}
 use Rattle.lock_free.specs.declared.offers.Fate.TheVariants as became
 use Rattle.lock_free.specs.declared.rules.View.{View}
@@ -24,11 +24,12 @@ use Rattle.lock_free.specs.Places.{words_of}
 use Rattle.lock_free.specs.RootOffers.{MeetsOffer, YieldedAs, HasYielded, has_yielded}
 use Rattle.lock_free.specs.RootWords.{fate_by}
 use Rattle.lock_free.specs.Roots.{undecided, carried_out}
-use Rattle.lock_free.specs.Rules.{IsKept, IsRuled}
+use Rattle.lock_free.specs.Rules.{AreOwed, AreRetired, IsKept, IsRuled}
 use Rattle.lock_free.proofs.AbortStep.{known_there}
-use Rattle.lock_free.proofs.Moments.{allowed, seen_kept, waited_so}
+use Rattle.lock_free.proofs.OwedStay.{owed_then}
+use Rattle.lock_free.proofs.Moments.{allowed_giving, seen_kept, waited_so}
 use Rattle.lock_free.proofs.OfferMet.{settled_as}
-use Rattle.lock_free.proofs.OfferMisses.{dropped, dropped_kept, dropped_sound, has_missed}
+use Rattle.lock_free.proofs.OfferMisses.{dropped, dropped_kept, dropped_sound, has_missed, owed_dropped}
 use Rattle.lock_free.proofs.Stood.{stands_there}
 
 module _ (v : View) (slot : ℕ) (offer : Descriptor) (p : IsAt v (act.Offer offer)) (met : HasOffer v.sizes v.account (handle_of p.operation.call) slot) (s : Table.State Call View)
@@ -51,7 +52,8 @@ module _ (v : View) (slot : ℕ) (offer : Descriptor) (p : IsAt v (act.Offer off
   abbrev Left : View → Type 0
   Left after =
       IsKept v.sizes (record { words = set s.words (2 * slot) found; homes = s.homes; views = set s.views id after }) ×
-      (IsSound (words_of v.sizes) after × YieldedAs (found == undecided) v (2 * slot) found after) × (rest_of after ≡ rest_of v)
+      (IsSound (words_of v.sizes) after × YieldedAs (found == undecided) v (2 * slot) found after) × (rest_beside after ≡ rest_beside v)
+      × (AreRetired v.sizes s.words s.views → AreOwed s.views → AreOwed (set s.views id after))
 
   same_words : (after : View) → IsKept v.sizes (record { words = s.words; homes = s.homes; views = set s.views id after }) → IsKept v.sizes
       (record { words = set s.words (2 * slot) found; homes = s.homes; views = set s.views id after })
@@ -67,6 +69,7 @@ module _ (v : View) (slot : ℕ) (offer : Descriptor) (p : IsAt v (act.Offer off
             same_words after (dropped_kept v offer p s kept id at none),
             (dropped_sound v offer p s kept id at none, subst (λ b. YieldedAs b v (2 * slot) found after) (sym (eq-eqb found 0 e)) (has_missed v offer p s kept id at none)),
             refl,
+            owed_dropped v offer p s kept id at none,
           ),
         )
     | inr differs ↦
@@ -77,6 +80,7 @@ module _ (v : View) (slot : ℕ) (offer : Descriptor) (p : IsAt v (act.Offer off
             same_words after (seen_kept v s kept id at),
             (waited.sound, subst (λ b. YieldedAs b v (2 * slot) found after) (sym (ne_eqb found 0 differs)) (record { table = s; kept = kept; id = id; at = at; finds = refl }, refl)),
             refl,
+            λ retired h. owed_then s.views id v at after (λ k c. (c, refl)) (λ y c. c) h,
           ),
         )
   ]
@@ -84,10 +88,10 @@ module _ (v : View) (slot : ℕ) (offer : Descriptor) (p : IsAt v (act.Offer off
 pub yield_allowed : (sizes : Sizes) (size id : ℕ) (me : Me Call View) (some_seats : 1 ≤ me.0.sizes.seats) (slot : ℕ) → MeetsOffer me.0 slot → Allows (IsRuled sizes) size id me (2 * slot) (λ n. n)
     (has_yielded (step size (2 * slot) 0 0 none) me)
 yield_allowed sizes size id me some_seats slot (offer, p, met) =
-    allowed sizes size id me (2 * slot) (λ n. n) (has_yielded (step size (2 * slot) 0 0 none) me)
+    allowed_giving sizes size id me (2 * slot) (λ n. n) (has_yielded (step size (2 * slot) 0 0 none) me)
     some_seats (λ s kept at. inr refl)
     (λ s kept at. (let x = leaves me.0 slot offer p met s kept id at in (x.0, x.1.0, (x.1.1.1, x.1.1.0, refl))))
-    (λ s kept at. (leaves me.0 slot offer p met s kept id at).1.2)
+    (λ s kept at. (leaves me.0 slot offer p met s kept id at).1.2) (λ s kept at. (leaves me.0 slot offer p met s kept id at).1.3)
 
 -- ---- what the seat is told
 

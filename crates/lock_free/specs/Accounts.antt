@@ -1,7 +1,7 @@
 -- What has happened so far, as the definition has it: the state that its steps lead to, and where its nodes stand in the table. The definition never runs out
 -- of slots: it has as many as steps were taken, and three more.
 use Rattle.history.specs.declared.calls.Access.{Access}
-use Rattle.std.specs.Prelude.{◌≡◌, ℕ, ◌+◌, Bool, List, [], ◌∷◌, ◌++◌, All, length, slice_index_or, Some}
+use Rattle.std.specs.Prelude.{◌≡◌, ℕ, ◌+◌, ◌<◌, Bool, List, [], ◌∷◌, ◌++◌, All, length, slice_index_or, Some}
 use Rattle.machine_model.specs.declared.operations.Operation.{Operation}
 use Rattle.machine_model.specs.declared.steps.Bounds.{Bounds}
 use Rattle.machine_model.specs.declared.steps.Step.{Step}
@@ -82,6 +82,14 @@ pub record WasRoot (sizes : Sizes) (account : Account) (r : Ref) : Type 0 where
   pub handle : ℕ
   pub access : Access
   pub was : root_at (run (bounds_for sizes steps) steps) handle ≡ Some (record { access = access; word = Plain r })
+
+-- It was one after an operation had begun that runs still, which may have found it.
+pub record MayBeFound (sizes : Sizes) (account : Account) (r : Ref) : Type 0 where
+  pub root : WasRoot sizes account r
+  pub actor : ℕ
+  pub operation : Operation
+  pub runs : running sizes account actor operation
+  pub began : operation.id < (run (bounds_for sizes root.steps) root.steps).begun
 
 -- ---- offers
 

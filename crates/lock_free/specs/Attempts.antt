@@ -67,7 +67,7 @@ pub record IsToClimb (v : View) (slots : List ℕ) (hash : ℕ) (single : Entry)
 abbrev pub attempted : Option Swapped → Call → Option ℕ → Attempt
 attempted None call former = attempt.Comes came.Spent
 attempted (Some (Commits r)) call former = attempt.Comes (came.Answered (changed_reply call former))
-attempted (Some Fails) call former = attempt.Again
+attempted (Some (Fails r)) call former = attempt.Again
 attempted (Some Misses) call former = attempt.Again
 
 -- or it is under way

@@ -27,9 +27,10 @@ use Rattle.lock_free.specs.Loading.{now, Runs, IsUsed}
 use Rattle.lock_free.specs.Passing.{IsPlaced}
 use Rattle.lock_free.specs.Telling.{GoesOn}
 
--- more has happened, and the seat's own slots and those that it has retired are others, as are their links and what it has seen of the epoch; what it knew of nodes is so
+-- more has happened, and the seat's own slots and those that it has retired are others, as are their links, the references that it holds itself and what it
+-- has seen of the epoch; what it knew of nodes is so
 pub record Follows (v w : View) : Type 0 where
-  pub is : w ≡ record v { account = w.account; epoch = w.epoch; passed = w.passed; pool = w.pool; drafts = w.drafts; retired = w.retired; links = w.links }
+  pub is : w ≡ record v { account = w.account; epoch = w.epoch; passed = w.passed; pool = w.pool; drafts = w.drafts; retired = w.retired; owed = w.owed; links = w.links }
   pub places : (r : Ref) (slot : Slot) → IsUsed v r slot → place_of w.account r ≡ place_of v.account r
   pub owns : (a b : Ref) (c : Bool) → IsOwn v.account a b c → IsOwn w.account a b c
   pub nodes : (r : Ref) (slot : Slot) → IsUsed v r slot → (later : Slot) × IsUsed w r later × SameNode slot.node later.node
@@ -39,6 +40,10 @@ pub record Follows (v w : View) : Type 0 where
 pub record HasBecome (next : Operation → Operation) (v w : View) : Type 0 where
   pub follows : Follows v w
   pub comes : (operation : Operation) → Runs v operation → Runs w (next operation)
+
+-- each stays where it was
+abbrev pub HasRested : View → View → Type 0
+HasRested = HasBecome (λ operation. operation)
 
 -- ---- the operation once it has made a node
 

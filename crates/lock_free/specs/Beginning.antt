@@ -32,6 +32,7 @@ pub record Begins (sizes : Sizes) (account : Account) (actor : ℕ) (taken : Ste
   pub its_call : operation.call ≡ call
   pub its_opens : operation.opens ≡ opens
   pub unmarked : operation.is_marked ≡ false
+  pub alone : operation.private ≡ []
   -- it has offered nothing yet
   pub fresh : (k : Known) → Contains account.offers k → IsItsTry operation k.offer → ⊥
 

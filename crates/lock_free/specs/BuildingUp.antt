@@ -29,7 +29,10 @@ use Rattle.machine_model.specs.Paths.{current, depth_of, start_of}
 use Rattle.machine_model.specs.Swapping.{swapping}
 use Rattle.lock_free.specs.declared.building.Builder.{Builder}
 use Rattle.lock_free.specs.declared.reading.Given.{Given}
+use Rattle.lock_free.specs.declared.leaving.Drops.{Drops}
+use Rattle.lock_free.specs.declared.leaving.Drops.TheVariants as drops
 use Rattle.lock_free.specs.declared.rules.View.{View}
+use Rattle.lock_free.specs.Dropping.{AreDropped}
 use Rattle.lock_free.specs.Becoming.{HasBecome}
 use Rattle.lock_free.specs.Holding.{IsOn}
 use Rattle.lock_free.specs.Loading.{now, Runs, IsAt, IsUsed}
@@ -66,20 +69,27 @@ pub record HasReached (v : View) (l : Line) (w : View) : Type 0 where
 abbrev pub HasStopped : View → View → Type 0
 HasStopped before after = (l : BuildLine) × HasReached before (line.Build l) after
 
+-- what of the entries before isn't among the new ones, where the new single comes to this place
+abbrev pub drops_at : Site → Drops
+drops_at site.Absent = drops.Nothing
+drops_at (site.At position) = drops.At position
+drops_at (site.Beside position) = drops.At position
+
 -- it is to swap the main node in this slot in, which comes from the one before by this change
-pub record HasFresh (before : View) (path : List Ref) (main : Ref) (former : Option ℕ) (name : ℕ) (after : View) : Type 0 where
+pub record HasFresh (before : View) (path : List Ref) (main : Ref) (place : Site) (former : Option ℕ) (name : ℕ) (after : View) : Type 0 where
   pub fresh : Ref
   pub placed : IsPlaced after fresh name
   pub its : Change
   pub flag : ℕ
   pub node_is : node_at (now after).heap fresh ≡ changed flag (node_at (now after).heap main) its
   pub reached : HasReached before (line.Swap (purpose.Update path former) (swapping (current path) main fresh)) after
+  pub drops : AreDropped after main fresh (drops_at place)
   pub answers : (operation : Operation) → after_update operation path former (node_at (now after).heap fresh) ≡ climbed operation former
 
 -- or no slot was had
-abbrev pub HasBuiltUp : View → List Ref → Ref → Option ℕ → Option ℕ → View → Type 0
-HasBuiltUp before path main former None after = HasStopped before after
-HasBuiltUp before path main former (Some name) after = HasFresh before path main former name after
+abbrev pub HasBuiltUp : View → List Ref → Ref → Site → Option ℕ → Option ℕ → View → Type 0
+HasBuiltUp before path main place former None after = HasStopped before after
+HasBuiltUp before path main place former (Some name) after = HasFresh before path main place former name after
 
 -- ---- from the new single
 
@@ -88,7 +98,7 @@ IsAtSingle v by given place former = (path : List Ref) × (main : Ref) × IsOn v
 
 abbrev pub HasBuiltSingle : View → Site → Option ℕ → Option ℕ → View → Type 0
 HasBuiltSingle before place former result after =
-    (path : List Ref) (main : Ref) → IsOn before (line.Build (build.Single path main place former)) → HasBuiltUp before path main former result after
+    (path : List Ref) (main : Ref) → IsOn before (line.Build (build.Single path main place former)) → HasBuiltUp before path main place former result after
 
 -- ---- beside another single
 

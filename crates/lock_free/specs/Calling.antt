@@ -19,6 +19,8 @@ use Rattle.machine_model.specs.Calls.{handle_of, is_close, needs_read_only, need
 use Rattle.machine_model.specs.Beneath.slot_arena.specs.declared.refs.Ref.{Ref}
 use Rattle.machine_model.specs.GivingUp.{gave_up, given_up}
 use Rattle.machine_model.specs.Machine.{begin_denial, begun_operation}
+use Rattle.lock_free.specs.Owing.{owes_given_up}
+use Rattle.lock_free.specs.LettingGo.{HoldsGivenUp}
 use Rattle.lock_free.specs.declared.accounts.Account.{Account}
 use Rattle.lock_free.specs.declared.calling.Denial.{Denial}
 use Rattle.lock_free.specs.declared.calling.Denial.TheVariants as denial
@@ -141,13 +143,19 @@ abbrev pub MayGiveUp : View → Type 0
 MayGiveUp v = (operation : Operation) × (answer : Reply) × Runs v operation × (given_up operation.call operation.line ≡ Some answer)
 
 abbrev pub once_given_up : View → Account → List Ref → View
-once_given_up v account private = record v { account = taking (step.GiveUp v.actor) account; pool = given_back (now (seen v account)) account private v.pool }
+once_given_up v account private =
+    record v {
+      account = taking (step.GiveUp v.actor) account;
+      pool = given_back (now (seen v account)) account private v.pool;
+      owed = owes_given_up v account private;
+    }
 
 -- it is to end with this answer
 pub record GaveUp (before : View) (operation : Operation) (answer : Reply) (after : View) : Type 0 where
   pub account : Account
   pub waited : Waited before account
   pub after_is : after ≡ once_given_up before account operation.private
+  pub holds : HoldsGivenUp before operation after.owed
   pub runs : Runs after (gave_up operation answer)
 
 abbrev pub HasGivenUp : View → View → Type 0

@@ -17,12 +17,13 @@ use Rattle.machine_model.specs.Paths.{current}
 use Rattle.nodes.specs.Levels.{has_flag}
 use Rattle.lock_free.specs.declared.changing.Edit.{Edit}
 use Rattle.lock_free.specs.declared.changing.Edit.TheVariants as edit
+use Rattle.lock_free.specs.declared.leaving.Drops.{Drops}
+use Rattle.lock_free.specs.declared.leaving.Drops.TheVariants as drops
 use Rattle.lock_free.specs.declared.rules.View.{View}
 use Rattle.lock_free.specs.Accounts.{place_of}
-use Rattle.lock_free.specs.Becoming.{HasNew}
+use Rattle.lock_free.specs.Becoming.{HasNew, HasRested}
 use Rattle.lock_free.specs.Exchanging.{IsNamed}
 use Rattle.lock_free.specs.GoingDown.{IsFlag}
-use Rattle.lock_free.specs.Entries.{HasStayed}
 use Rattle.lock_free.specs.Holding.{IsOn}
 use Rattle.lock_free.specs.Loading.{IsAt}
 use Rattle.lock_free.specs.Passing.{KnowsMain}
@@ -61,6 +62,12 @@ HasPlaceFor s flag (edit.Update position entry) = position < count_in s
 HasPlaceFor s flag (edit.Remove position) = position < count_in s
 HasPlaceFor s flag (edit.Entomb single) = Unit {0}
 
+-- where the new entry stands then, if there is one
+abbrev pub brought : ℕ → Edit → Option ℕ
+brought place (edit.Insert entry) = Some place
+brought place (edit.Update position entry) = Some position
+brought place e = None
+
 -- so the entries themselves
 abbrev pub CanEdit : {X : Type 0} → List X → ℕ → Edit → Type 0
 CanEdit entries place (edit.Insert entry) = (place ≤ length entries) × (length entries < 32)
@@ -71,6 +78,13 @@ CanEdit entries place (edit.Entomb single) = Unit {0}
 abbrev pub IsNoTomb : Edit → Type 0
 IsNoTomb (edit.Entomb single) = ⊥
 IsNoTomb e = Unit {0}
+
+-- what of the entries before isn't among the new ones
+abbrev pub drops_of : Edit → Drops
+drops_of (edit.Insert entry) = drops.Nothing
+drops_of (edit.Update position entry) = drops.At position
+drops_of (edit.Remove position) = drops.At position
+drops_of (edit.Entomb single) = drops.Others
 
 -- it is what the definition changes
 abbrev pub IsChange : View → Edit → Change → Type 0
@@ -98,7 +112,7 @@ pub record IsChanging (v : View) (name : Name) (what : Shape) (flag : ℕ) (e : 
 
 -- it has made the node, or had no slot for it, and stays where it was
 abbrev pub HasBuiltNode : View → Node → Option ℕ → View → Type 0
-HasBuiltNode before node None after = HasStayed before after
+HasBuiltNode before node None after = HasRested before after
 HasBuiltNode before node (Some name) after = HasNew before node name after
 
 abbrev pub HasBuilt : View → Option ℕ → View → Type 0

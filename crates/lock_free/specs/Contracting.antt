@@ -16,6 +16,11 @@ abbrev pub IsLone : Bool → List Entry → Option Entry → Type 0
 IsLone may entries (Some e) = (may ≡ true) × (entries ≡ e ∷ []) × (e.is_single ≡ true)
 IsLone may entries None = (e : Entry) → entries ≡ e ∷ [] → (may && e.is_single) ≡ false
 
+-- The entries whose nodes the seat counts before: where the main node before is its indirection's own the singles of tombs alone, since it leaves all else to this one.
+abbrev pub counted_in : Bool → List Entry → List Entry → List Entry
+counted_in true entries singles = singles
+counted_in false entries singles = entries
+
 -- Its next step makes the main node with these entries. A tomb is made where one is left that is a single, and that may be.
 pub record IsAtContracted (v : View) (may : Bool) (bitmap : ℕ) (entries : List Entry) : Type 0 where
   pub refs : List Ref

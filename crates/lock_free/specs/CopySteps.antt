@@ -2,7 +2,7 @@
 use Rattle.history.specs.declared.calls.Call.{Call}
 use Rattle.history.specs.declared.calls.Call.TheVariants.{Clear, Snapshot}
 use Rattle.history.specs.declared.replies.Reply.TheVariants as reply
-use Rattle.std.specs.Prelude.{◌≡◌, ◌<◌, ◌+◌, ◌*◌, ◌++◌, ◌∷◌, [], ℕ, Bool, true, false, List, Contains, Option, Some, None, is_some, unwrap_or, if◌then◌else◌}
+use Rattle.std.specs.Prelude.{◌≡◌, ◌<◌, map, ◌+◌, ◌*◌, ◌++◌, ◌∷◌, [], ℕ, Bool, true, false, List, Contains, Option, Some, None, is_some, unwrap_or, if◌then◌else◌}
 use Rattle.trie_words.specs.Codes.{pair_code}
 use Rattle.machine_model.specs.Beneath.slot_arena.specs.declared.refs.Ref.{Ref}
 use Rattle.machine_model.specs.declared.copying.CopyLine.{CopyLine}
@@ -24,18 +24,24 @@ use Rattle.lock_free.specs.declared.copy_roots.CopyKind.{CopyKind}
 use Rattle.lock_free.specs.declared.copy_roots.CopyKind.TheVariants as kind
 use Rattle.lock_free.specs.declared.copy_roots.NewRoots.{NewRoots}
 use Rattle.lock_free.specs.declared.reading.Given.{Given}
+use Rattle.lock_free.specs.declared.rules.Retired.{Retired}
 use Rattle.lock_free.specs.declared.rules.View.{View}
-use Rattle.lock_free.specs.Becoming.{Follows, HasBecome}
+use Rattle.lock_free.specs.Becoming.{Follows, HasBecome, HasRested}
+use Rattle.lock_free.specs.Counting.{IsInSlot}
+use Rattle.lock_free.specs.Counts.{how_often}
 use Rattle.lock_free.specs.GoingDown.{HasMoved}
 use Rattle.lock_free.specs.HandleWords.{HasOffer}
-use Rattle.lock_free.specs.Loading.{Runs}
+use Rattle.lock_free.specs.Loading.{Runs, Saw}
 use Rattle.trie_words.specs.declared.names.Name.{Name}
+use Rattle.lock_free.specs.Limbos.{having_retired, HasHung}
+use Rattle.lock_free.specs.Outcomes.{ArePlaced, made_for, root_retired}
 use Rattle.lock_free.specs.Owning.{IsBuilding}
 use Rattle.lock_free.specs.Passing.{IsPlaced, KnowsLink, KnowsMain}
 use Rattle.lock_free.specs.RootOffers.{IsToOffer}
 use Rattle.lock_free.specs.RootWords.{IsToOpen}
 use Rattle.lock_free.specs.Roots.{IsItsTry, undecided}
 use Rattle.lock_free.specs.RunningOn.{IsStill}
+use Rattle.lock_free.specs.Stocks.{IsStock, Stocked}
 use Rattle.lock_free.specs.Storing.{HasMadeRoot}
 use Rattle.machine_model.specs.declared.reading.After.TheVariants.{Goes}
 use Rattle.machine_model.specs.declared.reading.ReadLine.{ReadLine}
@@ -77,7 +83,8 @@ main_for l = None
 
 -- which is the root's own only where it has made that one too
 abbrev pub IsAtNewRoot : View → Name → Type 0
-IsAtNewRoot v name = (l : CopyLine) × (main : Ref) × IsAtCopy v l × (main_for l ≡ Some main) × IsPlaced v main name.slot × (name.own ≡ true → IsBuilding (line.Copy l) main)
+IsAtNewRoot v name = (l : CopyLine) × (main : Ref) × IsAtCopy v l × (main_for l ≡ Some main) × IsPlaced v main name.slot
+    × ((name.own ≡ true → IsBuilding (line.Copy l) main) × (IsBuilding (line.Copy l) main → name.own ≡ true))
 
 -- it has tried to make it in the last of its free slots, by a generation that was the next one or not
 abbrev pub HasTriedRoot : View → Bool → View → Type 0
@@ -99,6 +106,14 @@ HasRootOrNone before l (Some name) after = HasNewRoot before l name after
 
 abbrev pub HasRoot : View → Option ℕ → View → Type 0
 HasRoot before result after = (l : CopyLine) (main : Ref) → IsAtCopy before l → main_for l ≡ Some main → HasRootOrNone before l result after
+
+-- the same where the seat has counted a reference to the main node
+abbrev pub HasSharedRootOrNone : View → CopyLine → Option ℕ → View → Type 0
+HasSharedRootOrNone before l None after = HasRested before after
+HasSharedRootOrNone before l (Some name) after = HasNewRoot before l name after
+
+abbrev pub HasSharedRoot : View → Option ℕ → View → Type 0
+HasSharedRoot before result after = (l : CopyLine) (main : Ref) → IsAtCopy before l → main_for l ≡ Some main → HasSharedRootOrNone before l result after
 
 -- ---- which copy it makes
 
@@ -157,9 +172,9 @@ abbrev pub HasRootsOrNone : View → CopyKind → Ref → Ref → Option NewRoot
 HasRootsOrNone before k root main None after = HasStopped before after
 HasRootsOrNone before k root main (Some roots) after = HasNewRoots before k root main roots after
 
--- the main node of its root, which is in this slot, was read
-abbrev pub IsGiven : View → CopyKind → ℕ → Type 0
-IsGiven v k name = (root : Ref) × (main : Ref) × IsAtCopy v (given_line k root main) × IsPlaced v main name
+-- the main node of its root, which is in this slot of this class, was read
+abbrev pub IsGiven : View → CopyKind → ℕ → ℕ → Type 0
+IsGiven v k name class = (root : Ref) × (main : Ref) × IsAtCopy v (given_line k root main) × IsInSlot v main class name
 
 abbrev pub HasMadeRoots : View → CopyKind → Option NewRoots → View → Type 0
 HasMadeRoots before k result after = (root main : Ref) → IsAtCopy before (given_line k root main) → HasRootsOrNone before k root main result after
@@ -186,9 +201,9 @@ abbrev pub HasPreparedOrNone : View → CopyKind → Option ℕ → ℕ → ℕ 
 HasPreparedOrNone before k opens handle root None after = HasStopped before after
 HasPreparedOrNone before k opens handle root (Some slot) after = HasPrepared before k opens handle root slot after
 
--- its root is in this slot, and the main node that it has read there in that one
-abbrev pub IsReady : View → CopyKind → ℕ → ℕ → Type 0
-IsReady v k name main_name = (root : Ref) × (main : Ref) × IsAtCopy v (given_line k root main) × IsPlaced v main main_name × IsPlaced v root name
+-- its root is in this slot, and the main node that it has read there in that one of this class
+abbrev pub IsReady : View → CopyKind → ℕ → ℕ → ℕ → Type 0
+IsReady v k name main_name class = (root : Ref) × (main : Ref) × IsAtCopy v (given_line k root main) × IsInSlot v main class main_name × IsPlaced v root name
 
 -- it is on this handle, and opens that number, if it does
 pub record IsCopying (v : View) (k : CopyKind) (handle : ℕ) (opens : Option ℕ) : Type 0 where
@@ -210,8 +225,31 @@ pub record IsToComplete (v : View) (handle slot : ℕ) : Type 0 where
 abbrev pub copied_line : Bool → Operation → Line
 copied_line carried operation = if carried then line.End (copied_reply operation.call operation.opens) else new_try
 
-abbrev pub HasCopied : View → Bool → View → Type 0
-HasCopied before carried after = HasMoved (copied_line carried) before after
+-- but for what it holds, has retired, and knows of links and of the epoch
+abbrev pub as_before : View → View → View
+as_before before after = record after { epoch = before.epoch; passed = before.passed; retired = before.retired; owed = before.owed; links = before.links }
+
+-- The seat has just retired the slots of the roots that were made for the offer in this slot: all others hang.
+pub record HasLeftRoots (stock : Stocked) (slot : ℕ) (v : View) : Type 0 where
+  pub operation : Operation
+  pub runs : Runs v operation
+  pub handle : ℕ
+  pub its : HasOffer v.sizes v.account handle slot
+  pub rest : List Retired
+  pub epoch : ℕ
+  pub is : v.retired ≡ rest ++ map (root_retired v.account epoch) (made_for its.its.offer)
+  pub made : ArePlaced v.account (made_for its.its.offer)
+  pub holds : IsStock stock (having_retired v rest)
+
+pub record HasHungRoots (before after : View) : Type 0 where
+  pub at : View
+  pub saw : Saw before at
+  pub hung : HasHung at after
+
+-- and the seat holds what it held: what that gave it has let go of
+pub record HasCopied (before : View) (carried : Bool) (after : View) : Type 0 where
+  pub moved : HasMoved (copied_line carried) before (as_before before after)
+  pub owed : (k : Ref) → how_often k after.owed ≡ how_often k before.owed
 
 -- ---- what it opens is opened
 

@@ -14,10 +14,12 @@ use Rattle.machine_model.specs.Beneath.slot_arena.specs.Refs.{slot_of}
 use Rattle.machine_model.specs.declared.actions.Action.TheVariants as act
 use Rattle.machine_model.specs.Reading.{is_licensed, is_pending}
 use Rattle.machine_model.specs.States.{State}
+use Rattle.lock_free.specs.Owing.{owes_given_up, owes_then, owing}
 use Rattle.lock_free.specs.declared.accounts.Account.{Account}
 use Rattle.lock_free.specs.declared.rules.Pool.{Pool}
 use Rattle.lock_free.specs.declared.rules.View.{View}
 use Rattle.lock_free.specs.Accounts.{place_of, IsOwn, gone_on}
+use Rattle.lock_free.specs.LettingGo.{HoldsGivenUp}
 use Rattle.lock_free.specs.Loading.{Moment, now, seen, IsAt, IsSound, Stores, Waited, Took, Went}
 use Rattle.lock_free.specs.Making.{with_slot}
 use Rattle.lock_free.specs.Nodes.{SaysShape, class_of}
@@ -93,15 +95,17 @@ abbrev pub given_back : State → Account → List Ref → Pool → Pool
 given_back state account [] pool = pool
 given_back state account (r ∷ rs) pool = given_back state account rs (with_slot pool (class_of (node_at state.heap r)) (place_of account r))
 
--- the seat where it failed: all nodes of its own are given up
+-- the seat where it failed: all nodes of its own are given up, and what they held of others is its own then
 abbrev pub given_up : View → Account → List Ref → View
-given_up v account private = record v { account = gone_on v.actor account; pool = given_back (now (seen v account)) account private v.pool }
+given_up v account private =
+    record v { account = gone_on v.actor account; pool = given_back (now (seen v account)) account private v.pool; owed = owes_given_up v account private }
 
 -- what the exchange left, where the replaced one was found, and where it wasn't
 abbrev pub HasSwapped : View → Account → Bool → View → Type 0
 HasSwapped before account stood after = (i replaced made : Ref) (p : IsAt before (act.Publish i replaced made)) →
     ((main_at (now (seen before account)).heap i == replaced) ≡ stood)
-    × (stood ≡ true → after ≡ seen before (swapped_in before.actor i made account)) × (stood ≡ false → after ≡ given_up before account p.operation.private)
+    × (stood ≡ true → after ≡ owing (seen before (swapped_in before.actor i made account)) (owes_then before account))
+    × (stood ≡ false → (after ≡ given_up before account p.operation.private) × HoldsGivenUp before p.operation after.owed)
 
 abbrev pub HasPublished : View → Bool → View → Type 0
 HasPublished before stood after = (account : Account) × Waited before account × Took before account after × HasSwapped before account stood after

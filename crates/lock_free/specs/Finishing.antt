@@ -10,7 +10,7 @@ use Rattle.lock_free.specs.declared.sizes.Sizes.{Sizes}
 use Rattle.lock_free.specs.Accounts.{HasWaited}
 use Rattle.lock_free.specs.Answers.{silent, talk_of}
 use Rattle.lock_free.specs.Loading.{HasSeen}
-use Rattle.lock_free.specs.Rules.{idle_view}
+use Rattle.lock_free.specs.Rules.{idle_view, no_slots}
 use Rattle.lock_free.specs.Telling.{history_of, GoesOn, IsExplainedSoFar}
 
 -- by a load that is no step the seat gives back whatever slots of the table it has; there are none
@@ -26,9 +26,13 @@ no_sizes = record { seats = 0; hash = Low; small = 0; medium = 0; wide = 0 }
 abbrev pub no_view : View
 no_view = idle_view no_sizes 0 0 (record { steps = []; names = []; owned = []; offers = [] })
 
--- what is left of the seat, by which no access is made
+-- the account without its offers, of which only who is in a call knows
+abbrev pub unoffered : Account → Account
+unoffered account = record account { offers = [] }
+
+-- what is left of the seat, by which no access is made: no slot is free for it, none is retired, and it holds no reference
 abbrev pub gone : View → View
-gone w = record w { sizes = no_sizes }
+gone w = record w { sizes = no_sizes; account = unoffered w.account; pool = no_slots; drafts = []; retired = []; owed = []; links = [] }
 
 -- what is known of it
 abbrev pub seen_by : View → Account → Heard
@@ -36,12 +40,12 @@ seen_by w account = record { actor = w.actor; last = w.last; account = account }
 
 -- a seat that has heard of it
 abbrev pub hearing : View → View → View
-hearing v w = record v { heard = seen_by w w.account ∷ v.heard }
+hearing v w = record v { heard = seen_by w (unoffered w.account) ∷ v.heard }
 
 -- It has heard of the seat, whose actor has taken no step since it had seen what it has.
 pub record HasHeard (v w : View) : Type 0 where
   pub account : Account
-  pub it : Contains v.heard (seen_by w account)
+  pub it : Contains v.heard (seen_by w (unoffered account))
   pub waited : HasWaited w.actor w.account account
 
 -- it is what it was, but for whom it has heard of: so of all before, and maybe of more

@@ -3,23 +3,31 @@ use Rattle.history.specs.declared.calls.Call.{Call}
 use Rattle.history.specs.declared.calls.Call.TheVariants.{Close}
 use Rattle.history.specs.declared.events.Event.TheVariants as event
 use Rattle.history.specs.declared.replies.Reply.TheVariants as reply
-use Rattle.std.specs.Prelude.{◌≡◌, ◌==◌, ◌+◌, ◌*◌, ◌≤◌, ◌⊎◌, ℕ, Bool, true, false, [], ◌∷◌, ◌++◌, Contains, Some, None}
+use Rattle.std.specs.Prelude.{◌≡◌, ◌==◌, ◌+◌, ◌*◌, ◌≤◌, ◌⊎◌, ℕ, Bool, true, false, List, [], ◌∷◌, ◌++◌, Contains, Option, Some, None}
 use Rattle.atomic_table.specs.Table.{Me, Step}
-use Rattle.trie_words.specs.Codes.{IsRootWord}
+use Rattle.trie_words.specs.Codes.{IsRootWord, root_code}
 use Rattle.trie_words.specs.declared.roots.RootWord.{RootWord}
 use Rattle.trie_words.specs.declared.roots.RootWord.TheVariants as word
+use Rattle.history.specs.declared.calls.Access.{Access}
 use Rattle.history.specs.declared.calls.Access.TheVariants.{Writable, ReadOnly}
+use Rattle.machine_model.specs.Beneath.slot_arena.specs.declared.refs.Ref.{Ref}
+use Rattle.machine_model.specs.Beneath.slot_arena.specs.Heaps.{node_at}
+use Rattle.machine_model.specs.declared.roots.RootWord.TheVariants.{Plain}
 use Rattle.machine_model.specs.States.{root_at}
 use Rattle.lock_free.specs.declared.accounts.Account.{Account}
 use Rattle.lock_free.specs.declared.accounts.Known.{Known}
+use Rattle.lock_free.specs.declared.reclaiming.Kind.TheVariants as kinds
 use Rattle.lock_free.specs.declared.rules.Closing.{Closing}
+use Rattle.lock_free.specs.declared.rules.Pinned.{Pinned}
 use Rattle.lock_free.specs.declared.rules.View.{View}
 use Rattle.lock_free.specs.declared.sizes.Sizes.{Sizes}
-use Rattle.lock_free.specs.Accounts.{state_of}
+use Rattle.lock_free.specs.Accounts.{place_of, state_of}
 use Rattle.lock_free.specs.Beginning.{closed_by}
-use Rattle.lock_free.specs.Loading.{IsSound, Saw, Waited}
-use Rattle.lock_free.specs.Places.{words_of, words_in, root_word}
-use Rattle.lock_free.specs.Roots.{SaysPlain}
+use Rattle.lock_free.specs.Counting.{IsInSlot}
+use Rattle.lock_free.specs.Loading.{now, IsSound, Saw, Waited}
+use Rattle.lock_free.specs.Places.{small_class, words_of, words_in, root_word}
+use Rattle.lock_free.specs.Reclaiming.{kind_of_node}
+use Rattle.lock_free.specs.Roots.{SaysPlain, open_with}
 use Rattle.lock_free.specs.SeatWords.{IsIdle, WouldClose}
 use Rattle.lock_free.specs.Telling.{history_of}
 
@@ -84,25 +92,44 @@ has_marked step before found after = ((handle : ℕ) → step.word ≡ root_word
 
 -- ---- a handle is closed
 
-abbrev pub once_closed : View → ℕ → Account → View
-once_closed v handle account = record v { account = closed_by v.actor handle account }
+-- who is pinned holds its root itself from then on
+abbrev pub owes_closed : Option Pinned → Ref → List Ref → List Ref
+owes_closed None root owed = owed
+owes_closed (Some pinned) root owed = root ∷ owed
 
--- the call that closes it has begun and ended, and so the history says
-pub record ShutBy (before : View) (handle : ℕ) (after : View) : Type 0 where
+abbrev pub once_closed : View → ℕ → Ref → Account → View
+once_closed v handle root account = record v { account = closed_by v.actor handle account; owed = owes_closed v.pin root v.owed }
+
+-- the slot of the root that an open handle's word names
+abbrev pub slot_named : RootWord → ℕ
+slot_named (word.Writable slot) = slot
+slot_named (word.ReadOnly slot) = slot
+slot_named (word.ClosingWritable slot seat) = slot
+slot_named (word.ClosingReadOnly slot seat) = slot
+slot_named w = 0
+
+-- the call that closes it has begun and ended, and so the history says; the root that it had is in the slot of this name
+pub record ShutBy (before : View) (handle name : ℕ) (after : View) : Type 0 where
   pub account : Account
   pub waited : Waited before account
-  pub after_is : after ≡ once_closed before handle account
+  pub access : Access
+  pub root : Ref
+  pub was : root_at (state_of before.sizes account) handle ≡ open_with access (Plain root)
+  pub place : name ≡ place_of account root
+  pub after_is : after ≡ once_closed before handle root account
   pub idle : IsIdle after
+  pub there : IsInSlot after root small_class name
+  pub its_kind : kind_of_node (node_at (now after).heap root) ≡ kinds.Indirection
   pub id : ℕ
   pub told : history_of after.sizes after.account ≡ history_of before.sizes account ++ event.Begin id before.actor (Close handle) None ∷ event.End id reply.Closed ∷ []
 
 -- or the word was another
-abbrev pub HasClosed : View → ℕ → Bool → View → Type 0
-HasClosed before handle closed after = (closed ≡ true → ShutBy before handle after) × (closed ≡ false → after ≡ before)
+abbrev pub HasClosed : View → ℕ → ℕ → Bool → View → Type 0
+HasClosed before handle name closed after = (closed ≡ true → ShutBy before handle name after) × (closed ≡ false → after ≡ before)
 
 abbrev pub has_closed : Step Call → Me Call View → ℕ → Me Call View → Type 0
 has_closed step before found after =
-    ((handle looked : ℕ) → WouldClose before.0 handle looked → HasClosed before.0 handle (found == step.first) after.0)
+    ((handle looked : ℕ) (w : RootWord) → WouldClose before.0 handle looked → IsRootWord w → step.first ≡ root_code w → HasClosed before.0 handle (slot_named w) (found == step.first) after.0)
     × (IsSound (words_of before.0.sizes) before.0 → IsSound (words_of before.0.sizes) after.0) × (after.1 ≡ before.1)
 
 -- ---- a mark is taken away, or another word is found

@@ -1,6 +1,5 @@
 -- How a program ends that is out of tries: the operation may give up, or its SWAP or COMPLETE is under way and goes on.
 use Rattle.std.specs.Prelude.{◌≡◌, ◌⊎◌, ℕ, Bool, true, false, List, [], Option, Some, None}
-use Rattle.arrayvec.specs.ArrayVec.{ArrayVec}
 use Rattle.history.specs.declared.calls.Call.{Call}
 use Rattle.history.specs.declared.replies.Reply.{Reply}
 use Rattle.history.specs.declared.replies.Reply.TheVariants as reply
@@ -17,23 +16,25 @@ use Rattle.machine_model.specs.declared.reading.SwapLine.TheVariants as swap
 use Rattle.machine_model.specs.declared.roots.CompleteLine.TheVariants as complete
 use Rattle.machine_model.specs.Calls.{handle_of}
 use Rattle.machine_model.specs.GivingUp.{given_up}
-use Rattle.trie_words.specs.declared.entries.Entry.{Entry}
 use Rattle.lock_free.specs.declared.cleaning.Cleaned.{Cleaned}
+use Rattle.lock_free.specs.declared.cleaning.CleanedEntries.{CleanedEntries}
 use Rattle.lock_free.specs.declared.leaving.Completing.{Completing}
 use Rattle.lock_free.specs.declared.leaving.Left.{Left}
 use Rattle.lock_free.specs.declared.leaving.Left.TheVariants as left
 use Rattle.lock_free.specs.declared.leaving.Swapping.{Swapping}
 use Rattle.lock_free.specs.declared.rules.View.{View}
-use Rattle.lock_free.specs.declared.swapping.Decided.{Decided}
+use Rattle.lock_free.specs.declared.reclaiming.Decided.{Decided}
 use Rattle.lock_free.specs.Calling.{cut_short}
 use Rattle.lock_free.specs.Entries.{HasStayed}
 use Rattle.lock_free.specs.GoingDown.{HasMoved}
 use Rattle.lock_free.specs.HandleWords.{HasOffer}
 use Rattle.lock_free.specs.Accounts.{IsOwn}
+use Rattle.lock_free.specs.Dropping.{AreDropped}
+use Rattle.lock_free.specs.LettingGo.{HoldsLeft}
 use Rattle.lock_free.specs.Loading.{now, Runs}
 use Rattle.lock_free.specs.Nodes.{class_of}
 use Rattle.lock_free.specs.Passing.{HasCome, IsFrom, IsPlaced}
-use Rattle.lock_free.specs.Reclaiming.{LaterRetiring}
+use Rattle.lock_free.specs.Reclaiming.{is_committed, AddsRetired, LaterRetiring}
 use Rattle.lock_free.specs.Repairing.{HasCleaned, HasCleanedAll}
 use Rattle.lock_free.specs.Rooting.{completing_of}
 use Rattle.lock_free.specs.RunningOn.{RunsOn}
@@ -91,6 +92,7 @@ pub record IsSwapOf (v : View) (why : Purpose) (i replaced made : Ref) (s : Swap
   pub old : IsPlaced v replaced s.replaced.slot
   pub owns : IsOwn v.account i replaced s.replaced.own
   pub class : class_of (node_at (now v).heap replaced) ≡ s.class
+  pub drops : AreDropped v replaced made s.drops
 
 pub record IsSwapLeft (v : View) (s : Swapping) : Type 0 where
   pub why : Purpose
@@ -108,10 +110,44 @@ pub record HasSwappedOn (before : View) (s next : Swapping) (after : View) : Typ
 
 -- it has come to its end
 pub record HasDecidedSwap (before : View) (s : Swapping) (result : Decided) (after : View) : Type 0 where
-  pub later : LaterRetiring (retired_by (swapped_by result)) before after
-  pub which : RetiresOwn s.replaced s.class (swapped_by result)
+  pub later : LaterRetiring before after
+  pub which : RetiresOwn s.replaced s.class s.fresh (swapped_by result)
   pub comes : (why : Purpose) (i replaced made : Ref) → IsSwapOf before why i replaced made s → (operation : Operation) → Runs before operation → Runs after
       (swap_done why (node_at (now before).heap made) (is_done (swapped_by result)) operation)
+
+-- ---- its last step
+
+-- its READ has come to its end: it is to look how its fresh main node was decided
+pub record IsCheckOf (v : View) (why : Purpose) (i replaced made : Ref) (s : Swapping) : Type 0 where
+  pub operation : Operation
+  pub runs : Runs v operation
+  pub none : operation.private ≡ []
+  pub line_is : operation.line ≡ line.Swap why (record { indirection = i; replaced = replaced; fresh = made; line = swap.Check })
+  pub fresh : IsPlaced v made s.fresh
+  pub old : IsPlaced v replaced s.replaced.slot
+  pub owns : IsOwn v.account i replaced s.replaced.own
+  pub class : class_of (node_at (now v).heap replaced) ≡ s.class
+  pub drops : AreDropped v replaced made s.drops
+
+pub record IsAtCheck (v : View) (s : Swapping) : Type 0 where
+  pub why : Purpose
+  pub i : Ref
+  pub replaced : Ref
+  pub made : Ref
+  pub its : IsCheckOf v why i replaced made s
+
+-- it has been taken
+pub record HasEndedSwap (before : View) (s : Swapping) (result : Decided) (after : View) : Type 0 where
+  pub later : LaterRetiring before after
+  pub which : RetiresOwn s.replaced s.class s.fresh (swapped_by result)
+  pub comes : (why : Purpose) (i replaced made : Ref) → IsCheckOf before why i replaced made s → (operation : Operation) → Runs before operation → Runs after
+      (swap_done why (node_at (now before).heap made) (is_done (swapped_by result)) operation)
+
+-- the seat has retired one slot more, or none, and lets go of nothing yet
+pub record HasCheckedOn (before : View) (s : Swapping) (result : Decided) (after : View) : Type 0 where
+  pub ended : HasEndedSwap before s result after
+  pub adds : AddsRetired (retired_by (swapped_by result)) before.retired after.retired
+  pub holds : (why : Purpose) (i replaced made : Ref) → IsCheckOf before why i replaced made s → HoldsLeft before s.replaced.own replaced made (is_committed result) after.owed
 
 -- it has begun, and is under way; the slots that were free for the seat, or retired, are so
 pub record HasLeftSwap (before : View) (s : Swapping) (after : View) : Type 0 where
@@ -186,6 +222,6 @@ abbrev pub CleanedOrNot : View → Option Cleaned → View → Type 0
 CleanedOrNot before (Some cleaned) after = HasCleaned before cleaned after
 CleanedOrNot before None after = IsSpent before after
 
-abbrev pub AllCleanedOrNot : View → Option (ArrayVec Entry × Bool) → View → Type 0
-AllCleanedOrNot before (Some (entries, changed)) after = HasCleanedAll before entries.items changed after
+abbrev pub AllCleanedOrNot : View → Option CleanedEntries → View → Type 0
+AllCleanedOrNot before (Some cleaned) after = HasCleanedAll before cleaned after
 AllCleanedOrNot before None after = IsSpent before after

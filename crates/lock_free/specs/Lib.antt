@@ -8,11 +8,18 @@ pub mod Trying
 pub mod Fates
 pub mod Owning
 pub mod Counts
+pub mod Claims
+pub mod OwesAt
+pub mod Reached
+pub mod Holdings
+pub mod Owing
 pub mod Links
 pub mod Counting
+pub mod TakenBack
 pub mod Rules
 pub mod Steps
 pub mod Loading
+pub mod LettingGo
 pub mod Making
 pub mod Publishing
 pub mod Deciding
@@ -23,6 +30,7 @@ pub mod Beginning
 pub mod Exchanging
 pub mod Storing
 pub mod OfferWords
+pub mod Outcomes
 pub mod HandleWords
 pub mod Closing
 pub mod Calling
@@ -31,6 +39,7 @@ pub mod RootOffers
 pub mod Numbers
 pub mod OfReads
 pub mod Passing
+pub mod Dropping
 pub mod Entries
 pub mod Swaps
 pub mod Rooting
@@ -43,6 +52,8 @@ pub mod Freeing
 pub mod Becoming
 pub mod Stocks
 pub mod SeenEntries
+pub mod SeenNames
+pub mod Raising
 pub mod Changing
 pub mod Halves
 pub mod BegunCalls
@@ -50,6 +61,7 @@ pub mod BuildingUp
 pub mod Updating
 pub mod GoingDown
 pub mod CopySteps
+pub mod CopyGifts
 pub mod Holding
 pub mod Descending
 pub mod LinkReads
@@ -76,8 +88,15 @@ pub mod SeatCalls
 pub mod WholeCalls
 pub mod UnderWay
 pub mod TriedCalls
+pub mod Scans
+pub mod ScanSeats
+pub mod Accesses
 pub mod KeyReplies
 pub mod NamedTries
 pub mod Naming
+pub mod Freed
 pub mod GetRuns
 pub mod KeyRuns
+pub mod Alone
+pub mod Watching
+pub mod Joining

@@ -19,7 +19,7 @@ HasRetiredSlot v class name = (x : Retired) × Contains v.retired x × (x.class 
 abbrev pub has_seen_link : Step Call → Me Call View → ℕ → Me Call View → Type 0
 has_seen_link step before found after = after ≡ (linking before.0 step.word (link_in found), before.1)
 
--- By adding to the high half of that word, where the seat knows what it is: so the count stays, whoever has changed it meanwhile.
+-- By adding to that word, where the seat knows what link it has: so the count stays, whoever has changed it meanwhile.
 abbrev pub has_linked : Step Call → Me Call View → ℕ → Me Call View → Type 0
 has_linked step before found after =
     ((old : ℕ) → Contains before.0.links (step.word, old) → link_in found ≡ old) × (after ≡ (linking before.0 step.word (link_in ((found + step.first) % 2 ^ 64)), before.1))

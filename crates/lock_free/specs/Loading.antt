@@ -28,7 +28,7 @@ use Rattle.lock_free.specs.declared.rules.View.{View}
 use Rattle.lock_free.specs.Accounts.{bounds_for, HasWaited, running, state_of, place_at, place_of, gone_on, IsOwn}
 use Rattle.lock_free.specs.Live.{at_hand}
 use Rattle.lock_free.specs.Nodes.{SaysPrevious, SaysShape, IsEntryOf, half_in, class_of}
-use Rattle.lock_free.specs.Places.{words_in, words_of}
+use Rattle.lock_free.specs.Places.{words_in, words_of, IsSlot}
 use Rattle.lock_free.specs.Rules.{IsFree, IsKept}
 
 -- All words, views and steps at the access, by which this was found in that word; the view is the seat's before it.
@@ -65,7 +65,7 @@ pub record IsSound (words : ℕ) (v : View) : Type 0 where
   pub bounds : AreBounds (bounds_for v.sizes v.account.steps)
   pub keys : KeysFit v.account.steps
   pub counted : length v.account.names ≡ (now v).heap.births
-  pub inside : (k : ℕ) (slot : Slot) → slice_index_or (now v).heap.slots k None ≡ Some slot → 2 * place_at v.account k + words_in (class_of slot.node) ≤ words_of v.sizes
+  pub inside : (k : ℕ) (slot : Slot) → slice_index_or (now v).heap.slots k None ≡ Some slot → IsSlot v.sizes (class_of slot.node) (place_at v.account k)
   -- and so are those that are free for the seat
   pub free : (class name : ℕ) → IsFree v class name → 2 * name + words_in class ≤ words_of v.sizes
 
@@ -216,6 +216,9 @@ SawOf Says before name after =
 
 abbrev pub HasSeenMain : View → ℕ → Header → View → Type 0
 HasSeenMain before name header after = SawOf (λ account state r. SaysMain account state r header) before name after
+
+abbrev pub HasSeenIndirection : View → ℕ → Link → View → Type 0
+HasSeenIndirection before name link after = SawOf (λ account state r. SaysLink account state r link) before name after
 
 abbrev pub HasSeenKey : View → ℕ → ℕ → View → Type 0
 HasSeenKey before name found after = SawOf (λ account state r. SaysKey state r found) before name after

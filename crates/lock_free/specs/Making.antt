@@ -36,6 +36,7 @@ use Rattle.lock_free.specs.Accounts.{bounds_for, state_of, place_of, running, Is
 use Rattle.lock_free.specs.Live.{IsLive}
 use Rattle.lock_free.specs.Trying.{SameTries}
 use Rattle.lock_free.specs.Nodes.{Has, IsAhead, AreEntries}
+use Rattle.lock_free.specs.Owing.{owes_then}
 use Rattle.lock_free.specs.Rules.{pool_of}
 
 -- where a main node that is made is swapped in next: in this indirection, over that main node
@@ -156,6 +157,6 @@ with_slots pool class rest =
 abbrev pub with_slot : Pool → ℕ → ℕ → Pool
 with_slot pool class name = with_slots pool class (pool_of pool class ++ name ∷ [])
 
--- the seat then: the node stands, and its slot isn't free any more
+-- the seat then: the node stands, and its slot isn't free any more; it holds the first reference to it, and no more those that it has
 abbrev pub made_by : View → ℕ → ℕ → List ℕ → Bool → Node → Account → View
-made_by v class name rest own node account = record v { account = made_at v.actor name own node account; pool = with_slots v.pool class rest; drafts = [] }
+made_by v class name rest own node account = record v { account = made_at v.actor name own node account; pool = with_slots v.pool class rest; drafts = []; owed = owes_then v account }

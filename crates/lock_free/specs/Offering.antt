@@ -14,11 +14,12 @@ use Rattle.machine_model.specs.Acting.{operation_after}
 use Rattle.machine_model.specs.Calls.{handle_of}
 use Rattle.machine_model.specs.Machine.{AreBounds}
 use Rattle.machine_model.specs.States.{State, operation_of, root_at}
+use Rattle.lock_free.specs.Owing.{owes_then}
 use Rattle.lock_free.specs.declared.accounts.Account.{Account}
 use Rattle.lock_free.specs.declared.accounts.Known.{Known}
 use Rattle.lock_free.specs.declared.rules.View.{View}
 use Rattle.lock_free.specs.declared.sizes.Sizes.{Sizes}
-use Rattle.lock_free.specs.Accounts.{bounds_for, state_of, place_of, HasStood, WasRoot}
+use Rattle.lock_free.specs.Accounts.{bounds_for, state_of, place_of, HasStood, MayBeFound}
 use Rattle.lock_free.specs.Live.{IsLive}
 use Rattle.lock_free.specs.Making.{with_slots}
 use Rattle.lock_free.specs.Nodes.{IsAhead}
@@ -30,7 +31,7 @@ pub record LeavesNodes (sizes : Sizes) (account after : Account) : Type 0 where
   pub nodes : (k : ℕ) → slice_index_or (state_of sizes after).heap.slots k None ≡ slice_index_or (state_of sizes account).heap.slots k None
   pub births : (state_of sizes after).heap.births ≡ (state_of sizes account).heap.births
   pub live : (r : Ref) → IsLive (state_of sizes after) r → IsLive (state_of sizes account) r
-  pub reached : (r : Ref) → WasRoot sizes after r → WasRoot sizes account r ⊎ IsLive (state_of sizes account) r
+  pub reached : (r : Ref) → MayBeFound sizes after r → MayBeFound sizes account r ⊎ IsLive (state_of sizes account) r
   pub generations : (state_of sizes after).generations ≡ (state_of sizes account).generations
   pub aheads : (i a f : Ref) → IsAhead (state_of sizes after) i a f → IsAhead (state_of sizes account) i a f
   pub still : (i a f : Ref) → IsAhead (state_of sizes account) i a f → IsAhead (state_of sizes after) i a f
@@ -85,4 +86,11 @@ pub record HasOwner (state : State) (offer : Descriptor) : Type 0 where
 -- ---- the seat then
 
 abbrev pub offered_by : View → ℕ → ℕ → List ℕ → Descriptor → Account → View
-offered_by v slot handle rest offer account = record v { account = offered_at v.actor slot handle offer account; pool = with_slots v.pool 1 rest; opening = None; drafts = [] }
+offered_by v slot handle rest offer account = record v {
+  account = offered_at v.actor slot handle offer account;
+  pool = with_slots v.pool 1 rest;
+  opening = None;
+  drafts = [];
+  owed =
+      owes_then v account;
+}

@@ -28,9 +28,9 @@ IsBuilding (line.Build (build.Link path main position below depth)) m = below �
 IsBuilding (line.Copy (copy.Cleared root main branch)) m = branch ≡ m
 IsBuilding l m = ⊥
 
--- an indirection that is made says of its main node that it is its own only so
+-- an indirection that is made says of its main node that it is its own if it is made so, and only then
 abbrev pub MayOwn : Line → Node → Bool → Type 0
-MayOwn l (Indirection generation main) own = own ≡ true → IsBuilding l main
+MayOwn l (Indirection generation main) own = (own ≡ true → IsBuilding l main) × (IsBuilding l main → own ≡ true)
 MayOwn l node own = Unit {0}
 
 -- the operation's next step brings the main node into the indirection

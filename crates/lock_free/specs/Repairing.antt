@@ -1,5 +1,5 @@
 -- RENEW and CLEAN go over the entries of a branch, one after another.
-use Rattle.std.specs.Prelude.{◌≡◌, ℕ, ◌==◌, Bool, true, false, not, List, [], ◌∷◌, ◌++◌, length, Option, Some, None}
+use Rattle.std.specs.Prelude.{◌≡◌, ◌⊎◌, ℕ, ◌==◌, Bool, true, false, not, if◌then◌else◌, List, [], ◌∷◌, ◌++◌, Contains, length, Option, Some, None}
 use Rattle.arrayvec.specs.ArrayVec.{ArrayVec}
 use Rattle.history.specs.declared.replies.Reply.{Reply}
 use Rattle.history.specs.declared.replies.Reply.TheVariants as reply
@@ -8,7 +8,7 @@ use Rattle.trie_words.specs.declared.links.Link.{Link}
 use Rattle.machine_model.specs.Beneath.slot_arena.specs.declared.refs.Ref.{Ref}
 use Rattle.machine_model.specs.Beneath.slot_arena.specs.declared.nodes.Node.TheVariants.{Branch}
 use Rattle.machine_model.specs.Beneath.slot_arena.specs.declared.nodes.Slot.{Slot}
-use Rattle.machine_model.specs.Beneath.slot_arena.specs.Heaps.{node_at}
+use Rattle.machine_model.specs.Beneath.slot_arena.specs.Heaps.{entries_of, node_at}
 use Rattle.machine_model.specs.declared.operations.Operation.{Operation}
 use Rattle.machine_model.specs.declared.finding.KeyLine.TheVariants as key
 use Rattle.machine_model.specs.declared.repairs.CleanLine.TheVariants as clean
@@ -23,8 +23,11 @@ use Rattle.machine_model.specs.Reading.{reading}
 use Rattle.machine_model.specs.Renewing.{renew_next, next_entry}
 use Rattle.machine_model.specs.States.{State}
 use Rattle.lock_free.specs.declared.cleaning.Cleaned.{Cleaned}
+use Rattle.lock_free.specs.declared.cleaning.CleanedEntries.{CleanedEntries}
 use Rattle.lock_free.specs.declared.renewing.Renewed.{Renewed}
 use Rattle.lock_free.specs.declared.renewing.Renewed.TheVariants as renewed
+use Rattle.lock_free.specs.declared.renewing.RenewedEntries.{RenewedEntries}
+use Rattle.lock_free.specs.declared.renewing.RenewedEntry.{RenewedEntry}
 use Rattle.lock_free.specs.declared.rules.View.{View}
 use Rattle.lock_free.specs.declared.swapping.Swapped.{Swapped}
 use Rattle.lock_free.specs.declared.swapping.Swapped.TheVariants.{Commits, Fails, Misses}
@@ -95,13 +98,25 @@ abbrev pub clean_end : List Ref → Ref → List Ref → Bool → Line
 clean_end path main done true = line.Clean (clean.Contracted path main done)
 clean_end path main done false = new_try
 
-pub record CleanedAll (before : View) (path : List Ref) (main : Ref) (entries : List Entry) (changed : Bool) (after : View) : Type 0 where
-  pub done : List Ref
-  pub come : HasComeTo (clean_end path main done changed) before after
-  pub names : AreEntriesTo after entries done
+-- the tombs' singles among those that are done, with the next one
+abbrev pub singles_with : List Entry → Cleaned → List Entry
+singles_with singles next = if next.is_changed then singles ++ next.entry ∷ [] else singles
 
-abbrev pub HasCleanedAll : View → List Entry → Bool → View → Type 0
-HasCleanedAll before entries changed after = (path : List Ref) (main : Ref) → IsOn before (line.Clean (clean.Main path main)) → CleanedAll before path main entries changed after
+abbrev pub any_changed : List Entry → Bool
+any_changed singles = not (length singles == 0)
+
+-- the nodes that come to the places of its entries are some of these, and tombs' singles
+pub record CleanedAll (before : View) (path : List Ref) (main : Ref) (cleaned : CleanedEntries) (after : View) : Type 0 where
+  pub done : List Ref
+  pub come : HasComeTo (clean_end path main done (any_changed cleaned.singles.items)) before after
+  pub names : AreEntriesTo after cleaned.entries.items done
+  pub freed : List Ref
+  pub freed_names : AreEntriesTo after cleaned.singles.items freed
+  pub among : (k : Ref) → Contains freed k → Contains done k
+  pub others : (k : Ref) → Contains done k → Contains freed k ⊎ Contains (entries_of (node_at (now before).heap main)) k
+
+abbrev pub HasCleanedAll : View → CleanedEntries → View → Type 0
+HasCleanedAll before cleaned after = (path : List Ref) (main : Ref) → IsOn before (line.Clean (clean.Main path main)) → CleanedAll before path main cleaned after
 
 -- ---- an operation that has no slot
 
@@ -113,18 +128,24 @@ pub record GivesUp (answer : Operation → Reply) (v w : View) : Type 0 where
 
 -- ---- an entry in a RENEW that makes an indirection
 
--- the node that has come to the place of the next entry
-pub record RenewedTo (before : View) (path : List Ref) (main : Ref) (done : List Ref) (result : Entry) (after : View) : Type 0 where
-  pub one : Ref
-  pub more : List Ref
-  pub become : HasBecome (λ o. record o { private = o.private ++ more; line = renew_next (now before) path main (done ++ one ∷ []) }) before after
-  pub names : unowned result ≡ entry_to after one
+-- its operation has made the node that comes to an entry's place, unless the entry is kept
+abbrev pub made_unless : Bool → Ref → List Ref
+made_unless true one = []
+made_unless false one = one ∷ []
 
-abbrev pub RenewedOrNot : View → List Ref → Ref → List Ref → Option Entry → View → Type 0
-RenewedOrNot before path main done (Some entry) after = RenewedTo before path main done entry after
+-- the node that has come to the place of the next entry
+pub record RenewedTo (before : View) (path : List Ref) (main : Ref) (done : List Ref) (result : RenewedEntry) (after : View) : Type 0 where
+  pub one : Ref
+  pub become :
+      HasBecome (λ o. record o { private = o.private ++ made_unless result.is_kept one; line = renew_next (now before) path main (done ++ one ∷ []) }) before after
+  pub names : unowned result.entry ≡ entry_to after one
+  pub stood : result.is_kept ≡ true → one ≡ next_entry (now before) main done
+
+abbrev pub RenewedOrNot : View → List Ref → Ref → List Ref → Option RenewedEntry → View → Type 0
+RenewedOrNot before path main done (Some next) after = RenewedTo before path main done next after
 RenewedOrNot before path main done None after = GivesUp (λ o. reply.NoSlots) before after
 
-abbrev pub HasRenewed : View → Option Entry → View → Type 0
+abbrev pub HasRenewed : View → Option RenewedEntry → View → Type 0
 HasRenewed before result after =
     (path : List Ref) (main : Ref) (done : List Ref) → IsOn before (line.Renew (renew.Entry path main done)) → RenewedOrNot before path main done result after
 
@@ -140,17 +161,22 @@ pub record IsRenewing (v : View) (entries : List Entry) : Type 0 where
   pub node : node_at (now v).heap main ≡ Branch bitmap refs
   pub names : AreEntriesTo v entries refs.items
 
-pub record RenewedAll (before : View) (path : List Ref) (main : Ref) (entries : List Entry) (after : View) : Type 0 where
+-- the nodes that have come to the places of all: each its operation has made, or it is kept
+pub record RenewedAll (before : View) (path : List Ref) (main : Ref) (result : RenewedEntries) (after : View) : Type 0 where
   pub done : List Ref
-  pub more : List Ref
-  pub become : HasBecome (λ o. record o { private = o.private ++ more; line = line.Renew (renew.Branch path main done) }) before after
-  pub names : AreEntriesTo after entries done
+  pub made : List Ref
+  pub kept : List Ref
+  pub become : HasBecome (λ o. record o { private = o.private ++ made; line = line.Renew (renew.Branch path main done) }) before after
+  pub names : AreEntriesTo after result.entries.items done
+  pub kept_names : AreEntriesTo after result.kept.items kept
+  pub each : (k : Ref) → Contains done k → Contains made k ⊎ Contains kept k
+  pub stood : (k : Ref) → Contains kept k → Contains (entries_of (node_at (now before).heap main)) k
 
-abbrev pub AllRenewedOrNot : View → List Ref → Ref → Option (ArrayVec Entry) → View → Type 0
-AllRenewedOrNot before path main (Some entries) after = RenewedAll before path main entries.items after
+abbrev pub AllRenewedOrNot : View → List Ref → Ref → Option RenewedEntries → View → Type 0
+AllRenewedOrNot before path main (Some all) after = RenewedAll before path main all after
 AllRenewedOrNot before path main None after = GivesUp (λ o. reply.NoSlots) before after
 
-abbrev pub HasRenewedAll : View → Option (ArrayVec Entry) → View → Type 0
+abbrev pub HasRenewedAll : View → Option RenewedEntries → View → Type 0
 HasRenewedAll before result after = (path : List Ref) (main : Ref) → IsOn before (line.Renew (renew.Entry path main [])) → AllRenewedOrNot before path main result after
 
 -- ---- a repair as a whole
@@ -207,7 +233,7 @@ RenewedBy before path renewed.Full after = GivesUp (λ o. reply.NoSlots) before 
 -- after its SWAP
 abbrev pub renewed_by : Swapped → Renewed
 renewed_by (Commits r) = renewed.Reads
-renewed_by Fails = renewed.Again
+renewed_by (Fails r) = renewed.Again
 renewed_by Misses = renewed.Again
 
 abbrev pub HasRenewedBranch : View → Renewed → View → Type 0

@@ -24,7 +24,7 @@ use Rattle.lock_free.specs.declared.asking.Named.TheVariants as named
 use Rattle.lock_free.specs.declared.offers.Fate.{Fate}
 use Rattle.lock_free.specs.declared.offers.Fate.TheVariants as fate
 use Rattle.lock_free.specs.declared.rules.View.{View}
-use Rattle.lock_free.specs.Accounts.{place_of, WasRoot}
+use Rattle.lock_free.specs.Accounts.{place_of, MayBeFound, WasRoot}
 use Rattle.lock_free.specs.Fates.{HasSettled, IsUnsettled}
 use Rattle.lock_free.specs.HandleWords.{HasOffer, HasOpening}
 use Rattle.lock_free.specs.Loading.{now, seen, Holds, IsAt, IsUsed, Saw, Went, SameSlots, HasSeen, HasGone, IsSound}
@@ -60,7 +60,7 @@ abbrev pub has_asked : Step Call → Me Call View → ℕ → Me Call View → T
 has_asked step before found after =
     LoadedAs (named_by (root_of found)) before.0 step.word found after.0 × IsSound (words_of before.0.sizes) after.0 × (after.1 ≡ before.1)
 
--- a root of some handle has stood in this slot, and stands there for ever
+-- a root of some handle has stood in this slot
 pub record IsRootAt (v : View) (r : Ref) (name : ℕ) : Type 0 where
   pub place : place_of v.account r ≡ name
   pub slot : Slot
@@ -70,6 +70,10 @@ pub record IsRootAt (v : View) (r : Ref) (name : ℕ) : Type 0 where
   pub is_link : slot.node ≡ Indirection generation main
   pub reached : WasRoot v.sizes v.account r
 
+-- it was a root since the seat's operation has begun, which runs still: so it stands there
+abbrev pub IsFound : View → Ref → Type 0
+IsFound v r = (h : MayBeFound v.sizes v.account r) × (h.actor ≡ v.actor)
+
 -- the root was this one when the step was taken
 pub record HasFoundRoot (before : View) (handle name : ℕ) (after : View) : Type 0 where
   pub went : Went before after
@@ -78,6 +82,7 @@ pub record HasFoundRoot (before : View) (handle name : ℕ) (after : View) : Typ
   pub is : root_at (now (seen before went.account)) handle ≡ open_with access (Plain root)
   pub same : SameSlots (now (seen before went.account)) (now after)
   pub at : IsRootAt after root name
+  pub found : IsFound after root
 
 abbrev pub HasAskedRoot : View → ℕ → Named → View → Type 0
 HasAskedRoot before handle (named.Root slot) after = HasFoundRoot before handle slot after
@@ -87,10 +92,10 @@ HasAskedRoot before handle named.Nothing after = Saw before after
 -- ---- a root's generation
 
 abbrev pub IsRootIn : View → ℕ → Type 0
-IsRootIn v name = (r : Ref) × IsRootAt v r name
+IsRootIn v name = (r : Ref) × IsRootAt v r name × IsFound v r
 
 abbrev pub HasSeenGeneration : View → ℕ → ℕ → View → Type 0
-HasSeenGeneration before name generation after = Saw before after × ((r : Ref) → IsRootAt before r name → generation_at (now after).heap r ≡ generation)
+HasSeenGeneration before name generation after = Saw before after × ((r : Ref) → IsRootAt before r name → IsFound before r → generation_at (now after).heap r ≡ generation)
 
 -- ---- the first word of an offer that stands there, or stood
 
@@ -145,6 +150,7 @@ HasSeenOlds before name pair after = (s : Saw before after) × ((k : Known) → 
 pub record SaysNews (before : View) (account : Account) (k : Known) (pair : Pair) : Type 0 where
   pub successor : IsPlaced (seen before account) k.offer.successor pair.low
   pub second : (r : Ref) → k.offer.second ≡ Some r → IsPlaced (seen before account) r pair.high
+  pub alone : k.offer.second ≡ None → pair.high ≡ 0
 
 abbrev pub HasSeenNews : View → ℕ → Pair → View → Type 0
 HasSeenNews before name pair after = (s : Saw before after) × ((k : Known) → Contains before.account.offers k → k.slot ≡ name → SaysNews before s.account k pair)

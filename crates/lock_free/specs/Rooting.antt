@@ -25,7 +25,7 @@ use Rattle.lock_free.specs.Fates.{HasSettled}
 use Rattle.lock_free.specs.Entries.{HasStayed}
 use Rattle.lock_free.specs.HandleWords.{HasOffer}
 use Rattle.lock_free.specs.Loading.{now, IsSound, Runs}
-use Rattle.lock_free.specs.OfferWords.{HasCompleted, outcome_by}
+use Rattle.lock_free.specs.OfferWords.{HasCompleted, IsAtComplete, outcome_by}
 use Rattle.lock_free.specs.Passing.{HasCome, IsOnWay, Later}
 use Rattle.lock_free.specs.Places.{words_of}
 use Rattle.lock_free.specs.RootWords.{IsRootAt}
@@ -63,6 +63,12 @@ pub record IsCompleting (v : View) (handle offer : ℕ) : Type 0 where
   pub runs : Runs v operation
   pub on : handle_of operation.call ≡ handle
   pub line : completing_of operation.line ≡ Some (completing its.its.offer)
+
+-- it has read the root's main node, and is to settle the offer, which is in this slot, by whether that is the expected one
+pub record HasReadExpected (before : View) (slot : ℕ) (expected : Bool) (after : View) : Type 0 where
+  pub main : Ref
+  pub come : HasCome (Gives main) before after
+  pub at : IsAtComplete after slot expected
 
 -- it has read the root's main node, and then settled the offer, or found it settled
 abbrev pub HasHelped : View → Bool → View → Type 0

@@ -15,7 +15,11 @@ use Rattle.lock_free.specs.declared.rules.Pool.{Pool}
 use Rattle.lock_free.specs.declared.rules.Retired.{Retired}
 use Rattle.proof_waiting.specs.Beneath.proof_slots.specs.Unswept.{HasNoSweeps}
 use Rattle.proof_garbage.specs.Grace.{HaveEnded}
-use Rattle.proof_reuse.specs.Laws.{HasReplaced, IsGarbage}
+use Rattle.proof_claims.specs.Claims.{held_of}
+use Rattle.proof_claims.specs.Dropped.{HasFailed}
+use Rattle.proof_claims.specs.Held.{is_owned}
+use Rattle.proof_claims.specs.Beneath.proof_reuse.specs.Laws.{HasReplaced, IsGarbage}
+use Rattle.lock_free.specs.TakenBack.{WasTakenBack}
 use Rattle.lock_free.specs.Live.{IsLive}
 use Rattle.machine_model.specs.Beneath.slot_arena.specs.declared.refs.Ref.{Ref}
 use Rattle.machine_model.specs.Beneath.slot_arena.specs.declared.nodes.Slot.{Slot}
@@ -32,13 +36,13 @@ use Rattle.lock_free.specs.declared.accounts.Account.{Account}
 use Rattle.lock_free.specs.declared.accounts.Known.{Known}
 use Rattle.lock_free.specs.declared.rules.View.{View}
 use Rattle.lock_free.specs.declared.sizes.Sizes.{Sizes}
-use Rattle.lock_free.specs.Counts.{AreCounted}
+use Rattle.lock_free.specs.Holdings.{AreHeld}
 use Rattle.lock_free.specs.Links.{AreLinked}
-use Rattle.lock_free.specs.Accounts.{bounds_for, state_of, place_at, HasGrown, HasWaited, HasStood, WasRoot}
+use Rattle.lock_free.specs.Accounts.{bounds_for, state_of, place_at, HasGrown, HasWaited, HasStood, MayBeFound}
 use Rattle.lock_free.specs.Fates.{TellsFate}
 use Rattle.lock_free.specs.Nodes.{StandsAs, InTable, AreOwners, class_of}
 use Rattle.lock_free.specs.Owning.{AreOwn, IsOwnBy}
-use Rattle.lock_free.specs.Places.{AreSizes, branch_slot, root_slot, words_of, words_in, IsTaken, HaveTaken, epoch_word, generation_word, pin_word, root_word}
+use Rattle.lock_free.specs.Places.{AreSizes, branch_slot, root_slot, words_of, words_in, IsSlot, IsTaken, HaveTaken, epoch_word, generation_word, pin_word, root_word}
 use Rattle.lock_free.specs.Roots.{MeansRoot, IsWritten, NoOffer, AreMarked, IsPending, fate, undecided}
 
 -- nothing has happened yet: there are the first branch and the root over it
@@ -49,6 +53,9 @@ first_account sizes = record {
   owned = record { holder = 1; held = 0; is_own = true } ∷ [];
   offers = [];
 }
+
+abbrev pub no_slots : Pool
+no_slots = record { small = []; medium = []; wide = [] }
 
 -- the view of a seat that has these actors and no slots, and makes no call
 abbrev pub idle_view : Sizes → ℕ → ℕ → Account → View
@@ -65,11 +72,12 @@ idle_view sizes actor last account = record {
   passed = 0;
   opens = None;
   opening = None;
-  pool = record { small = []; medium = []; wide = [] };
+  pool = no_slots;
   drafts = [];
   retired = [];
   owed = [];
   links = [];
+  plain = [];
   heard = [];
 }
 
@@ -99,13 +107,13 @@ pub record NodesStand (sizes : Sizes) (account : Account) (stands : Standing) (w
   pub written : (k : ℕ) (slot : Slot) → Stands stands (state_of sizes account) k slot →
       StandsAs account (state_of sizes account) (InTable words) (place_at account k) k slot slot.node
   -- the slot of what is in use is one of the table, whether it stands there still or not
-  pub inside : (k : ℕ) (slot : Slot) → slice_index_or (state_of sizes account).heap.slots k None ≡ Some slot → 2 * place_at account k + words_in (class_of slot.node) ≤ words_of sizes
+  pub inside : (k : ℕ) (slot : Slot) → slice_index_or (state_of sizes account).heap.slots k None ≡ Some slot → IsSlot sizes (class_of slot.node) (place_at account k)
   pub owners : AreOwners account (state_of sizes account)
   pub owned : AreOwn sizes account
   -- what a root or an operation leads to stands there
   pub live : (r : Ref) → IsLive (state_of sizes account) r → stands (slot_of r) ≡ true
-  -- and what was a root once
-  pub reached : (r : Ref) → WasRoot sizes account r → stands (slot_of r) ≡ true
+  -- and what was a root since an operation has begun that runs still
+  pub reached : (r : Ref) → MayBeFound sizes account r → stands (slot_of r) ≡ true
 
 -- ---- handles
 
@@ -183,6 +191,22 @@ pub record Names (words : List ℕ) (v : View) (handle slot : ℕ) : Type 0 wher
   pub is : slice_index words (root_word handle) ≡ root_code (word.Opening slot)
   pub free : IsFree v 1 slot
 
+-- ---- handles whose words name no offer
+
+abbrev pub RunsNothing : State → Type 0
+RunsNothing state = (actor : ℕ) → operation_of state actor ≡ None
+
+-- the word names the offer in this slot
+abbrev pub NamesOffer : ℕ → ℕ → Type 0
+NamesOffer found slot =
+    (IsRootWord (word.Offered slot) × (found ≡ root_code (word.Offered slot))) ⊎ (IsRootWord (word.Opening slot) × (found ≡ root_code (word.Opening slot)))
+
+-- When so many operations had begun nothing ran, and the handle's word named no offer: it names none until the next one begins.
+pub record IsPlainSo (sizes : Sizes) (account : Account) (words : List ℕ) (d : ℕ × ℕ) : Type 0 where
+  pub low : d.0 < handle_limit
+  pub begun : d.1 ≤ (state_of sizes account).begun
+  pub plain : d.1 ≡ (state_of sizes account).begun → RunsNothing (state_of sizes account) × ((slot : ℕ) → NamesOffer (slice_index words (root_word d.0)) slot → ⊥)
+
 -- ---- slots that were retired
 
 -- The node was an indirection's own main node, in whose place a SWAP put another one; the last step of this SWAP retired it.
@@ -194,15 +218,29 @@ pub record WasReplaced (sizes : Sizes) (x : Retired) (m : Ref) : Type 0 where
   pub fresh : Ref
   pub replaced : HasReplaced (run (bounds_for sizes before) before) actor link m fresh
   pub own : IsOwnBy sizes x.account (slot_of link) (slot_of m)
+  pub owned : is_owned (held_of (bounds_for sizes before) before) link m ≡ true
+
+-- The node was a fresh main node that a SWAP had swapped in, and that was refused; the last step of this SWAP retired it.
+pub record WasRefused (sizes : Sizes) (x : Retired) (f : Ref) : Type 0 where
+  pub before : List Step
+  pub actor : ℕ
+  pub goes_on : x.account.steps ≡ before ++ step.Go actor ∷ []
+  pub link : Ref
+  pub over : Ref
+  pub failed : HasFailed (run (bounds_for sizes before) before) actor link over f
+
+-- so that step let go of it
+pub data WasLetGo (sizes : Sizes) (x : Retired) (m : Ref) : Type 0 where
+  by_commit : WasReplaced sizes x m → WasLetGo sizes x m
+  by_refusal : WasRefused sizes x m → WasLetGo sizes x m
+  by_outcome : WasTakenBack sizes x m → WasLetGo sizes x m
 
 -- when the seat retired the slot its node was garbage, and stood there
 pub record WasGarbage (sizes : Sizes) (x : Retired) : Type 0 where
   pub node : Ref
   pub number : slot_of node ≡ x.number
   pub garbage : IsGarbage (state_of sizes x.account) node
-  pub replaced : WasReplaced sizes x node
-  -- roots aren't retired: who has found one may look at it later
-  pub unrooted : ¬ WasRoot sizes x.account node
+  pub let_go : x.deep ≡ false → WasLetGo sizes x node
   pub slot : Slot
   pub stored : slice_index_or (state_of sizes x.account).heap.slots x.number None ≡ Some slot
   pub class : class_of slot.node ≡ x.class
@@ -243,6 +281,7 @@ pub record IsSeat (sizes : Sizes) (account : Account) (stands : Standing) (words
   pub spare : (class name : ℕ) → IsFree v class name → IsTaken sizes words class name × IsSpare sizes account stands name
   pub once : (class : ℕ) → class < 3 → Once (pool_of v.pool class)
   pub drafts : (d : ℕ × ℕ) → Contains v.drafts d → AreDrafts words v d
+  pub plain : (d : ℕ × ℕ) → Contains v.plain d → IsPlainSo sizes account words d
 
 -- the actor is one of the seat's
 abbrev pub HasActor : View → ℕ → Type 0
@@ -293,10 +332,11 @@ pub record IsKept (sizes : Sizes) (s : Table.State Call View) : Type 0 where
   pub pools : (i j : ℕ) (v w : View) (b c name : ℕ) → get_elem? s.views i ≡ some v → get_elem? s.views j ≡ some w → IsFree v b name → IsFree w c name → i ≡ j
   pub numbers : (i j : ℕ) (v w : View) (handle : ℕ) → get_elem? s.views i ≡ some v → get_elem? s.views j ≡ some w → Reserves (state_of sizes account) v handle → Reserves
       (state_of sizes account) w handle → i ≡ j
+  pub held : AreHeld sizes account stands s.words s.views
 
 -- ---- seats that were given up
 
--- It was given up after it had seen this.
+-- It was given up after it had seen this. No slot is free for it, it has retired none, it knows of no offer, and it holds no reference.
 pub record WasGivenUp (views : List View) (h : Heard) : Type 0 where
   pub id : ℕ
   pub view : View
@@ -305,6 +345,7 @@ pub record WasGivenUp (views : List View) (h : Heard) : Type 0 where
   pub actor : view.actor ≡ h.actor
   pub last : view.last ≡ h.last
   pub account : view.account ≡ h.account
+  pub bare : (view.pool ≡ no_slots) × (view.retired ≡ []) × (view.account.offers ≡ []) × (view.owed ≡ [])
 
 -- ---- the epoch
 
@@ -340,11 +381,20 @@ pub record AreRetired (sizes : Sizes) (words : List ℕ) (views : List View) : T
   pub once : (id : ℕ) (v : View) → get_elem? views id ≡ some v → Once (map (λ (x : Retired). x.number) v.retired)
   pub apart : (i j : ℕ) (v w : View) → get_elem? views i ≡ some v → get_elem? views j ≡ some w → (x y : Retired) → Contains v.retired x → Contains w.retired y → x.number ≡ y.number → i ≡ j
 
+-- ---- references that seats hold themselves
+
+pub record AreOwed (views : List View) : Type 0 where
+  -- who holds one is pinned
+  pub pinned : (id : ℕ) (v : View) → get_elem? views id ≡ some v → (k : Ref) → Contains v.owed k → (pinned : Pinned) × (v.pin ≡ Some pinned)
+  -- in the epoch in which the node was retired, if it was, or the next one at most: so its slot isn't free yet
+  pub early : (i j : ℕ) (v w : View) → get_elem? views i ≡ some v → get_elem? views j ≡ some w → (x : Retired) (k : Ref) → Contains v.retired x → Contains w.owed k → x.number ≡ slot_of k →
+      (pinned : Pinned) → w.pin ≡ Some pinned → pinned.since ≤ x.stamp + 1
+
 -- all of it, and that whom a seat has heard of makes no access any more
 pub record IsRuled (sizes : Sizes) (s : Table.State Call View) : Type 0 where
   pub kept : IsKept sizes s
   pub epochs : AreEpochs s.words s.views
   pub retired : AreRetired sizes s.words s.views
-  pub counted : AreCounted sizes s.words s.views
+  pub owed : AreOwed s.views
   pub linked : AreLinked sizes s.words s.views
   pub heard : (id : ℕ) (v : View) → get_elem? s.views id ≡ some v → (h : Heard) → Contains v.heard h → WasGivenUp s.views h

@@ -25,8 +25,9 @@ IsIdle v = operation_of (now v) v.actor ≡ None
 
 -- ---- the exchange by which a seat pins itself for a call
 
+-- who wasn't pinned held nothing itself
 abbrev pub pinned_for : View → Pinned → Call → View
-pinned_for v pinned call = record v { pin = Some pinned; asks = Some call; entered = None }
+pinned_for v pinned call = record v { pin = Some pinned; asks = Some call; entered = None; owed = [] }
 
 abbrev pub HasPinned : Me Call View → Pin → Call → Me Call View → Type 0
 HasPinned before pin call after = (pinned : Pinned) × (pinned.pin ≡ pin) × (after ≡ (pinned_for before.0 pinned call, before.1))
@@ -36,8 +37,9 @@ has_pinned step before found after = (pin : Pin) (call : Call) → pin_of step.s
 
 -- ---- the store of 0 by which it goes out of one that it hasn't begun
 
+-- what it held itself is counted still, and held by nobody
 abbrev pub unpinned : View → View
-unpinned v = record v { pin = None; entered = None }
+unpinned v = record v { pin = None; entered = None; owed = [] }
 
 abbrev pub has_unpinned : Step Call → Me Call View → ℕ → Me Call View → Type 0
 has_unpinned step before found after = after ≡ (unpinned before.0, before.1)
@@ -53,8 +55,9 @@ abbrev pub left_by : Bool → Option ℕ → Option ℕ
 left_by true number = None
 left_by false number = number
 
+-- what the seat held itself is counted still, and held by nobody
 abbrev pub once_ended : View → Bool → Account → View
-once_ended v mark account = record v { account = gone_on v.actor account; pin = None; entered = None; opens = left_by mark v.opens; opening = None }
+once_ended v mark account = record v { account = gone_on v.actor account; pin = None; entered = None; opens = left_by mark v.opens; opening = None; owed = [] }
 
 -- it has ended with this answer, and so the history says
 pub record HasEnded (before : View) (answer : Reply) (after : View) : Type 0 where

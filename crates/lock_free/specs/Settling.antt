@@ -8,6 +8,7 @@ use Rattle.machine_model.specs.States.{operation_of, root_at, handle_limit}
 use Rattle.lock_free.specs.declared.accounts.Account.{Account}
 use Rattle.lock_free.specs.declared.accounts.Known.{Known}
 use Rattle.lock_free.specs.declared.sizes.Sizes.{Sizes}
+use Rattle.machine_model.specs.Acting.{operation_after}
 use Rattle.lock_free.specs.Accounts.{state_of, gone_on}
 use Rattle.lock_free.specs.Fates.{IsSettled}
 use Rattle.lock_free.specs.Offering.{LeavesNodes}
@@ -25,3 +26,5 @@ pub record Settles (sizes : Sizes) (account : Account) (actor n : ℕ) (operatio
   pub own : operation_of (state_of sizes (gone_on actor account)) actor ≡ Some next
   pub same_call : next.call ≡ operation.call
   pub same_opens : next.opens ≡ operation.opens
+  pub keeps : next.private ≡ (operation_after (state_of sizes account) operation).private
+  pub line : next.line ≡ (operation_after (state_of sizes account) operation).line

@@ -78,9 +78,13 @@ most_kept = 128
 abbrev pub AreFew : Pool → List OwnNode → Type 0
 AreFew pool made = (class : ℕ) → length (pool_of pool class) + length made ≤ most_kept
 
--- there is room for so many more
+-- there is room for so many more of this class
+abbrev pub HasRoomFor : Stocked → ℕ → ℕ → Type 0
+HasRoomFor stock class more = length (pool_of stock.pool class) + length stock.made + more ≤ most_kept
+
+-- or of any
 abbrev pub HasRoom : Stocked → ℕ → Type 0
-HasRoom stock more = (class : ℕ) → length (pool_of stock.pool class) + length stock.made + more ≤ most_kept
+HasRoom stock more = (class : ℕ) → HasRoomFor stock class more
 
 -- the last one of the class is free no more
 abbrev pub IsPopped : Pool → ℕ → Option ℕ → Pool → Type 0

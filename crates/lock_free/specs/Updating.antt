@@ -17,10 +17,9 @@ use Rattle.lock_free.specs.declared.reading.Given.{Given}
 use Rattle.lock_free.specs.declared.rules.View.{View}
 use Rattle.lock_free.specs.declared.swapping.Swapped.{Swapped}
 use Rattle.lock_free.specs.declared.swapping.Swapped.TheVariants.{Commits, Fails, Misses}
-use Rattle.lock_free.specs.Becoming.{HasBecome}
+use Rattle.lock_free.specs.Becoming.{HasBecome, HasRested}
 use Rattle.lock_free.specs.BuildingUp.{HasStopped, IsAtSingle}
 use Rattle.lock_free.specs.Changing.{IsChanging}
-use Rattle.lock_free.specs.Entries.{HasStayed}
 use Rattle.lock_free.specs.Holding.{IsOn}
 use Rattle.lock_free.specs.Passing.{IsPlaced, KnowsLink}
 
@@ -33,7 +32,7 @@ IsAtUpdate v by given place former indirection = (at : IsAtSingle v by given pla
 -- it is answered, or begins a new try; nothing is its own any more
 abbrev pub updated : Option ℕ → Swapped → Operation → Operation
 updated former (Commits r) o = record o { private = []; line = climbed o former }
-updated former Fails o = record o { private = []; line = new_try }
+updated former (Fails r) o = record o { private = []; line = new_try }
 updated former Misses o = record o { private = []; line = new_try }
 
 -- or no slot was had
@@ -56,12 +55,12 @@ changed_to path former c o = climbed o former
 
 abbrev pub changed_by : List Ref → Option ℕ → Change → Swapped → Operation → Operation
 changed_by path former c (Commits r) o = record o { private = []; line = changed_to path former c o }
-changed_by path former c Fails o = record o { private = []; line = new_try }
+changed_by path former c (Fails r) o = record o { private = []; line = new_try }
 changed_by path former c Misses o = record o { private = []; line = new_try }
 
 -- or no slot was had
 abbrev pub HasChangedBy : View → List Ref → Option ℕ → Change → Option Swapped → View → Type 0
-HasChangedBy before path former c None after = HasStayed before after
+HasChangedBy before path former c None after = HasRested before after
 HasChangedBy before path former c (Some result) after = HasBecome (changed_by path former c result) before after
 
 abbrev pub HasChanged : View → Option Swapped → View → Type 0

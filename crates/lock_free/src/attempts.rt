@@ -238,7 +238,7 @@ fn entomb(
             single,
             Some(former),
         )),
-        Swapped::Fails => Attempt::Again,
+        Swapped::Fails(_) => Attempt::Again,
         Swapped::Misses => Attempt::Again,
     }
 }

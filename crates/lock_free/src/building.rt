@@ -1,15 +1,22 @@
 //! BUILD: the nodes that a change of one key makes, up to the main node that is to be swapped in.
 
-ghost use Rattle.std.specs.Prelude.{◌≡◌, ◌<◌};
-ghost use Rattle.lock_free.specs.BuildingUp.{by_rising, HasBuiltSingle, HasEdit, HasLinked, HasPaired, IsAtLink, IsAtPair, IsAtSingle, IsAtSite, MakesPair, MakesRung};
+ghost use Rattle.std.specs.Prelude.{◌≡◌, ◌<◌, true, IfSome};
+ghost use Rattle.lock_free.specs.BuildingUp.{by_rising, drops_at, HasBuiltSingle, HasEdit, HasLinked, HasPaired, IsAtLink, IsAtPair, IsAtSingle, IsAtSite, MakesPair, MakesRung};
+ghost use Rattle.lock_free.specs.declared.reclaiming.Kind.TheVariants as kinds;
+ghost use Rattle.lock_free.specs.Changing.{drops_of, HasBuilt};
 ghost use Rattle.lock_free.specs.Loading.{IsSound};
+ghost use Rattle.lock_free.specs.Owing.{HoldsRaised};
+ghost use Rattle.lock_free.specs.Raising.{MayHoldOne};
 ghost use Rattle.lock_free.specs.SeenEntries.{HasMadeNext};
 ghost use Rattle.lock_free.specs.Stocks.{IsStock};
 
 use crate::changing::{Edit, build_main};
+use crate::leaving::Drops;
 use crate::loads::{Actor, Words, see_entry, see_key};
 use crate::makes::{make_branch, make_link, make_list, make_single};
+use crate::raising::{raise, release};
 use crate::reading::Given;
+use crate::reclaiming::Kind;
 use crate::stock::Stock;
 use machine_model::Site;
 use nodes::{HashKind, flag_of, index_in, list_depth, parting};
@@ -30,6 +37,17 @@ pub struct Builder {
     pub start: u64,
     /// The depth of the last indirection on the way: the root's is 0.
     pub depth: usize,
+}
+
+/// What of the entries before isn't among the new ones, where a new single comes to this place.
+pub fn drops_at(site: Site) -> Drops
+    ensures { result ≡ drops_at site }
+{
+    match site {
+        Site::Absent => Drops::Nothing,
+        Site::At { position } => Drops::At(position),
+        Site::Beside { position } => Drops::At(position),
+    }
 }
 
 /// Makes a single of the key and its new value, and what leads to it, up to the main node that is to take the place of this one.
@@ -96,6 +114,7 @@ fn edit_for(
     ensures sound { IsSound words.now.table_id.words actor.new.me.0 }
     ensures stock { IsStock stock.new actor.new.me.0 }
     ensures edit { HasEdit actor.old.me.0 site former result actor.new.me.0 }
+    ensures drops { IfSome result (λ change. drops_of change ≡ drops_at site) }
 {
     match site {
         Site::Absent => Some(Edit::Insert(single)),
@@ -139,6 +158,7 @@ fn make_pair(
     requires sound { IsSound words.now.table_id.words actor.old.me.0 }
     requires stock { IsStock stock.old actor.old.me.0 }
     requires making { MakesPair actor.old.me.0 by depth old_hash old single }
+    requires raised { HoldsRaised actor.old.me.0 }
     ensures table { actor.new.table_id ≡ actor.old.table_id }
     ensures sound { IsSound words.now.table_id.words actor.new.me.0 }
     ensures stock { IsStock stock.new actor.new.me.0 }
@@ -151,6 +171,40 @@ fn make_pair(
     let entries = by_index(old_index, index_in(by.hash, depth), old, single);
     let bitmap = flag_of(old_hash, depth) | flag_of(by.hash, depth);
     make_branch(tries, words, actor, stock, bitmap, &entries, Previous::None)
+}
+
+/// The same, where the seat counts a reference to the old single before, which stands in a main node above.
+fn make_shared_pair(
+    tries: u64,
+    words: &Words,
+    actor: &mut Actor,
+    stock: &mut Stock,
+    by: Builder,
+    depth: usize,
+    old_hash: u64,
+    old: Entry,
+    single: Entry,
+) -> Option<u32>
+    requires table { actor.old.table_id ≡ words.now.table_id }
+    requires sound { IsSound words.now.table_id.words actor.old.me.0 }
+    requires stock { IsStock stock.old actor.old.me.0 }
+    requires making { MakesPair actor.old.me.0 by depth old_hash old single }
+    requires holds { MayHoldOne actor.old.me.0 kinds.Single 0 old.slot }
+    ensures table { actor.new.table_id ≡ actor.old.table_id }
+    ensures sound { IsSound words.now.table_id.words actor.new.me.0 }
+    ensures stock { IsStock stock.new actor.new.me.0 }
+    ensures built { HasBuilt actor.old.me.0 result actor.new.me.0 }
+{
+    if !raise(tries, words, actor, &stock.sizes(), 0, old.slot) {
+        return None;
+    }
+    match make_pair(tries, words, actor, stock, by, depth, old_hash, old, single) {
+        Some(slot) => Some(slot),
+        None => {
+            release(words, actor, stock, Kind::Single, 0, old.slot);
+            None
+        }
+    }
 }
 
 /// Makes a branch whose one entry is the indirection in this slot.
@@ -166,6 +220,7 @@ fn make_rung(
     requires sound { IsSound words.now.table_id.words actor.old.me.0 }
     requires stock { IsStock stock.old actor.old.me.0 }
     requires making { MakesRung actor.old.me.0 flag link }
+    requires raised { HoldsRaised actor.old.me.0 }
     ensures table { actor.new.table_id ≡ actor.old.table_id }
     ensures sound { IsSound words.now.table_id.words actor.new.me.0 }
     ensures stock { IsStock stock.new actor.new.me.0 }
@@ -210,7 +265,8 @@ fn lead(
 
 /// The name of a main node that is its indirection's own.
 fn owned(slot: u32) -> Name
-    ensures { result.slot ≡ slot }
+    ensures slot { result.slot ≡ slot }
+    ensures own { result.own ≡ true }
 {
     Name { slot, own: true }
 }
@@ -239,6 +295,6 @@ fn build_beside(
     let old_hash = by.hashes.hash(see_key(words, actor, old.slot));
     let most = list_depth(by.hashes);
     let depth = parting(old_hash, by.hash, by.depth + 1, most);
-    let main = make_pair(tries, words, actor, stock, by, depth, old_hash, old, single)?;
+    let main = make_shared_pair(tries, words, actor, stock, by, depth, old_hash, old, single)?;
     lead(tries, words, actor, stock, by, depth, main)
 }

@@ -18,11 +18,12 @@ ghost use Rattle.lock_free.specs.WholeCalls.{RestsWith};
 use crate::beginning::{begin_call, begin_call_within};
 use crate::call_errors::CallError;
 use crate::copy_runs::{is_copy, run_tried};
+use crate::freeing::{let_go, tidy};
 use crate::loads::{Actor, Words};
 use crate::parking::{Came, Parked, go_on};
 use crate::reading::Way;
 use crate::seating::end_with;
-use crate::stock::{Stock, tidy};
+use crate::stock::Stock;
 use history::{Access, Call, Reply};
 use std::sync::Wait;
 
@@ -97,6 +98,7 @@ pub(crate) fn finish_call(
     ensures stock { IsStock stock.new actor.new.me.0 }
     ensures finished { HasFinished actor.old.me.0 call result actor.new.me.0 }
 {
+    let_go(words, actor, stock);
     let reply = end_with(words, actor, stock, seat, answered);
     let told = told_of(stock, call, reply);
     tidy(words, actor, stock);

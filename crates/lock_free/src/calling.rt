@@ -204,7 +204,8 @@ pub fn start<R: Wait>(
 }
 
 /// Lets the operation of this seat give up, where nothing of its own is published and pending: from then on it is to end, as one that
-/// found no free slot, or, in a climb, with the answer that it has already. What it made is free for the seat again.
+/// found no free slot, or, in a climb, with the answer that it has already. What it made is free for the seat again, and the seat holds what
+/// that held of others.
 pub fn give_up(words: &Words, actor: &mut Actor)
     requires table { actor.old.table_id ≡ words.now.table_id }
     requires sound { IsSound words.now.table_id.words actor.old.me.0 }

@@ -2,18 +2,19 @@
 
 ghost use Rattle.std.specs.Prelude.{◌≡◌, ◌<◌};
 ghost use Rattle.trie_words.specs.declared.headers.Shape.TheVariants as shape;
-ghost use Rattle.lock_free.specs.Changing.{edited_bitmap, CanEdit, HasBuilt, IsChanging, IsNoTomb};
+ghost use Rattle.lock_free.specs.Changing.{brought, drops_of, edited_bitmap, CanEdit, HasBuilt, IsChanging, IsNoTomb};
 ghost use Rattle.lock_free.specs.Halves.{halves_edited, FitsHalf};
 ghost use Rattle.lock_free.specs.Loading.{IsSound};
 ghost use Rattle.lock_free.specs.Stocks.{IsStock};
 
 use crate::entries::see_halves;
+use crate::leaving::Drops;
 use crate::loads::{Actor, Words};
-use crate::makes::{make_branch_of, make_list_of, make_tomb};
+use crate::replacing::{make_branch_over, make_list_over, make_tomb_over};
 use crate::stock::Stock;
 use arrayvec::ArrayVec;
 use nodes::position_of;
-use trie_words::{Entry, Name, Previous, Shape};
+use trie_words::{Entry, Name, Shape};
 
 /// A change of the entries of a main node.
 #[derive(Clone, Copy, Drop)]
@@ -42,6 +43,29 @@ fn apply(halves: &mut ArrayVec<u32, 32>, place: usize, change: Edit)
             halves.remove(position);
         }
         Edit::Entomb(_) => {}
+    }
+}
+
+/// What of the entries before isn't among the new ones after this change.
+pub fn drops_of(change: Edit) -> Drops
+    ensures { result ≡ drops_of change }
+{
+    match change {
+        Edit::Insert(_) => Drops::Nothing,
+        Edit::Update(position, _) => Drops::At(position),
+        Edit::Remove(position) => Drops::At(position),
+        Edit::Entomb(_) => Drops::Others,
+    }
+}
+
+/// Where the new entry stands after this change, if there is one.
+fn brought(place: usize, change: Edit) -> Option<usize>
+    ensures { result ≡ brought place change }
+{
+    match change {
+        Edit::Insert(_) => Some(place),
+        Edit::Update(position, _) => Some(position),
+        _ => None,
     }
 }
 
@@ -82,16 +106,18 @@ fn build_branch(
     let count = bitmap.count_ones() as usize;
     let mut halves = ArrayVec::new();
     see_halves(words, actor, main.slot, count, main.own, &mut halves);
-    apply(&mut halves, position_of(flag, bitmap), change);
+    let place = position_of(flag, bitmap);
+    apply(&mut halves, place, change);
     let bitmap = edited_bitmap(bitmap, flag, change);
-    make_branch_of(
+    make_branch_over(
         tries,
         words,
         actor,
         stock,
         bitmap,
         &halves,
-        Previous::Pending(main),
+        brought(place, change),
+        main,
     )
 }
 
@@ -128,8 +154,15 @@ fn build_list(
         &mut halves,
     );
     apply(&mut halves, count as usize, change);
-    let over = Previous::Pending(main);
-    make_list_of(tries, words, actor, stock, &halves, over)
+    make_list_over(
+        tries,
+        words,
+        actor,
+        stock,
+        &halves,
+        brought(count as usize, change),
+        main,
+    )
 }
 
 /// Makes the main node that comes from the one of this name and shape by this change, where its operation's key has this flag. Returns
@@ -156,9 +189,7 @@ pub fn build_main(
     ensures built { HasBuilt actor.old.me.0 result actor.new.me.0 }
 {
     match (change, shape) {
-        (Edit::Entomb(single), _) => {
-            make_tomb(tries, words, actor, stock, single, Previous::Pending(main))
-        }
+        (Edit::Entomb(single), _) => { make_tomb_over(tries, words, actor, stock, single, main) }
         (_, Shape::Branch(bitmap)) => {
             build_branch(tries, words, actor, stock, main, bitmap, flag, change)
         }

@@ -1,11 +1,12 @@
 //! CLEAN: below an indirection tombs give way to their singles.
 
-ghost use Rattle.std.specs.Prelude.{◌≡◌};
+ghost use Rattle.std.specs.Prelude.{◌≡◌, ◌<◌, ◌≤◌, ◌++◌, ◌∷◌, [], length};
 ghost use Rattle.lock_free.specs.Loading.{IsSound};
 ghost use Rattle.lock_free.specs.SeenEntries.{unowned};
-ghost use Rattle.lock_free.specs.Repairing.{HasLookedOver, IsAtCleaned};
+ghost use Rattle.lock_free.specs.Repairing.{HasLookedOver, IsAtCleaned, singles_with};
 
 use crate::loads::{Actor, Words, look_at_key, look_at_link};
+use arrayvec::ArrayVec;
 use trie_words::{Entry, Link};
 
 /// What an entry of a branch that is cleaned gives way to.
@@ -15,6 +16,41 @@ pub struct Cleaned {
     pub entry: Entry,
     /// It was a tomb's single's.
     pub is_changed: bool,
+}
+
+/// What the entries of a branch give way to.
+#[derive(Drop)]
+pub struct CleanedEntries {
+    /// The entries that come to their places, in order.
+    pub entries: ArrayVec<Entry, 32>,
+    /// Those of them that were tombs' singles', in order.
+    pub singles: ArrayVec<Entry, 32>,
+}
+
+impl CleanedEntries {
+    /// Of no entry yet.
+    pub fn new() -> CleanedEntries
+        ensures entries { result.entries.items ≡ [] }
+        ensures singles { result.singles.items ≡ [] }
+    {
+        CleanedEntries {
+            entries: ArrayVec::new(),
+            singles: ArrayVec::new(),
+        }
+    }
+
+    /// One entry more gives way to this.
+    pub fn push(&mut self, next: Cleaned)
+        requires room { length self.old.entries.items < 32 }
+        requires fewer { length self.old.singles.items ≤ length self.old.entries.items }
+        ensures entries { self.new.entries.items ≡ self.old.entries.items ++ next.entry ∷ [] }
+        ensures singles { self.new.singles.items ≡ singles_with self.old.singles.items next }
+    {
+        self.entries.push(next.entry);
+        if next.is_changed {
+            self.singles.push(next.entry);
+        }
+    }
 }
 
 /// Looks at this entry, which is next: a single is kept, an indirection is read.

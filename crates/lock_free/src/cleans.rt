@@ -7,17 +7,17 @@ ghost use Rattle.lock_free.specs.Passing.{IsOnWay};
 ghost use Rattle.lock_free.specs.Repairing.{HasCleanedBelow, HasCleanedBranch, IsAtClean, IsAtCleaned, IsAtCleanedBranch, IsCleaning};
 ghost use Rattle.lock_free.specs.Stocks.{IsStock};
 
-use crate::cleaning::{Cleaned, look_over, single_in};
+use crate::cleaning::{Cleaned, CleanedEntries, look_over, single_in};
 use crate::contracting::make_contracted;
 use crate::entries::see_entries;
-use crate::leaving::Swapping;
+use crate::leaving::{Drops, Swapping};
 use crate::loads::{Actor, Words, look_at_main};
 use crate::makes::class_of;
 use crate::reading::{Given, Passed, ReadFrom, Way, read_on};
 use crate::stock::Stock;
 use crate::swapping::swap_made_within;
 use arrayvec::ArrayVec;
-use trie_words::{Entry, Link, Previous, Shape};
+use trie_words::{Entry, Link, Shape};
 
 /// What this entry, which is next, gives way to: a tomb's single comes to the tombed indirection's place. None where it is out
 /// of tries.
@@ -68,8 +68,8 @@ fn clean_entry_within(
     }
 }
 
-/// Cleans the branch in this slot, which has these entries, as far as to what comes to their places. Returns that, and whether any has
-/// changed; or none where it is out of tries.
+/// Cleans the branch in this slot, which has these entries, as far as to what comes to their places. Returns that, or none where it is out
+/// of tries.
 fn clean_entries_within(
     tries: u64,
     words: &Words,
@@ -78,7 +78,7 @@ fn clean_entries_within(
     start: u64,
     main: u32,
     entries: &ArrayVec<Entry, 32>,
-) -> Option<(ArrayVec<Entry, 32>, bool)>
+) -> Option<CleanedEntries>
     requires table { actor.old.table_id ≡ words.now.table_id }
     requires sound { IsSound words.now.table_id.words actor.old.me.0 }
     requires way { IsOnWay actor.old.me.0 way }
@@ -88,23 +88,19 @@ fn clean_entries_within(
     ensures cleaned { AllCleanedOrNot actor.old.me.0 result actor.new.me.0 }
 {
     look_at_main(words, actor, main);
-    let mut cleaned = ArrayVec::new();
-    let mut is_changed = false;
+    let mut cleaned = CleanedEntries::new();
     for n in 0..entries.len() {
         match clean_entry_within(tries, words, actor, way, start, entries[n]) {
-            Some(next) => {
-                cleaned.push(next.entry);
-                is_changed |= next.is_changed;
-            }
+            Some(next) => cleaned.push(next),
             None => return None,
         }
     }
-    Some((cleaned, is_changed))
+    Some(cleaned)
 }
 
 /// Cleans the branch with this bitmap to which this link of the indirection leads, and which may become a tomb. Afterwards the operation
-/// begins its try anew, whatever has come of it. Returns false where no slot is had or it is out of tries; an `Err` has its SWAP that is
-/// under way.
+/// begins its try anew, whatever has come of it. Returns false where no slot is had, a reference couldn't be counted, or it is out of
+/// tries; an `Err` has its SWAP that is under way.
 fn clean_branch_within(
     tries: u64,
     words: &Words,
@@ -131,17 +127,22 @@ fn clean_branch_within(
     let main = link.main.slot;
     let count = bitmap.count_ones() as usize;
     let entries = see_entries(words, actor, main, count, link.main.own);
-    let Some((cleaned, is_changed)) = clean_entries_within(
-        tries, words, actor, way, start, main, &entries,
-    ) else {
+    let Some(cleaned) = clean_entries_within(tries, words, actor, way, start, main, &entries) else {
         return Ok(false);
     };
-    if !is_changed {
+    if cleaned.singles.is_empty() {
         return Ok(true);
     }
-    let over = Previous::Pending(link.main);
     let Some(fresh) = make_contracted(
-        tries, words, actor, stock, may_entomb, bitmap, &cleaned, over,
+        tries,
+        words,
+        actor,
+        stock,
+        may_entomb,
+        bitmap,
+        &cleaned.entries,
+        &cleaned.singles,
+        link.main,
     ) else {
         return Ok(false);
     };
@@ -156,6 +157,7 @@ fn clean_branch_within(
         link,
         class,
         fresh,
+        Drops::Others,
     ) {
         Ok(_) => Ok(true),
         Err(swapping) => Err(swapping),
@@ -163,8 +165,8 @@ fn clean_branch_within(
 }
 
 /// CLEAN below the indirection in this slot, which is below the root or is the root: each tomb there gives way to its single. Afterwards
-/// the operation begins its try anew, whatever has come of it. Returns false where no slot is had or it is out of tries: then the operation
-/// gives up. An `Err` has its SWAP that is under way.
+/// the operation begins its try anew, whatever has come of it. Returns false where no slot is had, a reference couldn't be counted, or it is
+/// out of tries: then the operation gives up. An `Err` has its SWAP that is under way.
 pub fn clean_below_within(
     tries: u64,
     words: &Words,

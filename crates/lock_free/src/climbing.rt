@@ -22,7 +22,7 @@ pub enum Climbed {
     Again,
     /// The removal is answered.
     Ends,
-    /// No slot is had: the climb is given up, and the removal answered.
+    /// No slot is had, or a reference couldn't be counted: the climb is given up, and the removal answered.
     Full,
 }
 

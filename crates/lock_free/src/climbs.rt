@@ -12,7 +12,7 @@ use crate::cleaning::single_in;
 use crate::climbing::{Climbed, entombs, holds_it, put};
 use crate::contracting::make_contracted;
 use crate::entries::see_entries;
-use crate::leaving::Swapping;
+use crate::leaving::{Drops, Swapping};
 use crate::loads::{Actor, Words, look_at_main};
 use crate::makes::class_of;
 use crate::reading::{Given, Passed, ReadFrom, Way, read_on};
@@ -21,7 +21,7 @@ use crate::stock::Stock;
 use crate::swapping::{Swapped, swap_made_within};
 use arrayvec::ArrayVec;
 use nodes::{flag_of, position_of};
-use trie_words::{Entry, Link, Previous, Shape};
+use trie_words::{Entry, Link, Shape};
 
 /// Another main node stood in the parent, or the swap was refused: the climb tries again there, if the root is still of the generation in
 /// which the operation began its try. Out of tries it is as where no slot is had.
@@ -75,15 +75,31 @@ fn contract_within(
     ensures contracted { IfOk result (λ climbed. HasContracted actor.old.me.0 climbed actor.new.me.0) }
     ensures left { IfErr result (λ left. HasLeftContracted actor.old.me.0 left actor.new.me.0) }
 {
-    let over = Previous::Pending(link.main);
     let Some(fresh) = make_contracted(
-        tries, words, actor, stock, may_entomb, bitmap, entries, over,
+        tries,
+        words,
+        actor,
+        stock,
+        may_entomb,
+        bitmap,
+        entries,
+        &[single],
+        link.main,
     ) else {
         return Ok(Climbed::Full);
     };
     let class = class_of(Shape::Branch(bitmap));
     let swapped = match swap_made_within(
-        tries, words, actor, stock, way, parent, link, class, fresh,
+        tries,
+        words,
+        actor,
+        stock,
+        way,
+        parent,
+        link,
+        class,
+        fresh,
+        Drops::Others,
     ) {
         Ok(swapped) => swapped,
         Err(swapping) => return Err(swapping),
@@ -96,7 +112,7 @@ fn contract_within(
                 Ok(Climbed::Ends)
             }
         }
-        Swapped::Fails => Ok(ask_again_within(tries, words, actor, way, start)),
+        Swapped::Fails(_) => Ok(ask_again_within(tries, words, actor, way, start)),
         Swapped::Misses => Ok(ask_again_within(tries, words, actor, way, start)),
     }
 }
@@ -205,8 +221,8 @@ fn climb_over_within(
 }
 
 /// CLIMB from the last indirection of this path, which was tombed with this single by the removal of a key of this hash. Returns true where
-/// the removal is answered, false where no slot is had or it is out of tries: then the climb is given up, and the removal answered. An
-/// `Err` has its SWAP that is under way.
+/// the removal is answered, false where no slot is had, a reference couldn't be counted, or it is out of tries: then the climb is given up,
+/// and the removal answered. An `Err` has its SWAP that is under way.
 pub fn climb_within(
     tries: u64,
     words: &Words,

@@ -25,8 +25,7 @@ impl Seat {
         if handle >= HANDLES {
             return Err(CallError::NoHandle);
         }
-        let sizes = self.stock.sizes();
-        match close_handle(words, &mut self.actor, &sizes, self.number, handle) {
+        match close_handle(words, &mut self.actor, &mut self.stock, self.number, handle) {
             Shut::Closed => Ok(()),
             Shut::Busy => Err(CallError::Busy),
             Shut::NoHandle => Err(CallError::NoHandle),

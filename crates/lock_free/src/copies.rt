@@ -1,20 +1,22 @@
 //! COPY within a number of tries.
 
 ghost use Rattle.std.specs.Prelude.{◌≡◌, ◌<◌, IfErr, IfOk};
-ghost use Rattle.lock_free.specs.CopySteps.{HasCopied, HasCopiedOn, HasLeftCopy, HasMadeCopy, HasTriedCopy, IsAtOriginal, IsAtTry, IsCopying};
+ghost use Rattle.lock_free.specs.CopySteps.{HasCopied, HasCopiedOn, HasHungRoots, HasLeftCopy, HasLeftRoots, HasMadeCopy, HasTriedCopy, IsAtOriginal, IsAtTry, IsCopying, IsKind};
 ghost use Rattle.lock_free.specs.CopySteps.{IsOwnCompleting, IsToComplete, IsToOpenAll, LeavesCopy, OriginalOrNot};
 ghost use Rattle.lock_free.specs.Loading.{IsSound};
 ghost use Rattle.lock_free.specs.Passing.{IsOnWay};
 ghost use Rattle.lock_free.specs.Stocks.{IsStock};
 
+use crate::copy_gifts::{release_main, release_root, see_copy_main};
 use crate::copy_roots::CopyKind;
 use crate::copying::{Copied, open_copy, prepare};
 use crate::leaving::{Completing, Left};
 use crate::loads::{Actor, Words};
-use crate::offers::see_olds;
+use crate::makes::class_of;
+use crate::offers::{conclude, see_news, see_olds};
 use crate::reading::{Given, Passed, ReadFrom, Way, read_on};
 use crate::root_offers::offer_within;
-use crate::rooting::{complete_on, root_within};
+use crate::rooting::{is_expected_on, root_within};
 use crate::stock::Stock;
 
 /// Reads the main node of the root in this slot, of which a copy is to be made; or none where it is out of tries.
@@ -39,41 +41,76 @@ fn read_original_within(
     }
 }
 
-/// Completes the seat's own offer from there on, within so many tries. Returns whether it was carried out, by this seat or another; or from
-/// where it goes on.
+/// Hangs the slots of the roots that were made for the seat's own offer in this slot, which was taken back.
+fn hang_left(words: &Words, actor: &mut Actor, stock: &mut Stock, offer: u32)
+    requires table { actor.old.table_id ≡ words.now.table_id }
+    requires sound { IsSound words.now.table_id.words actor.old.me.0 }
+    requires left { HasLeftRoots stock.old offer actor.old.me.0 }
+    ensures table { actor.new.table_id ≡ actor.old.table_id }
+    ensures sound { IsSound words.now.table_id.words actor.new.me.0 }
+    ensures stock { IsStock stock.new actor.new.me.0 }
+    ensures hung { HasHungRoots actor.old.me.0 actor.new.me.0 }
+{
+    let roots = see_news(words, actor, offer);
+    stock.hang_roots(words, actor, roots);
+}
+
+/// Completes the seat's own offer of such a copy from there on, within so many tries. Returns whether it was carried out, by this seat or
+/// another: what that gave the seat has let go of; or from where it goes on.
 pub fn complete_own_on(
     tries: u64,
     words: &Words,
     actor: &mut Actor,
+    stock: &mut Stock,
     way: Way,
+    which: CopyKind,
     completing: Completing,
 ) -> Result<bool, Completing>
     requires table { actor.old.table_id ≡ words.now.table_id }
     requires sound { IsSound words.now.table_id.words actor.old.me.0 }
+    requires stock { IsStock stock.old actor.old.me.0 }
     requires way { IsOnWay actor.old.me.0 way }
+    requires which { IsKind actor.old.me.0 which }
     requires completing { IsOwnCompleting actor.old.me.0 way.handle completing }
     ensures table { actor.new.table_id ≡ actor.old.table_id }
     ensures sound { IsSound words.now.table_id.words actor.new.me.0 }
+    ensures stock { IsStock stock.new actor.new.me.0 }
     ensures copied { IfOk result (λ carried. HasCopied actor.old.me.0 carried actor.new.me.0) }
     ensures on { IfErr result (λ next. HasCopiedOn actor.old.me.0 way.handle completing.offer next actor.new.me.0) }
 {
-    complete_on(tries, words, actor, way, completing)
+    let is_expected = match is_expected_on(tries, words, actor, way, completing) {
+        Ok(is_expected) => is_expected,
+        Err(next) => return Err(next),
+    };
+    let main = see_copy_main(words, actor, which, completing.offer);
+    if conclude(words, actor, completing.offer, is_expected) {
+        release_root(words, actor, stock, which, completing.root);
+        return Ok(true);
+    }
+    hang_left(words, actor, stock, completing.offer);
+    release_main(words, actor, stock, which, main);
+    Ok(false)
 }
 
-/// Completes the seat's own offer, which stands in this slot, within so many tries.
+/// Completes the seat's own offer of such a copy, which stands in this slot, within so many tries.
 fn complete_own_within(
     tries: u64,
     words: &Words,
     actor: &mut Actor,
+    stock: &mut Stock,
     way: Way,
+    which: CopyKind,
     slot: u32,
 ) -> Result<bool, Completing>
     requires table { actor.old.table_id ≡ words.now.table_id }
     requires sound { IsSound words.now.table_id.words actor.old.me.0 }
+    requires stock { IsStock stock.old actor.old.me.0 }
     requires way { IsOnWay actor.old.me.0 way }
+    requires which { IsKind actor.old.me.0 which }
     requires standing { IsToComplete actor.old.me.0 way.handle slot }
     ensures table { actor.new.table_id ≡ actor.old.table_id }
     ensures sound { IsSound words.now.table_id.words actor.new.me.0 }
+    ensures stock { IsStock stock.new actor.new.me.0 }
     ensures copied { IfOk result (λ carried. HasCopied actor.old.me.0 carried actor.new.me.0) }
     ensures on { IfErr result (λ next. HasCopiedOn actor.old.me.0 way.handle slot next actor.new.me.0) }
 {
@@ -84,7 +121,7 @@ fn complete_own_within(
         root,
         from,
     };
-    complete_own_on(tries, words, actor, way, completing)
+    complete_own_on(tries, words, actor, stock, way, which, completing)
 }
 
 /// A try of a copy on a handle that may be written, from its root, which is in this slot: new roots are made, and an offer of them comes to
@@ -116,8 +153,9 @@ fn try_copy_within(
         return Ok(Copied::Full);
     };
     let main = given.link.main.slot;
+    let class = class_of(given.header.shape);
     let Some(slot) = prepare(
-        tries, words, actor, stock, which, way.handle, opens, root, main,
+        tries, words, actor, stock, which, way.handle, opens, root, main, class,
     ) else {
         return Ok(Copied::Full);
     };
@@ -130,7 +168,7 @@ fn try_copy_within(
     }
     stock.note(1);
     stock.hand_over();
-    let carried = match complete_own_within(tries, words, actor, way, slot) {
+    let carried = match complete_own_within(tries, words, actor, stock, way, which, slot) {
         Ok(carried) => carried,
         Err(next) => return Err(next),
     };

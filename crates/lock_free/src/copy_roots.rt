@@ -3,14 +3,19 @@
 ghost use Rattle.std.specs.Prelude.{◌≡◌, ◌++◌, ◌∷◌, ℕ, List, []};
 ghost use Rattle.machine_model.specs.Beneath.slot_arena.specs.declared.refs.Ref.{Ref as ARef};
 ghost use Rattle.machine_model.specs.declared.copying.CopyLine.TheVariants as copy;
-ghost use Rattle.lock_free.specs.CopySteps.{HasMadeRoots, HasRoot, HasTriedRoot, IsAtCopy, IsAtNewRoot, IsGiven, IsKind};
+ghost use Rattle.lock_free.specs.Owing.{HoldsRaised};
+ghost use Rattle.lock_free.specs.CopySteps.{HasMadeRoots, HasRoot, HasSharedRoot, HasTriedRoot, IsAtCopy, IsAtNewRoot, IsGiven, IsKind};
 ghost use Rattle.lock_free.specs.declared.copy_roots.CopyKind.TheVariants as kind;
+ghost use Rattle.lock_free.specs.declared.reclaiming.Kind.TheVariants as kinds;
 ghost use Rattle.lock_free.specs.Loading.{IsSound};
+ghost use Rattle.lock_free.specs.Raising.{MayHoldOne};
 ghost use Rattle.lock_free.specs.Rules.{pool_of};
 ghost use Rattle.lock_free.specs.Stocks.{IsStock};
 
 use crate::loads::{Actor, Words};
 use crate::makes::make_branch;
+use crate::raising::{raise, release};
+use crate::reclaiming::Kind;
 use crate::stock::{Stock, take};
 use crate::stores::{GENERATION, draft, make_root};
 use trie_words::{Link, Name, Previous};
@@ -52,6 +57,7 @@ fn try_roots(
     requires sound { IsSound words.now.table_id.words actor.old.me.0 }
     requires last { (rest : List ℕ) × (pool_of actor.old.me.0.pool 0 ≡ rest ++ slot ∷ []) }
     requires making { IsAtNewRoot actor.old.me.0 main }
+    requires raised { HoldsRaised actor.old.me.0 }
     ensures table { actor.new.table_id ≡ actor.old.table_id }
     ensures sound { IsSound words.now.table_id.words actor.new.me.0 }
     ensures stock { stock.new ≡ stock.old }
@@ -84,6 +90,7 @@ fn make_new_root(
     requires sound { IsSound words.now.table_id.words actor.old.me.0 }
     requires stock { IsStock stock.old actor.old.me.0 }
     requires making { IsAtNewRoot actor.old.me.0 main }
+    requires raised { HoldsRaised actor.old.me.0 }
     ensures table { actor.new.table_id ≡ actor.old.table_id }
     ensures sound { IsSound words.now.table_id.words actor.new.me.0 }
     ensures stock { IsStock stock.new actor.new.me.0 }
@@ -95,6 +102,38 @@ fn make_new_root(
     }
     stock.note(0);
     Some(slot)
+}
+
+/// Makes a root over the main node of this name, in a slot of this class, which another root leads to: the seat counts a reference to it.
+/// Returns its slot, or none where no slot or no generation is had, or the reference couldn't be counted.
+fn make_shared_root(
+    tries: u64,
+    words: &Words,
+    actor: &mut Actor,
+    stock: &mut Stock,
+    main: Name,
+    class: u32,
+) -> Option<u32>
+    requires table { actor.old.table_id ≡ words.now.table_id }
+    requires sound { IsSound words.now.table_id.words actor.old.me.0 }
+    requires stock { IsStock stock.old actor.old.me.0 }
+    requires making { IsAtNewRoot actor.old.me.0 main }
+    requires holds { MayHoldOne actor.old.me.0 kinds.Main class main.slot }
+    ensures table { actor.new.table_id ≡ actor.old.table_id }
+    ensures sound { IsSound words.now.table_id.words actor.new.me.0 }
+    ensures stock { IsStock stock.new actor.new.me.0 }
+    ensures made { HasSharedRoot actor.old.me.0 result actor.new.me.0 }
+{
+    if !raise(tries, words, actor, &stock.sizes(), class, main.slot) {
+        return None;
+    }
+    match make_new_root(tries, words, actor, stock, main) {
+        Some(slot) => Some(slot),
+        None => {
+            release(words, actor, stock, Kind::Main, class, main.slot);
+            None
+        }
+    }
 }
 
 /// An empty branch, and a root over it.
@@ -120,19 +159,20 @@ fn make_cleared(tries: u64, words: &Words, actor: &mut Actor, stock: &mut Stock)
     })
 }
 
-/// Two roots over the main node in this slot.
+/// Two roots over the main node in this slot of this class.
 fn make_both(
     tries: u64,
     words: &Words,
     actor: &mut Actor,
     stock: &mut Stock,
     main: u32,
+    class: u32,
 ) -> Option<NewRoots>
     requires table { actor.old.table_id ≡ words.now.table_id }
     requires sound { IsSound words.now.table_id.words actor.old.me.0 }
     requires stock { IsStock stock.old actor.old.me.0 }
     requires which { IsKind actor.old.me.0 kind.Snapshot }
-    requires given { IsGiven actor.old.me.0 kind.Snapshot main }
+    requires given { IsGiven actor.old.me.0 kind.Snapshot main class }
     ensures table { actor.new.table_id ≡ actor.old.table_id }
     ensures sound { IsSound words.now.table_id.words actor.new.me.0 }
     ensures stock { IsStock stock.new actor.new.me.0 }
@@ -142,27 +182,28 @@ fn make_both(
         slot: main,
         own: false,
     };
-    let successor = make_new_root(tries, words, actor, stock, over)?;
-    let second = make_new_root(tries, words, actor, stock, over)?;
+    let successor = make_shared_root(tries, words, actor, stock, over, class)?;
+    let second = make_shared_root(tries, words, actor, stock, over, class)?;
     Some(NewRoots {
         successor,
         second: Some(second),
     })
 }
 
-/// One root over the main node in this slot.
+/// One root over the main node in this slot of this class.
 fn make_one(
     tries: u64,
     words: &Words,
     actor: &mut Actor,
     stock: &mut Stock,
     main: u32,
+    class: u32,
 ) -> Option<NewRoots>
     requires table { actor.old.table_id ≡ words.now.table_id }
     requires sound { IsSound words.now.table_id.words actor.old.me.0 }
     requires stock { IsStock stock.old actor.old.me.0 }
     requires which { IsKind actor.old.me.0 kind.Freeze }
-    requires given { IsGiven actor.old.me.0 kind.Freeze main }
+    requires given { IsGiven actor.old.me.0 kind.Freeze main class }
     ensures table { actor.new.table_id ≡ actor.old.table_id }
     ensures sound { IsSound words.now.table_id.words actor.new.me.0 }
     ensures stock { IsStock stock.new actor.new.me.0 }
@@ -172,14 +213,14 @@ fn make_one(
         slot: main,
         own: false,
     };
-    let successor = make_new_root(tries, words, actor, stock, over)?;
+    let successor = make_shared_root(tries, words, actor, stock, over, class)?;
     Some(NewRoots {
         successor,
         second: None,
     })
 }
 
-/// The roots of a copy of the main node in this slot, or none where a slot or a generation is missing.
+/// The roots of a copy of the main node in this slot of this class, or none where a slot or a generation is missing.
 pub fn make_roots(
     tries: u64,
     words: &Words,
@@ -187,12 +228,13 @@ pub fn make_roots(
     stock: &mut Stock,
     which: CopyKind,
     main: u32,
+    class: u32,
 ) -> Option<NewRoots>
     requires table { actor.old.table_id ≡ words.now.table_id }
     requires sound { IsSound words.now.table_id.words actor.old.me.0 }
     requires stock { IsStock stock.old actor.old.me.0 }
     requires which { IsKind actor.old.me.0 which }
-    requires given { IsGiven actor.old.me.0 which main }
+    requires given { IsGiven actor.old.me.0 which main class }
     ensures table { actor.new.table_id ≡ actor.old.table_id }
     ensures sound { IsSound words.now.table_id.words actor.new.me.0 }
     ensures stock { IsStock stock.new actor.new.me.0 }
@@ -200,7 +242,7 @@ pub fn make_roots(
 {
     match which {
         CopyKind::Clear => make_cleared(tries, words, actor, stock),
-        CopyKind::Snapshot => make_both(tries, words, actor, stock, main),
-        CopyKind::Freeze => make_one(tries, words, actor, stock, main),
+        CopyKind::Snapshot => make_both(tries, words, actor, stock, main, class),
+        CopyKind::Freeze => make_one(tries, words, actor, stock, main, class),
     }
 }

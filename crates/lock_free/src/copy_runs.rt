@@ -4,10 +4,10 @@ ghost use Rattle.std.specs.Prelude.{◌≡◌, ◌<◌, IfErr, IfOk};
 ghost use Rattle.machine_model.specs.Calls.{copies};
 ghost use Rattle.machine_model.specs.Copying.{copied_reply};
 ghost use Rattle.machine_model.specs.Lines.{new_try};
-ghost use Rattle.lock_free.specs.CopySteps.{copy_kind, HasSettledCopy, IsAtTry, IsCopying, IsOwnCompleting, IsToOpenAll, LeavesCopy};
+ghost use Rattle.lock_free.specs.CopySteps.{copy_kind, HasSettledCopy, IsAtTry, IsCopying, IsKind, IsOwnCompleting, IsToOpenAll, LeavesCopy};
 ghost use Rattle.lock_free.specs.Holding.{IsOn};
 ghost use Rattle.lock_free.specs.Loading.{IsSound};
-ghost use Rattle.lock_free.specs.Parking.{HasRunTo, IsCopyLeft, IsToOpenAs, StillOwns};
+ghost use Rattle.lock_free.specs.Parking.{HasRunTo, IsCopyLeft, IsToOpenAs};
 ghost use Rattle.lock_free.specs.Passing.{IsOnWay};
 ghost use Rattle.lock_free.specs.Seeking.{IsCalled};
 ghost use Rattle.lock_free.specs.Stocks.{IsStock};
@@ -50,6 +50,7 @@ fn settle_own(
     tries: u64,
     words: &Words,
     actor: &mut Actor,
+    stock: &mut Stock,
     way: Way,
     which: CopyKind,
     opens: Option<u16>,
@@ -57,16 +58,18 @@ fn settle_own(
 ) -> Result<bool, Completing>
     requires table { actor.old.table_id ≡ words.now.table_id }
     requires sound { IsSound words.now.table_id.words actor.old.me.0 }
+    requires stock { IsStock stock.old actor.old.me.0 }
     requires way { IsOnWay actor.old.me.0 way }
     requires completing { IsOwnCompleting actor.old.me.0 way.handle completing }
+    requires which { IsKind actor.old.me.0 which }
     requires opening { IsToOpenAll actor.old.me.0 which opens completing.offer }
     ensures table { actor.new.table_id ≡ actor.old.table_id }
     ensures sound { IsSound words.now.table_id.words actor.new.me.0 }
-    ensures stays { StillOwns actor.old.me.0 actor.new.me.0 }
+    ensures stock { IsStock stock.new actor.new.me.0 }
     ensures settled { IfOk result (λ done. HasSettledCopy actor.old.me.0 done actor.new.me.0) }
     ensures on { IfErr result (λ next. LeavesCopy actor.old.me.0 which way.handle opens next actor.new.me.0) }
 {
-    let carried = match complete_own_on(tries, words, actor, way, completing) {
+    let carried = match complete_own_on(tries, words, actor, stock, way, which, completing) {
         Ok(carried) => carried,
         Err(next) => return Err(next),
     };
@@ -83,6 +86,7 @@ pub(crate) fn copy_goes_on(
     tries: u64,
     words: &Words,
     actor: &mut Actor,
+    stock: &mut Stock,
     call: Call,
     access: Access,
     opens: Option<u16>,
@@ -90,16 +94,26 @@ pub(crate) fn copy_goes_on(
 ) -> Came
     requires table { actor.old.table_id ≡ words.now.table_id }
     requires sound { IsSound words.now.table_id.words actor.old.me.0 }
+    requires stock { IsStock stock.old actor.old.me.0 }
     requires called { IsCalled actor.old.me.0 call access }
     requires parked { IsCopyLeft actor.old.me.0 completing opens }
     ensures table { actor.new.table_id ≡ actor.old.table_id }
     ensures sound { IsSound words.now.table_id.words actor.new.me.0 }
-    ensures stays { StillOwns actor.old.me.0 actor.new.me.0 }
+    ensures stock { IsStock stock.new actor.new.me.0 }
     ensures run { HasRunTo actor.old.me.0 result actor.new.me.0 }
 {
     let handle = call.handle();
     let way = Way { handle, access };
-    match settle_own(tries, words, actor, way, kind_of(call), opens, completing) {
+    match settle_own(
+        tries,
+        words,
+        actor,
+        stock,
+        way,
+        kind_of(call),
+        opens,
+        completing,
+    ) {
         Ok(true) => Came::Answered(copied_reply(call, opens)),
         Ok(false) => Came::Spent,
         Err(next) => Came::Parked(Parked::Copies(next, opens)),

@@ -48,8 +48,8 @@ fn draft_offer(words: &Words, actor: &mut Actor, slot: u32, root: u32, main: u32
     draft(words, actor, 2 * slot as usize + 2, news.to_word());
 }
 
-/// Makes the roots of a copy, writes the offer of them in the place of the root in this slot, which has that main node, and lets the
-/// word of the number that it opens name it. Returns the slot in which it is written, or none where a slot or a generation is missing.
+/// Makes the roots of a copy, writes the offer of them in the place of the root in this slot, which has that main node, in a slot of this class, and
+/// lets the word of the number that it opens name it. Returns the slot in which it is written, or none where a slot or a generation is missing.
 pub fn prepare(
     tries: u64,
     words: &Words,
@@ -60,19 +60,20 @@ pub fn prepare(
     opens: Option<u16>,
     root: u32,
     main: u32,
+    class: u32,
 ) -> Option<u32>
     requires table { actor.old.table_id ≡ words.now.table_id }
     requires sound { IsSound words.now.table_id.words actor.old.me.0 }
     requires stock { IsStock stock.old actor.old.me.0 }
     requires copying { IsCopying actor.old.me.0 which handle opens }
-    requires ready { IsReady actor.old.me.0 which root main }
+    requires ready { IsReady actor.old.me.0 which root main class }
     ensures table { actor.new.table_id ≡ actor.old.table_id }
     ensures sound { IsSound words.now.table_id.words actor.new.me.0 }
     ensures stock { IsStock stock.new actor.new.me.0 }
     ensures room { OnSome result (HasRoom stock.new 1) }
     ensures prepared { HasPreparedOrNone actor.old.me.0 which opens handle root result actor.new.me.0 }
 {
-    let roots = make_roots(tries, words, actor, stock, which, main)?;
+    let roots = make_roots(tries, words, actor, stock, which, main, class)?;
     let slot = take(tries, words, actor, stock, 1)?;
     draft_offer(words, actor, slot, root, main, roots);
     match opens {

@@ -70,7 +70,8 @@ pub fn restore(words: &Words, actor: &mut Actor, indirection: u32, link: Link, f
 }
 
 /// Swaps the fresh main node in this slot in, in the place of the one to which this link of the indirection leads, if that one
-/// stands there still: else the operation gives up all that it has made. Returns whether it stood there.
+/// stands there still: else the operation gives up all that it has made, and the seat holds what these nodes held of others. Returns
+/// whether it stood there.
 #[inline(always)]
 pub fn publish(words: &Words, actor: &mut Actor, indirection: u32, link: Link, fresh: u32) -> bool
     requires table { actor.old.table_id ≡ words.now.table_id }

@@ -5,6 +5,7 @@ ghost use Rattle.atomic_table.specs.Table.{Joins};
 ghost use Rattle.lock_free.specs.Finishing.{hearing, HasHeard, HasHeardMore, IsTold};
 ghost use Rattle.lock_free.specs.Loading.{IsSound};
 ghost use Rattle.lock_free.specs.Rules.{IsRuled};
+ghost use Rattle.lock_free.specs.Seated.{IsResting};
 
 use crate::loads::{Actor, Words};
 use crate::opening::Board;
@@ -25,10 +26,11 @@ fn hear_as<N: Picks>(words: &Words, actor: &mut Actor, other: Actor)
     words.join_seat::<Hears<N>>(actor, other);
 }
 
-/// A seat hears of another one, which is given up after all that it has seen.
-fn hear(words: &Words, actor: &mut Actor, mut other: Actor)
+/// A seat hears of another one, which is given up after all that it has seen. It rests.
+pub(crate) fn hear(words: &Words, actor: &mut Actor, mut other: Actor)
     requires table { (actor.old.table_id ≡ words.now.table_id) × (other.table_id ≡ words.now.table_id) }
     requires sound { IsSound words.now.table_id.words actor.old.me.0 × IsSound words.now.table_id.words other.me.0 }
+    requires rests { IsResting other.me.0 }
     ensures table { actor.new.table_id ≡ actor.old.table_id }
     ensures more { HasHeardMore actor.old.me.0 actor.new.me.0 }
     ensures heard { HasHeard actor.new.me.0 other.me.0 }

@@ -49,6 +49,19 @@ impl Free {
         }
     }
 
+    /// How many there are of this class.
+    #[inline(always)]
+    pub(crate) fn len(&self, class: u32) -> usize
+        ensures is { result ≡ length (pool_of self.now class) }
+        ensures fits { result ≤ 128 }
+    {
+        match class {
+            0 => self.small.len(),
+            1 => self.medium.len(),
+            _ => self.wide.len(),
+        }
+    }
+
     /// How many there are of the class that has most.
     #[inline(always)]
     pub(crate) fn most(&self) -> usize

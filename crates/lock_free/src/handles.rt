@@ -2,7 +2,7 @@
 
 ghost use Rattle.std.specs.Prelude.{◌≡◌, ◌≢◌, ◌<◌, ◌≤◌, true, Some};
 ghost use Rattle.trie_words.specs.Codes.{IsRootWord, root_code};
-ghost use Rattle.lock_free.specs.HandleWords.{is_marked, is_unmarked, marked_by, without_mark, HasClosed, HasMarked, HasSeenRoot};
+ghost use Rattle.lock_free.specs.HandleWords.{is_marked, is_unmarked, marked_by, slot_named, without_mark, HasClosed, HasMarked, HasSeenRoot};
 ghost use Rattle.lock_free.specs.Loading.{IsSound};
 ghost use Rattle.lock_free.specs.Places.{root_word};
 ghost use Rattle.lock_free.specs.RootWords.{IsAtClean, IsAtOpen};
@@ -78,6 +78,19 @@ pub(crate) fn once_marked(word: RootWord, seat: u8) -> RootWord
     }
 }
 
+/// The slot of the root that this word of an open handle names.
+pub(crate) fn root_slot(word: RootWord) -> u32
+    ensures { result ≡ slot_named word }
+{
+    match word {
+        RootWord::Writable(root) => root,
+        RootWord::ReadOnly(root) => root,
+        RootWord::ClosingWritable { root, .. } => root,
+        RootWord::ClosingReadOnly { root, .. } => root,
+        _ => 0,
+    }
+}
+
 /// Marks the handle, which the seat would close, if its word is this one still: from then on nobody enters it while the mark is there.
 /// Returns whether it was.
 pub fn mark(words: &Words, actor: &mut Actor, handle: u16, word: RootWord, seat: u8) -> bool
@@ -97,7 +110,7 @@ pub fn mark(words: &Words, actor: &mut Actor, handle: u16, word: RootWord, seat:
 }
 
 /// Closes the handle, which the seat has marked so, and on which it has found no other seat in a call, if its word is this one still.
-/// Returns whether it was.
+/// Returns whether it was: then the seat, if it is pinned, holds the root itself that the word named.
 pub fn close(words: &Words, actor: &mut Actor, handle: u16, word: RootWord, looked: u8) -> bool
     requires table { actor.old.table_id ≡ words.now.table_id }
     requires sound { IsSound words.now.table_id.words actor.old.me.0 }
@@ -110,7 +123,7 @@ pub fn close(words: &Words, actor: &mut Actor, handle: u16, word: RootWord, look
     requires idle { IsIdle actor.old.me.0 }
     ensures table { actor.new.table_id ≡ actor.old.table_id }
     ensures sound { IsSound words.now.table_id.words actor.new.me.0 }
-    ensures closed { HasClosed actor.old.me.0 handle result actor.new.me.0 }
+    ensures closed { HasClosed actor.old.me.0 handle (slot_named word) result actor.new.me.0 }
 {
     let open = word.to_word();
     words.compare_exchange::<Shuts>(actor, root_word_of(handle), open, 0) == open

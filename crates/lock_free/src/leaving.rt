@@ -3,6 +3,17 @@
 use crate::reading::ReadFrom;
 use trie_words::Name;
 
+/// What of the main node that it replaces a fresh one doesn't name, where that one is its indirection's own.
+#[derive(Clone, Copy, Drop)]
+pub enum Drops {
+    /// Nothing.
+    Nothing,
+    /// The entry at this position, and nothing else.
+    At(usize),
+    /// It isn't said: what both name is to be looked at.
+    Others,
+}
+
 /// A SWAP under way: the operation's fresh main node is swapped in, and what it comes to isn't known yet. It goes on by `swap_on`.
 #[derive(Clone, Copy, Drop)]
 pub struct Swapping {
@@ -16,6 +27,8 @@ pub struct Swapping {
     pub replaced: Name,
     /// The class of the slot of that one.
     pub class: u32,
+    /// What of that one the fresh one doesn't name.
+    pub drops: Drops,
 }
 
 /// A COMPLETE under way, of an offer that came to stand. It goes on by `complete_on`.

@@ -1,18 +1,17 @@
-//! What a seat has retired, until it is free for it again.
+//! What a seat has retired hangs by kind and class, until it is free for it again.
 
-ghost use Rattle.std.specs.Prelude.{◌≡◌, ◌+◌, ◌≤◌, []};
+ghost use Rattle.std.specs.Prelude.{◌≡◌, ℕ, ◌+◌, ◌≤◌, true, is_some, [], IsTrue};
 ghost use Rattle.lock_free.specs.declared.rules.View.{View};
-ghost use Rattle.lock_free.specs.Freeing.{kept_free, FreesFirst, FreesRipe};
-ghost use Rattle.lock_free.specs.Limbos.{link_to, linked_by, HasHung, HasReclaimedSome, HasTurned, IsLimbo, IsNewest};
+ghost use Rattle.lock_free.specs.Freed.{next_chain};
+ghost use Rattle.lock_free.specs.Limbos.{by_kind, chains_of, having_retired, in_class, led_on, link_to, linked_by, no_chains, no_classes, turned, turned_in, with_chains, with_class, with_kind};
+ghost use Rattle.lock_free.specs.Limbos.{HasHung, IsLimbo, IsNext};
 ghost use Rattle.lock_free.specs.Loading.{IsSound};
-ghost use Rattle.lock_free.specs.Stocks.{HasRoom, HoldsSlots};
 
-use crate::advancing::{advance, see_epoch};
+use crate::advancing::see_epoch;
 use crate::links::{link, see_link};
 use crate::loads::{Actor, Words};
-use crate::reclaiming::{is_ripe, reclaim};
+use crate::reclaiming::{Kind, is_ripe};
 use crate::sizes::Sizes;
-use crate::stock::Stock;
 
 /// Slots that hang one after the other, by their links.
 #[derive(Clone, Copy, Drop)]
@@ -22,11 +21,29 @@ struct Chain {
     stamp: u64,
 }
 
-/// A chain to which slots come, and one from which they go. It takes no memory but its own, however many there are.
+/// A chain to which slots come, and one from which they go.
 #[derive(Clone, Copy, Drop)]
-pub struct Limbo {
+struct Chains {
     young: Chain,
     aged: Chain,
+}
+
+/// The chains of one kind, by the class of their slots.
+#[derive(Clone, Copy, Drop)]
+struct ByClass {
+    small: Chains,
+    medium: Chains,
+    wide: Chains,
+}
+
+/// What a seat has retired, by its kind and class: where slots of one class can't be free again yet, those of others can. It takes no
+/// memory but its own, however much there is.
+#[derive(Clone, Copy, Drop)]
+pub struct Limbo {
+    replaced: ByClass,
+    singles: ByClass,
+    indirections: ByClass,
+    mains: ByClass,
     /// The epoch that the seat has seen last.
     pub(crate) seen: u64,
 }
@@ -45,143 +62,222 @@ fn linked_by(link: u32) -> Option<u32>
     if link == 0 { None } else { Some(link) }
 }
 
-impl Limbo {
-    /// Of a seat that has retired nothing.
-    pub fn new() -> Limbo
-        ensures limbo { (v : View) → v.retired ≡ [] → IsLimbo result v }
+impl Chains {
+    fn new() -> Chains
+        ensures { result ≡ no_chains }
     {
         let none = Chain {
             first: None,
             stamp: 0,
         };
-        Limbo {
+        Chains {
             young: none,
             aged: none,
-            seen: 0,
         }
     }
 
-    /// The young chain is the aged one, once that has no slots.
-    fn turn(&mut self)
-        ensures turned { HasTurned self.old self.new }
+    /// Whether there are slots.
+    fn has_any(&self) -> bool
+        ensures { is_some (turned self.now.aged.first self.now).aged.first ≡ true → result ≡ true }
     {
-        if self.aged.first.is_none() {
-            self.aged = self.young;
-            self.young.first = None;
+        self.young.first.is_some() || self.aged.first.is_some()
+    }
+
+    /// The young chain is the aged one, once that has no slots.
+    fn turned(self) -> Chains
+        ensures { result ≡ turned self.aged.first self }
+    {
+        if self.aged.first.is_some() {
+            return self;
+        }
+        Chains {
+            young: Chain {
+                first: None,
+                stamp: self.young.stamp,
+            },
+            aged: self.young,
         }
     }
 }
 
-/// Hangs the slot of this class that the seat has just retired in a chain.
+impl ByClass {
+    fn new() -> ByClass
+        ensures { result ≡ no_classes }
+    {
+        ByClass {
+            small: Chains::new(),
+            medium: Chains::new(),
+            wide: Chains::new(),
+        }
+    }
+
+    /// The chains of this class.
+    #[inline(always)]
+    fn chains(&self, class: u32) -> Chains
+        ensures { result ≡ in_class self.now class }
+    {
+        match class {
+            0 => self.small,
+            1 => self.medium,
+            _ => self.wide,
+        }
+    }
+
+    /// The chains of this class are these now.
+    #[inline(always)]
+    fn set_chains(&mut self, class: u32, chains: Chains)
+        ensures { self.new ≡ with_class self.old class chains }
+    {
+        match class {
+            0 => self.small = chains,
+            1 => self.medium = chains,
+            _ => self.wide = chains,
+        }
+    }
+
+    /// Whether there are slots of any class.
+    fn has_any(&self) -> bool
+        ensures { (class : ℕ) → is_some (turned (in_class self.now class).aged.first (in_class self.now class)).aged.first ≡ true → result ≡ true }
+    {
+        self.small.has_any() || self.medium.has_any() || self.wide.has_any()
+    }
+}
+
+impl Limbo {
+    /// Of a seat that has retired nothing.
+    pub fn new() -> Limbo
+        ensures limbo { (v : View) → v.retired ≡ [] → IsLimbo result v }
+    {
+        Limbo {
+            replaced: ByClass::new(),
+            singles: ByClass::new(),
+            indirections: ByClass::new(),
+            mains: ByClass::new(),
+            seen: 0,
+        }
+    }
+
+    /// The chains of this kind.
+    #[inline(always)]
+    fn kind(&self, kind: Kind) -> ByClass
+        ensures { result ≡ by_kind self.now kind }
+    {
+        match kind {
+            Kind::Replaced => self.replaced,
+            Kind::Single => self.singles,
+            Kind::Indirection => self.indirections,
+            Kind::Main => self.mains,
+        }
+    }
+
+    /// The chains of this kind are these now.
+    #[inline(always)]
+    fn set_kind(&mut self, kind: Kind, classes: ByClass)
+        ensures { self.new ≡ with_kind self.old kind classes }
+    {
+        match kind {
+            Kind::Replaced => self.replaced = classes,
+            Kind::Single => self.singles = classes,
+            Kind::Indirection => self.indirections = classes,
+            Kind::Main => self.mains = classes,
+        }
+    }
+
+    /// The chains of this kind and class.
+    #[inline(always)]
+    fn chains(&self, kind: Kind, class: u32) -> Chains
+        ensures { result ≡ chains_of self.now kind class }
+    {
+        self.kind(kind).chains(class)
+    }
+
+    /// The chains of this kind and class are these now.
+    #[inline(always)]
+    fn set_chains(&mut self, kind: Kind, class: u32, chains: Chains)
+        ensures { self.new ≡ with_chains self.old kind class chains }
+    {
+        let mut classes = self.kind(kind);
+        classes.set_chains(class, chains);
+        self.set_kind(kind, classes);
+    }
+
+    /// The young chain of this kind and class is the aged one, once that has no slots.
+    pub(crate) fn turn(&mut self, kind: Kind, class: u32)
+        ensures { self.new ≡ turned_in self.old kind class }
+    {
+        let chains = self.chains(kind, class);
+        self.set_chains(kind, class, chains.turned());
+    }
+
+    /// The first slot of the aged chain of this kind and class.
+    pub(crate) fn first_aged(&self, kind: Kind, class: u32) -> Option<u32>
+        ensures { result ≡ (chains_of self.now kind class).aged.first }
+    {
+        self.chains(kind, class).aged.first
+    }
+
+    /// Whether the aged chain of this kind and class has slots, all of which were retired three epochs before the one that the seat has
+    /// seen last.
+    pub(crate) fn has_ripe(&self, kind: Kind, class: u32) -> bool
+        ensures ripe { IsTrue result → (chains_of self.now kind class).aged.stamp + 3 ≤ self.now.seen }
+        ensures some { is_some (chains_of self.now kind class).aged.first ≡ true → (chains_of self.now kind class).aged.stamp + 3 ≤ self.now.seen → result ≡ true }
+    {
+        let aged = self.chains(kind, class).aged;
+        if aged.first.is_none() {
+            return false;
+        }
+        is_ripe(self.seen, aged.stamp)
+    }
+
+    /// Whether there are slots of any kind.
+    pub(crate) fn has_any(&self) -> bool
+        ensures { (class : ℕ) → is_some (next_chain self.now class).first ≡ true → result ≡ true }
+    {
+        self.replaced.has_any()
+            || self.singles.has_any()
+            || self.indirections.has_any()
+            || self.mains.has_any()
+    }
+
+    /// The first slot of the aged chain of this kind and class, whose link this was, is left out.
+    pub(crate) fn lead_on(&mut self, kind: Kind, class: u32, link: u32)
+        ensures { self.new ≡ led_on self.old kind class link }
+    {
+        let mut chains = self.chains(kind, class);
+        chains.aged.first = linked_by(link);
+        self.set_chains(kind, class, chains);
+    }
+}
+
+/// Hangs the slot that the seat has retired in a chain of its kind and class. All that it had retired before hangs already.
+#[inline(always)]
 pub fn hang(
     words: &Words,
     actor: &mut Actor,
     sizes: &Sizes,
     limbo: &mut Limbo,
+    kind: Kind,
     class: u32,
     slot: u32,
 )
     requires table { actor.old.table_id ≡ words.now.table_id }
     requires sound { IsSound words.now.table_id.words actor.old.me.0 }
     requires sizes { actor.old.me.0.sizes ≡ sizes.now }
-    requires newest { IsNewest limbo.old actor.old.me.0 class slot }
+    requires next { IsNext limbo.old actor.old.me.0 kind class slot }
     ensures table { actor.new.table_id ≡ actor.old.table_id }
     ensures sound { IsSound words.now.table_id.words actor.new.me.0 }
-    ensures limbo { IsLimbo limbo.new actor.new.me.0 }
+    ensures limbo { (h : IsNext limbo.old actor.old.me.0 kind class slot) → IsLimbo limbo.new (having_retired actor.new.me.0 h.now) }
     ensures hung { HasHung actor.old.me.0 actor.new.me.0 }
 {
     let stamp = see_epoch(words, actor);
     let known = see_link(words, actor, sizes, class, slot);
-    let next = link_to(limbo.young.first);
+    let mut chains = limbo.chains(kind, class);
+    let next = link_to(chains.young.first);
     link(words, actor, sizes, class, slot, known, next);
-    limbo.young = Chain {
+    chains.young = Chain {
         first: Some(slot),
         stamp,
     };
+    limbo.set_chains(kind, class, chains);
     limbo.seen = stamp;
-}
-
-/// Makes the first slot of the aged chain, whose epoch is three back, free for the seat, if there is one, and its stock has room. Returns
-/// whether it did.
-fn free_one(words: &Words, actor: &mut Actor, limbo: &mut Limbo, stock: &mut Stock) -> bool
-    requires table { actor.old.table_id ≡ words.now.table_id }
-    requires sound { IsSound words.now.table_id.words actor.old.me.0 }
-    requires stock { HoldsSlots stock.old actor.old.me.0 }
-    requires limbo { IsLimbo limbo.old actor.old.me.0 }
-    requires ripe { limbo.old.aged.stamp + 3 ≤ actor.old.me.0.epoch }
-    ensures table { actor.new.table_id ≡ actor.old.table_id }
-    ensures sound { IsSound words.now.table_id.words actor.new.me.0 }
-    ensures stock { HoldsSlots stock.new actor.new.me.0 }
-    ensures limbo { IsLimbo limbo.new actor.new.me.0 }
-    ensures ripe { limbo.new.aged.stamp + 3 ≤ actor.new.me.0.epoch }
-    ensures reclaimed { HasReclaimedSome actor.old.me.0 actor.new.me.0 }
-    ensures freed { HasRoom stock.old kept_free → FreesFirst limbo.old actor.old.me.0 actor.new.me.0 }
-{
-    let Some(slot) = limbo.aged.first else {
-        return false;
-    };
-    if !stock.takes_back() {
-        return false;
-    }
-    let sizes = stock.sizes();
-    let class = sizes.class(slot);
-    let link = reclaim(words, actor, &sizes, class, slot);
-    stock.add(class, slot);
-    limbo.aged.first = linked_by(link);
-    true
-}
-
-/// The same with so many slots at most, one after the other.
-fn free_some(tries: u64, words: &Words, actor: &mut Actor, limbo: &mut Limbo, stock: &mut Stock)
-    requires table { actor.old.table_id ≡ words.now.table_id }
-    requires sound { IsSound words.now.table_id.words actor.old.me.0 }
-    requires stock { HoldsSlots stock.old actor.old.me.0 }
-    requires limbo { IsLimbo limbo.old actor.old.me.0 }
-    requires ripe { limbo.old.aged.stamp + 3 ≤ actor.old.me.0.epoch }
-    ensures table { actor.new.table_id ≡ actor.old.table_id }
-    ensures sound { IsSound words.now.table_id.words actor.new.me.0 }
-    ensures stock { HoldsSlots stock.new actor.new.me.0 }
-    ensures limbo { IsLimbo limbo.new actor.new.me.0 }
-    ensures reclaimed { HasReclaimedSome actor.old.me.0 actor.new.me.0 }
-    ensures freed { 1 ≤ tries → HasRoom stock.old kept_free → FreesFirst limbo.old actor.old.me.0 actor.new.me.0 }
-{
-    for _done in 0..tries {
-        if !free_one(words, actor, limbo, stock) {
-            return;
-        }
-    }
-}
-
-/// Makes slots that the seat has retired free for it again, so many at most, as long as its stock has room: those of its aged chain, once
-/// the epoch is three later. Until then it lets the epoch grow, unless a seat is in a call that it began in an earlier one.
-pub fn reclaim_some(
-    tries: u64,
-    words: &Words,
-    actor: &mut Actor,
-    limbo: &mut Limbo,
-    stock: &mut Stock,
-)
-    requires table { actor.old.table_id ≡ words.now.table_id }
-    requires sound { IsSound words.now.table_id.words actor.old.me.0 }
-    requires stock { HoldsSlots stock.old actor.old.me.0 }
-    requires limbo { IsLimbo limbo.old actor.old.me.0 }
-    ensures table { actor.new.table_id ≡ actor.old.table_id }
-    ensures sound { IsSound words.now.table_id.words actor.new.me.0 }
-    ensures stock { HoldsSlots stock.new actor.new.me.0 }
-    ensures limbo { IsLimbo limbo.new actor.new.me.0 }
-    ensures reclaimed { HasReclaimedSome actor.old.me.0 actor.new.me.0 }
-    ensures freed { 1 ≤ tries → HasRoom stock.old kept_free → FreesRipe limbo.old actor.old.me.0 actor.new.me.0 }
-{
-    limbo.turn();
-    if limbo.aged.first.is_none() {
-        return;
-    }
-    let epoch = see_epoch(words, actor);
-    limbo.seen = epoch;
-    if is_ripe(epoch, limbo.aged.stamp) {
-        free_some(tries, words, actor, limbo, stock);
-        return;
-    }
-    let sizes = stock.sizes();
-    advance(words, actor, &sizes);
 }

@@ -1,14 +1,24 @@
-//! Slots that a seat has retired are linked with each other, by the high halves of the words of their counts.
+//! Slots that a seat has retired are linked with each other, by the low halves of the words of their counts.
 
 ghost use Rattle.std.specs.Prelude.{◌≡◌, ◌<◌, Contains};
 ghost use Rattle.lock_free.specs.Linking.{linking, HasRetiredSlot};
+ghost use Rattle.lock_free.specs.Links.{link_in};
 ghost use Rattle.lock_free.specs.Loading.{IsSound};
 ghost use Rattle.lock_free.specs.Places.{count_word, IsSlot};
 
-use crate::counting::COUNTS;
 use crate::loads::{Actor, Words};
 use crate::rules::{Links, SeesLink};
 use crate::sizes::Sizes;
+
+/// So many links there can be.
+const LINKS: u64 = 1 << 32;
+
+/// The link in the word of a count.
+pub(crate) fn link_in(count: u64) -> u32
+    ensures { result ≡ link_in count }
+{
+    (count % LINKS) as u32
+}
 
 /// Looks at the link of a slot that the seat has retired. From then on the seat knows it.
 pub fn see_link(words: &Words, actor: &mut Actor, sizes: &Sizes, class: u32, slot: u32) -> u32
@@ -22,7 +32,7 @@ pub fn see_link(words: &Words, actor: &mut Actor, sizes: &Sizes, class: u32, slo
     ensures sound { IsSound words.now.table_id.words actor.new.me.0 }
     ensures seen { actor.new.me.0 ≡ linking actor.old.me.0 (count_word sizes.now class slot) result }
 {
-    (words.load::<SeesLink>(actor, sizes.count_word(class, slot)) / COUNTS) as u32
+    link_in(words.load::<SeesLink>(actor, sizes.count_word(class, slot)))
 }
 
 /// Makes another link of the one that the seat knows of a slot that it has retired. The slot's count stays what it is, whoever changes it
@@ -46,6 +56,6 @@ pub fn link(
     ensures sound { IsSound words.now.table_id.words actor.new.me.0 }
     ensures linked { actor.new.me.0 ≡ linking actor.old.me.0 (count_word sizes.now class slot) new }
 {
-    let change = u64::from(new.wrapping_sub(known)) * COUNTS;
+    let change = u64::from(new).wrapping_sub(u64::from(known));
     words.fetch_add::<Links>(actor, sizes.count_word(class, slot), change);
 }

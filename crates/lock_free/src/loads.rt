@@ -5,7 +5,7 @@ ghost use Rattle.trie_words.specs.Codes.{header_of};
 ghost use Rattle.machine_model.specs.declared.actions.Action.TheVariants as act;
 ghost use Rattle.lock_free.specs.Entries.{HasSeenEntry};
 ghost use Rattle.lock_free.specs.Loading.{IsSound, IsAtSlot, HoldsSlot, HasPosition, HasReadHeader, HasReadLink, HasLookedAtMain, HasLookedAtLink, HasLookedAtKey, HasLookedAtValue, HasSeenMain};
-ghost use Rattle.lock_free.specs.Loading.{HasSeenKey, HasSeenPair};
+ghost use Rattle.lock_free.specs.Loading.{HasSeenIndirection, HasSeenKey, HasSeenPair};
 
 use crate::rules::{Goes, Rule, Sees, View};
 use crate::sizes::Sizes;
@@ -125,6 +125,18 @@ pub fn see_main(words: &Words, actor: &mut Actor, main: u32) -> Header
     ensures seen { HasSeenMain actor.old.me.0 main result actor.new.me.0 }
 {
     Header::of_word(words.load::<Sees>(actor, 2 * main as usize))
+}
+
+/// The word of an indirection that the seat's operation holds.
+pub fn see_indirection(words: &Words, actor: &mut Actor, indirection: u32) -> Link
+    requires table { actor.old.table_id ≡ words.now.table_id }
+    requires sound { IsSound words.now.table_id.words actor.old.me.0 }
+    requires held { HoldsSlot actor.old.me.0 indirection }
+    ensures table { actor.new.table_id ≡ actor.old.table_id }
+    ensures sound { IsSound words.now.table_id.words actor.new.me.0 }
+    ensures seen { HasSeenIndirection actor.old.me.0 indirection result actor.new.me.0 }
+{
+    Link::of_word(words.load::<Sees>(actor, 2 * indirection as usize))
 }
 
 /// The key of a single that the seat's operation holds.

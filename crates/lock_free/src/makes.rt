@@ -6,7 +6,8 @@ ghost use Rattle.machine_model.specs.Beneath.slot_arena.specs.declared.refs.Ref.
 ghost use Rattle.machine_model.specs.Beneath.slot_arena.specs.declared.nodes.Node.TheVariants.{Indirection, Single, Tomb};
 ghost use Rattle.lock_free.specs.Halves.{entries_of_halves, AreHalves};
 ghost use Rattle.lock_free.specs.Loading.{IsAt, IsSound};
-ghost use Rattle.lock_free.specs.Owning.{IsBuilding};
+ghost use Rattle.lock_free.specs.Owing.{HoldsRaised};
+ghost use Rattle.lock_free.specs.Owning.{MayOwn};
 ghost use Rattle.lock_free.specs.Passing.{IsPlaced};
 ghost use Rattle.lock_free.specs.Classes.{shape_class};
 ghost use Rattle.lock_free.specs.Places.{class_for};
@@ -82,7 +83,8 @@ pub fn make_link(
     requires sound { IsSound words.now.table_id.words actor.old.me.0 }
     requires stock { IsStock stock.old actor.old.me.0 }
     requires generation { generation < 2 ^ 36 }
-    requires making { (r : ARef) × (p : IsAt actor.old.me.0 (act.Make (Indirection generation r))) × IsPlaced actor.old.me.0 r main.slot × (main.own ≡ true → IsBuilding p.operation.line r) }
+    requires making { (r : ARef) × (p : IsAt actor.old.me.0 (act.Make (Indirection generation r))) × IsPlaced actor.old.me.0 r main.slot × MayOwn p.operation.line (Indirection generation r) main.own }
+    requires raised { HoldsRaised actor.old.me.0 }
     ensures table { actor.new.table_id ≡ actor.old.table_id }
     ensures sound { IsSound words.now.table_id.words actor.new.me.0 }
     ensures stock { IsStock stock.new actor.new.me.0 }
@@ -135,7 +137,7 @@ fn write_entries(words: &Words, actor: &mut Actor, slot: u32, halves: &[u32])
 
 /// Makes the main node with this header and the entries of these halves. Returns its slot, or none where no slot is had: then nothing has changed.
 #[inline(always)]
-fn make_main(
+pub fn make_main(
     tries: u64,
     words: &Words,
     actor: &mut Actor,
@@ -148,6 +150,7 @@ fn make_main(
     requires stock { IsStock stock.old actor.old.me.0 }
     requires halves { AreHalves halves.now }
     requires making { IsAtMain actor.old.me.0 header.shape (entries_of_halves halves.now) }
+    requires raised { HoldsRaised actor.old.me.0 }
     requires over { IsOver actor.old.me.0 header.previous }
     ensures table { actor.new.table_id ≡ actor.old.table_id }
     ensures sound { IsSound words.now.table_id.words actor.new.me.0 }
@@ -177,6 +180,7 @@ pub fn make_tomb(
     requires sound { IsSound words.now.table_id.words actor.old.me.0 }
     requires stock { IsStock stock.old actor.old.me.0 }
     requires making { (r : ARef) × IsAt actor.old.me.0 (act.Make (Tomb r)) × IsPlaced actor.old.me.0 r single.slot }
+    requires raised { HoldsRaised actor.old.me.0 }
     requires over { IsOver actor.old.me.0 previous }
     ensures table { actor.new.table_id ≡ actor.old.table_id }
     ensures sound { IsSound words.now.table_id.words actor.new.me.0 }
@@ -209,6 +213,7 @@ pub fn make_branch_of(
     requires few { length halves.now ≤ 32 }
     requires halves { AreHalves halves.now }
     requires making { IsAtBranch actor.old.me.0 bitmap (entries_of_halves halves.now) }
+    requires raised { HoldsRaised actor.old.me.0 }
     requires over { IsOver actor.old.me.0 previous }
     ensures table { actor.new.table_id ≡ actor.old.table_id }
     ensures sound { IsSound words.now.table_id.words actor.new.me.0 }
@@ -243,6 +248,7 @@ pub fn make_list_of(
     requires few { length halves.now ≤ 32 }
     requires halves { AreHalves halves.now }
     requires making { IsAtList actor.old.me.0 (entries_of_halves halves.now) }
+    requires raised { HoldsRaised actor.old.me.0 }
     requires over { IsOver actor.old.me.0 previous }
     ensures table { actor.new.table_id ≡ actor.old.table_id }
     ensures sound { IsSound words.now.table_id.words actor.new.me.0 }
@@ -276,6 +282,7 @@ pub fn make_branch(
     requires stock { IsStock stock.old actor.old.me.0 }
     requires few { length entries.now ≤ 32 }
     requires making { IsAtBranch actor.old.me.0 bitmap entries.now }
+    requires raised { HoldsRaised actor.old.me.0 }
     requires over { IsOver actor.old.me.0 previous }
     ensures table { actor.new.table_id ≡ actor.old.table_id }
     ensures sound { IsSound words.now.table_id.words actor.new.me.0 }
@@ -301,6 +308,7 @@ pub fn make_list(
     requires stock { IsStock stock.old actor.old.me.0 }
     requires few { length entries.now ≤ 32 }
     requires making { IsAtList actor.old.me.0 entries.now }
+    requires raised { HoldsRaised actor.old.me.0 }
     requires over { IsOver actor.old.me.0 previous }
     ensures table { actor.new.table_id ≡ actor.old.table_id }
     ensures sound { IsSound words.now.table_id.words actor.new.me.0 }

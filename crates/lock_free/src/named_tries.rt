@@ -5,6 +5,7 @@ ghost use Rattle.history.specs.declared.calls.Call.{Call as AnyCall};
 ghost use Rattle.history.specs.declared.calls.Call.TheVariants.{Count, Entries};
 ghost use Rattle.history.specs.declared.replies.Reply.TheVariants as reply;
 ghost use Rattle.lock_free.specs.declared.rules.View.{View};
+ghost use Rattle.lock_free.specs.Accesses.{IsToldAccess};
 ghost use Rattle.lock_free.specs.Attempts.{IsTried};
 ghost use Rattle.lock_free.specs.KeyReplies.{FitsError};
 ghost use Rattle.lock_free.specs.SeatCalls.{IsTold, RanOut};
@@ -12,7 +13,7 @@ ghost use Rattle.lock_free.specs.SeatCalls.{IsTold, RanOut};
 use crate::call_errors::CallError;
 use crate::naming::{MapName, NamedSeat, NamedWords};
 use crate::parked_seats::{ParkedSeat, Tried};
-use history::{Call, Reply};
+use history::{Access, Call, Reply};
 use std::alloc::Global;
 use std::marker::{Model, PhantomData};
 
@@ -73,6 +74,19 @@ impl<N: MapName> NamedSeat<N> {
         ensures tried { HasTriedCall self.view call (plain result) ⊎ NeverBegan self.view (plain result) }
     {
         NamedTried::new(self.into_seat().try_call(&words.board.shared, tries, call))
+    }
+
+    /// As `Seat::access_within`.
+    pub fn access_within(
+        &mut self,
+        tries: u64,
+        words: &NamedWords<N>,
+        handle: u16,
+    ) -> Result<Access, CallError>
+        ensures seat { HasGoneOn self.old self.new }
+        ensures told { IsToldAccess self.old.view handle result self.new.view ⊎ RanOut self.old.view result self.new.view }
+    {
+        self.seat.access_within(tries, &words.board.shared, handle)
     }
 
     /// As `Seat::entries_within`.

@@ -6,6 +6,7 @@
 ghost use Rattle.std.specs.Prelude.{◌≡◌, ◌<◌, ◌≤◌, ◌↔◌, All, IfOk, IfErr, IfSome, IfNone, IsTrue, map};
 ghost use Rattle.history.specs.declared.calls.Call.TheVariants.{Clear, Count, Entries, Freeze, Get, Put, PutIfAbsent, Remove, RemoveIf, Replace, ReplaceIf, Snapshot};
 ghost use Rattle.history.specs.declared.replies.Reply.TheVariants as reply;
+ghost use Rattle.lock_free.specs.Accesses.{IsToldAccess};
 ghost use Rattle.lock_free.specs.Finishing.{IsTold as IsToldAll};
 ghost use Rattle.lock_free.specs.KeyReplies.{FitsError};
 ghost use Rattle.lock_free.specs.Naming.{MapId, no_map};
@@ -17,6 +18,7 @@ use crate::call_errors::CallError;
 use crate::finishing::finish_map;
 use crate::opening::Board;
 use crate::seating::Seat;
+use history::Access;
 use std::alloc::Global;
 use std::marker::{Brand, Model, PhantomData};
 use std::sync::Wait;
@@ -331,6 +333,19 @@ impl<N: MapName> NamedSeat<N> {
         ensures told { IsToldClose self.old.view handle result self.new.view }
     {
         self.seat.close(&words.board.shared, handle)
+    }
+
+    /// As `Seat::access`.
+    pub fn access<R: Wait>(
+        &mut self,
+        rt: &R,
+        words: &NamedWords<N>,
+        handle: u16,
+    ) -> Result<Access, CallError>
+        ensures seat { HasGoneOn self.old self.new }
+        ensures told { IsToldAccess self.old.view handle result self.new.view }
+    {
+        self.seat.access(rt, &words.board.shared, handle)
     }
 
     /// As `Seat::entries`.

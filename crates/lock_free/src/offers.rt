@@ -4,10 +4,13 @@ ghost use Rattle.std.specs.Prelude.{◌≡◌, ◌<◌, ◌*◌};
 ghost use Rattle.lock_free.specs.Loading.{IsSound};
 ghost use Rattle.lock_free.specs.HandleWords.{HasOffer};
 ghost use Rattle.lock_free.specs.OfferWords.{IsAtAbort, IsAtComplete, HasAborted, HasCompleted, carried_by, outcome_by};
+ghost use Rattle.lock_free.specs.Outcomes.{has_concluded, HasConcluded, IsConcluding};
 ghost use Rattle.lock_free.specs.RootWords.{AsksAt, HasMetOffer, HasSeenFate, HasSeenNews, HasSeenOlds, KnowsOffer, fate_by};
 
 use crate::loads::{Actor, Words};
-use crate::rules::{Completes, Goes, Meets, Sees};
+use crate::rules::{Completes, Goes, Meets, Sees, View};
+use atomic_table::Play;
+use history::Call;
 use trie_words::Pair;
 
 /// An offer's first word: it is neither carried out nor taken back.
@@ -18,6 +21,13 @@ const CARRIED_OUT: u64 = 1;
 
 /// It is taken back.
 const TAKEN_BACK: u64 = 2;
+
+/// An operation finds what came of its own offer, which is settled now, or was.
+pub struct Concludes;
+
+impl Play<Call, View> for Concludes {
+    ghost then = { has_concluded };
+}
 
 /// What has become of an offer.
 #[derive(Clone, Copy, Drop)]
@@ -135,5 +145,21 @@ pub fn complete(words: &Words, actor: &mut Actor, offer: u32, is_expected: bool)
 {
     let outcome = outcome_of(is_expected);
     let found = words.compare_exchange::<Completes>(actor, 2 * offer as usize, UNDECIDED, outcome);
+    is_carried_out(found, is_expected)
+}
+
+/// The same of the seat's own offer, by which its operation finds what came of it. Where it was carried out the seat holds the old root
+/// itself from then on, but for a freeze; where it was taken back, what the roots name that were made for it.
+pub fn conclude(words: &Words, actor: &mut Actor, offer: u32, is_expected: bool) -> bool
+    requires table { actor.old.table_id ≡ words.now.table_id }
+    requires sound { IsSound words.now.table_id.words actor.old.me.0 }
+    requires within { 2 * offer < words.now.table_id.words }
+    requires concluding { IsConcluding actor.old.me.0 offer is_expected }
+    ensures table { actor.new.table_id ≡ actor.old.table_id }
+    ensures sound { IsSound words.now.table_id.words actor.new.me.0 }
+    ensures concluded { HasConcluded actor.old.me.0 result actor.new.me.0 }
+{
+    let outcome = outcome_of(is_expected);
+    let found = words.compare_exchange::<Concludes>(actor, 2 * offer as usize, UNDECIDED, outcome);
     is_carried_out(found, is_expected)
 }

@@ -14,8 +14,9 @@ use crate::copy_runs::copy_goes_on;
 use crate::leaving::{Completing, Left, Swapping};
 use crate::loads::{Actor, Words};
 use crate::reading::Way;
+use crate::reclaiming::Decided;
 use crate::stock::Stock;
-use crate::swapping::{Decided, swap_on};
+use crate::swapping::swap_on;
 use crate::tasks::changed_reply;
 use history::{Access, Call, Reply};
 
@@ -136,7 +137,7 @@ fn change_on(
     let handle = call.handle();
     match swap_on(tries, words, actor, stock, Way { handle, access }, swapping) {
         Ok(Decided::Commits(_)) => Came::Answered(wind_up(words, actor, call, former)),
-        Ok(Decided::Fails) => Came::Spent,
+        Ok(Decided::Fails(_)) => Came::Spent,
         Err(next) => Came::Parked(Parked::Changes(next, former)),
     }
 }
@@ -198,7 +199,7 @@ pub(crate) fn go_on(
             tries, words, actor, stock, call, access, swapping, former,
         ),
         Parked::Copies(completing, opens) => copy_goes_on(
-            tries, words, actor, call, access, opens, completing,
+            tries, words, actor, stock, call, access, opens, completing,
         ),
     }
 }

@@ -24,7 +24,8 @@ pub(crate) fn pin_word_of(seat: u8) -> usize
     336 + 16 * seat as usize
 }
 
-/// Pins this seat, which runs nothing and isn't pinned, for a call, with an epoch that it has seen.
+/// Pins this seat, which runs nothing and isn't pinned, for a call, with an epoch that it has seen: to the handle of the call, or to none,
+/// where that closes one.
 #[inline(always)]
 pub fn pin(words: &Words, actor: &mut Actor, seat: u8, pin: Pin, call: &Call)
     requires table { actor.old.table_id ≡ words.now.table_id }

@@ -7,7 +7,7 @@ ghost use Rattle.lock_free.specs.Leaving.{HasCompletedOn, HasLeftOff, HasStayedO
 ghost use Rattle.lock_free.specs.Loading.{IsSound, Saw};
 ghost use Rattle.lock_free.specs.Passing.{IsOnWay};
 ghost use Rattle.lock_free.specs.RootWords.{IsOpenedBy, IsToOpen};
-ghost use Rattle.lock_free.specs.Rooting.{HasHelped, HasRooted, IsAtRoot, IsCompleting, IsSettledAt};
+ghost use Rattle.lock_free.specs.Rooting.{HasHelped, HasReadExpected, HasRooted, IsAtRoot, IsCompleting, IsSettledAt};
 
 use crate::asking::{Named, ask_word, see_generation};
 use crate::handles::{clean, open_number};
@@ -92,6 +92,33 @@ pub fn open_if_carried_out(
     }
 }
 
+/// The READ of a COMPLETE, on to its end within so many tries. Returns whether it gives the main node that the offer expects; or from where
+/// it goes on.
+pub fn is_expected_on(
+    tries: u64,
+    words: &Words,
+    actor: &mut Actor,
+    way: Way,
+    completing: Completing,
+) -> Result<bool, Completing>
+    requires table { actor.old.table_id ≡ words.now.table_id }
+    requires sound { IsSound words.now.table_id.words actor.old.me.0 }
+    requires way { IsOnWay actor.old.me.0 way }
+    requires completing { IsCompleteOf actor.old.me.0 way.handle completing }
+    ensures table { actor.new.table_id ≡ actor.old.table_id }
+    ensures sound { IsSound words.now.table_id.words actor.new.me.0 }
+    ensures expected { IfOk result (λ expected. HasReadExpected actor.old.me.0 completing.offer expected actor.new.me.0) }
+    ensures on { IfErr result (λ next. HasCompletedOn actor.old.me.0 way.handle completing.offer next actor.new.me.0) }
+{
+    match read_on(tries, words, actor, way, completing.root, completing.from) {
+        Passed::Again(from) => Err(Completing { from, ..completing }),
+        Passed::Gives(given) => {
+            let expected = see_olds(words, actor, completing.offer).high;
+            Ok(given.link.main.slot == expected)
+        }
+    }
+}
+
 /// COMPLETE of an offer, from its READ on, within so many tries. Returns whether the offer is carried out by now; or from where it goes
 /// on.
 pub fn complete_on(
@@ -110,13 +137,9 @@ pub fn complete_on(
     ensures helped { IfOk result (λ carried. HasHelped actor.old.me.0 carried actor.new.me.0) }
     ensures on { IfErr result (λ next. HasCompletedOn actor.old.me.0 way.handle completing.offer next actor.new.me.0) }
 {
-    match read_on(tries, words, actor, way, completing.root, completing.from) {
-        Passed::Again(from) => Err(Completing { from, ..completing }),
-        Passed::Gives(given) => {
-            let expected = see_olds(words, actor, completing.offer).high;
-            let is_expected = given.link.main.slot == expected;
-            Ok(complete(words, actor, completing.offer, is_expected))
-        }
+    match is_expected_on(tries, words, actor, way, completing) {
+        Ok(is_expected) => Ok(complete(words, actor, completing.offer, is_expected)),
+        Err(next) => Err(next),
     }
 }
 

@@ -4,7 +4,6 @@ ghost use Rattle.lock_free.specs.declared.rules.View.{View};
 ghost use Rattle.lock_free.specs.Rules.{IsRuled, first_view};
 ghost use Rattle.lock_free.specs.Loading.{has_seen, has_gone};
 ghost use Rattle.lock_free.specs.Calling.{has_cut_short, has_given_up, has_started};
-ghost use Rattle.lock_free.specs.Counting.{has_lowered, has_raised};
 ghost use Rattle.lock_free.specs.Epochs.{has_advanced, has_checked, has_seen_epoch};
 ghost use Rattle.lock_free.specs.Exchanging.{has_published};
 ghost use Rattle.lock_free.specs.Finishing.{has_emptied, hearing, no_view};
@@ -34,8 +33,7 @@ pub struct Pool {
     pub wide: LinkedList<u32>,
 }
 
-/// A handle that a seat has marked, since it would close it, and how many seats it has found in no call on it since. No value of it
-/// is made.
+/// A handle that a seat has marked to close it, and how many seats it has found in no call on it since. No value of it is made.
 pub struct Closing {
     pub handle: u16,
     pub looked: u8,
@@ -64,6 +62,9 @@ pub struct Retired {
     pub number: u64,
     pub stamp: u64,
     pub account: Account,
+    /// Its last reference was lowered: what it names is held till the slot is free. If not it was replaced, as an indirection's own main
+    /// node, and holds nothing.
+    pub deep: bool,
 }
 
 /// What a seat knows. No value of it is made.
@@ -100,8 +101,10 @@ pub struct View {
     pub retired: LinkedList<Retired>,
     /// The nodes to which it holds a reference itself, the latest first, by the words of their counts.
     pub owed: LinkedList<u64>,
-    /// What it knows of the links of slots that it has retired: the number of the word of a count, and what its high half is.
+    /// What it knows of the links of slots that it has retired: the number of the word of a count, and what its low half is.
     pub links: LinkedList<(u64, u64)>,
+    /// Handles whose words it has found to name no offer while nothing ran, and how many operations had begun then.
+    pub plain: LinkedList<(u16, u64)>,
     /// The seats of which it has heard.
     pub heard: LinkedList<Heard>,
 }
@@ -234,7 +237,7 @@ impl Play<Call, View> for Advances {
     ghost then = { has_advanced };
 }
 
-/// A SWAP's last step is taken, and the slot of the main node that it has replaced is retired, or isn't.
+/// A SWAP's last step is taken, and the slot of the main node that it lets go of is retired, or isn't.
 pub struct Retires;
 
 impl Play<Call, View> for Retires {
@@ -246,20 +249,6 @@ pub struct Reclaims;
 
 impl Play<Call, View> for Reclaims {
     ghost then = { has_reclaimed };
-}
-
-/// A reference more is counted, which the seat holds, or isn't.
-pub struct Raises;
-
-impl Play<Call, View> for Raises {
-    ghost then = { has_raised };
-}
-
-/// A reference less is counted, which the seat held, or isn't.
-pub struct Lowers;
-
-impl Play<Call, View> for Lowers {
-    ghost then = { has_lowered };
 }
 
 /// The link of a slot that the seat has retired is looked at.

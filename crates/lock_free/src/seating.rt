@@ -62,7 +62,7 @@ pub fn open(alloc: Global, sizes: Sizes) -> Result<(Board, Seat), OpenError>
 }
 
 impl Seat {
-    ghost use Rattle.lock_free.specs.Seated.{HasSplit};
+    ghost use Rattle.lock_free.specs.Seated.{HasSplit, IsResting};
 
     /// Its number, from 1 on: no other seat of the map has it.
     pub fn number(&self) -> u8
@@ -83,6 +83,7 @@ impl Seat {
     pub(crate) fn into_actor(self) -> Actor
         ensures table { result.table_id ≡ self.table }
         ensures sound { IsSound self.table.words self.view }
+        ensures rests { IsResting self.view }
         ensures same { result.me.0 ≡ self.view }
     {
         self.actor

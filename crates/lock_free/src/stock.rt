@@ -1,34 +1,32 @@
 //! What a seat owns in plain memory: slots that are free for it, and those of the nodes that its operation has made.
 
-ghost use Rattle.std.specs.Prelude.{◌≡◌, ◌<◌, ◌≤◌, ◌^◌, [], IsTrue, OnSome};
+ghost use Rattle.std.specs.Prelude.{◌≡◌, ◌+◌, ◌<◌, ◌≤◌, ◌^◌, [], IsTrue, OnSome};
 ghost use Rattle.lock_free.specs.declared.rules.View.{View};
-ghost use Rattle.lock_free.specs.Freeing.{kept_free};
-ghost use Rattle.lock_free.specs.Limbos.{HasHung, HasReclaimedSome, IsLimbo, IsNewestOrNone};
+ghost use Rattle.lock_free.specs.Freed.{kept_free};
+ghost use Rattle.lock_free.specs.Limbos.{chains_of, led_on, turned_in, having_retired, AreNewest, HasHung, IsLimbo, IsNewest, IsNewestOrNone, IsNext};
 ghost use Rattle.lock_free.specs.Loading.{IsSound};
 ghost use Rattle.lock_free.specs.Making.{with_slot};
 ghost use Rattle.lock_free.specs.Rules.{pool_of};
-ghost use Rattle.lock_free.specs.Stocks.{HasRoom, HasSlotOrNone, IsLast, IsStock, NotesLast, put_back};
+ghost use Rattle.lock_free.specs.Stocks.{HasRoom, HasRoomFor, HasSlotOrNone, IsLast, IsStock, NotesLast, put_back};
 
 use crate::free_slots::Free;
-use crate::limbo::{Limbo, hang, reclaim_some};
+use crate::limbo::{Limbo, hang};
 use crate::loads::{Actor, Words};
-use crate::reclaiming::Retiree;
+use crate::reclaiming::{Kind, Retiree};
 use crate::sizes::Sizes;
 use crate::stores::{Tried, try_take};
 use arrayvec::ArrayVec;
 use std::marker::Model;
+use trie_words::Pair;
 
 /// So many slots of a class are kept at most, with those of all nodes that were made. One try of an operation makes 33 at most.
 const MOST_KEPT: usize = 128;
 
-/// A seat that has retired so many slots makes some free again when its call ends.
+/// A seat that has begun so many calls, or retired so many slots, looks at the epoch and makes some free again when its call ends.
 const OFTEN: u32 = 16;
 
 /// A seat's word has room for this epoch, and for none after it.
 const LAST_EPOCH: u64 = (1 << 54) - 1;
-
-/// So many at most.
-const AT_ONCE: u64 = 64;
 
 /// Room for so many is left where slots are free again that were retired.
 const KEPT_FREE: usize = 48;
@@ -51,7 +49,7 @@ pub struct Stock {
     made: ArrayVec<OwnNode, 128>,
     /// What the seat has retired.
     limbo: Limbo,
-    /// How many slots it has retired since it last would make some free.
+    /// How many calls it has begun, and slots it has retired, since it last would make some free.
     newly: u32,
     /// Whether its call has found no slot.
     lacks: bool,
@@ -94,6 +92,7 @@ impl Stock {
     pub fn begin(&mut self)
         ensures { self.new ≡ self.old }
     {
+        self.newly = self.newly.saturating_add(1);
         self.lacks = false;
         self.worn_out = false;
     }
@@ -153,17 +152,17 @@ impl Stock {
         self.made.len() + self.free.most() + 2 <= MOST_KEPT
     }
 
-    /// Whether one slot more leaves room for all that a try may make, of any class.
-    pub fn takes_back(&self) -> bool
-        ensures room { IsTrue result → HasRoom self.now 2 }
-        ensures takes { HasRoom self.now kept_free → IsTrue result }
+    /// Whether one slot more of this class leaves room for all that a try may make of it, however many are free of other classes.
+    pub fn takes_back(&self, class: u32) -> bool
+        ensures room { IsTrue result → HasRoomFor self.now class kept_free }
+        ensures takes { HasRoomFor self.now class kept_free → IsTrue result }
     {
-        self.made.len() + self.free.most() + KEPT_FREE <= MOST_KEPT
+        self.made.len() + self.free.len(class) + KEPT_FREE <= MOST_KEPT
     }
 
-    /// One slot more is free.
+    /// One slot more of this class is free.
     pub fn add(&mut self, class: u32, slot: u32)
-        requires room { HasRoom self.old 1 }
+        requires room { HasRoomFor self.old class 1 }
         ensures sizes { self.new.sizes ≡ self.old.sizes }
         ensures pool { self.new.pool ≡ with_slot self.old.pool class slot }
         ensures made { self.new.made ≡ self.old.made }
@@ -210,27 +209,113 @@ impl Stock {
     }
 
     /// How that hangs which the seat has retired.
-    fn limbo(&self) -> Limbo
+    pub fn limbo(&self) -> Limbo
         ensures { result ≡ self.now.limbo }
     {
         self.limbo
     }
 
     /// It hangs so now, after some was made free.
-    fn hold(&mut self, limbo: Limbo)
+    pub fn hold(&mut self, limbo: Limbo)
         ensures { self.new ≡ record self.old { limbo = limbo } }
     {
         self.limbo = limbo;
         self.newly = 0;
     }
 
-    /// Whether the seat is to make some free of what it has retired.
+    /// The first slot of the aged chain of this kind and class.
+    pub fn first_aged(&self, kind: Kind, class: u32) -> Option<u32>
+        ensures { result ≡ (chains_of self.now.limbo kind class).aged.first }
+    {
+        self.limbo.first_aged(kind, class)
+    }
+
+    /// Whether the aged chain of this kind and class has slots, all of which were retired three epochs before the one that the seat has
+    /// seen last.
+    pub fn has_ripe(&self, kind: Kind, class: u32) -> bool
+        ensures { IsTrue result → (chains_of self.now.limbo kind class).aged.stamp + 3 ≤ self.now.limbo.seen }
+    {
+        self.limbo.has_ripe(kind, class)
+    }
+
+    /// The young chain of this kind and class is the aged one, once that has no slots.
+    pub fn turn(&mut self, kind: Kind, class: u32)
+        ensures { self.new ≡ record self.old { limbo = turned_in self.old.limbo kind class } }
+    {
+        self.limbo.turn(kind, class);
+    }
+
+    /// The first slot of the aged chain of this kind and class, whose link this was, is left out.
+    pub fn lead_on(&mut self, kind: Kind, class: u32, link: u32)
+        ensures { self.new ≡ record self.old { limbo = led_on self.old.limbo kind class link } }
+    {
+        self.limbo.lead_on(kind, class, link);
+    }
+
+    /// Whether the seat is to look at the epoch, and make some free of what it has retired.
     #[inline(always)]
-    fn is_due(&self) -> bool {
+    pub fn is_due(&self) -> bool {
         self.lacks || self.newly >= OFTEN
     }
 
-    /// Hangs the slot that the seat has just retired, if there is one.
+    /// Hangs the slot that the seat has retired with those of its kind and class. All that it had retired before hangs already.
+    fn hang_next(&mut self, words: &Words, actor: &mut Actor, kind: Kind, class: u32, slot: u32)
+        requires table { actor.old.table_id ≡ words.now.table_id }
+        requires sound { IsSound words.now.table_id.words actor.old.me.0 }
+        requires sizes { self.old.sizes ≡ actor.old.me.0.sizes }
+        requires next { IsNext self.old.limbo actor.old.me.0 kind class slot }
+        ensures table { actor.new.table_id ≡ actor.old.table_id }
+        ensures sound { IsSound words.now.table_id.words actor.new.me.0 }
+        ensures same { self.new ≡ record self.old { limbo = self.new.limbo } }
+        ensures limbo { (h : IsNext self.old.limbo actor.old.me.0 kind class slot) → IsLimbo self.new.limbo (having_retired actor.new.me.0 h.now) }
+        ensures hung { HasHung actor.old.me.0 actor.new.me.0 }
+    {
+        self.newly = self.newly.saturating_add(1);
+        hang(
+            words,
+            actor,
+            &self.sizes,
+            &mut self.limbo,
+            kind,
+            class,
+            slot,
+        );
+    }
+
+    /// Hangs the slot that the seat has just retired with those of its kind and class.
+    pub fn hang_one(&mut self, words: &Words, actor: &mut Actor, kind: Kind, class: u32, slot: u32)
+        requires table { actor.old.table_id ≡ words.now.table_id }
+        requires sound { IsSound words.now.table_id.words actor.old.me.0 }
+        requires sizes { self.old.sizes ≡ actor.old.me.0.sizes }
+        requires newest { IsNewest self.old.limbo actor.old.me.0 kind class slot }
+        ensures table { actor.new.table_id ≡ actor.old.table_id }
+        ensures sound { IsSound words.now.table_id.words actor.new.me.0 }
+        ensures same { self.new ≡ record self.old { limbo = self.new.limbo } }
+        ensures limbo { IsLimbo self.new.limbo actor.new.me.0 }
+        ensures hung { HasHung actor.old.me.0 actor.new.me.0 }
+    {
+        self.hang_next(words, actor, kind, class, slot);
+    }
+
+    /// Hangs the slots of the roots that the seat has just retired: the lower one, and the higher one unless it is 0.
+    pub fn hang_roots(&mut self, words: &Words, actor: &mut Actor, roots: Pair)
+        requires table { actor.old.table_id ≡ words.now.table_id }
+        requires sound { IsSound words.now.table_id.words actor.old.me.0 }
+        requires sizes { self.old.sizes ≡ actor.old.me.0.sizes }
+        requires newest { AreNewest self.old.limbo actor.old.me.0 roots }
+        ensures table { actor.new.table_id ≡ actor.old.table_id }
+        ensures sound { IsSound words.now.table_id.words actor.new.me.0 }
+        ensures same { self.new ≡ record self.old { limbo = self.new.limbo } }
+        ensures limbo { IsLimbo self.new.limbo actor.new.me.0 }
+        ensures hung { HasHung actor.old.me.0 actor.new.me.0 }
+    {
+        self.hang_next(words, actor, Kind::Replaced, 0, roots.low);
+        if roots.high != 0 {
+            self.hang_next(words, actor, Kind::Replaced, 0, roots.high);
+        }
+    }
+
+    /// Hangs the slot of a replaced node that the seat has just retired, if there is one.
     pub fn hang(&mut self, words: &Words, actor: &mut Actor, retired: Option<Retiree>)
         requires table { actor.old.table_id ≡ words.now.table_id }
         requires sound { IsSound words.now.table_id.words actor.old.me.0 }
@@ -243,50 +328,9 @@ impl Stock {
         ensures hung { HasHung actor.old.me.0 actor.new.me.0 }
     {
         if let Some(retiree) = retired {
-            self.newly = self.newly.saturating_add(1);
-            hang(
-                words,
-                actor,
-                &self.sizes,
-                &mut self.limbo,
-                retiree.class,
-                retiree.slot,
-            );
+            self.hang_one(words, actor, Kind::Replaced, retiree.class, retiree.slot);
         }
     }
-}
-
-/// Makes slots that the seat has retired free for it again, where its call has found none, or it has retired some since it last did so.
-#[inline(always)]
-pub fn tidy(words: &Words, actor: &mut Actor, stock: &mut Stock)
-    requires table { actor.old.table_id ≡ words.now.table_id }
-    requires sound { IsSound words.now.table_id.words actor.old.me.0 }
-    requires stock { IsStock stock.old actor.old.me.0 }
-    ensures table { actor.new.table_id ≡ actor.old.table_id }
-    ensures sound { IsSound words.now.table_id.words actor.new.me.0 }
-    ensures stock { IsStock stock.new actor.new.me.0 }
-    ensures reclaimed { HasReclaimedSome actor.old.me.0 actor.new.me.0 }
-{
-    if !stock.is_due() {
-        return;
-    }
-    make_free(words, actor, stock);
-}
-
-/// Makes slots that the seat has retired free for it again, if the epoch has grown enough since.
-#[inline(never)]
-fn make_free(words: &Words, actor: &mut Actor, stock: &mut Stock)
-    requires table { actor.old.table_id ≡ words.now.table_id }
-    requires sound { IsSound words.now.table_id.words actor.old.me.0 }
-    requires stock { IsStock stock.old actor.old.me.0 }
-    ensures table { actor.new.table_id ≡ actor.old.table_id }
-    ensures sound { IsSound words.now.table_id.words actor.new.me.0 }
-    ensures stock { IsStock stock.new actor.new.me.0 }
-    ensures reclaimed { HasReclaimedSome actor.old.me.0 actor.new.me.0 }
-{
-    let mut limbo = stock.limbo();
-    reclaim_some(AT_ONCE, words, actor, &mut limbo, stock);
-    stock.hold(limbo);
 }
 
 /// A slot of this class for the next node: the last of those that are free then. None where all were handed out, or others took each one

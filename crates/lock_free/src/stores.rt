@@ -1,6 +1,7 @@
 //! Slots of a seat's own: they are taken, written, and become nodes.
 
 ghost use Rattle.std.specs.Prelude.{◌≡◌, ◌<◌};
+ghost use Rattle.lock_free.specs.Owing.{HoldsRaised};
 ghost use Rattle.lock_free.specs.Loading.{IsSound};
 ghost use Rattle.lock_free.specs.Places.{part_of, slots_in, taken_word, words_in, AreSizes};
 ghost use Rattle.lock_free.specs.Storing.{drafted, HasMade, HasMadeRoot, HasTaken, IsAtMake, IsAtMakeRoot, IsOwnWord};
@@ -71,6 +72,7 @@ pub fn make(words: &Words, actor: &mut Actor, word: usize, value: u64)
     requires table { actor.old.table_id ≡ words.now.table_id }
     requires sound { IsSound words.now.table_id.words actor.old.me.0 }
     requires making { IsAtMake actor.old.me.0 word value }
+    requires raised { HoldsRaised actor.old.me.0 }
     ensures table { actor.new.table_id ≡ actor.old.table_id }
     ensures sound { IsSound words.now.table_id.words actor.new.me.0 }
     ensures made { HasMade actor.old.me.0 word value actor.new.me.0 }
@@ -84,6 +86,7 @@ pub fn make_root(words: &Words, actor: &mut Actor, generation: u64) -> bool
     requires table { actor.old.table_id ≡ words.now.table_id }
     requires sound { IsSound words.now.table_id.words actor.old.me.0 }
     requires making { IsAtMakeRoot actor.old.me.0 generation }
+    requires raised { HoldsRaised actor.old.me.0 }
     ensures table { actor.new.table_id ≡ actor.old.table_id }
     ensures sound { IsSound words.now.table_id.words actor.new.me.0 }
     ensures made { HasMadeRoot actor.old.me.0 generation result actor.new.me.0 }

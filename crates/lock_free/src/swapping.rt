@@ -1,31 +1,24 @@
 //! SWAP: a fresh main node in the place of another.
 
 ghost use Rattle.std.specs.Prelude.{◌≡◌, [], IfErr, IfOk};
-ghost use Rattle.lock_free.specs.Leaving.{HasDecidedSwap, HasLeftSwap, HasSwappedOn, IsSwapLeft};
+ghost use Rattle.lock_free.specs.Entries.{HasStayed};
+ghost use Rattle.lock_free.specs.Leaving.{HasCheckedOn, HasDecidedSwap, HasEndedSwap, HasLeftSwap, HasSwappedOn, IsAtCheck, IsSwapLeft};
 ghost use Rattle.lock_free.specs.Limbos.{IsLimbo};
 ghost use Rattle.lock_free.specs.Loading.{IsSound};
 ghost use Rattle.lock_free.specs.Passing.{IsOnWay};
-ghost use Rattle.lock_free.specs.Reclaiming.{AddsRetired};
-ghost use Rattle.lock_free.specs.Swaps.{HasSwapDone, IsAtSwap, RetiresOwn, retired_by, swapped_by};
+ghost use Rattle.lock_free.specs.Swaps.{HasSwapDone, HoldsSwapped, IsAtSwap, RetiresOwn, SwapDrops, retired_by, swapped_by};
 ghost use Rattle.lock_free.specs.Stocks.{IsStock, HasSwapped, settled_pool};
 
 use crate::exchanges::publish;
 use crate::first_passes::end_read_within;
-use crate::leaving::Swapping;
-use crate::loads::{Actor, Words};
+use crate::leaving::{Drops, Swapping};
+use crate::letting_go::{let_go_by, let_go_told, see_dropped, see_names, see_taken};
+use crate::loads::{Actor, Words, see_main};
 use crate::reading::{ReadFrom, Way};
-use crate::reclaiming::{Retiree, check_swap, retiree_of};
+use crate::reclaiming::{Decided, Retiree, check_swap, is_decided};
 use crate::stock::Stock;
+use arrayvec::ArrayVec;
 use trie_words::{Link, Name};
-
-/// What a SWAP comes to whose fresh main node stood there.
-#[derive(Clone, Copy, Drop)]
-pub enum Decided {
-    /// It was committed. The seat has retired this slot, which is that of the one before, if that was the indirection's own.
-    Commits(Option<Retiree>),
-    /// It was refused.
-    Fails,
-}
 
 /// What a SWAP comes to.
 #[derive(Clone, Copy, Drop)]
@@ -33,14 +26,132 @@ pub enum Swapped {
     /// The fresh main node stands there, decided. The seat has retired this slot, which is that of the one before, if that was the
     /// indirection's own.
     Commits(Option<Retiree>),
-    /// It stood there and was refused.
-    Fails,
+    /// It stood there and was refused. The seat has retired its slot.
+    Fails(Retiree),
     /// The one to be replaced didn't stand there any more, and all that was made is given up.
     Misses,
 }
 
+/// The slot that the end of a SWAP has retired which came to this, if it has.
+fn retired_by(decided: Decided) -> Option<Retiree>
+    ensures { result ≡ retired_by (swapped_by decided) }
+{
+    match decided {
+        Decided::Commits(retired) => retired,
+        Decided::Fails(retired) => Some(retired),
+    }
+}
+
+/// Whether it is known what the seat is given at the SWAP's end: what the fresh main node drops is said, or nothing of the indirection's own
+/// is replaced; and it was committed already.
+#[inline(always)]
+fn is_told(words: &Words, actor: &mut Actor, swapping: Swapping) -> bool
+    requires table { actor.old.table_id ≡ words.now.table_id }
+    requires sound { IsSound words.now.table_id.words actor.old.me.0 }
+    requires checking { IsAtCheck actor.old.me.0 swapping }
+    ensures table { actor.new.table_id ≡ actor.old.table_id }
+    ensures sound { IsSound words.now.table_id.words actor.new.me.0 }
+    ensures stayed { HasStayed actor.old.me.0 actor.new.me.0 }
+{
+    let unsaid = matches!(swapping.drops, Drops::Others);
+    if unsaid && swapping.replaced.own {
+        return false;
+    }
+    is_decided(see_main(words, actor, swapping.fresh).previous)
+}
+
+/// The last step of the SWAP. What it retires hangs with all else that the seat has retired.
+#[inline(always)]
+fn check_on(words: &Words, actor: &mut Actor, stock: &mut Stock, swapping: Swapping) -> Decided
+    requires table { actor.old.table_id ≡ words.now.table_id }
+    requires sound { IsSound words.now.table_id.words actor.old.me.0 }
+    requires checking { IsAtCheck actor.old.me.0 swapping }
+    requires sizes { stock.old.sizes ≡ actor.old.me.0.sizes }
+    requires limbo { IsLimbo stock.old.limbo actor.old.me.0 }
+    ensures table { actor.new.table_id ≡ actor.old.table_id }
+    ensures sound { IsSound words.now.table_id.words actor.new.me.0 }
+    ensures same { stock.new ≡ record stock.old { limbo = stock.new.limbo } }
+    ensures limbo { IsLimbo stock.new.limbo actor.new.me.0 }
+    ensures checked { HasCheckedOn actor.old.me.0 swapping result actor.new.me.0 }
+{
+    let decided = check_swap(
+        words,
+        actor,
+        swapping.fresh,
+        swapping.replaced,
+        swapping.class,
+    );
+    stock.hang(words, actor, retired_by(decided));
+    decided
+}
+
+/// The same; before it what the two main nodes name is seen, and after it the seat lets go of what it is given.
+#[cold]
+#[inline(never)]
+fn end_looking(words: &Words, actor: &mut Actor, stock: &mut Stock, swapping: Swapping) -> Decided
+    requires table { actor.old.table_id ≡ words.now.table_id }
+    requires sound { IsSound words.now.table_id.words actor.old.me.0 }
+    requires checking { IsAtCheck actor.old.me.0 swapping }
+    requires sizes { stock.old.sizes ≡ actor.old.me.0.sizes }
+    requires limbo { IsLimbo stock.old.limbo actor.old.me.0 }
+    ensures table { actor.new.table_id ≡ actor.old.table_id }
+    ensures sound { IsSound words.now.table_id.words actor.new.me.0 }
+    ensures same { stock.new ≡ record stock.old { limbo = stock.new.limbo } }
+    ensures limbo { IsLimbo stock.new.limbo actor.new.me.0 }
+    ensures ended { HasEndedSwap actor.old.me.0 swapping result actor.new.me.0 }
+{
+    let mut olds = ArrayVec::new();
+    let mut news = ArrayVec::new();
+    see_taken(words, actor, swapping.replaced, &mut olds);
+    see_names(words, actor, swapping.fresh, &mut news);
+    let decided = check_on(words, actor, stock, swapping);
+    let_go_by(words, actor, stock, swapping, decided, &olds, &news);
+    decided
+}
+
+/// The same of a SWAP whose fresh main node was committed already, where it is known what the seat is given.
+#[inline(always)]
+fn end_told(words: &Words, actor: &mut Actor, stock: &mut Stock, swapping: Swapping) -> Decided
+    requires table { actor.old.table_id ≡ words.now.table_id }
+    requires sound { IsSound words.now.table_id.words actor.old.me.0 }
+    requires checking { IsAtCheck actor.old.me.0 swapping }
+    requires sizes { stock.old.sizes ≡ actor.old.me.0.sizes }
+    requires limbo { IsLimbo stock.old.limbo actor.old.me.0 }
+    ensures table { actor.new.table_id ≡ actor.old.table_id }
+    ensures sound { IsSound words.now.table_id.words actor.new.me.0 }
+    ensures same { stock.new ≡ record stock.old { limbo = stock.new.limbo } }
+    ensures limbo { IsLimbo stock.new.limbo actor.new.me.0 }
+    ensures ended { HasEndedSwap actor.old.me.0 swapping result actor.new.me.0 }
+{
+    let dropped = see_dropped(words, actor, swapping.replaced.slot, swapping.drops);
+    let decided = check_on(words, actor, stock, swapping);
+    let_go_told(words, actor, stock, swapping, decided, dropped);
+    decided
+}
+
+/// The same, whichever it is.
+#[inline(always)]
+fn end_swap(words: &Words, actor: &mut Actor, stock: &mut Stock, swapping: Swapping) -> Decided
+    requires table { actor.old.table_id ≡ words.now.table_id }
+    requires sound { IsSound words.now.table_id.words actor.old.me.0 }
+    requires checking { IsAtCheck actor.old.me.0 swapping }
+    requires sizes { stock.old.sizes ≡ actor.old.me.0.sizes }
+    requires limbo { IsLimbo stock.old.limbo actor.old.me.0 }
+    ensures table { actor.new.table_id ≡ actor.old.table_id }
+    ensures sound { IsSound words.now.table_id.words actor.new.me.0 }
+    ensures same { stock.new ≡ record stock.old { limbo = stock.new.limbo } }
+    ensures limbo { IsLimbo stock.new.limbo actor.new.me.0 }
+    ensures ended { HasEndedSwap actor.old.me.0 swapping result actor.new.me.0 }
+{
+    if is_told(words, actor, swapping) {
+        end_told(words, actor, stock, swapping)
+    } else {
+        end_looking(words, actor, stock, swapping)
+    }
+}
+
 /// The SWAP that is under way, on to its end within so many tries. Returns what it comes to; or from where it goes on. What it retires hangs
-/// with all else that the seat has retired.
+/// with all else that the seat has retired, and the seat lets go of what it is given.
 #[inline(always)]
 pub fn swap_on(
     tries: u64,
@@ -72,15 +183,7 @@ pub fn swap_on(
         swapping.from,
     ) {
         Some(from) => Err(Swapping { from, ..swapping }),
-        None => {
-            if check_swap(words, actor, swapping.fresh, swapping.replaced.own) {
-                let retired = retiree_of(swapping.replaced, swapping.class);
-                stock.hang(words, actor, retired);
-                Ok(Decided::Commits(retired))
-            } else {
-                Ok(Decided::Fails)
-            }
-        }
+        None => Ok(end_swap(words, actor, stock, swapping)),
     }
 }
 
@@ -90,7 +193,7 @@ fn swapped_by(decided: Decided) -> Swapped
 {
     match decided {
         Decided::Commits(retired) => Swapped::Commits(retired),
-        Decided::Fails => Swapped::Fails,
+        Decided::Fails(retired) => Swapped::Fails(retired),
     }
 }
 
@@ -107,11 +210,13 @@ pub fn swap_within(
     link: Link,
     class: u32,
     fresh: u32,
+    drops: Drops,
 ) -> Result<Swapped, Swapping>
     requires table { actor.old.table_id ≡ words.now.table_id }
     requires sound { IsSound words.now.table_id.words actor.old.me.0 }
     requires way { IsOnWay actor.old.me.0 way }
     requires swapping { IsAtSwap actor.old.me.0 indirection link class fresh }
+    requires drops { SwapDrops actor.old.me.0 drops }
     requires sizes { stock.old.sizes ≡ actor.old.me.0.sizes }
     requires limbo { IsLimbo stock.old.limbo actor.old.me.0 }
     ensures table { actor.new.table_id ≡ actor.old.table_id }
@@ -119,7 +224,8 @@ pub fn swap_within(
     ensures same { stock.new ≡ record stock.old { limbo = stock.new.limbo } }
     ensures limbo { IsLimbo stock.new.limbo actor.new.me.0 }
     ensures done { IfOk result (λ swapped. HasSwapDone actor.old.me.0 swapped actor.new.me.0) }
-    ensures which { IfOk result (RetiresOwn link.main class) }
+    ensures which { IfOk result (RetiresOwn link.main class fresh) }
+    ensures holds { IfOk result (λ swapped. HoldsSwapped actor.old.me.0 swapped actor.new.me.0) }
     ensures left { IfErr result (λ left. HasLeftSwap actor.old.me.0 left actor.new.me.0) }
 {
     if !publish(words, actor, indirection, link, fresh) {
@@ -138,6 +244,7 @@ pub fn swap_within(
         fresh,
         replaced: link.main,
         class,
+        drops,
     };
     match swap_on(tries, words, actor, stock, way, begun) {
         Ok(decided) => Ok(swapped_by(decided)),
@@ -155,7 +262,7 @@ fn settle_stock(stock: &mut Stock, swapped: Swapped)
 {
     match swapped {
         Swapped::Misses => stock.give_back(),
-        Swapped::Commits(_) | Swapped::Fails => stock.hand_over(),
+        Swapped::Commits(_) | Swapped::Fails(_) => stock.hand_over(),
     }
 }
 
@@ -171,18 +278,20 @@ pub fn swap_made_within(
     link: Link,
     class: u32,
     fresh: u32,
+    drops: Drops,
 ) -> Result<Swapped, Swapping>
     requires table { actor.old.table_id ≡ words.now.table_id }
     requires sound { IsSound words.now.table_id.words actor.old.me.0 }
     requires stock { IsStock stock.old actor.old.me.0 }
     requires way { IsOnWay actor.old.me.0 way }
     requires swapping { IsAtSwap actor.old.me.0 indirection link class fresh }
+    requires drops { SwapDrops actor.old.me.0 drops }
     ensures table { actor.new.table_id ≡ actor.old.table_id }
     ensures sound { IsSound words.now.table_id.words actor.new.me.0 }
     ensures stock { IsStock stock.new actor.new.me.0 }
     ensures done { IfOk result (λ swapped. HasSwapped actor.old.me.0 swapped actor.new.me.0) }
-    ensures retired { IfOk result (λ swapped. AddsRetired (retired_by swapped) actor.old.me.0.retired actor.new.me.0.retired) }
-    ensures which { IfOk result (RetiresOwn link.main class) }
+    ensures which { IfOk result (RetiresOwn link.main class fresh) }
+    ensures holds { IfOk result (λ swapped. HoldsSwapped actor.old.me.0 swapped actor.new.me.0) }
     ensures left { IfErr result (λ left. HasLeftSwap actor.old.me.0 left actor.new.me.0) }
 {
     match swap_within(
@@ -195,6 +304,7 @@ pub fn swap_made_within(
         link,
         class,
         fresh,
+        drops,
     ) {
         Ok(swapped) => {
             settle_stock(stock, swapped);

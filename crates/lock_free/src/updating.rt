@@ -9,8 +9,8 @@ ghost use Rattle.lock_free.specs.Stocks.{IsStock};
 ghost use Rattle.lock_free.specs.Updating.{HasChanged, HasUpdated, IsAtChange, IsAtUpdate};
 
 use crate::attempts::Attempt;
-use crate::building::{Builder, build};
-use crate::changing::{Edit, build_main};
+use crate::building::{Builder, build, drops_at};
+use crate::changing::{Edit, build_main, drops_of};
 use crate::leaving::Swapping;
 use crate::loads::{Actor, Words};
 use crate::makes::class_of;
@@ -29,7 +29,7 @@ fn attempted(swapped: Option<Swapped>, call: Call, former: Option<u64>) -> Attem
     match swapped {
         None => Attempt::Comes(Came::Spent),
         Some(Swapped::Commits(_)) => Attempt::Comes(Came::Answered(changed_reply(call, former))),
-        Some(Swapped::Fails) => Attempt::Again,
+        Some(Swapped::Fails(_)) => Attempt::Again,
         Some(Swapped::Misses) => Attempt::Again,
     }
 }
@@ -87,6 +87,7 @@ pub fn update_within(
         given.link,
         class_of(given.header.shape),
         fresh,
+        drops_at(site),
     ) {
         Ok(swapped) => Ok(Some(swapped)),
         Err(swapping) => Err(swapping),
@@ -142,6 +143,7 @@ pub fn change_main_within(
         given.link,
         class_of(given.header.shape),
         fresh,
+        drops_of(change),
     ) {
         Ok(swapped) => Ok(Some(swapped)),
         Err(swapping) => Err(swapping),

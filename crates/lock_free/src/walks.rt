@@ -3,7 +3,8 @@
 ghost use Rattle.std.specs.Prelude.{◌≡◌, ℕ, List, IfOk, OnErr, length};
 ghost use Rattle.lock_free.specs.Loading.{IsSound};
 ghost use Rattle.lock_free.specs.Passing.{IsOnWay};
-ghost use Rattle.lock_free.specs.Walks.{HasAllPairs, IsAtStart, IsLeft};
+ghost use Rattle.lock_free.specs.Scans.{HasAdded};
+ghost use Rattle.lock_free.specs.Walks.{HasAllPairs, IsAtStart, IsLeft, IsWalking};
 
 use crate::loads::{Actor, Words};
 use crate::reading::Way;
@@ -81,4 +82,47 @@ pub fn count_pairs_within(
         }
     }
     Err(WalkError::Memory)
+}
+
+/// How far a walk has come.
+#[derive(Clone, Copy, Debug, PartialEq, Eq, Drop)]
+pub enum Reached {
+    /// As many pairs as were asked for. Others may follow.
+    Most,
+    /// All pairs: the operation is to end.
+    All,
+}
+
+/// Adds the next pairs of the map to this list, so many at most, in the order of its trie. After an error the operation is to give up.
+pub fn add_pairs_within(
+    tries: u64,
+    most: usize,
+    words: &Words,
+    actor: &mut Actor,
+    way: Way,
+    walker: &mut Walker,
+    pairs: &mut Vec<(u64, u64)>,
+) -> Result<Reached, WalkError>
+    requires table { actor.old.table_id ≡ words.now.table_id }
+    requires sound { IsSound words.now.table_id.words actor.old.me.0 }
+    requires way { IsOnWay actor.old.me.0 way }
+    requires at { (told : List (ℕ × ℕ)) × IsWalking actor.old.me.0 walker.old told }
+    ensures table { actor.new.table_id ≡ actor.old.table_id }
+    ensures sound { IsSound words.now.table_id.words actor.new.me.0 }
+    ensures added { HasAdded actor.old.me.0 walker.old pairs.old.items most result actor.new.me.0 walker.new pairs.new.items }
+{
+    for _ in 0..most {
+        let next = match walker.next_within(tries, words, actor, way) {
+            Ok(next) => next,
+            Err(error) => return Err(error),
+        };
+        match next {
+            Some(pair) => match pairs.push(pair) {
+                Ok(()) => {}
+                Err(_) => return Err(WalkError::Memory),
+            },
+            None => return Ok(Reached::All),
+        }
+    }
+    Ok(Reached::Most)
 }

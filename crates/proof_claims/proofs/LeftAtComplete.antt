@@ -156,7 +156,7 @@ module _ (limits : Bounds) (ok : AreBounds limits) (steps : List Step) (keys : K
     unmarked : sees.operation.is_marked ≡ false
     unmarked = (neither out sees.operation.is_marked undone).1
 
-    finds_so : change_of state held (step.Go actor) ≡ finds at offer false
+    pub finds_so : change_of state held (step.Go actor) ≡ finds at offer false
     finds_so =
         change_is ∙ ap (λ b. completes b at offer sees.operation) (neither out sees.operation.is_marked undone).0 ∙ ap (outcome_at at offer sees.operation.line) unmarked
         ∙ ap (λ l. outcome_at at offer l false) sees.completes
@@ -167,7 +167,7 @@ module _ (limits : Bounds) (ok : AreBounds limits) (steps : List Step) (keys : K
     brought_holds : (q : Ref) → Contains brought q → RootHolds state held q
     brought_holds q c = let (x, is) = made_by offer q c in roots_hold limits ok steps keys its.0 sees.operation its.2 unmarked x q (its_fresh_root x q is)
 
-    apart : (second : Option Ref) → offer.second ≡ second → AreDifferent (offer.successor ∷ refs_of_option second)
+    pub apart : (second : Option Ref) → offer.second ≡ second → AreDifferent (offer.successor ∷ refs_of_option second)
     apart None is = one_alone offer.successor
     apart (Some q) is = (
       λ c. elim (in_cons q [] offer.successor c) [

@@ -199,7 +199,7 @@ module _ (limits : Bounds) (ok : AreBounds limits) (xs : List Step) (h : EachHer
       (ap (λ (x : Descriptor). is_carried_out (word_at state at) x main) its.0 ∙ not_out)
       ∙ ap (λ b. cond b (line.End (copied_reply operation.call operation.opens)) new_try) unmarked
 
-  own_private : operation.private ≡ []
+  pub own_private : operation.private ≡ []
   own_private =
       subst (λ l. LineHas (run_is limits xs ok) (last_of limits xs) actor operation.id operation.generation operation.private l) on
       (has_at (run_is limits xs ok) (last_of limits xs) (omega arith) actor operation (ap (λ (x : State). operation_of x actor) (run_ends limits xs) ∙ runs))
@@ -289,10 +289,10 @@ module _ (limits : Bounds) (ok : AreBounds limits) (xs : List Step) (h : EachHer
       by true e = subst (HasIndirection state) (same_Some offer.successor r e) (safe_of wants.1.1.1.0, meets_of wants.1.1.1.0)
       by false e = second_by offer.second wants.1.1.1.1.0 e
 
-  link : (r : Ref) → Contains made r → HasIndirection state r
+  pub link : (r : Ref) → Contains made r → HasIndirection state r
   link r d = let (x, e) = made_by offer r d in link_by r x e
 
-  garbage : (r : Ref) → Contains made r → IsGarbage after r
+  pub garbage : (r : Ref) → Contains made r → IsGarbage after r
   garbage r d = record {
     in_use = subst (λ x. IsInUse x r) (sym heap) (link r d).0;
     unfollowed = unfollowed r d;

@@ -6,6 +6,8 @@ mod opening;
 #[cfg(test)]
 mod reuse;
 #[cfg(test)]
+mod scans;
+#[cfg(test)]
 mod tries;
 #[cfg(test)]
 mod wholes;

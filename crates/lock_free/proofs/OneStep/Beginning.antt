@@ -16,7 +16,7 @@ use Rattle.machine_model.specs.declared.steps.Step.TheVariants as step
 use Rattle.machine_model.specs.Calls.{handle_of, is_close, opens_handle}
 use Rattle.machine_model.specs.Counting.{settled}
 use Rattle.machine_model.specs.Keys.{FitsKey}
-use Rattle.machine_model.specs.Machine.{AreBounds, next, next_state, state_after, begin_denial, begin_unless, begun_operation, with_begin, handle_closed, number_for}
+use Rattle.machine_model.specs.Machine.{AreBounds, is_taken_step, next, next_state, state_after, begin_denial, begin_unless, begun_operation, with_begin, handle_closed, number_for}
 use Rattle.machine_model.specs.Moves.{Moves, Begins as Begun}
 use Rattle.machine_model.specs.Operations.{first_line}
 use Rattle.machine_model.specs.declared.roots.RootWord.TheVariants.{Offer}
@@ -131,6 +131,7 @@ module _ (sizes : Sizes) (account : Account) (bounds : AreBounds (bounds_for siz
     its_call = refl;
     its_opens = number_is now number (opens_handle call) opens;
     unmarked = refl;
+    alone = refl;
     fresh = λ k c its. (let known = known_once sizes account bounds k.offer (stood k c) in let begun = known.has_begun in let same = its.its in omega (arith, begun, same));
   }
 
@@ -165,19 +166,24 @@ module _ (sizes : Sizes) (account : Account) (bounds : AreBounds (bounds_for siz
   abbrev state : State
   state = state_of sizes account
 
-  abbrev middle : Account
+  abbrev pub middle : Account
   middle = taking (step.Begin actor (Close handle) None) account
 
-  abbrev last : Account
+  abbrev pub last : Account
   last = gone_on actor middle
 
-  middle_bounds : AreBounds (bounds_for sizes middle.steps)
+  -- it begins
+  pub close_taken : is_taken_step (next state (step.Begin actor (Close handle) None)) ≡ true
+  unfolding next
+  close_taken = ap (λ d. is_taken_step (begin_unless state actor (Close handle) None d)) allowed
+
+  pub middle_bounds : AreBounds (bounds_for sizes middle.steps)
   middle_bounds = bounds_more sizes account.steps (step.Begin actor (Close handle) None ∷ []) bounds
 
-  runs : operation_of (state_of sizes middle) actor ≡ Some (begun_operation state (Close handle) None)
+  pub runs : operation_of (state_of sizes middle) actor ≡ Some (begun_operation state (Close handle) None)
   runs = begin_own sizes account bounds actor (Close handle) None most idle allowed
 
-  same_steps : closed_by actor handle account ≡ last
+  pub same_steps : closed_by actor handle account ≡ last
   same_steps = ap (λ l. record account { steps = l }) (sym (append_assoc account.steps (step.Begin actor (Close handle) None ∷ []) (step.Go actor ∷ [])))
 
   middle_roots : (state_of sizes middle).roots ≡ set state.roots handle None

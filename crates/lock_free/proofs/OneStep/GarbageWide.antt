@@ -4,9 +4,9 @@ use Rattle.machine_model.specs.Beneath.slot_arena.specs.Heaps.{refs_of_slot}
 use Rattle.machine_model.specs.Beneath.slot_arena.specs.declared.refs.Ref.{Ref}
 use Rattle.machine_model.specs.declared.operations.Operation.{Operation}
 use Rattle.machine_model.specs.States.{State}
-use Rattle.proof_reuse.specs.Beneath.proof_followed.specs.Followed.{IsFollowed, from_root, from_operation, from_slot}
-use Rattle.proof_reuse.specs.Beneath.proof_followed.specs.Grace.{IsToBring}
-use Rattle.proof_reuse.specs.Laws.{IsGarbage}
+use Rattle.proof_claims.specs.Beneath.proof_reuse.specs.Beneath.proof_followed.specs.Followed.{IsFollowed, from_root, from_operation, from_slot}
+use Rattle.proof_claims.specs.Beneath.proof_reuse.specs.Beneath.proof_followed.specs.Grace.{IsToBring}
+use Rattle.proof_claims.specs.Beneath.proof_reuse.specs.Laws.{IsGarbage}
 use Rattle.proof_waiting.specs.Beneath.proof_slots.specs.Lasting.{widened}
 use Rattle.proof_waiting.specs.Beneath.proof_slots.proofs.Padded.Heaps.{stored_wide}
 use Rattle.lock_free.proofs.OneStep.Retired.{used_wide}

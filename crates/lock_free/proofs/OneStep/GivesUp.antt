@@ -1,5 +1,5 @@
 -- What is left where an operation gives up: all that it made and nobody met is given up with it.
-use Rattle.std.proofs.Common.{◌≡◌, ◌≢◌, ◌⊎◌, ◌-◌, ◌++◌, ◌+◌, ℕ, zero, suc, false, [], ◌∷◌, Contains, length, get_or, set, Some, None, refl, sym, ap, subst, ◌∙◌, inl}
+use Rattle.std.proofs.Common.{◌≡◌, ◌≢◌, ◌⊎◌, ◌-◌, ◌++◌, ◌+◌, ℕ, zero, suc, true, false, [], ◌∷◌, Contains, length, get_or, set, Some, None, refl, sym, ap, subst, ◌∙◌, inl}
 use Rattle.std.proofs.Common.{inr, arith}
 use Rattle.std.specs.Prelude.{option_map}
 use Rattle.std.proofs.lemmas.Bool.{cases_eq, true≢false}
@@ -16,7 +16,7 @@ use Rattle.machine_model.specs.declared.steps.Step.TheVariants as step
 use Rattle.machine_model.specs.Counting.{settled}
 use Rattle.machine_model.specs.GivingUp.{given_up, gave_up}
 use Rattle.machine_model.specs.Grown.{standing}
-use Rattle.machine_model.specs.Machine.{AreBounds, next, next_state, state_after, give_up_unless, give_up_on, give_up_by}
+use Rattle.machine_model.specs.Machine.{AreBounds, is_taken_step, next, next_state, state_after, give_up_unless, give_up_on, give_up_by}
 use Rattle.machine_model.specs.Moves.{Moves, GivesUp}
 use Rattle.machine_model.specs.States.{State, operation_of, with_operation}
 use Rattle.machine_model.proofs.Fates.{place_of_actor}
@@ -68,6 +68,12 @@ module _ (sizes : Sizes) (account : Account) (bounds : AreBounds (bounds_for siz
   next_is =
       ap (λ d. state_after state (give_up_unless state actor d)) (allowed sizes account bounds actor operation runs) ∙ ap (λ o. state_after state (give_up_on state actor o)) runs
       ∙ ap (λ a. state_after state (give_up_by state actor operation a)) may
+
+  pub is_taken : is_taken_step (next state (step.GiveUp actor)) ≡ true
+  unfolding next
+  is_taken =
+      ap (λ d. is_taken_step (give_up_unless state actor d)) (allowed sizes account bounds actor operation runs) ∙ ap (λ o. is_taken_step (give_up_on state actor o)) runs
+      ∙ ap (λ a. is_taken_step (give_up_by state actor operation a)) may
 
   whole : after ≡ widened 1 steps then
   whole = run_next sizes account.steps bounds (step.GiveUp actor) ∙ ap (widened 1 steps) next_is

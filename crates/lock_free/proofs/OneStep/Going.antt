@@ -91,7 +91,7 @@ module _ (sizes : Sizes) (account : Account) (bounds : AreBounds (bounds_for siz
     pub next_ok : next now (step.Go actor) ≡ Ok (outcome.Went (kind_of (action_of now operation)), later)
     next_ok = goes_by now actor operation allowed runs ∙ going_ok now actor operation (action_of now operation) g
 
-    next_is : next_state now (step.Go actor) ≡ later
+    pub next_is : next_state now (step.Go actor) ≡ later
     next_is = ap (state_after now) (goes_by now actor operation allowed runs) ∙ going now actor operation (action_of now operation) g
 
     abbrev pub more : ℕ

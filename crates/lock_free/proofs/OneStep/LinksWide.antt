@@ -1,14 +1,15 @@
--- An indirection in use is so under the bounds of a longer account too, with the same main node, and who has replaced a main node has.
-use Rattle.std.proofs.Common.{◌≡◌, ℕ, get_or, Some, None, ap, ◌∙◌, eq-eqb, if◌then◌else◌}
+-- An indirection in use is so under the bounds of a longer account too, with the same main node, and who has replaced a main node, or sees that its own was refused, does so.
+use Rattle.std.proofs.Common.{◌≡◌, ℕ, get_or, Some, None, ap, sym, ◌∙◌, eq-eqb, if◌then◌else◌}
 use Rattle.machine_model.specs.Beneath.slot_arena.specs.declared.nodes.Slot.{Slot}
 use Rattle.machine_model.specs.Beneath.slot_arena.specs.declared.refs.Ref.{Ref}
 use Rattle.machine_model.specs.Beneath.slot_arena.specs.Heaps.{Heap, main_at, main_of, node_at, node_of, prev_at, prev_of, stored}
 use Rattle.machine_model.specs.Beneath.slot_arena.specs.Refs.{birth_of, slot_of}
 use Rattle.machine_model.specs.Grown.{of_birth, standing}
 use Rattle.machine_model.specs.States.{State}
+use Rattle.proof_claims.specs.Dropped.{HasFailed}
 use Rattle.proof_commits.specs.Runs.{HasIndirection}
 use Rattle.proof_memory.specs.Wants.{is_indirection}
-use Rattle.proof_reuse.specs.Laws.{HasReplaced}
+use Rattle.proof_claims.specs.Beneath.proof_reuse.specs.Laws.{HasReplaced}
 use Rattle.proof_waiting.specs.Beneath.proof_slots.specs.Lasting.{widened}
 use Rattle.proof_waiting.specs.Beneath.proof_slots.proofs.Padded.Heaps.{stored_wide}
 use Rattle.lock_free.proofs.OneStep.Retired.{used_wide}
@@ -36,6 +37,10 @@ module _ (more m : ℕ) (state : State) where
 
   pub replaced_wide : (actor : ℕ) (i a f : Ref) → HasReplaced state actor i a f → HasReplaced wide actor i a f
   replaced_wide actor i a f h = record { operation = h.operation; runs = h.runs; why = h.why; checks = h.checks; decided = prev_wide f ∙ h.decided }
+
+  pub failed_wide : (actor : ℕ) (i a f : Ref) → HasFailed state actor i a f → HasFailed wide actor i a f
+  failed_wide actor i a f h =
+      record { operation = h.operation; runs = h.runs; why = h.why; checks = h.checks; uncommitted = λ none. h.uncommitted (sym (prev_wide f) ∙ none) }
 
 -- what is stored with its birth stands
 pub standing_by : (heap : Heap) (r : Ref) (slot : Slot) → get_or heap.slots (slot_of r) None ≡ Some slot → slot.birth ≡ birth_of r → standing heap r ≡ Some slot

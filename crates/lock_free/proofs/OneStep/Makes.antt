@@ -306,6 +306,16 @@ module _ (sizes : Sizes) (account : Account) (bounds : AreBounds (bounds_for siz
       refs_claimed (IsLive state) node (refs_held (IsLive state) state.heap (node_wants node)
       (node_claims state (IsLive state) state.heap (action_of state operation) node (ap (made_node state) is) claims)) r c
 
+  -- so is the main node of a root that is made
+  pub root_named_live : (main : Ref) → action_of (state_of sizes account) operation ≡ act.MakeRoot main → IsLive (state_of sizes account) main
+  root_named_live main is =
+      let state = state_of sizes account in
+      let safe = safe_along (bounds_for sizes account.steps) bounds account.steps in
+      let claims = action_known state safe (λ id. Unit {0}) actor operation runs tt in
+      let root = Indirection state.generations main in
+      refs_claimed (IsLive state) root (refs_held (IsLive state) state.heap (node_wants root)
+      (node_claims state (IsLive state) state.heap (action_of state operation) root (ap (made_node state) is) claims)) main (Contains-get_or (main ∷ []) 0 main (omega arith))
+
   pub over_lives : (i main : Ref) → over_of operation.line ≡ Some (i, main) → IsLive (state_of sizes account) main
   over_lives i main over =
       let state = state_of sizes account in

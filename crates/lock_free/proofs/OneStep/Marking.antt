@@ -118,7 +118,7 @@ module _ (sizes : Sizes) (account : Account) (bounds : AreBounds (bounds_for siz
         nodes = slot_then sizes account bounds actor operation runs g state.heap heap_is;
         births = births_then sizes account bounds actor operation runs g state.heap heap_is;
         live = live_then sizes account bounds actor operation runs g state.heap heap_is (λ r u. u);
-        reached = λ r h. reached_left sizes account (gone_on actor account) (step.Go actor) refl (live_then sizes account bounds actor operation runs g state.heap heap_is (λ q u. u)) r h;
+        reached = λ r h. reached_left sizes account (gone_on actor account) bounds (step.Go actor) refl (live_then sizes account bounds actor operation runs g state.heap heap_is (λ q u. u)) r h;
         generations = generations_then sizes account bounds actor operation runs g state.generations generations;
         aheads = aheads_marked;
         still = still_marked;

@@ -125,7 +125,13 @@ module _ (sizes : Sizes) (account : Account) (bounds : AreBounds (bounds_for siz
             nodes = leaves.nodes;
             births = leaves.births;
             live = leaves.live;
-            reached = λ r h. leaves.reached r (record { steps = h.steps; more = h.more; goes_on = h.goes_on; handle = h.handle; access = h.access; was = h.was });
+            reached = λ r h. leaves.reached r (record {
+              root = record { steps = h.root.steps; more = h.root.more; goes_on = h.root.goes_on; handle = h.root.handle; access = h.root.access; was = h.root.was };
+              actor = h.actor;
+              operation = h.operation;
+              runs = h.runs;
+              began = h.began;
+            });
             generations = leaves.generations;
             aheads = leaves.aheads;
             still = leaves.still;

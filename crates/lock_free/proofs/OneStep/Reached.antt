@@ -9,7 +9,7 @@ use Rattle.machine_model.specs.declared.operations.Operation.{Operation}
 use Rattle.machine_model.specs.declared.steps.Step.{Step}
 use Rattle.machine_model.specs.Contents.{IsReached, from_root, from_slot}
 use Rattle.machine_model.specs.Machine.{AreBounds, run}
-use Rattle.machine_model.specs.States.{State}
+use Rattle.machine_model.specs.States.{State, operation_of}
 use Rattle.machine_model.proofs.Fates.{place_of_actor}
 use Rattle.proof_memory.specs.Laws.{IsInUse}
 use Rattle.proof_memory.proofs.Safety.AtEachTime.{safe_along}
@@ -22,10 +22,11 @@ use Rattle.proof_waiting.specs.Beneath.proof_slots.proofs.Unswept.Kept.{nothing_
 use Rattle.proof_waiting.specs.Beneath.proof_slots.proofs.Unswept.Shrinking.{unswept_behind}
 use Rattle.lock_free.specs.declared.accounts.Account.{Account}
 use Rattle.lock_free.specs.declared.sizes.Sizes.{Sizes}
-use Rattle.lock_free.specs.Accounts.{bounds_for, state_of, running, WasRoot}
+use Rattle.lock_free.specs.Accounts.{bounds_for, state_of, running, MayBeFound, WasRoot}
 use Rattle.lock_free.specs.Live.{IsLive}
 use Rattle.lock_free.proofs.OneStep.Giving.{is_one_of, none_of_them}
-use Rattle.lock_free.proofs.OneStep.Longer.{run_longer, bounds_less}
+use Rattle.lock_free.proofs.BegunSince.{begun_grown, ran_before}
+use Rattle.lock_free.proofs.OneStep.Longer.{run_longer, bounds_less, bounds_more}
 
 reached_wide : (more m : _) (state : State) {r : Ref} → IsReached state r → IsReached (widened more m state) r
 reached_wide more m state (from_root handle r c) = from_root handle r c
@@ -47,29 +48,41 @@ parted (o ∷ steps) s (x ∷ xs) more e = elim (parted steps s xs more (cc e)) 
   | inr all ↦ inr ((let first : o ≡ x = cc e in ap (λ ys. x ∷ ys) all ∙ ap (λ y. y ∷ (steps ++ s ∷ [])) (sym first)))
 ]
 
-pub reached_by_then : (sizes : Sizes) (account after : Account) (s : Step) → after.steps ≡ account.steps ++ s ∷ [] → (r : Ref) → WasRoot sizes after r → WasRoot sizes account r
-    ⊎ IsLive (state_of sizes after) r
-reached_by_then sizes account after s goes_on r h = elim (parted account.steps s h.steps h.more (sym goes_on ∙ h.goes_on)) [
-  | inl before ↦ inl (record { steps = h.steps; more = before.0; goes_on = before.1; handle = h.handle; access = h.access; was = h.was })
+pub reached_by_then : (sizes : Sizes) (account after : Account) → AreBounds (bounds_for sizes account.steps) → (s : Step) → after.steps ≡ account.steps ++ s ∷ [] → (r : Ref) →
+    MayBeFound sizes after r → MayBeFound sizes account r ⊎ IsLive (state_of sizes after) r
+reached_by_then sizes account after bounds s goes_on r h = elim (parted account.steps s h.root.steps h.root.more (sym goes_on ∙ h.root.goes_on)) [
+  | inl before ↦
+      (let first : Account = record { steps = h.root.steps; names = account.names; owned = []; offers = [] } in
+      let last : Account = record { steps = account.steps ++ s ∷ []; names = account.names; owned = []; offers = [] } in
+      let begun = begun_grown sizes first account bounds (record { steps = before.0; goes_on = before.1; names = []; more_names = sym (append-nil account.names) }) in
+      let ran = ran_before sizes account last (bounds_more sizes account.steps (s ∷ []) bounds) (record { steps = s ∷ []; goes_on = refl; names = []; more_names = sym (append-nil account.names) })
+      (state_of sizes first).begun begun h.actor h.operation (subst (λ xs. operation_of (run (bounds_for sizes xs) xs) h.actor ≡ Some h.operation) goes_on h.runs) h.began in
+      inl (record {
+        root = record { steps = h.root.steps; more = before.0; goes_on = before.1; handle = h.root.handle; access = h.root.access; was = h.root.was };
+        actor = h.actor;
+        operation = ran.0;
+        runs = ran.1;
+        began = ran.2;
+      }))
   | inr all ↦
-      inr (reached_known (state_of sizes after) (λ id. Unit {0}) (subst (λ xs. IsReached (run (bounds_for sizes xs) xs) r) (all ∙ sym goes_on) (root_reached sizes after r h)))
+      inr (reached_known (state_of sizes after) (λ id. Unit {0}) (subst (λ xs. IsReached (run (bounds_for sizes xs) xs) r) (all ∙ sym goes_on) (root_reached sizes after r h.root)))
 ]
 
 -- where nothing more is live then
-pub reached_left : (sizes : Sizes) (account after : Account) (s : Step) → after.steps ≡ account.steps ++ s ∷ [] → ((r : Ref) → IsLive (state_of sizes after) r → IsLive (state_of sizes account) r) →
-    (r : Ref) → WasRoot sizes after r → WasRoot sizes account r ⊎ IsLive (state_of sizes account) r
-reached_left sizes account after s goes_on live r h = elim (reached_by_then sizes account after s goes_on r h) [
+pub reached_left : (sizes : Sizes) (account after : Account) → AreBounds (bounds_for sizes account.steps) → (s : Step) → after.steps ≡ account.steps ++ s ∷ [] →
+    ((r : Ref) → IsLive (state_of sizes after) r → IsLive (state_of sizes account) r) → (r : Ref) → MayBeFound sizes after r → MayBeFound sizes account r ⊎ IsLive (state_of sizes account) r
+reached_left sizes account after bounds s goes_on live r h = elim (reached_by_then sizes account after bounds s goes_on r h) [
   | inl was ↦ inl was
   | inr now ↦ inr (live r now)
 ]
 
 -- so it stands where what is live does
-pub reached_kept : (sizes : Sizes) (account after : Account) (s : Step) → after.steps ≡ account.steps ++ s ∷ [] → (before then : ℕ → Bool) →
-    ((r : Ref) → WasRoot sizes account r → before (slot_of r) ≡ true) →
+pub reached_kept : (sizes : Sizes) (account after : Account) → AreBounds (bounds_for sizes account.steps) → (s : Step) → after.steps ≡ account.steps ++ s ∷ [] → (before then : ℕ → Bool) →
+    ((r : Ref) → MayBeFound sizes account r → before (slot_of r) ≡ true) →
     ((r : Ref) → IsLive (state_of sizes after) r → then (slot_of r) ≡ true) → ((r : Ref) → WasRoot sizes account r → before (slot_of r) ≡ true → then (slot_of r) ≡ true) →
-    (r : Ref) → WasRoot sizes after r → then (slot_of r) ≡ true
-reached_kept sizes account after s goes_on before then was live still r h = elim (reached_by_then sizes account after s goes_on r h) [
-  | inl old ↦ still r old (was r old)
+    (r : Ref) → MayBeFound sizes after r → then (slot_of r) ≡ true
+reached_kept sizes account after bounds s goes_on before then was live still r h = elim (reached_by_then sizes account after bounds s goes_on r h) [
+  | inl old ↦ still r old.root (was r old)
   | inr now ↦ live r now
 ]
 

@@ -114,6 +114,22 @@ module _ (sizes : Sizes) (account : Account) (bounds : AreBounds (bounds_for siz
         by true = refl
         by false = refl
 
+    next_private : (x : Option ℕ) (o : Operation) → (mark_one x o).private ≡ o.private
+    next_private None o = refl
+    next_private (Some id) o = by (o.id == id)
+      where
+        by : (b : Bool) → (if b then record o { is_marked = true } else o).private ≡ o.private
+        by true = refl
+        by false = refl
+
+    next_line : (x : Option ℕ) (o : Operation) → (mark_one x o).line ≡ o.line
+    next_line None o = refl
+    next_line (Some id) o = by (o.id == id)
+      where
+        by : (b : Bool) → (if b then record o { is_marked = true } else o).line ≡ o.line
+        by true = refl
+        by false = refl
+
     roots_are : (xs : List (Option Root)) → (gone state actor operation).roots ≡ xs → after.roots ≡ xs
     roots_are xs e = ap (λ (s : State). s.roots) (whole sizes account bounds actor operation runs g) ∙ e
 
@@ -135,6 +151,8 @@ module _ (sizes : Sizes) (account : Account) (bounds : AreBounds (bounds_for siz
         own = own_marked sizes account bounds actor operation runs g;
         same_call = next_call m (operation_after state operation);
         same_opens = next_opens m (operation_after state operation);
+        keeps = next_private m (operation_after state operation);
+        line = next_line m (operation_after state operation);
       }
 
     -- ---- it is carried out
@@ -228,6 +246,8 @@ module _ (sizes : Sizes) (account : Account) (bounds : AreBounds (bounds_for siz
         own = own_marked sizes account bounds actor operation runs g;
         same_call = next_call m (operation_after state operation);
         same_opens = next_opens m (operation_after state operation);
+        keeps = next_private m (operation_after state operation);
+        line = next_line m (operation_after state operation);
       }
         where
           opened_heap : (o : Option ℕ) → (opened (with_word put h (Plain k.offer.successor)) k.offer o).heap ≡ state.heap

@@ -96,7 +96,7 @@ module _ (sizes : Sizes) (account : Account) (bounds : AreBounds (bounds_for siz
       nodes = λ k. ap (λ (s : State). get_or s.heap.slots k None) whole ∙ slot_in 1 steps later k ∙ ap (λ (x : Heap). get_or x.slots k None) heap_is;
       births = ap (λ (s : State). s.heap.births) whole ∙ ap (λ (x : Heap). x.births) heap_is;
       live = live_then;
-      reached = reached_left sizes account (taking taken account) taken refl live_then;
+      reached = reached_left sizes account (taking taken account) bounds taken refl live_then;
       generations = ap (λ (s : State). s.generations) whole ∙ generations_are;
       aheads = aheads_then;
       still = still_then;

@@ -58,7 +58,7 @@ returns-in-Fails-clause-attempted c =
     let v = c.args.actor.now.me.0 in
     let w = c.change_main_within.new.actor.me.0 in
     tomb_fails c.args.words.now.table_id.words v c.requires.sound c.args.task.now c.requires.task c.args.path.now.items c.requires.some c.args.given c.args.single c.args.former c.requires.at w
-    (subst (λ r. HasChanged v r w) (c.in-Some.is ∙ ap Some c.in-Fails.is) (c.in-Ok.ensures {u = tt}).changed)
+    c.in-Fails.field-0 (subst (λ r. HasChanged v r w) (c.in-Some.is ∙ ap Some c.in-Fails.is) (c.in-Ok.ensures {u = tt}).changed)
 
 pub returns-in-Misses-clause-attempted : goal.returns-in-Misses-clause-attempted
 returns-in-Misses-clause-attempted c =

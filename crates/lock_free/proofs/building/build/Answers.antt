@@ -30,5 +30,6 @@ pub returns-clause-built : goal.returns-clause-built
 returns-clause-built c =
     site_built c.args.words.now.table_id.words c.args.actor.now.me.0 c.requires.sound c.args.by c.args.given c.args.site c.args.former c.requires.at c.make_single.new.actor.me.0
     c.in_ok-slot.slot (c.in_ok-slot.ensures {u = tt}).made
-    c.edit_for.new.actor.me.0 c.edit_for.ensures.sound c.in_ok-change.change (c.in_ok-change.ensures {u = tt}).edit c.flag_of-flag.result c.flag_of-flag.ensures.flag c.build_main.result
+    c.edit_for.new.actor.me.0 c.edit_for.ensures.sound c.in_ok-change.change (c.in_ok-change.ensures {u = tt}).edit c.flag_of-flag.result c.flag_of-flag.ensures.flag
+    (c.in_ok-change.ensures {u = tt}).drops c.build_main.result
     c.build_main.new.actor.me.0 c.build_main.ensures.built

@@ -1,10 +1,16 @@
 use Rattle.std.proofs.Common.{◌≤◌, ℕ, List, sym, ap, subst, ◌∙◌, length}
 use Rattle.trie_words.specs.declared.headers.Shape.TheVariants as shape
+use Rattle.machine_model.specs.Beneath.slot_arena.specs.declared.nodes.Node.TheVariants.{List as Listed}
+use Rattle.machine_model.specs.Beneath.slot_arena.specs.Heaps.{entries_from}
+use Rattle.lock_free.specs.Changing.{edited}
+use Rattle.lock_free.specs.Raising.{MayReplace}
 use Rattle.lock_free.specs.Halves.{entries_of_halves, AreHalves}
 use Rattle.lock_free.specs.SeenEntries.{IsAtList}
 use Rattle.lock_free.proofs.ChangedMains.{edit_fits, has_entries, few_seen, over_there, stock_there, built_there}
-use Rattle.lock_free.proofs.ChangedLists.{refs, refs_are, counted, few, list_can, list_ready}
+use Rattle.lock_free.proofs.ChangedLists.{new_node, refs, refs_are, counted, few, list_can, list_ready}
 use Rattle.lock_free.proofs.EntryHalves.{can_edit_halves, edited_few, edited_is, edited_small}
+use Rattle.lock_free.proofs.MainChanges.{refs_edited}
+use Rattle.lock_free.proofs.MainNames.{may_replace, taken_in}
 use Rattle.lock_free.proofs.changing.build_list.Goals as goal
 
 pub see_halves-requires-clause-held : goal.see_halves-requires-clause-held
@@ -24,8 +30,8 @@ apply-requires-clause-can c =
 pub apply-requires-clause-fits : goal.apply-requires-clause-fits
 apply-requires-clause-fits c = edit_fits c.args.words.now.table_id.words c.args.actor.now.me.0 c.requires.sound c.args.main (shape.List c.args.count) c.args.flag c.args.change c.requires.at
 
-pub make_list_of-requires-clause-stock : goal.make_list_of-requires-clause-stock
-make_list_of-requires-clause-stock c =
+pub make_list_over-requires-clause-stock : goal.make_list_over-requires-clause-stock
+make_list_over-requires-clause-stock c =
     stock_there c.args.words.now.table_id.words c.args.actor.now.me.0 c.requires.sound c.args.main (shape.List c.args.count) c.args.flag c.args.change c.requires.at
     (refs c.args.words.now.table_id.words c.args.actor.now.me.0 c.requires.sound c.args.main c.args.count c.args.flag c.args.change c.requires.at)
     (refs_are c.args.words.now.table_id.words c.args.actor.now.me.0 c.requires.sound c.args.main c.args.count c.args.flag c.args.change c.requires.at)
@@ -33,8 +39,8 @@ make_list_of-requires-clause-stock c =
     (few c.args.words.now.table_id.words c.args.actor.now.me.0 c.requires.sound c.args.main c.args.count c.args.flag c.args.change c.requires.at) c.see_halves.new.actor.me.0
     (entries_of_halves c.see_halves.new.halves.items) c.see_halves.ensures.seen c.args.stock.now c.requires.stock
 
-pub make_list_of-requires-clause-few : goal.make_list_of-requires-clause-few
-make_list_of-requires-clause-few c =
+pub make_list_over-requires-clause-few : goal.make_list_over-requires-clause-few
+make_list_over-requires-clause-few c =
     subst (λ (hs : List ℕ). length hs ≤ 32) (sym (c.deref.ensures.0 ∙ c.apply.ensures))
     (edited_few c.see_halves.new.halves.items c.args.count c.args.change (edit_fits c.args.words.now.table_id.words c.args.actor.now.me.0 c.requires.sound c.args.main (shape.List c.args.count)
     c.args.flag c.args.change c.requires.at)
@@ -47,26 +53,49 @@ make_list_of-requires-clause-few c =
     (list_can c.args.words.now.table_id.words c.args.actor.now.me.0 c.requires.sound c.args.main c.args.count c.args.flag c.args.change c.requires.at
     c.see_halves.new.actor.me.0 (entries_of_halves c.see_halves.new.halves.items) c.see_halves.ensures.seen)))
 
-pub make_list_of-requires-clause-halves : goal.make_list_of-requires-clause-halves
-make_list_of-requires-clause-halves c =
+pub make_list_over-requires-clause-halves : goal.make_list_over-requires-clause-halves
+make_list_over-requires-clause-halves c =
     subst AreHalves (sym (c.deref.ensures.0 ∙ c.apply.ensures)) (edited_small c.see_halves.new.halves.items c.args.count c.args.change (edit_fits c.args.words.now.table_id.words
     c.args.actor.now.me.0 c.requires.sound c.args.main (shape.List c.args.count) c.args.flag c.args.change c.requires.at) c.see_halves.ensures.halves)
 
-pub make_list_of-requires-clause-making : goal.make_list_of-requires-clause-making
-make_list_of-requires-clause-making c =
+pub make_list_over-requires-clause-making : goal.make_list_over-requires-clause-making
+make_list_over-requires-clause-making c =
     subst (IsAtList c.see_halves.new.actor.me.0) (sym (ap entries_of_halves (c.deref.ensures.0 ∙ c.apply.ensures) ∙ edited_is c.see_halves.new.halves.items c.args.count c.args.change
     (edit_fits c.args.words.now.table_id.words c.args.actor.now.me.0 c.requires.sound c.args.main (shape.List c.args.count) c.args.flag c.args.change c.requires.at)))
     (list_ready c.args.words.now.table_id.words c.args.actor.now.me.0 c.requires.sound c.args.main c.args.count c.args.flag c.args.change c.requires.at
     c.see_halves.new.actor.me.0 (entries_of_halves c.see_halves.new.halves.items) c.see_halves.ensures.seen c.requires.kept c.see_halves.ensures.sound)
 
-pub make_list_of-requires-clause-over : goal.make_list_of-requires-clause-over
-make_list_of-requires-clause-over c =
+pub make_list_over-requires-clause-over : goal.make_list_over-requires-clause-over
+make_list_over-requires-clause-over c =
     over_there c.args.words.now.table_id.words c.args.actor.now.me.0 c.requires.sound c.args.main (shape.List c.args.count) c.args.flag c.args.change c.requires.at
     (refs c.args.words.now.table_id.words c.args.actor.now.me.0 c.requires.sound c.args.main c.args.count c.args.flag c.args.change c.requires.at)
     (refs_are c.args.words.now.table_id.words c.args.actor.now.me.0 c.requires.sound c.args.main c.args.count c.args.flag c.args.change c.requires.at)
     (counted c.args.words.now.table_id.words c.args.actor.now.me.0 c.requires.sound c.args.main c.args.count c.args.flag c.args.change c.requires.at)
     (few c.args.words.now.table_id.words c.args.actor.now.me.0 c.requires.sound c.args.main c.args.count c.args.flag c.args.change c.requires.at) c.see_halves.new.actor.me.0
     (entries_of_halves c.see_halves.new.halves.items) c.see_halves.ensures.seen c.see_halves.ensures.sound
+
+-- what it names
+pub make_list_over-requires-clause-holds : goal.make_list_over-requires-clause-holds
+make_list_over-requires-clause-holds c =
+    let w = c.see_halves.new.actor.me.0 in
+    let entries = entries_of_halves c.see_halves.new.halves.items in
+    let rs = refs_edited (refs c.args.words.now.table_id.words c.args.actor.now.me.0 c.requires.sound c.args.main c.args.count c.args.flag c.args.change c.requires.at) c.args.count
+    c.requires.at.its in
+    subst (λ es. MayReplace w c.args.main.own es c.brought.result)
+    (sym (ap entries_of_halves (c.deref.ensures.0 ∙ c.apply.ensures) ∙ edited_is c.see_halves.new.halves.items c.args.count c.args.change
+    (edit_fits c.args.words.now.table_id.words c.args.actor.now.me.0 c.requires.sound c.args.main (shape.List c.args.count) c.args.flag c.args.change c.requires.at)))
+    (subst (MayReplace w c.args.main.own (edited entries c.args.count c.args.change)) (sym (c.brought.ensures))
+    (may_replace c.args.words.now.table_id.words c.args.actor.now.me.0 c.requires.sound c.args.main (shape.List c.args.count) c.args.flag c.args.change c.requires.at
+    (refs c.args.words.now.table_id.words c.args.actor.now.me.0 c.requires.sound c.args.main c.args.count c.args.flag c.args.change c.requires.at)
+    (refs_are c.args.words.now.table_id.words c.args.actor.now.me.0 c.requires.sound c.args.main c.args.count c.args.flag c.args.change c.requires.at)
+    (counted c.args.words.now.table_id.words c.args.actor.now.me.0 c.requires.sound c.args.main c.args.count c.args.flag c.args.change c.requires.at)
+    (few c.args.words.now.table_id.words c.args.actor.now.me.0 c.requires.sound c.args.main c.args.count c.args.flag c.args.change c.requires.at) w entries
+    c.see_halves.ensures.seen c.see_halves.ensures.sound c.args.count
+    (list_can c.args.words.now.table_id.words c.args.actor.now.me.0 c.requires.sound c.args.main c.args.count c.args.flag c.args.change c.requires.at w entries c.see_halves.ensures.seen)
+    (Listed (entries_from rs))
+    (new_node c.args.words.now.table_id.words c.args.actor.now.me.0 c.requires.sound c.args.main c.args.count c.args.flag c.args.change c.requires.at w entries c.see_halves.ensures.seen
+    c.requires.kept c.see_halves.ensures.sound)
+    (taken_in rs)))
 
 pub returns-clause-built : goal.returns-clause-built
 returns-clause-built c =
@@ -75,5 +104,5 @@ returns-clause-built c =
     (refs_are c.args.words.now.table_id.words c.args.actor.now.me.0 c.requires.sound c.args.main c.args.count c.args.flag c.args.change c.requires.at)
     (counted c.args.words.now.table_id.words c.args.actor.now.me.0 c.requires.sound c.args.main c.args.count c.args.flag c.args.change c.requires.at)
     (few c.args.words.now.table_id.words c.args.actor.now.me.0 c.requires.sound c.args.main c.args.count c.args.flag c.args.change c.requires.at) c.see_halves.new.actor.me.0
-    (entries_of_halves c.see_halves.new.halves.items) c.see_halves.ensures.seen c.see_halves.ensures.sound c.make_list_of.result c.make_list_of.new.actor.me.0
-    c.make_list_of.ensures.made
+    (entries_of_halves c.see_halves.new.halves.items) c.see_halves.ensures.seen c.see_halves.ensures.sound c.make_list_over.result c.make_list_over.new.actor.me.0
+    c.make_list_over.ensures.built

@@ -1,5 +1,6 @@
 use Rattle.lock_free.specs.CopySteps.{HasCopied, HasCopiedOn}
-use Rattle.lock_free.proofs.CopiesLeft.{begins_own, own_copied, own_on, own_way}
+use Rattle.lock_free.proofs.CopiesLeft.{begins_own, own_copied, own_on, own_stock, own_way}
+use Rattle.lock_free.proofs.CopyOutcome.{kind_saw}
 use Rattle.lock_free.proofs.Leavings.{if_err, if_ok}
 use Rattle.lock_free.proofs.copies.complete_own_within.Goals as goal
 
@@ -10,9 +11,17 @@ pub complete_own_on-requires-clause-way : goal.complete_own_on-requires-clause-w
 complete_own_on-requires-clause-way c = own_way c.args.words.now.table_id.words c.args.actor.now.me.0 c.requires.sound c.args.way.handle c.args.slot c.requires.standing
     c.see_olds-root.new.actor.me.0 c.see_olds-root.result c.see_olds-root.ensures.seen c.args.way c.requires.way
 
+pub complete_own_on-requires-clause-which : goal.complete_own_on-requires-clause-which
+complete_own_on-requires-clause-which c =
+    kind_saw c.args.actor.now.me.0 c.see_olds-root.new.actor.me.0 c.see_olds-root.ensures.seen.0 c.requires.standing.at.0 c.requires.standing.at.1 c.args.which c.requires.which
+
 pub complete_own_on-requires-clause-completing : goal.complete_own_on-requires-clause-completing
 complete_own_on-requires-clause-completing c = begins_own c.args.words.now.table_id.words c.args.actor.now.me.0 c.requires.sound c.args.way.handle c.args.slot c.requires.standing
     c.see_olds-root.new.actor.me.0 c.see_olds-root.result c.see_olds-root.ensures.seen
+
+pub complete_own_on-requires-clause-stock : goal.complete_own_on-requires-clause-stock
+complete_own_on-requires-clause-stock c = own_stock c.args.words.now.table_id.words c.args.actor.now.me.0 c.requires.sound c.args.way.handle c.args.slot c.requires.standing
+    c.see_olds-root.new.actor.me.0 c.see_olds-root.result c.see_olds-root.ensures.seen c.args.stock.now c.requires.stock
 
 pub returns-clause-copied : goal.returns-clause-copied
 returns-clause-copied c =

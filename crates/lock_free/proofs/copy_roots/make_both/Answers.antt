@@ -1,27 +1,40 @@
+use Rattle.std.proofs.lemmas.Bool.{false≢true}
 use Rattle.std.proofs.Common.{refl, sym, subst}
 use Rattle.machine_model.specs.declared.copying.CopyLine.TheVariants as copy
 use Rattle.lock_free.specs.declared.copy_roots.CopyKind.TheVariants as kind
 use Rattle.lock_free.specs.CopySteps.{HasRootsOrNone}
-use Rattle.lock_free.proofs.CopyRoots.{at_second, both_made, main_at_second, second_missing, stopped}
+use Rattle.lock_free.proofs.CopyRoots.{at_second, both_made, main_at_second, second_missing, stopped_rested}
+use Rattle.lock_free.proofs.CopyMains.{in_slot_on, second_holds, successor_holds}
 use Rattle.lock_free.proofs.copy_roots.make_both.Goals as goal
 
 pub returns-in_err-successor-clause-made : goal.returns-in_err-successor-clause-made
 returns-in_err-successor-clause-made c root main at =
     let before = c.args.actor.now.me.0 in
-    let after = c.make_new_root.new.actor.me.0 in
+    let after = c.make_shared_root.new.actor.me.0 in
     subst (λ x. HasRootsOrNone before kind.Snapshot root main x after) (sym c.from_residual.ensures)
-    (stopped before (copy.Successor root main) at refl after ((c.in_err-successor.ensures {u = tt}).made (copy.Successor root main) main at refl))
+    (stopped_rested before (copy.Successor root main) at refl after ((c.in_err-successor.ensures {u = tt}).made (copy.Successor root main) main at refl))
 
-pub make_new_root-requires-2-clause-making : goal.make_new_root-requires-2-clause-making
-make_new_root-requires-2-clause-making c =
-    let (root, main, at, placed) = c.requires.given in
-    main_at_second c.args.actor.now.me.0 root main at c.in_ok-successor.successor c.make_new_root.new.actor.me.0 (c.in_ok-successor.ensures {u = tt}).made c.requires.which c.args.main placed
+pub make_shared_root-requires-2-clause-making : goal.make_shared_root-requires-2-clause-making
+make_shared_root-requires-2-clause-making c =
+    let (root, main, at, there) = c.requires.given in
+    main_at_second c.args.actor.now.me.0 root main at c.in_ok-successor.successor c.make_shared_root.new.actor.me.0 (c.in_ok-successor.ensures {u = tt}).made c.requires.which c.args.main
+    ((there.slot, there.used), there.place)
+
+pub make_shared_root-requires-2-clause-holds : goal.make_shared_root-requires-2-clause-holds
+make_shared_root-requires-2-clause-holds c =
+    let (root, main, at, there) = c.requires.given in
+    let before = c.args.actor.now.me.0 in
+    let middle = c.make_shared_root.new.actor.me.0 in
+    let first = (c.in_ok-successor.ensures {u = tt}).made in
+    let new = first (copy.Successor root main) main at refl in
+    second_holds c.args.words.now.table_id.words middle (c.in_ok-successor.ensures {u = tt}).sound root main c.args.class c.args.main
+    (in_slot_on before middle new.become.follows main c.args.class c.args.main there) new.made (at_second before root main at c.in_ok-successor.successor middle first c.requires.which)
 
 pub returns-in_err-second-clause-made : goal.returns-in_err-second-clause-made
 returns-in_err-second-clause-made c root main at =
     let before = c.args.actor.now.me.0 in
-    let middle = c.make_new_root.new.actor.me.0 in
-    let after = c.make_new_root-2.new.actor.me.0 in
+    let middle = c.make_shared_root.new.actor.me.0 in
+    let after = c.make_shared_root-2.new.actor.me.0 in
     let first = (c.in_ok-successor.ensures {u = tt}).made in
     let there = at_second before root main at c.in_ok-successor.successor middle first c.requires.which in
     subst (λ x. HasRootsOrNone before kind.Snapshot root main x after) (sym c.from_residual-in_err-second.ensures)
@@ -30,5 +43,13 @@ returns-in_err-second-clause-made c root main at =
 
 pub returns-clause-made : goal.returns-clause-made
 returns-clause-made c root main at =
-    both_made c.args.actor.now.me.0 root main at c.in_ok-successor.successor c.make_new_root.new.actor.me.0 (c.in_ok-successor.ensures {u = tt}).made c.requires.which
-    c.make_new_root-2.new.actor.me.0 c.in_ok-second.second (c.in_ok-second.ensures {u = tt}).made
+    both_made c.args.actor.now.me.0 root main at c.in_ok-successor.successor c.make_shared_root.new.actor.me.0 (c.in_ok-successor.ensures {u = tt}).made c.requires.which
+    c.make_shared_root-2.new.actor.me.0 c.in_ok-second.second (c.in_ok-second.ensures {u = tt}).made
+
+pub make_shared_root-requires-clause-making : goal.make_shared_root-requires-clause-making
+make_shared_root-requires-clause-making c =
+    let (root, main, at, there) = c.requires.given in (copy.Successor root main, main, at, refl, ((there.slot, there.used), there.place), (λ own. absurd (false≢true own), λ built. absurd built))
+
+pub make_shared_root-requires-clause-holds : goal.make_shared_root-requires-clause-holds
+make_shared_root-requires-clause-holds c =
+    let (root, main, at, there) = c.requires.given in successor_holds c.args.words.now.table_id.words c.args.actor.now.me.0 c.requires.sound root main c.args.class c.args.main there at

@@ -4,7 +4,20 @@ use Rattle.machine_model.specs.declared.copying.CopyLine.TheVariants as copy
 use Rattle.lock_free.specs.declared.copy_roots.CopyKind.TheVariants as kind
 use Rattle.lock_free.specs.CopySteps.{HasRootsOrNone}
 use Rattle.lock_free.proofs.CopyRoots.{at_cleared, at_empty, cleared_made, root_missing, root_over_it, stopped, unchanged}
+use Rattle.lock_free.proofs.RaisedLines.{raised_cleared, raised_empty}
 use Rattle.lock_free.proofs.copy_roots.make_cleared.Goals as goal
+
+pub make_branch-requires-clause-raised : goal.make_branch-requires-clause-raised
+make_branch-requires-clause-raised c = let (root, main, at) = c.requires.at in raised_empty c.args.actor.now.me.0 root main at
+
+pub make_new_root-requires-clause-raised : goal.make_new_root-requires-clause-raised
+make_new_root-requires-clause-raised c =
+    let (root, main, at) = c.requires.at in
+    let before = c.args.actor.now.me.0 in
+    let middle = c.make_branch.new.actor.me.0 in
+    let branch = (c.in_ok-branch.ensures {u = tt}).made in
+    let made = (branch empty_branch (at_empty before root main at)).made in
+    raised_cleared middle root main made (at_cleared before root main at c.in_ok-branch.branch middle branch)
 
 pub returns-in_err-branch-clause-made : goal.returns-in_err-branch-clause-made
 returns-in_err-branch-clause-made c root main at =

@@ -1,8 +1,12 @@
-use Rattle.std.proofs.Common.{sym, subst}
+use Rattle.std.proofs.Common.{subst, sym}
 use Rattle.lock_free.specs.CopySteps.{HasTriedRoot}
+use Rattle.lock_free.specs.Owing.{HoldsRaised}
 use Rattle.lock_free.specs.Stocks.{IsStock}
 use Rattle.lock_free.proofs.RootMakes.{root_made, root_noted, root_unmade}
 use Rattle.lock_free.proofs.copy_roots.make_new_root.Goals as goal
+
+pub try_roots-requires-clause-raised : goal.try_roots-requires-clause-raised
+try_roots-requires-clause-raised c = subst HoldsRaised (sym (c.in_ok-slot.ensures {u = tt}).slot.is) c.requires.raised
 
 pub returns-then-not-try_roots-clause-stock : goal.returns-then-not-try_roots-clause-stock
 returns-then-not-try_roots-clause-stock c =

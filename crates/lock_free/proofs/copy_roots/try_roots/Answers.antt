@@ -1,6 +1,7 @@
 use Rattle.std.proofs.Common.{◌*◌, ◌∙◌, subst, refl, sym, ap, arith}
 use Rattle.std.proofs.lemmas.Bool.{false≢true}
 use Rattle.lock_free.specs.declared.rules.View.{View}
+use Rattle.lock_free.specs.Owing.{HoldsRaised}
 use Rattle.lock_free.specs.Storing.{HasMadeRoot}
 use Rattle.lock_free.proofs.RootMakes.{own_root_word, root_fits, root_ready, still_drafted}
 use Rattle.lock_free.proofs.copy_roots.try_roots.Goals as goal
@@ -34,6 +35,12 @@ draft-requires-clause-own c =
 
 pub make_root-requires-clause-table : goal.make_root-requires-clause-table
 make_root-requires-clause-table c = c.draft.ensures.table ∙ c.loop.invariant.0 ∙ c.requires.table
+
+pub make_root-requires-clause-raised : goal.make_root-requires-clause-raised
+make_root-requires-clause-raised c =
+    subst HoldsRaised
+    (sym (still_drafted c.args.words.now.table_id.words c.args.actor.now.me.0 c.requires.sound c.args.slot c.requires.last c.args.main c.requires.making c.loop.actor.me.0 c.loop.invariant.2
+    (2 * c.args.slot) c.to_word.result c.draft.new.actor.me.0 (ap (λ me. me.0) c.draft.ensures.drafted))) c.requires.raised
 
 pub make_root-requires-clause-making : goal.make_root-requires-clause-making
 make_root-requires-clause-making c =

@@ -1,6 +1,6 @@
-use Rattle.std.proofs.Common.{sym, subst}
+use Rattle.std.proofs.Common.{ap, sym, subst, ◌∙◌}
 use Rattle.lock_free.specs.declared.parking.Came.TheVariants as came
-use Rattle.lock_free.specs.CopySteps.{HasSettledCopy}
+use Rattle.lock_free.specs.CopySteps.{copy_kind, HasSettledCopy}
 use Rattle.lock_free.specs.Parking.{HasRunTo}
 use Rattle.lock_free.proofs.CopiesParked.{its_call, its_completing, its_opening, left_parked, settled_answered, settled_spent}
 use Rattle.lock_free.proofs.ParkedOn.{way_called}
@@ -13,6 +13,9 @@ settle_own-requires-clause-way c =
 pub settle_own-requires-clause-completing : goal.settle_own-requires-clause-completing
 settle_own-requires-clause-completing c =
     its_completing c.args.actor.now.me.0 c.args.completing c.args.opens c.requires.parked c.args.call c.args.access c.requires.called c.handle-handle.result c.handle-handle.ensures
+
+pub settle_own-requires-clause-which : goal.settle_own-requires-clause-which
+settle_own-requires-clause-which c o runs = ap copy_kind (c.requires.called o runs).0 ∙ sym c.kind_of.ensures
 
 pub settle_own-requires-clause-opening : goal.settle_own-requires-clause-opening
 settle_own-requires-clause-opening c =

@@ -22,11 +22,11 @@ compare_exchange-requires c =
           (subst (λ n. Allows (IsRuled sizes) slots id me (root_word c.args.handle) (λ x. either (x == n) 0 x) (has_closed (step slots (root_word c.args.handle) n 0 none) me))
           (sym c.to_word-open.ensures)
           (close_allows sizes slots id me c.requires.sound.bounds.1 c.args.handle c.args.looked c.requires.low c.requires.closing c.requires.all
-          c.requires.outside c.requires.idle c.args.word c.requires.marked)),
+          c.requires.outside c.requires.idle c.args.word c.requires.fits c.requires.marked)),
     )
 
 pub returns-clause-closed : goal.returns-clause-closed
-returns-clause-closed c = c.compare_exchange.ensures.2.0 c.args.handle c.args.looked c.requires.closing
+returns-clause-closed c = c.compare_exchange.ensures.2.0 c.args.handle c.args.looked c.args.word c.requires.closing c.requires.fits c.to_word-open.ensures
 
 pub returns-clause-sound : goal.returns-clause-sound
 returns-clause-sound c =

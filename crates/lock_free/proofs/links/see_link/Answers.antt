@@ -2,6 +2,7 @@ use Rattle.std.proofs.Common.{sym, ap, subst, ◌∙◌}
 use Rattle.lock_free.specs.Linking.{linking}
 use Rattle.lock_free.specs.Links.{link_in}
 use Rattle.lock_free.specs.Loading.{IsSound}
+use Rattle.lock_free.specs.Places.{count_word}
 use Rattle.lock_free.proofs.CountSteps.{count_in, count_is}
 use Rattle.lock_free.proofs.LinkSteps.{linking_sound, retired_word, see_link_allowed}
 use Rattle.lock_free.proofs.links.see_link.Goals as goal
@@ -23,4 +24,7 @@ returns-clause-sound c =
     subst (λ (me : _). IsSound n me.0) (sym c.load.ensures.2) (linking_sound n c.args.actor.now.me.0 c.count_word.result _ c.requires.sound)
 
 pub returns-clause-seen : goal.returns-clause-seen
-returns-clause-seen c = ap (λ (me : _). me.0) c.load.ensures.2 ∙ ap (λ n. linking c.args.actor.now.me.0 n (link_in c.load.result)) c.count_word.ensures
+returns-clause-seen c =
+    let v = c.args.actor.now.me.0 in
+    ap (λ (me : _). me.0) c.load.ensures.2 ∙ ap (λ n. linking v n (link_in c.load.result)) c.count_word.ensures
+    ∙ ap (linking v (count_word c.args.sizes.now c.args.class c.args.slot)) (sym c.link_in.ensures)

@@ -2,6 +2,7 @@ use Rattle.std.proofs.Common.{◌<◌, sym, ap, subst, ◌∙◌, length}
 use Rattle.std.proofs.lemmas.List.{length-map}
 use Rattle.trie_words.specs.Codes.{entry_of}
 use Rattle.lock_free.specs.Halves.{entries_of_halves}
+use Rattle.lock_free.specs.Owing.{HoldsRaised}
 use Rattle.lock_free.specs.Places.{class_for}
 use Rattle.lock_free.specs.SeenEntries.{HasWritten, IsOwnSlot}
 use Rattle.lock_free.specs.Stocks.{HasSlot}
@@ -36,6 +37,9 @@ make-requires-clause-making c =
     c.write_entries.new.actor.me.0 (subst (λ k. HasWritten c.take.new.actor.me.0 c.in_ok-slot.slot (entries_of_halves c.args.halves.now) k c.write_entries.new.actor.me.0) (sym (length-map
     c.args.halves.now entry_of)) c.write_entries.ensures.written)
     c.to_word.result c.to_word.ensures
+
+pub make-requires-clause-raised : goal.make-requires-clause-raised
+make-requires-clause-raised c = subst HoldsRaised (sym c.write_entries.ensures.written.is) (subst HoldsRaised (sym (c.in_ok-slot.ensures {u = tt}).slot.is) c.requires.raised)
 
 pub returns-clause-stock : goal.returns-clause-stock
 returns-clause-stock c = stock_there c.args.actor.now.me.0 c.class_for-class.result c.in_ok-slot.slot c.take.new.actor.me.0 (c.in_ok-slot.ensures {u = tt}).slot c.write_entries.new.actor.me.0

@@ -26,4 +26,4 @@ returns-clause-completed c =
     let after = c.compare_exchange-found.new.seat.me.0 in
     let told = c.compare_exchange-found.ensures.2.0 in
     subst (λ b. HasCompleted before b after) (sym c.is_carried_out.ensures)
-    (complete_told before c.args.offer c.args.is_expected c.requires.completing c.compare_exchange-found.result after told.0 told.1 told.2)
+    (complete_told before c.args.offer c.args.is_expected c.requires.completing c.compare_exchange-found.result told.0 after told.1 told.2)

@@ -1,6 +1,7 @@
 use Rattle.std.proofs.Common.{◌∙◌, ap, sym, subst}
 use Rattle.lock_free.specs.Loading.{IsSound}
 use Rattle.lock_free.specs.Places.{count_word}
+use Rattle.lock_free.specs.Reclaiming.{HasReclaimed}
 use Rattle.lock_free.proofs.CountSteps.{count_in, count_is}
 use Rattle.lock_free.proofs.LinkSteps.{retired_word}
 use Rattle.lock_free.proofs.ReclaimStep.{reclaim_allowed}
@@ -10,11 +11,11 @@ pub load-requires : goal.load-requires
 load-requires c =
     let me = c.args.actor.now.me in
     let is = count_is me.0 c.args.sizes.now c.requires.sizes c.args.class c.args.slot c.count_word.result c.requires.class c.requires.slot c.count_word.ensures in
-    let (x, there, class, name, late) = c.requires.ripe in (
+    let (x, there, class, name, late, shallow) = c.requires.ripe in (
       c.requires.table,
       count_in c.args.words.now.table_id.words me.0 c.requires.sound c.count_word.result is,
       reclaim_allowed c.args.words.now.key c.args.words.now.table_id.slots c.args.actor.now.id me c.requires.sound.bounds.1 (subst (λ n. IsSound n me.0) c.requires.sound.size c.requires.sound)
-          x there late c.count_word.result (sym (retired_word me.0 c.args.sizes.now c.requires.sizes x c.args.class c.args.slot class name c.count_word.result c.count_word.ensures)),
+          x there late shallow c.count_word.result (sym (retired_word me.0 c.args.sizes.now c.requires.sizes x c.args.class c.args.slot class name c.count_word.result c.count_word.ensures)),
     )
 
 pub returns-clause-sound : goal.returns-clause-sound
@@ -22,4 +23,6 @@ returns-clause-sound c = subst (λ n. IsSound n c.load.new.seat.me.0) (sym c.req
 
 pub returns-clause-reclaimed : goal.returns-clause-reclaimed
 returns-clause-reclaimed c =
-    c.load.ensures.2.0 c.args.class c.args.slot c.requires.ripe (c.count_word.ensures ∙ ap (λ z. count_word z c.args.class c.args.slot) (sym c.requires.sizes))
+    let word = c.count_word.ensures ∙ ap (λ z. count_word z c.args.class c.args.slot) (sym c.requires.sizes) in
+    subst (λ n. HasReclaimed c.args.actor.now.me.0 c.args.class c.args.slot n c.load.new.seat.me.0) (sym c.link_in.ensures)
+    (c.load.ensures.2.0 c.args.class c.args.slot c.requires.ripe word)

@@ -1,9 +1,7 @@
 use Rattle.std.proofs.Common.{count_ones, refl, sym, subst}
-use Rattle.lock_free.specs.SeenEntries.{IsAtBranch}
 use Rattle.lock_free.specs.Repairing.{HasRenewedBranch}
-use Rattle.lock_free.proofs.RenewBranches.{renew_has, renewing, renewing_way, renewing_start, renewing_stock, renew_gives_up, branch_making, branch_over, branch_gives_up, renew_swap}
-use Rattle.lock_free.specs.Repairing.{HasRenewedBranch}
-use Rattle.lock_free.proofs.RenewBranches.{renew_swap_way, swap_ends, renew_left}
+use Rattle.lock_free.proofs.RenewBranches.{branch_gives_up, branch_holds, branch_making, branch_over, renew_gives_up, renew_has, renew_left, renew_swap, renew_swap_way, renewing}
+use Rattle.lock_free.proofs.RenewBranches.{renewing_start, renewing_stock, renewing_way, swap_ends}
 use Rattle.lock_free.proofs.renewing.renew_within.Goals as goal
 
 pub see_entries-entries-requires-clause-held : goal.see_entries-entries-requires-clause-held
@@ -39,39 +37,44 @@ returns-in_default-clause-renewed c =
     c.see_entries-entries.new.actor.me.0 c.see_entries-entries.ensures.sound (count_ones c.args.bitmap) c.see_entries-entries.result.items refl c.see_entries-entries.ensures.seen
     c.renew_entries_within.new.actor.me.0 c.renew_entries_within.result c.renew_entries_within.ensures.renewed c.in_default.is
 
-pub make_branch-requires-clause-making : goal.make_branch-requires-clause-making
-make_branch-requires-clause-making c =
-    subst (λ xs. IsAtBranch c.renew_entries_within.new.actor.me.0 c.args.bitmap xs) (sym c.deref.ensures.0) (branch_making c.args.words.now.table_id.words c.args.actor.now.me.0
-    c.requires.sound c.args.indirection c.args.link c.args.bitmap c.requires.at
+pub make_renewed-requires-clause-making : goal.make_renewed-requires-clause-making
+make_renewed-requires-clause-making c =
+    branch_making c.args.words.now.table_id.words c.args.actor.now.me.0 c.requires.sound c.args.indirection c.args.link c.args.bitmap c.requires.at
     c.see_entries-entries.new.actor.me.0 c.see_entries-entries.ensures.sound (count_ones c.args.bitmap) c.see_entries-entries.result.items refl c.see_entries-entries.ensures.seen
-    c.renew_entries_within.new.actor.me.0 c.renew_entries_within.result c.renew_entries_within.ensures.renewed c.in-Some.renewed c.in-Some.is)
+    c.renew_entries_within.new.actor.me.0 c.renew_entries_within.result c.renew_entries_within.ensures.renewed c.in-Some.renewed c.in-Some.is
 
-pub make_branch-requires-clause-over : goal.make_branch-requires-clause-over
-make_branch-requires-clause-over c =
+pub make_renewed-requires-clause-holds : goal.make_renewed-requires-clause-holds
+make_renewed-requires-clause-holds c =
+    branch_holds c.args.words.now.table_id.words c.args.actor.now.me.0 c.requires.sound c.args.indirection c.args.link c.args.bitmap c.requires.at
+    c.see_entries-entries.new.actor.me.0 c.see_entries-entries.ensures.sound (count_ones c.args.bitmap) c.see_entries-entries.result.items refl c.see_entries-entries.ensures.seen
+    c.renew_entries_within.new.actor.me.0 c.renew_entries_within.result c.renew_entries_within.ensures.renewed c.in-Some.renewed c.in-Some.is c.renew_entries_within.ensures.sound
+
+pub make_renewed-requires-clause-over : goal.make_renewed-requires-clause-over
+make_renewed-requires-clause-over c =
     branch_over c.args.words.now.table_id.words c.args.actor.now.me.0 c.requires.sound c.args.indirection c.args.link c.args.bitmap c.requires.at
     c.see_entries-entries.new.actor.me.0 c.see_entries-entries.ensures.sound (count_ones c.args.bitmap) c.see_entries-entries.result.items refl c.see_entries-entries.ensures.seen
     c.renew_entries_within.new.actor.me.0 c.renew_entries_within.result c.renew_entries_within.ensures.renewed c.in-Some.renewed c.in-Some.is
 
-pub returns-in_default-make_branch-clause-renewed : goal.returns-in_default-make_branch-clause-renewed
-returns-in_default-make_branch-clause-renewed c =
+pub returns-in_default-make_renewed-clause-renewed : goal.returns-in_default-make_renewed-clause-renewed
+returns-in_default-make_renewed-clause-renewed c =
     branch_gives_up c.args.words.now.table_id.words c.args.actor.now.me.0 c.requires.sound c.args.indirection c.args.link c.args.bitmap c.requires.at
     c.see_entries-entries.new.actor.me.0 c.see_entries-entries.ensures.sound (count_ones c.args.bitmap) c.see_entries-entries.result.items refl c.see_entries-entries.ensures.seen
     c.renew_entries_within.new.actor.me.0 c.renew_entries_within.result c.renew_entries_within.ensures.renewed c.in-Some.renewed c.in-Some.is
-    c.make_branch.new.actor.me.0 c.make_branch.result c.make_branch.ensures.made c.in_default-make_branch.is
+    c.make_renewed.new.actor.me.0 c.make_renewed.result c.make_renewed.ensures.built c.in_default-make_renewed.is
 
 pub swap_made_within-requires-clause-way : goal.swap_made_within-requires-clause-way
 swap_made_within-requires-clause-way c =
     renew_swap_way c.args.words.now.table_id.words c.args.actor.now.me.0 c.requires.sound c.args.indirection c.args.link c.args.bitmap c.requires.at
     c.see_entries-entries.new.actor.me.0 c.see_entries-entries.ensures.sound (count_ones c.args.bitmap) c.see_entries-entries.result.items refl c.see_entries-entries.ensures.seen
     c.renew_entries_within.new.actor.me.0 c.renew_entries_within.result c.renew_entries_within.ensures.renewed c.in-Some.renewed c.in-Some.is
-    c.make_branch.new.actor.me.0 c.make_branch.result c.make_branch.ensures.made c.in-Some-make_branch.fresh c.in-Some-make_branch.is c.args.way c.requires.way
+    c.make_renewed.new.actor.me.0 c.make_renewed.result c.make_renewed.ensures.built c.in-Some-make_renewed.fresh c.in-Some-make_renewed.is c.args.way c.requires.way
 
 pub swap_made_within-requires-clause-swapping : goal.swap_made_within-requires-clause-swapping
 swap_made_within-requires-clause-swapping c =
     renew_swap c.args.words.now.table_id.words c.args.actor.now.me.0 c.requires.sound c.args.indirection c.args.link c.args.bitmap c.requires.at
     c.see_entries-entries.new.actor.me.0 c.see_entries-entries.ensures.sound (count_ones c.args.bitmap) c.see_entries-entries.result.items refl c.see_entries-entries.ensures.seen
     c.renew_entries_within.new.actor.me.0 c.renew_entries_within.result c.renew_entries_within.ensures.renewed c.in-Some.renewed c.in-Some.is
-    c.make_branch.new.actor.me.0 c.make_branch.result c.make_branch.ensures.made c.in-Some-make_branch.fresh c.in-Some-make_branch.is c.class_of-class.result c.class_of-class.ensures
+    c.make_renewed.new.actor.me.0 c.make_renewed.result c.make_renewed.ensures.built c.in-Some-make_renewed.fresh c.in-Some-make_renewed.is c.class_of-class.result c.class_of-class.ensures
 
 pub returns-in-Ok-clause-renewed : goal.returns-in-Ok-clause-renewed
 returns-in-Ok-clause-renewed c =
@@ -79,7 +82,7 @@ returns-in-Ok-clause-renewed c =
     (swap_ends c.args.words.now.table_id.words c.args.actor.now.me.0 c.requires.sound c.args.indirection c.args.link c.args.bitmap c.requires.at
     c.see_entries-entries.new.actor.me.0 c.see_entries-entries.ensures.sound (count_ones c.args.bitmap) c.see_entries-entries.result.items refl c.see_entries-entries.ensures.seen
     c.renew_entries_within.new.actor.me.0 c.renew_entries_within.result c.renew_entries_within.ensures.renewed c.in-Some.renewed c.in-Some.is
-    c.make_branch.new.actor.me.0 c.make_branch.result c.make_branch.ensures.made c.in-Some-make_branch.fresh c.in-Some-make_branch.is
+    c.make_renewed.new.actor.me.0 c.make_renewed.result c.make_renewed.ensures.built c.in-Some-make_renewed.fresh c.in-Some-make_renewed.is
     c.in-Ok.swapped c.swap_made_within.new.actor.me.0 (c.in-Ok.ensures {u = tt}).done)
 
 pub returns-in-Err-clause-left : goal.returns-in-Err-clause-left
@@ -87,5 +90,5 @@ returns-in-Err-clause-left c =
     renew_left c.args.words.now.table_id.words c.args.actor.now.me.0 c.requires.sound c.args.indirection c.args.link c.args.bitmap c.requires.at
     c.see_entries-entries.new.actor.me.0 c.see_entries-entries.ensures.sound (count_ones c.args.bitmap) c.see_entries-entries.result.items refl c.see_entries-entries.ensures.seen
     c.renew_entries_within.new.actor.me.0 c.renew_entries_within.result c.renew_entries_within.ensures.renewed c.in-Some.renewed c.in-Some.is
-    c.make_branch.new.actor.me.0 c.make_branch.result c.make_branch.ensures.made c.in-Some-make_branch.fresh c.in-Some-make_branch.is
+    c.make_renewed.new.actor.me.0 c.make_renewed.result c.make_renewed.ensures.built c.in-Some-make_renewed.fresh c.in-Some-make_renewed.is
     c.in-Err.swapping c.swap_made_within.new.actor.me.0 (c.in-Err.ensures {u = tt}).left

@@ -1,26 +1,10 @@
-use Rattle.lock_free.proofs.CompletesLeft.{completed_on, completing3, helped, known2, passing_there}
+use Rattle.lock_free.proofs.CompletesLeft.{helped_by}
 use Rattle.lock_free.proofs.rooting.complete_on.Goals as goal
 
-pub read_on-requires-clause-passing : goal.read_on-requires-clause-passing
-read_on-requires-clause-passing c = passing_there c.args.words.now.table_id.words c.args.actor.now.me.0 c.requires.sound c.args.way.handle c.args.completing c.requires.completing
-
-pub returns-in-Again-clause-on : goal.returns-in-Again-clause-on
-returns-in-Again-clause-on c =
-    completed_on c.args.words.now.table_id.words c.args.actor.now.me.0 c.requires.sound c.args.way.handle c.args.completing c.requires.completing c.in-Again.from c.read_on.new.actor.me.0
-    (c.in-Again.ensures {u = tt}).passed
-
-pub see_olds-expected-requires-clause-known : goal.see_olds-expected-requires-clause-known
-see_olds-expected-requires-clause-known c =
-    known2 c.args.words.now.table_id.words c.args.actor.now.me.0 c.requires.sound c.args.way.handle c.args.completing c.requires.completing c.read_on.new.actor.me.0 c.read_on.ensures.sound
-    c.in-Gives.given (c.in-Gives.ensures {u = tt}).passed
-
 pub complete-requires-clause-completing : goal.complete-requires-clause-completing
-complete-requires-clause-completing c =
-    completing3 c.args.words.now.table_id.words c.args.actor.now.me.0 c.requires.sound c.args.way.handle c.args.completing c.requires.completing c.read_on.new.actor.me.0 c.read_on.ensures.sound
-    c.in-Gives.given (c.in-Gives.ensures {u = tt}).passed c.see_olds-expected.new.actor.me.0 c.see_olds-expected.result c.see_olds-expected.ensures.seen
+complete-requires-clause-completing c = (c.in-Ok.ensures {u = tt}).expected.at
 
-pub returns-in-Gives-clause-helped : goal.returns-in-Gives-clause-helped
-returns-in-Gives-clause-helped c =
-    helped c.args.words.now.table_id.words c.args.actor.now.me.0 c.requires.sound c.args.way.handle c.args.completing c.requires.completing c.read_on.new.actor.me.0 c.read_on.ensures.sound
-    c.in-Gives.given (c.in-Gives.ensures {u = tt}).passed c.see_olds-expected.new.actor.me.0 c.see_olds-expected.result c.see_olds-expected.ensures.seen c.complete.result c.complete.new.actor.me.0
-    c.complete.ensures.completed c.see_olds-expected.ensures.sound
+pub returns-in-Ok-clause-helped : goal.returns-in-Ok-clause-helped
+returns-in-Ok-clause-helped c =
+    helped_by c.args.words.now.table_id.words c.args.actor.now.me.0 c.is_expected_on.new.actor.me.0 c.args.completing.offer c.in-Ok.is_expected c.requires.sound (c.in-Ok.ensures {u = tt}).expected
+    c.is_expected_on.ensures.sound c.complete.result c.complete.new.actor.me.0 c.complete.ensures.completed

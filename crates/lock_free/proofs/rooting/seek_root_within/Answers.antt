@@ -24,7 +24,7 @@ pub see_generation-generation-requires-clause-table : goal.see_generation-genera
 see_generation-generation-requires-clause-table c = c.ask_word.ensures.table ∙ c.loop.invariant.0 ∙ c.requires.table
 
 pub see_generation-generation-requires-clause-root : goal.see_generation-generation-requires-clause-root
-see_generation-generation-requires-clause-root c = let found = (c.in-Root.ensures {u = tt}).asked in (found.root, found.at)
+see_generation-generation-requires-clause-root c = let found = (c.in-Root.ensures {u = tt}).asked in (found.root, found.at, found.found)
 
 pub returns-in-Root-clause-table : goal.returns-in-Root-clause-table
 returns-in-Root-clause-table c = c.see_generation-generation.ensures.table ∙ c.ask_word.ensures.table ∙ c.loop.invariant.0

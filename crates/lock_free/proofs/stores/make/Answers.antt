@@ -8,7 +8,7 @@ pub store-requires : goal.store-requires
 store-requires c = (
   c.requires.table,
   own_word_inside c.args.words.now.table_id.words c.args.actor.now.me.0 c.args.word c.requires.sound (is_own_word c.args.actor.now.me.0 c.args.word c.args.value c.requires.making),
-  make_allowed c.args.words.now.key c.args.words.now.table_id.slots c.args.actor.now.id c.args.actor.now.me c.requires.sound.bounds.1 c.args.word c.args.value c.requires.making,
+  make_allowed c.args.words.now.key c.args.words.now.table_id.slots c.args.actor.now.id c.args.actor.now.me c.requires.sound.bounds.1 c.args.word c.args.value c.requires.making c.requires.raised,
 )
 
 pub returns-clause-sound : goal.returns-clause-sound

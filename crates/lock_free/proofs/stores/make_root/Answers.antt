@@ -8,7 +8,7 @@ compare_exchange-requires c =
     let size = c.requires.sound.size in (
       c.requires.table,
       omega (arith, size),
-      root_allowed c.args.words.now.key c.args.words.now.table_id.slots c.args.actor.now.id c.args.actor.now.me c.requires.sound.bounds.1 c.args.generation c.requires.making,
+      root_allowed c.args.words.now.key c.args.words.now.table_id.slots c.args.actor.now.id c.args.actor.now.me c.requires.sound.bounds.1 c.args.generation c.requires.making c.requires.raised,
     )
 
 pub returns-clause-sound : goal.returns-clause-sound

@@ -1,6 +1,6 @@
 use Rattle.std.proofs.Common.{subst}
 use Rattle.lock_free.specs.Changing.{HasBuilt}
-use Rattle.lock_free.proofs.ChangedSwaps.{no_change, change_way, change_ready, change_done, change_left}
+use Rattle.lock_free.proofs.ChangedSwaps.{no_change, change_way, change_ready, change_done, change_left, change_told}
 use Rattle.lock_free.proofs.updating.change_main_within.Goals as goal
 
 pub build_main-requires-clause-at : goal.build_main-requires-clause-at
@@ -36,3 +36,9 @@ returns-in-Err-clause-left c =
     c.in-Some.fresh
     (subst (λ r. HasBuilt c.args.actor.now.me.0 r c.build_main.new.actor.me.0) c.in-Some.is c.build_main.ensures.built) c.in-Err.swapping c.swap_made_within.new.actor.me.0 (c.in-Err.ensures {u =
     tt}).left
+
+pub swap_made_within-requires-clause-drops : goal.swap_made_within-requires-clause-drops
+swap_made_within-requires-clause-drops c =
+    change_told c.args.words.now.table_id.words c.args.actor.now.me.0 c.build_main.new.actor.me.0 c.requires.sound c.args.indirection c.args.given c.args.flag c.args.change c.requires.at
+    c.in-Some.fresh
+    (subst (λ r. HasBuilt c.args.actor.now.me.0 r c.build_main.new.actor.me.0) c.in-Some.is c.build_main.ensures.built) c.drops_of.result c.drops_of.ensures

@@ -1,6 +1,6 @@
 use Rattle.std.proofs.Common.{subst}
 use Rattle.lock_free.specs.BuildingUp.{HasBuiltSingle}
-use Rattle.lock_free.proofs.Updates.{no_update, way_on, swap_ready, update_done, update_left}
+use Rattle.lock_free.proofs.Updates.{no_update, way_on, swap_ready, update_done, update_left, update_told}
 use Rattle.lock_free.proofs.updating.update_within.Goals as goal
 
 pub returns-in_default-clause-updated : goal.returns-in_default-clause-updated
@@ -29,3 +29,8 @@ returns-in-Err-clause-left c =
     update_left c.args.actor.now.me.0 c.build.new.actor.me.0 c.args.by c.args.given c.args.site c.args.former c.args.indirection c.requires.at c.in-Some.fresh
     (subst (λ r. HasBuiltSingle c.args.actor.now.me.0 c.args.site c.args.former r c.build.new.actor.me.0) c.in-Some.is c.build.ensures.built) c.in-Err.swapping c.swap_made_within.new.actor.me.0
     (c.in-Err.ensures {u = tt}).left
+
+pub swap_made_within-requires-clause-drops : goal.swap_made_within-requires-clause-drops
+swap_made_within-requires-clause-drops c =
+    update_told c.args.actor.now.me.0 c.build.new.actor.me.0 c.args.by c.args.given c.args.site c.args.former c.args.indirection c.requires.at c.in-Some.fresh
+    (subst (λ r. HasBuiltSingle c.args.actor.now.me.0 c.args.site c.args.former r c.build.new.actor.me.0) c.in-Some.is c.build.ensures.built) c.drops_at.result c.drops_at.ensures

@@ -17,9 +17,9 @@ invariant_of-self c =
     let v = c.self.inside.actor.me.0 in
     let w = c.close_handle.new.actor.me.0 in
     let left = leaves_shut v w c.args.handle c.close_handle.result c.self.invariant.rests c.close_handle.ensures.shut in
-    seat_after c.self.inside.actor.table_id.words c.close_handle.new.actor.table_id.words c.self.inside.number c.self.inside.last c.self.inside.stock c.self.inside.stock v w c.self.invariant
+    seat_after c.self.inside.actor.table_id.words c.close_handle.new.actor.table_id.words c.self.inside.number c.self.inside.last c.self.inside.stock c.close_handle.new.stock v w c.self.invariant
     (ap (λ t. t.words) c.close_handle.ensures.table) (subst (λ n. IsSound n w) (ap (λ t. t.words) (sym (ap (λ s. s.table) c.self.view_is ∙ c.requires.table))) c.close_handle.ensures.sound)
-    left.left (left.owns c.self.inside.stock c.self.invariant.owns)
+    left c.close_handle.ensures.stock
 
 pub returns-clause-seat : goal.returns-clause-seat
 returns-clause-seat c =
@@ -27,7 +27,7 @@ returns-clause-seat c =
     let w = c.close_handle.new.actor.me.0 in
     let left = leaves_shut v w c.args.handle c.close_handle.result c.self.invariant.rests c.close_handle.ensures.shut in
     subst (λ s. HasGoneOn s (record { table = c.close_handle.new.actor.table_id; view = w })) c.self.view_is
-    (gone_on c.self.inside.actor.table_id c.close_handle.new.actor.table_id v w c.close_handle.ensures.table left.left.same)
+    (gone_on c.self.inside.actor.table_id c.close_handle.new.actor.table_id v w c.close_handle.ensures.table left.same)
 
 pub returns-clause-told : goal.returns-clause-told
 returns-clause-told c =

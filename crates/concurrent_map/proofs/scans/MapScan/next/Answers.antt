@@ -1,0 +1,11 @@
+use Rattle.std.proofs.Common.{sym, subst}
+use Rattle.concurrent_map.specs.Scans.{HasScanned}
+use Rattle.concurrent_map.proofs.ScansTold.{scanned_on}
+use Rattle.concurrent_map.proofs.scans.MapScan.next.Goals as goal
+
+pub returns-clause-scanned : goal.returns-clause-scanned
+returns-clause-scanned c =
+    let laws = c.histories_stay.ensures in
+    subst (λ s. HasScanned s c.args.most c.args.pairs.now.items c.new.result c.next.new.pairs.items) c.self.view_is
+    (subst (λ r. HasScanned c.self.inside.scan c.args.most c.args.pairs.now.items r c.next.new.pairs.items) (sym c.new.ensures)
+    (scanned_on laws.go_on laws.others c.self.inside.scan c.self.invariant c.args.most c.args.pairs.now.items c.next.result c.next.new.pairs.items c.next.ensures.seat c.next.ensures.scanned))

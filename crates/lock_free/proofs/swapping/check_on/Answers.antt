@@ -1,0 +1,23 @@
+use Rattle.std.proofs.Common.{subst, sym, ◌∙◌}
+use Rattle.lock_free.specs.Limbos.{IsNewestOrNone}
+use Rattle.lock_free.proofs.SwapsChecked.{check_ready, checked_on, checked_sizes, newest}
+use Rattle.lock_free.proofs.swapping.check_on.Goals as goal
+
+pub check_swap-decided-requires-clause-checking : goal.check_swap-decided-requires-clause-checking
+check_swap-decided-requires-clause-checking c = check_ready c.args.actor.now.me.0 c.args.swapping c.requires.checking
+
+pub hang-requires-clause-sizes : goal.hang-requires-clause-sizes
+hang-requires-clause-sizes c =
+    c.requires.sizes ∙ sym (checked_sizes c.args.actor.now.me.0 c.args.swapping c.requires.checking c.args.words.now.table_id.words c.requires.sound c.check_swap-decided.result
+    c.check_swap-decided.new.actor.me.0 c.check_swap-decided.ensures.sound c.check_swap-decided.ensures.checked)
+
+pub hang-requires-clause-newest : goal.hang-requires-clause-newest
+hang-requires-clause-newest c =
+    subst (IsNewestOrNone c.args.stock.now.limbo c.check_swap-decided.new.actor.me.0) (sym c.retired_by.ensures)
+    (newest c.args.actor.now.me.0 c.args.swapping c.requires.checking c.args.words.now.table_id.words c.requires.sound c.check_swap-decided.result c.check_swap-decided.new.actor.me.0
+    c.check_swap-decided.ensures.sound c.check_swap-decided.ensures.checked c.args.stock.now.limbo c.requires.limbo)
+
+pub returns-clause-checked : goal.returns-clause-checked
+returns-clause-checked c =
+    checked_on c.args.actor.now.me.0 c.args.swapping c.requires.checking c.args.words.now.table_id.words c.requires.sound c.check_swap-decided.result c.check_swap-decided.new.actor.me.0
+    c.check_swap-decided.ensures.sound c.check_swap-decided.ensures.checked c.hang.new.actor.me.0 c.hang.ensures.hung
