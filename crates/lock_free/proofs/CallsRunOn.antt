@@ -35,7 +35,7 @@ use Rattle.lock_free.specs.RunningOn.{RunsOn, IsSame, MayAnswer}
 use Rattle.lock_free.specs.Seeking.{HasSought, HasTried}
 use Rattle.lock_free.specs.Updating.{HasChanged, HasUpdated, changed_by, changed_to, updated}
 use Rattle.lock_free.specs.Walks.{HasAllPairs, IsLeft}
-use Rattle.lock_free.proofs.RunningOn.{runs_on_become, runs_on_both, runs_on_ended, runs_on_left, runs_on_moved, runs_on_rooted, runs_on_stayed}
+use Rattle.lock_free.proofs.RunningOn.{runs_on_become, runs_on_both, runs_on_ended, runs_on_left, runs_on_moved, runs_on_rooted}
 use Rattle.lock_free.specs.declared.reclaiming.Retiree.{Retiree}
 
 -- ---- it is to end, or may give up

@@ -1,5 +1,5 @@
 -- Slots of replaced nodes of one class are free again, whatever hangs of the others.
-use Rattle.std.proofs.Common.{◌≡◌, ◌≢◌, ◌+◌, ◌<◌, ◌≤◌, inl, inr, ℕ, zero, suc, Contains, length, refl, sym, ap, subst, ◌∙◌, arith}
+use Rattle.std.proofs.Common.{◌≡◌, ◌≢◌, ◌<◌, ◌≤◌, inl, inr, ℕ, zero, suc, Contains, length, refl, sym, ap, subst, ◌∙◌, arith}
 use Rattle.lock_free.specs.declared.limbo.Chain.{Chain}
 use Rattle.lock_free.specs.declared.limbo.Chains.{Chains}
 use Rattle.lock_free.specs.declared.limbo.Limbo.{Limbo}

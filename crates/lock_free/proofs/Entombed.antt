@@ -1,5 +1,5 @@
 -- BUILD's last line where one single alone is left; and what its main node can't be.
-use Rattle.std.proofs.Common.{◌≡◌, ℕ, true, Option, Some, None, refl, sym, ap, subst, ◌∙◌}
+use Rattle.std.proofs.Common.{◌≡◌, ℕ, true, refl, sym, ap, subst, ◌∙◌}
 use Rattle.std.proofs.lemmas.Bool.{true≢false}
 use Rattle.trie_words.specs.declared.entries.Entry.{Entry}
 use Rattle.trie_words.specs.declared.headers.Shape.{Shape}

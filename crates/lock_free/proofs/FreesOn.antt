@@ -1,20 +1,18 @@
 -- The first slot of an aged chain of nodes that had no reference any more is free for its seat; the rest hangs still, and the seat's operation goes on.
-use Rattle.std.proofs.Common.{◌≡◌, ◌≢◌, ◌+◌, ◌<◌, ◌≤◌, inl, inr, ℕ, Bool, true, false, Contains, Option, Some, None, map, refl, sym, ap, subst, ◌∙◌, arith}
+use Rattle.std.proofs.Common.{◌≡◌, ◌≢◌, ◌+◌, ◌<◌, ◌≤◌, inl, inr, ℕ, true, Option, Some, None, map, refl, sym, ap, subst, ◌∙◌, arith}
 use Rattle.std.proofs.lemmas.Bool.{cases_Bool}
 use Rattle.history.specs.declared.replies.Reply.{Reply}
-use Rattle.machine_model.specs.declared.operations.Operation.{Operation}
 use Rattle.lock_free.specs.declared.limbo.Limbo.{Limbo}
 use Rattle.lock_free.specs.declared.reclaiming.Kind.{Kind}
 use Rattle.lock_free.specs.declared.reclaiming.Kind.TheVariants as kinds
 use Rattle.lock_free.specs.declared.rules.View.{View}
 use Rattle.lock_free.specs.Attempts.{HasEndedWith, IsEnding}
-use Rattle.lock_free.specs.Becoming.{Follows, HasBecome}
+use Rattle.lock_free.specs.Becoming.{Follows}
 use Rattle.lock_free.specs.Calling.{IsRunning}
 use Rattle.lock_free.specs.Freeing.{freeing, HasFreed, HasFreedSome, HasLeftOne, HasLetGo, IsRipeDeep}
 use Rattle.lock_free.specs.Limbos.{chains_of, led_on, turned_in, IsLimbo}
-use Rattle.lock_free.specs.Loading.{seen, IsSound, Runs}
+use Rattle.lock_free.specs.Loading.{IsSound, Runs}
 use Rattle.lock_free.specs.Making.{with_slot}
-use Rattle.lock_free.specs.Passing.{Later}
 use Rattle.lock_free.specs.Reclaiming.{reclaiming}
 use Rattle.lock_free.specs.Stocks.{Stocked, IsStock, made_of, own_nodes, own_of}
 use Rattle.lock_free.proofs.Followings.{become_both, follows_self, goes_self, same_self}

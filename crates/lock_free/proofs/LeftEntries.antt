@@ -1,9 +1,9 @@
 -- The entries of a branch or a list that stood in a slot, one after the other.
-use Rattle.std.proofs.Common.{◌≡◌, ◌+◌, ◌*◌, ◌/◌, ◌<◌, ◌≤◌, ◌++◌, ℕ, Bool, true, false, List, [], ◌∷◌, Some, get_or, length, length-append, map, slice_get, take, take_all, refl, sym, ap}
+use Rattle.std.proofs.Common.{◌≡◌, ◌+◌, ◌*◌, ◌/◌, ◌<◌, ◌++◌, ℕ, true, List, [], ◌∷◌, Some, get_or, length, length-append, map, slice_get, take, take_all, refl, sym, ap}
 use Rattle.std.proofs.Common.{subst, ◌∙◌, arith}
 use Rattle.std.proofs.lemmas.List.{map-append, take_more}
 use Rattle.std.proofs.lemmas.Option.{slice_get-get_or}
-use Rattle.trie_words.specs.Codes.{entry_of, pair_of}
+use Rattle.trie_words.specs.Codes.{entry_of}
 use Rattle.trie_words.specs.declared.entries.Entry.{Entry}
 use Rattle.machine_model.specs.Beneath.slot_arena.specs.declared.nodes.Slot.{Slot}
 use Rattle.machine_model.specs.Beneath.slot_arena.specs.declared.refs.Ref.{Ref}
@@ -12,8 +12,7 @@ use Rattle.proof_memory.specs.Wants.{is_branch_or_list}
 use Rattle.lock_free.specs.declared.rules.View.{View}
 use Rattle.lock_free.specs.Freeing.{HasLeft, HasLeftEntries, HasLeftPosition, HasSeenDraft, HasSeenHalf, HasSeenHalves}
 use Rattle.lock_free.specs.Loading.{IsSound}
-use Rattle.lock_free.specs.Nodes.{class_of, entry_word, half_of}
-use Rattle.lock_free.specs.Places.{words_in}
+use Rattle.lock_free.specs.Nodes.{entry_word, half_of}
 use Rattle.lock_free.specs.SeenEntries.{AreEntriesTo, entry_to, unowned}
 use Rattle.lock_free.proofs.LeftNames.{its_room, left_entries}
 use Rattle.lock_free.proofs.Within.{entries_room}

@@ -11,7 +11,6 @@ use Rattle.lock_free.specs.declared.reclaiming.Kind.{Kind}
 use Rattle.lock_free.specs.declared.reclaiming.Kind.TheVariants.{Replaced, Single, Indirection, Main}
 use Rattle.lock_free.specs.declared.rules.Retired.{Retired}
 use Rattle.lock_free.specs.declared.rules.View.{View}
-use Rattle.lock_free.specs.declared.sizes.Sizes.{Sizes}
 use Rattle.lock_free.specs.Epochs.{knowing, KnowsMore}
 use Rattle.lock_free.specs.Limbos.{by_kind, chains_of, in_class, linked_by, link_to, names, no_chains, no_classes, turned, with_chains, AreHung, Hangs, HasReclaimedSome, IsLimbo}
 use Rattle.lock_free.specs.Places.{count_word, IsSlot}

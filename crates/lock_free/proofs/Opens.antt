@@ -35,7 +35,7 @@ use Rattle.lock_free.specs.Loading.{IsSound}
 use Rattle.lock_free.specs.Nodes.{IsAhead, AreOwners, StandsAs, InTable, class_of, of_branch, decided}
 use Rattle.lock_free.specs.Opening.{counted_words, first_words, first_link, first_handle}
 use Rattle.lock_free.specs.Owning.{IsOwnBy, at_first}
-use Rattle.lock_free.specs.Places.{AreSizes, HaveTaken, IsSlot, IsTaken, branch_slot, count_word, epoch_word, root_slot, words_of, words_in, generation_word, taken_word, root_word, pin_word}
+use Rattle.lock_free.specs.Places.{AreSizes, HaveTaken, IsSlot, IsTaken, branch_slot, count_word, epoch_word, root_slot, words_of, generation_word, taken_word, root_word, pin_word}
 use Rattle.lock_free.specs.Roots.{MeansRoot}
 use Rattle.lock_free.specs.Rules.{Once, first_account, first_view, Standing, NodesStand, RootsStand, SaysClosing, IsSeat, IsKept, IsRuled}
 use Rattle.lock_free.proofs.CountWords.{count_above, count_beside, slot_taken}

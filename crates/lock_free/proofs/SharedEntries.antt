@@ -1,5 +1,5 @@
 -- What RENEW, CLEAN and CLIMB take over from a main node isn't private to their operation: others may hold references to it.
-use Rattle.std.proofs.Common.{◌≡◌, ◌∷◌, [], ℕ, List, Contains, subst}
+use Rattle.std.proofs.Common.{ℕ, Contains, subst}
 use Rattle.machine_model.specs.Beneath.slot_arena.specs.declared.refs.Ref.{Ref}
 use Rattle.machine_model.specs.Beneath.slot_arena.specs.Heaps.{entries_of, node_at}
 use Rattle.machine_model.specs.declared.lines.Line.TheVariants as line

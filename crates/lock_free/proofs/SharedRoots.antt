@@ -1,12 +1,10 @@
 -- A root over a main node that another root leads to: a reference to it is counted before it is made, and let go of again where it couldn't be.
-use Rattle.std.proofs.Common.{◌≡◌, ◌∷◌, [], ℕ, List, Some, None, refl, sym, ap, subst, ◌∙◌}
-use Rattle.machine_model.specs.Beneath.slot_arena.specs.declared.refs.Ref.{Ref}
-use Rattle.machine_model.specs.declared.copying.CopyLine.{CopyLine}
+use Rattle.std.proofs.Common.{◌≡◌, ◌∷◌, [], ℕ, Some, None, refl, sym, ap, subst, ◌∙◌}
 use Rattle.trie_words.specs.declared.names.Name.{Name}
 use Rattle.lock_free.specs.declared.reclaiming.Kind.{Kind}
 use Rattle.lock_free.specs.declared.rules.View.{View}
 use Rattle.lock_free.specs.Becoming.{HasRested}
-use Rattle.lock_free.specs.CopySteps.{main_for, HasNewRoot, HasRoot, HasSharedRoot, IsAtCopy, IsAtNewRoot}
+use Rattle.lock_free.specs.CopySteps.{HasNewRoot, HasRoot, HasSharedRoot, IsAtCopy, IsAtNewRoot}
 use Rattle.lock_free.specs.Counts.{without_one}
 use Rattle.lock_free.specs.Owing.{owing}
 use Rattle.lock_free.specs.Raising.{HasKept, MayHoldOne, OwesOne}

@@ -1,7 +1,6 @@
 -- A tomb names the single that is left, which is an entry of the main node that it is to replace.
-use Rattle.std.proofs.Common.{◌≡◌, ◌∷◌, [], inl, inr, ℕ, Bool, true, false, List, Contains, refl, sym, ap, subst, ◌∙◌}
+use Rattle.std.proofs.Common.{◌≡◌, inr, ℕ, Bool, true, false, Contains, refl, sym, ap, subst, ◌∙◌}
 use Rattle.std.proofs.lemmas.Bool.{true≢false}
-use Rattle.std.proofs.lemmas.List.Elements.{Contains-append_left, Contains-append_right}
 use Rattle.std.proofs.lemmas.Option.{same_Some}
 use Rattle.trie_words.specs.declared.headers.Shape.{Shape}
 use Rattle.trie_words.specs.declared.names.Name.{Name}
@@ -28,10 +27,10 @@ use Rattle.lock_free.specs.Accounts.{IsOwn}
 use Rattle.lock_free.specs.Changing.{IsChanging}
 use Rattle.lock_free.specs.Loading.{now, IsAt, IsSound}
 use Rattle.lock_free.specs.Nodes.{class_of, is_single}
-use Rattle.lock_free.specs.Owing.{names_made, HoldsRaised}
-use Rattle.lock_free.specs.Raising.{MayHoldOne, MayReplaceBy}
+use Rattle.lock_free.specs.Owing.{names_made}
+use Rattle.lock_free.specs.Raising.{MayReplaceBy}
 use Rattle.lock_free.specs.Reclaiming.{kind_of_node}
-use Rattle.lock_free.proofs.ChangedMains.{holds_main, kind, known_node, main_at_hand, o}
+use Rattle.lock_free.proofs.ChangedMains.{kind, known_node, main_at_hand, o}
 use Rattle.lock_free.proofs.Entombed.{tomb_ready, left_is_single, tomb_left}
 use Rattle.lock_free.proofs.GivenBack.{node_is}
 use Rattle.lock_free.proofs.KnownLines.{K, change_known, node_known, o0}

@@ -1,4 +1,4 @@
-use Rattle.std.proofs.Common.{◌<◌, sym, ap, subst, ◌∙◌}
+use Rattle.std.proofs.Common.{sym, subst, ◌∙◌}
 use Rattle.lock_free.proofs.FreesOn.{becomes_now, freed_left, freed_more, freed_none, let_go_becomes, let_go_stock, ripe_deep, stock_led}
 use Rattle.lock_free.specs.Places.{IsSlot}
 use Rattle.lock_free.proofs.LetGo.{item_slot}

@@ -1,7 +1,7 @@
-use Rattle.std.proofs.Common.{◌+◌, ◌++◌, ◌∷◌, [], refl, sym, ap, subst, ◌∙◌, arith, length, length-append}
+use Rattle.std.proofs.Common.{◌∷◌, [], refl, sym, ap, subst, ◌∙◌, arith, length, length-append}
 use Rattle.std.proofs.lemmas.List.{length-map}
 use Rattle.trie_words.specs.Codes.{entry_of}
-use Rattle.lock_free.specs.Freeing.{HasLeftPosition, HasSeenHalf, HasSeenHalves}
+use Rattle.lock_free.specs.Freeing.{HasLeftPosition, HasSeenHalf}
 use Rattle.lock_free.specs.Halves.{entries_of_halves}
 use Rattle.lock_free.specs.Loading.{IsSound}
 use Rattle.lock_free.proofs.EntryHalves.{entries_more}

@@ -1,12 +1,12 @@
-use Rattle.std.proofs.Common.{◌<◌, ◌∙◌, ap, sym, subst}
+use Rattle.std.proofs.Common.{◌∙◌, sym, subst}
 use Rattle.std.proofs.lemmas.Bool.{true≢false}
 use Rattle.std.proofs.lemmas.Option.{none-some}
 use Rattle.lock_free.specs.declared.reclaiming.Kind.TheVariants.{Replaced}
 use Rattle.lock_free.specs.Freed.{KeepsOthers}
 use Rattle.lock_free.specs.Limbos.{IsLimbo}
 use Rattle.lock_free.specs.Places.{IsSlot}
-use Rattle.lock_free.proofs.ClassesFree.{chains_others, none_others, others_both, slot_others}
-use Rattle.lock_free.proofs.KindsApart.{replaced_shallow, with_here}
+use Rattle.lock_free.proofs.ClassesFree.{chains_others, others_both, slot_others}
+use Rattle.lock_free.proofs.KindsApart.{replaced_shallow}
 use Rattle.lock_free.proofs.LetGo.{first_freed, item, item_class, item_held, item_kind, item_late, item_slot, its_name, limbo_let_go, one_reclaimed}
 use Rattle.lock_free.proofs.replaced.free_one.Goals as goal
 

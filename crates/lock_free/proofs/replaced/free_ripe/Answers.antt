@@ -1,4 +1,4 @@
-use Rattle.std.proofs.Common.{◌+◌, ◌≤◌, is_some, ap, sym, subst, arith, ◌∙◌}
+use Rattle.std.proofs.Common.{is_some, ap, sym, subst, arith, ◌∙◌}
 use Rattle.std.proofs.lemmas.Bool.{true≢false}
 use Rattle.lock_free.specs.declared.limbo.Chain.{Chain}
 use Rattle.lock_free.specs.declared.limbo.Limbo.{Limbo}

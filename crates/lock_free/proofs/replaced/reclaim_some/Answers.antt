@@ -1,9 +1,5 @@
-use Rattle.std.proofs.Common.{◌+◌, ◌<◌, ◌≤◌, ℕ, Contains, is_some, sym, ap, subst, arith, ◌∙◌}
-use Rattle.std.proofs.lemmas.Bool.{true≢false}
-use Rattle.lock_free.specs.declared.rules.View.{View}
-use Rattle.lock_free.specs.Freed.{kept_free, next_chain, FreesRipe}
-use Rattle.lock_free.specs.Limbos.{HasReclaimedSome, IsLimbo}
-use Rattle.lock_free.specs.Stocks.{HasRoomFor}
+use Rattle.std.proofs.Common.{ap, arith}
+use Rattle.lock_free.specs.Freed.{next_chain}
 use Rattle.lock_free.proofs.ClassesFree.{each_class_freed, freed_after_seen, freed_before}
 use Rattle.lock_free.proofs.LetGo.{known_epoch, knowing_is, knowing_limbo, knowing_more, knowing_reclaimed, more_reclaimed}
 use Rattle.lock_free.proofs.replaced.reclaim_some.Goals as goal

@@ -1,4 +1,4 @@
-use Rattle.std.proofs.Common.{◌≡◌, ◌<◌, length, arith}
+use Rattle.std.proofs.Common.{◌<◌, length, arith}
 use Rattle.lock_free.proofs.StockRoom.{given_more, put_back_next}
 use Rattle.lock_free.proofs.stock.Stock.give_back.Goals as goal
 
