@@ -43,16 +43,26 @@ def output(words, seconds):
 
 
 class Figures:
-    """The best figure of each thing that was measured: the least."""
+    """The best figure of each thing that was measured: the least; and of calls that may be refused how many were, at most."""
 
     def __init__(self):
         self.best = {}
+        self.refused = {}
 
-    def put(self, name, figure):
+    def put(self, name, figure, refused=None):
         self.best[name] = min(figure, self.best.get(name, figure))
+        if refused is not None:
+            self.refused[name] = max(refused, self.refused.get(name, 0))
 
     def get(self, name):
         return self.best.get(name)
+
+    def text(self, name, form="{:,.1f}"):
+        """What a table says of it."""
+        if name not in self.best:
+            return "not measured"
+        refused = f"; {self.refused[name]:,} refused" if name in self.refused else ""
+        return form.format(self.best[name]) + refused
 
 
 def row(what, ours, yardstick, ratio, aim, met):
@@ -68,8 +78,7 @@ def met(is_met, is_full):
 
 def pair(figures, ours, yardstick):
     """Returns both figures, and their texts."""
-    both = figures.get(ours), figures.get(yardstick)
-    return *both, ["not measured" if it is None else f"{it:,.1f}" for it in both]
+    return figures.get(ours), figures.get(yardstick), [figures.text(ours), figures.text(yardstick)]
 
 
 def compared(figures, what, ours, yardstick, aim, most=True, is_full=True):
@@ -81,6 +90,14 @@ def compared(figures, what, ours, yardstick, aim, most=True, is_full=True):
     ratio = a / b if most else b / a
     is_met = aim is not None and (ratio <= aim if most else ratio >= aim)
     row(what, *texts, f"{ratio:.2f}" if ratio >= 0.1 else f"{ratio:.4f}", told, met(is_met, is_full) if told else "")
+
+
+def limited(figures, what, name, unit, most, is_full=True):
+    """A row of one figure; the aim is the most that it may be."""
+    figure = figures.get(name)
+    if figure is None:
+        return row(what, "not measured", "", "", f"at most {most:,} {unit}", "")
+    row(what, figures.text(name, f"{{:,.2f}} {unit}"), "", "", f"at most {most:,} {unit}", met(figure <= most, is_full))
 
 
 def machine():

@@ -27,26 +27,31 @@ run meanwhile. Each call is made whole; what takes several, as `setdefault`, `up
 between. (That a thread may go on with a map that another one made is tested, and not proved: include/ctrie.h says what is.) They aren't
 used in a child made by fork.
 
+A `ConcurrentMap` is one that threads share with no lock of its own: each call is made in single steps, by a seat that the thread has as
+long as the call lasts. It has the calls that its class says, and not all of a dictionary's.
+
 The library is the shared object that `./build ctrie_c` makes. It is the file that the environment's CTRIE_LIBRARY names, or else
 libctrie.so beside this file, the one that was built, or the one that the system finds. Where there is none, or another version, the
 import of this module raises an ImportError.
 """
 from __future__ import annotations
 
+import collections
 import enum
+import itertools
 import operator
 import os
 import threading
 import weakref
-from ctypes import CDLL, POINTER, PyDLL, Structure, byref, c_bool, c_size_t, c_uint16, c_uint32, c_uint64, c_void_p
+from ctypes import CDLL, POINTER, PyDLL, Structure, byref, c_bool, c_size_t, c_uint8, c_uint16, c_uint32, c_uint64, c_void_p
 from typing import (
-    Any, Dict, ItemsView, Iterable, Iterator, List, Mapping, MutableMapping, NamedTuple, Optional, Tuple, Type, TypeVar, Union,
-    ValuesView, overload,
+    Any, Deque, Dict, ItemsView, Iterable, Iterator, List, Mapping, MutableMapping, NamedTuple, Optional, Tuple, Type,
+    TypeVar, Union, ValuesView, overload,
 )
 
 __all__ = [
     "Map", "Copy", "Difference", "Hash", "Error", "NoHandle", "ReadOnly", "HandlesFull", "Crowded", "Full", "BadSizes", "WornOut",
-    "OutOfMemory", "Closed", "slots_for",
+    "OutOfMemory", "Closed", "slots_for", "ConcurrentMap", "ConcurrentCopy", "NotReadOnly",
 ]
 __version__ = "0.1.0"
 
@@ -56,6 +61,7 @@ _ROOM = 4096
 _HANDLES = 256
 _Default = TypeVar("_Default")
 _View = TypeVar("_View", bound="_Handle")
+_Closable = TypeVar("_Closable", bound="_ConcurrentHandle")
 
 
 class Error(Exception):
@@ -82,7 +88,8 @@ class Crowded(Error):
 
 class Full(Error):
     """No slot is free: a key or a copy is to be added and `free_slots` is 0; or another change wants slots of its own, since copies are
-    open. Without open copies what is there can always be changed and removed."""
+    open. Without open copies what is there can always be changed and removed. A concurrent map may be full in any call, while other seats
+    have free slots."""
 
 
 class BadSizes(Error, ValueError):
@@ -99,6 +106,10 @@ class OutOfMemory(Error, MemoryError):
 
 class Closed(Error):
     """The map is closed."""
+
+
+class NotReadOnly(Error):
+    """Only a frozen copy of a concurrent map is counted and listed."""
 
 
 class Hash(enum.IntEnum):
@@ -151,11 +162,43 @@ _CALLS: Dict[str, Tuple[Any, ...]] = {
     "close": (c_uint16,),
     "free": (),
 }
+# The calls of include/ctrie_concurrent.h: those in a number of tries, with what each takes after it, and the others.
+_TRIED: Dict[str, Tuple[Any, ...]] = {
+    "get": (c_uint16, c_uint64, POINTER(c_uint64)),
+    "contains": (c_uint16, c_uint64),
+    "put": (c_uint16, c_uint64, c_uint64, POINTER(c_uint64)),
+    "put_if_absent": (c_uint16, c_uint64, c_uint64, POINTER(c_uint64)),
+    "replace": (c_uint16, c_uint64, c_uint64, POINTER(c_uint64)),
+    "replace_if": (c_uint16, c_uint64, c_uint64, c_uint64),
+    "remove": (c_uint16, c_uint64, POINTER(c_uint64)),
+    "remove_if": (c_uint16, c_uint64, c_uint64),
+    "clear": (c_uint16,),
+    "snapshot": (c_uint16, POINTER(c_uint16)),
+    "freeze": (c_uint16, POINTER(c_uint16)),
+    "count": (c_uint16, POINTER(c_uint64)),
+    "entries": (c_uint16, POINTER(_Pair), c_size_t, POINTER(c_uint64)),
+    "settle": (),
+}
+_CONCURRENT: Dict[str, Tuple[Any, ...]] = {
+    "open": (c_uint32, c_uint32, c_uint8),
+    "split": (POINTER(_Held),),
+    "close": (c_uint16,),
+    "drop": (),
+    **{f"try_{name}": (c_uint64, *words) for name, words in _TRIED.items()},
+}
+# In how many tries a call is made before the interpreter looks at signals.
+_TRIES = 1000
+# How often a call that finds no slot, while some are to be free soon, is made again before it is full.
+_PATIENCE = 1_000_000
+# Those that want no slot.
+_WALKS = {"count", "entries"}
 # Those that may take long where a map is large.
 _LONG = {"new", "count", "entries", "scan", "diff", "put_all", "clear", "restore", "close", "free"}
 _YES = 1
+_FULL, _BUSY, _AGAIN, _SPENT = 6, 14, 17, 18
 _REFUSALS: Dict[int, Type[Error]] = {
-    2: NoHandle, 3: ReadOnly, 4: HandlesFull, 5: Crowded, 6: Full, 7: BadSizes, 8: WornOut, 9: OutOfMemory, 11: Closed,
+    2: NoHandle, 3: ReadOnly, 4: HandlesFull, 5: Crowded, 6: Full, 7: BadSizes, 8: WornOut, 9: OutOfMemory, 10: NotReadOnly, 11: Closed,
+    15: BadSizes,
 }
 
 
@@ -188,6 +231,9 @@ def _load() -> Dict[str, Any]:
     return {
         name: _declared((long if name in _LONG else short)[f"ctrie_{name}"], None if name == "free" else c_uint32, POINTER(_Held), *words)
         for name, words in _CALLS.items()
+    } | {
+        f"concurrent_{name}": _declared(long[f"ctrie_concurrent_{name}"], None if name == "drop" else c_uint32, POINTER(_Held), *words)
+        for name, words in _CONCURRENT.items()
     } | {"slots_for": _declared(short.ctrie_slots_for, c_uint32, c_uint32)}
 
 
@@ -587,3 +633,302 @@ class Map(_Handle):
         count = c_uint32()
         self._owner.call(name, byref(count))
         return count.value
+
+
+class _Caller:
+    """A seat at a concurrent map. Who has its lock has it."""
+
+    def __init__(self) -> None:
+        self.held, self.lock = _Held(None), threading.Lock()
+        # The thread that has it, where one has.
+        self.owner: Optional[int] = None
+        # Whether a call of it was begun and hasn't returned: where no thread has the seat, an exception came into that call.
+        self.is_calling = False
+
+    def is_own(self) -> bool:
+        """Whether this thread has it already: a signal's handler came into its call, or the collector."""
+        return self.lock.locked() and self.owner == threading.get_ident()
+
+    def settle(self) -> None:
+        """Brings a call that an exception came into to its end: its answer is lost."""
+        while self.is_calling:
+            self.is_calling = _LIBRARY["concurrent_try_settle"](byref(self.held), _TRIES) == _AGAIN
+
+    def ask(self, name: str, *words: Any) -> int:
+        """Makes a call until it is over or has waited for slots in vain, and returns its code. Signals are looked at between its parts."""
+        self.settle()
+        call, code, waits = _LIBRARY[f"concurrent_try_{name}"], _AGAIN, 0
+        self.is_calling = True
+        while code in (_AGAIN, _SPENT) and waits < _PATIENCE:
+            code = call(byref(self.held), _TRIES, *words)
+            waits += code == _SPENT and name not in _WALKS
+        self.is_calling = False
+        return _FULL if code == _SPENT else code
+
+    def close(self, handle: int) -> bool:
+        """Closes a handle, and returns whether it is closed: not where a call of another seat on it is under way."""
+        self.settle()
+        code: int = _LIBRARY["concurrent_close"](byref(self.held), handle)
+        return code != _BUSY
+
+
+def _drop(callers: List[_Caller]) -> None:
+    """Frees these seats, and the map with its last one. A seat that a thread has stays: that can be so only as the interpreter ends."""
+    for caller in callers:
+        if caller.lock.acquire(blocking=False):
+            try:
+                _LIBRARY["concurrent_drop"](byref(caller.held))
+            finally:
+                caller.lock.release()
+
+
+class _Pool:
+    """The seats at a concurrent map. An exception may come into any of this: so a seat is had by no more than its lock."""
+
+    def __init__(self, keys: int, hash: Hash, seats: int) -> None:
+        if not 0 <= operator.index(keys) < 2**32:
+            raise BadSizes("the number of keys is out of range")
+        if not 1 <= operator.index(seats) <= 255:
+            raise BadSizes("the number of seats isn't from 1 to 255")
+        self.callers, self.turns, self.is_open = [_Caller() for _ in range(seats)], itertools.count(), True
+        # Handles of copies that are to be closed, by the next call.
+        self.left: Deque[int] = collections.deque()
+        self.drop = weakref.finalize(self, _drop, self.callers)
+        first = self.callers[0]
+        _is_yes(_LIBRARY["concurrent_open"](byref(first.held), keys, Hash(hash), seats))
+        for caller in self.callers[1:]:
+            _is_yes(_LIBRARY["concurrent_split"](byref(first.held), byref(caller.held)))
+
+    def call(self, name: str, *words: Any) -> bool:
+        """Makes a call by a seat that no thread has, for which it waits while there is none. Returns whether it answers yes. Each seat keeps
+        some slots for its next calls: so a call that is refused as full is made by each other seat too."""
+        caller = self.caller()
+        code = self.call_by(caller, name, *words)
+        for other in self.callers if code == _FULL else ():
+            if code == _FULL and other is not caller and not other.is_own():
+                code = self.call_by(other, name, *words)
+        return _is_yes(code)
+
+    def call_by(self, caller: _Caller, name: str, *words: Any) -> int:
+        """Makes a call by this seat, for which it waits, and returns its code."""
+        with caller.lock:
+            caller.owner = threading.get_ident()
+            if not self.is_open:
+                raise Closed(Closed.__doc__)
+            self.close_left(caller)
+            return caller.ask(name, *words)
+
+    def caller(self) -> _Caller:
+        """Returns a seat that no thread has, or one for which to wait. The seats take turns, so that few wait for the same one."""
+        at = next(self.turns) % len(self.callers)
+        callers = [caller for caller in self.callers[at:] + self.callers[:at] if not caller.is_own()]
+        if not callers:
+            raise RuntimeError("the map has one seat alone, and a call of this thread has it")
+        return next((caller for caller in callers if not caller.lock.locked()), callers[0])
+
+    def close_left(self, caller: _Caller) -> None:
+        """Closes what is left to be closed, but for that on which a call is under way."""
+        for _ in range(len(self.left)):
+            try:
+                handle = self.left.popleft()
+            except IndexError:
+                # Another thread has closed it.
+                return
+            if not caller.close(handle):
+                self.left.append(handle)
+
+    def tidy(self) -> None:
+        """Closes what is left to be closed, where the map is open."""
+        caller = self.caller()
+        with caller.lock:
+            caller.owner = threading.get_ident()
+            if self.is_open:
+                self.close_left(caller)
+
+    def close(self) -> None:
+        """Frees the map, once no call is under way."""
+        if any(caller.is_own() for caller in self.callers):
+            raise RuntimeError("a call of this thread is under way")
+        self.is_open = False
+        for caller in self.callers:
+            with caller.lock:
+                _LIBRARY["concurrent_drop"](byref(caller.held))
+
+
+class _Number:
+    """A handle of a copy. It is closed once nothing refers to it, and so no call has it: its number may be another copy's at once."""
+
+    def __init__(self, handle: int, left: Deque[int]) -> None:
+        self.handle, self.left = handle, left
+
+    def __del__(self) -> None:
+        # This may come anywhere, so the next call closes it.
+        self.left.append(self.handle)
+
+
+class _ConcurrentHandle:
+    """A map that a handle of a concurrent map names: what `ConcurrentMap` and `ConcurrentCopy` have in common."""
+
+    def __init__(self, pool: _Pool) -> None:
+        self._pool = pool
+
+    def _call(self, name: str, *words: Any) -> bool:
+        raise NotImplementedError
+
+    def _value(self, name: str, *words: int) -> Optional[int]:
+        value = c_uint64()
+        return value.value if self._call(name, *words, byref(value)) else None
+
+    def _copied(self, name: str) -> ConcurrentCopy:
+        handle = c_uint16()
+        self._call(name, byref(handle))
+        return ConcurrentCopy(self._pool, handle.value)
+
+    def get(self, key: int, default: Optional[int] = None) -> Optional[int]:
+        """Returns the key's value, or the default."""
+        value = self._value("get", _number(key))
+        return default if value is None else value
+
+    def __getitem__(self, key: int) -> int:
+        value = self.get(key)
+        if value is None:
+            raise KeyError(key)
+        return value
+
+    def __contains__(self, key: int) -> bool:
+        return self._call("contains", _number(key))
+
+    def put(self, key: int, value: int) -> Optional[int]:
+        """Gives the key the value, and returns the value that it had."""
+        return self._value("put", _number(key), _number(value))
+
+    def __setitem__(self, key: int, value: int) -> None:
+        self.put(key, value)
+
+    def put_if_absent(self, key: int, value: int) -> Optional[int]:
+        """Gives the key the value if it has none, and returns the value that it had."""
+        return self._value("put_if_absent", _number(key), _number(value))
+
+    def replace(self, key: int, value: int) -> Optional[int]:
+        """Gives the key the value if it has one, and returns the value that it had."""
+        return self._value("replace", _number(key), _number(value))
+
+    def replace_if(self, key: int, old: int, new: int) -> bool:
+        """Gives the key the value `new` if it has the value `old`, and returns whether it had. What threads count is counted by this, again
+        where it returns False."""
+        return self._call("replace_if", _number(key), _number(old), _number(new))
+
+    def remove(self, key: int) -> Optional[int]:
+        """Removes the key, and returns the value that it had."""
+        return self._value("remove", _number(key))
+
+    def __delitem__(self, key: int) -> None:
+        if self.remove(key) is None:
+            raise KeyError(key)
+
+    def remove_if(self, key: int, value: int) -> bool:
+        """Removes the key if it has this value, and returns whether it had. Of threads that remove what they found one alone is told so."""
+        return self._call("remove_if", _number(key), _number(value))
+
+    def clear(self) -> None:
+        """Removes all keys."""
+        self._call("clear")
+
+    def snapshot(self) -> ConcurrentCopy:
+        """Returns a copy that can be changed."""
+        return self._copied("snapshot")
+
+    def freeze(self) -> ConcurrentCopy:
+        """Returns a copy of this moment that never changes, which can be counted and listed."""
+        return self._copied("freeze")
+
+    def __enter__(self: _Closable) -> _Closable:
+        return self
+
+    def __exit__(self, *_: object) -> None:
+        self.close()
+
+    def close(self) -> None:
+        raise NotImplementedError
+
+    def __reduce__(self) -> Any:
+        raise TypeError("copy a map by snapshot() or freeze()")
+
+
+class ConcurrentCopy(_ConcurrentHandle):
+    """A snapshot or a freeze of a concurrent map. It is open until it is closed, by close(), by the end of a `with` or as nothing refers to
+    it any more; or until the map is. Closed, it raises `NoHandle`."""
+
+    def __init__(self, pool: _Pool, handle: int) -> None:
+        super().__init__(pool)
+        self._number: Optional[_Number] = _Number(handle, pool.left)
+
+    def _call(self, name: str, *words: Any) -> bool:
+        number = self._number
+        if number is None:
+            raise NoHandle(NoHandle.__doc__)
+        return self._pool.call(name, number.handle, *words)
+
+    def __len__(self) -> int:
+        """Returns how many keys a frozen copy has; of a snapshot `NotReadOnly`."""
+        count = c_uint64()
+        self._call("count", byref(count))
+        return count.value
+
+    def items(self) -> List[Tuple[int, int]]:
+        """Returns the keys of a frozen copy with their values, in ascending order of keys; of a snapshot `NotReadOnly`."""
+        count = c_uint64(len(self))
+        pairs = (_Pair * count.value)()
+        self._call("entries", pairs, len(pairs), byref(count))
+        return [(pair.key, pair.value) for pair in pairs]
+
+    def __iter__(self) -> Iterator[int]:
+        return iter([key for key, _ in self.items()])
+
+    def close(self) -> None:
+        """Gives its handle back: now, or once the calls of other threads on it are over. From now on it raises `NoHandle`."""
+        self._number = None
+        self._pool.tidy()
+
+
+class ConcurrentMap(_ConcurrentHandle):
+    """A map that threads share with no lock of its own. All its memory is taken at first: 52 to 68 bytes for each of the keys that it is
+    told, 11 kB for each seat, and 15 kB; less for fewer than 80 keys.
+
+    The slots of what is replaced or removed are used again, once all calls have ended that were under way when they were given up. A call
+    that finds no slot waits where some are to be free soon; where it has waited in vain, or there are none, it is `Full`. A map has room
+    for as many keys as it was made for, where they are random or follow one another; ask for twice as many where they lie evenly, as
+    multiples of 16 do, and for a copy beside it, of which all is overwritten. (All this is tested, and not proved.) Some calls are
+    refused all the same: a map of ten thousand keys or more of which copies are made again and again may be `Full` for good, after a
+    dozen of them or more. `len` and a listing of the map itself are copies too.
+
+    Any number of threads may use it, as those of an executor. It has seats, from 1 to 255: a call takes one for as long as it lasts, and
+    waits where each is taken. Beside that no call waits for another one, and one order explains the calls of all threads. A copy is of one
+    moment, and is listed while others go on. An exception that comes into a call, as a KeyboardInterrupt, leaves it open whether that was
+    made, and a handle may then be taken as long as the map is open.
+
+    It is open until it is closed, by close(), by the end of a `with` or as nothing refers to it or to a copy of it any more. Closed, it and
+    its copies raise `Closed`. It isn't used in a child made by fork."""
+
+    def __init__(self, keys: int, hash: Hash = Hash.WIDE, *, seats: int = 16) -> None:
+        super().__init__(_Pool(keys, hash, seats))
+
+    def _call(self, name: str, *words: Any) -> bool:
+        return self._pool.call(name, 0, *words)
+
+    def items(self) -> List[Tuple[int, int]]:
+        """Returns the keys with their values at one moment, in ascending order of keys: those of a copy that is frozen for it."""
+        with self.freeze() as copy:
+            return copy.items()
+
+    def __len__(self) -> int:
+        """Returns how many keys there are at one moment: it counts a copy that is frozen for it."""
+        with self.freeze() as copy:
+            return len(copy)
+
+    def __iter__(self) -> Iterator[int]:
+        return iter([key for key, _ in self.items()])
+
+    def close(self) -> None:
+        """Frees the map, once no other thread is in a call."""
+        self._pool.close()

@@ -4,6 +4,7 @@ use crate::loads::Load;
 use bench_calls::{Balance, Drawn, Kind};
 use lock_free::{CallError, MapName, NamedSeat, NamedWords};
 use std::sync::Wait;
+use std::sync::atomic::{AtomicBool, Ordering};
 
 /// The handle that is writable from the start.
 const FIRST: u16 = 0;
@@ -14,7 +15,10 @@ const EVERY: u64 = 1_000;
 /// How many gets are made of such a copy.
 const READS: u64 = 100;
 
-/// The calls of each thread.
+/// How many of a copy that is read alone.
+const MANY_READS: u64 = 1_000;
+
+/// The calls of a thread.
 #[derive(Clone, Copy)]
 pub(crate) struct Share {
     pub(crate) load: Load,
@@ -57,7 +61,7 @@ impl Caller {
     }
 
     /// Makes all calls of its share.
-    pub(crate) fn call_all<N: MapName, R: Wait>(
+    pub(crate) fn call_all<N: MapName, R: Wait + AllocGlobal>(
         &mut self,
         rt: &R,
         words: &NamedWords<N>,
@@ -70,8 +74,26 @@ impl Caller {
         }
     }
 
+    /// Makes calls of its share until they are over.
+    pub(crate) fn call_until<N: MapName, R: Wait + AllocGlobal>(
+        &mut self,
+        rt: &R,
+        words: &NamedWords<N>,
+        seat: &mut NamedSeat<N>,
+        share: Share,
+        are_over: &AtomicBool,
+    ) {
+        for _ in 0..share.calls {
+            if are_over.load(Ordering::SeqCst) {
+                return;
+            }
+            let called = self.call(rt, words, seat, share.load, share.keys);
+            self.count_refusal(called);
+        }
+    }
+
     /// The next call of this load.
-    fn call<N: MapName, R: Wait>(
+    fn call<N: MapName, R: Wait + AllocGlobal>(
         &mut self,
         rt: &R,
         words: &NamedWords<N>,
@@ -86,13 +108,16 @@ impl Caller {
         match load {
             Load::Mix => self.mix(rt, words, seat, key),
             Load::Get => get(rt, words, seat, FIRST, key),
-            Load::Put => self.put(rt, words, seat, key, value),
+            Load::Put | Load::Counted => self.put(rt, words, seat, key, value),
             Load::Insert | Load::Spread => {
                 let key = load.key(self.made % keys.max(1));
                 self.put(rt, words, seat, key, value)
             }
             Load::Copies => self.mix_with_copies(rt, words, seat, key, keys),
             Load::Copy => self.copy(rt, words, seat, key),
+            Load::Reading => self.read_copy(rt, words, seat, keys, MANY_READS),
+            Load::Change => self.change(rt, words, seat, key),
+            Load::Count => count(rt, words, seat),
         }
     }
 
@@ -107,11 +132,21 @@ impl Caller {
         match self.drawn.kind() {
             Kind::Get => get(rt, words, seat, FIRST, key),
             Kind::Put => self.put(rt, words, seat, key, self.drawn.value()),
-            Kind::Remove => {
-                let told = seat.remove(rt, words, FIRST, key)?;
-                self.balance.take(told);
-                Ok(())
-            }
+            Kind::Remove => self.remove(rt, words, seat, key),
+        }
+    }
+
+    /// A put or a removal.
+    fn change<N: MapName, R: Wait>(
+        &mut self,
+        rt: &R,
+        words: &NamedWords<N>,
+        seat: &mut NamedSeat<N>,
+        key: u64,
+    ) -> Result<(), CallError> {
+        match self.drawn.kind() {
+            Kind::Get | Kind::Put => self.put(rt, words, seat, key, self.drawn.value()),
+            Kind::Remove => self.remove(rt, words, seat, key),
         }
     }
 
@@ -128,13 +163,25 @@ impl Caller {
         if self.made % EVERY != 0 {
             return Ok(());
         }
+        self.read_copy(rt, words, seat, keys, READS)
+    }
+
+    /// Freezes the map, gets so many keys of the copy, and closes it.
+    fn read_copy<N: MapName, R: Wait>(
+        &mut self,
+        rt: &R,
+        words: &NamedWords<N>,
+        seat: &mut NamedSeat<N>,
+        keys: u64,
+        reads: u64,
+    ) -> Result<(), CallError> {
         let copy = seat.freeze(rt, words, FIRST)?;
-        let read = self.read(rt, words, seat, copy, keys);
+        let read = self.read(rt, words, seat, copy, keys, reads);
         seat.close(words, copy)?;
         read
     }
 
-    /// Gets keys of a copy.
+    /// Gets so many keys of a copy.
     fn read<N: MapName, R: Wait>(
         &mut self,
         rt: &R,
@@ -142,8 +189,9 @@ impl Caller {
         seat: &mut NamedSeat<N>,
         copy: u16,
         keys: u64,
+        reads: u64,
     ) -> Result<(), CallError> {
-        for _ in 0..READS {
+        for _ in 0..reads {
             self.drawn = self.drawn.next();
             get(rt, words, seat, copy, self.drawn.key(keys))?;
         }
@@ -179,6 +227,18 @@ impl Caller {
         Ok(())
     }
 
+    fn remove<N: MapName, R: Wait>(
+        &mut self,
+        rt: &R,
+        words: &NamedWords<N>,
+        seat: &mut NamedSeat<N>,
+        key: u64,
+    ) -> Result<(), CallError> {
+        let told = seat.remove(rt, words, FIRST, key)?;
+        self.balance.take(told);
+        Ok(())
+    }
+
     fn count_refusal(&mut self, called: Result<(), CallError>) {
         self.refused = self.refused.wrapping_add(u64::from(called.is_err()));
     }
@@ -193,5 +253,18 @@ fn get<N: MapName, R: Wait>(
     key: u64,
 ) -> Result<(), CallError> {
     seat.get(rt, words, handle, key)?;
+    Ok(())
+}
+
+/// Freezes the map, counts the pairs of the copy, and closes it.
+fn count<N: MapName, R: Wait + AllocGlobal>(
+    rt: &R,
+    words: &NamedWords<N>,
+    seat: &mut NamedSeat<N>,
+) -> Result<(), CallError> {
+    let copy = seat.freeze(rt, words, FIRST)?;
+    let counted = seat.count(rt.alloc(), rt, words, copy);
+    seat.close(words, copy)?;
+    counted?;
     Ok(())
 }

@@ -20,6 +20,14 @@ pub(crate) enum Load {
     Copies,
     /// A freeze, a get of what it opens, the first change after it, and a close.
     Copy,
+    /// Puts and removals, 3 : 1.
+    Change,
+    /// A freeze, a count of what it opens, and a close.
+    Count,
+    /// A freeze, many gets of what it opens, and a close, by one thread, while the others `Change`.
+    Reading,
+    /// Puts alone by one thread, while the others `Count`.
+    Counted,
 }
 
 impl Load {
@@ -33,6 +41,17 @@ impl Load {
             "spread" => Some(Load::Spread),
             "copies" => Some(Load::Copies),
             "copy" => Some(Load::Copy),
+            "reading" => Some(Load::Reading),
+            "counted" => Some(Load::Counted),
+            _ => None,
+        }
+    }
+
+    /// What all threads but the first call until that one has made its calls, where those alone are counted.
+    pub(crate) fn beside(self) -> Option<Load> {
+        match self {
+            Load::Reading => Some(Load::Change),
+            Load::Counted => Some(Load::Count),
             _ => None,
         }
     }

@@ -4,12 +4,14 @@
 //! same for all, on a map with so many slots of each class, in which FILLED keys were put. LOAD is `mix` (gets, puts and removals, 6 : 6 : 4),
 //! `get`, `put`, `insert` (each key in turn), `spread` (the same, of keys spread over 64 bits), `copies` (the mix, and after every 1,000
 //! calls of a thread a freeze, 100 gets of that and a close, which aren't counted as calls) or `copy` (each call a freeze, a get of that, the
-//! first change after it, and a close).
+//! first change after it, and a close). In two more one thread makes all COUNT calls, and the others go on until it has ended: `reading`
+//! (each call a freeze, 1,000 gets of that and a close; the others put and remove keys, 3 : 1) and `counted` (puts; the others freeze the map,
+//! count the pairs of the copy and close it).
 //!
-//! It writes how many nanoseconds they took, from the first call of the thread that begins first to the last one of that which ends
-//! last: the map's making and the puts before aren't in it, nor the threads' start but that one begins after the other. Then how many
-//! calls were refused, and how many of two sums are wrong: the keys, and the values, that came and didn't go by what the threads were told
-//! are those that are found in the end, outside that time.
+//! It writes how many nanoseconds they took, from before the threads are made to the end of the last call that is counted: the map's making
+//! and the puts before aren't in it. Then how many calls were refused, those that aren't counted among them; how many of two sums are wrong:
+//! the keys, and the values, that came and didn't go by what the threads were told are those that are found in the end, outside that time;
+//! and how many words of 8 bytes the map has.
 //!
 //! A map wants some slots more than its keys take: those that are retired are used again a little later.
 //!

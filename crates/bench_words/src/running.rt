@@ -4,7 +4,7 @@ ghost use Rattle.std.specs.Prelude.{◌≡◌};
 
 use crate::caller::Share;
 use crate::loads::Load;
-use crate::member::Member;
+use crate::member::{Member, found};
 use bench_calls::{Balance, number};
 use lock_free::{
     Board, CallError, MapName, NamedSeat, NamedWords, OpenError, Seat, Sizes, named, open,
@@ -13,6 +13,7 @@ use nodes::HashKind;
 use std::alloc::{AllocError, Global};
 use std::marker::Brand;
 use std::sync::Wait;
+use std::sync::atomic::{AtomicBool, Ordering};
 use std::thread::Threads;
 use std::time::{Clock, Instant};
 use std::{fmt, thread};
@@ -26,6 +27,15 @@ pub(crate) struct Task {
     keys: u64,
     /// Those of the map, with a seat for each thread.
     sizes: Sizes,
+}
+
+/// What a thread does.
+#[derive(Clone, Copy)]
+enum Part {
+    /// Its calls are counted.
+    Counted(Share),
+    /// It calls until those are over.
+    Beside(Share),
 }
 
 /// What came of it.
@@ -44,16 +54,16 @@ pub(crate) enum Trouble {
     /// Memory was refused.
     Memory,
     /// What is left in the map couldn't be read.
-    Unread,
+    Unread(CallError),
 }
 
 impl fmt::Display for Trouble {
     fn fmt<W: fmt::Write>(&self, f: &mut fmt::Formatter<W>) -> fmt::Result {
-        f.write_str(match self {
-            Trouble::BadSizes => "no map has these sizes",
-            Trouble::Memory => "no memory",
-            Trouble::Unread => "the map can't be read",
-        })
+        match self {
+            Trouble::BadSizes => f.write_str("no map has these sizes"),
+            Trouble::Memory => f.write_str("no memory"),
+            Trouble::Unread(why) => write!(f, "the map can't be read: {why:?}"),
+        }
     }
 }
 
@@ -64,8 +74,8 @@ impl From<AllocError> for Trouble {
 }
 
 impl From<CallError> for Trouble {
-    fn from(_: CallError) -> Trouble {
-        Trouble::Unread
+    fn from(why: CallError) -> Trouble {
+        Trouble::Unread(why)
     }
 }
 
@@ -101,11 +111,22 @@ impl Task {
         })
     }
 
-    /// What each thread does.
-    fn share(self) -> Share {
+    /// What the thread at this place among all does.
+    fn part(self, place: usize) -> Part {
+        match self.load.beside() {
+            None => Part::Counted(self.share(
+                self.load,
+                self.count / u64::from(self.sizes.seats.max(1)),
+            )),
+            Some(_) if place == 0 => Part::Counted(self.share(self.load, self.count)),
+            Some(other) => Part::Beside(self.share(other, u64::MAX)),
+        }
+    }
+
+    fn share(self, load: Load, calls: u64) -> Share {
         Share {
-            load: self.load,
-            calls: self.count / u64::from(self.sizes.seats.max(1)),
+            load,
+            calls,
             keys: self.keys,
         }
     }
@@ -132,15 +153,14 @@ fn members<N: MapName>(
 /// What came of the calls of all, where this is left in the map.
 fn sum<N: MapName>(members: &[Member<N>], found: Balance) -> Done {
     let (mut balance, mut refused) = (Balance::nothing(), 0u64);
-    let (mut began, mut ended) = (u128::MAX, 0u128);
+    let mut nanos = 0u128;
     for member in members {
         balance.join(member.caller.balance);
         refused = refused.wrapping_add(member.caller.refused);
-        began = began.min(member.began);
-        ended = ended.max(member.ended);
+        nanos = nanos.max(member.ended);
     }
     Done {
-        nanos: ended.saturating_sub(began),
+        nanos,
         refused,
         wrong: balance.differences(found),
     }
@@ -171,27 +191,32 @@ fn run_by<N: MapName + Send + Sync, R: Threads + Wait + Sync + Clock + AllocGlob
     perform(rt, &words, members.as_mut_slice(), task)
 }
 
-/// The same, each of these on a thread of its own. One of them puts keys before, and reads what is left after it.
-fn perform<N: MapName + Send + Sync, R: Threads + Wait + Sync + Clock>(
+/// The same, each of these on a thread of its own. Before it each puts the keys, one after the other, and after it one reads what is left.
+fn perform<N: MapName + Send + Sync, R: Threads + Wait + Sync + Clock + AllocGlobal>(
     rt: &R,
     words: &NamedWords<N>,
     members: &mut [Member<N>],
     task: Task,
 ) -> Result<Done, Trouble> {
-    if let Some(one) = members.first_mut() {
+    for one in members.iter_mut() {
         one.fill(rt, words, task.filled);
     }
+    let are_over = AtomicBool::new(false);
     let start = Instant::now(rt).ok();
     thread::for_each_mut(
         rt,
         members,
         usize::from(task.sizes.seats.max(1)),
-        &|_, member| member.work(rt, words, task.share(), start),
+        &|place, member| match task.part(place) {
+            Part::Counted(share) => {
+                member.work(rt, words, share, start);
+                are_over.store(true, Ordering::SeqCst);
+            }
+            Part::Beside(share) => member.accompany(rt, words, share, &are_over),
+        },
     );
-    let found = match members.first_mut() {
-        Some(one) => one.found(rt, words, task.load, task.keys.max(task.filled))?,
-        None => Balance::nothing(),
-    };
+    let keys = task.keys.max(task.filled);
+    let found = found(rt, words, members, task.load, keys)?;
     Ok(sum(members, found))
 }
 
@@ -202,8 +227,13 @@ pub(crate) fn measure<R: Threads + Wait + Sync + Clock + Print + AllocGlobal>(
 ) -> Result<(), Trouble> {
     let done = run(rt, task)?;
     let _ = println!(rt;
-        "{} calls by {} threads, {} ns, {} refused, {} wrong",
-        task.count, task.sizes.seats, done.nanos, done.refused, done.wrong
+        "{} calls by {} threads, {} ns, {} refused, {} wrong, {} words",
+        task.count,
+        task.sizes.seats,
+        done.nanos,
+        done.refused,
+        done.wrong,
+        task.sizes.words()
     );
     Ok(())
 }
@@ -212,14 +242,18 @@ pub(crate) fn measure<R: Threads + Wait + Sync + Clock + Print + AllocGlobal>(
 pub(crate) fn small<R: Threads + Wait + Sync + Clock + Print + AllocGlobal>(
     rt: &R,
 ) -> Result<(), Trouble> {
-    for name in ["mix", "get", "put", "insert", "spread", "copies", "copy"] {
+    for name in [
+        "mix", "get", "put", "insert", "spread", "copies", "copy", "reading", "counted",
+    ] {
         if let Some(load) = Load::named(name) {
             let done = run(rt, few(load))?;
-            let _ = println!(rt; "{name}: {} refused, {} wrong", done.refused, done.wrong);
+            let _ = println!(rt; "{name}: {} wrong", done.wrong);
         }
     }
     let done = run(rt, tight())?;
     let _ = println!(rt; "tight: {} refused, {} wrong", done.refused, done.wrong);
+    let done = run(rt, shared())?;
+    let _ = println!(rt; "shared: {} wrong", done.wrong);
     Ok(())
 }
 
@@ -241,6 +275,24 @@ fn tight() -> Task {
     }
 }
 
+/// Puts over values by two threads, in so few slots that one that waits for its processor in the midst of a call holds back those that the
+/// other one has retired: that one waits for it then.
+fn shared() -> Task {
+    Task {
+        load: Load::Put,
+        filled: 40,
+        count: 40_000,
+        keys: 40,
+        sizes: Sizes {
+            seats: 2,
+            hash: HashKind::Low,
+            small: 300,
+            medium: 80,
+            wide: 80,
+        },
+    }
+}
+
 /// Few calls of this load, by two threads.
 fn few(load: Load) -> Task {
     Task {
@@ -249,7 +301,10 @@ fn few(load: Load) -> Task {
             Load::Spread => 0,
             _ => 40,
         },
-        count: 4_000,
+        count: match load {
+            Load::Reading => 40,
+            _ => 4_000,
+        },
         keys: 40,
         sizes: Sizes {
             seats: 2,

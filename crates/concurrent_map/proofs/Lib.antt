@@ -9,3 +9,4 @@ mod Counts
 mod Exports
 mod Listings
 mod Tasks
+mod Squares

@@ -1,5 +1,5 @@
 -- What a seat that lists in parts is told, in the words of histories.
-use Rattle.std.proofs.Common.{◌≡◌, inl, inr, ◌++◌, ℕ, List, None, Err, length, refl, ap, subst}
+use Rattle.std.proofs.Common.{◌≡◌, inl, inr, ◌++◌, ℕ, List, None, Err, IfErr, length, refl, ap, subst}
 use Rattle.history.specs.declared.calls.Call.TheVariants.{Entries}
 use Rattle.history.specs.declared.replies.Reply.TheVariants as reply
 use Rattle.lock_free.specs.declared.call_errors.CallError.TheVariants as error
@@ -12,11 +12,17 @@ use Rattle.lock_free.specs.ScanSeats.{reached_by, seat_of}
 use Rattle.lock_free.specs.Scans as lf
 use Rattle.lock_free.specs.Seated.{HasGoneOn, Seated}
 use Rattle.lock_free.specs.Telling.{HistoriesGoOn}
+use Rattle.lock_free.specs.WholeCalls.{IsWalkLack}
 use Rattle.concurrent_map.specs.Calls.{WasAnswered}
-use Rattle.concurrent_map.specs.Scans.{of_map, HasBegunScan, HasScanned, IsPaused, IsScanning, ScannedTo}
+use Rattle.concurrent_map.specs.Scans.{of_map, GoesOnUnlessLacking, HasBegunScan, HasScanned, IsPaused, IsScanning, ScannedTo}
 use Rattle.concurrent_map.specs.Seats.{SeatState, state_of_seat}
 use Rattle.concurrent_map.proofs.Told.{denied, was_answered, was_not_made}
 use Rattle.concurrent_map.proofs.TriesTold.{gone_further}
+
+pub lacking_so : (result : Scanned) → IfErr (reached_by result) IsWalkLack → GoesOnUnlessLacking (of_map result)
+lacking_so (plain.Paused seat) is = tt
+lacking_so (plain.Done seat) is = tt
+lacking_so (plain.Refused seat why) is = is
 
 module _ (go_on : HistoriesGoOn) (others : OthersTellNothing) where
   scanned_to : (first : Seated) → AreSizes first.view.sizes → (handle : ℕ) (told : List (ℕ × ℕ)) (result : Scanned) → HasGoneOn first (seat_of result) →

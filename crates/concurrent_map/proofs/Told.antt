@@ -1,19 +1,23 @@
 -- What a seat is told, in the words of histories.
-use Rattle.std.proofs.Common.{arith, ◌≡◌, ◌⊎◌, inl, inr, sym, ap, subst, ◌∙◌, ℕ, Bool, Option, None, Some, Result, Ok, Err}
+use Rattle.std.proofs.Common.{arith, ◌≡◌, ◌⊎◌, inl, inr, refl, sym, ap, subst, ◌∙◌, ℕ, Bool, Option, None, Some, Result, Ok, Err}
 use Rattle.history.specs.declared.calls.Call.{Call}
 use Rattle.history.specs.declared.replies.Reply.{Reply}
+use Rattle.history.specs.declared.replies.Reply.TheVariants.{NoSlots}
 use Rattle.lock_free.specs.declared.call_errors.CallError.{CallError}
 use Rattle.lock_free.specs.declared.call_errors.CallError.TheVariants as error
 use Rattle.lock_free.specs.declared.rules.View.{View}
 use Rattle.lock_free.specs.Accounts.{HasWaited}
 use Rattle.lock_free.specs.Answering.{HasAnswered}
 use Rattle.lock_free.specs.Answers.{answers_of, OthersTellNothing}
+use Rattle.lock_free.specs.GetRuns as get
 use Rattle.lock_free.specs.Places.{AreSizes}
 use Rattle.lock_free.specs.SeatCalls as lf
 use Rattle.lock_free.specs.Seated.{HasGoneOn, Seated}
+use Rattle.lock_free.specs.SlotWaits as waits
 use Rattle.lock_free.specs.Telling.{history_of, GoesOn, HistoriesGoOn}
 use Rattle.lock_free.specs.WholeCalls as whole
-use Rattle.concurrent_map.specs.Calls.{IsSameSeat, IsTold, RanOut, IsToldClose, IsToldHandle, IsToldIfSome, WasAnswered, WasNotMade, WasRefused}
+use Rattle.concurrent_map.specs.Calls.{IsSameSeat, IsTold, IsToldAtLast, IsToldClose, IsToldHandle, IsToldHandleAtLast, IsToldIfSome, IsToldIfSomeOrAgain, IsToldOrAgain, RanOut}
+use Rattle.concurrent_map.specs.Calls.{WasAnswered, WasNotMade, WasRefused, WasTriedInVain}
 use Rattle.concurrent_map.specs.Seats.{SeatState, state_of_seat}
 use Rattle.concurrent_map.proofs.SameMap.{same_id}
 
@@ -125,13 +129,89 @@ pub told_copy : (s t : Seated) (call : Call) (result : Result ℕ CallError) →
 told_copy s t call (Ok handle) go_on others sizes on is = was_answered s t call (Some handle) _ on is
 told_copy s t call (Err why) go_on others sizes on is = denied_copy s t call go_on others sizes on why is
 
+-- ---- the last try of a call
+
+-- the seat, as it was before its last try
+abbrev at_last : Seated → View → Seated
+at_last s last = record { table = s.table; view = last }
+
+first_part : (s : Seated) (last : View) → whole.SameSeat s.view last → HasGoneOn s (at_last s last)
+first_part s last m = record { table = refl; sizes = m.sizes; actor = m.actor; last = m.last; goes_on = m.goes_on }
+
+last_part : (s t : Seated) (last : View) → HasGoneOn s t → whole.SameSeat last t.view → HasGoneOn (at_last s last) t
+last_part s t last on m = record { table = on.table; sizes = m.sizes; actor = m.actor; last = m.last; goes_on = m.goes_on }
+
+last_sizes : (s : Seated) (last : View) → whole.SameSeat s.view last → AreSizes s.view.sizes → AreSizes last.sizes
+last_sizes s last m sizes = subst AreSizes (sym m.sizes) sizes
+
+tried_in_vain : (s : Seated) (call : Call) (last : View) → HistoriesGoOn → AreSizes s.view.sizes → waits.HasTriedInVain s.view call last →
+    WasTriedInVain (state_of_seat s) call (state_of_seat (at_last s last))
+tried_in_vain s call last go_on sizes h =
+    let on = first_part s last h.same in
+    record { same = same s (at_last s last) on; goes_on = history_goes_on s (at_last s last) go_on sizes on; refusals = h.refusals; answers = h.answers; of_call = h.of_call }
+
+told_last : {A : Type 0} → (reply_of : A → Reply) → (s t : Seated) (call : Call) (result : Result A CallError) → HistoriesGoOn → OthersTellNothing → AreSizes s.view.sizes →
+    HasGoneOn s t → waits.IsToldAtLast reply_of s.view call result t.view → IsToldAtLast reply_of (state_of_seat s) call result (state_of_seat t)
+told_last {A} reply_of s t call result go_on others sizes on (last, in_vain, m, is) = (
+  state_of_seat (at_last s last),
+  tried_in_vain s call last go_on sizes in_vain,
+  told_reply_of reply_of (at_last s last) t call result go_on others (last_sizes s last in_vain.same sizes) (last_part s t last on m) is,
+)
+
+pub told_at_last : {A : Type 0} → (reply_of : A → Reply) → (s t : Seated) (before : SeatState) (asked call : Call) (result : Result A CallError) →
+    state_of_seat s ≡ before → asked ≡ call → HistoriesGoOn → OthersTellNothing → AreSizes s.view.sizes → HasGoneOn s t →
+    waits.IsToldAtLast reply_of s.view asked result t.view → IsToldAtLast reply_of before call result (state_of_seat t)
+told_at_last {A} reply_of s t before asked call result seat same_call go_on others sizes on is =
+    subst (λ b. IsToldAtLast reply_of b call result (state_of_seat t)) seat
+    (subst (λ k. IsToldAtLast reply_of (state_of_seat s) k result (state_of_seat t)) same_call (told_last reply_of s t asked result go_on others sizes on is))
+
+handle_last : (s t : Seated) (call : Call) (result : Result ℕ CallError) → HistoriesGoOn → OthersTellNothing → AreSizes s.view.sizes → HasGoneOn s t →
+    waits.IsToldCopyAtLast s.view call result t.view → IsToldHandleAtLast (state_of_seat s) call result (state_of_seat t)
+handle_last s t call result go_on others sizes on (last, in_vain, m, is) = (
+  state_of_seat (at_last s last),
+  tried_in_vain s call last go_on sizes in_vain,
+  told_copy (at_last s last) t call result go_on others (last_sizes s last in_vain.same sizes) (last_part s t last on m) is,
+)
+
 pub told_handle : (s t : Seated) (before : SeatState) (asked call : Call) (told result : Result ℕ CallError) →
     state_of_seat s ≡ before → asked ≡ call → result ≡ told → HistoriesGoOn → OthersTellNothing → AreSizes s.view.sizes → HasGoneOn s t →
-    whole.IsToldCopy s.view asked told t.view → IsToldHandle before call result (state_of_seat t)
+    waits.IsToldCopyAtLast s.view asked told t.view → IsToldHandleAtLast before call result (state_of_seat t)
 told_handle s t before asked call told result seat same_call same_told go_on others sizes on is =
-    subst (λ r. IsToldHandle before call r (state_of_seat t)) (sym same_told)
-    (subst (λ b. IsToldHandle b call told (state_of_seat t)) seat
-    (subst (λ k. IsToldHandle (state_of_seat s) k told (state_of_seat t)) same_call (told_copy s t asked told go_on others sizes on is)))
+    subst (λ r. IsToldHandleAtLast before call r (state_of_seat t)) (sym same_told)
+    (subst (λ b. IsToldHandleAtLast b call told (state_of_seat t)) seat
+    (subst (λ k. IsToldHandleAtLast (state_of_seat s) k told (state_of_seat t)) same_call (handle_last s t asked told go_on others sizes on is)))
+
+-- ---- of a get, which may have been refused before
+
+refused_then : (s : Seated) (before : SeatState) (asked call : Call) (last : View) → state_of_seat s ≡ before → asked ≡ call → whole.SameSeat s.view last →
+    HasAnswered s.view asked None NoSlots last → WasAnswered before call None NoSlots (state_of_seat (at_last s last))
+refused_then s before asked call last seat same_call same refused =
+    subst (λ b. WasAnswered b call None NoSlots (state_of_seat (at_last s last))) seat
+    (subst (λ k. WasAnswered (state_of_seat s) k None NoSlots (state_of_seat (at_last s last))) same_call (was_answered s (at_last s last) asked None NoSlots (first_part s last same) refused))
+
+pub told_or_again : {A : Type 0} → (reply_of : A → Reply) → (s t : Seated) (before : SeatState) (asked call : Call) (result : Result A CallError) →
+    state_of_seat s ≡ before → asked ≡ call → HistoriesGoOn → OthersTellNothing → AreSizes s.view.sizes → HasGoneOn s t →
+    get.IsToldOrAgain reply_of s.view asked result t.view → IsToldOrAgain reply_of before call result (state_of_seat t)
+told_or_again {A} reply_of s t before asked call result seat same_call go_on others sizes on (inl is) =
+    inl (told_reply reply_of s t before asked call result seat same_call go_on others sizes on is)
+told_or_again {A} reply_of s t before asked call result seat same_call go_on others sizes on (inr (last, same, refused, since, is)) =
+    inr (
+      state_of_seat (at_last s last),
+      refused_then s before asked call last seat same_call same refused,
+      told_reply reply_of (at_last s last) t (state_of_seat (at_last s last)) asked call result refl same_call go_on others (last_sizes s last same sizes) (last_part s t last on since) is,
+    )
+
+pub told_if_some_or_again : (s t : Seated) (before : SeatState) (asked call : Call) (result : Result Bool CallError) →
+    state_of_seat s ≡ before → asked ≡ call → HistoriesGoOn → OthersTellNothing → AreSizes s.view.sizes → HasGoneOn s t →
+    get.IsToldIfSomeOrAgain s.view asked result t.view → IsToldIfSomeOrAgain before call result (state_of_seat t)
+told_if_some_or_again s t before asked call result seat same_call go_on others sizes on (inl is) =
+    inl (told_if_some s t before asked call result seat same_call go_on others sizes on is)
+told_if_some_or_again s t before asked call result seat same_call go_on others sizes on (inr (last, same, refused, since, is)) =
+    inr (
+      state_of_seat (at_last s last),
+      refused_then s before asked call last seat same_call same refused,
+      told_if_some (at_last s last) t (state_of_seat (at_last s last)) asked call result refl same_call go_on others (last_sizes s last same sizes) (last_part s t last on since) is,
+    )
 
 -- ---- a close
 

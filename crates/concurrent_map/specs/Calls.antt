@@ -1,5 +1,5 @@
 -- What a call of a seat is answered, and what then stands in the history that its seat has seen.
-use Rattle.std.specs.Prelude.{◌≡◌, ◌++◌, ◌∷◌, [], ℕ, is_some, slice_get, Bool, All, List, Option, Some, None, Result, Ok, Err}
+use Rattle.std.specs.Prelude.{◌≡◌, ◌⊎◌, ◌++◌, ◌∷◌, [], ℕ, is_some, slice_get, Bool, All, List, Option, Some, None, Result, Ok, Err}
 use Rattle.history.specs.declared.calls.Call.{Call}
 use Rattle.history.specs.declared.calls.Call.TheVariants.{Close}
 use Rattle.history.specs.declared.events.Event.{Event}
@@ -10,6 +10,7 @@ use Rattle.lock_free.specs.declared.call_errors.CallError.{CallError}
 use Rattle.lock_free.specs.declared.call_errors.CallError.TheVariants as error
 use Rattle.lock_free.specs.Answering.{IsOfOthers}
 use Rattle.lock_free.specs.Answers.{Answer}
+use Rattle.lock_free.specs.SlotWaits.{IsRefusalOf}
 use Rattle.lock_free.specs.Telling.{GoesOn}
 use Rattle.concurrent_map.specs.Seats.{SeatState, answers_of_seat}
 
@@ -59,6 +60,15 @@ abbrev pub IsToldIfSome : SeatState → Call → Result Bool CallError → SeatS
 IsToldIfSome before call (Ok told) after = (value : Option ℕ) × (told ≡ is_some value) × WasAnswered before call None (Found value) after
 IsToldIfSome before call (Err why) after = WasRefused before call None why after
 
+-- Of a get, whose seat may read without a pin first: it is told so; or that came to nothing, and it was refused before it was made anew.
+abbrev pub IsToldOrAgain : {A : Type 0} → (A → Reply) → SeatState → Call → Result A CallError → SeatState → Type 0
+IsToldOrAgain {A} reply_of before call told after =
+    IsTold reply_of before call told after ⊎ ((at : SeatState) × WasAnswered before call None NoSlots at × IsTold reply_of at call told after)
+
+abbrev pub IsToldIfSomeOrAgain : SeatState → Call → Result Bool CallError → SeatState → Type 0
+IsToldIfSomeOrAgain before call told after =
+    IsToldIfSome before call told after ⊎ ((at : SeatState) × WasAnswered before call None NoSlots at × IsToldIfSome at call told after)
+
 -- it is the first pair of the list that is the reply
 abbrev pub IsToldFirst : SeatState → Call → Result (Option (ℕ × ℕ)) CallError → SeatState → Type 0
 IsToldFirst before call (Ok first) after = (pairs : List (ℕ × ℕ)) × (first ≡ slice_get pairs 0) × WasAnswered before call None (Pairs pairs) after
@@ -68,6 +78,26 @@ IsToldFirst before call (Err why) after = WasRefused before call None why after
 abbrev pub IsToldHandle : SeatState → Call → Result ℕ CallError → SeatState → Type 0
 IsToldHandle before call (Ok handle) after = WasAnswered before call (Some handle) (Opened handle) after
 IsToldHandle before call (Err why) after = (opens : Option ℕ) × WasRefused before call opens why after
+
+-- ---- calls that wait for slots
+
+-- The seat was answered nothing since then but refusals of tries of this call, which have changed nothing.
+pub record WasTriedInVain (before : SeatState) (call : Call) (after : SeatState) : Type 0 where
+  pub same : IsSameSeat before after
+  pub goes_on : GoesOn before.history after.history
+  pub refusals : List Answer
+  pub answers : answers_of_seat after ≡ answers_of_seat before ++ refusals
+  pub of_call : All (IsRefusalOf call) refusals
+
+-- What is returned is the reply to the last try of the call, or why that one was refused.
+abbrev pub IsToldAtLast : {A : Type 0} → (A → Reply) → SeatState → Call → Result A CallError → SeatState → Type 0
+IsToldAtLast {A} reply_of before call told after = (last : SeatState) × WasTriedInVain before call last × IsTold reply_of last call told after
+
+-- it is the handle that the last try has opened
+abbrev pub IsToldHandleAtLast : SeatState → Call → Result ℕ CallError → SeatState → Type 0
+IsToldHandleAtLast before call told after = (last : SeatState) × WasTriedInVain before call last × IsToldHandle last call told after
+
+-- ---- a close
 
 -- The handle is closed; or there is none that is open, or it is busy: for no other reason is a close refused.
 abbrev pub IsToldClose : {A : Type 0} → SeatState → ℕ → Result A CallError → SeatState → Type 0

@@ -10,6 +10,7 @@ use Rattle.lock_free.specs.Places.{AreSizes}
 use Rattle.lock_free.specs.Scans as lf
 use Rattle.lock_free.specs.Scans.{by_key}
 use Rattle.lock_free.specs.Seated.{HasGoneOn, Seated}
+use Rattle.lock_free.specs.WholeCalls.{IsWalkLack}
 use Rattle.concurrent_map.specs.declared.scans.MapScanned.{MapScanned}
 use Rattle.concurrent_map.specs.declared.scans.MapScanned.TheVariants as scanned
 use Rattle.concurrent_map.specs.Calls.{RanOut, WasAnswered, WasRefused}
@@ -51,6 +52,11 @@ HasBegunScan before handle (scanned.Refused seat why) = WasRefused before (Entri
 abbrev pub FitsScan : ℕ → MapScanned → Type 0
 FitsScan handle (scanned.Refused seat why) = FitsError (Entries handle) why
 FitsScan handle result = Unit {0}
+
+-- it goes on unless memory is lacking, or its tries are used up
+abbrev pub GoesOnUnlessLacking : MapScanned → Type 0
+GoesOnUnlessLacking (scanned.Refused seat why) = IsWalkLack why
+GoesOnUnlessLacking result = Unit {0}
 
 -- its seat is one of this map's
 abbrev pub IsScannedAt : MapId → MapScanned → Type 0

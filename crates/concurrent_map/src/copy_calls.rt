@@ -4,7 +4,7 @@ ghost use Rattle.std.specs.Prelude.{◌≡◌, IfErr};
 ghost use Rattle.history.specs.declared.calls.Call.TheVariants.{Clear, Freeze, Snapshot};
 ghost use Rattle.history.specs.declared.replies.Reply.TheVariants.{Cleared};
 ghost use Rattle.lock_free.specs.KeyReplies.{FitsError};
-ghost use Rattle.concurrent_map.specs.Calls.{IsTold, IsToldClose, IsToldHandle};
+ghost use Rattle.concurrent_map.specs.Calls.{IsToldAtLast, IsToldClose, IsToldHandleAtLast};
 
 use crate::handles::Handle;
 use crate::maps::ConcurrentMap;
@@ -38,7 +38,7 @@ impl MapSeat {
     ) -> Result<Handle, CallError>
         requires { IsSeatOf map.now self.old }
         ensures seat { IsSeatOf map.now self.new }
-        ensures told { IsToldHandle self.old (Snapshot handle) result self.new }
+        ensures told { IsToldHandleAtLast self.old (Snapshot handle) result self.new }
         ensures why { IfErr result (FitsError (Snapshot handle)) }
     {
         histories_stay();
@@ -58,7 +58,7 @@ impl MapSeat {
     ) -> Result<Handle, CallError>
         requires { IsSeatOf map.now self.old }
         ensures seat { IsSeatOf map.now self.new }
-        ensures told { IsToldHandle self.old (Freeze handle) result self.new }
+        ensures told { IsToldHandleAtLast self.old (Freeze handle) result self.new }
         ensures why { IfErr result (FitsError (Freeze handle)) }
     {
         histories_stay();
@@ -78,7 +78,7 @@ impl MapSeat {
     ) -> Result<(), CallError>
         requires { IsSeatOf map.now self.old }
         ensures seat { IsSeatOf map.now self.new }
-        ensures told { IsTold (λ done. Cleared) self.old (Clear handle) result self.new }
+        ensures told { IsToldAtLast (λ done. Cleared) self.old (Clear handle) result self.new }
         ensures why { IfErr result (FitsError (Clear handle)) }
     {
         histories_stay();

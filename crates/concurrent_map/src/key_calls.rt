@@ -4,7 +4,7 @@ ghost use Rattle.std.specs.Prelude.{IfErr};
 ghost use Rattle.history.specs.declared.calls.Call.TheVariants.{Get, Put, PutIfAbsent, Remove, RemoveIf, Replace, ReplaceIf};
 ghost use Rattle.history.specs.declared.replies.Reply.TheVariants.{Found, Truth};
 ghost use Rattle.lock_free.specs.KeyReplies.{FitsError};
-ghost use Rattle.concurrent_map.specs.Calls.{IsTold, IsToldIfSome};
+ghost use Rattle.concurrent_map.specs.Calls.{IsTold, IsToldAtLast, IsToldIfSomeOrAgain, IsToldOrAgain};
 
 use crate::handles::Handle;
 use crate::maps::ConcurrentMap;
@@ -15,7 +15,8 @@ use std::sync::Wait;
 impl MapSeat {
     ghost use Rattle.concurrent_map.specs.Seats.{IsSeatOf};
 
-    /// The value of this key, if it has one.
+    /// The value of this key, if it has one. Where other seats let slots become free or close a handle meanwhile, the history may have the call
+    /// twice, the first time as refused.
     ///
     /// # Errors
     ///
@@ -29,7 +30,7 @@ impl MapSeat {
     ) -> Result<Option<u64>, CallError>
         requires { IsSeatOf map.now self.old }
         ensures seat { IsSeatOf map.now self.new }
-        ensures told { IsTold Found self.old (Get handle key) result self.new }
+        ensures told { IsToldOrAgain Found self.old (Get handle key) result self.new }
         ensures why { IfErr result (FitsError (Get handle key)) }
     {
         histories_stay();
@@ -50,7 +51,7 @@ impl MapSeat {
     ) -> Result<bool, CallError>
         requires { IsSeatOf map.now self.old }
         ensures seat { IsSeatOf map.now self.new }
-        ensures told { IsToldIfSome self.old (Get handle key) result self.new }
+        ensures told { IsToldIfSomeOrAgain self.old (Get handle key) result self.new }
         ensures why { IfErr result (FitsError (Get handle key)) }
     {
         histories_stay();
@@ -73,7 +74,7 @@ impl MapSeat {
     ) -> Result<Option<u64>, CallError>
         requires { IsSeatOf map.now self.old }
         ensures seat { IsSeatOf map.now self.new }
-        ensures told { IsTold Found self.old (Put handle key value) result self.new }
+        ensures told { IsToldAtLast Found self.old (Put handle key value) result self.new }
         ensures why { IfErr result (FitsError (Put handle key value)) }
     {
         histories_stay();
@@ -96,7 +97,7 @@ impl MapSeat {
     ) -> Result<Option<u64>, CallError>
         requires { IsSeatOf map.now self.old }
         ensures seat { IsSeatOf map.now self.new }
-        ensures told { IsTold Found self.old (PutIfAbsent handle key value) result self.new }
+        ensures told { IsToldAtLast Found self.old (PutIfAbsent handle key value) result self.new }
         ensures why { IfErr result (FitsError (PutIfAbsent handle key value)) }
     {
         histories_stay();
@@ -119,7 +120,7 @@ impl MapSeat {
     ) -> Result<Option<u64>, CallError>
         requires { IsSeatOf map.now self.old }
         ensures seat { IsSeatOf map.now self.new }
-        ensures told { IsTold Found self.old (Replace handle key value) result self.new }
+        ensures told { IsToldAtLast Found self.old (Replace handle key value) result self.new }
         ensures why { IfErr result (FitsError (Replace handle key value)) }
     {
         histories_stay();
@@ -143,7 +144,7 @@ impl MapSeat {
     ) -> Result<bool, CallError>
         requires { IsSeatOf map.now self.old }
         ensures seat { IsSeatOf map.now self.new }
-        ensures told { IsTold Truth self.old (ReplaceIf handle key old new) result self.new }
+        ensures told { IsToldAtLast Truth self.old (ReplaceIf handle key old new) result self.new }
         ensures why { IfErr result (FitsError (ReplaceIf handle key old new)) }
     {
         histories_stay();
@@ -165,7 +166,7 @@ impl MapSeat {
     ) -> Result<Option<u64>, CallError>
         requires { IsSeatOf map.now self.old }
         ensures seat { IsSeatOf map.now self.new }
-        ensures told { IsTold Found self.old (Remove handle key) result self.new }
+        ensures told { IsToldAtLast Found self.old (Remove handle key) result self.new }
         ensures why { IfErr result (FitsError (Remove handle key)) }
     {
         histories_stay();
@@ -188,7 +189,7 @@ impl MapSeat {
     ) -> Result<bool, CallError>
         requires { IsSeatOf map.now self.old }
         ensures seat { IsSeatOf map.now self.new }
-        ensures told { IsTold Truth self.old (RemoveIf handle key value) result self.new }
+        ensures told { IsToldAtLast Truth self.old (RemoveIf handle key value) result self.new }
         ensures why { IfErr result (FitsError (RemoveIf handle key value)) }
     {
         histories_stay();

@@ -3,7 +3,7 @@
 ghost use Rattle.std.specs.Prelude.{◌≡◌, ◌≤◌, [], IfErr, IfOk, OnOk, vec_capacity};
 ghost use Rattle.lock_free.specs.Opening.{Refuses};
 ghost use Rattle.lock_free.specs.Places.{AreSizes};
-ghost use Rattle.lock_free.specs.Rules.{first_view};
+ghost use Rattle.lock_free.specs.FirstViews.{first_view};
 ghost use Rattle.lock_free.specs.Naming.{MapId};
 ghost use Rattle.concurrent_map.specs.Room.{sizes_for};
 ghost use Rattle.concurrent_map.specs.Seats.{AreNewSeats, AreSeatsOf};

@@ -5,7 +5,7 @@ ghost use Rattle.history.specs.declared.calls.Call.TheVariants.{Entries};
 ghost use Rattle.history.specs.declared.replies.Reply.TheVariants.{NoSlots};
 ghost use Rattle.lock_free.specs.declared.scans.Scanned.{Scanned};
 ghost use Rattle.concurrent_map.specs.Calls.{WasAnswered};
-ghost use Rattle.concurrent_map.specs.Scans.{FitsScan, HasBegunScan, HasScanned, IsScannedAt};
+ghost use Rattle.concurrent_map.specs.Scans.{FitsScan, GoesOnUnlessLacking, HasBegunScan, HasScanned, IsScannedAt};
 ghost use Rattle.concurrent_map.specs.Seats.{SeatState};
 
 use crate::handles::Handle;
@@ -103,6 +103,7 @@ impl MapScan {
         requires { IsSeatOf map.now (state_of_seat self) }
         ensures seat { IsScannedAt map.now result }
         ensures scanned { HasScanned self most pairs.old.items result pairs.new.items }
+        ensures why { GoesOnUnlessLacking result }
     {
         histories_stay();
         let MapScan { scan } = self;

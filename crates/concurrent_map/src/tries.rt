@@ -68,7 +68,8 @@ impl MapSeat {
     ///
     /// # Errors
     ///
-    /// As of the call itself; and `Spent`, where the tries are used up and nothing is under way.
+    /// As of the call itself; and `Spent`, where the tries are used up and nothing is under way, or no slot was free while some that the seat has
+    /// retired are to be soon.
     pub fn try_call(self, map: &ConcurrentMap, tries: u64, call: Call) -> MapTried
         requires of_map { IsSeatOf map.now self }
         requires tried { IsTried call }

@@ -1,9 +1,12 @@
 pub mod Behind
 pub mod Carried
+pub mod ConcurrentCalls
 pub mod Filled
+pub mod HeldCallers
 pub mod HeldMaps
 pub mod HeldSeats
 pub mod HeldValues
+pub mod SameCalls
 pub mod Together
 pub mod Values
 pub mod Tries

@@ -4,5 +4,7 @@ pub mod Calls
 pub mod Comparing
 pub mod Holding
 pub mod Listing
+pub mod SameCalls
 pub mod Sharing
+pub mod Threading
 pub mod Vocabulary

@@ -183,7 +183,7 @@ pub extern "C" fn ctrie_shared_try_entries(
 }
 
 /// Writes the first of these, as many as there is room for, and answers how many there are.
-fn write_front(all: &[(u64, u64)], pairs: &mut [Pair]) -> u64
+pub(crate) fn write_front(all: &[(u64, u64)], pairs: &mut [Pair]) -> u64
     ensures count { result ≡ length all.now }
     ensures front { IsFront all.now pairs.old pairs.new }
 {

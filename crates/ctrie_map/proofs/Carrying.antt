@@ -4,9 +4,9 @@ use Rattle.std.proofs.Common.{refl, sym, ap, subst, arith, ◌∙◌}
 use Rattle.ctrie_map.specs.Vocabulary.{Call, Reply, NoSlots, Bounds, key_of, State}
 use Rattle.history.specs.declared.calls.Call.TheVariants as call
 use Rattle.ctrie_map.specs.Beneath.proof_obstruction_free.specs.Laws.{most_steps_alone}
-use Rattle.proof_alone.specs.Calls.{Acts, CallsDo, CanCall, Does, EnoughSlotsForCalls, RefusedIfOut, RunsOut, steps_of}
+use Rattle.proof_sizes.specs.Beneath.proof_alone.specs.Calls.{Acts, CallsDo, CanCall, Does, EnoughSlotsForCalls, RefusedIfOut, RunsOut, steps_of}
 use Rattle.ctrie_map.specs.Beneath.proof_obstruction_free.specs.Calls.{IsNoWalk, slots_of}
-use Rattle.proof_alone.specs.Sweeps.{Sweeps, SweepsLeave, Swept, most_sweeps}
+use Rattle.proof_sizes.specs.Beneath.proof_alone.specs.Sweeps.{Sweeps, SweepsLeave, Swept, most_sweeps}
 use Rattle.ctrie_map.specs.Beneath.proof_memory.specs.Sweeping.{steps_for_a_slot}
 use Rattle.ctrie_map.specs.Beneath.proof_straight.specs.Resting.{IsOfRun}
 use Rattle.ctrie_map.specs.Beneath.proof_straight.specs.Running.{Comes}

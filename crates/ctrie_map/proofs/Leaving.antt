@@ -8,8 +8,8 @@ use Rattle.ctrie_map.specs.Vocabulary.{hash_of, Writable, Call, Reply, Crowded, 
 use Rattle.ctrie_map.specs.Vocabulary.{needs_writable, opens_handle, State, root_at}
 use Rattle.history.specs.declared.calls.Call.TheVariants as call
 use Rattle.history.specs.Effects.{put_in}
-use Rattle.proof_alone.specs.Calls.{Acts, CanCall, Does, EnoughSlotsForCalls, RunsOut}
-use Rattle.proof_alone.specs.Sweeps.{Sweeps, Swept}
+use Rattle.proof_sizes.specs.Beneath.proof_alone.specs.Calls.{Acts, CanCall, Does, EnoughSlotsForCalls, RunsOut}
+use Rattle.proof_sizes.specs.Beneath.proof_alone.specs.Sweeps.{Sweeps, Swept}
 use Rattle.ctrie_map.specs.Beneath.map_worlds.proofs.Shown.{shows_roots}
 use Rattle.ctrie_map.specs.Beneath.map_worlds.specs.Worlds.{named_at, world_of}
 use Rattle.ctrie_map.specs.Beneath.proof_obstruction_free.specs.Calls.{slots_of}

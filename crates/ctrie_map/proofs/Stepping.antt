@@ -7,10 +7,10 @@ use Rattle.machine_model.specs.declared.steps.Step.TheVariants.{Begin}
 use Rattle.ctrie_map.specs.Beneath.proof_core.specs.Bounds.{Answers, Applies, Walks}
 use Rattle.machine_core.specs.Sweeping.{Reclaims, at_first, one_more}
 use Rattle.ctrie_map.specs.Beneath.proof_core.specs.Work.{Worked}
-use Rattle.proof_alone.specs.Calls.{CallsBegin, CallsGoOn, CanCall, LeadsOn, steps_of}
+use Rattle.proof_sizes.specs.Beneath.proof_alone.specs.Calls.{CallsBegin, CallsGoOn, CanCall, LeadsOn, steps_of}
 use Rattle.ctrie_map.specs.Beneath.proof_obstruction_free.specs.Calls.{IsNoWalk}
-use Rattle.proof_alone.specs.Sweeps.{Sweeps, SweepsLeave, most_sweeps, sweeps, unswept}
-use Rattle.proof_alone.proofs.Going.{steps_so_far}
+use Rattle.proof_sizes.specs.Beneath.proof_alone.specs.Sweeps.{Sweeps, SweepsLeave, most_sweeps, sweeps, unswept}
+use Rattle.proof_sizes.specs.Beneath.proof_alone.proofs.Going.{steps_so_far}
 use Rattle.ctrie_map.specs.Beneath.proof_straight.specs.Resting.{IsOfRun}
 use Rattle.ctrie_map.specs.Beneath.proof_straight.specs.Running.{Comes, GoesOn, starts, walks}
 use Rattle.ctrie_map.specs.Cores.{the_actor}

@@ -5,12 +5,12 @@ use Rattle.ctrie_map.specs.Vocabulary.{hash_of, Call, Put, PutIfAbsent, Snapshot
 use Rattle.ctrie_map.specs.Vocabulary.{longest_life, State, root_at}
 use Rattle.ctrie_map.specs.Beneath.map_worlds.specs.Worlds.{world_of}
 use Rattle.ctrie_map.specs.Beneath.proof_obstruction_free.specs.Laws.{most_steps_alone}
-use Rattle.proof_alone.specs.Calls.{RunsOut}
+use Rattle.proof_sizes.specs.Beneath.proof_alone.specs.Calls.{RunsOut}
 use Rattle.ctrie_map.specs.Beneath.proof_obstruction_free.specs.Calls.{slots_of}
 use Rattle.ctrie_map.specs.Beneath.proof_obstruction_free.specs.Slots.{most_makes_alone}
 use Rattle.proof_sizes.specs.Growth.{most_growth}
 use Rattle.proof_sizes.specs.Nodes.{nodes_of}
-use Rattle.proof_alone.specs.Sweeps.{Sweeps, most_sweeps}
+use Rattle.proof_sizes.specs.Beneath.proof_alone.specs.Sweeps.{Sweeps, most_sweeps}
 use Rattle.ctrie_map.specs.Beneath.proof_straight.specs.Running.{Comes}
 use Rattle.ctrie_map.specs.declared.errors.MapError.{MapError}
 use Rattle.ctrie_map.specs.declared.errors.MapError.TheVariants.{WornOut}

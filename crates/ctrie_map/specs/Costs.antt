@@ -3,7 +3,7 @@ use Rattle.std.specs.Prelude.{◌+◌, ◌*◌, ℕ}
 use Rattle.ctrie_map.specs.Vocabulary.{Call}
 use Rattle.ctrie_map.specs.Beneath.proof_obstruction_free.specs.Laws.{most_steps_alone}
 use Rattle.ctrie_map.specs.Beneath.proof_obstruction_free.specs.Slots.{most_makes_alone, most_steps_of_copies}
-use Rattle.proof_alone.specs.Calls.{steps_of}
+use Rattle.proof_sizes.specs.Beneath.proof_alone.specs.Calls.{steps_of}
 use Rattle.ctrie_map.specs.Beneath.proof_obstruction_free.specs.Calls.{slots_of}
 use Rattle.ctrie_map.specs.Cores.{TakesUpTo}
 use Rattle.ctrie_map.specs.Maps.{MapState}

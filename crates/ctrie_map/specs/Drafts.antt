@@ -4,7 +4,7 @@ use Rattle.std.specs.FinMap as map
 use Rattle.ctrie_map.specs.Vocabulary.{Writable, Snapshot, naming, HandleMap, KeyMap, State}
 use Rattle.ctrie_map.specs.Beneath.map_worlds.specs.Worlds.{world_of}
 use Rattle.ctrie_map.specs.Beneath.proof_obstruction_free.specs.Laws.{most_steps_alone}
-use Rattle.proof_alone.specs.Sweeps.{most_sweeps}
+use Rattle.proof_sizes.specs.Beneath.proof_alone.specs.Sweeps.{most_sweeps}
 use Rattle.ctrie_map.specs.declared.errors.MapError.{MapError}
 use Rattle.ctrie_map.specs.declared.errors.MapError.TheVariants.{Full}
 use Rattle.ctrie_map.specs.Cores.{Leads, Turns, free_in}

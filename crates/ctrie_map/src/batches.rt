@@ -128,7 +128,7 @@ fn change_copy(
     ensures work { TakesUpTo (work_of_changes (length pairs.now) + work_of_a_close) core.old.state core.new.state }
 {
     let made = draft(core, name.core)?;
-    proof_alone::clean_is_reached();
+    proof_sizes::clean_is_reached();
     let _ = core.limits();
     match change_each(core, made, batch, pairs) {
         Ok(()) => {
@@ -179,7 +179,7 @@ fn change_key(core: &mut Core, handle: u16, batch: Batch, pair: (u64, u64)) -> R
     ensures few { length core.new.state.heap.free ≤ core.new.state.limits.slots }
 {
     let told = perform(core, key_call(batch, handle, pair));
-    proof_alone::clean_is_reached();
+    proof_sizes::clean_is_reached();
     let _ = core.limits();
     found(told)?;
     Ok(())

@@ -95,7 +95,7 @@ pub(crate) fn take_map(
     ensures work { TakesUpTo (work_of_a_copy + work_of_a_close) core.old.state core.new.state }
 {
     let made = draft(core, source)?;
-    proof_alone::clean_is_reached();
+    proof_sizes::clean_is_reached();
     let _ = core.limits();
     adopt(core, names, handle, name, made);
     Ok(())

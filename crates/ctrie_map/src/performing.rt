@@ -4,10 +4,10 @@ ghost use Rattle.std.specs.Prelude.{◌≡◌, ◌≢◌, ◌<◌, ◌≤◌, �
 ghost use Rattle.std.specs.FinMap as map;
 ghost use Rattle.history.specs.declared.replies.Reply.TheVariants as reply;
 ghost use Rattle.machine_model.specs.Machine.{is_busy};
-ghost use Rattle.proof_alone.specs.Calls.{CanCall};
+ghost use Rattle.proof_sizes.specs.Beneath.proof_alone.specs.Calls.{CanCall};
 ghost use Rattle.ctrie_map.specs.Beneath.map_worlds.specs.Worlds.{world_of};
 ghost use Rattle.ctrie_map.specs.Beneath.proof_obstruction_free.specs.Calls.{slots_of};
-ghost use Rattle.proof_alone.specs.Sweeps.{Sweeps, most_sweeps};
+ghost use Rattle.proof_sizes.specs.Beneath.proof_alone.specs.Sweeps.{Sweeps, most_sweeps};
 ghost use Rattle.ctrie_map.specs.Beneath.proof_straight.specs.Running.{Comes};
 ghost use Rattle.ctrie_map.specs.Cores.{Carries, IsCalm, Leads, TakesUpTo, adds, core_denial, free_in, is_without, is_worn_out, life_left, the_actor};
 ghost use Rattle.ctrie_map.specs.Costs.{work_of_call};
@@ -106,8 +106,8 @@ fn step_through(core: &mut Core, call: Call) -> Reply
     requires { CanCall core.old.state the_actor call }
     ensures { (n : ℕ) × Comes core.old.state the_actor call n result core.new.state }
 {
-    proof_alone::calls_begin();
-    proof_alone::calls_go_on();
+    proof_sizes::calls_begin();
+    proof_sizes::calls_go_on();
     let Ok(_) = core.begin(ACTOR, call) else {
         unreachable!()
     };
@@ -141,7 +141,7 @@ fn sweep(core: &mut Core)
     ensures clean { core.new.state.limbo ≡ [] }
 {
     let _ = core.limits();
-    proof_alone::sweeps_leave();
+    proof_sizes::sweeps_leave();
     core.reclaim();
 }
 
@@ -167,10 +167,10 @@ pub(crate) fn perform(core: &mut Core, call: Call) -> Result<Reply, MapError>
         return Ok(Reply::NoSlots);
     }
     key_fits(call);
-    proof_alone::calls_do();
-    proof_alone::refused_if_out();
-    proof_alone::enough_slots_for_calls();
-    proof_alone::sweeps_leave();
+    proof_sizes::calls_do();
+    proof_sizes::refused_if_out();
+    proof_sizes::enough_slots_for_calls();
+    proof_sizes::sweeps_leave();
     proof_sizes::handles_use_slots();
     proof_sizes::one_handle_uses_all();
     proof_sizes::calls_grow_little();

@@ -96,7 +96,7 @@ impl Map {
         ensures all { result ≡ slots_asked self.now - length (in_use self.now.core.heap) }
     {
         let _ = self.core.limits();
-        proof_alone::clean_is_reached();
+        proof_sizes::clean_is_reached();
         free_slots(&self.core)
     }
 

@@ -1,8 +1,11 @@
-//! A map that four threads share, under no lock: each puts the keys of its number, and then each counts a copy of all.
+//! A map that four threads share, under no lock: each puts the keys of its number, and then each counts a copy of all. Then maps are filled.
 #![tactic(auto)]
+
+mod filling;
 
 ghost use Rattle.concurrent_map.specs.Seats.{IsSeatOf};
 
+use crate::filling::has_room;
 use concurrent_map::{CallError, ConcurrentMap, Handle, HashKind, MapSeat, OpenError};
 use std::alloc::Global;
 use std::sync::Wait;
@@ -88,8 +91,15 @@ fn main(rt: HostRuntime) -> Result<(), Trouble> {
         &|_, seat| note_count(&rt, alloc, &map, seat, &keys),
     );
     let _ = println!(rt; "{} keys", keys.load(Ordering::SeqCst));
-    match map.finish(alloc, seats) {
-        Ok(()) => Ok(()),
-        Err(_) => Err(Trouble::Memory),
+    if map.finish(alloc, seats).is_err() {
+        return Err(Trouble::Memory);
     }
+    for keys in [8, 100, 1000, 5000] {
+        let in_order = has_room(&rt, alloc, keys, true)?;
+        let at_random = has_room(&rt, alloc, keys, false)?;
+        let _ = println!(rt;
+            "a map for {keys} keys has room for them in order: {in_order}, at random: {at_random}"
+        );
+    }
+    Ok(())
 }

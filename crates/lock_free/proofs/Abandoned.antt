@@ -26,8 +26,8 @@ use Rattle.lock_free.specs.declared.rules.View.{View}
 use Rattle.lock_free.specs.Accounts.{bounds_for, place_of, state_of, running, IsOfOther}
 use Rattle.lock_free.specs.Claims.{claims_there, held_now, is_there, owed_beside}
 use Rattle.lock_free.specs.Counts.{how_often, owed_on, references}
-use Rattle.lock_free.specs.Exchanging.{given_back}
 use Rattle.lock_free.specs.Holdings.{AreHeld, IsHere, count_of, retired_on, HasBeenLetGo}
+use Rattle.lock_free.specs.GivingUp.{given_back}
 use Rattle.lock_free.specs.Live.{refs_of_claims, line_claims, from_operation, IsKnown, IsLive}
 use Rattle.lock_free.specs.Loading.{IsSound}
 use Rattle.lock_free.specs.Nodes.{class_of}
@@ -37,7 +37,7 @@ use Rattle.lock_free.specs.Rules.{AreOwed, AreRetired, Standing, Stands, pool_of
 use Rattle.lock_free.specs.Steps.{Leads}
 use Rattle.lock_free.proofs.Asked.{is_one_of, private_apart, live_in_use}
 use Rattle.lock_free.proofs.Framing.{node_end}
-use Rattle.lock_free.proofs.GivenBack.{WasOf, Fits, all_fit, one_of}
+use Rattle.lock_free.proofs.GivenBack.{WasOf, Fits, all_fit, one_of, parted_back}
 use Rattle.lock_free.proofs.Keeping.{IsGivenUp, with_step, drop_kept}
 use Rattle.lock_free.proofs.ClaimsThere.{beside_fewer, beside_has, there_balance}
 use Rattle.lock_free.proofs.CountsStay.{owed_set}
@@ -281,7 +281,7 @@ module _ (v : View) (s : Table.State Call View) (kept : IsKept v.sizes s) (id : 
   pub abandon_kept : IsKept v.sizes (record { words = s.words; homes = s.homes; views = set s.views id abandoned })
   abandon_kept =
       drop_kept v.sizes s kept id v at o next runs taken fits its (is_one_of o.private) leads same_call same_opens (given_back state there o.private v.pool) fit.once fit.more
-      (λ b n low c. was_given b n (fit.which b n low c)) (owes_given_up v there o.private) held
+      (λ b n low c. was_given b n (fit.which b n low c)) (parted_back state there o.private v.pool) (owes_given_up v there o.private) held
 
   pub abandon_sound : IsSound (words_of v.sizes) abandoned
   abandon_sound = record {

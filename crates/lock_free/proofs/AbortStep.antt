@@ -37,18 +37,20 @@ use Rattle.lock_free.proofs.Settled.{all_then}
 use Rattle.lock_free.proofs.SettleHolds.{settle_kept}
 use Rattle.lock_free.proofs.Stood.{stands_there, stands_no_more}
 use Rattle.lock_free.proofs.Lettings.{TakesNone}
+use Rattle.lock_free.specs.Parting.{IsMet}
 
 -- an offer that the seat knows is one of the account's
-pub known_there : (v : View) (s : Table.State Call View) (kept : IsKept v.sizes s) (id : ℕ) → get_elem? s.views id ≡ some v → (k : Known) → Contains v.account.offers k → Contains kept.account.offers k
+pub known_there : (v : View) (s : Table.State Call View) (kept : IsKept v.sizes s) (id : ℕ) → get_elem? s.views id ≡ some v → (k : Known) → IsMet v.account v.pin k → Contains kept.account.offers k
 known_there v s kept id at k c =
-    let waited = (kept.seats id v at).waited in subst (λ xs. Contains xs k) (sym waited.more_offers) (Contains-append_right waited.offers v.account.offers k c)
+    let seat = kept.seats id v at in
+    seat.offering.met c.pinned c.is k (subst (λ xs. Contains xs k) (sym seat.waited.more_offers) (Contains-append_right seat.waited.offers v.account.offered k c.here)) c.unparted
 
 -- its first word is neither the epoch's nor a count's
-pub offer_apart : (v : View) (s : Table.State Call View) (kept : IsKept v.sizes s) (id : ℕ) → get_elem? s.views id ≡ some v → (k : Known) → Contains v.account.offers k → Apart v.sizes (2 * k.slot)
+pub offer_apart : (v : View) (s : Table.State Call View) (kept : IsKept v.sizes s) (id : ℕ) → get_elem? s.views id ≡ some v → (k : Known) → IsMet v.account v.pin k → Apart v.sizes (2 * k.slot)
 offer_apart v s kept id at k c =
     slot_apart v.sizes s.words kept.taken 1 k.slot (2 * k.slot) (omega arith) (kept.roots.blocks k (known_there v s kept id at k c)) (record { low = omega arith; high = omega arith })
 
-module _ (v : View) (k : Known) (known : Contains v.account.offers k) (p : IsAt v (act.Abort k.offer)) (on : k.handle ≡ handle_of p.operation.call) where
+module _ (v : View) (k : Known) (known : IsMet v.account v.pin k) (p : IsAt v (act.Abort k.offer)) (on : k.handle ≡ handle_of p.operation.call) where
   abbrev does : Action
   does = act.Abort k.offer
 

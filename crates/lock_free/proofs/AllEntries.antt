@@ -35,7 +35,7 @@ use Rattle.lock_free.proofs.GivenBack.{node_is}
 use Rattle.lock_free.proofs.KeyMoves.{hash_is}
 use Rattle.lock_free.proofs.Laters.{later_self, later_both, saw_later}
 use Rattle.lock_free.proofs.MakeStep.{single_stays}
-use Rattle.lock_free.proofs.Moments.{same_entries, entry_lives}
+use Rattle.lock_free.proofs.LastingNodes.{same_entries, entry_lives}
 use Rattle.lock_free.proofs.Pools.{first_there, more_there}
 use Rattle.lock_free.proofs.Within.{held_lives}
 

@@ -6,11 +6,13 @@ use Rattle.lock_free.specs.declared.rules.Retired.{Retired}
 use Rattle.lock_free.specs.declared.rules.View.{View}
 use Rattle.lock_free.specs.declared.sizes.Sizes.{Sizes}
 use Rattle.lock_free.specs.Links.{link_in}
-use Rattle.lock_free.specs.Rules.{AreEpochs, AreOwed, AreRetired, IsRuled}
-use Rattle.lock_free.proofs.CountWords.{Beside, count_same, elsewhere_so}
+use Rattle.lock_free.specs.Shadows.{IsShadowed}
+use Rattle.lock_free.specs.Rules.{AreEpochs, AreOwed, AreRetired}
+use Rattle.lock_free.proofs.CountWords.{Beside, aside_so, count_same, elsewhere_so}
 use Rattle.lock_free.proofs.EpochStays.{IsAsWas, epochs_stay, stays_elsewhere, was_then}
 use Rattle.lock_free.proofs.LinksStay.{linked_then}
 use Rattle.lock_free.proofs.Moments.{after_it, allowed_by, Always, CanBe}
+use Rattle.lock_free.proofs.OneGlance.Shadowed.{stays_by}
 use Rattle.lock_free.proofs.RetiredStay.{epoch_still, retired_stay, retires_self}
 
 module _ (sizes : Sizes) (size id : ℕ) (me : Me Call View) (word : ℕ) (f : ℕ → ℕ) (then : ℕ → Me Call View → Type 0) where
@@ -20,13 +22,14 @@ module _ (sizes : Sizes) (size id : ℕ) (me : Me Call View) (word : ℕ) (f : �
       × ((x : Retired) → Contains me.0.retired x → Contains (h s kept at).0.retired x)) →
       Always sizes size id me word f then (λ s kept at. AreEpochs s.words s.views → AreRetired me.0.sizes s.words s.views → AreRetired me.0.sizes s.words (set s.views id (h s kept at).0)) →
       Always sizes size id me word f then (λ s kept at. AreEpochs s.words s.views → AreRetired me.0.sizes s.words s.views → AreOwed s.views → AreOwed (set s.views id (h s kept at).0)) →
-      Allows (IsRuled sizes) size id me word f then
+      Allows (IsShadowed sizes) size id me word f then
   allowed_retiring some_seats beside h same retires owes =
       allowed_by sizes size id me word f then some_seats
       (λ s kept epochs retired owed linked at. (
       let x = h s kept at in
       let elsewhere = elsewhere_so me.0.sizes word f s.words (beside s kept at) in (
         x.0,
+        stays_by sizes size id me word f then s (aside_so me.0.sizes word f s.words (beside s kept at)) x.0 (same s kept at).0,
         x.1,
         epochs_stay s.words (after_it sizes size id me word f then s x.0).words s.views (after_it sizes size id me word f then s x.0).views (stays_elsewhere s.words word f elsewhere)
             (was_then s.views id me.0 at x.0 (same s kept at).0) epochs,

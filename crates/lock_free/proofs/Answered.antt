@@ -19,6 +19,7 @@ use Rattle.machine_model.specs.Machine.{AreBounds}
 use Rattle.machine_model.specs.Operations.{action_of}
 use Rattle.proof_linearizable.specs.Beneath.proof_order.proofs.Views.Unconditional.{books_of}
 use Rattle.lock_free.specs.declared.accounts.Account.{Account}
+use Rattle.lock_free.specs.declared.rules.Checked.{Checked}
 use Rattle.lock_free.specs.declared.rules.Pool.{Pool}
 use Rattle.lock_free.specs.declared.rules.Retired.{Retired}
 use Rattle.lock_free.specs.declared.rules.View.{View}
@@ -37,9 +38,11 @@ use Rattle.lock_free.proofs.AnswersTold.{begins_tell_nothing, ends_are_told, oth
 use Rattle.lock_free.proofs.Followings.{goes_both}
 use Rattle.lock_free.proofs.HistoriesOn.{histories_go_on}
 use Rattle.lock_free.proofs.Meanwhile.{only_others}
-use Rattle.lock_free.proofs.RunningOn.{runs_on_both, runs_on_given_up}
+use Rattle.lock_free.proofs.FreesOn.{let_go_becomes}
+use Rattle.lock_free.proofs.RunningOn.{runs_on_become, runs_on_both, runs_on_given_up}
 use Rattle.lock_free.proofs.Talks.{talk_push}
 use Rattle.lock_free.proofs.Waiting.{waited_both}
+use Rattle.lock_free.specs.declared.accounts.OwnOffer.{OwnOffer}
 
 -- one event, more, and one event
 put_together : (h x y z : List Event) (a b : Event) (more : List Event) → x ≡ h ++ a ∷ [] → y ≡ x ++ more → z ≡ y ++ b ∷ [] → z ≡ h ++ a ∷ more ++ b ∷ []
@@ -58,14 +61,14 @@ begun_talk actor id call opens history =
 
 -- ---- from the begin to the end
 
-module _ (words : ℕ) (before : View) (call : Call) (sound : IsSound words before) (account : Account) (epoch passed : ℕ) (pool : Pool) (drafts : List (ℕ × ℕ)) (opening : Option ℕ)
-    (retired : List Retired) (owed : List Ref) (links : List (ℕ × ℕ)) (begun : Account) (waited : HasWaited before.actor before.account begun)
+module _ (words : ℕ) (before : View) (call : Call) (sound : IsSound words before) (account : Account) (epoch : ℕ) (passed : Checked) (pool : Pool) (drafts : List (ℕ × ℕ)) (opening : Option ℕ)
+    (offer : Option OwnOffer) (retired : List Retired) (owed : List Ref) (links : List (ℕ × ℕ)) (begun : Account) (waited : HasWaited before.actor before.account begun)
     (bounds_begun : AreBounds (bounds_for before.sizes begun.steps)) where
   abbrev started : View
   started = once_begun before call begun
 
   abbrev late : View
-  late = record started { account = account; epoch = epoch; passed = passed; pool = pool; drafts = drafts; opening = opening; retired = retired; owed = owed; links = links }
+  late = record started { account = account; epoch = epoch; passed = passed; pool = pool; drafts = drafts; opening = opening; offer = offer; retired = retired; owed = owed; links = links }
 
   abbrev first : Operation
   first = first_operation before begun call
@@ -175,6 +178,7 @@ module _ (words : ℕ) (before begun late after : View) (call : Call) (found : _
     pool = late.pool;
     drafts = late.drafts;
     opening = late.opening;
+    offer = late.offer;
     retired = late.retired;
     owed = late.owed;
     links = late.links;
@@ -186,6 +190,7 @@ module _ (words : ℕ) (before begun late after : View) (call : Call) (found : _
     pool = late.pool;
     drafts = late.drafts;
     opening = late.opening;
+    offer = late.offer;
     retired = late.retired;
     owed = late.owed;
     links = late.links;
@@ -199,7 +204,8 @@ module _ (words : ℕ) (before begun late after : View) (call : Call) (found : _
 
   pub begun_answered : HasAnswered before call before.opens answer after
   begun_answered =
-      answered_so words before call sound late.account late.epoch late.passed late.pool late.drafts late.opening late.retired late.owed late.links b.account b.waited.waited b.waited.sound.bounds
+      answered_so words before call sound late.account late.epoch late.passed late.pool late.drafts late.opening late.offer late.retired late.owed late.links b.account
+      b.waited.waited b.waited.sound.bounds
       (subst (λ (x : View). running x.sizes x.account x.actor first_one) begun_is b.runs)
       (subst (λ (x : View). history_of x.sizes x.account ≡ history_of before.sizes b.account ++ event.Begin first_one.id before.actor call before.opens ∷ []) begun_is b.told)
       (subst (λ (x : View). AreBounds (bounds_for x.sizes x.account.steps)) begun_is then.bounds)
@@ -213,9 +219,12 @@ calls_are_answered words before begun late after call way answer sound (pin, fou
 
 pub refusals_are_answered : RefusalsAreAnswered
 refusals_are_answered words before begun late after call way answer sound called then on (o, r, may) cancelled =
-    let (at, gave, ended) = cancelled o answer r may in
-    calls_are_answered words before begun at after call way answer sound called then (runs_on_both begun late at on (runs_on_given_up late at o answer r gave))
-    (record { operation = record (gave_up o answer) { is_marked = gave.runs.0 }; runs = gave.runs.1; acts = refl }) ended
+    let (at, left, gave, let_go, ended) = cancelled o answer r may in
+    let rests = let_go_becomes at left let_go in
+    let runs = rests.comes (gave_up o answer) gave.runs in
+    calls_are_answered words before begun left after call way answer sound called then
+    (runs_on_both begun at left (runs_on_both begun late at on (runs_on_given_up late at o answer r gave)) (runs_on_become at left (λ z. z) (λ z. refl) rests))
+    (record { operation = record (gave_up o answer) { is_marked = runs.0 }; runs = runs.1; acts = refl }) ended
 
 -- ---- a close
 
@@ -237,7 +246,7 @@ pub closes_are_answered : ClosesAreAnswered
 closes_are_answered words before after handle sound h =
     let p = h.closes in
     let w = h.saw in
-    let s = subst (λ (x : View). ShutBy (pinned_for (with_marks x h.marks) p.pinned p.call) handle p.shut.name p.shut.closed) w.after_is p.shut.shuts in
+    let s = subst (λ (x : View). ShutBy (pinned_for (with_marks x h.marks h.passed) p.pinned p.call) handle p.shut.name p.shut.closed) w.after_is p.shut.shuts in
     let all_is = p.after_is ∙ ap unpinned p.shut.released.kept.is
     ∙ ap (λ (x : View). unpinned (record x { epoch = p.rest.epoch; passed = p.rest.passed; retired = p.rest.retired; owed = p.rest.owed; links = p.rest.links })) s.after_is in
     let waited = waited_both before.actor before.account w.account s.account w.waited.waited s.waited.waited in

@@ -1,6 +1,6 @@
 -- The rule after an access: put together from what it leaves of each part.
 use Rattle.history.specs.declared.calls.Call.{Call}
-use Rattle.std.proofs.Common.{◌≡◌, ◌≢◌, ◌⊎◌, ℕ, zero, suc, ◌<◌, ◌≤◌, inl, inr, List, [], ◌∷◌, length, set, slice_index, Some, refl, sym, ap, subst, ◌∙◌, arith}
+use Rattle.std.proofs.Common.{◌≡◌, ◌≢◌, ◌⊎◌, ℕ, zero, suc, ◌<◌, ◌≤◌, inl, inr, true, List, [], ◌∷◌, length, set, slice_index, Some, refl, sym, ap, subst, ◌∙◌, arith}
 use mathlib.Core.Option.{some, some-injective, some-ne-none}
 use lib.ListN.{get_elem?}
 use Rattle.atomic_table.specs.Table as Table
@@ -18,9 +18,10 @@ use Rattle.lock_free.specs.declared.rules.View.{View}
 use Rattle.lock_free.specs.declared.rules.Closing.{Closing}
 use Rattle.lock_free.specs.declared.sizes.Sizes.{Sizes}
 use Rattle.lock_free.specs.Accounts.{bounds_for, state_of}
+use Rattle.lock_free.specs.Cells.{AreCells}
 use Rattle.lock_free.specs.Holdings.{AreHeld}
 use Rattle.lock_free.specs.Places.{HaveTaken, words_of, generation_word, root_word}
-use Rattle.lock_free.specs.Rules.{Standing, NodesStand, RootsStand, IsClosing, SaysClosing, latest, IsFree, IsOpening, Reserves, HasSeat, IsSeat, HasActor, IsKept}
+use Rattle.lock_free.specs.Rules.{Standing, NodesStand, RootsStand, IsClosing, SaysClosing, latest, IsFree, IsOpening, IsSpare, Reserves, HasSeat, IsSeat, HasActor, IsKept}
 use Rattle.lock_free.specs.Roots.{NoOffer}
 use Rattle.lock_free.specs.Trying.{KeepsTries}
 use Rattle.lock_free.proofs.Meanings.{ran, reserved, reserves_on}
@@ -54,6 +55,11 @@ all_stand sizes s kept = record {
   nodes = kept.nodes;
   roots = kept.roots;
 }
+
+-- one of two, where the first gives another
+pub cleared_or : {A B C : Type 0} → (A → B) → A ⊎ C → B ⊎ C
+cleared_or f (inl a) = inl (f a)
+cleared_or f (inr c) = inr c
 
 module _ (sizes : Sizes) (s : Table.State Call View) (kept : IsKept sizes s) (id : ℕ) (v : View) (at : get_elem? s.views id ≡ some v) (later : View) (actor : later.actor ≡ v.actor)
     (last : later.last ≡ v.last) where
@@ -89,10 +95,11 @@ module _ (sizes : Sizes) (s : Table.State Call View) (kept : IsKept sizes s) (id
   -- ---- closers
 
   -- Where the seat doesn't enter the handle, and would close it still if it would before.
-  module _ (handle who : ℕ) (entered : later.entered ≡ Some handle → v.entered ≡ Some handle)
-      (closing : (c : Closing) → latest v.closing handle ≡ Some c → c.handle ≡ handle → v.actor ≡ who → latest later.closing handle ≡ Some c) where
+  module _ (handle who : ℕ) (entered : later.entered ≡ Some handle → (v.entered ≡ Some handle) × (v.pin ≡ later.pin))
+      (closing : (c : Closing) → latest v.closing handle ≡ Some c → c.handle ≡ handle → v.actor ≡ who → latest later.closing handle ≡ Some c)
+      (clears : later.passed.cleared ≡ true → v.passed.cleared ≡ true) where
     becomes : (other : ℕ) (u : View) (c : Closing) → get_elem? s.views other ≡ some u → latest u.closing handle ≡ Some c → c.handle ≡ handle → u.actor ≡ who →
-        (w : View) × (get_elem? later_views other ≡ some w) × (w.actor ≡ u.actor) × (latest w.closing handle ≡ Some c)
+        (w : View) × (get_elem? later_views other ≡ some w) × (w.actor ≡ u.actor) × (latest w.closing handle ≡ Some c) × (w.passed.cleared ≡ true → u.passed.cleared ≡ true)
     becomes other u c e is this its = elim (cases_eq other id) [
       | inl same ↦
           (let mine : v ≡ u = some-injective v u (sym at ∙ ap (λ n. get_elem? s.views n) (sym same) ∙ e) in (
@@ -101,15 +108,18 @@ module _ (sizes : Sizes) (s : Table.State Call View) (kept : IsKept sizes s) (id
             actor ∙ ap (λ (x : View). x.actor) mine,
             closing c (ap (λ (x : View). latest x.closing handle) mine ∙ is) this
                 (ap (λ (x : View). x.actor) mine ∙ its),
+            λ so. ap (λ (x : View). x.passed.cleared) (sym mine) ∙ clears so,
           ))
-      | inr apart ↦ (u, set_else s.views id other later apart ∙ e, refl, is)
+      | inr apart ↦ (u, set_else s.views id other later apart ∙ e, refl, is, λ so. so)
     ]
 
     was_inside : (other : ℕ) (w : View) → get_elem? later_views other ≡ some w → w.entered ≡ Some handle → (u : View) × (get_elem? s.views other ≡ some u) × (u.entered ≡ Some handle) ×
-        (u.actor ≡ w.actor)
+        (u.actor ≡ w.actor) × (u.pin ≡ w.pin)
     was_inside other w e inside = elim (at_set s.views id other later w e) [
-      | inl h ↦ (v, ap (λ n. get_elem? s.views n) h.0 ∙ at, entered (ap (λ (x : View). x.entered) h.1 ∙ inside), sym actor ∙ ap (λ (x : View). x.actor) h.1)
-      | inr h ↦ (w, h.1, inside, refl)
+      | inl h ↦
+          (let its = entered (ap (λ (x : View). x.entered) h.1 ∙ inside) in
+          (v, ap (λ n. get_elem? s.views n) h.0 ∙ at, its.0, sym actor ∙ ap (λ (x : View). x.actor) h.1, its.1 ∙ ap (λ (x : View). x.pin) h.1))
+      | inr h ↦ (w, h.1, inside, refl, refl)
     ]
 
     pub closing_at : IsClosing s.views handle who → IsClosing later_views handle who
@@ -123,14 +133,17 @@ module _ (sizes : Sizes) (s : Table.State Call View) (kept : IsKept sizes s) (id
           closing = h.closing;
           is = b.3;
           this = h.this;
-          none = λ other w e inside apart.
-              (let u = was_inside other w e inside in subst (λ n. h.closing.looked < n) u.3 (h.none other u.0 u.1 u.2 (λ same. apart (sym u.3 ∙ same))));
+          none = λ other w e inside apart shown.
+              (let u = was_inside other w e inside in
+              subst (λ n. h.closing.looked < n) u.3 (h.none other u.0 u.1 u.2 (λ same. apart (sym u.3 ∙ same)) (λ p is. shown p (sym u.4 ∙ is))));
+          clear = λ cleared other w e inside apart.
+              (let u = was_inside other w e inside in λ p is. h.clear (cleared_or b.4 cleared) other u.0 u.1 u.2 (λ same. apart (sym u.3 ∙ same)) p (u.4 ∙ is));
         }
 
   -- where the seat enters no handle and would close none that it didn't before
-  pub closing_stays : ((handle : ℕ) → later.entered ≡ Some handle → v.entered ≡ Some handle) → later.closing ≡ v.closing → (handle who : ℕ) → IsClosing s.views handle who → IsClosing later_views
-      handle who
-  closing_stays entered closing handle who h = closing_at handle who (entered handle) (λ c is this its. ap (λ marks. latest marks handle) closing ∙ is) h
+  pub closing_stays : ((handle : ℕ) → later.entered ≡ Some handle → (v.entered ≡ Some handle) × (v.pin ≡ later.pin)) → later.closing ≡ v.closing →
+      (later.passed.cleared ≡ true → v.passed.cleared ≡ true) → (handle who : ℕ) → IsClosing s.views handle who → IsClosing later_views handle who
+  closing_stays entered closing clears handle who h = closing_at handle who (entered handle) (λ c is this its. ap (λ marks. latest marks handle) closing ∙ is) clears h
 
   -- ---- reserved numbers, and who runs what
 
@@ -192,7 +205,8 @@ module _ (sizes : Sizes) (s : Table.State Call View) (kept : IsKept sizes s) (id
       (own : IsSeat sizes account stands words later)
       (others : (other : ℕ) (w : View) → get_elem? s.views other ≡ some w → (other ≡ id → ⊥) → IsSeat sizes account stands words w)
       (free : (b name : ℕ) → IsFree later b name → IsFree v b name ⊎ ((other : ℕ) (w : View) (c : ℕ) → get_elem? s.views other ≡ some w → (other ≡ id → ⊥) → IsFree w c name → ⊥))
-      (reserves : Numbers account words) (held : AreHeld sizes account stands words later_views) where
+      (reserves : Numbers account words) (held : AreHeld sizes account stands words later_views)
+      (cells : AreCells sizes (IsSpare sizes account stands) words later_views) where
     seats_then : (other : ℕ) (w : View) → get_elem? later_views other ≡ some w → IsSeat sizes account stands words w
     seats_then other w e = elim (at_set s.views id other later w e) [
       | inl h ↦ subst (λ x. IsSeat sizes account stands words x) h.1 own
@@ -264,4 +278,5 @@ module _ (sizes : Sizes) (s : Table.State Call View) (kept : IsKept sizes s) (id
       pools = pools_then;
       numbers = numbers_then;
       held = held;
+      cells = cells;
     }

@@ -37,10 +37,12 @@ use Rattle.lock_free.specs.HandleWords.{is_marked, TellsRoot}
 use Rattle.lock_free.specs.Loading.{IsSound, Saw}
 use Rattle.lock_free.specs.Places.{root_word, words_of}
 use Rattle.lock_free.specs.Roots.{MeansRoot, SaysRoot}
-use Rattle.lock_free.specs.Rules.{SaysClosing, IsSeat, IsKept, Reserves, IsRuled}
+use Rattle.lock_free.specs.Shadows.{IsShadowed}
+use Rattle.lock_free.specs.Rules.{SaysClosing, IsSeat, IsKept, Reserves}
 use Rattle.lock_free.proofs.Allowed.{and_false, begin_allowed, no_handle, not_read_only, read_only}
 use Rattle.lock_free.proofs.Begun.{all_then, begin_kept}
-use Rattle.lock_free.proofs.Moments.{allowed, free_inside, seen_kept, seen_view, waited_so}
+use Rattle.lock_free.proofs.Moments.{free_inside, ruled_still, seen_kept, seen_view, waited_so}
+use Rattle.lock_free.proofs.OneGlance.Shadowed.{AllowsRuled, lifted}
 use Rattle.lock_free.proofs.OneStep.Beginning.{begins_of, begin_own, number_is}
 use Rattle.lock_free.proofs.OneStep.Idle.{idle_stays}
 use Rattle.lock_free.proofs.OneStep.Telling.{begin_told}
@@ -50,6 +52,7 @@ use Rattle.lock_free.proofs.SeenRoots.{tells_by}
 use Rattle.lock_free.proofs.Lettings.{beginning_lets}
 use Rattle.lock_free.specs.Live.{IsLive}
 use Rattle.lock_free.proofs.LetGoSince.{beginning_let_go}
+use Rattle.lock_free.proofs.PartingStay.{standing_stood}
 
 -- nobody in the list has reserved the number
 nobody_has : (n : ℕ) (xs : List (Option Operation)) → ((k : ℕ) (o : Operation) → get_or xs k None ≡ Some o → reserved_by (Some o) ≡ Some n → ⊥) → list_any (λ o. is_number n (reserved_by o)) xs ≡ false
@@ -134,11 +137,12 @@ module _ (v : View) (call : Call) (b : IsBeginner v call) (low : handle_of call 
   denied : (why : Denial) → begin_denial state v.actor call v.opens ≡ Some (refusal_of why) → Starts (Ok (started.Denied why))
   denied why is = (seen_view v s kept id at, seen_kept v s kept id at, (saw, is), saw.waited.sound, refl)
 
-  tells : (w : RootWord) → SaysRoot there s.words handle w (root_at state handle) → TellsRoot v.sizes there handle w
-  tells w says = tells_by v.sizes there s.words kept.taken kept.roots.blocks handle w says
+  tells : (w : RootWord) → IsRootWord w → found ≡ root_code w → SaysRoot there s.words handle w (root_at state handle) → TellsRoot v.sizes there v.pin handle w
+  tells w fits code says =
+      tells_by v.sizes there s.words kept.taken kept.roots v.actor v.pin v.offer v.pool.parted (kept.seats id v at).offering handle low w fits code says
 
-  closing : (w : RootWord) → IsRootWord w → is_marked w ≡ true → SaysRoot there s.words handle w (root_at state handle) → Starts (Err w)
-  closing w fits marked says = (seen_view v s kept id at, seen_kept v s kept id at, ((saw, fits, tells w says), marked), saw.waited.sound, refl)
+  closing : (w : RootWord) → IsRootWord w → found ≡ root_code w → is_marked w ≡ true → SaysRoot there s.words handle w (root_at state handle) → Starts (Err w)
+  closing w fits code marked says = (seen_view v s kept id at, seen_kept v s kept id at, ((saw, fits, tells w fits code says), marked), saw.waited.sound, refl)
 
   -- the handle is open, and nobody would close it
   module _ (w : RootWord) (fits : IsRootWord w) (code : found ≡ root_code w) (says : SaysRoot there s.words handle w (root_at state handle)) (few : kind w < 6) (root : Root)
@@ -148,7 +152,7 @@ module _ (v : View) (call : Call) (b : IsBeginner v call) (low : handle_of call 
       may = begin_allowed v.sizes s kept id v at idle call v.opens root is_open write read has_number (ap (λ c. c && runs_on state handle) b.stays)
 
       begins : Begins v.sizes there v.actor (taken.Begin v.actor call v.opens) call v.opens
-      begins = begins_of v.sizes there kept.bounds v.actor call v.opens most idle may b.number b.stays key kept.roots.stood
+      begins = begins_of v.sizes there kept.bounds v.actor call v.opens most idle may b.number b.stays key (standing_stood v.sizes there s.words kept.roots)
 
       has_begun : HasBegun v call w (once_begun v call there)
       has_begun = record {
@@ -159,7 +163,7 @@ module _ (v : View) (call : Call) (b : IsBeginner v call) (low : handle_of call 
         runs = begin_own v.sizes there kept.bounds v.actor call v.opens most idle may;
         access = ap (λ r. unwrap_or (access_of r) Writable) is_open ∙ access;
         fits = fits;
-        tells = tells w says;
+        tells = tells w fits code says;
         told = begin_told v.sizes there kept.bounds v.actor call v.opens may
             ∙ ap (λ o. (past_of v.sizes there).events ++ event.Begin (begun_operation state call v.opens).id v.actor call o ∷ []) (number_is state v.opens (opens_handle call) b.number);
       }
@@ -193,9 +197,9 @@ module _ (v : View) (call : Call) (b : IsBeginner v call) (low : handle_of call 
   starts_by : (w : RootWord) → IsRootWord w → found ≡ root_code w → SaysRoot there s.words handle w (root_at state handle) → Starts (started_by w call)
   starts_by word.Closed fits code says = denied denial.NoHandle (no_handle v.sizes s kept id v at idle call v.opens says)
   starts_by word.Reserved fits code says = denied denial.NoHandle (no_handle v.sizes s kept id v at idle call v.opens says)
-  starts_by (word.Opening slot) fits code says = (seen_view v s kept id at, seen_kept v s kept id at, (saw, fits, tells (word.Opening slot) says), saw.waited.sound, refl)
-  starts_by (word.ClosingWritable root who) fits code says = closing (word.ClosingWritable root who) fits refl says
-  starts_by (word.ClosingReadOnly root who) fits code says = closing (word.ClosingReadOnly root who) fits refl says
+  starts_by (word.Opening slot) fits code says = (seen_view v s kept id at, seen_kept v s kept id at, (saw, fits, tells (word.Opening slot) fits code says), saw.waited.sound, refl)
+  starts_by (word.ClosingWritable root who) fits code says = closing (word.ClosingWritable root who) fits code refl says
+  starts_by (word.ClosingReadOnly root who) fits code says = closing (word.ClosingReadOnly root who) fits code refl says
   starts_by (word.Writable slot) fits code says = writable (word.Writable slot) fits code says (omega arith) _ says.is refl refl (needs_read_only call) refl
   starts_by (word.Offered slot) fits code says = writable (word.Offered slot) fits code says (omega arith) _ says.is refl refl (needs_read_only call) refl
   starts_by (word.ReadOnly slot) fits code says = readable (word.ReadOnly slot) fits code says (omega arith) _ says.is refl refl (needs_writable call) refl
@@ -207,10 +211,10 @@ module _ (v : View) (call : Call) (b : IsBeginner v call) (low : handle_of call 
   starts =
       subst (λ w. Starts (started_by w call)) (sym (ap root_of means.code ∙ root_back means.what means.fits)) (starts_by means.what means.fits means.code means.says)
 
-pub begin_step_allowed : (sizes : Sizes) (size id : ℕ) (me : Me Call View) (some_seats : 1 ≤ me.0.sizes.seats) (call : Call) → IsBeginner me.0 call → handle_of call < 256 → key_of call < 2 ^ 64 →
-    Allows (IsRuled sizes) size id me (root_word (handle_of call)) (λ n. n) (has_started (step size (root_word (handle_of call)) 0 0 none) me)
-begin_step_allowed sizes size id me some_seats call b low key =
-    allowed sizes size id me (root_word (handle_of call)) (λ n. n) (has_started (step size (root_word (handle_of call)) 0 0 none) me)
+pub begin_step_ruled : (sizes : Sizes) (size id : ℕ) (me : Me Call View) (some_seats : 1 ≤ me.0.sizes.seats) (call : Call) → IsBeginner me.0 call → handle_of call < 256 → key_of call < 2 ^ 64 →
+    AllowsRuled sizes size id me (root_word (handle_of call)) (λ n. n) (has_started (step size (root_word (handle_of call)) 0 0 none) me)
+begin_step_ruled sizes size id me some_seats call b low key =
+    ruled_still sizes size id me (root_word (handle_of call)) (λ n. n) (has_started (step size (root_word (handle_of call)) 0 0 none) me)
     some_seats (λ s kept at. inr refl)
     (λ s kept at. (let x = starts me.0 call b low key s kept id at in (
       x.0,
@@ -222,3 +226,9 @@ begin_step_allowed sizes size id me some_seats call b low key =
       ),
     )))
     (λ s kept at. (starts me.0 call b low key s kept id at).4)
+
+pub begin_step_allowed : (sizes : Sizes) (size id : ℕ) (me : Me Call View) (some_seats : 1 ≤ me.0.sizes.seats) (call : Call) → IsBeginner me.0 call → handle_of call < 256 → key_of call < 2 ^ 64 →
+    Allows (IsShadowed sizes) size id me (root_word (handle_of call)) (λ n. n) (has_started (step size (root_word (handle_of call)) 0 0 none) me)
+begin_step_allowed sizes size id me some_seats call b low key =
+    lifted sizes size id me (root_word (handle_of call)) (λ n. n) (has_started (step size (root_word (handle_of call)) 0 0 none) me) some_seats
+    (begin_step_ruled sizes size id me some_seats call b low key)

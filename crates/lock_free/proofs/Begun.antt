@@ -26,6 +26,7 @@ use Rattle.lock_free.specs.Rules.{SaysClosing, IsSpare, IsHeld, Reserves, IsSeat
 use Rattle.lock_free.specs.Trying.{try_of, try_at}
 use Rattle.proof_garbage.specs.Beneath.proof_generations.proofs.Handles.Running.{place_of_actor}
 use Rattle.lock_free.proofs.Assembling.{AllStand, all_stand, closing_at, opening_stays, Numbers, assembled, other_actor}
+use Rattle.lock_free.proofs.CellsStay.{cells_still}
 use Rattle.lock_free.proofs.Meanings.{unmarked_at, unmarked_then, marked_at}
 use Rattle.lock_free.proofs.RootSteps as root
 use Rattle.lock_free.proofs.BegunSince.{begun_since}
@@ -144,6 +145,7 @@ module _ (sizes : Sizes) (s : Table.State Call View) (kept : IsKept sizes s) (id
       taken = λ b n small h. h;
       spare = λ other w b name e apart free. (spare_then name ((kept.seats other w e).spare b name free).1, λ j its. refl);
       plain = plain_begun sizes kept.account account_then kept.bounds (taken ∷ []) refl s.words s.words v.actor begins.operation begins.own new_id below_id;
+      offering = λ actor pin own slots h. h;
     }
 
     own_then : IsSeat sizes account_then kept.stands s.words view_then
@@ -156,7 +158,7 @@ module _ (sizes : Sizes) (s : Table.State Call View) (kept : IsKept sizes s) (id
         (λ o e. ap (λ c. Some (handle_of c)) (sym begins.its_call) ∙ ap (λ (x : Operation). Some (handle_of x.call)) (sym (own_call o e)))
         (λ g r. still_held g (seat.opens g (own_reserved g r.0))) (λ o e. sym begins.its_opens ∙ ap (λ (x : Operation). x.opens) (sym (own_call o e)))
         (λ g slot o n. (let x = seat.opening g slot o n in record { low = x.low; fits = x.fits; is = x.is; free = x.free }))
-        (λ b name free. (spare_then name (seat.spare b name free).1, λ j its. refl))
+        (λ b name free. (spare_then name (seat.spare b name free).1, λ j its. refl)) seat.offering
 
     numbers_then : Numbers sizes s kept id v at view_then refl refl account_then s.words
     numbers_then = record {
@@ -192,6 +194,7 @@ module _ (sizes : Sizes) (s : Table.State Call View) (kept : IsKept sizes s) (id
         assembled sizes s kept id v at view_then refl refl account_then kept.stands s.words all_then
         (λ g who below says. elim (cases_eq g (handle_of call)) [
           | inl same ↦ absurd (unmarked who (subst (λ n. SaysClosing (slice_index s.words (root_word n)) who) same says))
-          | inr differs ↦ closing_at sizes s kept id v at view_then refl refl g who (λ e. absurd (differs (sym (same_Some (handle_of call) g e)))) (λ c is this its. is)
+          | inr differs ↦ closing_at sizes s kept id v at view_then refl refl g who (λ e. absurd (differs (sym (same_Some (handle_of call) g e)))) (λ c is this its. is) (λ c. c)
               (kept.closings g who below says)
         ]) own_then (other_kept sizes s kept id v at account_then kept.stands s.words stays) (λ b name f. inl f) numbers_then (held_begun letting let_go)
+        (cells_still sizes s kept id v at view_then account_then kept.stands spare_then (λ b n f. f))

@@ -61,8 +61,11 @@ none_for : (opens : Option ℕ) → is_some opens ≡ false → opens ≡ None
 none_for None e = refl
 none_for (Some n) e = absurd (false≢true (sym e))
 
+pub plain_none : (c : Call) (opens : Option ℕ) → opens_handle c ≡ is_some opens → copies c ≡ false → opens ≡ None
+plain_none c opens number plain = none_for opens (sym number ∙ opens_none c plain)
+
 pub number_begun : (c : Call) (o : Operation) (opens : Option ℕ) → opens_handle c ≡ is_some opens → o.opens ≡ opens → IsNumber c o opens
-number_begun c o opens number is = record { plain = λ e. none_for opens (sym number ∙ opens_none c e); copied = λ e. is }
+number_begun c o opens number is = record { plain = plain_none c opens number; copied = λ e. is }
 
 pub keyed_number : (c : Call) (o : Operation) → copies c ≡ false → IsNumber c o None
 keyed_number c o keyed = record { plain = λ e. refl; copied = λ e. absurd (false≢true (sym keyed ∙ e)) }

@@ -54,6 +54,10 @@ module _ (v : View) (c : Call) (ready : IsReadyFor v c) where
     late_still words sound rests sound_x =
         record { sound = sound; rests = rests; then = (calls_more words c v v x (calls_first words c v sound ready_caller) sound_x h).then }
 
+-- and since before that
+pub still_then : (words : ℕ) (before : View) (c : Call) (v : View) → StillBegins words before c v → (x : View) → StillBegins words v c x → StillBegins words before c x
+still_then words before c v still x late = record { sound = still.sound; rests = still.rests; then = λ begun after h. still.then begun after (late.then begun after h) }
+
 pub still_now : (words : ℕ) (v : View) (c : Call) → IsSound words v → RestsWith v None → StillBegins words v c v
 still_now words v c sound rests = record { sound = sound; rests = rests; then = λ begun after h. h }
 

@@ -38,7 +38,7 @@ use Rattle.lock_free.proofs.Followings.{follows_later, main_node_on, used_on}
 use Rattle.lock_free.proofs.GivenBack.{node_is}
 use Rattle.lock_free.proofs.GoingOver.{as_many, one_more, entry_at_place, pointwise_more, not_both}
 use Rattle.lock_free.proofs.Laters.{waited_later, went_later}
-use Rattle.lock_free.proofs.Moments.{entry_lives}
+use Rattle.lock_free.proofs.LastingNodes.{entry_lives}
 use Rattle.lock_free.proofs.OnLines.{line_is, at_look, finds_now, moves_on, moved, moved_both, way_on}
 use Rattle.lock_free.proofs.RepairLooks.{clean_same}
 use Rattle.lock_free.specs.Leaving.{IsSpent}

@@ -26,7 +26,8 @@ use Rattle.lock_free.specs.Passing.{IsPlaced}
 use Rattle.lock_free.specs.Places.{root_word}
 use Rattle.lock_free.specs.Roots.{fate, undecided, open_with}
 use Rattle.lock_free.specs.RootWords.{IsAtClean, has_cleaned, settled_root}
-use Rattle.lock_free.specs.Rules.{IsKept, IsRuled}
+use Rattle.lock_free.specs.Shadows.{IsShadowed}
+use Rattle.lock_free.specs.Rules.{IsKept}
 use Rattle.lock_free.proofs.AbortStep.{known_there}
 use Rattle.lock_free.proofs.Assembling.{closing_at}
 use Rattle.lock_free.proofs.Closers.{seat_kept}
@@ -35,7 +36,7 @@ use Rattle.lock_free.proofs.Fates.{settled_decides, settled_still}
 use Rattle.lock_free.proofs.Framing.{class_small, node_end}
 use Rattle.lock_free.proofs.Moments.{allowed, same_place, seat}
 use Rattle.lock_free.proofs.OpenHandles.{clean_kept, root_fits, settled_is}
-use Rattle.lock_free.proofs.Rewritten.{IsPlainWord, is_writable}
+use Rattle.lock_free.proofs.Rewritten.{IsPlainWord, is_writable, plain_same}
 use Rattle.lock_free.proofs.Within.{two_words}
 
 -- the slot is one of the table
@@ -52,7 +53,7 @@ pub untouched : (v : View) (s : Table.State Call View) (kept : IsKept v.sizes s)
     (record { words = s.words; homes = s.homes; views = set s.views id v })
 untouched v s kept id at =
     seat_kept v.sizes s kept id v at v.entered v.closing (kept.seats id v at).entered (kept.seats id v at).calls
-    (λ g who below h. closing_at v.sizes s kept id v at v refl refl g who (λ x. x) (λ c x y z. x) (kept.closings g who below h))
+    (λ g who below h. closing_at v.sizes s kept id v at v refl refl g who (λ x. (x, refl)) (λ c x y z. x) (λ c. c) (kept.closings g who below h))
 
 module _ (v : View) (handle offer root : ℕ) (low : handle < 256) (a : IsAtClean v handle offer root) (s : Table.State Call View) (kept : IsKept v.sizes s) (id : ℕ)
     (at : get_elem? s.views id ≡ some v) where
@@ -92,9 +93,9 @@ module _ (v : View) (handle offer root : ℕ) (low : handle < 256) (a : IsAtClea
       let is : found ≡ root_code (word.Offered k.slot) = e ∙ ap (λ n. root_code (word.Offered n)) (sym a.its.place) in
       let plain : root_at (state_of v.sizes kept.account) handle ≡ open_with Writable (Plain left) =
       settled_is v.sizes s kept handle low k here decided is ∙ ap (λ n. open_with Writable (Plain (settled_root n k.offer))) fate_is in
-      clean_kept v.sizes s kept id v at handle low Writable left plain (word.Writable root)
-      (subst (λ n. n < 2 ^ 27) place_is (root_fits v.sizes s kept handle low Writable left plain))
-      (subst (λ n. IsPlainWord Writable (place_of kept.account left) (word.Writable n)) place_is (is_writable refl)) (omega arith)
+      clean_kept v.sizes s kept id v at handle low (word.Writable root) (subst (λ n. n < 2 ^ 27) place_is (root_fits v.sizes s kept handle low Writable left plain))
+      (plain_same v.sizes s kept handle low Writable left plain (word.Writable root)
+      (subst (λ n. IsPlainWord Writable (place_of kept.account left) (word.Writable n)) place_is (is_writable refl))) (omega arith)
 
   pub cleans : IsKept v.sizes (record { words = words_then v s kept id at (root_word handle) old new; homes = s.homes; views = set s.views id v })
   cleans = elim (cases_eq found old) [
@@ -106,7 +107,7 @@ module _ (v : View) (handle offer root : ℕ) (low : handle < 256) (a : IsAtClea
   ]
 
 pub clean_allowed : (sizes : Sizes) (size id : ℕ) (me : Me Call View) (some_seats : 1 ≤ me.0.sizes.seats) (handle offer root : ℕ) → handle < 256 → IsAtClean me.0 handle offer root →
-    Allows (IsRuled sizes) size id me (root_word handle) (λ n. either (n == root_code (word.Offered offer)) (root_code (word.Writable root)) n)
+    Allows (IsShadowed sizes) size id me (root_word handle) (λ n. either (n == root_code (word.Offered offer)) (root_code (word.Writable root)) n)
     (has_cleaned (step size (root_word handle) (root_code (word.Offered offer)) (root_code (word.Writable root)) none) me)
 clean_allowed sizes size id me some_seats handle offer root low a =
     allowed sizes size id me (root_word handle) (λ n. either (n == root_code (word.Offered offer)) (root_code (word.Writable root)) n)

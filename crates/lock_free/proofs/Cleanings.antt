@@ -1,22 +1,21 @@
 -- A settled offer is ready to be taken out of the word of its handle, once the root that it leaves was seen, and the handle that it opens to be opened.
-use Rattle.std.proofs.Common.{◌≡◌, ℕ, Bool, true, false, is_some, Option, Some, None, refl, sym, subst}
+use Rattle.std.proofs.Common.{◌≡◌, ℕ, true, false, is_some, Option, Some, None, refl, sym, subst}
 use Rattle.std.proofs.lemmas.Bool.{true≢false, false≢true}
 use Rattle.trie_words.specs.declared.roots.RootWord.TheVariants as word
 use Rattle.machine_model.specs.Beneath.slot_arena.specs.declared.refs.Ref.{Ref}
 use Rattle.trie_words.specs.declared.entries.Pair.{Pair}
 use Rattle.lock_free.specs.declared.rules.View.{View}
-use Rattle.lock_free.specs.Fates.{HasSettled}
 use Rattle.lock_free.specs.HandleWords.{HasOpening}
 use Rattle.lock_free.specs.Loading.{IsSound}
 use Rattle.lock_free.specs.Passing.{IsPlaced, Later}
 use Rattle.lock_free.specs.Rooting.{IsSettledAt}
 use Rattle.lock_free.specs.Roots.{carried_out, taken_back}
-use Rattle.lock_free.specs.RootWords.{HasSeenNews, HasSeenOlds, HasSeenSettled, IsAtClean, IsAtOpen, IsOpenedBy, IsToOpen, KnowsOffer, as_copy, for_readers}
+use Rattle.lock_free.specs.RootWords.{HasSeenNews, HasSeenOlds, IsAtClean, IsAtOpen, IsOpenedBy, KnowsOffer, as_copy, for_readers}
 use Rattle.lock_free.proofs.Laters.{saw_later}
 use Rattle.lock_free.proofs.OffersLater.{offer_later, opening_later, settled_later}
 
 module _ (n : ℕ) (v : View) (sound : IsSound n v) (handle offer : ℕ) (w : View) (pair : Pair) where
-  pub clean_new : IsSettledAt v handle offer true → HasSeenNews v offer pair w → IsAtClean w handle offer pair.low
+  abbrev pub clean_new : IsSettledAt v handle offer true → HasSeenNews v offer pair w → IsAtClean w handle offer pair.low
   clean_new (h, settled) (s, said) =
       let l : Later v w = saw_later n v sound w s in
       record {
@@ -26,7 +25,7 @@ module _ (n : ℕ) (v : View) (sound : IsSound n v) (handle offer : ℕ) (w : Vi
         place = subst (λ x. IsPlaced x h.its.offer.successor pair.low) (sym s.after_is) (said h.its h.here h.place).successor;
       }
 
-  pub clean_old : IsSettledAt v handle offer false → HasSeenOlds v offer pair w → IsAtClean w handle offer pair.low
+  abbrev pub clean_old : IsSettledAt v handle offer false → HasSeenOlds v offer pair w → IsAtClean w handle offer pair.low
   clean_old (h, settled) (s, said) =
       let l : Later v w = saw_later n v sound w s in
       record {
@@ -39,42 +38,35 @@ module _ (n : ℕ) (v : View) (sound : IsSound n v) (handle offer : ℕ) (w : Vi
 -- ---- the handle that it opens
 
 -- an offer that opens a handle is known
-pub opening_known : (v : View) (handle offer : ℕ) → HasOpening v.sizes v.account handle offer → KnowsOffer v offer
+pub opening_known : (v : View) (handle offer : ℕ) → HasOpening v.sizes v.account v.pin handle offer → KnowsOffer v offer
 opening_known v handle offer h = (h.its.handle, record { its = h.its; here = h.here; place = h.place; on = refl; inside = h.inside })
 
-some_is : (o : Option Ref) → is_some o ≡ true → (r : Ref) × (o ≡ Some r)
+pub some_is : (o : Option Ref) → is_some o ≡ true → (r : Ref) × (o ≡ Some r)
 some_is None e = absurd (false≢true e)
 some_is (Some r) e = (r, refl)
 
-none_is : (o : Option Ref) → is_some o ≡ false → o ≡ None
+pub none_is : (o : Option Ref) → is_some o ≡ false → o ≡ None
 none_is None e = refl
 none_is (Some r) e = absurd (true≢false e)
 
 module _ (n : ℕ) (v : View) (sound : IsSound n v) (handle offer : ℕ) (w : View) (pair : Pair) where
-  pub open_copy : IsOpenedBy v handle offer true → HasSeenNews v offer pair w → IsAtOpen w handle offer (word.Writable pair.high)
+  abbrev pub open_copy : IsOpenedBy v handle offer true → HasSeenNews v offer pair w → IsAtOpen w handle offer (word.Writable pair.high)
   open_copy (h, settled, writable) (s, said) =
       let l : Later v w = saw_later n v sound w s in
       let second = some_is h.its.offer.second writable in
       record {
         its = opening_later v w l handle offer h;
+        outcome = carried_out;
         settled = settled_later v w l h.its carried_out settled;
         opens = as_copy second.0 pair.high second.1 (subst (λ x. IsPlaced x second.0 pair.high) (sym s.after_is) ((said h.its h.here h.place).second second.0 second.1));
       }
 
-  pub open_old : IsOpenedBy v handle offer false → HasSeenOlds v offer pair w → IsAtOpen w handle offer (word.ReadOnly pair.low)
+  abbrev pub open_old : IsOpenedBy v handle offer false → HasSeenOlds v offer pair w → IsAtOpen w handle offer (word.ReadOnly pair.low)
   open_old (h, settled, writable) (s, said) =
       let l : Later v w = saw_later n v sound w s in
       record {
         its = opening_later v w l handle offer h;
+        outcome = carried_out;
         settled = settled_later v w l h.its carried_out settled;
         opens = for_readers pair.low (none_is h.its.offer.second writable) (subst (λ x. IsPlaced x h.its.offer.root pair.low) (sym s.after_is) (said h.its h.here h.place).root);
       }
-
--- an offer that is found carried out
-pub opened_now : (n : ℕ) (v : View) → IsSound n v → (handle offer : ℕ) (w : View) (writable : Bool) → IsToOpen v handle offer writable → HasSeenSettled v offer carried_out w →
-    IsOpenedBy w handle offer writable
-opened_now n v sound handle offer w writable (h, is) (s, said) = (
-  opening_later v w (saw_later n v sound w s) handle offer h,
-  subst (λ (x : View). HasSettled x.sizes x.account h.its carried_out) (sym s.after_is) (said h.its h.here h.place),
-  is,
-)

@@ -50,7 +50,7 @@ use Rattle.lock_free.proofs.GivenBack.{node_is}
 use Rattle.lock_free.proofs.GoingOver.{as_many}
 use Rattle.lock_free.proofs.KeyMoves.{hash_is}
 use Rattle.lock_free.proofs.Laters.{later_both, link_later, placed_later, waited_later, went_later}
-use Rattle.lock_free.proofs.Moments.{entry_lives}
+use Rattle.lock_free.proofs.LastingNodes.{entry_lives}
 use Rattle.lock_free.proofs.OnLines.{line_is, at_look, finds_now, stays_on, moves_on, moved, stayed_moved, way_on}
 use Rattle.lock_free.proofs.Replaces.{branch_is_main, has_entries, entries_seen}
 use Rattle.lock_free.specs.declared.leaving.Swapping.{Swapping}

@@ -38,7 +38,8 @@ use Rattle.lock_free.specs.Places.{root_word, words_of}
 use Rattle.lock_free.specs.Owing.{owing}
 use Rattle.lock_free.specs.Reclaiming.{kind_of_node}
 use Rattle.lock_free.specs.Roots.{open_with}
-use Rattle.lock_free.specs.Rules.{AreOwed, SaysClosing, IsSeat, IsKept, IsRuled}
+use Rattle.lock_free.specs.Shadows.{IsShadowed}
+use Rattle.lock_free.specs.Rules.{AreOwed, SaysClosing, IsSeat, IsKept}
 use Rattle.lock_free.specs.SeatWords.{IsIdle, WouldClose, closes}
 use Rattle.lock_free.proofs.Allowed.{close_allowed}
 use Rattle.lock_free.proofs.Assembling.{closing_at}
@@ -182,7 +183,7 @@ module _ (v : View) (handle looked : ℕ) (low : handle < 256) (others : List Cl
   misses differs = (
     subst (λ ws. IsKept v.sizes (record { words = ws; homes = s.homes; views = set s.views id v })) (words_miss v s kept id at (root_word handle) old 0 differs)
         (seat_kept v.sizes s kept id v at v.entered v.closing seat.entered seat.calls
-        (λ g who below h. closing_at v.sizes s kept id v at v refl refl g who (λ x. x) (λ c x y z. x) (kept.closings g who below h))),
+        (λ g who below h. closing_at v.sizes s kept id v at v refl refl g who (λ x. (x, refl)) (λ c x y z. x) (λ c. c) (kept.closings g who below h))),
     (λ x. absurd (true≢false (sym x ∙ ne_eqb found old differs)), λ x. refl),
     λ x. x,
     refl,
@@ -195,8 +196,8 @@ module _ (v : View) (handle looked : ℕ) (low : handle < 256) (others : List Cl
 pub close_allows : (sizes : Sizes) (size id : ℕ) (me : Me Call View) (some_seats : 1 ≤ me.0.sizes.seats) (handle looked : ℕ) → handle < 256 →
     WouldClose me.0 handle looked → me.0.sizes.seats ≤ looked →
     me.0.entered ≢ Some handle → IsIdle me.0 → (w : RootWord) → IsRootWord w → SaysClosing (root_code w) me.0.actor →
-    Allows (IsRuled sizes) size id me (root_word handle) (λ n. either (n == root_code w) 0 n) (has_closed (step size (root_word handle) (root_code w) 0 none) me)
-close_allows sizes size id me some_seats handle looked low (others, would) all_looked outside idle w fits mine =
+    Allows (IsShadowed sizes) size id me (root_word handle) (λ n. either (n == root_code w) 0 n) (has_closed (step size (root_word handle) (root_code w) 0 none) me)
+close_allows sizes size id me some_seats handle looked low (others, would, cleared) all_looked outside idle w fits mine =
     allowed_owing sizes size id me (root_word handle) (λ n. either (n == root_code w) 0 n) (has_closed (step size (root_word handle) (root_code w) 0 none) me)
     some_seats (λ s kept at. inl (handle_apart me.0.sizes handle low))
     (λ s kept at. (let x = shuts me.0 handle looked low others would all_looked outside idle w fits mine s kept id at in (

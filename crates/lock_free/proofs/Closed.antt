@@ -2,8 +2,7 @@
 use Rattle.history.specs.declared.calls.Call.{Call}
 use Rattle.history.specs.declared.calls.Call.TheVariants.{Close}
 use Rattle.std.proofs.Common.{◌≡◌, ◌≢◌, ◌^◌, ℕ, ◌<◌, ◌≤◌, inl, inr, true, Option, List, [], ◌∷◌, ◌++◌, Contains, get_or, is_some, set, slice_index, Some, None, refl, sym, ap}
-use Rattle.std.proofs.Common.{subst, ◌∙◌, arith, append-nil}
-use Rattle.std.proofs.Common.{append_assoc}
+use Rattle.std.proofs.Common.{append_assoc, subst, ◌∙◌, arith, append-nil}
 use Rattle.std.specs.Prelude.{option_map}
 use Rattle.std.proofs.lemmas.Bool.{cases_eq, true≢false}
 use Rattle.std.proofs.lemmas.Option.{none-some, same_Some}
@@ -21,7 +20,7 @@ use Rattle.machine_model.specs.declared.steps.Step.TheVariants as step
 use Rattle.machine_model.specs.Calls.{handle_of}
 use Rattle.machine_model.specs.Keys.{FitsKey}
 use Rattle.machine_model.specs.declared.roots.Descriptor.{Descriptor}
-use Rattle.machine_model.specs.declared.roots.RootWord.TheVariants.{Offer}
+use Rattle.machine_model.specs.declared.roots.RootWord.TheVariants.{Offer, Plain}
 use Rattle.machine_model.specs.States.{State, operation_of, handle_limit, root_at, word_at, word_of}
 use Rattle.proof_waiting.specs.Beneath.proof_slots.specs.Unswept.{HasNoSweeps}
 use Rattle.lock_free.specs.declared.accounts.Account.{Account}
@@ -29,14 +28,15 @@ use Rattle.lock_free.specs.declared.accounts.Known.{Known}
 use Rattle.lock_free.specs.declared.rules.Closing.{Closing}
 use Rattle.lock_free.specs.declared.rules.View.{View}
 use Rattle.lock_free.specs.declared.sizes.Sizes.{Sizes}
-use Rattle.lock_free.specs.Accounts.{state_of, HasWaited, IsOfOther}
+use Rattle.lock_free.specs.Accounts.{bounds_for, state_of, HasWaited, IsOfOther}
 use Rattle.lock_free.specs.Beginning.{Closes, closed_by}
 use Rattle.lock_free.specs.Fates.{TellsFate}
 use Rattle.lock_free.specs.Places.{pin_word, root_word}
-use Rattle.lock_free.specs.Roots.{MeansRoot, IsPending, NoOffer, fate, undecided}
-use Rattle.lock_free.specs.Rules.{IsClosing, SaysClosing, IsFree, IsHeld, Reserves, Names, NamesOffer, IsOpening, IsSeat, IsKept, latest, first_account}
+use Rattle.lock_free.specs.Roots.{MeansRoot, IsPending, NoOffer, fate, undecided, open_with}
+use Rattle.lock_free.specs.Rules.{IsClosing, SaysClosing, IsFree, IsHeld, IsSpare, Reserves, Names, NamesOffer, IsOpening, IsSeat, IsKept, latest, first_account}
 use Rattle.lock_free.specs.Trying.{try_of, KeepsTries, as_before}
 use Rattle.lock_free.proofs.Assembling.{AllStand, all_stand, closing_at, opening_stays, assembled}
+use Rattle.lock_free.proofs.CellsStay.{cells_step, handle_before}
 use Rattle.lock_free.proofs.Closers.{newest}
 use Rattle.lock_free.proofs.Fates.{fate_said}
 use Rattle.lock_free.proofs.Keeping.{meaning_kept}
@@ -50,20 +50,17 @@ use Rattle.lock_free.proofs.Stood.{plain_not}
 use Rattle.lock_free.proofs.Waiting.{grown_steps, waited_none, waited_more, quiet_more}
 use Rattle.history.specs.declared.calls.Access.{Access}
 use Rattle.machine_model.specs.Beneath.slot_arena.specs.declared.refs.Ref.{Ref}
-use Rattle.machine_model.specs.declared.roots.RootWord.TheVariants.{Plain}
 use Rattle.machine_model.specs.Counting.{refs_of_root}
 use Rattle.machine_model.specs.Machine.{begin_denial}
 use Rattle.machine_model.proofs.Fates.{place_of_actor}
 use Rattle.proof_garbage.proofs.Private.{private_along}
 use Rattle.proof_memory.specs.Laws.{IsInUse}
 use Rattle.lock_free.specs.declared.rules.Pinned.{Pinned}
-use Rattle.lock_free.specs.Accounts.{bounds_for}
 use Rattle.lock_free.specs.Counts.{IsCount, references, references_in}
 use Rattle.lock_free.specs.HandleWords.{owes_closed}
 use Rattle.lock_free.specs.Holdings.{AreHeld, IsHere}
 use Rattle.lock_free.specs.Live.{from_root, IsLive}
 use Rattle.lock_free.specs.Owing.{owing}
-use Rattle.lock_free.specs.Roots.{open_with}
 use Rattle.lock_free.proofs.ClosedClaims.{close_fewer, close_less, close_let_go}
 use Rattle.lock_free.proofs.CountWords.{handle_apart}
 use Rattle.lock_free.proofs.GivenCounted.{given_counted, given_unlet}
@@ -74,6 +71,7 @@ use Rattle.lock_free.proofs.SeatOwing.{seat_owing}
 use Rattle.lock_free.proofs.HeldStep.{held_step}
 use Rattle.lock_free.proofs.LinesStay.{lines_idle}
 use Rattle.lock_free.proofs.HeldFrom.{live_from}
+use Rattle.lock_free.proofs.PartingStay.{knows_still, names_kind, parted_still}
 
 module _ (sizes : Sizes) (s : Table.State Call View) (kept : IsKept sizes s) (id : ℕ) (v : View) (at : get_elem? s.views id ≡ some v) (handle : ℕ) (low : handle < handle_limit) (looked : ℕ)
     (others : List Closing) (closing : v.closing ≡ record { handle = handle; looked = looked } ∷ others)
@@ -92,14 +90,16 @@ module _ (sizes : Sizes) (s : Table.State Call View) (kept : IsKept sizes s) (id
   closer : IsClosing s.views handle v.actor
   closer = kept.closings handle v.actor low says
 
-  has_looked : closer.closing.looked ≡ looked
-  has_looked =
-      let top = (kept.seats closer.id closer.view closer.at).top in
-      let is = closer.its in
+  closing_is : closer.closing ≡ record { handle = handle; looked = looked }
+  closing_is =
+      let top = (kept.seats closer.id closer.view closer.at).top in let is = closer.its in
       let same : closer.id ≡ id = kept.alone closer.id id closer.view v v.actor closer.at at (omega (arith, is), omega (arith, is, top)) (omega arith, seat.top) in
       let mine : closer.view ≡ v = some-injective closer.view v (sym closer.at ∙ ap (λ n. get_elem? s.views n) same ∙ at) in
-      ap (λ (c : Closing). c.looked) (same_Some closer.closing (record { handle = handle; looked = looked })
-      (sym closer.is ∙ ap (λ (x : View). latest x.closing handle) mine ∙ ap (λ marks. latest marks handle) closing ∙ newest (record { handle = handle; looked = looked }) others))
+      same_Some closer.closing (record { handle = handle; looked = looked })
+      (sym closer.is ∙ ap (λ (x : View). latest x.closing handle) mine ∙ ap (λ marks. latest marks handle) closing ∙ newest (record { handle = handle; looked = looked }) others)
+
+  has_looked : closer.closing.looked ≡ looked
+  has_looked = ap (λ (c : Closing). c.looked) closing_is
 
   pub nobody_inside : (other : ℕ) (w : View) → get_elem? s.views other ≡ some w → w.entered ≡ Some handle → ⊥
   nobody_inside other w e inside = elim (cases_eq other id) [
@@ -109,11 +109,10 @@ module _ (sizes : Sizes) (s : Table.State Call View) (kept : IsKept sizes s) (id
         (let x = kept.seats other w e in
         let differs : w.actor ≢ v.actor =
         λ same. apart (kept.alone other id w v w.actor e at (omega arith, x.top) (let top = seat.top in (omega (arith, same), omega (arith, same, top)))) in
-        let more = closer.none other w e inside differs in
-        omega (arith, more, has_looked, all_looked, x.top, x.most))
+        let some : 1 ≤ closer.closing.looked = (let low = seat.low in let top = seat.top in let most = seat.most in omega (arith, low, top, most, all_looked, has_looked)) in
+        let more = closer.none other w e inside differs (closer.clear (inr some) other w e inside differs) in omega (arith, more, has_looked, all_looked, x.top, x.most))
   ]
 
-  -- so no operation runs on it
   pub nobody_runs : (a : ℕ) (o : Operation) → operation_of now a ≡ Some o → handle_of o.call ≢ handle
   nobody_runs a o e same =
       let it = kept.runners a o e in
@@ -224,17 +223,19 @@ module _ (sizes : Sizes) (s : Table.State Call View) (kept : IsKept sizes s) (id
       size = root.size_rooted sizes kept.account kept.stands s.words all handle low (root_code word.Closed);
       taken = root.have_rooted sizes kept.account kept.stands s.words all handle low (root_code word.Closed);
       generations = root.generations_rooted sizes kept.account kept.stands s.words all handle low (root_code word.Closed) ∙ sym closes.leaves.generations;
-      nodes = root.nodes_left sizes kept.account account_then.steps kept.account.offers closes.leaves kept.stands words_then both refl kept.nodes.offers
+      nodes = root.nodes_left sizes kept.account account_then.steps kept.account closes.leaves kept.stands words_then both refl kept.nodes.offers
           (root.nodes_rooted sizes kept.account kept.stands s.words all handle low (root_code word.Closed));
       roots = record {
         means = means_all;
-        offers = λ k c.
-            root.written_left sizes kept.account account_then.steps kept.account.offers closes.leaves kept.stands words_then k
+        offers = λ k c. root.written_left sizes kept.account account_then.steps kept.account closes.leaves kept.stands words_then k
             (root.written_rooted sizes kept.account kept.stands s.words all handle low (root_code word.Closed) k c);
         blocks = λ k c. root.taken_rooted sizes kept.account kept.stands s.words all handle low (root_code word.Closed) 1 k.slot (omega arith) (kept.roots.blocks k c);
         single = kept.roots.single;
         tries = kept.roots.tries;
         stood = λ k c. stood_still sizes kept.account account_then both refl k.offer (kept.roots.stood k c);
+        came = λ x c. stood_still sizes kept.account account_then both refl x.known.offer (kept.roots.came x c);
+        parting = parted_still kept.account.offered kept.account.offers kept.account.parted s.words words_then
+            (names_kind kept.account.offers s.words words_then handle word.Closed tt root_beside root_here (λ e. omega (arith, e)) (λ e. omega (arith, e))) kept.roots.parting;
         marks = marks_kept kept.account.offers now next keeps s.words words_then fates kept.roots.marks;
         fates = fates_all;
         pending = pending_all;
@@ -254,10 +255,13 @@ module _ (sizes : Sizes) (s : Table.State Call View) (kept : IsKept sizes s) (id
         let differs = not_closed g h.closed in
         record { low = h.low; taken = λ none. h.taken (sym (root_beside g differs) ∙ none); closed = closes.roots g differs ∙ h.closed }
 
+    spare_then : (name : ℕ) → IsSpare sizes kept.account kept.stands name → IsSpare sizes account_then kept.stands name
+    spare_then name h = (λ k slot x. h.0 k slot (x.0, sym (closes.leaves.nodes k) ∙ x.1), h.1)
+
     spare_by : (other : ℕ) (w : View) (b name : ℕ) → get_elem? s.views other ≡ some w → IsFree w b name → StaysSpare sizes s kept id v at account_then kept.stands words_then b name
     spare_by other w b name e free =
         let h = (kept.seats other w e).spare b name free in
-        ((λ k slot x. h.1.0 k slot (x.0, sym (closes.leaves.nodes k) ∙ x.1), h.1.1), root.slot_rooted sizes kept.account kept.stands s.words all handle low (root_code word.Closed) b name free.0 h.0)
+        (spare_then name h.1, root.slot_rooted sizes kept.account kept.stands s.words all handle low (root_code word.Closed) b name free.0 h.0)
 
     still_open : (other : ℕ) (w : View) → get_elem? s.views other ≡ some w → (g : ℕ) → w.entered ≡ Some g → is_some (root_at now g) ≡ true → is_some (root_at next g) ≡ true
     still_open other w e g inside was =
@@ -288,6 +292,8 @@ module _ (sizes : Sizes) (s : Table.State Call View) (kept : IsKept sizes s) (id
                 (subst (λ n. NamesOffer n slot) (ap (λ n. slice_index words_then (root_word n)) same ∙ root_here) named))
             | inr differs ↦ subst (λ n. NamesOffer n slot) (root_beside g differs) named
           ]);
+      offering = knows_still kept.account.offered kept.account.offers kept.account.parted s.words words_then
+          (names_kind kept.account.offers s.words words_then handle word.Closed tt root_beside root_here (λ e. omega (arith, e)) (λ e. omega (arith, e)));
     }
 
     idle_then : (o : Operation) → operation_of next v.actor ≡ Some o → ⊥
@@ -301,6 +307,7 @@ module _ (sizes : Sizes) (s : Table.State Call View) (kept : IsKept sizes s) (id
         (λ g e. (let x = seat.entered g e in (x.0, still_open id v at g e x.1, x.2))) (λ o e. absurd (idle_then o e)) (held id v at)
         (λ o e. absurd (idle_then o e))
         (λ g slot o n. (let x = seat.opening g slot o n in record { low = x.low; fits = x.fits; is = named v g slot x ∙ x.is; free = x.free })) (λ b name free. spare_by id v b name at free)
+        (stays.offering v.actor v.pin v.offer v.pool.parted seat.offering)
 
     own_then : IsSeat sizes account_then kept.stands words_then view_then
     own_then = seat_owing sizes account_then kept.stands words_then seen_then (owes_closed v.pin its_root v.owed) seat_then
@@ -348,9 +355,8 @@ module _ (sizes : Sizes) (s : Table.State Call View) (kept : IsKept sizes s) (id
     -- no operation has a root to itself
     root_known : (a : ℕ) (operation : Operation) → operation_of next a ≡ Some operation → Contains operation.private its_root → ⊥
     root_known a operation runs c =
-        let limits = bounds_for sizes kept.account.steps in
         let (j, its, at_j) = place_of_actor now a operation (sym (closes.operations a) ∙ runs) in
-        private_along limits kept.bounds kept.account.steps j operation at_j its_root c
+        private_along (bounds_for sizes kept.account.steps) kept.bounds kept.account.steps j operation at_j its_root c
         (from_root handle its_root (subst (λ r. Contains (refs_of_root r) its_root) (sym was) (Contains-push [] its_root)))
 
     one_there : (k : Ref) → Contains (its_root ∷ []) k → its_root ≡ k
@@ -376,15 +382,13 @@ module _ (sizes : Sizes) (s : Table.State Call View) (kept : IsKept sizes s) (id
     held_closed : AreHeld sizes account_then kept.stands words_then (set s.views id view_then)
     held_closed = held_by v.pin
 
-    -- the rule holds
     pub close_kept : IsKept sizes (record { words = words_then; homes = s.homes; views = set s.views id view_then })
     close_kept =
         assembled sizes s kept id v at view_then refl refl account_then kept.stands words_then all_then
         (λ g who below marked. elim (cases_eq g handle) [
           | inl same ↦ absurd (closed_says who (subst (λ n. SaysClosing n who) (ap (λ n. slice_index words_then (root_word n)) same ∙ root_here) marked))
           | inr differs ↦
-              closing_at sizes s kept id v at view_then refl refl g who (λ e. e)
-              (λ c is this its. is)
+              closing_at sizes s kept id v at view_then refl refl g who (λ e. (e, refl)) (λ c is this its. is) (λ c. c)
               (kept.closings g who below (subst (λ n. SaysClosing n who) (root_beside g differs) marked))
         ]) own_then (other_kept sizes s kept id v at account_then kept.stands words_then stays) (λ b name f. inl f)
         (record {
@@ -393,3 +397,4 @@ module _ (sizes : Sizes) (s : Table.State Call View) (kept : IsKept sizes s) (id
           others = λ other w e apart g r. reserved kept.account.offers now next keeps w g r;
           runners = λ a o e. inr (ran kept.account.offers now next keeps a o e);
         }) held_closed
+        (cells_step sizes s kept id v at view_then account_then kept.stands (root_word handle) (root_code word.Closed) (handle_before sizes handle low) stays.taken spare_then (λ b n f. f))

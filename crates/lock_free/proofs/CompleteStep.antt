@@ -31,7 +31,8 @@ use Rattle.lock_free.specs.Loading.{Moment, now, seen, IsAt, IsSound}
 use Rattle.lock_free.specs.OfferWords.{IsAtComplete, TellsCarried, TookUnmarked, HasCompleted, has_completed, outcome_by, carried_by}
 use Rattle.lock_free.specs.Places.{words_of}
 use Rattle.lock_free.specs.Roots.{open_with, carried_out, IsItsTry}
-use Rattle.lock_free.specs.Rules.{IsSeat, IsKept, IsRuled}
+use Rattle.lock_free.specs.Shadows.{IsShadowed}
+use Rattle.lock_free.specs.Rules.{IsSeat, IsKept}
 use Rattle.lock_free.proofs.AbortStep.{known_there, offer_apart}
 use Rattle.lock_free.proofs.Exchanged.{words_then, words_hit, missed, sound_by}
 use Rattle.lock_free.proofs.Fates.{settled_decides, settled_still}
@@ -43,8 +44,9 @@ use Rattle.lock_free.proofs.Settled.{all_then}
 use Rattle.lock_free.proofs.SettleHolds.{settle_kept}
 use Rattle.lock_free.proofs.Stood.{stands_there, stands_no_more}
 use Rattle.lock_free.proofs.Lettings.{TakesNone}
+use Rattle.lock_free.specs.Parting.{IsMet}
 
-module _ (v : View) (k : Known) (main : Ref) (known : Contains v.account.offers k) (p : IsAt v (act.Complete k.offer main)) (on : k.handle ≡ handle_of p.operation.call) (expected : Bool)
+module _ (v : View) (k : Known) (main : Ref) (known : IsMet v.account v.pin k) (p : IsAt v (act.Complete k.offer main)) (on : k.handle ≡ handle_of p.operation.call) (expected : Bool)
     (test : IsUnsettled v.sizes v.account k → (main == k.offer.expected) ≡ expected) where
   abbrev does : Action
   does = act.Complete k.offer main
@@ -146,9 +148,9 @@ module _ (v : View) (k : Known) (main : Ref) (known : Contains v.account.offers 
           or_false false = refl
 
 pub complete_allowed : (sizes : Sizes) (size id : ℕ) (me : Me Call View) (some_seats : 1 ≤ me.0.sizes.seats) (slot : ℕ) (expected : Bool) → IsAtComplete me.0 slot expected →
-    Allows (IsRuled sizes) size id me (2 * slot) (λ n. either (n == 0) (outcome_by expected) n) (has_completed (step size (2 * slot) 0 (outcome_by expected) none) me)
+    Allows (IsShadowed sizes) size id me (2 * slot) (λ n. either (n == 0) (outcome_by expected) n) (has_completed (step size (2 * slot) 0 (outcome_by expected) none) me)
 complete_allowed sizes size id me some_seats slot expected a =
-    subst (λ n. Allows (IsRuled sizes) size id me (2 * n) (λ x. either (x == 0) (outcome_by expected) x) (has_completed (step size (2 * n) 0 (outcome_by expected) none) me)) a.place
+    subst (λ n. Allows (IsShadowed sizes) size id me (2 * n) (λ x. either (x == 0) (outcome_by expected) x) (has_completed (step size (2 * n) 0 (outcome_by expected) none) me)) a.place
     (allowed sizes size id me (2 * a.its.slot) (λ n. either (n == 0) (outcome_by expected) n) (has_completed (step size (2 * a.its.slot) 0 (outcome_by expected) none) me)
     some_seats (λ s kept at. inl (offer_apart me.0 s kept id at a.its a.here))
     (λ s kept at. (let x = leaves me.0 a.its a.main a.here a.acts a.on expected a.test s kept id at in

@@ -1,5 +1,5 @@
 -- A COMPLETE goes on from its READ, whichever line that is on, and comes to its end.
-use Rattle.std.proofs.Common.{◌≡◌, ◌==◌, ℕ, Bool, inl, inr, Contains, Some, refl, sym, ap, subst, ◌∙◌, eq-eqb, ne_eqb}
+use Rattle.std.proofs.Common.{◌≡◌, ◌==◌, ℕ, Bool, inl, inr, Some, refl, sym, ap, subst, ◌∙◌, eq-eqb, ne_eqb}
 use Rattle.std.proofs.lemmas.Bool.{cases_eq}
 use Rattle.std.proofs.lemmas.List.Elements.{Contains-append_left}
 use Rattle.machine_model.specs.Beneath.slot_arena.specs.declared.refs.Ref.{Ref}
@@ -34,8 +34,9 @@ use Rattle.lock_free.specs.RootWords.{HasSeenOlds, KnowsOffer, SaysOlds}
 use Rattle.lock_free.proofs.Comings.{come_on, saw_come, saw_runs}
 use Rattle.lock_free.proofs.CompleteLines.{completing_acts, completing_given, completing_holds, completing_reads, completing_reading, swap_holds}
 use Rattle.lock_free.proofs.Laters.{later_both, placed_later, saw_later}
-use Rattle.lock_free.proofs.OffersLater.{offer_later}
+use Rattle.lock_free.proofs.OffersLater.{offer_later, met_later}
 use Rattle.lock_free.proofs.OnePass.{from_reading, from_then, line_from}
+use Rattle.lock_free.specs.Parting.{IsMet}
 
 module _ (n : ℕ) (v1 : View) (sound1 : IsSound n v1) (handle : ℕ) (s : Completing) (c : IsCompleteOf v1 handle s) where
   abbrev its : Known
@@ -82,10 +83,10 @@ module _ (n : ℕ) (v1 : View) (sound1 : IsSound n v1) (handle : ℕ) (s : Compl
     abbrev main : Ref
     main = gives.main
 
-    here2 : Contains v2.account.offers its
-    here2 = gives.come.later.offers its c.its.here
+    here2 : IsMet v2.account v2.pin its
+    here2 = met_later v1 v2 gives.come.later its c.its.here
 
-    offer2 : HasOffer v2.sizes v2.account handle s.offer
+    offer2 : HasOffer v2.sizes v2.account v2.pin handle s.offer
     offer2 = offer_later v1 v2 gives.come.later handle s.offer c.its
 
     pub known2 : KnowsOffer v2 s.offer
@@ -153,7 +154,7 @@ module _ (n : ℕ) (v1 : View) (sound1 : IsSound n v1) (handle : ℕ) (s : Compl
       completing3 = record {
         its = its;
         main = main;
-        here = later3.offers its here2;
+        here = met_later v2 v3 later3 its here2;
         place = c.its.place;
         acts = acts3;
         on = c.its.on ∙ sym c.on;

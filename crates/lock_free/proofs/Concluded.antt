@@ -36,7 +36,8 @@ use Rattle.lock_free.specs.Outcomes.{ArePlaced, HasConcluded, IsConcluded, IsCon
 use Rattle.lock_free.specs.Owing.{owes_then, owing}
 use Rattle.lock_free.specs.Places.{words_of}
 use Rattle.lock_free.specs.Reclaiming.{retiring_all}
-use Rattle.lock_free.specs.Rules.{AreEpochs, AreOwed, AreRetired, IsKept, IsRetired, IsRuled}
+use Rattle.lock_free.specs.Shadows.{IsShadowed}
+use Rattle.lock_free.specs.Rules.{AreEpochs, AreOwed, AreRetired, IsKept, IsRetired}
 use Rattle.lock_free.proofs.AbortStep.{offer_apart}
 use Rattle.lock_free.proofs.AllowedRetiring.{allowed_retiring}
 use Rattle.lock_free.proofs.ClaimsThere.{often_has}
@@ -350,9 +351,9 @@ module _ (v : View) (slot : ℕ) (expected : Bool) (a : IsConcluding v slot expe
   }
 
 pub conclude_allowed : (sizes : Sizes) (size id : ℕ) (me : Me Call View) (some_seats : 1 ≤ me.0.sizes.seats) (slot : ℕ) (expected : Bool) → IsConcluding me.0 slot expected →
-    Allows (IsRuled sizes) size id me (2 * slot) (λ n. either (n == 0) (outcome_by expected) n) (has_concluded (step size (2 * slot) 0 (outcome_by expected) none) me)
+    Allows (IsShadowed sizes) size id me (2 * slot) (λ n. either (n == 0) (outcome_by expected) n) (has_concluded (step size (2 * slot) 0 (outcome_by expected) none) me)
 conclude_allowed sizes size id me some_seats slot expected a =
-    subst (λ n. Allows (IsRuled sizes) size id me (2 * n) (λ x. either (x == 0) (outcome_by expected) x) (has_concluded (step size (2 * n) 0 (outcome_by expected) none) me)) a.at.place
+    subst (λ n. Allows (IsShadowed sizes) size id me (2 * n) (λ x. either (x == 0) (outcome_by expected) x) (has_concluded (step size (2 * n) 0 (outcome_by expected) none) me)) a.at.place
     (allowed_retiring sizes size id me (2 * a.at.its.slot) (λ n. either (n == 0) (outcome_by expected) n) (has_concluded (step size (2 * a.at.its.slot) 0 (outcome_by expected) none) me)
     some_seats (λ s kept at. inl (offer_apart me.0 s kept id at a.at.its a.at.here))
     (λ s kept at. (let x = leaves me.0 slot expected a s kept id at in (
@@ -360,7 +361,7 @@ conclude_allowed sizes size id me some_seats slot expected a =
       x.0,
       ((λ place other b on same. is_concluded me.0 slot expected a s kept id at place other b same), x.1, refl),
     )))
-    (λ s kept at. (record { actor = refl; epoch = refl; passed = refl; pinned = λ p same. same }, refl, refl, λ x has. Contains-append_left me.0.retired _ x has))
+    (λ s kept at. (record { actor = refl; epoch = refl; passed = refl; glance = refl; pinned = λ p same. same }, refl, refl, λ x has. Contains-append_left me.0.retired _ x has))
     (λ s kept at. retires me.0 slot expected a s kept id at) (λ s kept at. owed_then me.0 slot expected a s kept id at))
 
 -- what the seat is told

@@ -25,7 +25,7 @@ use Rattle.lock_free.specs.Loading.{now, Holds, IsAt, IsUsed}
 use Rattle.lock_free.specs.Owing.{names_made, IsTakenOver}
 use Rattle.lock_free.specs.Raising.{IsShared, MayHold, MayRaise}
 use Rattle.lock_free.specs.SeenEntries.{AreEntriesTo}
-use Rattle.lock_free.proofs.Moments.{entry_named}
+use Rattle.lock_free.proofs.LastingNodes.{entry_named}
 use Rattle.lock_free.proofs.OnLines.{line_is}
 
 module _ (v : View) (l : Line) (at : IsOn v l) (i main : Ref) (goes : goal_of l ≡ Some (i, main)) (name : Name) (names : IsNamed v i main name)

@@ -21,7 +21,7 @@ use Rattle.lock_free.specs.RootWords.{HasSeenNews, SaysNews}
 use Rattle.lock_free.specs.Stocks.{made_of, own_nodes, IsStock, Stocked}
 use Rattle.lock_free.proofs.Comings.{saw_runs}
 use Rattle.lock_free.proofs.Laters.{later_both, saw_later}
-use Rattle.lock_free.proofs.Moments.{place_stays}
+use Rattle.lock_free.proofs.LastingNodes.{place_stays}
 use Rattle.lock_free.proofs.StockStays.{stock_later}
 
 -- what a seat has retired says nothing of what it has seen
@@ -72,12 +72,6 @@ module _ (n : ℕ) (x : View) (sound : IsSound n x) (stock : Stocked) (slot : �
           let place : roots.high ≡ place_of x.account r = sym (says.second r e).1 ∙ place_same r its in
           ((refl, sym place, refl), λ none. (left.made r its).1 (sym place ∙ none))
 
-  sizes_same : y.sizes ≡ x.sizes
-  sizes_same = ap (λ (v : View). v.sizes) saw.after_is
-
-  pub its_sizes : stock.sizes ≡ y.sizes
-  its_sizes = left.holds.sizes ∙ sym sizes_same
-
   stock_then : IsStock stock (having_retired y left.rest)
   stock_then =
       let before = having_retired x left.rest in
@@ -106,9 +100,6 @@ module _ (n : ℕ) (x : View) (sound : IsSound n x) (stock : Stocked) (slot : �
           ∙ subst (λ (v : View). stock.made ≡ map (made_of v) (own_nodes v)) (sym hung.is) stock_then.made;
       limbo = limbo;
     }
-
-    pub roots_hung : HasHungRoots x z
-    roots_hung = record { at = y; saw = saw; hung = hung }
 
 -- ---- a copy whose offer was taken back
 

@@ -16,9 +16,9 @@ use Rattle.lock_free.specs.declared.parking.Parked.TheVariants as parked
 use Rattle.lock_free.specs.declared.reading.Way.{Way}
 use Rattle.lock_free.specs.declared.rules.View.{View}
 use Rattle.lock_free.specs.Calling.{HasCalled}
-use Rattle.lock_free.specs.CopySteps.{as_before, copied_line, copy_kind, HasCopied, HasLeftCopy, HasMadeCopy, HasSettledCopy, IsAtTry, IsCopying, IsOwnCompleting, IsToOpenAll, LeavesCopy}
+use Rattle.lock_free.specs.CopySteps.{as_before, copied_line, copy_kind, HasCopied, HasLeftCopy, HasMadeCopy, HasSettledCopy, IsAtTry, IsCopying, IsOwnCompleting, LeavesCopy, is_snapshot}
 use Rattle.lock_free.specs.Holding.{IsOn}
-use Rattle.lock_free.specs.Loading.{IsSound, Runs, Saw}
+use Rattle.lock_free.specs.Loading.{Runs}
 use Rattle.lock_free.specs.Parking.{HasRunTo, IsCopyLeft, IsToOpenAs}
 use Rattle.lock_free.specs.Passing.{IsOnWay}
 use Rattle.lock_free.specs.RunningOn.{RunsOn}
@@ -27,20 +27,18 @@ use Rattle.lock_free.specs.WholeCalls.{RestsWith}
 use Rattle.lock_free.proofs.CallBegins.{first, opens_begun, runs_first}
 use Rattle.lock_free.proofs.CallNumbers.{opens_first}
 use Rattle.lock_free.proofs.CallsRunOn.{copied_runs_on, copy_full}
-use Rattle.lock_free.proofs.Comings.{runs_one, saw_runs}
-use Rattle.lock_free.proofs.Laters.{saw_later}
+use Rattle.lock_free.proofs.Comings.{runs_one}
 use Rattle.lock_free.proofs.OwingLater.{still_as}
 use Rattle.lock_free.proofs.RunningOn.{still_both, still_later}
+use Rattle.lock_free.specs.OwnOffers.{IsOwnCopy, HasMovedOn}
+use Rattle.lock_free.proofs.MovedOn.{moved_still}
 
 -- ---- its own offer is settled
 
-pub settled_by : (u v : View) (done : Bool) → HasCopied u done v → HasSettledCopy u done v
-settled_by u v done h = record { still = still_as u v (still_later u (as_before u v) h.moved.later); comes = h.moved.comes }
-
-pub settled_saw : (n : ℕ) (u v : View) → IsSound n v → (done : Bool) → HasCopied u done v → (w : View) → Saw v w → HasSettledCopy u done w
-settled_saw n u v sound done h w saw = record {
-  still = still_both u v w (still_as u v (still_later u (as_before u v) h.moved.later)) (still_later v w (saw_later n v sound w saw));
-  comes = λ q r. saw_runs v w saw (record q { line = copied_line done q }) (h.moved.comes q r);
+pub settled_moved : (u v : View) (done : Bool) → HasCopied u done v → (w : View) → HasMovedOn v w → HasSettledCopy u done w
+settled_moved u v done h w moved = record {
+  still = still_both u v w (still_as u v (still_later u (as_before u v) h.moved.later)) (moved_still v w moved);
+  comes = λ q r. moved.runs (record q { line = copied_line done q }) (h.moved.comes q r);
 }
 
 -- ---- what it comes to
@@ -82,7 +80,7 @@ module _ (v : View) (o : Operation) (r : Runs v o) (call : Call) (its : o.call �
           is = l.is;
           copies = ap copies call_is ∙ copier;
           number = opens_is ∙ number;
-          opening = subst (λ z. IsToOpenAll w z opens s.offer) (kind ∙ ap copy_kind (sym its) ∙ ap copy_kind (sym call_is)) l.opening;
+          own = subst (λ z. IsOwnCopy w handle s.offer opens (is_snapshot z)) (kind ∙ ap copy_kind (sym its) ∙ ap copy_kind (sym call_is)) l.own;
         },
       )
 
@@ -95,8 +93,10 @@ module _ (v : View) (s : Completing) (opens : Option ℕ) (p : IsCopyLeft v s op
   pub its_completing : (handle : ℕ) → handle ≡ handle_of call → IsOwnCompleting v handle s
   its_completing handle is = subst (λ h. IsOwnCompleting v h s) (sym p.is.on ∙ ap handle_of its_call ∙ sym is) p.is
 
-  pub its_opening : (k : CopyKind) → k ≡ copy_kind call → IsToOpenAll v k opens s.offer
-  its_opening k is = subst (λ z. IsToOpenAll v z opens s.offer) (ap copy_kind its_call ∙ sym is) p.opening
+  pub its_copy : (k : CopyKind) → k ≡ copy_kind call → (handle : ℕ) → handle ≡ handle_of call → IsOwnCopy v handle s.offer opens (is_snapshot k)
+  its_copy k is handle on =
+      subst (λ z. IsOwnCopy v handle s.offer opens (is_snapshot z)) (ap copy_kind its_call ∙ sym is)
+      (subst (λ h. IsOwnCopy v h s.offer opens (is_snapshot (copy_kind p.is.at.0.call))) (sym p.is.on ∙ ap handle_of its_call ∙ sym on) p.own)
 
 -- ---- it begins
 

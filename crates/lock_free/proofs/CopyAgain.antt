@@ -165,5 +165,5 @@ module _ (u v : View) (at : IsAtTry u) (h : HasComeTo (λ o. new_try) u v) where
         on = runs_on_both u w x
             (record { still = still_w; runs = λ q s. (let y = comes_to_read q s in (tried_on y.0 y.1 (Some given.generation) (root_line q) q, y.2, refl)) }) l.on;
         is = l.is;
-        opening = l.opening;
+        own = l.own;
       }

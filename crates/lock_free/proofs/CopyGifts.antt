@@ -52,8 +52,8 @@ use Rattle.lock_free.proofs.EntryRaises.{kept_both, kept_owed, one_less_of, one_
 use Rattle.lock_free.proofs.GivenBack.{node_is}
 use Rattle.lock_free.proofs.Laters.{saw_later, waited_later}
 use Rattle.lock_free.proofs.MainClasses.{header_class}
-use Rattle.lock_free.proofs.OffersLater.{settled_later}
-use Rattle.lock_free.proofs.OfferStep.{refs_at_hand}
+use Rattle.lock_free.proofs.OffersLater.{settled_later, met_later}
+use Rattle.lock_free.proofs.OfferRefs.{refs_at_hand}
 use Rattle.lock_free.proofs.OneStep.Found.{slot_at}
 use Rattle.lock_free.proofs.OnLines.{line_is}
 use Rattle.lock_free.proofs.Waiting.{saw_both}
@@ -69,7 +69,7 @@ module _ (n : ℕ) (v : View) (sound : IsSound n v) (slot : ℕ) (expected : Boo
       record {
         its = at.its;
         main = at.main;
-        here = later.offers at.its at.here;
+        here = met_later v (seen v account) later at.its at.here;
         place = at.place;
         acts = record { operation = record at.acts.operation { is_marked = there.0 }; runs = there.1; acts = there.2 ∙ at.acts.acts };
         on = at.on;
@@ -308,6 +308,3 @@ pub main_some : (which : CopyKind) (k : Ref) → 1 ≤ how_often k (main_given w
 main_some kind.Clear k = let e = often_first k [] in omega (arith, e)
 main_some kind.Snapshot k = let e = often_first k (k ∷ []) in omega (arith, e)
 main_some kind.Freeze k = let e = often_first k [] in omega (arith, e)
-
-pub none_gone : (v : View) → HasReleasedAll v [] v
-none_gone v = record { kept = record { is = refl }; all = λ j. omega arith }

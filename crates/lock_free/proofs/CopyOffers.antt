@@ -10,11 +10,13 @@ use Rattle.machine_model.specs.declared.lines.Line.TheVariants as line
 use Rattle.machine_model.specs.declared.operations.Operation.{Operation}
 use Rattle.machine_model.specs.declared.roots.Descriptor.{Descriptor}
 use Rattle.lock_free.specs.declared.copy_roots.CopyKind.{CopyKind}
+use Rattle.lock_free.specs.declared.copy_roots.CopyKind.TheVariants as kind
+use Rattle.history.specs.declared.replies.Reply.TheVariants as reply
 use Rattle.lock_free.specs.declared.copy_roots.NewRoots.{NewRoots as Roots}
 use Rattle.lock_free.specs.declared.rules.Pool.{Pool}
 use Rattle.lock_free.specs.declared.rules.View.{View}
 use Rattle.lock_free.specs.Accounts.{place_of}
-use Rattle.lock_free.specs.CopySteps.{IsCopying, IsReady, IsSecond, HasDraftedOffer, HasNewRoots, HasPrepared, HasStopped}
+use Rattle.lock_free.specs.CopySteps.{IsCopying, IsReady, IsSecond, HasDraftedOffer, HasNewRoots, HasPrepared, HasStopped, given_line}
 use Rattle.lock_free.specs.Loading.{IsAt, Runs}
 use Rattle.lock_free.specs.Numbers.{IsNaming, naming}
 use Rattle.lock_free.specs.Roots.{second_of, undecided}
@@ -22,7 +24,9 @@ use Rattle.lock_free.specs.Rules.{IsFree, pool_of}
 use Rattle.lock_free.specs.RunningOn.{IsStill}
 use Rattle.lock_free.specs.Stocks.{HasSlot}
 use Rattle.lock_free.proofs.Followings.{placed_on}
-use Rattle.lock_free.proofs.RunningOn.{still_follows, still_with}
+use Rattle.lock_free.proofs.RunningOn.{still_follows, still_with, still_self}
+use Rattle.machine_model.specs.GivingUp.{copy_given_up}
+use Rattle.lock_free.proofs.CopyReads.{copy_line}
 
 -- the operation's next offer
 abbrev offer_of : Operation → Ref → Ref → Ref → Option Ref → Descriptor
@@ -84,7 +88,22 @@ module _ (u : View) (k : CopyKind) (handle : ℕ) (opens : Option ℕ) (c : IsCo
     at_offer = record { operation = record offering_it { is_marked = its_run.0 }; runs = its_run.1; acts = refl }
 
     still_e : IsStill u e
-    still_e = still_with u e e (ap (λ (x : View). record x { pool = pool; drafts = drafts; opening = opening }) made.follows.is) made.follows.goes_on
+    still_e =
+        still_with u e e
+        (subst (λ o. e ≡
+        record u {
+          account = e.account;
+          epoch = e.epoch;
+          passed = e.passed;
+          pool = e.pool;
+          drafts = e.drafts;
+          opening = e.opening;
+          offer = o;
+          retired = e.retired;
+          owed = e.owed;
+          links = e.links;
+        }) (sym (ap (λ (x : View). x.offer) made.follows.is))
+        (ap (λ (x : View). record x { pool = pool; drafts = drafts; opening = opening }) made.follows.is)) made.follows.goes_on
 
     prepared : HasPrepared u k opens handle root_name slot e
     unfolding at_offer
@@ -155,3 +174,15 @@ drafted_only v w is = is ∙ ap (λ (x : View). record v { drafts = w.drafts; op
 
 pub named_only : (v w : View) (slot : ℕ) → w ≡ naming v slot → w ≡ record v { drafts = w.drafts; opens = w.opens; opening = w.opening }
 named_only v w slot is = is ∙ ap (λ (x : View). record v { drafts = x.drafts; opens = x.opens; opening = x.opening }) (sym is)
+
+-- where it has made nothing yet
+pub stopped_ready : (v : View) (k : CopyKind) (root_name main_name class : ℕ) → IsReady v k root_name main_name class → HasStopped v v
+stopped_ready v k root_name main_name class (root, main, at, main_placed, root_placed) = record {
+  still = still_self v;
+  stops = λ q s. (q.private, given_line k root main, subst (λ l. Runs v (record q { line = l })) (copy_line v (given_line k root main) at q s) s, full k);
+}
+  where
+    full : (which : CopyKind) → copy_given_up (given_line which root main) ≡ Some reply.NoSlots
+    full kind.Clear = refl
+    full kind.Snapshot = refl
+    full kind.Freeze = refl

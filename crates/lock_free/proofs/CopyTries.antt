@@ -1,9 +1,10 @@
 -- A try of a copy, from the root that it reads to what comes of its offer.
-use Rattle.std.proofs.Common.{◌≡◌, ◌+◌, ◌*◌, ◌≤◌, ◌++◌, ◌∷◌, ℕ, Bool, true, false, List, [], Contains, Option, Some, map, refl, sym, ap, subst, ◌∙◌, arith}
+use Rattle.std.proofs.Common.{◌≡◌, ◌+◌, ◌*◌, ◌≤◌, ◌++◌, ◌∷◌, ℕ, Bool, true, false, List, [], Contains, Option, None, Some, map, refl, sym, ap, subst, ◌∙◌, arith, is_some, ◌<◌}
 use Rattle.std.proofs.lemmas.List.Elements.{Contains-push}
 use Rattle.machine_model.specs.Beneath.slot_arena.specs.declared.refs.Ref.{Ref}
 use Rattle.machine_model.specs.declared.actions.Action.TheVariants as act
 use Rattle.machine_model.specs.declared.copying.CopyLine.TheVariants as copy
+use Rattle.std.proofs.lemmas.Option.{none-some}
 use Rattle.machine_model.specs.declared.lines.Line.{Line}
 use Rattle.machine_model.specs.declared.lines.Line.TheVariants as line
 use Rattle.machine_model.specs.declared.operations.Operation.{Operation}
@@ -20,20 +21,23 @@ use Rattle.lock_free.specs.declared.reading.Given.{Given}
 use Rattle.lock_free.specs.declared.reading.Way.{Way}
 use Rattle.lock_free.specs.declared.rules.View.{View}
 use Rattle.lock_free.specs.CopySteps.{HasCopied, HasOriginal, HasPrepared, HasReadOriginal, HasStopped, HasTried, IsAtOriginal, IsCopying, IsKind}
-use Rattle.lock_free.specs.CopySteps.{IsReady, IsToComplete, IsToOpenAll, copied_on, copy_kind, given_line, is_snapshot}
-use Rattle.lock_free.specs.Exchanging.{given_up}
+use Rattle.lock_free.specs.CopySteps.{IsReady, IsToComplete, copied_on, copy_kind, given_line, is_snapshot}
+use Rattle.lock_free.specs.declared.stock.OwnNode.{OwnNode}
+use Rattle.lock_free.specs.Freeing.{HasLetGo}
+use Rattle.lock_free.specs.GivingUp.{given_up, HasDropped}
+use Rattle.lock_free.specs.LettingMadeGo.{MayLetMadeGo}
 use Rattle.lock_free.specs.Classes.{shape_class}
 use Rattle.lock_free.specs.Loading.{now, seen, IsAt, IsSound, Runs, Saw, Waited}
 use Rattle.lock_free.specs.Nodes.{class_of}
 use Rattle.lock_free.specs.Making.{with_slots}
-use Rattle.lock_free.specs.Offering.{known_at, offered_by}
-use Rattle.lock_free.specs.Passing.{IsOnWay}
+use Rattle.lock_free.specs.Offering.{known_at, offered_by, own_offer}
+use Rattle.lock_free.specs.Passing.{IsOnWay, HasCome}
 use Rattle.lock_free.specs.Places.{words_in, words_of}
 use Rattle.lock_free.specs.RootOffers.{HasMissed, HasOffered, TookOffer}
-use Rattle.lock_free.specs.RootWords.{IsToOpen}
 use Rattle.lock_free.specs.Roots.{IsItsTry}
 use Rattle.lock_free.specs.Rules.{pool_of}
 use Rattle.lock_free.specs.RunningOn.{IsStill}
+use Rattle.lock_free.specs.declared.reclaiming.Kind.TheVariants as kinds
 use Rattle.lock_free.specs.Stocks.{Stocked, IsStock, NotesLast, made_of, own_nodes, own_of, put_back}
 use Rattle.lock_free.specs.Limbos.{hanging_of}
 use Rattle.lock_free.proofs.LimboStays.{limbo_so}
@@ -46,8 +50,8 @@ use Rattle.lock_free.proofs.MainClasses.{class_known}
 use Rattle.lock_free.proofs.NewNodes.{all_made_same, own_used}
 use Rattle.lock_free.proofs.OfferMisses.{same_offer}
 use Rattle.lock_free.proofs.OwingLater.{still_as}
-use Rattle.lock_free.proofs.Pools.{first_there}
-use Rattle.lock_free.proofs.RunningOn.{still_both, still_later, still_with}
+use Rattle.lock_free.proofs.FreesOn.{let_go_becomes}
+use Rattle.lock_free.proofs.RunningOn.{still_both, still_follows, still_later, still_with, runs_on_both}
 use Rattle.lock_free.proofs.StockStays.{stock_later, stock_moved}
 use Rattle.lock_free.proofs.SwapsMade.{back_is}
 use Rattle.machine_model.specs.declared.reading.After.TheVariants.{Goes}
@@ -55,10 +59,12 @@ use Rattle.machine_model.specs.Reading.{reading}
 use Rattle.lock_free.specs.declared.leaving.Completing.{Completing}
 use Rattle.lock_free.specs.CopySteps.{as_before, HasCopiedOn, LeavesCopy}
 use Rattle.lock_free.specs.OfReads.{at_line, on_read, read_to}
-use Rattle.lock_free.specs.Passing.{HasCome}
 use Rattle.machine_model.specs.declared.reading.ReadLine.{ReadLine}
 use Rattle.lock_free.proofs.CopyReads.{copy_line}
-use Rattle.lock_free.proofs.RunningOn.{runs_on_both}
+use Rattle.lock_free.proofs.MovedOn.{copy_stays, moved_still}
+use Rattle.lock_free.specs.OwnOffers.{HasMovedOn, IsOwnCopy}
+use Rattle.lock_free.specs.declared.accounts.Known.{Known}
+use Rattle.lock_free.specs.HandleWords.{HasOffer}
 
 -- ---- the root is read
 
@@ -175,7 +181,19 @@ module _ (n : ℕ) (u : View) (sound : IsSound n u) (k : CopyKind) (handle : ℕ
 
     -- by its step the seat stays what it was
     still_step : (x : View) (account : Account) → Waited w account → (y : View) →
-        x ≡ record w { account = y.account; epoch = y.epoch; passed = y.passed; pool = y.pool; drafts = y.drafts; opening = y.opening; retired = y.retired; owed = y.owed; links = y.links } →
+        x ≡ record w {
+          account = y.account;
+          epoch = y.epoch;
+          passed = y.passed;
+          pool = y.pool;
+          drafts = y.drafts;
+          opening = y.opening;
+          offer = y.offer;
+          retired = y.retired;
+          owed = y.owed;
+          links =
+              y.links;
+        } →
         y.account.steps ≡ account.steps ++ step.Go w.actor ∷ [] → IsStill u x
     still_step x account waited y is more =
         still_both u w x still_w
@@ -190,29 +208,42 @@ module _ (n : ℕ) (u : View) (sound : IsSound n u) (k : CopyKind) (handle : ℕ
       abbrev mine : IsOffering o
       mine = is_offering o at.1.1
 
-      given_back_so : x ≡ given_up w account mine.private
-      given_back_so = missed.2 (record o { private = mine.private; line = line.Copy (copy.Offer offer) }) mine.runs
+      missed_so : (x ≡ given_up w account mine.private x.drafts) × HasDropped (seen w account) mine.private (line.Copy (copy.Offer offer)) x
+      missed_so = missed.2 (record o { private = mine.private; line = line.Copy (copy.Offer offer) }) mine.runs
 
-      pub missed_tried : HasTried u false x
-      missed_tried = record {
-        still = still_step x account missed.1.0 (given_up w account mine.private) given_back_so refl;
-        comes = took_so x false account missed.1;
+      -- and its seat has let go of what it held by that
+      pub missed_tried : (y : View) → HasLetGo x y → HasTried u false y
+      missed_tried y let_go =
+          let rests = let_go_becomes x y let_go in
+          record {
+            still = still_both u x y (still_step x account missed.1.0 (given_up w account mine.private x.drafts) missed_so.0 refl) (still_follows x y rests.follows);
+            comes = λ q s. rests.comes (record q { private = []; attempt = q.attempt + 1; line = after_offer offer false }) (took_so x false account missed.1 q s);
+          }
+
+      same_made : map (made_of (seen w account)) mine.private ≡ map (made_of w) mine.private
+      same_made =
+          all_made_same w (seen w account) (follows_later w (seen w account) (waited_later n w sound_w account missed.1.0)) mine.private
+          (own_used n w sound_w (record o { private = mine.private; line = line.Copy (copy.Offer offer); is_marked = mine.runs.0 }) mine.runs.1)
+
+      pub missed_may : (stock : Stocked) → IsStock stock w → (made : List OwnNode) → made ≡ stock.made → MayLetMadeGo x made None []
+      missed_may stock is made same = record {
+        before = seen w account;
+        private = mine.private;
+        on = line.Copy (copy.Offer offer);
+        made_is = same ∙ is.made ∙ ap (λ z. map (made_of w) (own_of z)) mine.runs.1 ∙ sym same_made;
+        dropped = missed_so.1;
+        covers = λ z k c e named apart. absurd (none-some _ e);
       }
 
       pub missed_stock : (stock next : Stocked) → IsStock stock w → next.sizes ≡ stock.sizes → next.pool ≡ put_back stock.made stock.pool → next.made ≡ [] →
           next.limbo ≡ stock.limbo → IsStock next x
       missed_stock stock next is sizes pool none limbo = record {
-        sizes = sizes ∙ is.sizes ∙ ap (λ (z : View). z.sizes) (sym given_back_so);
-        pool = pool ∙ ap (put_back stock.made) is.pool ∙ ap (λ ms. put_back ms w.pool) (is.made ∙ ap (λ z. map (made_of w) (own_of z)) mine.runs.1 ∙ sym same)
-            ∙ back_is w account mine.private w.pool ∙ ap (λ (z : View). z.pool) (sym given_back_so);
+        sizes = sizes ∙ is.sizes ∙ ap (λ (z : View). z.sizes) (sym missed_so.0);
+        pool = pool ∙ ap (put_back stock.made) is.pool ∙ ap (λ ms. put_back ms w.pool) (is.made ∙ ap (λ z. map (made_of w) (own_of z)) mine.runs.1 ∙ sym same_made)
+            ∙ back_is w account mine.private w.pool ∙ ap (λ (z : View). z.pool) (sym missed_so.0);
         made = none ∙ ap (map (made_of x)) (sym (none_own x false account missed.1));
-        limbo = limbo_so stock next w x is limbo (ap hanging_of given_back_so);
+        limbo = limbo_so stock next w x is limbo (ap hanging_of missed_so.0);
       }
-        where
-          same : map (made_of (seen w account)) mine.private ≡ map (made_of w) mine.private
-          same =
-              all_made_same w (seen w account) (follows_later w (seen w account) (waited_later n w sound_w account missed.1.0)) mine.private
-              (own_used n w sound_w (record o { private = mine.private; line = line.Copy (copy.Offer offer); is_marked = mine.runs.0 }) mine.runs.1)
 
     -- ---- it stands
 
@@ -233,14 +264,14 @@ module _ (n : ℕ) (u : View) (sound : IsSound n u) (k : CopyKind) (handle : ℕ
           stock_later n w x sound_w q p.runs stock is (saw_later n w sound_w x saw) q (saw_runs w x saw q p.runs) refl
 
     module _ (sound_w : IsSound n w) (x : View) (stands : HasOffered w slot x) where
-      abbrev then : Account
-      then = stands.0
+      abbrev there : Account
+      there = stands.0
 
       abbrev rest : List ℕ
       rest = ready.offers.1
 
       abbrev stood : View
-      stood = offered_by w slot (handle_of its.operation.call) rest offer then
+      stood = offered_by w slot (handle_of its.operation.call) rest offer there
 
       stood_so : x ≡ stood
       stood_so = stands.2 offer its rest ready.offers.3.last
@@ -249,42 +280,43 @@ module _ (n : ℕ) (u : View) (sound : IsSound n u) (k : CopyKind) (handle : ℕ
       completes q = record q { private = []; attempt = q.attempt + 1; line = line.Copy (copy.Complete (completing offer)) }
 
       completing_it : (q : Operation) → Runs u q → Runs x (completes q)
-      completing_it q s = took_so x true then stands.1 q s
+      completing_it q s = took_so x true there stands.1 q s
+
+      abbrev known : Known
+      known = known_at w.actor slot (handle_of its.operation.call) offer
+
+      -- it is its own, and to be parted once it is settled
+      abbrev its_offer : HasOffer x.sizes x.account x.pin handle slot
+      its_offer =
+          let free = sound_w.free 1 slot (omega arith, subst (λ xs. Contains xs slot) (sym ready.offers.3.last) (Contains-push rest slot)) in
+          record {
+            its = known;
+            here = (stands.3 offer its).0;
+            place = refl;
+            on = ready.offers.4;
+            inside = subst (λ (y : View). 2 * slot + words_in 1 ≤ words_of y.sizes) (sym stood_so) free;
+          }
 
       pub to_complete : IsToComplete x handle slot
-      to_complete =
-          let free = sound_w.free 1 slot (omega arith, subst (λ xs. Contains xs slot) (sym ready.offers.3.last) (Contains-push rest slot)) in
-          subst (λ y. IsToComplete y handle slot) (sym stood_so)
-          (record {
-            its = record {
-              its = known_at slot (handle_of its.operation.call) offer;
-              here = first_there (known_at slot (handle_of its.operation.call) offer) then.offers;
-              place = refl;
-              on = ready.offers.4;
-              inside = free;
-            };
-            at = (completes o, subst (λ y. Runs y (completes o)) stood_so (completing_it o at.1.1), refl);
-            on = (c.on o at.1.1).0;
-            its_try = record { its = (is_offering o at.1.1).its_try.its; now = (is_offering o at.1.1).its_try.now };
-          })
+      to_complete = record {
+        its = its_offer;
+        at = (completes o, completing_it o at.1.1, refl);
+        on = (c.on o at.1.1).0;
+        its_try = record { its = (is_offering o at.1.1).its_try.its; now = (is_offering o at.1.1).its_try.now };
+      }
 
       pub kind_then : IsKind x k
       kind_then q s = ap (λ (z : Operation). copy_kind z.call) (runs_one x q (completes o) s (completing_it o at.1.1)) ∙ c.which o at.1.1
 
-      -- what it opens, once it is carried out
-      to_open : (number : ℕ) → opens ≡ Some number → IsToOpen x number slot (is_snapshot k)
-      to_open number is =
-          let free = sound_w.free 1 slot (omega arith, subst (λ xs. Contains xs slot) (sym ready.offers.3.last) (Contains-push rest slot)) in
-          subst (λ y. IsToOpen y number slot (is_snapshot k)) (sym stood_so) (
-            record {
-              its = known_at slot (handle_of its.operation.call) offer;
-              here = first_there (known_at slot (handle_of its.operation.call) offer) then.offers;
-              place = refl;
-              opens = ready.opening ∙ is;
-              inside = free;
-            },
-            ready.two,
-          )
+      pub own_copy : IsOwnCopy x handle slot opens (is_snapshot k)
+      own_copy = record {
+        its = its_offer;
+        own = (own_offer known, ap (λ (y : View). y.offer) stood_so, refl, λ none. ap is_some none);
+        its_opens = ready.opening;
+        small = subst (λ n. n < 256) ready.offers.4 (stands.3 offer its).1;
+        low = c.low;
+        second = ready.two;
+      }
 
       pub way_then : (way : Way) → IsOnWay u way → IsOnWay x way
       way_then way on q s =
@@ -292,77 +324,48 @@ module _ (n : ℕ) (u : View) (sound : IsSound n u) (k : CopyKind) (handle : ℕ
           let it = on o at.1.1 in
           (ap (λ (z : Operation). z.access) same ∙ it.0, ap (λ (z : Operation). handle_of z.call) same ∙ it.1)
 
-      pub stock_then : (stock noted next : Stocked) → IsStock stock w → noted.sizes ≡ stock.sizes → NotesLast stock 1 noted → next.sizes ≡ noted.sizes → next.pool ≡ noted.pool → next.made ≡ [] →
-          next.limbo ≡ stock.limbo → IsStock next x
+      pub stock_then : (stock noted next : Stocked) → IsStock stock w → noted.sizes ≡ stock.sizes → NotesLast stock kinds.Replaced 1 noted → next.sizes ≡ noted.sizes → next.pool ≡ noted.pool →
+          next.made ≡ [] → next.limbo ≡ stock.limbo → IsStock next x
       stock_then stock noted next is sizes notes sizes_next pool none limbo = record {
         sizes = sizes_next ∙ sizes ∙ is.sizes ∙ ap (λ (z : View). z.sizes) (sym stood_so);
         pool = pool ∙ (notes rest slot (ap (λ z. pool_of z 1) is.pool ∙ ready.offers.3.last)).0 ∙ ap (λ z. with_slots z 1 rest) is.pool ∙ ap (λ (z : View). z.pool) (sym stood_so);
-        made = none ∙ ap (map (made_of x)) (sym (none_own x true then stands.1));
+        made = none ∙ ap (map (made_of x)) (sym (none_own x true there stands.1));
         limbo = limbo_so stock next w x is limbo (ap hanging_of stood_so);
       }
 
       -- its COMPLETE is under way
       module _ (sound_x : IsSound n x) (next : Completing) (y : View) (h : HasCopiedOn x handle slot next y) where
-        opens_left : IsToOpenAll y k opens slot
-        opens_left number is =
-            let (has, two) = to_open number is in (
-              c.low number is,
-              (
-                record {
-                  its = has.its;
-                  here = h.come.later.offers has.its has.here;
-                  place = has.place;
-                  opens = has.opens;
-                  inside = subst (λ (z : View). 2 * slot + words_in 1 ≤ words_of z.sizes) (sym h.come.later.is) has.inside;
-                },
-                two,
-              ),
-            )
-
         pub left_copy : LeavesCopy u k handle opens next y
         left_copy = record {
-          on = runs_on_both u x y (record { still = still_step x then stands.1.0 stood stood_so refl; runs = λ q s. (completes q, completing_it q s, refl) })
+          on = runs_on_both u x y (record { still = still_step x there stands.1.0 stood stood_so refl; runs = λ q s. (completes q, completing_it q s, refl) })
               (record { still = still_later x y h.come.later; runs = λ q s. (read_to (Goes h.reads) q, h.come.comes q s, refl) });
           is = h.is;
-          opening = subst (IsToOpenAll y k opens) (sym h.same) opens_left;
+          own = subst (λ n. IsOwnCopy y handle n opens (is_snapshot k)) (sym h.same)
+              (copy_stays x y h.come.later handle slot opens (is_snapshot k) own_copy);
         }
 
       -- and is completed
       module _ (sound_x : IsSound n x) (carried : Bool) (y : View) (copied : HasCopied x carried y) where
         pub copied_tried : HasTried u carried y
         copied_tried = record {
-          still = still_both u x y (still_step x then stands.1.0 stood stood_so refl) (still_as x y (still_later x (as_before x y) copied.moved.later));
+          still = still_both u x y (still_step x there stands.1.0 stood stood_so refl) (still_as x y (still_later x (as_before x y) copied.moved.later));
           comes = λ q s. copied.moved.comes (completes q) (completing_it q s);
         }
 
-        pub opens_all : IsToOpenAll y k opens slot
-        opens_all number is =
-            let (has, two) = to_open number is in (
-              c.low number is,
-              (
-                record {
-                  its = has.its;
-                  here = copied.moved.later.offers has.its has.here;
-                  place = has.place;
-                  opens = has.opens;
-                  inside = subst (λ (z : View). 2 * slot + words_in 1 ≤ words_of z.sizes) (sym copied.moved.later.is) has.inside;
-                },
-                two,
-              ),
-            )
+        pub copied_copy : IsOwnCopy y handle slot opens (is_snapshot k)
+        copied_copy =
+            let c = copy_stays x (as_before x y) copied.moved.later handle slot opens (is_snapshot k) own_copy in
+            record { its = c.its; own = c.own; its_opens = c.its_opens; small = c.small; low = c.low; second = c.second }
 
-        -- and is open
-        module _ (sound_y : IsSound n y) (z : View) (saw : Saw y z) where
-          pub opened_tried : HasTried u carried y → HasTried u carried z
-          opened_tried t = record {
-            still = still_both u y z t.still (still_later y z (saw_later n y sound_y z saw));
-            comes = λ q s. saw_runs y z saw (copied_on carried q) (t.comes q s);
-          }
+        -- and is parted
+        pub parted_tried : (z : View) → HasMovedOn y z → HasTried u carried y → HasTried u carried z
+        parted_tried z moved t = record {
+          still = still_both u y z t.still (moved_still y z moved);
+          comes = λ q s. moved.runs (copied_on carried q) (t.comes q s);
+        }
 
-          pub opened_stock : (stock : Stocked) → HasTried u carried y → IsStock stock y → IsStock stock z
-          opened_stock stock t is =
-              stock_later n y z sound_y (copied_on carried o) (t.comes o at.1.1) stock is (saw_later n y sound_y z saw) (copied_on carried o)
-              (saw_runs y z saw (copied_on carried o) (t.comes o at.1.1)) refl
+        pub copied_runs : (operation : Operation) × Runs y operation
+        copied_runs = (copied_on carried o, copied_tried.comes o at.1.1)
 
 -- ---- the READ is out of tries
 

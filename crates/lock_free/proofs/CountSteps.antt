@@ -25,11 +25,14 @@ use Rattle.lock_free.specs.Loading.{IsSound}
 use Rattle.lock_free.specs.Owing.{owing}
 use Rattle.lock_free.specs.Places.{count_word, IsSlot}
 use Rattle.lock_free.specs.Reclaiming.{retiring}
-use Rattle.lock_free.specs.Rules.{AreEpochs, AreOwed, AreRetired, IsKept, IsRetired, IsRuled}
+use Rattle.lock_free.specs.Shadows.{IsShadowed}
+use Rattle.lock_free.specs.Rules.{AreEpochs, AreOwed, AreRetired, IsKept, IsRetired}
+use Rattle.lock_free.proofs.OneGlance.Shadowed.{Stays}
 use Rattle.lock_free.proofs.CountKept.{count_kept, count_retiring}
 use Rattle.lock_free.proofs.CountsStay.{often_first, often_other}
 use Rattle.lock_free.proofs.ClaimsThere.{has_often, often_has}
-use Rattle.lock_free.proofs.CountWords.{count_inside, count_not_epoch}
+use Rattle.lock_free.proofs.CellsStay.{count_before}
+use Rattle.lock_free.proofs.CountWords.{count_beside_slots, count_inside, count_not_epoch, count_not_glance, Aside}
 use Rattle.lock_free.proofs.EpochStays.{epoch_in, epochs_stay, stays_elsewhere, was_then}
 use Rattle.lock_free.proofs.Exchanged.{either_hit, either_miss}
 use Rattle.lock_free.proofs.HandHolds.{early_hand, hand_here, hand_own, hand_pinned, slot_word, hand_lives}
@@ -91,8 +94,8 @@ module _ (v : View) (s : Table.State Call View) (kept : IsKept v.sizes s) (epoch
   pub leaves : IsKept v.sizes (record { words = words_then; homes = s.homes; views = set s.views id w }) × AreEpochs words_then (set s.views id w)
       × AreRetired v.sizes words_then (set s.views id w) × AreLinked v.sizes words_then (set s.views id w)
   leaves = (
-    count_kept v.sizes s kept id v at word is new owed v.links held_then,
-    epochs_stay s.words words_then s.views (set s.views id w) same_epoch (was_then s.views id v at w (record { actor = refl; epoch = refl; passed = refl; pinned = λ p e. e })) epochs,
+    count_kept v.sizes s kept id v at word (count_beside_slots v.sizes s.words kept.taken word is) new (count_before v.sizes word is) owed v.links held_then,
+    epochs_stay s.words words_then s.views (set s.views id w) same_epoch (was_then s.views id v at w (record { actor = refl; epoch = refl; passed = refl; glance = refl; pinned = λ p e. e })) epochs,
     retired_then s.views id v at w refl (λ p e. e) v.sizes s.words words_then (epoch_still s.words words_then same_epoch) retired,
     linked_then s.views id v at w refl (λ y c. c) v.sizes s.words words_then same_links linked,
   )
@@ -100,7 +103,7 @@ module _ (v : View) (s : Table.State Call View) (kept : IsKept v.sizes s) (epoch
   -- the same where it has retired one slot more
   pub retires : (y : Retired) → IsRetired v.sizes kept.account kept.stands y → AreHeld v.sizes kept.account kept.stands words_then (set s.views id (retiring w y)) →
       IsKept v.sizes (record { words = words_then; homes = s.homes; views = set s.views id (retiring w y) })
-  retires y its held = count_retiring v.sizes s kept id v at word is new owed v.links held_then y its held
+  retires y its held = count_retiring v.sizes s kept id v at word (count_beside_slots v.sizes s.words kept.taken word is) new (count_before v.sizes word is) owed v.links held_then y its held
 
 -- ---- where a count stands
 
@@ -134,7 +137,7 @@ module _ (found count : ℕ) (fits : count < 2 ^ 64) (room : count / 2 ^ 32 < 2 
 
 pub raise_allowed : (sizes : Sizes) (size id : ℕ) (me : Me Call View) (some_seats : 1 ≤ me.0.sizes.seats) (k : Ref) (class name : ℕ) → HasAtHand me.0 k class name → (count : ℕ) → count < 2 ^ 64 →
     count / 2 ^ 32 < 2 ^ 31 →
-    Allows (IsRuled sizes) size id me (count_word me.0.sizes class name) (λ n. either (n == count) (count + 2 ^ 32) n)
+    Allows (IsShadowed sizes) size id me (count_word me.0.sizes class name) (λ n. either (n == count) (count + 2 ^ 32) n)
     (has_raised (step size (count_word me.0.sizes class name) count (count + 2 ^ 32) none) me)
 raise_allowed sizes size id me some_seats k class name hand count fits room =
     allowed_by sizes size id me (count_word me.0.sizes class name) (λ n. either (n == count) (count + 2 ^ 32) n)
@@ -149,11 +152,14 @@ raise_allowed sizes size id me some_seats k class name hand count fits room =
     let own : references_in found ≤ references_in new → (a : ℕ) (operation : Operation) → operation_of (state_of v.sizes kept.account) a ≡ Some operation → Contains operation.private k →
     (a ≡ v.actor) × (1 ≤ references_in new) =
     λ grown a operation runs c. (hand_own v s kept id at k hand.0 a operation runs c, (let some_left = kept.held.fresh a operation runs k c in omega (arith, some_left, grown))) in
+    let aside : Aside (count_word v.sizes class name) (λ n. either (n == count) (count + 2 ^ 32) n) s.words = inl (count_not_glance v.sizes (count_word v.sizes class name) (subst
+    (IsCount v.sizes) its (here_count v.sizes s kept k there))) in
     let fresh_count : found ≡ count → 1 ≤ references_in found = λ hit. omega (arith, hit, fits, room) in
     -- whichever node the word is said to be of, it is that one
     let one = λ (j : Ref) (b n : ℕ) (h : HasAtHand v j b n) (e : count_word v.sizes class name ≡ count_word v.sizes b n).
     one_here v.sizes s kept j k (hand_here v s kept id at j h.0) there (slot_word v s kept id at j b n h.1 ∙ sym e ∙ sym its) in
-    subst (λ c. (w : View) × IsKept v.sizes (record {
+    subst (λ c. (w : View) × Stays sizes size id me (count_word v.sizes class name) (λ n. either (n == count) (count + 2 ^ 32) n)
+    (has_raised (step size (count_word v.sizes class name) count (count + 2 ^ 32) none) me) s w × IsKept v.sizes (record {
       words = set s.words c (either (slice_index s.words c == count) (count + 2 ^ 32) (slice_index s.words c));
       homes = s.homes;
       views =
@@ -172,6 +178,7 @@ raise_allowed sizes size id me some_seats k class name hand count fits room =
           (own (omega (arith, more))) (λ none. (let some = fresh_count hit in absurd (omega (arith, none, some))))
           (λ o e. (let held = kept.held.lines id v at o e k in omega (arith, held, first))) (below_live v.sizes s kept k (hand_lives v s kept id at k hand.0)) in (
             owing v (k ∷ v.owed),
+            (aside, refl, λ shown. shown),
             x.0,
             x.1,
             x.2,
@@ -185,7 +192,7 @@ raise_allowed sizes size id me some_seats k class name hand count fits room =
           (let same = left_same found count fits room differs in
           let x = leaves v s kept epochs retired linked id at k there new (left_link found count fits room) v.owed (omega (arith, same)) (λ j e. refl) (own (omega (arith, same))) (λ none. same ∙ none)
           (λ o e. kept.held.lines id v at o e k) (below_live v.sizes s kept k (hand_lives v s kept id at k hand.0)) in
-          (v, x.0, x.1, x.2, owed_then s.views id v at v (λ j c. (c, refl)) (λ y c. c) owed, x.3, refl, λ j b n h e. (λ got. absurd (differs got), λ other. refl)))
+          (v, (aside, refl, λ shown. shown), x.0, x.1, x.2, owed_then s.views id v at v (λ j c. (c, refl)) (λ y c. c) owed, x.3, refl, λ j b n h e. (λ got. absurd (differs got), λ other. refl)))
     ])))
   where
     first_or : (j : Ref) → Contains (k ∷ me.0.owed) j → Contains me.0.owed j ⊎ (j ≡ k)
@@ -200,7 +207,7 @@ raise_allowed sizes size id me some_seats k class name hand count fits room =
 -- the word is that one
 pub raise_by : (sizes : Sizes) (size id : ℕ) (me : Me Call View) (some_seats : 1 ≤ me.0.sizes.seats) (k : Ref) (class name : ℕ) → HasAtHand me.0 k class name → (its : ℕ) →
     its ≡ count_word me.0.sizes class name → (count : ℕ) → count < 2 ^ 64 → count / 2 ^ 32 < 2 ^ 31 →
-    Allows (IsRuled sizes) size id me its (λ n. either (n == count) (count + 2 ^ 32) n) (has_raised (step size its count (count + 2 ^ 32) none) me)
+    Allows (IsShadowed sizes) size id me its (λ n. either (n == count) (count + 2 ^ 32) n) (has_raised (step size its count (count + 2 ^ 32) none) me)
 raise_by sizes size id me some_seats k class name hand its is count fits room =
-    subst (λ n. Allows (IsRuled sizes) size id me n (λ m. either (m == count) (count + 2 ^ 32) m) (has_raised (step size n count (count + 2 ^ 32) none) me)) (sym is)
+    subst (λ n. Allows (IsShadowed sizes) size id me n (λ m. either (m == count) (count + 2 ^ 32) m) (has_raised (step size n count (count + 2 ^ 32) none) me)) (sym is)
     (raise_allowed sizes size id me some_seats k class name hand count fits room)

@@ -3,9 +3,9 @@ use Rattle.std.proofs.Common.{◌≡◌, ◌≢◌, ◌<◌, ◌≤◌, ◌⊎�
 use Rattle.std.proofs.lemmas.List.{get_or-set_other, set-get_or}
 use Rattle.lock_free.specs.declared.sizes.Sizes.{Sizes}
 use Rattle.lock_free.specs.Counts.{IsCount}
-use Rattle.lock_free.specs.Places.{count_word, epoch_word, first_slot_word, pin_word, root_word, words_of, IsSlot, IsTaken, HaveTaken}
+use Rattle.lock_free.specs.Places.{count_word, epoch_word, first_slot_word, glance_word, pin_word, root_word, words_of, IsSlot, IsTaken, HaveTaken}
 use Rattle.lock_free.proofs.EpochStays.{Elsewhere}
-use Rattle.lock_free.proofs.Geometry.{IsWordOf, above, root_below, root_not_epoch}
+use Rattle.lock_free.proofs.Geometry.{IsWordOf, above, root_below, root_far}
 
 module _ (sizes : Sizes) where
   slot_count_above : (class name : ℕ) → class < 3 → IsSlot sizes class name → first_slot_word sizes ≤ count_word sizes class name
@@ -78,24 +78,37 @@ module _ (sizes : Sizes) where
   pub count_not_epoch : (word : ℕ) → IsCount sizes word → word ≢ epoch_word
   count_not_epoch word h e = let far = count_above word h in omega (arith, far, e)
 
+  pub count_not_glance : (word : ℕ) → IsCount sizes word → word ≢ glance_word
+  count_not_glance word h e = let far = count_above word h in omega (arith, far, e)
+
+-- ---- a word that no slot has
+
+-- it comes after those of handles and seats, and is none of a slot that was handed out
+pub record IsBesideSlots (sizes : Sizes) (words : List ℕ) (word : ℕ) : Type 0 where
+  pub far : first_slot_word sizes ≤ word
+  pub beside : (class name j : ℕ) → class < 3 → IsTaken sizes words class name → IsWordOf class name j → j ≢ word
+
+pub count_beside_slots : (sizes : Sizes) (words : List ℕ) → HaveTaken sizes words → (word : ℕ) → IsCount sizes word → IsBesideSlots sizes words word
+count_beside_slots sizes words have word is = record { far = count_above sizes word is; beside = count_beside sizes words have word is }
+
 -- ---- where an access leaves all counts
 
--- the word is no count's, nor the epoch's
+-- the word is no count's, nor the epoch's or that of glances
 abbrev pub Apart : Sizes → ℕ → Type 0
-Apart sizes word = (word ≢ epoch_word) × ((c : ℕ) → IsCount sizes c → c ≢ word)
+Apart sizes word = (2 ≤ word) × ((c : ℕ) → IsCount sizes c → c ≢ word)
 
-pub before_apart : (sizes : Sizes) (word : ℕ) → word ≢ epoch_word → word < first_slot_word sizes → Apart sizes word
-before_apart sizes word differs low = (differs, λ c is same. (let far = count_above sizes c is in omega (arith, low, far, same)))
+pub before_apart : (sizes : Sizes) (word : ℕ) → 2 ≤ word → word < first_slot_word sizes → Apart sizes word
+before_apart sizes word far low = (far, λ c is same. (let far = count_above sizes c is in omega (arith, low, far, same)))
 
 pub handle_apart : (sizes : Sizes) (handle : ℕ) → handle < 256 → Apart sizes (root_word handle)
-handle_apart sizes handle low = before_apart sizes (root_word handle) (root_not_epoch handle) (let where_it_is = root_below handle low in omega (arith, where_it_is.1))
+handle_apart sizes handle low = before_apart sizes (root_word handle) (root_far handle) (let where_it_is = root_below handle low in omega (arith, where_it_is.1))
 
 pub pin_apart : (sizes : Sizes) (actor : ℕ) → actor ≤ sizes.seats → Apart sizes (pin_word actor)
-pin_apart sizes actor most = before_apart sizes (pin_word actor) (λ e. omega (arith, e)) (omega (arith, most))
+pin_apart sizes actor most = before_apart sizes (pin_word actor) (omega arith) (omega (arith, most))
 
 pub slot_apart : (sizes : Sizes) (words : List ℕ) → HaveTaken sizes words → (class name j : ℕ) → class < 3 → IsTaken sizes words class name → IsWordOf class name j → Apart sizes j
 slot_apart sizes words have class name j low taken its = (
-  (λ e. (let far = above sizes words have class name j low taken its in omega (arith, far, e))),
+  (let far = above sizes words have class name j low taken its in omega (arith, far)),
   λ c is same. count_beside sizes words have c is class name j low taken its (sym same),
 )
 
@@ -104,8 +117,20 @@ abbrev pub Beside : Sizes → ℕ → (ℕ → ℕ) → List ℕ → Type 0
 Beside sizes word f words = Apart sizes word ⊎ (f (slice_index words word) ≡ slice_index words word)
 
 pub elsewhere_so : (sizes : Sizes) (word : ℕ) (f : ℕ → ℕ) (words : List ℕ) → Beside sizes word f words → Elsewhere word f words
-elsewhere_so sizes word f words (inl apart) = inl apart.0
+elsewhere_so sizes word f words (inl apart) = inl (λ e. (let far = apart.0 in omega (arith, far, e)))
 elsewhere_so sizes word f words (inr same) = inr same
+
+-- or the word that counts glances
+abbrev pub Aside : ℕ → (ℕ → ℕ) → List ℕ → Type 0
+Aside word f words = (word ≢ glance_word) ⊎ (f (slice_index words word) ≡ slice_index words word)
+
+pub aside_so : (sizes : Sizes) (word : ℕ) (f : ℕ → ℕ) (words : List ℕ) → Beside sizes word f words → Aside word f words
+aside_so sizes word f words (inl apart) = inl (λ e. (let far = apart.0 in omega (arith, far, e)))
+aside_so sizes word f words (inr same) = inr same
+
+pub stays_aside : (words : List ℕ) (word : ℕ) (f : ℕ → ℕ) → Aside word f words → slice_index (set words word (f (slice_index words word))) glance_word ≡ slice_index words glance_word
+stays_aside words word f (inl differs) = get_or-set_other words word glance_word (f (slice_index words word)) 0 (λ e. differs (sym e))
+stays_aside words word f (inr same) = ap (λ n. slice_index (set words word n) glance_word) same ∙ ap (λ ws. slice_index ws glance_word) (set-get_or words word 0)
 
 pub count_same : (sizes : Sizes) (word : ℕ) (f : ℕ → ℕ) (words : List ℕ) → Beside sizes word f words → (c : ℕ) → IsCount sizes c →
     slice_index (set words word (f (slice_index words word))) c ≡ slice_index words c

@@ -16,7 +16,7 @@ use Rattle.lock_free.specs.Leaving.{EndsOrMay}
 use Rattle.lock_free.specs.Loading.{has_seen, HasSeen, Runs, Saw}
 use Rattle.lock_free.specs.Parking.{HasWoundUp}
 use Rattle.lock_free.specs.Places.{epoch_word}
-use Rattle.lock_free.specs.Rules.{IsRuled}
+use Rattle.lock_free.specs.Shadows.{IsShadowed}
 use Rattle.lock_free.proofs.Comings.{runs_one, saw_runs}
 use Rattle.lock_free.proofs.GiveUpStep.{give_up_allowed}
 use Rattle.lock_free.proofs.Moments.{load_allowed, waited_so}
@@ -33,7 +33,7 @@ seen_so v word found w (m, is) = record { account = m.kept.account; waited = wai
 
 -- what is allowed is so where less is asked
 abbrev lessens : (sizes : Sizes) (size id : ℕ) (me : Me Call View) (word : ℕ) (P Q : ℕ → Me Call View → Type 0) → ((found : ℕ) (after : Me Call View) → P found after → Q found after) →
-    Allows (IsRuled sizes) size id me word (λ n. n) P → Allows (IsRuled sizes) size id me word (λ n. n) Q
+    Allows (IsShadowed sizes) size id me word (λ n. n) P → Allows (IsShadowed sizes) size id me word (λ n. n) Q
 lessens sizes size id me word P Q less h s ruled length_is at low = let x = h s ruled length_is at low in (x.0, x.1, x.2, x.3, less _ _ x.4)
 
 module _ (sizes : Sizes) (size id : ℕ) (me : Me Call View) (some_seats : 1 ≤ me.0.sizes.seats) (o : Operation) (runs : Runs me.0 o) where
@@ -41,7 +41,7 @@ module _ (sizes : Sizes) (size id : ℕ) (me : Me Call View) (some_seats : 1 ≤
   same_cut : (q : Operation) → Runs me.0 q → cut_short q.call q.line ≡ cut_short o.call o.line
   same_cut q r = ap (λ (z : Operation). cut_short z.call z.line) (runs_one me.0 q o r runs)
 
-  by_cut : (cut : Option Reply) → cut_short o.call o.line ≡ cut → Allows (IsRuled sizes) size id me epoch_word (λ n. n) (has_cut_short (step size epoch_word 0 0 none) me)
+  by_cut : (cut : Option Reply) → cut_short o.call o.line ≡ cut → Allows (IsShadowed sizes) size id me epoch_word (λ n. n) (has_cut_short (step size epoch_word 0 0 none) me)
   by_cut None e =
       lessens sizes size id me epoch_word (has_seen (step size epoch_word 0 0 none) me) (has_cut_short (step size epoch_word 0 0 none) me)
       (λ found after h. ((λ q r. subst (λ cut. CutBy me.0 q cut after.0) (sym (same_cut q r ∙ e)) (seen_so me.0 epoch_word found after.0 h.0)), h.1, h.2))
@@ -56,7 +56,7 @@ module _ (sizes : Sizes) (size id : ℕ) (me : Me Call View) (some_seats : 1 ≤
       (give_up_allowed sizes size id me some_seats (o, answer, runs, cut_some o.call o.line answer e))
 
 pub cut_allowed : (sizes : Sizes) (size id : ℕ) (me : Me Call View) (some_seats : 1 ≤ me.0.sizes.seats) → IsRunning me.0 →
-    Allows (IsRuled sizes) size id me epoch_word (λ n. n) (has_cut_short (step size epoch_word 0 0 none) me)
+    Allows (IsShadowed sizes) size id me epoch_word (λ n. n) (has_cut_short (step size epoch_word 0 0 none) me)
 cut_allowed sizes size id me some_seats (o, runs) = by_cut sizes size id me some_seats o runs (cut_short o.call o.line) refl
 
 -- ---- it is to end then

@@ -128,7 +128,7 @@ module _ (sizes : Sizes) (account : Account) (actor : ℕ) (operation : Operatio
   says_prev found header verdict is (inr fails) (ahead i a f own x at owned) = absurd (none_pending replaced is)
   says_prev found header verdict is (inr fails) (pending q own over) =
       subst (λ v. SaysPrevious account_then next (slot_of main) v (says_then v header)) (ap prev.Failed (same_pending q replaced is) ∙ sym fails)
-      (failed q own (over_kept account account_then.steps account.offers nothing now next same decides.aheads still words (slot_of main) q own over))
+      (failed q own (over_kept account account_then.steps account nothing now next same decides.aheads still words (slot_of main) q own over))
   says_prev found header verdict is (inr fails) (failed q own over) = absurd (failed_pending q replaced is)
 
   header_then : (found : ℕ) → slice_index words (2 * p) ≡ found → SaysHeader account now (slot_of main) decides.slot found →
@@ -141,14 +141,14 @@ module _ (sizes : Sizes) (account : Account) (actor : ℕ) (operation : Operatio
           previous = says_then decides.verdict its_header.previous;
           is_previous = says_prev decides.slot.prev its_header.previous decides.verdict decides.pending decides.committed_or_failed its_header.is_previous;
           shape = its_header.shape;
-          is_shape = shape_kept account account_then.steps account.offers nothing now next same decides.aheads still words (slot_of main) decides.slot.node its_header.shape its_header.is_shape;
+          is_shape = shape_kept account account_then.steps account nothing now next same decides.aheads still words (slot_of main) decides.slot.node its_header.shape its_header.is_shape;
           code = says its_header;
         },
       )
 
   entries_then : (xs : List Ref) → AreEntries account now.heap (InTable words) p xs → AreEntries account_then next.heap (InTable words_then) p xs
   entries_then xs h =
-      entries_kept account account_then.steps account.offers nothing now next same decides.aheads still words_then p xs
+      entries_kept account account_then.steps account nothing now next same decides.aheads still words_then p xs
       (entries_else account words (2 * p) value p now (slot_of main) decides.slot xs (λ position low e. absurd (omega (arith, e))) h)
 
   -- ---- what stands
@@ -175,7 +175,7 @@ module _ (sizes : Sizes) (account : Account) (actor : ℕ) (operation : Operatio
       (decided_stands account account_then now next words words_then p (slot_of main) decides.slot decides.verdict entries_then header_then decides.slot.node is_main
       (all.nodes.written (slot_of main) decides.slot stood)))
   written_by k slot h (is_else other e) =
-      stands_kept account account_then.steps account.offers nothing now next same decides.aheads still words_then (place_at account k) k slot slot.node refl
+      stands_kept account account_then.steps account nothing now next same decides.aheads still words_then (place_at account k) k slot slot.node refl
       (stands_over account words (2 * p) value (place_at account k) now k slot slot.node (all.nodes.small k slot (h, e))
       (not_of_other sizes account stands words all (slot_of main) decides.slot stood (2 * p) its value k slot other (h, e)) (all.nodes.written k slot (h, e)))
 
@@ -204,12 +204,14 @@ module _ (sizes : Sizes) (account : Account) (actor : ℕ) (operation : Operatio
         means = λ handle low.
             meaning_kept account account_then.steps words_then handle _ _
             (subst (λ rs. MeansRoot account words_then handle (slice_index words_then (root_word handle)) (get_or rs handle None)) (sym decides.roots) (over.means handle low));
-        offers = λ k c. written_kept account account_then.steps account.offers nothing now next same decides.aheads still words_then k (over.offers k c);
+        offers = λ k c. written_kept account account_then.steps account nothing now next same decides.aheads still words_then k (over.offers k c);
         blocks = over.blocks;
         single = over.single;
         pending = over.pending;
         tries = over.tries;
         stood = λ k c. stood_still sizes account account_then (step.Go actor ∷ []) refl k.offer (over.stood k c);
+        came = λ x c. stood_still sizes account account_then (step.Go actor ∷ []) refl x.known.offer (over.came x c);
+        parting = over.parting;
         marks = marks_kept account.offers now next (as_before decides.tries) words_then words_then (λ k c. refl) over.marks;
         fates = λ k c. fate_kept sizes account account_then (step.Go actor) refl k (fate words_then k) (λ e. words_same now next decides.roots k.handle ∙ e) (over.fates k c);
       }

@@ -14,6 +14,7 @@ use Rattle.lock_free.specs.Rules.{IsClosing, SaysClosing, IsFree, IsSpare, AreDr
 use Rattle.lock_free.specs.Accounts.{state_of}
 use Rattle.lock_free.proofs.Meanings.{no_tries}
 use Rattle.lock_free.proofs.Assembling.{AllStand, all_stand, closing_stays, numbers_stay, assembled}
+use Rattle.lock_free.proofs.CellsStay.{before_cells, cells_beside}
 use Rattle.lock_free.proofs.Drafts.{which}
 use Rattle.lock_free.proofs.Framing.{other_word, low_word, taken_over, all_over}
 use Rattle.lock_free.proofs.Geometry.{IsWordOf, slots_apart, inside, root_below}
@@ -21,6 +22,7 @@ use Rattle.lock_free.proofs.PlainStay.{plain_elsewhere}
 use Rattle.lock_free.proofs.Seats.{ran_so, numbers_so, Stays, other_kept, own_still}
 use Rattle.lock_free.proofs.HeldStill.{held_words}
 use Rattle.lock_free.proofs.CountWords.{slot_apart}
+use Rattle.lock_free.proofs.PartingStay.{knows_still, names_same}
 
 module _ (sizes : Sizes) (s : Table.State Call View) (kept : IsKept sizes s) (id : ℕ) (v : View) (at : get_elem? s.views id ≡ some v) (class name : ℕ) (free : IsFree v class name) (j : ℕ)
     (its : IsWordOf class name j)
@@ -75,6 +77,8 @@ module _ (sizes : Sizes) (s : Table.State Call View) (kept : IsKept sizes s) (id
               apart (kept.pools other id w v b class name e at (subst (λ m. IsFree w b m) both.1 f) free))),
         ));
     plain = plain_elsewhere sizes kept.account s.words words_then root_same;
+    offering = knows_still kept.account.offered kept.account.offers kept.account.parted s.words words_then
+        (names_same kept.account.offers s.words words_then root_same);
   }
 
   drafted : (d : ℕ × ℕ) → (d ≡ (j, x)) ⊎ ((d.0 ≢ j) × Contains v.drafts d) → AreDrafts words_then view_then d
@@ -87,11 +91,12 @@ module _ (sizes : Sizes) (s : Table.State Call View) (kept : IsKept sizes s) (id
   own_then =
       own_still sizes s kept id v at words_then stays (numbers_so sizes s kept kept.account words_then (no_tries kept.account.offers (state_of sizes kept.account)) refl root_same id v at)
       (pin_same v.actor (omega (arith, seat.top, seat.most))) v.pool view_then.drafts
-      (λ b other f. (let y = seat.spare b other f in (taken_then b other f.0 y.0, y.1))) seat.once (λ d c. drafted d (which j x v.drafts d c)) (λ handle slot y. (root_same handle y.low, y.free.1))
+      (λ b other f. (let y = seat.spare b other f in (taken_then b other f.0 y.0, y.1))) seat.once (λ d c. drafted d (which j x v.drafts d c))
+      (λ handle slot y. (root_same handle y.low, y.free.1)) refl
 
   closings_then : (handle who : ℕ) → handle < handle_limit → SaysClosing (slice_index words_then (root_word handle)) who → IsClosing (set s.views id view_then) handle who
   closings_then handle who low says =
-      closing_stays sizes s kept id v at view_then refl refl (λ h e. e) refl handle who (kept.closings handle who low (subst (λ n. SaysClosing n who) (root_same handle low) says))
+      closing_stays sizes s kept id v at view_then refl refl (λ h e. (e, refl)) refl (λ c. c) handle who (kept.closings handle who low (subst (λ n. SaysClosing n who) (root_same handle low) says))
 
   -- the rule holds
   pub draft_kept : IsKept sizes (record { words = words_then; homes = s.homes; views = set s.views id view_then })
@@ -101,3 +106,4 @@ module _ (sizes : Sizes) (s : Table.State Call View) (kept : IsKept sizes s) (id
       (numbers_stay sizes s kept id v at view_then refl refl kept.account words_then (no_tries kept.account.offers (state_of sizes kept.account)) (λ slot none. none) root_same refl
       (λ slot handle e free. free))
       (held_words sizes s kept id v at view_then refl refl refl j x (slot_apart sizes s.words kept.taken class name j free.0 is_spare.0 its).1)
+      (cells_beside sizes s kept id v at view_then j x (before_cells sizes s.words kept.taken class name j free.0 is_spare.0 its) taken_then (λ b n f. f))

@@ -1,5 +1,5 @@
 -- Halves that lead to no slot to which one of others leads.
-use Rattle.std.proofs.Common.{◌≡◌, ◌≤◌, ◌<◌, ◌++◌, ◌==◌, inl, inr, ℕ, zero, suc, Bool, true, false, cond, not, List, [], ◌∷◌, Contains, None, get_or, length, map, refl, sym, ap, subst, ◌∙◌}
+use Rattle.std.proofs.Common.{◌≡◌, ◌≤◌, ◌<◌, ◌==◌, inl, inr, ℕ, zero, suc, Bool, true, false, cond, not, List, [], ◌∷◌, Contains, None, get_or, length, map, refl, sym, ap, subst, ◌∙◌}
 use Rattle.std.proofs.Common.{arith, eqb-true, ◌||◌}
 use Rattle.std.proofs.lemmas.Bool.{true≢false}
 use Rattle.std.proofs.lemmas.List.Sums.{sum_by-cons}
@@ -108,24 +108,6 @@ module _ (v : View) (others : List ℕ) where
           omega (arith, some, once, less)
 
 -- ---- as a loop goes over them
-
-pub more_elsewhere : (others halves : List ℕ) (half : ℕ) (b : Bool) → is_in (slots_of others) (entry_of half).slot ≡ b →
-    elsewhere others (halves ++ half ∷ []) ≡ elsewhere others halves ++ cond (not b) (half ∷ []) []
-more_elsewhere others [] half b is = ap (λ c. cond (not c) (half ∷ []) []) is
-more_elsewhere others (x ∷ xs) half b is = by (is_in (slots_of others) (entry_of x).slot) (more_elsewhere others xs half b is)
-  where
-    by : (c : Bool) → elsewhere others (xs ++ half ∷ []) ≡ elsewhere others xs ++ cond (not b) (half ∷ []) [] →
-        cond (not c) (x ∷ elsewhere others (xs ++ half ∷ [])) (elsewhere others (xs ++ half ∷ [])) ≡ cond (not c) (x ∷ elsewhere others xs) (elsewhere others xs) ++ cond (not b) (half ∷ []) []
-    by true e = e
-    by false e = ap (λ ys. x ∷ ys) e
-
-pub fewer_elsewhere : (others halves : List ℕ) → length (elsewhere others halves) ≤ length halves
-fewer_elsewhere others [] = omega arith
-fewer_elsewhere others (x ∷ xs) = by (is_in (slots_of others) (entry_of x).slot) (fewer_elsewhere others xs)
-  where
-    by : (c : Bool) → length (elsewhere others xs) ≤ length xs → length (cond (not c) (x ∷ elsewhere others xs) (elsewhere others xs)) ≤ suc (length xs)
-    by true h = omega (arith, h)
-    by false h = omega (arith, h)
 
 -- none of these slots is it
 pub none_leads : (halves : List ℕ) (slot : ℕ) → ((n : ℕ) → n < length halves → (entry_of (get_or halves n 0)).slot ≡ slot → ⊥) → is_in (slots_of halves) slot ≡ false

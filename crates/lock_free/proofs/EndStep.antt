@@ -18,11 +18,13 @@ use Rattle.lock_free.specs.Accounts.{running, state_of}
 use Rattle.lock_free.specs.Beginning.{Ends}
 use Rattle.lock_free.specs.Loading.{now, seen, IsAt, IsSound, Runs, Waited}
 use Rattle.lock_free.specs.Places.{pin_word, words_of}
-use Rattle.lock_free.specs.Rules.{IsKept, IsRuled}
+use Rattle.lock_free.specs.Shadows.{IsShadowed}
+use Rattle.lock_free.specs.Rules.{IsKept}
 use Rattle.lock_free.specs.SeatWords.{HasEnded, IsAtEnd, left_by, once_ended, has_ended}
 use Rattle.lock_free.proofs.CountWords.{pin_apart}
 use Rattle.lock_free.proofs.Ended.{all_then, end_kept}
-use Rattle.lock_free.proofs.Moments.{allowed_unpinned, waited_so, free_inside}
+use Rattle.lock_free.proofs.Moments.{ruled_unpinned, waited_so, free_inside}
+use Rattle.lock_free.proofs.OneGlance.Shadowed.{AllowsRuled, lifted}
 use Rattle.lock_free.proofs.OneStep.Sitting.{ends_of}
 use Rattle.lock_free.proofs.OneStep.Telling.{end_told}
 use Rattle.lock_free.proofs.Lettings.{TakesNone}
@@ -98,10 +100,10 @@ same_answer v a b p q =
     answer_in (act.End answer) other = answer
     answer_in action other = other
 
-pub end_allowed : (sizes : Sizes) (size id : ℕ) (me : Me Call View) (some_seats : 1 ≤ me.0.sizes.seats) → IsAtEnd me.0 →
-    Allows (IsRuled sizes) size id me (pin_word me.0.actor) (λ n. 0) (λ n. has_ended (step size (pin_word me.0.actor) 0 0 none) me 0)
-end_allowed sizes size id me some_seats (answer, p) =
-    allowed_unpinned sizes size id me (pin_word me.0.actor) (λ n. 0) (λ n. has_ended (step size (pin_word me.0.actor) 0 0 none) me 0)
+pub end_ruled : (sizes : Sizes) (size id : ℕ) (me : Me Call View) (some_seats : 1 ≤ me.0.sizes.seats) → IsAtEnd me.0 →
+    AllowsRuled sizes size id me (pin_word me.0.actor) (λ n. 0) (λ n. has_ended (step size (pin_word me.0.actor) 0 0 none) me 0)
+end_ruled sizes size id me some_seats (answer, p) =
+    ruled_unpinned sizes size id me (pin_word me.0.actor) (λ n. 0) (λ n. has_ended (step size (pin_word me.0.actor) 0 0 none) me 0)
     some_seats (λ s kept at. inl (pin_apart me.0.sizes me.0.actor (let seat = kept.seats id me.0 at in omega (arith, seat.top, seat.most))))
     (λ s kept at. (
       after me.0 answer p s kept id at,
@@ -113,6 +115,11 @@ end_allowed sizes size id me some_seats (answer, p) =
       ),
     ))
     (λ s kept at. refl)
+
+pub end_allowed : (sizes : Sizes) (size id : ℕ) (me : Me Call View) (some_seats : 1 ≤ me.0.sizes.seats) → IsAtEnd me.0 →
+    Allows (IsShadowed sizes) size id me (pin_word me.0.actor) (λ n. 0) (λ n. has_ended (step size (pin_word me.0.actor) 0 0 none) me 0)
+end_allowed sizes size id me some_seats ends =
+    lifted sizes size id me (pin_word me.0.actor) (λ n. 0) (λ n. has_ended (step size (pin_word me.0.actor) 0 0 none) me 0) some_seats (end_ruled sizes size id me some_seats ends)
 
 -- the word is one of the table's
 pub pin_inside : (words : ℕ) (v : View) → IsSound words v → v.actor ≤ v.sizes.seats → pin_word v.actor < words

@@ -23,6 +23,7 @@ use Rattle.lock_free.specs.Roots.{AreMarked, fate}
 use Rattle.lock_free.specs.Rules.{SaysClosing, IsFree, IsSpare, IsHeld, Reserves, IsSeat, IsKept, first_account}
 use Rattle.lock_free.specs.Trying.{try_of, try_at}
 use Rattle.lock_free.proofs.Assembling.{AllStand, all_stand, closing_stays, opening_stays, Numbers, assembled, other_actor}
+use Rattle.lock_free.proofs.CellsStay.{cells_step, pin_before}
 use Rattle.lock_free.proofs.Meanings.{unmarked_at, unmarked_then, marked_at}
 use Rattle.lock_free.proofs.RootSteps as root
 use Rattle.lock_free.proofs.PlainStay.{plain_running}
@@ -39,6 +40,7 @@ use Rattle.lock_free.proofs.Lettings.{TakesNone}
 use Rattle.lock_free.proofs.LinesStay.{lines_idle}
 use Rattle.lock_free.proofs.SeatOwing.{seat_owing}
 use Rattle.lock_free.proofs.LetGoSince.{going_let_go}
+use Rattle.lock_free.proofs.PartingStay.{knows_still, names_same, knows_unpinned}
 
 -- the seat keeps the number that it has reserved, where its operation hasn't opened it
 module _ (sizes : Sizes) (s : Table.State Call View) (kept : IsKept sizes s) (id : ℕ) (v : View) (at : get_elem? s.views id ≡ some v) (operation : Operation)
@@ -128,6 +130,8 @@ module _ (sizes : Sizes) (s : Table.State Call View) (kept : IsKept sizes s) (id
     taken = root.taken_pinned sizes kept.account kept.stands s.words all v.actor seat.low most 0;
     spare = λ other w b name e apart free. stays_spare other w b name e free;
     plain = plain_running sizes kept.account account_then kept.bounds ((step.Go v.actor) ∷ []) refl s.words words_then v.actor operation runs;
+    offering = knows_still kept.account.offered kept.account.offers kept.account.parted s.words words_then
+        (names_same kept.account.offers s.words words_then root_same);
   }
 
   own_then : IsSeat sizes account_then kept.stands words_then view_then
@@ -137,7 +141,9 @@ module _ (sizes : Sizes) (s : Table.State Call View) (kept : IsKept sizes s) (id
       (λ a above below. waits a (first_account sizes) (λ is. absurd (omega (arith, above, is))) (seat.rested a above below)) all_then.counted None None v.closing opens None
       (root.at_p sizes kept.account kept.stands s.words all v.actor seat.low most 0) (λ p is. absurd (none-some p is)) (λ g e. absurd (none-some g e)) (λ o e. absurd (none-some o (sym ends.own ∙ e)))
       (λ g r. still_held g (seat.opens g (own_reserved g r.0))) (λ o e. absurd (none-some o (sym ends.own ∙ e))) (λ g slot o n. absurd (none-some slot n))
-      (λ b name free. stays_spare id v b name at free))
+      (λ b name free. stays_spare id v b name at free)
+      (knows_unpinned kept.account.offered kept.account.offers kept.account.parted words_then v.actor v.pin v.offer v.pool.parted
+      (stays.offering v.actor v.pin v.offer v.pool.parted seat.offering)))
 
   reserves_else : (w : View) (g : ℕ) → w.actor ≢ v.actor → Reserves now w g → Reserves next w g
   reserves_else w g differs r = (r.0, unmarked_then now next w.actor (same_try w.actor differs) r.1)
@@ -180,6 +186,7 @@ module _ (sizes : Sizes) (s : Table.State Call View) (kept : IsKept sizes s) (id
   pub end_kept : TakesNone kept.stands now operation (action_of now operation) → IsKept sizes (record { words = words_then; homes = s.homes; views = set s.views id view_then })
   end_kept takes =
       assembled sizes s kept id v at view_then refl refl account_then kept.stands words_then all_then
-      (λ g who below says. closing_stays sizes s kept id v at view_then refl refl (λ h e. absurd (none-some h e)) refl g who
+      (λ g who below says. closing_stays sizes s kept id v at view_then refl refl (λ h e. absurd (none-some h e)) refl (λ c. c) g who
       (kept.closings g who below (subst (λ n. SaysClosing n who) (root_same g below) says))) own_then
       (other_kept sizes s kept id v at account_then kept.stands words_then stays) (λ b name f. inl f) numbers_then (held_ended takes)
+      (cells_step sizes s kept id v at view_then account_then kept.stands (pin_word v.actor) 0 (pin_before sizes v.actor most) stays.taken spare_then (λ b n f. f))

@@ -25,7 +25,7 @@ use Rattle.lock_free.proofs.Framing.{class_small, node_end}
 use Rattle.lock_free.proofs.GivenBack.{node_is}
 use Rattle.lock_free.proofs.Holding.{held_then}
 use Rattle.lock_free.proofs.Laters.{main_kind, saw_later, waited_later}
-use Rattle.lock_free.proofs.Moments.{entry_lives}
+use Rattle.lock_free.proofs.LastingNodes.{entry_lives}
 use Rattle.lock_free.proofs.Verdicts.{main_same}
 use Rattle.lock_free.proofs.Within.{two_words}
 

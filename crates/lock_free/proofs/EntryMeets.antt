@@ -169,7 +169,7 @@ module _ (n : ℕ) (before middle : View) (sound : IsSound n before) (name : ℕ
         let x = single_then (seen before g.0.account) (waited_later n before sound g.0.account g.0.waited) in
         g.1 e looks.holds_entry is_at.5.placed.1 x.0 single.0 single.1 x.1 x.2
 
-    at_mid : IsAtKey middle l
+    pub at_mid : IsAtKey middle l
     at_mid = (at.0, stayed.comes at.0 at.1, at.2)
 
     looks_mid : key_action (now middle) l ≡ act.Look e

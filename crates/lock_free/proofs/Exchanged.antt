@@ -16,7 +16,8 @@ use Rattle.machine_model.specs.Operations.{action_of}
 use Rattle.lock_free.specs.Accounts.{running, gone_on, state_of}
 use Rattle.lock_free.specs.Loading.{seen, IsSound, Took, has_gone}
 use Rattle.lock_free.specs.Places.{words_of}
-use Rattle.lock_free.specs.Rules.{IsKept, IsRuled}
+use Rattle.lock_free.specs.Shadows.{IsShadowed}
+use Rattle.lock_free.specs.Rules.{IsKept}
 use Rattle.lock_free.specs.Steps.{Reads}
 use Rattle.lock_free.proofs.Assembling.{AllStand}
 use Rattle.lock_free.proofs.Keeping.{keys_gone, kept_then}
@@ -76,7 +77,7 @@ module _ (v : View) (s : Table.State Call View) (kept : IsKept v.sizes s) (id : 
 
 -- an exchange that is the operation's step
 abbrev pub AllowsExchange : Sizes → ℕ → ℕ → Me Call View → ℕ → ℕ → ℕ → Type 0
-AllowsExchange sizes size id me word old new = Allows (IsRuled sizes) size id me word (λ n. either (n == old) new n) (has_gone (step size word old new none) me)
+AllowsExchange sizes size id me word old new = Allows (IsShadowed sizes) size id me word (λ n. either (n == old) new n) (has_gone (step size word old new none) me)
 
 pub exchange_by : (sizes : Sizes) (size id : ℕ) (me : Me Call View) (word old new x y : ℕ) → x ≡ old → y ≡ new → AllowsExchange sizes size id me word old new → AllowsExchange sizes size id me word x y
 exchange_by sizes size id me word old new x y e f h = subst (λ n. AllowsExchange sizes size id me word n y) (sym e) (subst (λ n. AllowsExchange sizes size id me word old n) (sym f) h)

@@ -25,7 +25,8 @@ use Rattle.lock_free.specs.Claims.{claims_there, held_now, is_claim_on}
 use Rattle.lock_free.specs.Counts.{IsCount, how_often, references}
 use Rattle.lock_free.specs.Holdings.{AreHeld, count_of, retired_in, HasBeenLetGo}
 use Rattle.lock_free.specs.Places.{count_word}
-use Rattle.lock_free.specs.Rules.{Standing, first_account, first_view}
+use Rattle.lock_free.specs.FirstViews.{first_view}
+use Rattle.lock_free.specs.Rules.{Standing, first_account}
 use Rattle.lock_free.proofs.FirstState.{first_branch, first_link, none_runs, slots_are}
 use Rattle.lock_free.proofs.Idle.{empty_has}
 use Rattle.lock_free.proofs.OneStep.LinksWide.{standing_by}

@@ -22,6 +22,7 @@ use Rattle.lock_free.proofs.Geometry.{IsWordOf, slot_end, slots_apart, above, in
 use Rattle.lock_free.proofs.Assembling.{AllStand}
 use Rattle.lock_free.proofs.Fates.{fate_said}
 use Rattle.lock_free.proofs.Meanings.{means_kept, marks_kept, pending_kept, no_tries}
+use Rattle.lock_free.proofs.PartingStay.{names_same, parted_still}
 
 -- ---- a node's words are its slot's
 
@@ -154,6 +155,9 @@ module _ (sizes : Sizes) (account : Account) (words : List ℕ) (have : HaveTake
       single = roots.single;
       tries = roots.tries;
       stood = roots.stood;
+      came = roots.came;
+      parting = parted_still account.offered account.offers account.parted words (set words i x)
+          (names_same account.offers words (set words i x) (λ handle low. (let where_it_is = root_below handle low in below_word (root_word handle) (omega (arith, where_it_is.1))))) roots.parting;
       marks = marks_over account words i x apart (state_of sizes account) roots.marks;
       fates = λ k c. fate_said sizes account k (fate words k) (fate (set words i x) k) (first_of_offer account words i x apart k c) (roots.fates k c);
       pending = λ k c stands.
@@ -302,6 +306,9 @@ module _ (sizes : Sizes) (account : Account) (stands : Standing) (words : List �
     single = roots.single;
     tries = roots.tries;
     stood = roots.stood;
+    came = roots.came;
+    parting = parted_still account.offered account.offers account.parted words (set words i x)
+        (names_same account.offers words (set words i x) (λ handle low. else_word account words i x (root_word handle) (no_root handle low))) roots.parting;
     marks = marks_over account words i x no_offer (state_of sizes account) roots.marks;
     fates = λ k c. fate_said sizes account k (fate words k) (fate (set words i x) k) (first_of_offer account words i x no_offer k c) (roots.fates k c);
     pending = λ k c stands.

@@ -28,20 +28,24 @@ use Rattle.lock_free.specs.Accounts.{bounds_for, place_of, state_of}
 use Rattle.lock_free.specs.Calling.{IsRunning}
 use Rattle.lock_free.specs.Claims.{held_now, HoldsAll}
 use Rattle.lock_free.specs.Counts.{how_often}
-use Rattle.lock_free.specs.Freeing.{has_freed, has_seen_draft, held_by, HasFreed, HasLeft, IsNamed, IsRipeDeep, LeavesWords, MayBeNamed}
+use Rattle.lock_free.specs.Freeing.{has_freed, has_seen_draft, held_by, HasFreed, HasLeft, IsRipeDeep}
+use Rattle.lock_free.specs.LeftNodes.{IsNamed, LeavesWords, MayBeNamed}
 use Rattle.lock_free.specs.Links.{AreLinked, link_in}
 use Rattle.lock_free.specs.Loading.{IsSound}
 use Rattle.lock_free.specs.Nodes.{class_of}
 use Rattle.lock_free.specs.Places.{count_word, words_in, words_of}
 use Rattle.lock_free.specs.Reclaiming.{kind_by, kind_of, kind_of_node}
-use Rattle.lock_free.specs.Rules.{AreEpochs, AreOwed, AreRetired, IsKept, IsRuled}
+use Rattle.lock_free.specs.Shadows.{IsShadowed}
+use Rattle.lock_free.specs.Rules.{AreEpochs, AreOwed, AreRetired, IsKept}
+use Rattle.lock_free.proofs.OneGlance.Shadowed.{Stays}
 use Rattle.lock_free.proofs.Assembling.{within}
 use Rattle.lock_free.proofs.ClaimsThere.{often_has}
-use Rattle.lock_free.proofs.Freed.{epochs_then, from_has, its_class, its_place, kept_then, known, links_then, new, node, one_slot, owed_then, retired_then, stood, then, unfollowed, unshared}
+use Rattle.lock_free.proofs.Freed.{aside, epochs_then, its_class, its_place, kept_then, known, links_then, new, node, one_slot, owed_then, retired_then, stood, then, unfollowed, unshared}
 use Rattle.lock_free.proofs.Freed.{used, word, word_is}
 use Rattle.lock_free.proofs.Geometry.{IsWordOf}
 use Rattle.lock_free.proofs.Hanging.{one_named}
 use Rattle.lock_free.proofs.HeldFreed.{by_claim}
+use Rattle.lock_free.proofs.Knowing.{from_has}
 use Rattle.lock_free.proofs.LeftWords.{left_names, left_words}
 use Rattle.lock_free.proofs.Moments.{allowed, allowed_by, free_inside, waited_so}
 use Rattle.lock_free.proofs.NamedHeld.{deep_unlet}
@@ -142,11 +146,13 @@ module _ (v : View) (sound : IsSound (words_of v.sizes) v) (running : IsRunning 
   left_now =
       let u = used v running x c late deep s kept epochs old owed linked id at in
       let place = its_place v running x c late deep s kept epochs old owed linked id at in record {
-        used = slot_at state.heap j u.0 u.1;
-        place = place;
-        words = subst (λ n. LeavesWords w n slot.node) place (left_words v s kept j u (stood v running x c late deep s kept epochs old owed linked id at) w knows);
+        left = record {
+          used = slot_at state.heap j u.0 u.1;
+          place = place;
+          words = subst (λ n. LeavesWords w n slot.node) place (left_words v s kept j u (stood v running x c late deep s kept epochs old owed linked id at) w knows);
+          names = names_now;
+        };
         holds = holds_now;
-        names = names_now;
       }
 
   kind_now : (y : Retired) → Contains v.retired y → y.name ≡ x.name → kind_of v.sizes y ≡ kind_of_node slot.node
@@ -199,20 +205,26 @@ module _ (v : View) (sound : IsSound (words_of v.sizes) v) (running : IsRunning 
 pub free_allowed : (sizes : Sizes) (size id : ℕ) (me : Me Call View) (some_seats : 1 ≤ me.0.sizes.seats) → IsSound (words_of me.0.sizes) me.0 → IsRunning me.0 → (x : Retired) →
     Contains me.0.retired x →
     x.stamp + 3 ≤ me.0.epoch → x.deep ≡ true → (its : ℕ) → count_word me.0.sizes x.class x.name ≡ its →
-    Allows (IsRuled sizes) size id me its (λ n. (n + 2 ^ 32) % 2 ^ 64) (has_freed (step size its (2 ^ 32) 0 none) me)
+    Allows (IsShadowed sizes) size id me its (λ n. (n + 2 ^ 32) % 2 ^ 64) (has_freed (step size its (2 ^ 32) 0 none) me)
 free_allowed sizes size id me some_seats sound running x c late deep its is =
-    subst (λ i. Allows (IsRuled sizes) size id me i (λ n. (n + 2 ^ 32) % 2 ^ 64) (has_freed (step size i (2 ^ 32) 0 none) me)) is
+    subst (λ i. Allows (IsShadowed sizes) size id me i (λ n. (n + 2 ^ 32) % 2 ^ 64) (has_freed (step size i (2 ^ 32) 0 none) me)) is
     (allowed_by sizes size id me there (λ n. (n + 2 ^ 32) % 2 ^ 64) (has_freed (step size there (2 ^ 32) 0 none) me)
     some_seats
     (λ s kept epochs old owed linked at.
     (let v = me.0 in
     let w = then v running x c late deep s kept epochs old owed linked id at in
-    subst (λ i. (u : View) × IsKept v.sizes (record { words = set s.words i ((slice_index s.words i + 2 ^ 32) % 2 ^ 64); homes = s.homes; views = set s.views id u })
+    subst (λ i. (u : View) × Stays sizes size id me there (λ n. (n + 2 ^ 32) % 2 ^ 64) (has_freed (step size there (2 ^ 32) 0 none) me) s u × IsKept v.sizes (record {
+      words = set s.words i
+          ((slice_index s.words i + 2 ^ 32) % 2 ^ 64);
+      homes = s.homes;
+      views = set s.views id u;
+    })
     × AreEpochs (set s.words i ((slice_index s.words i + 2 ^ 32) % 2 ^ 64)) (set s.views id u)
     × AreRetired v.sizes (set s.words i ((slice_index s.words i + 2 ^ 32) % 2 ^ 64)) (set s.views id u)
     × AreOwed (set s.views id u) × AreLinked v.sizes (set s.words i ((slice_index s.words i + 2 ^ 32) % 2 ^ 64)) (set s.views id u) × (u.heard ≡ v.heard)
     × has_freed (step size there (2 ^ 32) 0 none) me (slice_index s.words i) (u, me.1)) (word_is v running x c late deep s kept epochs old owed linked id at) (
       w,
+      (aside v running x c late deep s kept epochs old owed linked id at, refl, λ shown. shown),
       kept_then v running x c late deep s kept epochs old owed linked id at,
       epochs_then v running x c late deep s kept epochs old owed linked id at,
       retired_then v running x c late deep s kept epochs old owed linked id at,
@@ -232,7 +244,7 @@ free_allowed sizes size id me some_seats sound running x c late deep its is =
 
 -- ---- a word of a slot that is free
 
-pub see_draft_allowed : (sizes : Sizes) (size id : ℕ) (me : Me Call View) (word : ℕ) → 1 ≤ me.0.sizes.seats → Allows (IsRuled sizes) size id me word (λ n. n) (has_seen_draft
+pub see_draft_allowed : (sizes : Sizes) (size id : ℕ) (me : Me Call View) (word : ℕ) → 1 ≤ me.0.sizes.seats → Allows (IsShadowed sizes) size id me word (λ n. n) (has_seen_draft
     (step size word 0 0 none) me)
 see_draft_allowed sizes size id me word some_seats =
     allowed sizes size id me word (λ n. n) (has_seen_draft (step size word 0 0 none) me)

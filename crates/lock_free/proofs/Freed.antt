@@ -1,6 +1,6 @@
 -- The slot of a node that had no reference any more is free for its seat, which holds what the node held: the rule is kept.
 use Rattle.history.specs.declared.calls.Call.{Call}
-use Rattle.std.proofs.Common.{◌≡◌, ◌≢◌, ◌+◌, ◌*◌, ◌%◌, ◌^◌, ◌<◌, ◌≤◌, inl, inr, ℕ, zero, suc, true, List, [], ◌∷◌, Contains, Some, None}
+use Rattle.std.proofs.Common.{◌≡◌, ◌≢◌, ◌+◌, ◌*◌, ◌%◌, ◌^◌, ◌<◌, ◌≤◌, inl, inr, ℕ, true, List, Contains, Some, None}
 use Rattle.std.proofs.Common.{get_or, set, slice_index, refl, sym, ap, subst, ◌∙◌, arith}
 use Rattle.std.proofs.lemmas.Bool.{cases_Bool, cases_eq}
 use Rattle.std.proofs.lemmas.List.{get_or-set_same, get_or-set_other, set-set}
@@ -39,48 +39,24 @@ use Rattle.lock_free.specs.Nodes.{class_of}
 use Rattle.lock_free.specs.Places.{count_word, words_in}
 use Rattle.lock_free.specs.Rules.{AreEpochs, AreOwed, AreRetired, IsKept, IsRetired}
 use Rattle.lock_free.proofs.Assembling.{within}
-use Rattle.lock_free.proofs.CountKept.{all_then, else_same, root_same, seats_then}
-use Rattle.lock_free.proofs.CountWords.{count_beside, count_inside, count_not_epoch}
+use Rattle.lock_free.proofs.CellsStay.{beside_cell, count_before}
+use Rattle.lock_free.proofs.CountKept.{all_then, else_same, root_same, seats_then, taken_then}
+use Rattle.lock_free.proofs.CountWords.{count_beside, count_beside_slots, count_inside, count_not_epoch, count_not_glance, Aside, IsBesideSlots}
 use Rattle.lock_free.proofs.Drafts.{left}
 use Rattle.lock_free.proofs.EpochStays.{epoch_in, epochs_stay, stays_elsewhere, was_then}
 use Rattle.lock_free.proofs.HeldFreed as freed
 use Rattle.lock_free.proofs.HeldStill.{here_count}
+use Rattle.lock_free.proofs.Knowing.{from_is, words_from}
 use Rattle.lock_free.proofs.LinksStay.{SameLinks, linked_then}
 use Rattle.lock_free.proofs.Moments.{waited_so}
 use Rattle.lock_free.proofs.NamedHeld.{deep_names, private_held, shallow_unheld}
 use Rattle.lock_free.proofs.OneStep.Found.{slot_at}
 use Rattle.lock_free.proofs.OneStep.Retired.{retired_used}
-use Rattle.lock_free.proofs.Pools.{first_or_more, first_there, more_there}
 use Rattle.lock_free.proofs.Reclaimable.{not_live}
 use Rattle.lock_free.proofs.Reclaimed.{reclaim_kept, reclaim_linked, reclaim_retired}
 use Rattle.lock_free.proofs.RetiredSlots.{place_still, retired_small, retired_taken, stands_still}
 use Rattle.lock_free.proofs.Waiting.{waited_none}
 use Rattle.lock_free.specs.Reached.{HoldsNamed}
-
--- ---- so many words, as they are
-
-pub words_from : List ℕ → ℕ → ℕ → List (ℕ × ℕ)
-words_from words first zero = []
-words_from words first (suc n) = (first, slice_index words first) ∷ words_from words (suc first) n
-
-pub from_has : (words : List ℕ) (first n i : ℕ) → first ≤ i → i < first + n → Contains (words_from words first n) (i, slice_index words i)
-unfolding words_from
-from_has words first zero i low high = absurd (omega (arith, low, high))
-from_has words first (suc n) i low high = elim (cases_eq i first) [
-  | inl same ↦ subst (λ j. Contains (words_from words first (suc n)) (j, slice_index words j)) (sym same) (first_there (first, slice_index words first) (words_from words (suc first) n))
-  | inr differs ↦
-      more_there (first, slice_index words first) (words_from words (suc first) n) (i, slice_index words i) (from_has words (suc first) n i (omega (arith, low, differs)) (omega (arith, high)))
-]
-
-from_is : (words : List ℕ) (first n : ℕ) (d : ℕ × ℕ) → Contains (words_from words first n) d → (slice_index words d.0 ≡ d.1) × (first ≤ d.0) × (d.0 < first + n)
-unfolding words_from
-from_is words first zero d c = absurd (omega (arith, c.1))
-from_is words first (suc n) d c = elim (first_or_more (first, slice_index words first) (words_from words (suc first) n) d c) [
-  | inl same ↦
-      (let at : d.0 ≡ first = ap (λ (e : ℕ × ℕ). e.0) same in
-      (ap (λ (e : ℕ × ℕ). slice_index words e.0) same ∙ sym (ap (λ (e : ℕ × ℕ). e.1) same), omega (arith, at), omega (arith, at)))
-  | inr more ↦ (let h = from_is words (suc first) n d more in let low = h.1 in let high = h.2 in (h.0, omega (arith, low), omega (arith, high)))
-]
 
 -- ---- a count of none becomes one
 
@@ -145,6 +121,12 @@ module _ (v : View) (running : IsRunning v) (x : Retired) (c : Contains v.retire
   is_count : IsCount v.sizes word
   is_count = here_count v.sizes s kept node here
 
+  pub aside : Aside (count_word v.sizes x.class x.name) (λ n. (n + 2 ^ 32) % 2 ^ 64) s.words
+  aside = inl (count_not_glance v.sizes (count_word v.sizes x.class x.name) (subst (IsCount v.sizes) word_is is_count))
+
+  no_slots : IsBesideSlots v.sizes s.words word
+  no_slots = count_beside_slots v.sizes s.words kept.taken word is_count
+
   abbrev pub new : ℕ
   new = (slice_index s.words word + 2 ^ 32) % 2 ^ 64
 
@@ -188,18 +170,20 @@ module _ (v : View) (running : IsRunning v) (x : Retired) (c : Contains v.retire
       let beside =
       count_beside v.sizes s.words kept.taken word is_count x.class x.name d.0 (retired_small v.sizes s kept id v at x c) (retired_taken v.sizes s kept id v at x c)
       (record { low = h.1; high = h.2 }) in
-      (else_same v.sizes s kept id v at word is_count new d.0 beside ∙ h.0, h.1, h.2)
+      (else_same v.sizes s kept id v at word no_slots new d.0 beside ∙ h.0, h.1, h.2)
 
   pub kept_then : IsKept v.sizes (record { words = words_then; homes = s.homes; views = set s.views id then })
   kept_then =
-      reclaim_kept v.sizes s kept epochs old id v at x c ripe kept.account gives known words_then (root_same v.sizes s kept id v at word is_count new) (waited_none v.actor kept.account) kept.counted
-      (all_then v.sizes s kept id v at word is_count new) (seats_then v.sizes s kept id v at word is_count new) says held_then
+      reclaim_kept v.sizes s kept epochs old id v at x c ripe kept.account gives known words_then (root_same v.sizes s kept id v at word no_slots new) (waited_none v.actor kept.account) kept.counted
+      (all_then v.sizes s kept id v at word no_slots new) (seats_then v.sizes s kept id v at word no_slots new) says held_then
+      (beside_cell v.sizes s.words word new (count_before v.sizes word is_count)) (taken_then v.sizes s kept id v at word no_slots new)
 
   epoch_same : epoch_in words_then ≡ epoch_in s.words
   epoch_same = stays_elsewhere s.words word (λ n. new) (inl (count_not_epoch v.sizes word is_count))
 
   pub epochs_then : AreEpochs words_then (set s.views id then)
-  epochs_then = epochs_stay s.words words_then s.views (set s.views id then) epoch_same (was_then s.views id v at then (record { actor = refl; epoch = refl; passed = refl; pinned = λ p e. e })) epochs
+  epochs_then = epochs_stay s.words words_then s.views (set s.views id then) epoch_same (was_then s.views id v at then
+      (record { actor = refl; epoch = refl; passed = refl; glance = refl; pinned = λ p e. e })) epochs
 
   pub retired_then : AreRetired v.sizes words_then (set s.views id then)
   retired_then = reclaim_retired v.sizes s kept epochs old id v at x c ripe kept.account gives known words_then epoch_same

@@ -1,7 +1,9 @@
 -- The first slot of an aged chain of nodes that had no reference any more is free for its seat; the rest hangs still, and the seat's operation goes on.
-use Rattle.std.proofs.Common.{◌≡◌, ◌≢◌, ◌+◌, ◌<◌, ◌≤◌, inl, inr, ℕ, true, Option, Some, None, map, refl, sym, ap, subst, ◌∙◌, arith}
+use Rattle.std.proofs.Common.{◌≡◌, ◌≢◌, ◌+◌, ◌<◌, ◌≤◌, inl, inr, ℕ, true, Option, Some, None, map, refl, sym, ap, subst, ◌∙◌, arith, List, [], ◌∷◌}
 use Rattle.std.proofs.lemmas.Bool.{cases_Bool}
 use Rattle.history.specs.declared.replies.Reply.{Reply}
+use Rattle.machine_model.specs.Beneath.slot_arena.specs.declared.refs.Ref.{Ref}
+use Rattle.machine_model.specs.Beneath.slot_arena.specs.Heaps.{refs_of_node}
 use Rattle.lock_free.specs.declared.limbo.Limbo.{Limbo}
 use Rattle.lock_free.specs.declared.reclaiming.Kind.{Kind}
 use Rattle.lock_free.specs.declared.reclaiming.Kind.TheVariants as kinds
@@ -9,7 +11,9 @@ use Rattle.lock_free.specs.declared.rules.View.{View}
 use Rattle.lock_free.specs.Attempts.{HasEndedWith, IsEnding}
 use Rattle.lock_free.specs.Becoming.{Follows}
 use Rattle.lock_free.specs.Calling.{IsRunning}
-use Rattle.lock_free.specs.Freeing.{freeing, HasFreed, HasFreedSome, HasLeftOne, HasLetGo, IsRipeDeep}
+use Rattle.lock_free.specs.Freeing.{freeing, HasFreed, HasFreedSome, HasLetGo, IsRipeDeep}
+use Rattle.lock_free.specs.Claims.{HoldsAll}
+use Rattle.lock_free.specs.LeftNodes.{beside, MayLetGo}
 use Rattle.lock_free.specs.Limbos.{chains_of, led_on, turned_in, IsLimbo}
 use Rattle.lock_free.specs.Loading.{IsSound, Runs}
 use Rattle.lock_free.specs.Making.{with_slot}
@@ -52,6 +56,11 @@ module _ (limbo : Limbo) (v : View) (h : IsLimbo limbo v) (kind : Kind) (deep : 
     is_deep,
   )
 
+-- none is left out
+all_beside : (v : View) (ks : List Ref) → beside v [] ks ≡ ks
+all_beside v [] = refl
+all_beside v (k ∷ ks) = ap (λ xs. k ∷ xs) (all_beside v ks)
+
 -- ---- after the access
 
 module _ (n : ℕ) (v : View) (sound : IsSound n v) (running : IsRunning v) (stock : Stocked) (is : IsStock stock v) (kind : Kind) (class : ℕ) (low : class < 3) (slot : ℕ) (first :
@@ -63,15 +72,17 @@ module _ (n : ℕ) (v : View) (sound : IsSound n v) (running : IsRunning v) (sto
       (limbo_stays (led_on stock.limbo kind class link) (reclaiming v class slot) (freeing v freed.account class slot freed.node freed.known) refl
       (limbo_let_go stock.limbo v is.limbo kind class low slot first link (reclaiming v class slot) (freed.its_link, refl)))
 
-  pub freed_left : HasLeftOne w slot kind
-  freed_left = (
-    freed.node,
-    freed.slot,
-    freed.left,
-    sym (freed.kind (item stock.limbo v is.limbo kind class low slot first) (item_held stock.limbo v is.limbo kind class low slot first)
+  pub freed_left : MayLetGo w slot kind []
+  freed_left = record {
+    node = freed.node;
+    slot = freed.slot;
+    left = freed.left.left;
+    its_kind =
+        sym (freed.kind (item stock.limbo v is.limbo kind class low slot first) (item_held stock.limbo v is.limbo kind class low slot first)
         (item_class stock.limbo v is.limbo kind class low slot first) (its_name stock.limbo v is.limbo kind class low slot first))
-        ∙ item_kind stock.limbo v is.limbo kind class low slot first,
-  )
+        ∙ item_kind stock.limbo v is.limbo kind class low slot first;
+    holds = subst (λ ks. HoldsAll ks w.owed) (sym (all_beside w (refs_of_node freed.slot.node))) freed.left.holds;
+  }
 
   follows_now : Follows v w
   follows_now =

@@ -14,6 +14,8 @@ use Rattle.lock_free.specs.declared.sizes.Sizes.{Sizes}
 use Rattle.lock_free.specs.Accounts.{bounds_for, HasWaited}
 use Rattle.lock_free.specs.Finishing.{seen_by, unoffered, HasHeard, HasHeardMore, IsTold}
 use Rattle.lock_free.specs.Rules.{first_account, IsKept, IsRuled}
+use Rattle.lock_free.specs.Shadows.{IsShadowed, with_views}
+use Rattle.lock_free.proofs.OneGlance.Shadowed.{its_shadow}
 use Rattle.lock_free.proofs.AnswersTold.{never_told, others_say_nothing}
 use Rattle.lock_free.proofs.Hearing.{still_heard}
 use Rattle.lock_free.proofs.HistoriesOn.{histories_go_on}
@@ -76,23 +78,27 @@ module _ (law : EveryOrderIsLegal) (sizes : Sizes) (s : Table.State Call View) (
           rested = λ a above below. seat.rested a (subst (λ n. n < a) (sym g.actor) above) (subst (λ n. a ≤ n) (sym g.last) below);
         }
 
-finished : EveryOrderIsLegal → (sizes : Sizes) (id : ℕ) (v : View) (ws : List ℕ) (xs : List Call) → Final (Seen (IsRuled sizes) id v) ws xs →
+finished : EveryOrderIsLegal → (sizes : Sizes) (id : ℕ) (v : View) → 1 ≤ v.sizes.seats → (ws : List ℕ) (xs : List Call) → Final (Seen (IsShadowed sizes) id v) ws xs →
     {X : Type 0} (of : X → View) (others : List X) (last : X) →
     HasHeardMore (of last) v → All (λ o. HasHeard v (of o)) others → IsTold sizes (map of (others ++ last ∷ []))
-finished law sizes id v ws xs (s, seen, words, homes, rest) of others last more all =
-    told_by law sizes s seen.0 (map of (others ++ last ∷ []))
-    (All-map (λ w. Rests sizes seen.0.kept.account w) of (others ++ last ∷ [])
-    (All-append (λ o. Rests sizes seen.0.kept.account (of o)) others (last ∷ []) (λ k d low. heard_rests law sizes s seen.0 id v seen.1 _ (all k d low))
-    (All-cons (λ o. Rests sizes seen.0.kept.account (of o)) last [] (last_rests law sizes s seen.0 id v seen.1 (of last) more) (All-nil (λ o. Rests sizes seen.0.kept.account (of o))))))
+finished law sizes id v some_seats ws xs (s, seen, words, homes, rest) of others last more all =
+    let shadows = with_views s seen.0.shadows in
+    let ruled = seen.0.ruled in
+    let here = (its_shadow sizes s seen.0 id v seen.1 some_seats).0 in
+    told_by law sizes shadows ruled (map of (others ++ last ∷ []))
+    (All-map (λ w. Rests sizes ruled.kept.account w) of (others ++ last ∷ [])
+    (All-append (λ o. Rests sizes ruled.kept.account (of o)) others (last ∷ []) (λ k d low. heard_rests law sizes shadows ruled id v here _ (all k d low))
+    (All-cons (λ o. Rests sizes ruled.kept.account (of o)) last [] (last_rests law sizes shadows ruled id v here (of last) more) (All-nil (λ o. Rests sizes ruled.kept.account (of o))))))
 
-finished_alone : EveryOrderIsLegal → (sizes : Sizes) (ws : List ℕ) (xs : List Call) → Final (IsRuled sizes) ws xs → IsTold sizes []
-finished_alone law sizes ws xs (s, ruled, words, homes, rest) = told_by law sizes s ruled [] (All-nil (λ w. Rests sizes ruled.kept.account w))
+finished_alone : EveryOrderIsLegal → (sizes : Sizes) (ws : List ℕ) (xs : List Call) → Final (IsShadowed sizes) ws xs → IsTold sizes []
+finished_alone law sizes ws xs (s, h, words, homes, rest) = told_by law sizes (with_views s h.shadows) h.ruled [] (All-nil (λ w. Rests sizes h.ruled.kept.account w))
 
-pub finished_all : {X : Type 0} (of : X → View) → EveryOrderIsLegal → (sizes : Sizes) (id : ℕ) (v : View) (ws : List ℕ) (xs : List Call) → Final (Seen (IsRuled sizes) id v) ws xs →
-    (seats others : List X) (last : X) → seats ≡ others ++ last ∷ [] → HasHeardMore (of last) v → All (λ o. HasHeard v (of o)) others → IsTold sizes (map of seats)
-finished_all of law sizes id v ws xs final seats others last is more all =
-    subst (λ ss. IsTold sizes (map of ss)) (sym is) (finished law sizes id v ws xs final of others last more all)
+pub finished_all : {X : Type 0} (of : X → View) → EveryOrderIsLegal → (sizes : Sizes) (id : ℕ) (v : View) → 1 ≤ v.sizes.seats → (ws : List ℕ) (xs : List Call) →
+    Final (Seen (IsShadowed sizes) id v) ws xs → (seats others : List X) (last : X) → seats ≡ others ++ last ∷ [] → HasHeardMore (of last) v → All (λ o. HasHeard v (of o)) others
+    → IsTold sizes (map of seats)
+finished_all of law sizes id v some_seats ws xs final seats others last is more all =
+    subst (λ ss. IsTold sizes (map of ss)) (sym is) (finished law sizes id v some_seats ws xs final of others last more all)
 
-pub finished_none : {X : Type 0} (of : X → View) → EveryOrderIsLegal → (sizes : Sizes) (ws : List ℕ) (xs : List Call) → Final (IsRuled sizes) ws xs → (seats : List X) → seats ≡ [] →
+pub finished_none : {X : Type 0} (of : X → View) → EveryOrderIsLegal → (sizes : Sizes) (ws : List ℕ) (xs : List Call) → Final (IsShadowed sizes) ws xs → (seats : List X) → seats ≡ [] →
     IsTold sizes (map of seats)
 finished_none of law sizes ws xs final seats none = subst (λ ss. IsTold sizes (map of ss)) (sym none) (finished_alone law sizes ws xs final)

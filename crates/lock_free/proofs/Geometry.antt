@@ -96,6 +96,6 @@ root_apart (suc g) zero e = absurd (omega (arith, e, next_root g))
 root_apart (suc g) (suc h) e = omega (arith, e, next_root g, next_root h)
 
 -- it isn't the epoch's
-pub root_not_epoch : (handle : ℕ) → root_word handle ≢ epoch_word
-root_not_epoch zero e = absurd (omega (arith, e))
-root_not_epoch (suc handle) e = absurd (omega (arith, e, next_root handle))
+pub root_far : (handle : ℕ) → 2 ≤ root_word handle
+root_far zero = omega arith
+root_far (suc handle) = let is = next_root handle in omega (arith, is)

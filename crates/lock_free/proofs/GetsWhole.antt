@@ -1,5 +1,5 @@
 -- A get as a whole: answered by its first try, or as a call of any kind.
-use Rattle.std.proofs.Common.{◌≡◌, ℕ, Option, None, Ok, refl}
+use Rattle.std.proofs.Common.{◌≡◌, ℕ, inl, inr, is_some, Option, None, Ok, refl}
 use Rattle.history.specs.declared.calls.Access.{Access}
 use Rattle.history.specs.declared.calls.Call.{Call}
 use Rattle.history.specs.declared.replies.Reply.TheVariants as reply
@@ -12,7 +12,7 @@ use Rattle.lock_free.specs.declared.call_runs.Ran.TheVariants as ran
 use Rattle.lock_free.specs.declared.leaving.Left.TheVariants as left
 use Rattle.lock_free.specs.declared.rules.View.{View}
 use Rattle.lock_free.specs.Calling.{IsRunning}
-use Rattle.lock_free.specs.GetRuns.{HasGotten}
+use Rattle.lock_free.specs.GetRuns.{HasGotten, IsToldOrAgain, IsToldIfSomeOrAgain}
 use Rattle.lock_free.specs.Holding.{IsOn}
 use Rattle.lock_free.specs.Leaving.{HasLeftOff, IsRepair, Leaves}
 use Rattle.lock_free.specs.Loading.{IsAt}
@@ -21,6 +21,7 @@ use Rattle.lock_free.specs.SeatWords.{HasEnded, IsAtEnd}
 use Rattle.lock_free.specs.Seeking.{IsCalled}
 use Rattle.lock_free.specs.UnderWay.{HasComeOut, IsUnderWay}
 use Rattle.lock_free.specs.WholeCalls.{HasLeft}
+use Rattle.lock_free.proofs.CellStock.{given_none}
 use Rattle.lock_free.proofs.CallBegins.{same_run}
 use Rattle.lock_free.proofs.CallsRunOn.{at_end}
 use Rattle.lock_free.proofs.CallsUnderWay.{left_both, left_told, replied_told, run_out, under_way_on}
@@ -50,7 +51,7 @@ module _ (v w : View) (r : RunsOn v w) (value : Option ℕ) (is_on_end : IsOn w 
       refl,
       x,
       record { late = w; on = runs_on_self w; ends = is_on_end; ended = ended (reply.Found value) is_at_end },
-      none_reclaimed x,
+      (x, none_reclaimed x, given_none x),
     )
 
     pub value_told : (c : Call) → HasGotten v c (Ok value) x
@@ -83,3 +84,10 @@ module _ (v w : View) (r : RunsOn v w) where
 
   pub left_since_then : (x : View) → HasLeft w x → HasLeft v x
   left_since_then x left = left_both v w x (same_run v w r) left
+
+-- ---- whether its key has a value
+
+pub told_some : (before : View) (call : Call) (value : Option ℕ) (after : View) → IsToldOrAgain reply.Found before call (Ok value) after →
+    IsToldIfSomeOrAgain before call (Ok (is_some value)) after
+told_some before call value after (inl told) = inl (value, refl, told)
+told_some before call value after (inr (at, same, refused, since, told)) = inr (at, same, refused, since, (value, refl, told))

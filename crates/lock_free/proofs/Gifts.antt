@@ -1,6 +1,6 @@
 -- Who gives up what it has made is given what its nodes name of others: it leads there itself.
-use Rattle.std.proofs.Common.{◌≡◌, ◌≤◌, not, inl, inr, get_or, ℕ, Bool, true, false, List, [], ◌∷◌, Contains, cond, count_by, refl, ap, subst, ◌∙◌, arith}
-use Rattle.std.proofs.lemmas.List.Elements.{Contains-append_cases, Contains-append_left, Contains-append_right, Contains-push}
+use Rattle.std.proofs.Common.{◌≡◌, ◌≤◌, not, ℕ, Bool, true, false, List, [], ◌∷◌, Contains, cond, count_by, refl, ap, ◌∙◌, arith}
+use Rattle.std.proofs.lemmas.List.Elements.{Contains-append_left, Contains-append_right, Contains-push}
 use Rattle.std.proofs.lemmas.List.Sums.{sum_by-cons}
 use Rattle.machine_model.specs.Beneath.slot_arena.specs.declared.refs.Ref.{Ref}
 use Rattle.machine_model.specs.Beneath.slot_arena.specs.Heaps.{node_at, refs_of_node}
@@ -18,7 +18,7 @@ use Rattle.lock_free.specs.declared.sizes.Sizes.{Sizes}
 use Rattle.lock_free.specs.Accounts.{bounds_for, running, state_of}
 use Rattle.lock_free.specs.Claims.{held_now}
 use Rattle.lock_free.specs.Counts.{how_often}
-use Rattle.lock_free.proofs.ClaimsThere.{has_often, often_has}
+use Rattle.lock_free.proofs.ClaimsThere.{has_often}
 
 -- where some are counted there is one
 one_counted : (P : Ref → Bool) (xs : List Ref) → 1 ≤ count_by P xs → (x : Ref) × Contains xs x × (P x ≡ true)
@@ -31,19 +31,6 @@ one_counted P (x ∷ xs) some = by (P x) refl (one_counted P xs)
         let all = sum_by-cons (λ (y : Ref). cond {A = ℕ} (P y) 1 0) x xs in
         let none = ap {B = ℕ} (λ b. cond b 1 0) e in
         let rest = later (omega (arith, some, all, none)) in (rest.0, Contains-append_right (x ∷ []) xs rest.0 rest.1, rest.2)
-
--- and where there is one it is counted
-some_counted : (P : Ref → Bool) (xs : List Ref) (x : Ref) → Contains xs x → P x ≡ true → 1 ≤ count_by P xs
-some_counted P [] x (i, inside, at) e = absurd (omega arith)
-some_counted P (y ∷ xs) x c e =
-    let all = sum_by-cons (λ (z : Ref). cond {A = ℕ} (P z) 1 0) y xs in
-    elim (Contains-append_cases (y ∷ []) xs x c) [
-      | inl first ↦ (let one = ap {B = ℕ} (λ b. cond b 1 0) (ap P (only x first) ∙ e) in omega (arith, all, one))
-      | inr rest ↦ (let some = some_counted P xs x rest e in omega (arith, all, some))
-    ]
-  where
-    only : (z : Ref) → Contains (y ∷ []) z → y ≡ z
-    only z (i, within, at_i) = let zero_is : i ≡ 0 = omega arith in subst (λ n. get_or (y ∷ []) n z ≡ z) zero_is at_i
 
 -- one of its nodes names this one, and it isn't one of them
 pub record GiftOf (sizes : Sizes) (account : Account) (o : Operation) (k : Ref) : Type 0 where
@@ -63,7 +50,7 @@ module _ (sizes : Sizes) (account : Account) (bounds : AreBounds (bounds_for siz
   abbrev gifts : List Ref
   gifts = gives (given_up o.private) held.claims
 
-  times : (k : Ref) → how_often k gifts ≡ times_made (is_in o.private k) state held o k
+  pub times : (k : Ref) → how_often k (gives (given_up o.private) (held_now sizes account).claims) ≡ times_made (is_in o.private k) (state_of sizes account) (held_now sizes account) o k
   times k = given_times (bounds_for sizes account.steps) bounds account.steps keys actor o runs k (is_in o.private k) refl
 
   pub given_of : (k : Ref) → Contains (gives (given_up o.private) (held_now sizes account).claims) k → GiftOf sizes account o k
@@ -81,10 +68,3 @@ module _ (sizes : Sizes) (account : Account) (bounds : AreBounds (bounds_for siz
             names = among (refs_of_node (node_at state.heap one.0)) k (both_true (names state one.0 k) (not (takes_at state held o.line one.0 k)) one.2).0;
             apart = e;
           }
-
-  -- what one of its nodes names and isn't to take over is given
-  pub has_given : (x k : Ref) → Contains o.private x → holds_made (state_of sizes account) (held_now sizes account) o x k ≡ true → is_in o.private k ≡ false →
-      Contains (gives (given_up o.private) (held_now sizes account).claims) k
-  has_given x k mine made apart =
-      let some = some_counted (λ (y : Ref). holds_made state held o y k) o.private x mine made in
-      let all = times k ∙ ap (λ b. times_made b state held o k) apart in often_has k gifts (omega (arith, some, all))

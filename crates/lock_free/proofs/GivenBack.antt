@@ -1,6 +1,6 @@
 -- The slots of nodes that an operation gives up are free for its seat.
 use Rattle.history.specs.declared.calls.Call.{Call}
-use Rattle.std.proofs.Common.{◌≡◌, ◌≢◌, ◌⊎◌, ◌<◌, ◌==◌, ℕ, zero, suc, length, inl, inr, true, ◌||◌, List, [], ◌∷◌, Contains, map, get_or, Some, None, refl, sym, ap, subst, ◌∙◌, arith, eq-eqb}
+use Rattle.std.proofs.Common.{◌≡◌, ◌≢◌, ◌⊎◌, ◌<◌, ◌==◌, ℕ, zero, suc, length, inl, inr, true, ◌||◌, List, [], ◌∷◌, Contains, map, get_or, Some, None, refl, sym, ap, subst, ◌∙◌, arith, eq-eqb, ◌++◌}
 use Rattle.std.proofs.Math.Bool.{or-true}
 use Rattle.std.proofs.lemmas.List.Elements.{Contains-get_or, Contains-append_right}
 use mathlib.Core.Option.{some}
@@ -11,16 +11,17 @@ use Rattle.machine_model.specs.Beneath.slot_arena.specs.declared.nodes.Slot.{Slo
 use Rattle.machine_model.specs.Beneath.slot_arena.specs.Heaps.{stored, node_at, node_of}
 use Rattle.machine_model.specs.Beneath.slot_arena.specs.Refs.{slot_of}
 use Rattle.machine_model.specs.States.{State}
+use Rattle.lock_free.specs.declared.accounts.Account.{Account}
 use Rattle.lock_free.specs.declared.rules.Pool.{Pool}
 use Rattle.lock_free.specs.declared.rules.View.{View}
 use Rattle.lock_free.specs.Accounts.{state_of, place_of}
-use Rattle.lock_free.specs.Exchanging.{given_back}
+use Rattle.lock_free.specs.GivingUp.{given_back}
 use Rattle.lock_free.specs.Making.{with_slot}
 use Rattle.lock_free.specs.Nodes.{class_of}
 use Rattle.lock_free.specs.Rules.{Stands, Once, pool_of, IsKept}
 use Rattle.lock_free.proofs.Asked.{is_one_of}
 use Rattle.lock_free.proofs.Framing.{class_small}
-use Rattle.lock_free.proofs.Pools.{free_still, was_free, once_with}
+use Rattle.lock_free.proofs.Pools.{free_still, now_free, was_free, once_with, parted_same}
 
 pub node_is : (state : State) (r : Ref) (slot : Slot) → get_or state.heap.slots (slot_of r) None ≡ Some slot → node_at state.heap r ≡ slot.node
 unfolding node_at stored
@@ -51,6 +52,32 @@ one_of (x ∷ xs) r c = elim (first_or x xs r c) [
   | inl same ↦ ap (λ b. b || is_one_of xs (slot_of r)) (eq-eqb (slot_of x) (slot_of r) (ap slot_of same))
   | inr more ↦ ap (λ b. (slot_of x == slot_of r) || b) (one_of xs r more) ∙ or-true (slot_of x == slot_of r)
 ]
+
+-- each that is given back is free then, and what was free is
+pub still_free : (state : State) (account : Account) (rs : List Ref) (pool : Pool) (b name : ℕ) → b < 3 → Contains (pool_of pool b) name → Contains (pool_of (given_back state account rs pool) b) name
+still_free state account [] pool b name low c = c
+still_free state account (r ∷ rs) pool b name low c =
+    let class = class_of (node_at state.heap r) in
+    still_free state account rs (with_slot pool class (place_of account r)) b name low (free_still pool class (place_of account r) (class_small (node_at state.heap r)) b name low c)
+
+pub given_free : (state : State) (account : Account) (rs : List Ref) (pool : Pool) (r : Ref) → Contains rs r → Contains
+    (pool_of (given_back state account rs pool) (class_of (node_at state.heap r))) (place_of account r)
+given_free state account [] pool r c = absurd (omega (arith, c.1))
+given_free state account (x ∷ rs) pool r c =
+    let class = class_of (node_at state.heap x) in
+    let next = with_slot pool class (place_of account x) in
+    elim (first_or x rs r c) [
+      | inl same ↦
+          subst (λ q. Contains (pool_of (given_back state account rs next) (class_of (node_at state.heap q))) (place_of account q)) same
+          (still_free state account rs next class (place_of account x) (class_small (node_at state.heap x)) (now_free pool class (place_of account x) (class_small (node_at state.heap x))))
+      | inr more ↦ given_free state account rs next r more
+    ]
+
+pub parted_back : (state : State) (account : Account) (rs : List Ref) (pool : Pool) → (given_back state account rs pool).parted ≡ pool.parted
+parted_back state account [] pool = refl
+parted_back state account (r ∷ rs) pool =
+    let class = class_of (node_at state.heap r) in
+    parted_back state account rs (with_slot pool class (place_of account r)) ∙ parted_same pool class (pool_of pool class ++ place_of account r ∷ [])
 
 module _ (v : View) (s : Table.State Call View) (kept : IsKept v.sizes s) (id : ℕ) (at : get_elem? s.views id ≡ some v) where
   abbrev state : State

@@ -31,7 +31,8 @@ use Rattle.lock_free.specs.Rules.{AreRetired, IsKept}
 use Rattle.lock_free.proofs.Asked.{nodes_stay}
 use Rattle.lock_free.proofs.GivenBack.{node_is}
 use Rattle.lock_free.proofs.Led.{early_led, led_here, led_own, led_pinned, led_lives}
-use Rattle.lock_free.proofs.Moments.{entry_named, hand_by, same_entries, same_hash, same_place, seat, waited_so}
+use Rattle.lock_free.proofs.LastingNodes.{entry_named, hand_by, same_entries, same_hash}
+use Rattle.lock_free.proofs.Moments.{same_place, seat, waited_so}
 
 pub class_stays : (before after : Node) → SameNode before after → class_of after ≡ class_of before
 class_stays (Indirection generation main) after same = ap class_of same.1

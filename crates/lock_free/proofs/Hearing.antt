@@ -8,6 +8,7 @@ use lib.ListN.{get_elem?}
 use Rattle.atomic_table.specs.Table as Table
 use Rattle.atomic_table.specs.Table.{Me, Act, gives, keeps, chain, carried_after, homes_after, Valid, Allows, Joins, step}
 use Rattle.atomic_table.proofs.Lists.{at_set, set_else}
+use Rattle.lock_free.proofs.OneGlance.Shadowed.{lifted, lifted_join}
 use Rattle.lock_free.proofs.CountWords.{count_same}
 use Rattle.lock_free.proofs.OwedStay.{owed_same, owed_then}
 use Rattle.lock_free.proofs.LinksStay.{Knew, knew_none, knew_then, linked_then, links_stay}
@@ -19,8 +20,10 @@ use Rattle.lock_free.specs.declared.sizes.Sizes.{Sizes}
 use Rattle.lock_free.specs.Accounts.{state_of}
 use Rattle.lock_free.specs.Finishing.{gone, has_emptied, hearing, seen_by, unoffered, HasHeard, HasHeardMore}
 use Rattle.lock_free.specs.Loading.{HasSeen, IsSound}
+use Rattle.lock_free.specs.Shadows.{IsShadowed}
 use Rattle.lock_free.specs.Rules.{IsFree, IsSeat, IsKept, IsRuled, WasGivenUp}
 use Rattle.lock_free.proofs.Assembling.{all_stand, closing_stays, here, numbers_stay, assembled}
+use Rattle.lock_free.proofs.CellsStay.{cells_seen}
 use Rattle.lock_free.proofs.GivenBack.{first_or}
 use Rattle.lock_free.proofs.GoneSeats.{given_up_still, heard_still}
 use Rattle.lock_free.proofs.Meanings.{no_tries}
@@ -31,11 +34,12 @@ use Rattle.lock_free.proofs.Pools.{first_there, more_there}
 use Rattle.lock_free.proofs.HeldStill.{held_fewer, held_views}
 use Rattle.lock_free.proofs.Waiting.{waited_unoffered}
 use Rattle.lock_free.proofs.LinesStay.{lines_idle, unpinned_idle}
+use Rattle.lock_free.proofs.PartingStay.{knows_spent}
 
 -- ---- the rule
 
 -- it doesn't speak of the table's slots
-homed : (sizes : Sizes) (s : Table.State Call View) → IsKept sizes s → (homes : _) → IsKept sizes (record { words = s.words; homes = homes; views = s.views })
+pub homed : (sizes : Sizes) (s : Table.State Call View) → IsKept sizes s → (homes : _) → IsKept sizes (record { words = s.words; homes = homes; views = s.views })
 homed sizes s kept homes = record {
   account = kept.account;
   stands = kept.stands;
@@ -57,6 +61,7 @@ homed sizes s kept homes = record {
   pools = kept.pools;
   numbers = kept.numbers;
   held = kept.held;
+  cells = kept.cells;
 }
 
 -- nor of whom a seat has heard
@@ -89,15 +94,16 @@ module _ (sizes : Sizes) (s : Table.State Call View) (kept : IsKept sizes s) (id
     once = mine.once;
     drafts = mine.drafts;
     plain = mine.plain;
+    offering = mine.offering;
   }
 
   later_kept : IsKept sizes (record { words = s.words; homes = s.homes; views = set s.views id later })
   later_kept =
       assembled sizes s kept id v at later refl refl kept.account kept.stands s.words (all_stand sizes s kept)
-      (λ handle who low says. closing_stays sizes s kept id v at later refl refl (λ h e. e) refl handle who (kept.closings handle who low says)) later_seat
+      (λ handle who low says. closing_stays sizes s kept id v at later refl refl (λ h e. (e, refl)) refl (λ c. c) handle who (kept.closings handle who low says)) later_seat
       (λ other w e apart. kept.seats other w e) (λ b n f. inl f)
       (numbers_stay sizes s kept id v at later refl refl kept.account s.words (no_tries kept.account.offers (state_of sizes kept.account)) (λ slot none. none) (λ handle low. refl) refl
-      (λ slot handle e free. free)) (held_views sizes s kept id v at later refl refl refl)
+      (λ slot handle e free. free)) (held_views sizes s kept id v at later refl refl refl) (cells_seen sizes s kept id v at later (λ b n f. f))
 
 -- nor of the slots of a seat that is given up while it rests
 module _ (sizes : Sizes) (s : Table.State Call View) (kept : IsKept sizes s) (id : ℕ) (v : View) (at : get_elem? s.views id ≡ some v) (unpinned : v.pin ≡ None) (opens_none : v.opens ≡ None) where
@@ -132,17 +138,19 @@ module _ (sizes : Sizes) (s : Table.State Call View) (kept : IsKept sizes s) (id
     once = none_twice sizes v.actor v.last v.account;
     drafts = λ d c. absurd (empty_has d c);
     plain = its.plain;
+    offering = knows_spent kept.account.offered kept.account.offers kept.account.parted s.words v.actor v.pin v.offer v.pool.parted its.offering;
   }
 
   left_kept : IsKept sizes (record { words = s.words; homes = s.homes; views = set s.views id emptied })
   left_kept =
       assembled sizes s kept id v at emptied refl refl kept.account kept.stands s.words (all_stand sizes s kept)
-      (λ handle who low says. closing_stays sizes s kept id v at emptied refl refl (λ h e. e) refl handle who (kept.closings handle who low says)) left_seat
+      (λ handle who low says. closing_stays sizes s kept id v at emptied refl refl (λ h e. (e, refl)) refl (λ c. c) handle who (kept.closings handle who low says)) left_seat
       (λ other w e apart. kept.seats other w e) (λ b n f. absurd (nothing_free b n f))
       (numbers_stay sizes s kept id v at emptied refl refl kept.account s.words (no_tries kept.account.offers (state_of sizes kept.account)) (λ slot none. none) (λ handle low. refl) refl
       (λ slot handle o free. absurd (none-some handle (sym opens_none ∙ o))))
       (held_fewer sizes s kept id v at emptied refl (λ k. omega arith) (λ k c. absurd (empty_has k c)) (λ n. omega arith) (λ y c. absurd (empty_has y c))
       (lines_idle sizes s kept id v at kept.account emptied (λ a differs. refl) (unpinned_idle sizes s kept id v at unpinned)) s.words (λ c is. refl))
+      (cells_seen sizes s kept id v at emptied (λ b n f. absurd (nothing_free b n f)))
 
 -- ---- the one hears of the other
 
@@ -172,7 +180,7 @@ module _ (sizes : Sizes) (id : ℕ) (v : View) (some_v : 1 ≤ v.sizes.seats) (o
     actor = ap (λ (x : Heard). x.actor) same;
     last = ap (λ (x : Heard). x.last) same;
     account = ap (λ (x : Heard). x.account) same;
-    bare = (refl, refl, refl, refl);
+    bare = (refl, refl, refl, refl, refl);
   }
 
   was_there : get_elem? s.views other ≡ some w
@@ -203,8 +211,8 @@ module _ (sizes : Sizes) (id : ℕ) (v : View) (some_v : 1 ≤ v.sizes.seats) (o
     where
       was : (k : ℕ) (x : View) → get_elem? views_then k ≡ some x → Was s.views x
       was k x f = elim (at_set (set s.views id (hearing v w)) other k (gone w) x f) [
-        | inl p ↦ was_one other w was_there (subst (IsAsWas w) p.1 (record { actor = refl; epoch = refl; passed = refl; pinned = λ q e. e }))
-        | inr p ↦ was_then s.views id v at (hearing v w) (record { actor = refl; epoch = refl; passed = refl; pinned = λ q e. e }) k x p.1
+        | inl p ↦ was_one other w was_there (subst (IsAsWas w) p.1 (record { actor = refl; epoch = refl; passed = refl; glance = refl; pinned = λ q e. e }))
+        | inr p ↦ was_then s.views id v at (hearing v w) (record { actor = refl; epoch = refl; passed = refl; glance = refl; pinned = λ q e. e }) k x p.1
       ]
 
       retires : (k : ℕ) (x : View) → get_elem? views_then k ≡ some x → Retires s.views k x
@@ -220,8 +228,10 @@ module _ (sizes : Sizes) (id : ℕ) (v : View) (some_v : 1 ≤ v.sizes.seats) (o
       ]
 
 pub hearing_joins : (sizes : Sizes) (id : ℕ) (v : View) → 1 ≤ v.sizes.seats → (other : ℕ) (w : View) → 1 ≤ w.sizes.seats → (w.pin ≡ None) × (w.opens ≡ None) →
-    Joins (IsRuled sizes) id v other w (hearing v w) (gone w)
-hearing_joins sizes id v some_v other w some_w rests s ruled at apart e = heard_ruled sizes id v some_v other w some_w rests s ruled at apart e
+    Joins (IsShadowed sizes) id v other w (hearing v w) (gone w)
+hearing_joins sizes id v some_v other w some_w rests =
+    lifted_join sizes id v some_v other w (hearing v w) (gone w) some_w (refl, refl) (refl, refl)
+    (λ s ruled at apart e. heard_ruled sizes id v some_v other w some_w rests s ruled at apart e)
 
 -- ---- a seat gives back whatever slots it has
 
@@ -240,9 +250,11 @@ may_give homes [] = tt
 may_give homes (x ∷ xs) = (tt, may_give (set homes x.0 (some x.1)) xs)
 
 module _ (sizes : Sizes) (size id : ℕ) (me : Me Call View) (word : ℕ) (some_seats : 1 ≤ me.0.sizes.seats) where
-  pub empties : Allows (IsRuled sizes) size id me word (λ n. n) (has_emptied (step size word 0 0 none) me)
-  empties s ruled length_is at low =
-      let its = (ruled.kept.seats id me.0 at).same some_seats in
+  pub empties : Allows (IsShadowed sizes) size id me word (λ n. n) (has_emptied (step size word 0 0 none) me)
+  empties =
+      lifted sizes size id me word (λ n. n) (has_emptied (step size word 0 0 none) me) some_seats
+      (λ s ruled at.
+      (let its = (ruled.kept.seats id me.0 at).same some_seats in
       let own = subst (λ z. IsKept z s) (sym its) ruled.kept in
       let view = seen_view me.0 s own id at in
       let after = homed me.0.sizes (record { words = s.words; homes = s.homes; views = set s.views id view }) (seen_kept me.0 s own id at) (homes_after s.homes me.1 (gives_all me.1)) in
@@ -250,13 +262,14 @@ module _ (sizes : Sizes) (size id : ℕ) (me : Me Call View) (word : ℕ) (some_
       subst (λ ws. IsKept me.0.sizes (record { words = ws; homes = homes_after s.homes me.1 (gives_all me.1); views = set s.views id view })) (sym (set-get_or s.words word 0)) after in (
         view,
         gives_all me.1,
+        (inr refl, refl, λ shown. shown),
         may_give s.homes me.1,
         record {
           kept =
               subst (λ z. IsKept z (record { words = set s.words word (slice_index s.words word); homes = homes_after s.homes me.1 (gives_all me.1); views = set s.views id view })) its there;
           epochs =
               epochs_stay s.words (set s.words word (slice_index s.words word)) s.views (set s.views id view) (stays_elsewhere s.words word (λ n. n) (inr refl))
-              (was_then s.views id me.0 at view (record { actor = refl; epoch = refl; passed = refl; pinned = λ q e. e })) ruled.epochs;
+              (was_then s.views id me.0 at view (record { actor = refl; epoch = refl; passed = refl; glance = refl; pinned = λ q e. e })) ruled.epochs;
           retired =
               retired_then s.views id me.0 at view refl (λ p is. is) sizes s.words (set s.words word (slice_index s.words word))
               (epoch_still s.words (set s.words word (slice_index s.words word)) (stays_elsewhere s.words word (λ n. n) (inr refl))) ruled.retired;
@@ -267,7 +280,7 @@ module _ (sizes : Sizes) (size id : ℕ) (me : Me Call View) (word : ℕ) (some_
           heard = heard_still s.views id me.0 at some_seats view refl ruled.heard;
         },
         ((record { table = s; kept = own; id = id; at = at; finds = refl }, refl), none_left me.1),
-      )
+      )))
 
 -- ---- what is known then
 

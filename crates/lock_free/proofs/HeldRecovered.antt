@@ -21,7 +21,7 @@ use Rattle.lock_free.specs.declared.rules.Retired.{Retired}
 use Rattle.lock_free.specs.declared.rules.View.{View}
 use Rattle.lock_free.specs.declared.sizes.Sizes.{Sizes}
 use Rattle.lock_free.specs.Accounts.{bounds_for, place_at, place_of, state_of, HasGrown}
-use Rattle.lock_free.specs.Alone.{name_of, AreMarks, IsByItself, Marks}
+use Rattle.lock_free.specs.Alone.{name_of, IsByItself, Marks}
 use Rattle.lock_free.specs.Claims.{held_now, is_there}
 use Rattle.lock_free.specs.Counts.{references}
 use Rattle.lock_free.specs.Holdings.{AreHeld, IsHere, WasGarbageBefore}
@@ -43,7 +43,7 @@ use Rattle.lock_free.specs.Reached.{IsDead, IsOwed, IsReached}
 use Rattle.lock_free.proofs.HeldFrom.{held_each}
 
 module _ (v : View) (s : Table.State Call View) (kept : IsKept v.sizes s) (heard : (h : Heard) → Contains v.heard h → WasGivenUp s.views h) (id : ℕ) (at : get_elem? s.views id ≡ some v)
-    (it : IsByItself v) (class : ℕ) (small : class < 3) (marks : Marks) (are : AreMarks v class marks) (unowed : (k : Ref) → Contains v.owed k → ⊥)
+    (it : IsByItself v) (class : ℕ) (small : class < 3) (marks : Marks) (are : recovered.MarksLed v class marks) (unowed : (k : Ref) → Contains v.owed k → ⊥)
     (counted : (number : ℕ) → number < slice_index s.words (taken_word class) → marks number ≡ false → 1 ≤ references s.words (count_word v.sizes class (name_of v.sizes class number))) where
   abbrev sizes : Sizes
   sizes = v.sizes

@@ -9,7 +9,7 @@ use Rattle.lock_free.specs.Accounts.{running}
 use Rattle.lock_free.specs.Live.{at_hand, from_operation, IsLive}
 use Rattle.lock_free.specs.Loading.{now, seen, Holds, Waited}
 use Rattle.lock_free.proofs.Asked.{nodes_stay}
-use Rattle.lock_free.proofs.Moments.{entry_lives, hand_by, same_hash, same_entries}
+use Rattle.lock_free.proofs.LastingNodes.{entry_lives, hand_by, same_hash, same_entries}
 
 module _ (v : View) (account : Account) (w : Waited v account) where
   hand_then : (o : Operation) → running v.sizes v.account v.actor o → (r : Ref) → Contains (at_hand (now v) o) r → IsLive (now (seen v account)) r

@@ -14,7 +14,7 @@ use Rattle.lock_free.specs.Limbos.{chains_of, having_retired, link_to, names, wi
 use Rattle.lock_free.specs.Making.{others_than, with_draft}
 use Rattle.lock_free.specs.Places.{count_word, IsSlot}
 use Rattle.lock_free.specs.Reclaiming.{kind_of}
-use Rattle.lock_free.specs.Rules.{Once}
+use Rattle.lock_free.specs.Rules.{Once, none_checked}
 use Rattle.lock_free.proofs.CountWords.{count_once}
 use Rattle.lock_free.proofs.Drafts.{written_still}
 use Rattle.lock_free.proofs.Hanging.{KeepsLinks, hangs_still, word_of}
@@ -32,7 +32,7 @@ module _ (limbo : Limbo) (v : View) (what : Kind) (class name : ℕ) (h : IsNewe
   next = link_to chains.young.first
 
   abbrev pub hung : View
-  hung = record v { epoch = epoch; passed = 0; links = with_draft (with_draft v.links word known) word next }
+  hung = record v { epoch = epoch; passed = none_checked; links = with_draft (with_draft v.links word known) word next }
 
   abbrev chains_then : Chains
   chains_then = record { young = record { first = Some name; stamp = epoch }; aged = chains.aged }

@@ -1,5 +1,5 @@
 -- A slot hangs that was retired, where the seat may have retired more since.
-use Rattle.std.proofs.Common.{◌≡◌, ◌≢◌, ◌++◌, ℕ, List, [], ◌∷◌, Contains, refl, sym, ap, subst, ◌∙◌, append-nil, append_assoc, arith, Some, ◌<◌}
+use Rattle.std.proofs.Common.{◌≡◌, ◌≢◌, ◌++◌, ℕ, List, [], ◌∷◌, Contains, refl, sym, ap, subst, ◌∙◌, append-nil, append_assoc, Some, ◌<◌}
 use Rattle.std.proofs.lemmas.List.{map-append}
 use Rattle.std.proofs.lemmas.List.Elements.{Contains-append_left, Contains-push}
 use Rattle.trie_words.specs.declared.entries.Pair.{Pair}
@@ -62,12 +62,6 @@ retired_still v w h = ap (λ (x : View). x.retired) h.is
 
 pub last_hung : (limbo : Limbo) (v w : View) → HasHung v w → IsLimbo limbo (having_retired w v.retired) → IsLimbo limbo w
 last_hung limbo v w hung h = subst (λ xs. IsLimbo limbo (having_retired w xs)) (sym (retired_still v w hung)) h
-
-pub hung_both : (v w x : View) → HasHung v w → HasHung w x → HasHung v x
-hung_both v w x a b = record {
-  is = b.is ∙ ap (λ (y : View). record y { epoch = x.epoch; passed = x.passed; links = x.links }) a.is;
-  grows = (let first = a.grows in let second = b.grows in omega (arith, first, second));
-}
 
 -- ---- roots, one or two of them
 

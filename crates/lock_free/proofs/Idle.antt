@@ -2,7 +2,8 @@
 use Rattle.std.proofs.Common.{◌<◌, ℕ, zero, suc, [], Contains, arith}
 use Rattle.lock_free.specs.declared.accounts.Account.{Account}
 use Rattle.lock_free.specs.declared.sizes.Sizes.{Sizes}
-use Rattle.lock_free.specs.Rules.{idle_view, IsFree, Once, pool_of}
+use Rattle.lock_free.specs.FirstViews.{idle_view}
+use Rattle.lock_free.specs.Rules.{IsFree, Once, pool_of}
 
 pub empty_has : {X : Type 0} (x : X) → Contains [] x → ⊥
 empty_has x c = omega (arith, c.1)

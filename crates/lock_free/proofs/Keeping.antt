@@ -44,6 +44,7 @@ use Rattle.lock_free.specs.Rules.{Standing, Stands, NodesStand, RootsStand, Once
 use Rattle.lock_free.specs.Steps.{Dropped, nothing, Leads, Reads}
 use Rattle.lock_free.proofs.OwnBits.{own_longer}
 use Rattle.lock_free.proofs.Assembling.{AllStand, closing_stays, numbers_stay, assembled}
+use Rattle.lock_free.proofs.CellsStay.{cells_stay, cells_still}
 use Rattle.lock_free.proofs.Meanings.{means_kept, marks_kept, stood_still}
 use Rattle.lock_free.proofs.PlainStay.{plain_running}
 use Rattle.lock_free.proofs.Seats.{ran_so, numbers_so, Stays, other_kept, own_kept, drafts_kept}
@@ -58,12 +59,12 @@ use Rattle.lock_free.proofs.OneStep.Reached.{reached_kept}
 use Rattle.lock_free.proofs.Waiting.{waited_more, quiet_more, other_quiet}
 use Rattle.lock_free.proofs.LinesStay.{going_owes}
 use Rattle.lock_free.proofs.LetGoSince.{going_let_go}
+use Rattle.lock_free.specs.Parting.{KnowsOffers}
 
 -- an operation's step names no key
 pub keys_gone : (steps : List Step) (actor : ℕ) → KeysFit steps → KeysFit (steps ++ step.Go actor ∷ [])
 keys_gone steps actor fit = All-append FitsKey steps (step.Go actor ∷ []) fit (All-cons FitsKey (step.Go actor) [] tt (All-nil FitsKey))
 
--- each node is what it was
 abbrev pub SameNodes : State → State → Type 0
 SameNodes before after = (r : Ref) → node_at after.heap r ≡ node_at before.heap r
 
@@ -71,11 +72,11 @@ pub same_nodes : (before after : State) → ((k : ℕ) → get_or after.heap.slo
 unfolding node_at stored
 same_nodes before after same r = ap node_of (same (slot_of r))
 
-module _ (account : Account) (steps : List Step) (offers : List Known) (dropped : Dropped) (before after : State) (same : SameNodes before after)
+module _ (account : Account) (steps : List Step) (others : Account) (dropped : Dropped) (before after : State) (same : SameNodes before after)
     (aheads : (i a f : Ref) → IsAhead after i a f → IsAhead before i a f)
     (still : (i a f : Ref) → IsAhead before i a f → dropped (slot_of f) ≡ false → IsAhead after i a f) (words : List ℕ) where
   abbrev pub later : Account
-  later = record account { steps = steps; offers = offers }
+  later = record others { steps = steps; names = account.names; owned = account.owned }
 
   same_main : (r : Ref) → main_at after.heap r ≡ main_at before.heap r
   same_main r = ap main_of (same r)
@@ -174,9 +175,8 @@ module _ (sizes : Sizes) (s : Table.State Call View) (kept : IsKept sizes s) (id
     small = λ k slot h. kept.nodes.small k slot (stood k slot h).0;
     apart = λ j k x y a b same. kept.nodes.apart j k x y (stood j x a).0 (stood k y b).0 same;
     offers = λ x c k slot h. kept.nodes.offers x c k slot (stood k slot h).0;
-    written = λ k slot h.
-        (let was = stood k slot h in
-        stands_kept kept.account account_then.steps kept.account.offers dropped now next_state (same_nodes now next_state leads.nodes) leads.aheads leads.still s.words
+    written = λ k slot h. (let was = stood k slot h in
+        stands_kept kept.account account_then.steps kept.account dropped now next_state (same_nodes now next_state leads.nodes) leads.aheads leads.still s.words
         (place_at kept.account k) k slot slot.node was.1 (kept.nodes.written k slot was.0));
     inside = λ k slot e. kept.nodes.inside k slot (sym (leads.nodes k) ∙ e);
     owners = owners_kept kept.account account_then now next_state refl refl leads.aheads kept.nodes.owners;
@@ -188,16 +188,17 @@ module _ (sizes : Sizes) (s : Table.State Call View) (kept : IsKept sizes s) (id
 
   roots_then : RootsStand sizes account_then s.words
   roots_then = record {
-    means = λ handle low.
-        meaning_kept kept.account account_then.steps s.words handle _ _
+    means = λ handle low. meaning_kept kept.account account_then.steps s.words handle _ _
         (subst (λ rs. MeansRoot kept.account s.words handle (slice_index s.words (root_word handle)) (get_or rs handle None)) (sym leads.roots) (kept.roots.means handle low));
-    offers = λ k c. written_kept kept.account account_then.steps kept.account.offers dropped now next_state (same_nodes now next_state leads.nodes) leads.aheads leads.still s.words k
+    offers = λ k c. written_kept kept.account account_then.steps kept.account dropped now next_state (same_nodes now next_state leads.nodes) leads.aheads leads.still s.words k
         (kept.roots.offers k c);
     blocks = kept.roots.blocks;
     single = kept.roots.single;
     pending = kept.roots.pending;
     tries = kept.roots.tries;
     stood = λ k c. stood_still sizes kept.account account_then (taken ∷ []) refl k.offer (kept.roots.stood k c);
+    came = λ x c. stood_still sizes kept.account account_then (taken ∷ []) refl x.known.offer (kept.roots.came x c);
+    parting = kept.roots.parting;
     marks = marks_kept kept.account.offers now next_state leads.tries s.words s.words (λ k c. refl) kept.roots.marks;
     fates = λ k c. fate_kept sizes kept.account account_then taken refl k (fate s.words k) (λ e. words_same now next_state leads.roots k.handle ∙ e) (kept.roots.fates k c);
   }
@@ -235,6 +236,7 @@ module _ (sizes : Sizes) (s : Table.State Call View) (kept : IsKept sizes s) (id
     taken = λ b name small h. h;
     spare = λ other w b name e apart free. (spare_then name ((kept.seats other w e).spare b name free).1, λ j its_word. refl);
     plain = plain_running sizes kept.account account_then kept.bounds (taken ∷ []) refl s.words s.words v.actor operation runs;
+    offering = λ actor pin own slots h. h;
   }
 
   -- what is free for the seat then was so before, or is the slot of a node that it gives up
@@ -247,7 +249,7 @@ module _ (sizes : Sizes) (s : Table.State Call View) (kept : IsKept sizes s) (id
     pub place : place_at kept.account number ≡ name
 
   module _ (pool : Pool) (once : (b : ℕ) → b < 3 → Once (pool_of pool b)) (more : (b name : ℕ) → b < 3 → Contains (pool_of v.pool b) name → Contains (pool_of pool b) name)
-      (which : (b name : ℕ) → b < 3 → Contains (pool_of pool b) name → Contains (pool_of v.pool b) name ⊎ IsGivenUp b name) where
+      (which : (b name : ℕ) → b < 3 → Contains (pool_of pool b) name → Contains (pool_of v.pool b) name ⊎ IsGivenUp b name) (same_parted : pool.parted ≡ v.pool.parted) where
     abbrev pub view_then : View
     view_then = record v { account = account_then; pool = pool }
 
@@ -282,6 +284,7 @@ module _ (sizes : Sizes) (s : Table.State Call View) (kept : IsKept sizes s) (id
         (numbers_so sizes s kept account_then s.words leads.tries leads.roots (λ handle low. refl) id v at) all_then.counted refl pool v.opening
         (λ handle slot o n. (n, λ x. (refl, more 1 slot x.free.0 x.free.1))) v.drafts spare_own once
         (λ d c. drafts_kept sizes s kept id v at account_then stands_then s.words stays view_then d (seat.drafts d c) (λ b name free. ((free.0, more b name free.0 free.1), λ j its_word. refl)))
+        (subst (λ xs. KnowsOffers kept.account.offered kept.account.offers kept.account.parted s.words v.actor v.pin v.offer xs) (sym same_parted) seat.offering)
 
     -- the rule holds, where the seat holds these references then
     pub drop_kept : (owed : List Ref) → AreHeld sizes account_then stands_then s.words (set s.views id (owing view_then owed)) → IsKept sizes
@@ -289,11 +292,16 @@ module _ (sizes : Sizes) (s : Table.State Call View) (kept : IsKept sizes s) (id
     drop_kept owed held =
         let w = owing view_then owed in
         assembled sizes s kept id v at w refl refl account_then stands_then s.words all_then
-        (λ handle who low says. closing_stays sizes s kept id v at w refl refl (λ h e. e) refl handle who (kept.closings handle who low says))
+        (λ handle who low says. closing_stays sizes s kept id v at w refl refl (λ h e. (e, refl)) refl (λ c. c) handle who (kept.closings handle who low says))
         (seat_owing sizes account_then stands_then s.words view_then owed own_then)
         (other_kept sizes s kept id v at account_then stands_then s.words stays) not_others
         (numbers_stay sizes s kept id v at w refl refl account_then s.words leads.tries (λ slot none. none) (λ handle low. refl) refl
         (λ slot handle e free. (free.0, more 1 slot free.0 free.1))) held
+        (cells_stay sizes s kept id v at w account_then stands_then s.words (λ c n cell. refl) (λ c n low was spare no. (was, spare_then n spare))
+        (λ c m n b it was spare free. elim (which b n free.0 free.1) [
+          | inl old ↦ (free.0, old)
+          | inr new ↦ absurd (spare.0 new.number new.slot new.stands new.place)
+        ]))
 
 -- ---- reads
 
@@ -317,14 +325,17 @@ module _ (sizes : Sizes) (s : Table.State Call View) (kept : IsKept sizes s) (id
   pub kept_then : IsKept sizes (record { words = s.words; homes = s.homes; views = set s.views id then_view })
   kept_then =
       drop_kept sizes s kept id v at operation (operation_after (state_of sizes kept.account) operation) runs (step.Go v.actor) tt (λ a differs e. differs (sym e)) nothing reads refl refl v.pool
-      (kept.seats id v at).once (λ b name small h. h) (λ b name small h. inl h) v.owed held_read
+      (kept.seats id v at).once (λ b name small h. h) (λ b name small h. inl h) refl v.owed held_read
 
   -- the same where the seat holds these references then
   pub kept_owing : (owed : List Ref) → AreHeld sizes (gone_on v.actor kept.account) (standing kept.stands nothing) s.words (set s.views id (owing then_view owed)) → IsKept sizes
       (record { words = s.words; homes = s.homes; views = set s.views id (owing then_view owed) })
   kept_owing owed held =
       drop_kept sizes s kept id v at operation (operation_after (state_of sizes kept.account) operation) runs (step.Go v.actor) tt (λ a differs e. differs (sym e)) nothing reads refl refl v.pool
-      (kept.seats id v at).once (λ b name small h. h) (λ b name small h. inl h) owed held
+      (kept.seats id v at).once (λ b name small h. h) (λ b name small h. inl h) refl owed held
+
+  gone_others : (a : ℕ) → a ≢ v.actor → IsOfOther a (step.Go v.actor)
+  gone_others a differs e = differs (sym e)
 
   -- and has retired one slot more
   module _ (owed : List Ref) (x : Retired) (was : WasGarbage sizes x) (grown : HasGrown x.account (gone_on v.actor kept.account)) (still : kept.stands x.number ≡ true)
@@ -341,25 +352,22 @@ module _ (sizes : Sizes) (s : Table.State Call View) (kept : IsKept sizes s) (id
     abbrev w : View
     w = retiring (owing then_view owed) x
 
-    gone_others : (a : ℕ) → a ≢ v.actor → IsOfOther a (step.Go v.actor)
-    gone_others a differs e = differs (sym e)
-
     gone_seat : IsSeat sizes after after_stands s.words then_view
     gone_seat =
-        own_then sizes s kept id v at operation next runs (step.Go v.actor) tt gone_others nothing reads refl refl v.pool (kept.seats id v at).once (λ b name small h. h) (λ b name small h. inl h)
+        own_then sizes s kept id v at operation next runs (step.Go v.actor) tt gone_others nothing reads refl refl v.pool (kept.seats id v at).once (λ b name small h. h) (λ b name small h. inl h) refl
 
     pub kept_retiring : IsKept sizes (record { words = s.words; homes = s.homes; views = set s.views id (retiring (owing then_view owed) x) })
     kept_retiring =
         assembled sizes s kept id v at w refl refl after after_stands s.words
         (all_then sizes s kept id v at operation next runs (step.Go v.actor) tt gone_others nothing reads refl refl)
-        (λ handle who low says. closing_stays sizes s kept id v at w refl refl (λ h e. e) refl handle who (kept.closings handle who low says))
+        (λ handle who low says. closing_stays sizes s kept id v at w refl refl (λ h e. (e, refl)) refl (λ c. c) handle who (kept.closings handle who low says))
         (seat_retiring sizes after after_stands s.words (owing then_view owed) x (record { was = was; grown = grown; still = still })
         (seat_owing sizes after after_stands s.words then_view owed gone_seat))
         (other_kept sizes s kept id v at after after_stands s.words (stays sizes s kept id v at operation next runs (step.Go v.actor) tt gone_others nothing reads refl refl))
         (λ b name free. inl free)
         (numbers_stay sizes s kept id v at w refl refl after s.words reads.tries (λ slot none. none) (λ handle low. refl) refl (λ slot handle e free. free)) held
+        (cells_still sizes s kept id v at w after after_stands (spare_then sizes s kept id v at operation next runs (step.Go v.actor) tt gone_others nothing reads refl refl) (λ b n f. f))
 
-  -- the same of more than one
   module _ (owed : List Ref) (xs : List Retired) (are : (x : Retired) → Contains xs x → IsRetired sizes (gone_on v.actor kept.account) (standing kept.stands nothing) x)
       (held : AreHeld sizes (gone_on v.actor kept.account) (standing kept.stands nothing) s.words (set s.views id (retiring_all (owing then_view owed) xs))) where
     abbrev account_after : Account
@@ -374,20 +382,19 @@ module _ (sizes : Sizes) (s : Table.State Call View) (kept : IsKept sizes s) (id
     abbrev view_after : View
     view_after = retiring_all (owing then_view owed) xs
 
-    others_gone : (a : ℕ) → a ≢ v.actor → IsOfOther a (step.Go v.actor)
-    others_gone a differs e = differs (sym e)
-
     seat_gone : IsSeat sizes account_after stands_after s.words then_view
     seat_gone =
-        own_then sizes s kept id v at operation its_next runs (step.Go v.actor) tt others_gone nothing reads refl refl v.pool (kept.seats id v at).once (λ b name small h. h)
-        (λ b name small h. inl h)
+        own_then sizes s kept id v at operation its_next runs (step.Go v.actor) tt gone_others nothing reads refl refl v.pool (kept.seats id v at).once (λ b name small h. h)
+        (λ b name small h. inl h) refl
 
     pub kept_retiring_all : IsKept sizes (record { words = s.words; homes = s.homes; views = set s.views id (retiring_all (owing then_view owed) xs) })
     kept_retiring_all =
         assembled sizes s kept id v at view_after refl refl account_after stands_after s.words
-        (all_then sizes s kept id v at operation its_next runs (step.Go v.actor) tt others_gone nothing reads refl refl)
-        (λ handle who low says. closing_stays sizes s kept id v at view_after refl refl (λ h e. e) refl handle who (kept.closings handle who low says))
+        (all_then sizes s kept id v at operation its_next runs (step.Go v.actor) tt gone_others nothing reads refl refl)
+        (λ handle who low says. closing_stays sizes s kept id v at view_after refl refl (λ h e. (e, refl)) refl (λ c. c) handle who (kept.closings handle who low says))
         (seat_retiring_all sizes account_after stands_after s.words (owing then_view owed) xs are (seat_owing sizes account_after stands_after s.words then_view owed seat_gone))
-        (other_kept sizes s kept id v at account_after stands_after s.words (stays sizes s kept id v at operation its_next runs (step.Go v.actor) tt others_gone nothing reads refl refl))
+        (other_kept sizes s kept id v at account_after stands_after s.words (stays sizes s kept id v at operation its_next runs (step.Go v.actor) tt gone_others nothing reads refl refl))
         (λ b name free. inl free)
         (numbers_stay sizes s kept id v at view_after refl refl account_after s.words reads.tries (λ slot none. none) (λ handle low. refl) refl (λ slot handle e free. free)) held
+        (cells_still sizes s kept id v at view_after account_after stands_after
+        (spare_then sizes s kept id v at operation its_next runs (step.Go v.actor) tt gone_others nothing reads refl refl) (λ b n f. f))

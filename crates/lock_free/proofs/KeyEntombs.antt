@@ -28,7 +28,7 @@ use Rattle.lock_free.specs.declared.swapping.Swapped.TheVariants.{Commits, Fails
 use Rattle.lock_free.specs.declared.tasks.Task.{Task}
 use Rattle.lock_free.specs.Attempts.{HasAttempted, IsToChange, IsToClimb}
 use Rattle.lock_free.specs.Becoming.{HasBecome}
-use Rattle.lock_free.specs.Calling.{GaveUp, HasGivenUp}
+use Rattle.lock_free.specs.LettingMadeGo.{GivesAllUp, HasGivenAllUp}
 use Rattle.lock_free.specs.Changing.{IsChange}
 use Rattle.lock_free.specs.Climbs.{HasClimbedUp, HasLeftClimb}
 use Rattle.lock_free.specs.Descending.{IsTask}
@@ -39,16 +39,15 @@ use Rattle.lock_free.specs.Nodes.{is_single}
 use Rattle.lock_free.specs.Parking.{HasRunTo}
 use Rattle.lock_free.specs.RunningOn.{MayAnswer}
 use Rattle.lock_free.specs.SeenEntries.{entry_to, unowned}
-use Rattle.lock_free.specs.Stocks.{Stocked, IsStock, put_back}
 use Rattle.lock_free.specs.Updating.{changed_by, HasChanged, IsAtChange}
-use Rattle.lock_free.proofs.CallEnds.{left_stock}
 use Rattle.lock_free.proofs.CallsRunOn.{changed_fails, changed_full, changed_misses, changed_runs_on, climb_left, climbed_runs_on, climbed_up}
 use Rattle.lock_free.proofs.Comings.{runs_one}
 use Rattle.lock_free.proofs.EntriesTo.{entry_to_on}
 use Rattle.lock_free.proofs.Followings.{used_on}
 use Rattle.lock_free.proofs.KeyChanges.{change_by}
 use Rattle.lock_free.proofs.OnLines.{finds_now}
-use Rattle.lock_free.proofs.RunningOn.{runs_on_both, runs_on_given_up}
+use Rattle.lock_free.proofs.FreesOn.{let_go_becomes}
+use Rattle.lock_free.proofs.RunningOn.{runs_on_become, runs_on_both, runs_on_given_up}
 use Rattle.lock_free.proofs.Seekings.{are_at_on}
 use Rattle.lock_free.proofs.TombSingles.{same_kind}
 use Rattle.lock_free.specs.declared.reclaiming.Retiree.{Retiree}
@@ -169,13 +168,13 @@ module _ (v : View) (task : Task) (t : IsTask v task) (slots : List ℕ) (single
 
 -- ---- the climb is given up
 
-module _ (w : View) (answer : Reply) (may : MayAnswer w answer) (after : View) (gave : HasGivenUp w after) where
-  given : GaveUp w may.0 answer after
+module _ (w : View) (answer : Reply) (may : MayAnswer w answer) (after : View) (gave : GivesAllUp w after) where
+  given : HasGivenAllUp w may.0 answer after
   given = gave may.0 answer may.1 may.2
 
   pub climb_given_up : HasRunTo w (came.Answered answer) after
-  climb_given_up = (runs_on_given_up w after may.0 answer may.1 given, (gave_up may.0 answer, given.runs, refl))
-
-  pub left_owns : (n : ℕ) → IsSound n w → (stock next : Stocked) → IsStock stock w → next.sizes ≡ stock.sizes → next.pool ≡ put_back stock.made stock.pool → next.made ≡ [] →
-      next.limbo ≡ stock.limbo → IsStock next after
-  left_owns n sound stock next is sizes pool none limbo = left_stock n w sound may.0 may.1 answer after given stock next is sizes pool none limbo
+  climb_given_up = (
+    runs_on_both w given.at after (runs_on_given_up w given.at may.0 answer may.1 given.gave)
+        (runs_on_become given.at after (λ o. o) (λ o. refl) (let_go_becomes given.at after given.let_go)),
+    (gave_up may.0 answer, (let_go_becomes given.at after given.let_go).comes (gave_up may.0 answer) given.gave.runs, refl),
+  )

@@ -18,7 +18,7 @@ use Rattle.lock_free.specs.Loading.{now, seen, IsUsed, IsSound, Waited, Went, Sa
 use Rattle.lock_free.specs.Passing.{Later, KnowsLink, IsPlaced, KnowsMain, KnowsPending}
 use Rattle.machine_model.specs.Machine.{AreBounds}
 use Rattle.lock_free.proofs.Asked.{in_use_made, nodes_stay, nodes_go}
-use Rattle.lock_free.proofs.Moments.{place_stays, owns_in_front}
+use Rattle.lock_free.proofs.LastingNodes.{place_stays, owns_in_front}
 use Rattle.lock_free.specs.Becoming.{Follows}
 pub use Rattle.lock_free.proofs.Followings.{same_self, same_both, main_kind}
 use Rattle.lock_free.proofs.Followings.{follows_later, used_on, placed_on, named_on, generation_on, link_on, main_on, pending_on}
@@ -56,8 +56,8 @@ module _ (n : ℕ) (v : View) (sound : IsSound n v) where
     owns_then : (a b : Ref) (c : Bool) → IsOwn v.account a b c → IsOwn account a b c
     owns_then a b c h = subst (λ xs. OwnIs xs (slot_of a) (slot_of b) c) (sym w.waited.more_owned) (owns_in_front w.waited.owned v.account.owned (slot_of a) (slot_of b) c h)
 
-    offers_then : (k : Known) → Contains v.account.offers k → Contains account.offers k
-    offers_then k c = subst (λ xs. Contains xs k) (sym w.waited.more_offers) (Contains-append_right w.waited.offers v.account.offers k c)
+    offers_then : (k : Known) → Contains v.account.offered k → Contains account.offered k
+    offers_then k c = subst (λ xs. Contains xs k) (sym w.waited.more_offers) (Contains-append_right w.waited.offers v.account.offered k c)
 
     pub waited_later : Later v (seen v account)
     waited_later = record {

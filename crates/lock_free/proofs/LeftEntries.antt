@@ -10,7 +10,8 @@ use Rattle.machine_model.specs.Beneath.slot_arena.specs.declared.refs.Ref.{Ref}
 use Rattle.machine_model.specs.Beneath.slot_arena.specs.Heaps.{entries_of}
 use Rattle.proof_memory.specs.Wants.{is_branch_or_list}
 use Rattle.lock_free.specs.declared.rules.View.{View}
-use Rattle.lock_free.specs.Freeing.{HasLeft, HasLeftEntries, HasLeftPosition, HasSeenDraft, HasSeenHalf, HasSeenHalves}
+use Rattle.lock_free.specs.Freeing.{HasSeenDraft}
+use Rattle.lock_free.specs.LeftNodes.{HasSeenHalf, HasSeenHalves, LeavesMany, LeavesNode, LeavesPosition}
 use Rattle.lock_free.specs.Loading.{IsSound}
 use Rattle.lock_free.specs.Nodes.{entry_word, half_of}
 use Rattle.lock_free.specs.SeenEntries.{AreEntriesTo, entry_to, unowned}
@@ -19,7 +20,7 @@ use Rattle.lock_free.proofs.Within.{entries_room}
 
 module _ (v : View) (name : ℕ) where
   -- the word of an entry is the table's
-  pub entry_inside : (n : ℕ) → IsSound n v → (position : ℕ) → HasLeftPosition v name position → 2 * name + 1 + position / 2 < n
+  pub entry_inside : (n : ℕ) → IsSound n v → (position : ℕ) → LeavesPosition v name position → 2 * name + 1 + position / 2 < n
   entry_inside n sound position (node, slot, left, kind, low) =
       let room = its_room n v sound name node slot left in
       let few = (left_entries v name slot.node kind left.words).0 in
@@ -35,14 +36,14 @@ module _ (v : View) (name : ℕ) where
 
   abbrev pub SeenSome : ℕ → List Entry → Type 0
   SeenSome count entries =
-      (node : Ref) (slot : Slot) → HasLeft v name node slot → is_branch_or_list slot.node ≡ true → count ≡ length (entries_of slot.node) →
+      (node : Ref) (slot : Slot) → LeavesNode v name node slot → is_branch_or_list slot.node ≡ true → count ≡ length (entries_of slot.node) →
       AreEntriesTo v entries (take (length entries) (entries_of slot.node))
 
   pub seen_none : (count : ℕ) → SeenSome count []
   seen_none count node slot left kind is = refl
 
   pub seen_more : (count : ℕ) (entries : List Entry) (entry : Entry) → SeenSome count entries → length entries < count →
-      ((node : Ref) (slot : Slot) (e : Ref) → HasLeft v name node slot → is_branch_or_list slot.node ≡ true → slice_get (entries_of slot.node) (length entries) ≡ Some e →
+      ((node : Ref) (slot : Slot) (e : Ref) → LeavesNode v name node slot → is_branch_or_list slot.node ≡ true → slice_get (entries_of slot.node) (length entries) ≡ Some e →
       unowned entry ≡ entry_to v e) →
       SeenSome count (entries ++ entry ∷ [])
   seen_more count entries entry s low is node slot left kind count_is =
@@ -57,5 +58,5 @@ module _ (v : View) (name : ℕ) where
   seen_all count entries s all node slot left kind is =
       s node slot left kind is ∙ ap (λ rs. map (entry_to v) rs) (take_all (length entries) (entries_of slot.node) (omega (arith, all, is)))
 
-  pub next_left : (count position : ℕ) → HasLeftEntries v name count → position < count → HasLeftPosition v name position
+  pub next_left : (count position : ℕ) → LeavesMany v name count → position < count → LeavesPosition v name position
   next_left count position (node, slot, left, kind, is, few) low = (node, slot, left, kind, subst (λ k. position < k) is low)

@@ -28,12 +28,12 @@ use Rattle.lock_free.specs.declared.accounts.Account.{Account}
 use Rattle.lock_free.specs.declared.rules.View.{View}
 use Rattle.lock_free.specs.declared.sizes.Sizes.{Sizes}
 use Rattle.lock_free.specs.Accounts.{bounds_for, place_of, state_of}
-use Rattle.lock_free.specs.Freeing.{LeavesEntry, LeavesShape, LeavesWords, MayBeNamed}
+use Rattle.lock_free.specs.LeftNodes.{LeavesEntry, LeavesShape, LeavesWords, MayBeNamed}
 use Rattle.lock_free.specs.Nodes.{class_of, entry_word, half_of, is_single, AreEntries, InTable, SaysHeader, SaysPrevious, SaysShape, StandsAs, decided, ahead, pending, failed, of_branch}
 use Rattle.lock_free.specs.Nodes.{of_tomb, of_list}
 use Rattle.lock_free.specs.Rules.{IsKept}
 use Rattle.lock_free.specs.SeenEntries.{unowned}
-use Rattle.lock_free.specs.Watching.{NamesShape, a_branch, a_list, a_tomb}
+use Rattle.lock_free.specs.LeftNodes.{NamesShape, a_branch, a_list, a_tomb}
 use Rattle.lock_free.proofs.Asked.{is_well_formed}
 use Rattle.lock_free.proofs.Decoding.{ahead_lives}
 use Rattle.lock_free.proofs.Framing.{class_small, entry_inside, first_inside, got_within, node_end}
@@ -113,7 +113,7 @@ module _ (v : View) (s : Table.State Call View) (kept : IsKept v.sizes s) where
     shape_fits node says same (of_list singles) =
         let few = subst (λ n. length (entries_of n) ≤ 32) (sym same) (kept.nodes.small (slot_of k) slot (stood, stored_there)) in omega (arith, few)
 
-    header_back_there : (found : ℕ) (h : SaysHeader account state (slot_of k) slot found) → header_of found ≡ record { previous = h.previous; shape = h.shape }
+    pub header_back_there : (found : ℕ) (h : SaysHeader kept.account (state_of v.sizes kept.account) (slot_of k) used.0 found) → header_of found ≡ record { previous = h.previous; shape = h.shape }
     header_back_there found h =
         ap header_of h.code
         ∙ header_back (record { previous = h.previous; shape = h.shape }) (

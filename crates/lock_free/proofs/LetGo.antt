@@ -16,6 +16,7 @@ use Rattle.lock_free.specs.Limbos.{by_kind, chains_of, in_class, linked_by, link
 use Rattle.lock_free.specs.Places.{count_word, IsSlot}
 use Rattle.lock_free.specs.Reclaiming.{HasReclaimed, kind_of, reclaiming}
 use Rattle.lock_free.specs.Rules.{IsFree, Once, pool_of}
+use Rattle.lock_free.specs.Storing.{with_free}
 use Rattle.lock_free.proofs.CountWords.{count_once}
 use Rattle.lock_free.proofs.Drafts.{left, others_left}
 use Rattle.lock_free.proofs.Hanging.{KeepsLinks, hangs_still, next_back, once_left, once_out, one_named, slot_named, word_of}
@@ -348,3 +349,12 @@ none_so v is =
 pub none_hangs : (a b c d : ByClass) → a ≡ no_classes → b ≡ no_classes → c ≡ no_classes → d ≡ no_classes → (v : View) → v.retired ≡ [] →
     IsLimbo (record { replaced = a; singles = b; indirections = c; mains = d; seen = 0 }) v
 none_hangs a b c d is_a is_b is_c is_d v is = subst (λ l. IsLimbo l v) (sym (limbo_none a b c d is_a is_b is_c is_d)) (none_so v is)
+
+-- ---- a fresh slot more is free for a seat
+
+pub one_taken : (v w : View) (class name : ℕ) → class < 3 → w ≡ with_free v class name → HasReclaimedSome v w
+one_taken v w class name low is =
+    subst (HasReclaimedSome v) (sym is) (record { is = refl; free = λ b other f. (f.0, free_still v.pool class name low b other f.0 f.1); each = λ x c. inl c })
+
+pub none_taken : (v w : View) → w ≡ v → HasReclaimedSome v w
+none_taken v w is = subst (HasReclaimedSome v) (sym is) (none_reclaimed v)

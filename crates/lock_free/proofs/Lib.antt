@@ -48,6 +48,7 @@ mod Freed
 mod LeftWords
 mod FreeStep
 mod LeftNames
+mod MadeGo
 mod LeftEntries
 mod FreesOn
 mod HeldRecovered
@@ -56,8 +57,11 @@ mod CheckHolds
 mod RetiresOne
 mod RetireAllowed
 mod NamesStay
-mod OwnStay
 mod HoldsGifts
+mod Knowing
+mod LeftOn
+mod FirstLines
+mod Dropped
 mod Gifts
 mod Checked
 mod Refused
@@ -67,12 +71,16 @@ mod SwapChecks
 mod HeldCount
 mod Lettings
 mod LinksStay
+mod CellsStay
 mod LinesOwe
 mod MadeOwe
 mod OwesPrivate
 mod LinesStay
 mod Drafts
 mod CountKept
+mod CellKept
+mod CellSteps
+mod CellStock
 mod CountSteps
 mod Dead
 mod Lowered
@@ -89,6 +97,7 @@ mod Reclaimed
 mod ReclaimStep
 mod RetireStep
 mod EpochWord
+mod LastingNodes
 mod Moments
 mod AllowedRetiring
 mod Within
@@ -164,6 +173,7 @@ mod OutcomeStep
 mod Concluded
 mod SeenRoots
 mod OfferMisses
+mod OfferRefs
 mod OfferStep
 mod YieldStep
 mod OfferTries
@@ -182,6 +192,15 @@ mod Rootings
 mod EndStep
 mod PinnedFor
 mod PlainStay
+mod PartingStay
+mod OwnLooks
+mod PartedStock
+mod MovedOn
+mod OfferFrees
+mod OwnParts
+mod Relisted
+mod OwnCleans
+mod PartingMore
 mod PinStep
 mod EpochSteps
 mod BeginStep
@@ -192,6 +211,7 @@ mod UnmarkStep
 mod PassStep
 mod CloseStep
 mod Shutting
+mod OneGlance
 mod KeyMoves
 mod KeyHolds
 mod NewNodes
@@ -253,7 +273,7 @@ mod WholeClose
 mod CallBegins
 mod GivenNumbers
 mod CallsDenied
-mod WalksWhole
+mod OneWalk
 mod PairsAdded
 mod Scannings
 mod AccessTold
@@ -319,6 +339,7 @@ mod Talks
 mod AnswersTold
 pub mod KeyValues
 mod Tidied
+mod ToldAtLast
 mod Timelines
 mod OwnKeys
 mod KeysApart
@@ -333,13 +354,6 @@ mod Trials
 mod Updates
 mod AfterChanges
 mod ChangedSwaps
-mod WalkRoots
-mod WalkLines
-mod WalkMains
-mod WalkTakes
-mod WalkEnters
-mod WalkNexts
-mod WalkBegins
 mod Leavings
 mod NamesUsed
 mod DroppedEntries
@@ -349,6 +363,8 @@ mod SwapsChecked
 mod SwapsEnded
 mod SwapsLeft
 mod SwapsBegun
+mod SwapsMissed
+mod SwapsSeen
 mod CompletesLeft
 mod RootsLeft
 mod RootsOver

@@ -22,7 +22,7 @@ use Rattle.lock_free.specs.RootWords.{AsksAt, HasFoundOffer, HasFoundRoot, HasSe
 use Rattle.lock_free.proofs.Comings.{came, come_on, reading_then, runs_one, saw_come, stays_there}
 use Rattle.lock_free.proofs.Laters.{generation_later, saw_later, went_later}
 use Rattle.lock_free.proofs.LinkWords.{generation_is}
-use Rattle.lock_free.proofs.OffersLater.{offer_later}
+use Rattle.lock_free.proofs.OffersLater.{offer_later, met_later}
 use Rattle.lock_free.proofs.ReadAgain.{read_on}
 use Rattle.lock_free.proofs.ReadSteps.{read_acts}
 
@@ -63,7 +63,7 @@ again_seen n v w sound s i main replaced reading = saw_come v w i (read.AskRoot 
 
 -- ---- the offer that stands there
 
-module _ (n : ℕ) (v : View) (sound : IsSound n v) (handle offer : ℕ) (knows : HasOffer v.sizes v.account handle offer) (w : View) (then : IsSound n w) where
+module _ (n : ℕ) (v : View) (sound : IsSound n v) (handle offer : ℕ) (knows : HasOffer v.sizes v.account v.pin handle offer) (w : View) (then : IsSound n w) where
   abbrev its : Known
   its = knows.its
 
@@ -95,7 +95,7 @@ module _ (n : ℕ) (v : View) (sound : IsSound n v) (handle offer : ℕ) (knows 
         let runs_q = come.comes o runs in
         record {
           its = its;
-          here = later.offers its knows.here;
+          here = met_later v w later its knows.here;
           place = knows.place;
           acts = record {
             operation = record q { is_marked = runs_q.0 };
@@ -170,5 +170,5 @@ last_look n handle u v w told h asked i main replaced reading =
     (asked i main replaced (reading_then u v i (read.AskRoot main replaced) (read.AskRoot main replaced) reading first))
 
 -- the offer that was seen is known
-pub offer_now : (v w : View) (handle slot : ℕ) (s : Saw v w) → HasOffer v.sizes s.account handle slot → HasOffer w.sizes w.account handle slot
-offer_now v w handle slot s h = subst (λ (x : View). HasOffer x.sizes x.account handle slot) (sym s.after_is) h
+pub offer_now : (v w : View) (handle slot : ℕ) (s : Saw v w) → HasOffer v.sizes s.account v.pin handle slot → HasOffer w.sizes w.account w.pin handle slot
+offer_now v w handle slot s h = subst (λ (x : View). HasOffer x.sizes x.account x.pin handle slot) (sym s.after_is) h

@@ -17,9 +17,11 @@ use Rattle.lock_free.specs.Links.{AreLinked, IsLinked, link_in}
 use Rattle.lock_free.specs.Loading.{IsSound}
 use Rattle.lock_free.specs.Making.{with_draft}
 use Rattle.lock_free.specs.Places.{count_word}
-use Rattle.lock_free.specs.Rules.{AreEpochs, AreOwed, AreRetired, IsKept, IsRuled}
+use Rattle.lock_free.specs.Shadows.{IsShadowed}
+use Rattle.lock_free.specs.Rules.{AreEpochs, AreOwed, AreRetired, IsKept}
 use Rattle.lock_free.proofs.CountKept.{count_kept}
-use Rattle.lock_free.proofs.CountWords.{count_inside, count_not_epoch}
+use Rattle.lock_free.proofs.CellsStay.{count_before}
+use Rattle.lock_free.proofs.CountWords.{count_beside_slots, count_inside, count_not_epoch, count_not_glance}
 use Rattle.lock_free.proofs.HeldStill.{held_then}
 use Rattle.lock_free.proofs.OwedStay.{owed_same}
 use Rattle.lock_free.proofs.Drafts.{which}
@@ -95,9 +97,9 @@ module _ (v : View) (s : Table.State Call View) (kept : IsKept v.sizes s) (epoch
   pub leaves : IsKept v.sizes (record { words = words_then; homes = s.homes; views = set s.views id w }) × AreEpochs words_then (set s.views id w)
       × AreRetired v.sizes words_then (set s.views id w) × AreOwed (set s.views id w) × AreLinked v.sizes words_then (set s.views id w)
   leaves = (
-    count_kept v.sizes s kept id v at word is new v.owed (with_draft v.links word (link_in new))
+    count_kept v.sizes s kept id v at word (count_beside_slots v.sizes s.words kept.taken word is) new (count_before v.sizes word is) v.owed (with_draft v.links word (link_in new))
         (held_then v.sizes s kept id v at w refl refl refl words_then (λ other is_other. same_references other)),
-    epochs_stay s.words words_then s.views (set s.views id w) same_epoch (was_then s.views id v at w (record { actor = refl; epoch = refl; passed = refl; pinned = λ p e. e })) epochs,
+    epochs_stay s.words words_then s.views (set s.views id w) same_epoch (was_then s.views id v at w (record { actor = refl; epoch = refl; passed = refl; glance = refl; pinned = λ p e. e })) epochs,
     retired_then s.views id v at w refl (λ p e. e) v.sizes s.words words_then (epoch_still s.words words_then same_epoch) retired,
     owed_same s.views id v at w refl refl refl owed,
     linked_then,
@@ -106,12 +108,12 @@ module _ (v : View) (s : Table.State Call View) (kept : IsKept v.sizes s) (epoch
 -- ---- the accesses
 
 pub see_link_allowed : (sizes : Sizes) (size id : ℕ) (me : Me Call View) (some_seats : 1 ≤ me.0.sizes.seats) (word : ℕ) → IsCount me.0.sizes word → (x : Retired) → Contains me.0.retired x →
-    word ≡ count_word me.0.sizes x.class x.name → Allows (IsRuled sizes) size id me word (λ n. n) (has_seen_link (step size word 0 0 none) me)
+    word ≡ count_word me.0.sizes x.class x.name → Allows (IsShadowed sizes) size id me word (λ n. n) (has_seen_link (step size word 0 0 none) me)
 see_link_allowed sizes size id me some_seats word is x c its =
     allowed_by sizes size id me word (λ n. n) (has_seen_link (step size word 0 0 none) me)
     some_seats
     (λ s kept epochs retired owed linked at. (let y = leaves me.0 s kept epochs retired owed linked id at x c word is its (λ n. n) refl in
-    (linking me.0 word (link_in (slice_index s.words word)), y.0, y.1, y.2, y.3, y.4, refl, refl)))
+    (linking me.0 word (link_in (slice_index s.words word)), (inr refl, refl, λ shown. shown), y.0, y.1, y.2, y.3, y.4, refl, refl)))
 
 -- the link that the seat knows becomes this one, and nothing else changes
 kept_by_link : (found known new : ℕ) → known < 2 ^ 32 → new < 2 ^ 32 → link_in found ≡ known → references_in ((found + (new + (2 ^ 64 - known)) % 2 ^ 64) % 2 ^ 64) ≡ references_in found
@@ -119,7 +121,7 @@ kept_by_link found known new low fits is = omega (arith, low, fits, is)
 
 pub link_allowed : (sizes : Sizes) (size id : ℕ) (me : Me Call View) (some_seats : 1 ≤ me.0.sizes.seats) (word : ℕ) → IsCount me.0.sizes word → (known : ℕ) → Contains me.0.links (word, known) →
     (new change : ℕ) → known < 2 ^ 32 → new < 2 ^ 32 → change ≡ (new + (2 ^ 64 - known)) % 2 ^ 64 →
-    Allows (IsRuled sizes) size id me word (λ n. (n + change) % 2 ^ 64) (has_linked (step size word change 0 none) me)
+    Allows (IsShadowed sizes) size id me word (λ n. (n + change) % 2 ^ 64) (has_linked (step size word change 0 none) me)
 link_allowed sizes size id me some_seats word is known has new change low fits by =
     allowed_by sizes size id me word (λ n. (n + change) % 2 ^ 64) (has_linked (step size word change 0 none) me)
     some_seats
@@ -127,8 +129,21 @@ link_allowed sizes size id me some_seats word is known has new change low fits b
     let z = linked.linked id me.0 at (word, known) has in
     let found = slice_index s.words word in
     let y = leaves me.0 s kept epochs retired owed linked id at z.item z.its word is z.word (λ n. (n + change) % 2 ^ 64)
-    (ap (λ c. references_in ((found + c) % 2 ^ 64)) by ∙ kept_by_link found known new low fits z.is) in
-    (linking me.0 word (link_in ((found + change) % 2 ^ 64)), y.0, y.1, y.2, y.3, y.4, refl, (λ old knows. (linked.linked id me.0 at (word, old) knows).is, refl))))
+    (ap (λ c. references_in ((found + c) % 2 ^ 64)) by ∙ kept_by_link found known new low fits z.is) in (
+      linking me.0 word (link_in ((found + change) % 2 ^ 64)),
+      (inl (count_not_glance me.0.sizes word is), refl, λ shown. shown),
+      y.0,
+      y.1,
+      y.2,
+      y.3,
+      y.4,
+      refl,
+      (
+        λ old knows.
+            (linked.linked id me.0 at (word, old) knows).is,
+        refl,
+      ),
+    )))
 
 pub linking_sound : (words : ℕ) (v : View) (word link : ℕ) → IsSound words v → IsSound words (linking v word link)
 linking_sound words v word link h = record { size = h.size; range = h.range; bounds = h.bounds; keys = h.keys; counted = h.counted; inside = h.inside; free = h.free }

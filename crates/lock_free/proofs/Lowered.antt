@@ -24,7 +24,7 @@ use Rattle.lock_free.specs.declared.sizes.Sizes.{Sizes}
 use Rattle.lock_free.specs.Accounts.{place_of, state_of, bounds_for}
 use Rattle.lock_free.specs.Claims.{claims_there, held_now}
 use Rattle.lock_free.specs.Counting.{Owes, has_lowered, lowering}
-use Rattle.lock_free.specs.Counts.{how_often, owed_on, references, references_in, without_one}
+use Rattle.lock_free.specs.Counts.{how_often, owed_on, references, references_in, without_one, IsCount}
 use Rattle.lock_free.specs.Holdings.{IsHere, count_of, retired_of}
 use Rattle.lock_free.specs.Links.{AreLinked, link_in}
 use Rattle.lock_free.specs.Loading.{IsSound, now}
@@ -32,13 +32,15 @@ use Rattle.lock_free.specs.Nodes.{class_of}
 use Rattle.lock_free.specs.Owing.{owing}
 use Rattle.lock_free.specs.Places.{count_word}
 use Rattle.lock_free.specs.Reclaiming.{HasRetiredIt, kind_of, kind_of_node, retiring}
-use Rattle.lock_free.specs.Rules.{AreEpochs, AreOwed, AreRetired, IsKept, IsRetired, IsRuled, WasGarbage}
+use Rattle.lock_free.specs.Shadows.{IsShadowed}
+use Rattle.lock_free.specs.Rules.{AreEpochs, AreOwed, AreRetired, IsKept, IsRetired, WasGarbage}
+use Rattle.lock_free.proofs.OneGlance.Shadowed.{Stays}
 use Rattle.lock_free.proofs.Asked.{nodes_stay}
 use Rattle.lock_free.proofs.Assembling.{within}
 use Rattle.lock_free.proofs.ClaimsThere.{has_often, often_has}
 use Rattle.lock_free.proofs.CountsStay.{often_less, often_same, owed_set, often_none}
 use Rattle.lock_free.proofs.CountSteps.{leaves, held_then, retires, same_epoch, same_links}
-use Rattle.lock_free.proofs.CountWords.{count_inside}
+use Rattle.lock_free.proofs.CountWords.{count_inside, count_not_glance, Aside}
 use Rattle.lock_free.proofs.Dead.{dead_is_garbage}
 use Rattle.lock_free.proofs.EpochStays.{epoch_in, epochs_stay, was_then}
 use Rattle.lock_free.proofs.GivenBack.{node_is}
@@ -81,6 +83,10 @@ module _ (v : View) (s : Table.State Call View) (kept : IsKept v.sizes s) (epoch
 
   pub its : word ≡ count_word v.sizes class name
   its = slot_word v s kept id at k class name owes.1
+
+  -- glances are counted elsewhere
+  pub aside : Aside (count_word v.sizes class name) (λ n. (n + (2 ^ 64 - 2 ^ 32)) % 2 ^ 64) s.words
+  aside = inl (count_not_glance v.sizes (count_word v.sizes class name) (subst (IsCount v.sizes) its (here_count v.sizes s kept k here)))
 
   -- whichever node the word is said to be of, it is that one
   pub one : (j : Ref) (b n : ℕ) → Owes v j b n → count_word v.sizes class name ≡ count_word v.sizes b n → j ≡ k
@@ -249,7 +255,8 @@ module _ (v : View) (s : Table.State Call View) (kept : IsKept v.sizes s) (epoch
     pub dies : Left dying
     dies = (
       dying_kept,
-      epochs_stay s.words words_then s.views (set s.views id dying) epoch_same (was_then s.views id v at dying (record { actor = refl; epoch = refl; passed = refl; pinned = λ p e. e })) epochs,
+      epochs_stay s.words words_then s.views (set s.views id dying) epoch_same (was_then s.views id v at dying
+          (record { actor = refl; epoch = refl; passed = refl; glance = refl; pinned = λ p e. e })) epochs,
       dying_retired,
       dying_owed,
       linked_then s.views id v at dying refl (λ y c. Contains-append_left v.retired (x ∷ []) y c) v.sizes s.words words_then
@@ -282,14 +289,20 @@ module _ (v : View) (s : Table.State Call View) (kept : IsKept v.sizes s) (epoch
     }
 
 pub lower_allowed : (sizes : Sizes) (size id : ℕ) (me : Me Call View) (some_seats : 1 ≤ me.0.sizes.seats) (k : Ref) (class name : ℕ) → Owes me.0 k class name →
-    Allows (IsRuled sizes) size id me (count_word me.0.sizes class name) (λ n. (n + (2 ^ 64 - 2 ^ 32)) % 2 ^ 64)
+    Allows (IsShadowed sizes) size id me (count_word me.0.sizes class name) (λ n. (n + (2 ^ 64 - 2 ^ 32)) % 2 ^ 64)
     (has_lowered (step size (count_word me.0.sizes class name) (2 ^ 64 - 2 ^ 32) 0 none) me)
 lower_allowed sizes size id me some_seats k class name owes =
     allowed_by sizes size id me (count_word me.0.sizes class name) (λ n. (n + (2 ^ 64 - 2 ^ 32)) % 2 ^ 64) (has_lowered (step size (count_word me.0.sizes class name) (2 ^ 64 - 2 ^ 32) 0 none) me)
     some_seats
     (λ s kept epochs retired owed linked at.
     (let v = me.0 in
-    subst (λ c. (w : View) × IsKept v.sizes (record { words = set s.words c ((slice_index s.words c + (2 ^ 64 - 2 ^ 32)) % 2 ^ 64); homes = s.homes; views = set s.views id w })
+    subst (λ c. (w : View) × Stays sizes size id me (count_word me.0.sizes class name) (λ n. (n + (2 ^ 64 - 2 ^ 32)) % 2 ^ 64)
+    (has_lowered (step size (count_word me.0.sizes class name) (2 ^ 64 - 2 ^ 32) 0 none) me) s w × IsKept v.sizes (record {
+      words = set s.words c ((slice_index s.words c +
+          (2 ^ 64 - 2 ^ 32)) % 2 ^ 64);
+      homes = s.homes;
+      views = set s.views id w;
+    })
     × AreEpochs (set s.words c ((slice_index s.words c + (2 ^ 64 - 2 ^ 32)) % 2 ^ 64)) (set s.views id w)
     × AreRetired v.sizes (set s.words c ((slice_index s.words c + (2 ^ 64 - 2 ^ 32)) % 2 ^ 64)) (set s.views id w)
     × AreOwed (set s.views id w) × AreLinked v.sizes (set s.words c ((slice_index s.words c + (2 ^ 64 - 2 ^ 32)) % 2 ^ 64)) (set s.views id w) × (w.heard ≡ v.heard)
@@ -299,6 +312,7 @@ lower_allowed sizes size id me some_seats k class name owes =
           (let last = eqb-true (references_in (slice_index s.words (count_of v.sizes kept.account k))) 1 is_last in
           let x = dies v s kept epochs retired owed linked id at k class name owes last in (
             dying v s kept epochs retired owed linked id at k class name owes last,
+            (aside v s kept epochs retired owed linked id at k class name owes, refl, λ shown. shown),
             x.0,
             x.1,
             x.2,
@@ -317,6 +331,7 @@ lower_allowed sizes size id me some_seats k class name owes =
       | inr isnt ↦
           (let x = lowers v s kept epochs retired owed linked id at k class name owes in (
             lowering v k,
+            (aside v s kept epochs retired owed linked id at k class name owes, refl, λ shown. shown),
             x.0,
             x.1,
             x.2,
@@ -336,9 +351,9 @@ lower_allowed sizes size id me some_seats k class name owes =
 -- the word is that one
 pub lower_by : (sizes : Sizes) (size id : ℕ) (me : Me Call View) (some_seats : 1 ≤ me.0.sizes.seats) (k : Ref) (class name : ℕ) → Owes me.0 k class name → (count : ℕ) →
     count ≡ count_word me.0.sizes class name →
-    Allows (IsRuled sizes) size id me count (λ n. (n + (2 ^ 64 - 2 ^ 32)) % 2 ^ 64) (has_lowered (step size count (2 ^ 64 - 2 ^ 32) 0 none) me)
+    Allows (IsShadowed sizes) size id me count (λ n. (n + (2 ^ 64 - 2 ^ 32)) % 2 ^ 64) (has_lowered (step size count (2 ^ 64 - 2 ^ 32) 0 none) me)
 lower_by sizes size id me some_seats k class name owes count is =
-    subst (λ n. Allows (IsRuled sizes) size id me n (λ m. (m + (2 ^ 64 - 2 ^ 32)) % 2 ^ 64) (has_lowered (step size n (2 ^ 64 - 2 ^ 32) 0 none) me)) (sym is)
+    subst (λ n. Allows (IsShadowed sizes) size id me n (λ m. (m + (2 ^ 64 - 2 ^ 32)) % 2 ^ 64) (has_lowered (step size n (2 ^ 64 - 2 ^ 32) 0 none) me)) (sym is)
     (lower_allowed sizes size id me some_seats k class name owes)
 
 pub retiring_sound : (words : ℕ) (v : View) (owed : List ℕ) (x : Retired) → IsSound words v → IsSound words (retiring (owing v owed) x)

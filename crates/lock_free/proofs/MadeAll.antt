@@ -167,6 +167,8 @@ module _ (sizes : Sizes) (account : Account) (actor : ℕ) (operation : Operatio
     pending = all.roots.pending;
     tries = all.roots.tries;
     stood = λ k c. stood_still sizes account later (step.Go actor ∷ []) refl k.offer (all.roots.stood k c);
+    came = λ x c. stood_still sizes account later (step.Go actor ∷ []) refl x.known.offer (all.roots.came x c);
+    parting = all.roots.parting;
     marks = marks_kept account.offers (state_of sizes account) (state_of sizes later) (as_before makes.tries) words words (λ k c. refl) all.roots.marks;
     fates = λ k c. fate_kept sizes account later (step.Go actor) refl k (fate words k) (λ e. words_same (state_of sizes account) (state_of sizes later) makes.roots k.handle ∙ e) (all.roots.fates k c);
   }

@@ -21,14 +21,16 @@ use Rattle.lock_free.specs.declared.sizes.Sizes.{Sizes}
 use Rattle.lock_free.specs.Accounts.{state_of, HasGrown, HasWaited, IsOfOther, IsOwn}
 use Rattle.lock_free.specs.Nodes.{class_of}
 use Rattle.lock_free.specs.Making.{owned_with, made_at, Makes, made_by}
-use Rattle.lock_free.specs.Places.{pin_word, root_word, IsTaken}
+use Rattle.lock_free.specs.Cells.{IsCell}
+use Rattle.lock_free.specs.Places.{cell_word, pin_word, root_word, IsTaken}
 use Rattle.lock_free.specs.Rules.{Standing, IsClosing, SaysClosing, IsFree, IsSpare, IsSeat, IsKept, Once, pool_of}
 use Rattle.lock_free.specs.Trying.{as_before}
 use Rattle.lock_free.proofs.Assembling.{AllStand, closing_stays, numbers_stay, assembled}
+use Rattle.lock_free.proofs.CellsStay.{cells_spent}
 use Rattle.lock_free.proofs.Framing.{class_small}
 use Rattle.lock_free.proofs.Geometry.{IsWordOf}
 use Rattle.lock_free.proofs.Made.{stands_too, stands_else, stands_new, place_else, place_last, stands_still}
-use Rattle.lock_free.proofs.Pools.{pool_else}
+use Rattle.lock_free.proofs.Pools.{pool_else, parted_same}
 use Rattle.lock_free.proofs.Spending as spending
 use Rattle.lock_free.proofs.SeatOwing.{seat_owing}
 use Rattle.lock_free.proofs.PlainStay.{plain_running}
@@ -59,7 +61,6 @@ use Rattle.lock_free.specs.Holdings.{AreHeld}
 use Rattle.std.specs.List.{list_any}
 use Rattle.std.proofs.lemmas.Bool.{cases_Bool, true≢false}
 use Rattle.std.proofs.lemmas.List.Folds.{list_any-append}
-use Rattle.machine_model.specs.Beneath.slot_arena.specs.declared.nodes.Node.TheVariants.{Indirection}
 use Rattle.machine_model.specs.Beneath.slot_arena.specs.Heaps.{node_at}
 use Rattle.proof_claims.specs.Changes.{owned_at}
 use Rattle.proof_memory.specs.Wants.{is_indirection}
@@ -72,6 +73,8 @@ use Rattle.lock_free.proofs.OwesMade.{made_lines}
 use Rattle.lock_free.proofs.TakenLater.{left_has, takes_left}
 use Rattle.lock_free.specs.OwesAt.{owes_at}
 use Rattle.lock_free.proofs.LetGoSince.{let_go_by_none}
+use Rattle.lock_free.proofs.PartingStay.{knows_still, names_same}
+use Rattle.lock_free.specs.Parting.{KnowsOffers}
 
 module _ (sizes : Sizes) (s : Table.State Call View) (kept : IsKept sizes s) (id : ℕ) (v : View) (at : get_elem? s.views id ≡ some v) (operation : Operation)
     (runs : operation_of (state_of sizes kept.account) v.actor ≡ Some operation) (name : ℕ) (own : Bool) (node : Node) (more : ℕ)
@@ -141,7 +144,7 @@ module _ (sizes : Sizes) (s : Table.State Call View) (kept : IsKept sizes s) (id
 
   waits : (actor : ℕ) (before : Account) → actor ≢ v.actor → HasWaited actor before kept.account → HasWaited actor before account_then
   waits actor before differs h =
-      subst (λ owned. HasWaited actor before (record { steps = kept.account.steps ++ step.Go v.actor ∷ []; names = kept.account.names ++ name ∷ []; owned = owned; offers = kept.account.offers }))
+      subst (λ owned. HasWaited actor before (record kept.account { steps = kept.account.steps ++ step.Go v.actor ∷ []; names = kept.account.names ++ name ∷ []; owned = owned }))
       (owned_is node)
       (waited_more actor before kept.account (step.Go v.actor ∷ []) (name ∷ []) (owned_more node) []
       (All-cons (IsOfOther actor) (step.Go v.actor) [] (λ e. differs (sym e)) (All-nil (IsOfOther actor))) h)
@@ -184,6 +187,8 @@ module _ (sizes : Sizes) (s : Table.State Call View) (kept : IsKept sizes s) (id
           let differs : free_name ≢ name = λ same. apart (kept.pools other id w v b (class_of node) name e at (subst (λ n. IsFree w b n) same free) its_own) in
           (spare_then free_name differs x.1, slot_same b free_name free.0 differs x.0));
       plain = plain_running sizes kept.account account_then kept.bounds ((step.Go v.actor) ∷ []) refl s.words words_then v.actor operation runs;
+      offering = knows_still kept.account.offered kept.account.offers kept.account.parted s.words words_then
+          (names_same kept.account.offers s.words words_then root_same);
     }
 
     pool_still : (handle : ℕ) → v.opens ≡ Some handle → (slot : ℕ) → IsFree v 1 slot → Contains (pool_of view_then.pool 1) slot
@@ -196,11 +201,14 @@ module _ (sizes : Sizes) (s : Table.State Call View) (kept : IsKept sizes s) (id
         (numbers_so sizes s kept account_then words_then (as_before makes.tries) makes.roots root_same id v at) made_all.counted
         (pin_same v.actor (omega (arith, seat.top, seat.most))) view_then.pool v.opening (λ handle slot o n. (n, λ x. (root_same handle x.low, pool_still handle o slot x.free))) []
         (λ b other f. (let before = was_free b other f in let x = seat.spare b other before.0 in (taken b other f.0 x.0, spare_then other before.1 x.1))) once_then
-        (λ d c. absurd (omega (arith, c.1))))
+        (λ d c. absurd (omega (arith, c.1)))
+        (subst (λ xs. KnowsOffers account_then.offered account_then.offers account_then.parted words_then v.actor v.pin v.offer xs) (sym (parted_same v.pool (class_of node) rest))
+        (stays.offering v.actor v.pin v.offer v.pool.parted seat.offering)))
 
     closings_then : (handle who : ℕ) → handle < handle_limit → SaysClosing (slice_index words_then (root_word handle)) who → IsClosing (set s.views id view_then) handle who
     closings_then handle who low_handle says =
-        closing_stays sizes s kept id v at view_then refl refl (λ h e. e) refl handle who (kept.closings handle who low_handle (subst (λ n. SaysClosing n who) (root_same handle low_handle) says))
+        closing_stays sizes s kept id v at view_then refl refl (λ h e. (e, refl)) refl (λ c. c) handle who (kept.closings handle who low_handle (subst (λ n. SaysClosing n who)
+        (root_same handle low_handle) says))
 
     -- ---- references
 
@@ -324,10 +332,12 @@ module _ (sizes : Sizes) (s : Table.State Call View) (kept : IsKept sizes s) (id
 
     -- the rule holds
     pub made_kept : Takes → ((c : ℕ) → IsCount sizes c → references words_then c ≡ references s.words c) →
+        ((c n : ℕ) → IsCell c n → slice_index words_then (cell_word sizes c n) ≡ slice_index s.words (cell_word sizes c n)) →
         IsKept sizes (record { words = words_then; homes = s.homes; views = set s.views id view_then })
-    made_kept evidence same =
+    made_kept evidence same cells_same =
         assembled sizes s kept id v at view_then refl refl account_then stands_then words_then made_all closings_then own_then
         (other_kept sizes s kept id v at account_then stands_then words_then stays)
         (λ b other f. inl (was_free b other f).0)
         (numbers_stay sizes s kept id v at view_then refl refl account_then words_then (as_before makes.tries) (λ slot none. none) root_same refl
         (λ slot handle e free. (free.0, pool_still handle e slot free))) (held_then evidence same)
+        (cells_spent sizes s kept id v at view_then account_then stands_then words_then cells_same (class_of node) name its_own taken spare_then (λ b n f. (was_free b n f).0))

@@ -19,6 +19,8 @@ use Rattle.machine_model.specs.Beneath.slot_arena.specs.declared.nodes.Node.TheV
 use Rattle.machine_model.specs.Beneath.slot_arena.specs.declared.nodes.Slot.{Slot}
 use Rattle.machine_model.specs.Beneath.slot_arena.specs.Heaps.{entries_from, refs_of_node, entries_of}
 use Rattle.machine_model.specs.declared.actions.Action.TheVariants as act
+use Rattle.lock_free.specs.declared.reclaiming.Kind.TheVariants as kinds
+use Rattle.lock_free.specs.Reclaiming.{kind_of_node}
 use Rattle.lock_free.specs.declared.rules.View.{View}
 use Rattle.lock_free.specs.Loading.{now, IsAt, IsSound, IsUsed}
 use Rattle.lock_free.specs.Making.{over_of, Drafted, DraftsHeader, DraftsNode, IsOverBy, shape_with}
@@ -147,6 +149,16 @@ module _ (n : ℕ) (before : View) (sound : IsSound n before) (what : Shape) (en
   class_is = ap class_for (same_length before entries (written_of m.node) m.entries_to) ∙ by m.node m.is_shape
     where
       by : (node : Node) → shape_with before.account m.own node ≡ Some what → class_for (length (written_of node)) ≡ class_of node
+      by (Branch bitmap es) is = refl
+      by (Tomb single) is = refl
+      by (Listed singles) is = refl
+      by node is = absurd (none-some what is)
+
+  -- its kind
+  pub kind_is : kinds.Main ≡ kind_of_node m.node
+  kind_is = by m.node m.is_shape
+    where
+      by : (node : Node) → shape_with before.account m.own node ≡ Some what → kinds.Main ≡ kind_of_node node
       by (Branch bitmap es) is = refl
       by (Tomb single) is = refl
       by (Listed singles) is = refl

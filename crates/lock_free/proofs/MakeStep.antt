@@ -40,7 +40,8 @@ use Rattle.lock_free.specs.Loading.{now, IsAt, IsSound, Took}
 use Rattle.lock_free.specs.Making.{over_of, Drafted, IsOverBy, shape_with, DraftsHeader, DraftsNode, made_at, made_by, Makes}
 use Rattle.lock_free.specs.Nodes.{Has, is_single, AreEntries, class_of}
 use Rattle.lock_free.specs.Places.{words_of}
-use Rattle.lock_free.specs.Rules.{pool_of, IsFree, IsKept, IsRuled}
+use Rattle.lock_free.specs.Shadows.{IsShadowed}
+use Rattle.lock_free.specs.Rules.{pool_of, IsFree, IsKept}
 use Rattle.lock_free.specs.Storing.{IsOwnWord, Writes, IsAtMake, IsAdded, has_made}
 use Rattle.lock_free.proofs.Added.{added}
 use Rattle.machine_model.specs.Acting.{private_after, with_made}
@@ -67,6 +68,7 @@ use Rattle.lock_free.proofs.HeldStep.{taken_now}
 use Rattle.lock_free.specs.OwesAt.{owes_at}
 use Rattle.lock_free.proofs.OwesPrivate.{line_apart}
 use Rattle.proof_memory.specs.Making.{made_node}
+use Rattle.lock_free.proofs.PartingStay.{standing_stood}
 
 -- what is written is written so later too, where places stay, whose own nodes are, and which entries are singles
 module _ (before after : Account) (first later : Heap) (has : Has) (name : ℕ) (own : Bool) (over : Option (Ref × Ref))
@@ -147,7 +149,7 @@ module _ (v : View) (word value : ℕ) (node : Node) (rest : List ℕ) (name : �
   after = made_by v (class_of node) name rest own node there
 
   makes : Makes v.sizes there (made_at v.actor name own node there) v.actor o node 0
-  makes = makes_of v.sizes there kept.bounds v.actor o stays.1 kept.quiet kept.roots.stood node acts kept.counted name own
+  makes = makes_of v.sizes there kept.bounds v.actor o stays.1 kept.quiet (standing_stood v.sizes there s.words kept.roots) node acts kept.counted name own
 
   -- what the node names is as it was when it was written
   same_names : (r : Ref) → Contains (refs_of_node node) r → (place_of there r ≡ place_of v.account r) × (is_single (node_at state.heap r) ≡ is_single (node_at (now v).heap r))
@@ -251,7 +253,7 @@ module _ (v : View) (word value : ℕ) (node : Node) (rest : List ℕ) (name : �
   added_after = added v (class_of node) name rest own node there kept.bounds kept.quiet kept.counted o 0 makes
 
 pub make_allowed : (sizes : Sizes) (size id : ℕ) (me : Me Call View) (some_seats : 1 ≤ me.0.sizes.seats) (word value : ℕ) → IsAtMake me.0 word value → HoldsRaised me.0 →
-    Allows (IsRuled sizes) size id me word (λ n. value)
+    Allows (IsShadowed sizes) size id me word (λ n. value)
     (λ n. has_made (step size word value 0 none) me value)
 make_allowed sizes size id me some_seats word value (node, rest, name, own, p, w) holding =
     allowed_owing sizes size id me word (λ n. value) (λ n. has_made (step size word value 0 none) me value)

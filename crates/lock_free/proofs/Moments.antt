@@ -1,53 +1,49 @@
 -- What the rule says at the moment of an access: of the seat's operation, of nodes, and what a load leaves.
 use Rattle.history.specs.declared.calls.Call.{Call}
-use Rattle.std.proofs.Common.{◌≡◌, ◌+◌, ◌*◌, ◌<◌, ◌≤◌, ℕ, suc, zero, inl, inr, Bool, List, [], ◌∷◌, ◌++◌, Contains, set, get_or, slice_index, length, Some, None, refl, sym, ap, subst, ◌∙◌, arith}
+use Rattle.std.proofs.Common.{◌≡◌, ◌+◌, ◌*◌, ◌<◌, ◌≤◌, ℕ, inl, inr, Bool, [], Contains, set, get_or, slice_index, length, Some, None, refl, sym, ap, subst, ◌∙◌, arith}
 use Rattle.std.proofs.lemmas.List.{set-get_or}
-use Rattle.std.proofs.lemmas.List.Elements.{Contains-append_left}
 use Rattle.std.proofs.lemmas.Option.{same_Some}
 use mathlib.Core.Option.{some, none}
 use lib.ListN.{get_elem?}
 use Rattle.atomic_table.specs.Table.{Me, Allows, step, keeps}
 use Rattle.atomic_table.specs.Table as Table
-use Rattle.proof_memory.specs.Vocabulary.{HashKind}
 use Rattle.machine_model.specs.Beneath.slot_arena.specs.declared.refs.Ref.{Ref}
-use Rattle.machine_model.specs.Beneath.slot_arena.specs.declared.nodes.Node.{Node}
-use Rattle.machine_model.specs.Beneath.slot_arena.specs.declared.nodes.Node.TheVariants.{Indirection, Branch, Single, Tomb, List as Listed}
 use Rattle.machine_model.specs.Beneath.slot_arena.specs.declared.nodes.Slot.{Slot}
 use Rattle.machine_model.specs.Beneath.slot_arena.specs.Refs.{slot_of}
-use Rattle.machine_model.specs.Beneath.slot_arena.specs.Heaps.{stored, refs_of_node, refs_of_slot, refs_of_prev, entries_of}
 use Rattle.machine_model.specs.declared.operations.Operation.{Operation}
 use Rattle.machine_model.specs.Acting.{operation_after}
 use Rattle.machine_model.specs.Machine.{AreBounds}
 use Rattle.machine_model.specs.Operations.{action_of}
 use Rattle.machine_model.specs.States.{operation_of}
-use Rattle.machine_model.proofs.Along.{limits_along}
-use Rattle.proof_memory.specs.Laws.{SameNode}
-use Rattle.proof_memory.specs.Wants.{line_wants}
 use Rattle.lock_free.specs.declared.accounts.Account.{Account}
-use Rattle.lock_free.specs.declared.accounts.Owned.{Owned}
 use Rattle.lock_free.specs.declared.rules.Pinned.{Pinned}
 use Rattle.lock_free.specs.declared.rules.View.{View}
 use Rattle.lock_free.specs.declared.sizes.Sizes.{Sizes}
-use Rattle.lock_free.specs.Accounts.{bounds_for, state_of, place_at, place_of, running, gone_on, OwnIs, later}
+use Rattle.lock_free.specs.Accounts.{bounds_for, state_of, place_at, place_of, running, gone_on, OwnIs}
 use Rattle.lock_free.specs.Links.{AreLinked, link_in}
-use Rattle.lock_free.specs.Live.{refs_of_claims, at_hand, from_operation, from_slot, IsLive}
+use Rattle.lock_free.specs.Live.{at_hand, from_operation, IsLive}
 use Rattle.lock_free.specs.Loading.{now, IsUsed, IsSound, seen, Waited, Took, has_seen, has_gone, Holds}
 use Rattle.lock_free.specs.Nodes.{StandsAs, InTable, class_of}
 use Rattle.lock_free.specs.Places.{words_in, words_of}
-use Rattle.lock_free.specs.Rules.{AreEpochs, AreOwed, AreRetired, IsFree, IsKept, IsRuled, IsSeat}
+use Rattle.lock_free.specs.Shadows.{IsShadowed}
+use Rattle.lock_free.specs.Rules.{AreEpochs, AreOwed, AreRetired, IsFree, IsKept, IsSeat}
+use Rattle.lock_free.specs.Shadows.{IsShadowed}
 use Rattle.lock_free.specs.Steps.{Reads}
 use Rattle.lock_free.proofs.Asked.{in_use_made, live_in_use, nodes_stay}
 use Rattle.lock_free.proofs.Assembling.{all_stand, closing_stays, numbers_stay, assembled}
+use Rattle.lock_free.proofs.CellsStay.{cells_seen}
 use Rattle.lock_free.proofs.Meanings.{no_tries}
 use Rattle.lock_free.proofs.Definition.{IsReading, reads_of, waits, bounds_before}
 use Rattle.lock_free.proofs.Framing.{class_small, first_word}
 use Rattle.lock_free.proofs.Geometry.{end_inside}
-use Rattle.lock_free.proofs.CountWords.{Apart, Beside, count_same, elsewhere_so, slot_apart}
+use Rattle.lock_free.proofs.CountWords.{Apart, Beside, aside_so, count_same, elsewhere_so, slot_apart}
 use Rattle.lock_free.proofs.Idle.{empty_has}
 use Rattle.lock_free.proofs.OwedStay.{owed_same, owed_then}
 use Rattle.lock_free.proofs.LinksStay.{linked_then}
 use Rattle.lock_free.proofs.EpochStays.{Elsewhere, IsAsWas, epochs_stay, rest_of, rest_unpinned, stays_elsewhere, unpinned_as_was, was_then, rest_beside, beside_as_was}
 use Rattle.lock_free.proofs.GoneSeats.{heard_still}
+use Rattle.lock_free.proofs.LastingNodes.{place_stays, owns_in_front, same_entries, entry_lives, hand_by, same_hash}
+use Rattle.lock_free.proofs.OneGlance.Shadowed.{AllowsRuled, Stays, lifted, stays_by}
 use Rattle.lock_free.proofs.RetiredStay.{epoch_still, retired_then}
 use Rattle.lock_free.proofs.Keeping.{keys_gone, kept_then}
 use Rattle.lock_free.proofs.Waiting.{waited_none}
@@ -70,28 +66,33 @@ module _ (sizes : Sizes) (size id : ℕ) (me : Me Call View) (word : ℕ) (f : �
   abbrev pub CanBeBy : Type 0
   CanBeBy = (s : Table.State Call View) → IsKept me.0.sizes s → AreEpochs s.words s.views → AreRetired me.0.sizes s.words s.views → AreOwed s.views →
       AreLinked me.0.sizes s.words s.views → get_elem? s.views id ≡ some me.0 →
-      (w : View) × IsKept me.0.sizes (after_it s w) × AreEpochs (after_it s w).words (after_it s w).views × AreRetired me.0.sizes (after_it s w).words (after_it s w).views
+      (w : View) × Stays sizes size id me word f then s w × IsKept me.0.sizes (after_it s w) × AreEpochs (after_it s w).words (after_it s w).views × AreRetired me.0.sizes
+      (after_it s w).words (after_it s w).views
       × AreOwed (after_it s w).views × AreLinked me.0.sizes (after_it s w).words (after_it s w).views × (w.heard ≡ me.0.heard)
       × then (slice_index s.words word) (w, me.1)
 
-  pub allowed_by : 1 ≤ me.0.sizes.seats → CanBeBy → Allows (IsRuled sizes) size id me word f then
-  allowed_by some_seats h s ruled length_is at low =
+  pub ruled_by : 1 ≤ me.0.sizes.seats → CanBeBy → AllowsRuled sizes size id me word f then
+  ruled_by some_seats h s ruled at =
       let its = (ruled.kept.seats id me.0 at).same some_seats in
       let x = h s (subst (λ z. IsKept z s) (sym its) ruled.kept) ruled.epochs (subst (λ z. AreRetired z s.words s.views) (sym its) ruled.retired)
       ruled.owed (subst (λ z. AreLinked z s.words s.views) (sym its) ruled.linked) at in (
         x.0,
         keeps,
+        x.1,
         tt,
         record {
-          kept = subst (λ z. IsKept z (after_it s x.0)) its x.1;
-          epochs = x.2;
-          retired = subst (λ z. AreRetired z (after_it s x.0).words (after_it s x.0).views) its x.3;
-          owed = x.4;
-          linked = subst (λ z. AreLinked z (after_it s x.0).words (after_it s x.0).views) its x.5;
-          heard = heard_still s.views id me.0 at some_seats x.0 x.6 ruled.heard;
+          kept = subst (λ z. IsKept z (after_it s x.0)) its x.2;
+          epochs = x.3;
+          retired = subst (λ z. AreRetired z (after_it s x.0).words (after_it s x.0).views) its x.4;
+          owed = x.5;
+          linked = subst (λ z. AreLinked z (after_it s x.0).words (after_it s x.0).views) its x.6;
+          heard = heard_still s.views id me.0 at some_seats x.0 x.7 ruled.heard;
         },
-        x.7,
+        x.8,
       )
+
+  pub allowed_by : 1 ≤ me.0.sizes.seats → CanBeBy → Allows (IsShadowed sizes) size id me word f then
+  allowed_by some_seats h = lifted sizes size id me word f then some_seats (ruled_by some_seats h)
 
   -- where the word isn't the epoch's, or has what it had
   epochs_then : (s : Table.State Call View) → get_elem? s.views id ≡ some me.0 → Elsewhere word f s.words → (w : View) → IsAsWas me.0 w → AreEpochs s.words s.views →
@@ -117,12 +118,13 @@ module _ (sizes : Sizes) (size id : ℕ) (me : Me Call View) (word : ℕ) (f : �
       (λ c is. ap link_in (count_same me.0.sizes word f s.words beside c is)) h
 
   -- where it holds other references then, of nodes to which its operation leads, all else stays as above
-  pub allowed_giving : 1 ≤ me.0.sizes.seats → Always (λ s kept at. Beside me.0.sizes word f s.words) → (h : CanBe) → Always (λ s kept at. rest_beside (h s kept at).0 ≡ rest_beside me.0) →
-      Always (λ s kept at. AreRetired me.0.sizes s.words s.views → AreOwed s.views → AreOwed (set s.views id (h s kept at).0)) → Allows (IsRuled sizes) size id me word f then
-  allowed_giving some_seats beside h same owes =
-      allowed_by some_seats
+  pub ruled_giving : 1 ≤ me.0.sizes.seats → Always (λ s kept at. Beside me.0.sizes word f s.words) → (h : CanBe) → Always (λ s kept at. rest_beside (h s kept at).0 ≡ rest_beside me.0) →
+      Always (λ s kept at. AreRetired me.0.sizes s.words s.views → AreOwed s.views → AreOwed (set s.views id (h s kept at).0)) → AllowsRuled sizes size id me word f then
+  ruled_giving some_seats beside h same owes =
+      ruled_by some_seats
       (λ s kept epochs retired owed linked at. (let x = h s kept at in (
         x.0,
+        stays_by sizes size id me word f then s (aside_so me.0.sizes word f s.words (beside s kept at)) x.0 (beside_as_was me.0 x.0 (same s kept at)),
         x.1,
         epochs_then s at (elsewhere_so me.0.sizes word f s.words (beside s kept at)) x.0 (beside_as_was me.0 x.0 (same s kept at)) epochs,
         slots_then s at (elsewhere_so me.0.sizes word f s.words (beside s kept at)) x.0 (ap (λ r. r.5) (same s kept at)) (beside_as_was me.0 x.0 (same s kept at)).pinned retired,
@@ -132,22 +134,23 @@ module _ (sizes : Sizes) (size id : ℕ) (me : Me Call View) (word : ℕ) (f : �
         x.2,
       )))
 
-  pub allowed_owing : 1 ≤ me.0.sizes.seats → Always (λ s kept at. Beside me.0.sizes word f s.words) → (h : CanBe) → Always (λ s kept at. rest_beside (h s kept at).0 ≡ rest_beside me.0) →
-      Always (λ s kept at. AreOwed s.views → AreOwed (set s.views id (h s kept at).0)) → Allows (IsRuled sizes) size id me word f then
-  allowed_owing some_seats beside h same owes = allowed_giving some_seats beside h same (λ s kept at retired owed. owes s kept at owed)
+  pub ruled_owing : 1 ≤ me.0.sizes.seats → Always (λ s kept at. Beside me.0.sizes word f s.words) → (h : CanBe) → Always (λ s kept at. rest_beside (h s kept at).0 ≡ rest_beside me.0) →
+      Always (λ s kept at. AreOwed s.views → AreOwed (set s.views id (h s kept at).0)) → AllowsRuled sizes size id me word f then
+  ruled_owing some_seats beside h same owes = ruled_giving some_seats beside h same (λ s kept at retired owed. owes s kept at owed)
 
-  pub allowed : 1 ≤ me.0.sizes.seats → Always (λ s kept at. Beside me.0.sizes word f s.words) → (h : CanBe) → Always (λ s kept at. rest_of (h s kept at).0 ≡ rest_of me.0) →
-      Allows (IsRuled sizes) size id me word f then
-  allowed some_seats beside h same =
-      allowed_owing some_seats beside h (λ s kept at. ap (λ r. (r.0, r.1, r.2, r.3, r.4, r.5, [], r.7)) (same s kept at)) (λ s kept at. owes_then s at (h s kept at).0 (same s kept at))
+  pub ruled_still : 1 ≤ me.0.sizes.seats → Always (λ s kept at. Beside me.0.sizes word f s.words) → (h : CanBe) → Always (λ s kept at. rest_of (h s kept at).0 ≡ rest_of me.0) →
+      AllowsRuled sizes size id me word f then
+  ruled_still some_seats beside h same =
+      ruled_owing some_seats beside h (λ s kept at. ap (λ r. (r.0, r.1, r.2, r.3, r.4, r.5, [], r.7, r.8)) (same s kept at)) (λ s kept at. owes_then s at (h s kept at).0 (same s kept at))
 
   -- the seat isn't pinned then, and holds no reference
-  pub allowed_unpinned : 1 ≤ me.0.sizes.seats → Always (λ s kept at. Beside me.0.sizes word f s.words) → (h : CanBe) →
-      Always (λ s kept at. rest_of (h s kept at).0 ≡ rest_unpinned me.0) → Allows (IsRuled sizes) size id me word f then
-  allowed_unpinned some_seats beside h same =
-      allowed_by some_seats
+  pub ruled_unpinned : 1 ≤ me.0.sizes.seats → Always (λ s kept at. Beside me.0.sizes word f s.words) → (h : CanBe) →
+      Always (λ s kept at. rest_of (h s kept at).0 ≡ rest_unpinned me.0) → AllowsRuled sizes size id me word f then
+  ruled_unpinned some_seats beside h same =
+      ruled_by some_seats
       (λ s kept epochs retired owed linked at. (let x = h s kept at in (
         x.0,
+        stays_by sizes size id me word f then s (aside_so me.0.sizes word f s.words (beside s kept at)) x.0 (unpinned_as_was me.0 x.0 (same s kept at)),
         x.1,
         epochs_then s at (elsewhere_so me.0.sizes word f s.words (beside s kept at)) x.0 (unpinned_as_was me.0 x.0 (same s kept at)) epochs,
         slots_then s at (elsewhere_so me.0.sizes word f s.words (beside s kept at)) x.0 (ap (λ r. r.5) (same s kept at)) (unpinned_as_was me.0 x.0 (same s kept at)).pinned retired,
@@ -158,44 +161,17 @@ module _ (sizes : Sizes) (size id : ℕ) (me : Me Call View) (word : ℕ) (f : �
         x.2,
       )))
 
--- places stay where they are
-pub place_stays : (names more : List ℕ) (k : ℕ) → k < length names → get_or (names ++ more) k 0 ≡ get_or names k 0
-place_stays [] more k h = absurd (omega (arith, h))
-place_stays (x ∷ xs) more zero h = refl
-place_stays (x ∷ xs) more (suc k) h = place_stays xs more k (omega (arith, h))
+  pub allowed_giving : 1 ≤ me.0.sizes.seats → Always (λ s kept at. Beside me.0.sizes word f s.words) → (h : CanBe) → Always (λ s kept at. rest_beside (h s kept at).0 ≡ rest_beside me.0) →
+      Always (λ s kept at. AreRetired me.0.sizes s.words s.views → AreOwed s.views → AreOwed (set s.views id (h s kept at).0)) → Allows (IsShadowed sizes) size id me word f then
+  allowed_giving some_seats beside h same owes = lifted sizes size id me word f then some_seats (ruled_giving some_seats beside h same owes)
 
-pub owns_in_front : (more owned : List Owned) (k m : ℕ) (b : Bool) → OwnIs owned k m b → OwnIs (more ++ owned) k m b
-owns_in_front [] owned k m b h = h
-owns_in_front (x ∷ xs) owned k m b h = later x (xs ++ owned) k m b (owns_in_front xs owned k m b h)
+  pub allowed_owing : 1 ≤ me.0.sizes.seats → Always (λ s kept at. Beside me.0.sizes word f s.words) → (h : CanBe) → Always (λ s kept at. rest_beside (h s kept at).0 ≡ rest_beside me.0) →
+      Always (λ s kept at. AreOwed s.views → AreOwed (set s.views id (h s kept at).0)) → Allows (IsShadowed sizes) size id me word f then
+  allowed_owing some_seats beside h same owes = lifted sizes size id me word f then some_seats (ruled_owing some_seats beside h same owes)
 
--- the entries of a main node stay
-pub same_entries : (before after : Node) → SameNode before after → entries_of after ≡ entries_of before
-same_entries (Indirection generation main) after same = ap entries_of same.1
-same_entries (Branch bitmap entries) after same = ap entries_of same.1
-same_entries (Single key value) after same = ap entries_of same.1
-same_entries (Tomb single) after same = ap entries_of same.1
-same_entries (Listed singles) after same = ap entries_of same.1
-
-pub entry_named : (node : Node) (r : Ref) → Contains (entries_of node) r → Contains (refs_of_node node) r
-entry_named (Indirection generation main) r c = let low = c.1 in absurd (omega (arith, low))
-entry_named (Branch bitmap entries) r c = c
-entry_named (Single key value) r c = c
-entry_named (Tomb single) r c = c
-entry_named (Listed singles) r c = c
-
--- what is an entry of a live main node is live
-pub entry_lives : (sizes : Sizes) (account : Account) (main r : Ref) (slot : Slot) → IsLive (state_of sizes account) main → get_or (state_of sizes account).heap.slots
-    (slot_of main) None ≡ Some slot → Contains (entries_of slot.node) r → IsLive (state_of sizes account) r
-unfolding stored
-entry_lives sizes account main r slot live is c =
-    from_slot main r live (subst (λ o. Contains (refs_of_slot o) r) (sym is) (Contains-append_left (refs_of_node slot.node) (refs_of_prev slot.prev) r (entry_named slot.node r c)))
-
--- what an operation has at hand, by the hash
-abbrev pub hand_by : HashKind → Operation → List Ref
-hand_by hash operation = refs_of_claims (line_wants hash operation.call operation.access operation.line) ++ operation.private
-
-pub same_hash : (sizes : Sizes) (a b : Account) → (state_of sizes a).limits.hash ≡ (state_of sizes b).limits.hash
-same_hash sizes a b = ap (λ l. l.hash) (limits_along (bounds_for sizes a.steps) a.steps) ∙ sym (ap (λ l. l.hash) (limits_along (bounds_for sizes b.steps) b.steps))
+  pub allowed : 1 ≤ me.0.sizes.seats → Always (λ s kept at. Beside me.0.sizes word f s.words) → (h : CanBe) → Always (λ s kept at. rest_of (h s kept at).0 ≡ rest_of me.0) → Allows
+      (IsShadowed sizes) size id me word f then
+  allowed some_seats beside h same = lifted sizes size id me word f then some_seats (ruled_still some_seats beside h same)
 
 module _ (v : View) (s : Table.State Call View) (kept : IsKept v.sizes s) (id : ℕ) (at : get_elem? s.views id ≡ some v) where
   abbrev pub there : Account
@@ -317,15 +293,16 @@ module _ (v : View) (s : Table.State Call View) (kept : IsKept v.sizes s) (id : 
     once = seat.once;
     drafts = seat.drafts;
     plain = seat.plain;
+    offering = seat.offering;
   }
 
   pub seen_kept : IsKept v.sizes (record { words = s.words; homes = s.homes; views = set s.views id seen_view })
   seen_kept =
       assembled v.sizes s kept id v at seen_view refl refl there kept.stands s.words (all_stand v.sizes s kept)
-      (λ handle who low says. closing_stays v.sizes s kept id v at seen_view refl refl (λ h e. e) refl handle who (kept.closings handle who low says)) seen_seat
+      (λ handle who low says. closing_stays v.sizes s kept id v at seen_view refl refl (λ h e. (e, refl)) refl (λ c. c) handle who (kept.closings handle who low says)) seen_seat
       (λ other w e apart. kept.seats other w e) (λ b n f. inl f)
       (numbers_stay v.sizes s kept id v at seen_view refl refl there s.words (no_tries there.offers (state_of v.sizes there)) (λ slot none. none) (λ handle low. refl) refl
-      (λ slot handle e free. free)) (held_views v.sizes s kept id v at seen_view refl refl refl)
+      (λ slot handle e free. free)) (held_views v.sizes s kept id v at seen_view refl refl refl) (cells_seen v.sizes s kept id v at seen_view (λ b n f. f))
 
   -- ---- a load that is the operation's step
 
@@ -369,9 +346,9 @@ module _ (sizes : Sizes) (size id : ℕ) (me : Me Call View) (word : ℕ) where
       IsKept me.0.sizes (record { words = set s.words word (slice_index s.words word); homes = s.homes; views = set s.views id w })
   unchanged s w h = subst (λ ws. IsKept me.0.sizes (record { words = ws; homes = s.homes; views = set s.views id w })) (sym (set-get_or s.words word 0)) h
 
-  pub load_allowed : 1 ≤ me.0.sizes.seats → Allows (IsRuled sizes) size id me word (λ n. n) (has_seen (step size word 0 0 none) me)
-  load_allowed some_seats =
-      allowed sizes size id me word (λ n. n) (has_seen (step size word 0 0 none) me)
+  pub load_ruled : 1 ≤ me.0.sizes.seats → AllowsRuled sizes size id me word (λ n. n) (has_seen (step size word 0 0 none) me)
+  load_ruled some_seats =
+      ruled_still sizes size id me word (λ n. n) (has_seen (step size word 0 0 none) me)
       some_seats (λ s kept at. inr refl)
       (λ s kept at. (
         seen_view me.0 s kept id at,
@@ -380,10 +357,13 @@ module _ (sizes : Sizes) (size id : ℕ) (me : Me Call View) (word : ℕ) where
       ))
       (λ s kept at. refl)
 
-  pub go_allowed : 1 ≤ me.0.sizes.seats → (o : Operation) → running me.0.sizes me.0.account me.0.actor o → IsReading (action_of (now me.0) o) → Allows (IsRuled sizes) size id me word (λ n. n)
+  pub load_allowed : 1 ≤ me.0.sizes.seats → Allows (IsShadowed sizes) size id me word (λ n. n) (has_seen (step size word 0 0 none) me)
+  load_allowed some_seats = lifted sizes size id me word (λ n. n) (has_seen (step size word 0 0 none) me) some_seats (load_ruled some_seats)
+
+  pub go_ruled : 1 ≤ me.0.sizes.seats → (o : Operation) → running me.0.sizes me.0.account me.0.actor o → IsReading (action_of (now me.0) o) → AllowsRuled sizes size id me word (λ n. n)
       (has_gone (step size word 0 0 none) me)
-  go_allowed some_seats o runs reading =
-      allowed sizes size id me word (λ n. n) (has_gone (step size word 0 0 none) me)
+  go_ruled some_seats o runs reading =
+      ruled_still sizes size id me word (λ n. n) (has_gone (step size word 0 0 none) me)
       some_seats (λ s kept at. inr refl)
       (λ s kept at. (
         gone_view me.0 s kept id at o runs reading,
@@ -391,3 +371,7 @@ module _ (sizes : Sizes) (size id : ℕ) (me : Me Call View) (word : ℕ) where
         ((record { table = s; kept = kept; id = id; at = at; finds = refl }, refl, gone_took me.0 s kept id at o runs reading), gone_sound me.0 s kept id at o runs reading, refl),
       ))
       (λ s kept at. refl)
+
+  pub go_allowed : 1 ≤ me.0.sizes.seats → (o : Operation) → running me.0.sizes me.0.account me.0.actor o → IsReading (action_of (now me.0) o) → Allows (IsShadowed sizes) size id me word (λ n. n)
+      (has_gone (step size word 0 0 none) me)
+  go_allowed some_seats o runs reading = lifted sizes size id me word (λ n. n) (has_gone (step size word 0 0 none) me) some_seats (go_ruled some_seats o runs reading)

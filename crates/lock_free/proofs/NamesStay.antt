@@ -86,7 +86,7 @@ dropped_same v w m n (drops.At position) same_m same_n h = record {
 -- the nodes of its SWAP
 module _ (v w : View) (f : Follows v w) (bounds : AreBounds (bounds_for v.sizes v.account.steps)) (o : Operation) (runs : running v.sizes v.account v.actor o) (why : Purpose) (s : Swap)
     (on : o.line ≡ line.Swap why s) where
-  swap_names : (r : Ref) → IsLive (now v) r → is_main_node (node_at (now v).heap r) ≡ true → names_of w r ≡ names_of v r
+  pub swap_names : (r : Ref) → IsLive (now v) r → is_main_node (node_at (now v).heap r) ≡ true → names_of w r ≡ names_of v r
   swap_names r lives main = let used = live_in_use v.sizes v.account bounds r lives in names_on v w f r (used.0, used.1) main
 
   pub swap_left : (own committed : Bool) (owed : List Ref) → HoldsLeft w own s.replaced s.fresh committed owed → HoldsLeft v own s.replaced s.fresh committed owed

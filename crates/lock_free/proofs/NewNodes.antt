@@ -21,7 +21,9 @@ use Rattle.proof_memory.specs.Wants.{is_branch, is_main_node}
 use Rattle.proof_memory.proofs.Claims.Uses.{safe_of, meets_of}
 use Rattle.lock_free.specs.declared.accounts.Account.{Account}
 use Rattle.lock_free.specs.declared.rules.View.{View}
+use Rattle.lock_free.specs.declared.reclaiming.Kind.{Kind}
 use Rattle.lock_free.specs.declared.stock.OwnNode.{OwnNode}
+use Rattle.lock_free.specs.Reclaiming.{kind_of_node}
 use Rattle.lock_free.specs.Accounts.{running}
 use Rattle.lock_free.specs.Becoming.{Follows, made_on, HasNew}
 use Rattle.lock_free.specs.Live.{IsLive, from_operation, line_claims, refs_of_claims}
@@ -66,7 +68,19 @@ class_same (Listed singles) after same = ap class_of same.1
 
 -- ---- what was made stays where it is
 
+kind_same : (before after : Node) → SameNode before after → kind_of_node after ≡ kind_of_node before
+kind_same (Indirection generation main) after same = ap kind_of_node same.1
+kind_same (Branch bitmap entries) after same = ap kind_of_node same.1
+kind_same (Single key value) after same = ap kind_of_node same.1
+kind_same (Tomb single) after same = ap kind_of_node same.1
+kind_same (Listed singles) after same = ap kind_of_node same.1
+
 module _ (v w : View) (f : Follows v w) where
+  kind_on : (r : Ref) → (slot : Slot) × IsUsed v r slot → kind_of_node (node_at (now w).heap r) ≡ kind_of_node (node_at (now v).heap r)
+  kind_on r (slot, used) =
+      let y = f.nodes r slot used in
+      ap kind_of_node (node_is (now w) r y.0 y.1) ∙ kind_same slot.node y.0.node y.2 ∙ sym (ap kind_of_node (node_is (now v) r slot used))
+
   pub class_on : (r : Ref) → (slot : Slot) × IsUsed v r slot → class_of (node_at (now w).heap r) ≡ class_of (node_at (now v).heap r)
   class_on r (slot, used) =
       let y = f.nodes r slot used in
@@ -74,11 +88,12 @@ module _ (v w : View) (f : Follows v w) where
 
   pub made_same : (r : Ref) → (slot : Slot) × IsUsed v r slot → made_of w r ≡ made_of v r
   made_same r (slot, used) =
-      ap (λ c. one c (place w r)) (class_on r (slot, used))
-      ∙ ap (λ p. one (class_of (node_at (now v).heap r)) p) (f.places r slot used)
+      ap (λ k. one k (class_of (node_at (now w).heap r)) (place w r)) (kind_on r (slot, used))
+      ∙ ap (λ c. one (kind_of_node (node_at (now v).heap r)) c (place w r)) (class_on r (slot, used))
+      ∙ ap (λ p. one (kind_of_node (node_at (now v).heap r)) (class_of (node_at (now v).heap r)) p) (f.places r slot used)
     where
-      one : ℕ → ℕ → OwnNode
-      one c p = record { class = c; slot = p }
+      one : Kind → ℕ → ℕ → OwnNode
+      one k c p = record { kind = k; class = c; slot = p }
 
       place : View → Ref → ℕ
       place x r = (made_of x r).slot
@@ -159,11 +174,11 @@ module _ (n : ℕ) (before : View) (sound : IsSound n before) (account : Account
     own_then = ap own_of (comes p.operation (p.operation.is_marked, p.runs)).1
 
     pub stock_made : (stock next : Stocked) → IsStock stock before → next.sizes ≡ stock.sizes → next.pool ≡ with_slots stock.pool class rest → next.made ≡ stock.made ++
-        record { class = class; slot = name } ∷ [] → class ≡ class_of node → next.limbo ≡ stock.limbo → IsStock next after
+        record { kind = kind_of_node node; class = class; slot = name } ∷ [] → class ≡ class_of node → next.limbo ≡ stock.limbo → IsStock next after
     stock_made stock next is sizes pool made its_class limbo = record {
       sizes = sizes ∙ is.sizes;
       pool = pool ∙ ap (λ x. with_slots x class rest) is.pool;
-      made = made ∙ ap (λ xs. xs ++ record { class = class; slot = name } ∷ []) olds ∙ ap (λ x. map (made_of after) p.operation.private ++ x ∷ []) (sym new)
+      made = made ∙ ap (λ xs. xs ++ record { kind = kind_of_node node; class = class; slot = name } ∷ []) olds ∙ ap (λ x. map (made_of after) p.operation.private ++ x ∷ []) (sym new)
           ∙ sym (map-append (made_of after) p.operation.private (added.made ∷ [])) ∙ ap (map (made_of after)) (sym own_then);
       limbo = limbo_so stock next before after is limbo refl;
     }
@@ -172,5 +187,8 @@ module _ (n : ℕ) (before : View) (sound : IsSound n before) (account : Account
         olds = is.made ∙ ap (λ o. map (made_of before) (own_of o)) p.runs
             ∙ sym (all_made_same before after follows_made p.operation.private (own_used n before sound p.operation p.runs))
 
-        new : made_of after added.made ≡ record { class = class; slot = name }
-        new = ap (λ c. record { class = c; slot = (made_of after added.made).slot }) (ap class_of its_node ∙ sym its_class) ∙ ap (λ s. record { class = class; slot = s }) placed.1
+        new : made_of after added.made ≡ record { kind = kind_of_node node; class = class; slot = name }
+        new =
+            ap (λ k. record { kind = k; class = (made_of after added.made).class; slot = (made_of after added.made).slot }) (ap kind_of_node its_node)
+            ∙ ap (λ c. record { kind = kind_of_node node; class = c; slot = (made_of after added.made).slot }) (ap class_of its_node ∙ sym its_class)
+            ∙ ap (λ s. record { kind = kind_of_node node; class = class; slot = s }) placed.1

@@ -22,16 +22,18 @@ use Rattle.lock_free.specs.Places.{root_word}
 use Rattle.lock_free.specs.Rules.{Stands, SaysClosing, IsFree, IsSpare, IsSeat, IsKept}
 use Rattle.lock_free.specs.Trying.{SameTries, as_before}
 use Rattle.lock_free.proofs.Assembling.{AllStand, all_stand, closing_stays, numbers_stay, assembled}
-use Rattle.lock_free.proofs.Framing.{else_word, still_taken, node_far, not_of_spare, root_beside, pin_beside}
+use Rattle.lock_free.proofs.CellsStay.{before_cells, cells_step}
+use Rattle.lock_free.proofs.Framing.{class_small, else_word, still_taken, node_far, not_of_spare, root_beside, pin_beside}
 use Rattle.lock_free.proofs.Geometry.{IsWordOf}
 use Rattle.lock_free.proofs.PlainStay.{plain_running}
 use Rattle.lock_free.proofs.Seats.{ran_so, numbers_so, Stays, StaysSpare, other_kept, own_kept, drafts_kept}
 use Rattle.lock_free.proofs.Waiting.{waited_more}
 use Rattle.lock_free.proofs.SeatOwing.{seat_owing}
+use Rattle.lock_free.proofs.PartingStay.{knows_still, names_same}
 
 -- one more step of this actor's operation, and more that is known of whose main nodes are
 abbrev pub owning : ℕ → List Owned → Account → Account
-owning actor owned account = record { steps = account.steps ++ step.Go actor ∷ []; names = account.names; owned = owned ++ account.owned; offers = account.offers }
+owning actor owned account = record account { steps = account.steps ++ step.Go actor ∷ []; owned = owned ++ account.owned }
 
 module _ (sizes : Sizes) (s : Table.State Call View) (kept : IsKept sizes s) (id : ℕ) (v : View) (at : get_elem? s.views id ≡ some v) (operation : Operation)
     (runs : operation_of (state_of sizes kept.account) v.actor ≡ Some operation) (k : ℕ) (slot : Slot) (stood : Stands kept.stands (state_of sizes kept.account) k slot) (i : ℕ)
@@ -82,6 +84,8 @@ module _ (sizes : Sizes) (s : Table.State Call View) (kept : IsKept sizes s) (id
     taken = still_taken sizes kept.account s.words kept.taken i (node_far sizes kept.account kept.stands s.words all k slot stood i its value) value;
     spare = λ other w b name e apart free. spare_stays other w b name e free;
     plain = plain_running sizes kept.account account_then kept.bounds ((step.Go v.actor) ∷ []) refl s.words words_then v.actor operation runs;
+    offering = knows_still kept.account.offered kept.account.offers kept.account.parted s.words words_then
+        (names_same kept.account.offers s.words words_then root_same);
   }
 
   own_then : IsSeat sizes account_then kept.stands words_then view_then
@@ -93,6 +97,7 @@ module _ (sizes : Sizes) (s : Table.State Call View) (kept : IsKept sizes s) (id
       (λ handle slot o n. (n, λ x. (root_same handle x.low, x.free.1))) v.drafts
       (λ b name free. (let x = seat.spare b name free in (stays.taken b name free.0 x.0, (spare_stays id v b name at free).0))) seat.once
       (λ d c. drafts_kept sizes s kept id v at account_then kept.stands words_then stays view_then d (seat.drafts d c) (λ b name free. (free, (spare_stays id v b name at free).1)))
+      (stays.offering v.actor v.pin v.offer v.pool.parted seat.offering)
 
   -- the rule holds
   pub node_word_kept : (owed : List ℕ) → AreHeld sizes account_then kept.stands words_then (set s.views id (owing view_then owed)) → IsKept sizes
@@ -101,6 +106,8 @@ module _ (sizes : Sizes) (s : Table.State Call View) (kept : IsKept sizes s) (id
       let w = owing view_then owed in
       assembled sizes s kept id v at w refl refl account_then kept.stands words_then all_then
       (λ handle who low says.
-      closing_stays sizes s kept id v at w refl refl (λ h e. e) refl handle who (kept.closings handle who low (subst (λ n. SaysClosing n who) (root_same handle low) says)))
+      closing_stays sizes s kept id v at w refl refl (λ h e. (e, refl)) refl (λ c. c) handle who (kept.closings handle who low (subst (λ n. SaysClosing n who) (root_same handle low) says)))
       (seat_owing sizes account_then kept.stands words_then view_then owed own_then) (other_kept sizes s kept id v at account_then kept.stands words_then stays)
       (λ b name free. inl free) (numbers_stay sizes s kept id v at w refl refl account_then words_then (as_before tries) (λ slot none. none) root_same refl (λ slot handle e free. free)) held
+      (cells_step sizes s kept id v at w account_then kept.stands i value
+      (before_cells sizes s.words kept.taken (class_of slot.node) (place_at kept.account k) i (class_small slot.node) (kept.nodes.within k slot stood) its) stays.taken spare_then (λ b n f. f))

@@ -23,7 +23,8 @@ use Rattle.lock_free.specs.Loading.{IsSound}
 use Rattle.lock_free.specs.Numbers.{naming, reserving, without_number, has_given_back, has_named, has_reserved, HasTried, IsNaming}
 use Rattle.lock_free.specs.Places.{root_word}
 use Rattle.lock_free.specs.Roots.{fate, undecided}
-use Rattle.lock_free.specs.Rules.{IsFree, IsKept, Reserves, IsRuled}
+use Rattle.lock_free.specs.Shadows.{IsShadowed}
+use Rattle.lock_free.specs.Rules.{IsFree, IsKept, Reserves}
 use Rattle.lock_free.specs.SeatWords.{IsIdle}
 use Rattle.lock_free.proofs.Assembling.{closing_at}
 use Rattle.lock_free.proofs.Closers.{seat_kept}
@@ -62,7 +63,7 @@ module _ (v : View) (number : ℕ) (low : number < 256) (idle : IsIdle v) (opens
   misses differs = (
     subst (λ ws. IsKept v.sizes (record { words = ws; homes = s.homes; views = set s.views id v })) (words_miss v s kept id at (root_word number) 0 reserved_code differs)
         (seat_kept v.sizes s kept id v at v.entered v.closing (kept.seats id v at).entered (kept.seats id v at).calls
-        (λ g who below h. closing_at v.sizes s kept id v at v refl refl g who (λ x. x) (λ c x y z. x) (kept.closings g who below h))),
+        (λ g who below h. closing_at v.sizes s kept id v at v refl refl g who (λ x. (x, refl)) (λ c x y z. x) (λ c. c) (kept.closings g who below h))),
     (λ x. absurd (true≢false (sym x ∙ ne_eqb found 0 differs)), λ x. refl),
   )
 
@@ -70,7 +71,7 @@ module _ (v : View) (number : ℕ) (low : number < 256) (idle : IsIdle v) (opens
   tries = elim (cases_eq found 0) [ inl e ↦ (reserving v number, refl, hits e) | inr differs ↦ (v, refl, misses differs) ]
 
 pub reserve_allowed : (sizes : Sizes) (size id : ℕ) (me : Me Call View) (some_seats : 1 ≤ me.0.sizes.seats) (number : ℕ) → number < 256 → IsIdle me.0 → me.0.opens ≡ None →
-    Allows (IsRuled sizes) size id me (root_word number) (λ n. either (n == 0) (root_code word.Reserved) n) (has_reserved (step size (root_word number) 0 (root_code word.Reserved) none) me)
+    Allows (IsShadowed sizes) size id me (root_word number) (λ n. either (n == 0) (root_code word.Reserved) n) (has_reserved (step size (root_word number) 0 (root_code word.Reserved) none) me)
 reserve_allowed sizes size id me some_seats number low idle opens =
     allowed sizes size id me (root_word number) (λ n. either (n == 0) (root_code word.Reserved) n) (has_reserved (step size (root_word number) 0 (root_code word.Reserved) none) me)
     some_seats (λ s kept at. inl (handle_apart me.0.sizes number low))
@@ -89,7 +90,7 @@ module _ (v : View) (s : Table.State Call View) (kept : IsKept v.sizes s) (id : 
       let own = own_pending v.sizes s kept (owner_of v.sizes kept.account kept.bounds) id v at number reserves k c stands opens in other own.0 own.1 own.2.0 own.2.1
 
 pub name_allowed : (sizes : Sizes) (size id : ℕ) (me : Me Call View) (some_seats : 1 ≤ me.0.sizes.seats) (number slot : ℕ) → number < 256 → IsNaming me.0 number slot → IsRootWord (word.Opening slot) →
-    Allows (IsRuled sizes) size id me (root_word number) (λ n. root_code (word.Opening slot))
+    Allows (IsShadowed sizes) size id me (root_word number) (λ n. root_code (word.Opening slot))
     (λ n. has_named (step size (root_word number) (root_code (word.Opening slot)) 0 none) me (root_code (word.Opening slot)))
 name_allowed sizes size id me some_seats number slot low n fits =
     allowed sizes size id me (root_word number) (λ x. root_code (word.Opening slot))
@@ -117,7 +118,7 @@ name_allowed sizes size id me some_seats number slot low n fits =
     slot_same a b e = cc e
 
 pub give_back_allowed : (sizes : Sizes) (size id : ℕ) (me : Me Call View) (some_seats : 1 ≤ me.0.sizes.seats) (number : ℕ) → IsIdle me.0 → me.0.opens ≡ Some number →
-    Allows (IsRuled sizes) size id me (root_word number) (λ n. 0) (λ n. has_given_back (step size (root_word number) 0 0 none) me 0)
+    Allows (IsShadowed sizes) size id me (root_word number) (λ n. 0) (λ n. has_given_back (step size (root_word number) 0 0 none) me 0)
 give_back_allowed sizes size id me some_seats number idle opens =
     allowed sizes size id me (root_word number) (λ n. 0) (λ n. has_given_back (step size (root_word number) 0 0 none) me 0)
     some_seats

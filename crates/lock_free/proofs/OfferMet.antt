@@ -25,12 +25,14 @@ use Rattle.lock_free.specs.Loading.{Moment, now, HasGone, HasSeen, IsSound}
 use Rattle.lock_free.specs.Places.{words_of}
 use Rattle.lock_free.specs.Roots.{fate, undecided, carried_out, taken_back, open_with}
 use Rattle.lock_free.specs.RootWords.{AsksAt, HasFoundOffer, HasMetOffer, HasSeenFate, HasSeenSettled, MetAs, fate_by, has_met}
-use Rattle.lock_free.specs.Rules.{IsKept, IsRuled}
+use Rattle.lock_free.specs.Shadows.{IsShadowed}
+use Rattle.lock_free.specs.Rules.{IsKept}
 use Rattle.lock_free.proofs.AbortStep.{known_there}
 use Rattle.lock_free.proofs.Definition.{IsReading}
 use Rattle.lock_free.proofs.Looking.{saw, went}
 use Rattle.lock_free.proofs.Moments.{allowed, seen_view, seen_kept, waited_so, gone_view, gone_kept, gone_sound, gone_took}
 use Rattle.lock_free.proofs.Stood.{stands_there}
+use Rattle.lock_free.specs.Parting.{IsMet}
 
 module _ (v : View) (handle : ℕ) (asks : AsksAt v handle) (word : ℕ) (s : Table.State Call View) (kept : IsKept v.sizes s) (id : ℕ) (at : get_elem? s.views id ≡ some v) where
   abbrev found : ℕ
@@ -59,7 +61,7 @@ module _ (v : View) (handle : ℕ) (asks : AsksAt v handle) (word : ℕ) (s : Ta
       (seen_view v s kept id at, (seen_kept v s kept id at, (record { table = s; kept = kept; id = id; at = at; finds = refl }, refl), (waited_so v s kept id at).sound, refl))
 
 pub meet_allowed : (sizes : Sizes) (size id : ℕ) (me : Me Call View) (some_seats : 1 ≤ me.0.sizes.seats) (handle word : ℕ) → AsksAt me.0 handle →
-    Allows (IsRuled sizes) size id me word (λ n. n) (has_met (step size word 0 0 none) me)
+    Allows (IsShadowed sizes) size id me word (λ n. n) (has_met (step size word 0 0 none) me)
 meet_allowed sizes size id me some_seats handle word asks =
     allowed sizes size id me word (λ n. n) (has_met (step size word 0 0 none) me)
     some_seats (λ s kept at. inr refl)
@@ -73,14 +75,14 @@ meet_allowed sizes size id me some_seats handle word asks =
 -- ---- what the seat is told
 
 -- an offer that the seat knows in this slot is the one there
-module _ (before : View) (name found : ℕ) (m : Moment before (2 * name) found) (k : Known) (c : Contains before.account.offers k) (in_it : k.slot ≡ name) where
+module _ (before : View) (name found : ℕ) (m : Moment before (2 * name) found) (k : Known) (c : IsMet before.account before.pin k) (in_it : k.slot ≡ name) where
   pub here : Contains m.kept.account.offers k
   here = known_there before m.table m.kept m.id m.at k c
 
   pub fate_found : fate m.table.words k ≡ found
   fate_found = ap (λ n. slice_index m.table.words (2 * n)) in_it ∙ m.finds
 
-  pub its_handle : (handle : ℕ) → HasOffer before.sizes before.account handle name → k.handle ≡ handle
+  pub its_handle : (handle : ℕ) → HasOffer before.sizes before.account before.pin handle name → k.handle ≡ handle
   its_handle handle h =
       let same : k ≡ h.its = m.kept.roots.single k h.its here (known_there before m.table m.kept m.id m.at h.its h.here) (in_it ∙ sym h.place) in ap (λ (x : Known). x.handle) same ∙ h.on
 
@@ -123,7 +125,7 @@ module _ (before : View) (name found : ℕ) (after : View) (h : HasSeen before (
   fate_told = fate_seen (found == undecided) (found == carried_out) refl refl
 
 -- by one that is, where it stands
-module _ (before : View) (handle name found : ℕ) (knows : HasOffer before.sizes before.account handle name) (after : View) where
+module _ (before : View) (handle name found : ℕ) (knows : HasOffer before.sizes before.account before.pin handle name) (after : View) where
   abbrev word : ℕ
   word = 2 * name
 

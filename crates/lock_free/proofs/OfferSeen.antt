@@ -32,13 +32,15 @@ use Rattle.lock_free.proofs.OneStep.Found.{live_used, slot_at}
 use Rattle.lock_free.proofs.OneStep.Offers.{offer_in, stood_used}
 use Rattle.lock_free.proofs.Stood.{stands_there}
 use Rattle.lock_free.proofs.Within.{two_words}
+use Rattle.lock_free.specs.Parting.{IsMet}
+use Rattle.lock_free.proofs.PartingStay.{standing_stood}
 
 -- its words are the table's
-pub offer_inside : (words : ℕ) (v : View) → IsSound words v → (handle slot : ℕ) → HasOffer v.sizes v.account handle slot → (2 * slot < words) × (2 * slot + 1 < words) × (2 * slot + 2 < words)
+pub offer_inside : (words : ℕ) (v : View) → IsSound words v → (handle slot : ℕ) → HasOffer v.sizes v.account v.pin handle slot → (2 * slot < words) × (2 * slot + 1 < words) × (2 * slot + 2 < words)
 offer_inside words v sound handle slot h =
     let size = sound.size in let inside = h.inside in (omega (arith, size, inside), omega (arith, size, inside), omega (arith, size, inside))
 
-module _ (before : View) (word found : ℕ) (m : Moment before word found) (k : Known) (c : Contains before.account.offers k) where
+module _ (before : View) (word found : ℕ) (m : Moment before word found) (k : Known) (c : IsMet before.account before.pin k) where
   abbrev there : Account
   there = m.kept.account
 
@@ -53,7 +55,7 @@ module _ (before : View) (word found : ℕ) (m : Moment before word found) (k : 
 
   -- what it names is in use
   in_use : (r : Ref) → Contains (refs_of_offer k.offer) r → IsInUse state.heap r
-  in_use r in_it = stood_used before.sizes there m.kept.bounds m.kept.quiet k.offer (m.kept.roots.stood k here) r in_it
+  in_use r in_it = stood_used before.sizes there m.kept.bounds m.kept.quiet k.offer (standing_stood before.sizes there m.table.words m.kept.roots k here) r in_it
 
   used : (r : Ref) → Contains (refs_of_offer k.offer) r → (slot : Slot) × (get_or state.heap.slots (slot_of r) None ≡ Some slot)
   used r in_it = let u = in_use r in_it in (u.0, slot_at state.heap r u.0 u.1)

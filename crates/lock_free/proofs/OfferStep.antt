@@ -1,24 +1,22 @@
 -- The exchange of a handle's word that is to bring an offer to stand: it finds its root there, another one, or what is no root.
 use Rattle.history.specs.declared.calls.Call.{Call}
-use Rattle.std.proofs.Common.{◌≤◌, ◌≡◌, ◌≢◌, ◌+◌, ◌*◌, ◌<◌, ◌^◌, ◌==◌, ℕ, inl, inr, true, false, List, [], ◌∷◌, ◌++◌, cond, map}
-use Rattle.std.proofs.Common.{Contains, set, slice_index, Option, Some, None, refl, sym, ap, subst, ◌∙◌, arith, eq-eqb, ne_eqb, get_or, if◌then◌else◌}
-use Rattle.std.proofs.Common.{append-nil}
+use Rattle.std.proofs.Common.{◌≤◌, ◌≡◌, ◌≢◌, ◌<◌, ◌^◌, ◌==◌, ℕ, inl, inr, true, false, List, [], ◌∷◌, ◌++◌}
+use Rattle.std.proofs.Common.{Contains, set, slice_index, Some, refl, sym, ap, subst, ◌∙◌, arith, eq-eqb, ne_eqb, if◌then◌else◌}
 use Rattle.std.proofs.lemmas.Bool.{cases_eq}
 use Rattle.std.proofs.lemmas.List.{same_from_push}
-use Rattle.std.proofs.lemmas.List.Elements.{Contains-append_left, Contains-append_right, Contains-get_or, Contains-push}
+use Rattle.std.proofs.lemmas.List.Elements.{Contains-append_left, Contains-get_or, Contains-push}
 use Rattle.std.proofs.lemmas.Option.{same_Some}
 use mathlib.Core.Option.{some, none}
 use lib.ListN.{get_elem?}
 use prog.Atomic.{either}
 use Rattle.atomic_table.specs.Table.{Me, Allows, step}
 use Rattle.atomic_table.specs.Table as Table
-use Rattle.trie_words.specs.Codes.{IsRootWord, root_code, root_of, pair_code}
+use Rattle.trie_words.specs.Codes.{IsRootWord, root_code, root_of}
 use Rattle.trie_words.specs.declared.roots.RootWord.{RootWord}
 use Rattle.trie_words.specs.declared.roots.RootWord.TheVariants as word
 use Rattle.history.specs.declared.calls.Access.TheVariants.{Writable}
 use Rattle.machine_model.specs.Beneath.slot_arena.specs.declared.refs.Ref.{Ref}
 use Rattle.machine_model.specs.Beneath.slot_arena.specs.declared.nodes.Slot.{Slot}
-use Rattle.machine_model.specs.Beneath.slot_arena.specs.Heaps.{refs_of_option}
 use Rattle.machine_model.specs.Beneath.slot_arena.specs.Refs.{slot_of}
 use Rattle.machine_model.specs.declared.actions.Action.TheVariants as act
 use Rattle.machine_model.specs.declared.copying.CopyLine.TheVariants as copy
@@ -39,86 +37,44 @@ use Rattle.lock_free.specs.declared.accounts.Account.{Account}
 use Rattle.lock_free.specs.declared.root_offers.Proposed.TheVariants.{Stands, Misses, Meets}
 use Rattle.lock_free.specs.declared.rules.View.{View}
 use Rattle.lock_free.specs.declared.sizes.Sizes.{Sizes}
-use Rattle.lock_free.specs.Accounts.{state_of, place_of, running}
+use Rattle.lock_free.specs.Accounts.{state_of, place_of, running, HasStood}
 use Rattle.lock_free.specs.Live.{refs_of_claims, at_hand, from_root, from_operation, IsLive}
 use Rattle.lock_free.specs.HandleWords.{HasSeenRoot}
 use Rattle.lock_free.specs.Loading.{now, seen, IsAt, IsSound, Took}
 use Rattle.lock_free.specs.Making.{refs_of_offer}
 use Rattle.lock_free.specs.Nodes.{class_of}
-use Rattle.lock_free.specs.Offering.{DraftsOffer, Offers, offered_by}
+use Rattle.lock_free.specs.Offering.{DraftsOffer, Offers, offered_by, known_at}
 use Rattle.lock_free.specs.Places.{root_word, words_of}
 use Rattle.lock_free.specs.RootOffers.{WritesOffer, IsToOffer, HasProposed, proposed_by, has_proposed}
-use Rattle.lock_free.specs.Roots.{SaysRoot, SaysPlain, open_with, second_of}
-use Rattle.lock_free.specs.Rules.{AreOwed, AreRetired, Stands as StandsIn, IsSeat, IsKept, pool_of, IsRuled}
+use Rattle.lock_free.specs.Roots.{SaysRoot, SaysPlain, open_with}
+use Rattle.lock_free.specs.Shadows.{IsShadowed}
+use Rattle.lock_free.specs.Rules.{AreOwed, AreRetired, Stands as StandsIn, IsSeat, IsKept, pool_of}
 use Rattle.lock_free.proofs.Asked.{live_in_use, slots_tell}
 use Rattle.lock_free.proofs.Exchanged.{words_then, words_hit, words_miss}
 use Rattle.lock_free.proofs.Moments.{allowed_giving, seen_kept, waited_so, live_place, held_there, free_inside}
 use Rattle.lock_free.proofs.Offered.{all_then}
+use Rattle.lock_free.proofs.OfferRefs.{refs_at_hand, root_of_offer, drafts_moved, taken_offered}
 use Rattle.lock_free.proofs.OfferHolds.{offer_kept}
-use Rattle.lock_free.proofs.OfferMisses.{same_offer, ran, ran_runs, ran_acts, dropped, dropped_kept, owed_dropped, dropped_sound, has_missed}
+use Rattle.lock_free.proofs.OfferMisses.{same_offer, ran, ran_runs, ran_acts, missed, missed_kept, owed_missed, missed_sound, has_missed}
 use Rattle.lock_free.proofs.OneStep.Offering as offering
 use Rattle.lock_free.proofs.RootCodes.{kind, same_kind, root_back}
 use Rattle.lock_free.proofs.SeenRoots.{root_told}
 use Rattle.lock_free.proofs.Spending as spending
 use Rattle.lock_free.proofs.Framing.{class_small, node_end}
 use Rattle.lock_free.proofs.Within.{both_inside, two_words}
-use Rattle.std.proofs.lemmas.List.Sums.{sum_by-cons}
 use Rattle.proof_claims.specs.Changes.{change_by, change_going}
 use Rattle.proof_claims.specs.Changes as claiming
-use Rattle.proof_claims.specs.Held.{Claim, takes}
-use Rattle.lock_free.specs.Claims.{HoldsAll, held_now, owes_after}
+use Rattle.lock_free.specs.Claims.{held_now, owes_after}
 use Rattle.lock_free.specs.Counts.{how_often}
 use Rattle.lock_free.proofs.OwedStay.{owed_then}
 use Rattle.lock_free.proofs.EpochStays.{rest_beside}
 use Rattle.lock_free.proofs.OfferHolds.{Takes, owes_so}
 use Rattle.lock_free.specs.OwesAt.{owes_on}
-
--- the references that stand in the line of an offer are at hand
-pub refs_at_hand : (offer : Descriptor) → refs_of_claims (offer_wants offer) ≡ refs_of_offer offer
-refs_at_hand offer = ap (λ rs. offer.root ∷ offer.expected ∷ offer.successor ∷ rs) (append-nil (refs_of_option offer.second))
-
-second_same : (before after : Account) (o : Option Ref) → ((r : Ref) → Contains (refs_of_option o) r → place_of after r ≡ place_of before r) → second_of after o ≡ second_of before o
-second_same before after None same = refl
-second_same before after (Some r) same = same r (Contains-get_or (r ∷ []) 0 r (omega arith))
-
-pub root_of_offer : (offer : Descriptor) → Contains (refs_of_offer offer) offer.root
-root_of_offer offer = Contains-get_or (refs_of_offer offer) 0 offer.root (omega arith)
-
--- it is written so later too, where its nodes are where they were
-pub drafts_moved : (before after : Account) (drafts : List (ℕ × ℕ)) (slot : ℕ) (offer : Descriptor) → ((r : Ref) → Contains (refs_of_offer offer) r → place_of after r ≡ place_of before r) →
-    DraftsOffer before drafts slot offer →
-    DraftsOffer after drafts slot offer
-drafts_moved before after drafts slot offer same d = record {
-  first = d.first;
-  olds =
-      subst (λ n. Contains drafts (2 * slot + 1, n))
-      (sym (ap (λ n. pair_code (record { low = n; high = place_of after offer.expected })) (same offer.root (named 0 (omega arith)))
-      ∙ ap (λ n. pair_code (record { low = place_of before offer.root; high = n })) (same offer.expected (named 1 (omega arith))))) d.olds;
-  news =
-      subst (λ n. Contains drafts (2 * slot + 2, n))
-      (sym (ap (λ n. pair_code (record { low = n; high = second_of after offer.second })) (same offer.successor (named 2 (omega arith)))
-      ∙ ap (λ n. pair_code (record { low = place_of before offer.successor; high = n }))
-      (second_same before after offer.second
-      (λ r c. same r (Contains-append_right (offer.root ∷ offer.expected ∷ offer.successor ∷ []) (refs_of_option offer.second) r c))))) d.news;
-}
-  where
-    named : (k : ℕ) → k < 3 → Contains (refs_of_offer offer) (get_or (refs_of_offer offer) k offer.root)
-    named k few = Contains-get_or (refs_of_offer offer) k offer.root (omega (arith, few))
-
--- the roots that it offers are what the step takes
-second_taken : (opens : Option ℕ) (second : Option Ref) (k : Ref) → how_often k (map (λ (c : Claim). c.on) (claiming.second_claims opens second)) ≤ how_often k (refs_of_option second)
-second_taken (Some opens) (Some second) k = omega arith
-second_taken (Some opens) None k = omega arith
-second_taken None second k = omega arith
-
-taken_offered : (offer : Descriptor) (private : List Ref) (handle : ℕ) (owed : List Ref) → HoldsAll (offer.successor ∷ refs_of_option offer.second) owed →
-    HoldsAll (takes (claiming.offers true private handle offer)) owed
-taken_offered offer private handle owed owes k =
-    let most = owes k in
-    let second = second_taken offer.opens offer.second k in
-    let first = sum_by-cons (λ (x : Ref). cond {A = ℕ} (x == k) 1 0) offer.successor (map (λ (c : Claim). c.on) (claiming.second_claims offer.opens offer.second)) in
-    let all = sum_by-cons (λ (x : Ref). cond {A = ℕ} (x == k) 1 0) offer.successor (refs_of_option offer.second) in
-    omega (arith, most, second, first, all)
+use Rattle.lock_free.specs.Parting.{IsMet}
+use Rattle.lock_free.proofs.Led.{led_pinned}
+use Rattle.lock_free.specs.declared.accounts.Known.{Known}
+use Rattle.lock_free.proofs.Pools.{first_there}
+use Rattle.lock_free.proofs.PartingStay.{standing_stood}
 
 module _ (v : View) (root slot : ℕ) (offer : Descriptor) (rest : List ℕ) (p : IsAt v (act.Offer offer)) (w : WritesOffer v root slot offer rest) where
   abbrev handle : ℕ
@@ -201,7 +157,7 @@ module _ (v : View) (root slot : ℕ) (offer : Descriptor) (rest : List ℕ) (p 
 
     module _ (plain : root_at state handle ≡ open_with Writable (Plain offer.root)) where
       offers : Offers v.sizes there v.actor slot o offer
-      offers = offering.offers v.sizes there kept.bounds v.actor o runs offer acts kept.roots.stood plain slot
+      offers = offering.offers v.sizes there kept.bounds v.actor o runs offer acts (standing_stood v.sizes there s.words kept.roots) plain slot
 
       abbrev offered : View
       offered = offered_by v slot handle rest offer there
@@ -248,6 +204,26 @@ module _ (v : View) (root slot : ℕ) (offer : Descriptor) (rest : List ℕ) (p 
           subst (λ (d : Descriptor). is_plain (word_at state (handle_of q.operation.call)) d.root ≡ true) (same_offer v offer other p q)
           (subst (λ (x : Operation). is_plain (word_at state (handle_of x.call)) offer.root ≡ true) (same_Some p.operation q.operation (sym p.runs ∙ q.runs)) plain_so)
 
+      -- the seat may rely on it
+      met_offered : IsMet offered.account offered.pin (known_at v.actor slot handle offer)
+      met_offered = record {
+        pinned = (led_pinned v s kept id at o runs).0;
+        is = (led_pinned v s kept id at o runs).1;
+        here = first_there (known_at v.actor slot handle offer) there.offered;
+        unparted = λ x.
+            offers.never
+            (subst (λ (k : Known). HasStood v.sizes there k.offer) x.2
+            (kept.roots.came x.0 (seat.offering.grown (led_pinned v s kept id at o runs).0 (led_pinned v s kept id at o runs).1 x.0 x.1)));
+      }
+
+      tells_met : (other : Descriptor) (q : IsAt v (act.Offer other)) → IsMet offered.account offered.pin (known_at v.actor slot (handle_of q.operation.call) other) ×
+          (handle_of q.operation.call < handle_limit)
+      tells_met other q =
+          subst (λ (d : Descriptor). IsMet offered.account offered.pin (known_at v.actor slot (handle_of q.operation.call) d) × (handle_of q.operation.call < handle_limit))
+          (same_offer v offer other p q)
+          (subst (λ (x : Operation). IsMet offered.account offered.pin (known_at v.actor slot (handle_of x.call) offer) × (handle_of x.call < handle_limit))
+          (same_Some p.operation q.operation (sym p.runs ∙ q.runs)) (met_offered, low))
+
       stands : (other : ℕ) → other ≡ root → found ≡ old → (after : View) × Left (word.Writable other) after
       stands other is e = (
         offered,
@@ -257,7 +233,7 @@ module _ (v : View) (root slot : ℕ) (offer : Descriptor) (rest : List ℕ) (p 
           (
             offered_sound,
             subst (λ x. HasProposed v handle slot x offered) (ap (λ b. if b then Stands else Misses) (sym (eq-eqb other root is)))
-                (there, (waited_so v s kept id at, offered_took, tells_plain), tells_offered),
+                (there, (waited_so v s kept id at, offered_took, tells_plain), tells_offered, tells_met),
           ),
           refl,
           λ retired h.
@@ -271,17 +247,17 @@ module _ (v : View) (root slot : ℕ) (offer : Descriptor) (rest : List ℕ) (p 
     misses other differs e says =
         let other_root : says.root ≢ offer.root = λ same_ref. differs (says.place ∙ ap (place_of there) same_ref ∙ root_place) in
         let another : is_plain (word_at state handle) offer.root ≡ false = ap (λ r. is_plain (word_of r) offer.root) says.is ∙ ne_eqb says.root offer.root other_root in
-        let after = dropped v offer p s kept id at another in (
+        let after = missed v offer p s kept id at another in (
           after,
           (
             subst (λ ws. IsKept v.sizes (record { words = ws; homes = s.homes; views = set s.views id after })) (words_miss v s kept id at (root_word handle) old new e)
-                (dropped_kept v offer p s kept id at another),
+                (missed_kept v offer p s kept id at another),
             (
-              dropped_sound v offer p s kept id at another,
+              missed_sound v offer p s kept id at another,
               subst (λ x. HasProposed v handle slot x after) (ap (λ b. if b then Stands else Misses) (sym (ne_eqb other root differs))) (has_missed v offer p s kept id at another),
             ),
             refl,
-            owed_dropped v offer p s kept id at another,
+            owed_missed v offer p s kept id at another,
           ),
         )
 
@@ -295,9 +271,11 @@ module _ (v : View) (root slot : ℕ) (offer : Descriptor) (rest : List ℕ) (p 
             (seen_kept v s kept id at),
         (
           (waited_so v s kept id at).sound,
-          subst (λ y. HasProposed v handle slot y (seen v there)) (sym is)
-              (subst (λ y. HasSeenRoot v handle y (seen v there)) (ap root_of e ∙ root_back x fits) (root_told v handle found (seen v there) low
-              (record { table = s; kept = kept; id = id; at = at; finds = refl }, refl))),
+          subst (λ y. HasProposed v handle slot y (seen v there)) (sym is) (
+            subst (λ y. HasSeenRoot v handle y (seen v there)) (ap root_of e ∙ root_back x fits) (root_told v handle found (seen v there) low
+                (record { table = s; kept = kept; id = id; at = at; finds = refl }, refl)),
+            led_pinned v s kept id at o runs,
+          ),
         ),
         refl,
         λ retired h. owed_then s.views id v at (seen v there) (λ k c. (c, refl)) (λ y c. c) h,
@@ -342,7 +320,7 @@ module _ (v : View) (root slot : ℕ) (offer : Descriptor) (rest : List ℕ) (p 
         subst (λ x. (after : View) × Left x after) (sym (ap root_of means.code ∙ root_back means.what means.fits)) (by_word means.what means.fits means.code means.says)
 
 abbrev pub AllowsOffer : Sizes → ℕ → ℕ → Me Call View → ℕ → ℕ → ℕ → Type 0
-AllowsOffer sizes size id me word old new = Allows (IsRuled sizes) size id me word (λ n. either (n == old) new n) (has_proposed (step size word old new none) me)
+AllowsOffer sizes size id me word old new = Allows (IsShadowed sizes) size id me word (λ n. either (n == old) new n) (has_proposed (step size word old new none) me)
 
 -- what is asked names but one handle, root and slot
 told_so : (v : View) (handle root slot found : ℕ) (after : View) → IsToOffer v handle root slot → HasProposed v handle slot (proposed_by root (root_of found)) after → (h r n : ℕ) → IsToOffer v

@@ -1,5 +1,5 @@
 -- A seat that is to offer still is so once it has seen more happen, and what comes of it is what would have come of it before.
-use Rattle.std.proofs.Common.{◌≡◌, ℕ, Bool, true, false, Contains, sym, subst, ◌∙◌}
+use Rattle.std.proofs.Common.{◌≡◌, ℕ, Bool, true, false, Contains, sym, subst, ◌∙◌, inl, inr, Some}
 use Rattle.machine_model.specs.Beneath.slot_arena.specs.declared.refs.Ref.{Ref}
 use Rattle.machine_model.specs.declared.actions.Action.{Action}
 use Rattle.machine_model.specs.declared.actions.Action.TheVariants as act
@@ -21,8 +21,12 @@ use Rattle.lock_free.specs.Rooting.{IsSettledAt}
 use Rattle.lock_free.specs.RootWords.{HasSeenSettled}
 use Rattle.lock_free.proofs.Asked.{live_in_use}
 use Rattle.lock_free.proofs.Laters.{waited_later}
-use Rattle.lock_free.proofs.OfferStep.{drafts_moved, offer_lives, root_of_offer}
+use Rattle.lock_free.proofs.OfferRefs.{drafts_moved, root_of_offer}
+use Rattle.lock_free.proofs.OfferStep.{offer_lives}
 use Rattle.lock_free.proofs.Waiting.{waited_twice}
+use Rattle.lock_free.proofs.PartingStay.{met_still}
+use Rattle.std.proofs.lemmas.Option.{none-some}
+use Rattle.lock_free.specs.declared.rules.Pinned.{Pinned}
 
 -- ---- it has seen more
 
@@ -41,7 +45,7 @@ module _ (u : View) (a : Account) (first : Waited u a) where
   took_since b stands w (waited, took, plain) = (waited_twice u a b first waited, took, λ offer p. plain offer (at_since (act.Offer offer) p))
 
   offered_from : (slot : ℕ) (w : View) → HasOffered v slot w → HasOffered u slot w
-  offered_from slot w (b, took, is) = (b, took_since b true w took, λ offer p rest pool. is offer (at_since (act.Offer offer) p) rest pool)
+  offered_from slot w (b, took, is, met) = (b, took_since b true w took, λ offer p rest pool. is offer (at_since (act.Offer offer) p) rest pool, λ offer p. met offer (at_since (act.Offer offer) p))
 
   missed_from : (w : View) → HasMissed v w → HasMissed u w
   missed_from w (b, took, is) = (b, took_since b false w took, λ o (mark, runs). (let x = first.stays (record o { is_marked = mark }) runs in is o (x.0, x.1)))
@@ -76,18 +80,18 @@ module _ (u v : View) (s : Saw u v) where
 -- ---- the way is made free
 
 -- an offer that was seen settled
-pub settled_at : (before after : View) (n handle slot k : ℕ) (carried : Bool) → IsSound n before → HasOffer before.sizes before.account handle slot → outcome_by carried ≡ k →
+pub settled_at : (before after : View) (n handle slot k : ℕ) (carried : Bool) → IsSound n before → HasOffer before.sizes before.account before.pin handle slot → outcome_by carried ≡ k →
     HasSeenSettled before slot k after → IsSettledAt after handle slot carried
 settled_at before after n handle slot k carried sound has is (s, settled) =
     let later = waited_later n before sound s.account s.waited in
     subst (λ x. IsSettledAt x handle slot carried) (sym s.after_is) (
-      record { its = has.its; here = later.offers has.its has.here; place = has.place; on = has.on; inside = has.inside },
+      record { its = has.its; here = met_still before.account s.account before.pin has.its later.offers has.here; place = has.place; on = has.on; inside = has.inside },
       subst (λ m. HasSettled before.sizes s.account has.its m) (sym is) (settled has.its has.here has.place),
     )
 
-pub offer_met : (v : View) (handle slot : ℕ) (to : (offer : Descriptor) × (p : IsAt v (act.Offer offer)) × (handle_of p.operation.call ≡ handle)) → HasOffer v.sizes v.account handle slot →
+pub offer_met : (v : View) (handle slot : ℕ) (to : (offer : Descriptor) × (p : IsAt v (act.Offer offer)) × (handle_of p.operation.call ≡ handle)) → HasOffer v.sizes v.account v.pin handle slot →
     MeetsOffer v slot
-offer_met v handle slot (offer, p, on) has = (offer, p, subst (λ h. HasOffer v.sizes v.account h slot) (sym on) has)
+offer_met v handle slot (offer, p, on) has = (offer, p, subst (λ h. HasOffer v.sizes v.account v.pin h slot) (sym on) has)
 
 -- ---- in the loop
 
@@ -95,12 +99,16 @@ pub still_to_offer : (u : View) (handle root slot : ℕ) → IsToOffer u handle 
 still_to_offer u handle root slot (offer, rest, p, w, on) = (offer, p, on)
 
 -- what it was told of the word that it has found
-pub told_offer : (v : View) (handle slot : ℕ) (found : RootWord) → found ≡ word.Offered slot → TellsRoot v.sizes v.account handle found → HasOffer v.sizes v.account handle slot
-told_offer v handle slot found is tells = subst (λ w. TellsRoot v.sizes v.account handle w) is tells
+pub told_offer : (v : View) (handle slot : ℕ) (found : RootWord) → found ≡ word.Offered slot → (pinned : Pinned) × (v.pin ≡ Some pinned) → TellsRoot v.sizes v.account v.pin handle found →
+    HasOffer v.sizes v.account v.pin handle slot
+told_offer v handle slot found is (pinned, here) tells = elim (subst (λ w. TellsRoot v.sizes v.account v.pin handle w) is tells) [
+  | inl has ↦ has
+  | inr free ↦ absurd (none-some pinned (sym free ∙ here))
+]
 
 module _ (u v : View) (handle : ℕ) (found : RootWord) (h : HasSeenRoot u handle found v) where
   pub seen_saw : Saw u v
   seen_saw = h.0
 
-  pub seen_tells : TellsRoot v.sizes v.account handle found
-  seen_tells = subst (λ (x : View). TellsRoot x.sizes x.account handle found) (sym h.0.after_is) h.2
+  pub seen_tells : TellsRoot v.sizes v.account v.pin handle found
+  seen_tells = subst (λ (x : View). TellsRoot x.sizes x.account x.pin handle found) (sym h.0.after_is) h.2

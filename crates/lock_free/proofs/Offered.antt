@@ -1,7 +1,7 @@
 -- An exchange of a handle's word brings an offer to stand.
 use Rattle.history.specs.declared.calls.Call.{Call}
-use Rattle.std.proofs.Common.{◌≡◌, ◌≢◌, ◌+◌, ◌*◌, ◌⊎◌, ◌^◌, ℕ, ◌<◌, ◌≤◌, inl, inr, true, List, [], ◌∷◌, ◌++◌, Contains, set, slice_index, is_some, Some, None, refl, sym, ap, subst, ◌∙◌, arith}
-use Rattle.std.proofs.Common.{append-nil}
+use Rattle.std.proofs.Common.{◌≡◌, ◌≢◌, ◌+◌, ◌*◌, ◌⊎◌, ◌^◌, ℕ, ◌<◌, ◌≤◌, inl, inr, true, List, [], ◌∷◌, ◌++◌, Contains, set, slice_index, is_some, Some, None, refl, sym}
+use Rattle.std.proofs.Common.{ap, subst, ◌∙◌, arith, append-nil}
 use Rattle.std.specs.Prelude.{option_map, ◌==◌}
 use Rattle.std.proofs.lemmas.Bool.{cases_eq}
 use Rattle.std.proofs.lemmas.Option.{same_Some, none-some}
@@ -31,12 +31,15 @@ use Rattle.lock_free.specs.Roots.{MeansRoot, SaysOpening, NoOffer, IsWritten, Is
 use Rattle.lock_free.specs.Fates.{TellsFate}
 use Rattle.lock_free.specs.Rules.{Stands, IsClosing, SaysClosing, IsFree, IsSpare, IsOpening, IsHeld, Reserves, IsSeat, IsKept, pool_of}
 use Rattle.lock_free.specs.Trying.{try_of, KeepsTries, anew}
+use Rattle.lock_free.specs.Holdings.{AreHeld}
 use Rattle.lock_free.proofs.Assembling.{AllStand, all_stand, closing_stays, opening_stays, Numbers, assembled}
+use Rattle.lock_free.proofs.CellsStay.{beside_cell, cells_spent, handle_before}
 use Rattle.lock_free.proofs.Geometry.{IsWordOf}
 use Rattle.lock_free.proofs.Meanings.{means_then, stood_still, ran, reserved, reserves_on, marks_kept}
+use Rattle.lock_free.proofs.OpenHandles.{not_closing}
 use Rattle.lock_free.proofs.OneOffer.{fates_more, single_more, tries_more}
-use Rattle.lock_free.proofs.Pools.{first_or_more, first_there, more_there}
-use Rattle.lock_free.proofs.RootCodes.{same_kind}
+use Rattle.lock_free.proofs.Pools.{first_there, more_there}
+use Rattle.lock_free.proofs.RootCodes.{same_kind, kind, slot_in}
 use Rattle.lock_free.proofs.RootFound.{not_plain, slot_fits, offered_is, opening_is, later_is}
 use Rattle.lock_free.proofs.RootSteps as root
 use Rattle.lock_free.proofs.SeatOwing.{seat_owing}
@@ -45,7 +48,9 @@ use Rattle.lock_free.proofs.Seats.{ran_so, Stays, other_kept, own_kept}
 use Rattle.lock_free.proofs.Spending as spending
 use Rattle.lock_free.proofs.Stood.{plain_not}
 use Rattle.lock_free.proofs.Waiting.{waited_more, quiet_more}
-use Rattle.lock_free.specs.Holdings.{AreHeld}
+use Rattle.lock_free.proofs.PartingStay.{NamesLess, names_over}
+use Rattle.lock_free.proofs.PartingMore.{knows_more, knows_own, parted_more, seat_offering, each_more}
+use Rattle.lock_free.specs.Parting.{IsParted}
 
 module _ (sizes : Sizes) (s : Table.State Call View) (kept : IsKept sizes s) (id : ℕ) (v : View) (at : get_elem? s.views id ≡ some v) (operation : Operation)
     (runs : operation_of (state_of sizes kept.account) v.actor ≡ Some operation) (slot : ℕ) (offer : Descriptor) (offers : Offers sizes kept.account v.actor slot operation offer)
@@ -72,7 +77,7 @@ module _ (sizes : Sizes) (s : Table.State Call View) (kept : IsKept sizes s) (id
   view_then = offered_by v slot (handle_of operation.call) rest offer kept.account
 
   abbrev new : Known
-  new = known_at slot (handle_of operation.call) offer
+  new = known_at v.actor slot (handle_of operation.call) offer
 
   seat : IsSeat sizes kept.account kept.stands s.words v
   seat = kept.seats id v at
@@ -139,10 +144,7 @@ module _ (sizes : Sizes) (s : Table.State Call View) (kept : IsKept sizes s) (id
       opens = opens_this g found_slot below in_range is nothing same;
       is = closed ∙ ap (λ n. opened_by n offer) (sym fate_new);
     })
-    | inr differs ↦ inr (λ k c. elim (first_or_more new kept.account.offers k c) [
-      | inl is_new ↦ (λ e. differs (sym e ∙ ap (λ (x : Known). x.slot) is_new))
-      | inr old ↦ nothing k old
-    ])
+    | inr differs ↦ inr (each_more (λ k. k.slot ≢ found_slot) new kept.account.offers (λ e. differs (sym e)) nothing)
   ]
 
   means_else : (g : ℕ) → g < handle_limit → MeansRoot account_then words_then g (slice_index s.words (root_word g)) (root_at now g)
@@ -175,6 +177,14 @@ module _ (sizes : Sizes) (s : Table.State Call View) (kept : IsKept sizes s) (id
         (subst (λ r. MeansRoot account_then words_then g (slice_index s.words (root_word g)) r) (sym (offers.roots g differs)) (means_else g below))
   ]
 
+  less : NamesLess kept.account.offers s.words words_then
+  less =
+      names_over kept.account.offers s.words words_then handle (word.Offered slot) fits root_beside root_here
+      (λ k c. (λ e. spare.1.1 k c (sym (ap slot_in e)), λ e. (let wrong = ap kind e in omega (arith, wrong))))
+
+  unparted : IsParted kept.account.parted new → ⊥
+  unparted p = offers.never (subst (λ (x : Known). HasStood sizes kept.account x.offer) p.2 (kept.roots.came p.0 p.1))
+
   -- ---- offers
 
   written_new : IsWritten account_then words_then new
@@ -184,38 +194,31 @@ module _ (sizes : Sizes) (s : Table.State Call View) (kept : IsKept sizes s) (id
   }
 
   written_all : (k : Known) → Contains account_then.offers k → IsWritten account_then words_then k
-  written_all k c = elim (first_or_more new kept.account.offers k c) [
-    | inl is_new ↦ subst (λ x. IsWritten account_then words_then x) (sym is_new) written_new
-    | inr old ↦
-        root.written_left sizes kept.account account_then.steps account_then.offers offers.leaves kept.stands words_then k
-        (root.written_rooted sizes kept.account kept.stands s.words all handle low (root_code (word.Offered slot)) k old)
-  ]
+  written_all =
+      each_more (IsWritten account_then words_then) new kept.account.offers written_new
+      (λ k old. root.written_left sizes kept.account account_then.steps account_then offers.leaves kept.stands words_then k
+      (root.written_rooted sizes kept.account kept.stands s.words all handle low (root_code (word.Offered slot)) k old))
 
   still_taken : (b n : ℕ) → b < 3 → IsTaken sizes s.words b n → IsTaken sizes words_then b n
   still_taken = root.taken_rooted sizes kept.account kept.stands s.words all handle low (root_code (word.Offered slot))
 
   blocks_all : (k : Known) → Contains account_then.offers k → IsTaken sizes words_then 1 k.slot
-  blocks_all k c = elim (first_or_more new kept.account.offers k c) [
-    | inl is_new ↦ subst (λ (x : Known). IsTaken sizes words_then 1 x.slot) (sym is_new) (still_taken 1 slot medium spare.0)
-    | inr old ↦ still_taken 1 k.slot medium (kept.roots.blocks k old)
-  ]
+  blocks_all =
+      each_more (λ k. IsTaken sizes words_then 1 k.slot) new kept.account.offers (still_taken 1 slot medium spare.0) (λ k old. still_taken 1 k.slot medium (kept.roots.blocks k old))
 
   single_all : (k l : Known) → Contains account_then.offers k → Contains account_then.offers l → k.slot ≡ l.slot → k ≡ l
   single_all = single_more new kept.account.offers spare.1.1 kept.roots.single
 
-  -- no older offer is of the new one's try
-  newer : (k : Known) → Contains kept.account.offers k → k.offer.operation ≡ offer.operation → k.offer.attempt ≡ offer.attempt → ⊥
-  newer k c same_id same_try = offers.fresh k c (record { its = offers.its_try.its ∙ sym same_id; now = offers.its_try.now ∙ sym same_try })
-
   tries_all : (k l : Known) → Contains account_then.offers k → Contains account_then.offers l → k.offer.operation ≡ l.offer.operation → k.offer.attempt ≡ l.offer.attempt → k ≡ l
-  tries_all = tries_more new kept.account.offers newer kept.roots.tries
+  tries_all =
+      tries_more new kept.account.offers
+      (λ k c same_id same_try. offers.fresh k c (record { its = offers.its_try.its ∙ sym same_id; now = offers.its_try.now ∙ sym same_try })) kept.roots.tries
 
-  stood_all : (k : Known) → Contains account_then.offers k → HasStood sizes account_then k.offer
-  stood_all k c = elim (first_or_more new kept.account.offers k c) [
-    | inl is_new ↦ subst (λ (x : Known). HasStood sizes account_then x.offer) (sym is_new)
-        (record { steps = account_then.steps; more = []; goes_on = sym (append-nil account_then.steps); handle = handle; stood = ap word_of offers.stands })
-    | inr old ↦ stood_still sizes kept.account account_then (step.Go v.actor ∷ []) refl k.offer (kept.roots.stood k old)
-  ]
+  stood_all : (k : Known) → Contains account_then.offered k → HasStood sizes account_then k.offer
+  stood_all =
+      each_more (λ k. HasStood sizes account_then k.offer) new kept.account.offered
+      (record { steps = account_then.steps; more = []; goes_on = sym (append-nil account_then.steps); handle = handle; stood = ap word_of offers.stands })
+      (λ k old. stood_still sizes kept.account account_then (step.Go v.actor ∷ []) refl k.offer (kept.roots.stood k old))
 
   marks_new : (a : ℕ) (o : Operation) → operation_of next a ≡ Some o → IsItsTry o offer → o.is_marked ≡ (fate words_then new == carried_out)
   marks_new a o e its = elim (cases_eq a v.actor) [
@@ -226,11 +229,9 @@ module _ (sizes : Sizes) (s : Table.State Call View) (kept : IsKept sizes s) (id
   ]
 
   marks_all : AreMarked next words_then account_then.offers
-  marks_all k c = elim (first_or_more new kept.account.offers k c) [
-    | inl is_new ↦
-        subst (λ (x : Known). (a : ℕ) (o : Operation) → operation_of next a ≡ Some o → IsItsTry o x.offer → o.is_marked ≡ (fate words_then x == carried_out)) (sym is_new) marks_new
-    | inr old ↦ marks_kept kept.account.offers now next keeps s.words words_then fate_old kept.roots.marks k old
-  ]
+  marks_all =
+      each_more (λ k. (a : ℕ) (o : Operation) → operation_of next a ≡ Some o → IsItsTry o k.offer → o.is_marked ≡ (fate words_then k == carried_out)) new kept.account.offers marks_new
+      (λ k old. marks_kept kept.account.offers now next keeps s.words words_then fate_old kept.roots.marks k old)
 
   not_open : (g : ℕ) → root_at now g ≡ None → g ≢ handle
   not_open g closed same = none-some _ (sym closed ∙ ap (root_at now) same ∙ offers.stood)
@@ -247,17 +248,17 @@ module _ (sizes : Sizes) (s : Table.State Call View) (kept : IsKept sizes s) (id
         (x.low, root_beside g (not_open g (later_is sizes kept.account s.words kept.roots g x.low slot fits x.is spare.1.1)) ∙ x.is));
   }
 
+  pending_old : (k : Known) → Contains kept.account.offers k → fate words_then k ≡ undecided → IsPending words_then k
+  pending_old k old stands =
+      let before = sym (fate_old k old) ∙ stands in
+      root.pending_rooted sizes kept.account kept.stands s.words all handle low (root_code (word.Offered slot)) k
+      (λ is. not_plain k.offer Writable offer.root (sym (offered_is sizes kept.account s.words kept.roots handle low k old (old_fits k old) is ∙ ap (λ n. open_with Writable (meant n k.offer))
+      before) ∙ offers.stood))
+      (λ is. not_open handle ((opening_is sizes kept.account s.words kept.roots handle low k old (old_fits k old) is).1 ∙ ap (λ n. opened_by n k.offer) before) refl)
+      (kept.roots.pending k old before)
+
   pending_all : (k : Known) → Contains account_then.offers k → fate words_then k ≡ undecided → IsPending words_then k
-  pending_all k c stands = elim (first_or_more new kept.account.offers k c) [
-    | inl is_new ↦ subst (λ x. IsPending words_then x) (sym is_new) pending_new
-    | inr old ↦
-        (let before = sym (fate_old k old) ∙ stands in
-        root.pending_rooted sizes kept.account kept.stands s.words all handle low (root_code (word.Offered slot)) k
-        (λ is. not_plain k.offer Writable offer.root (sym (offered_is sizes kept.account s.words kept.roots handle low k old (old_fits k old) is ∙ ap (λ n. open_with Writable (meant n k.offer))
-        before) ∙ offers.stood))
-        (λ is. not_open handle ((opening_is sizes kept.account s.words kept.roots handle low k old (old_fits k old) is).1 ∙ ap (λ n. opened_by n k.offer) before) refl)
-        (kept.roots.pending k old before))
-  ]
+  pending_all = each_more (λ k. fate words_then k ≡ undecided → IsPending words_then k) new kept.account.offers (λ stands. pending_new) pending_old
 
   fates_all : (k : Known) → Contains account_then.offers k → TellsFate sizes account_then k (fate words_then k)
   fates_all =
@@ -267,10 +268,9 @@ module _ (sizes : Sizes) (s : Table.State Call View) (kept : IsKept sizes s) (id
   -- ---- all that stands
 
   not_its_slot : (x : Known) → Contains account_then.offers x → (k : ℕ) (n : Slot) → Stands kept.stands now k n → place_at kept.account k ≢ x.slot
-  not_its_slot x c k n h = elim (first_or_more new kept.account.offers x c) [
-    | inl is_new ↦ (λ e. spare.1.0 k n h (e ∙ ap (λ (y : Known). y.slot) is_new))
-    | inr old ↦ kept.nodes.offers x old k n h
-  ]
+  not_its_slot =
+      each_more (λ x. (k : ℕ) (n : Slot) → Stands kept.stands now k n → place_at kept.account k ≢ x.slot) new kept.account.offers
+      (λ k n h e. spare.1.0 k n h e) (λ x old k n h. kept.nodes.offers x old k n h)
 
   pub all_then : AllStand sizes account_then kept.stands words_then
   all_then = record {
@@ -281,7 +281,7 @@ module _ (sizes : Sizes) (s : Table.State Call View) (kept : IsKept sizes s) (id
     size = root.size_rooted sizes kept.account kept.stands s.words all handle low (root_code (word.Offered slot));
     taken = root.have_rooted sizes kept.account kept.stands s.words all handle low (root_code (word.Offered slot));
     generations = root.generations_rooted sizes kept.account kept.stands s.words all handle low (root_code (word.Offered slot)) ∙ sym offers.leaves.generations;
-    nodes = root.nodes_left sizes kept.account account_then.steps account_then.offers offers.leaves kept.stands words_then (step.Go v.actor ∷ []) refl not_its_slot
+    nodes = root.nodes_left sizes kept.account account_then.steps account_then offers.leaves kept.stands words_then (step.Go v.actor ∷ []) refl not_its_slot
         (root.nodes_rooted sizes kept.account kept.stands s.words all handle low (root_code (word.Offered slot)));
     roots = record {
       means = means_all;
@@ -290,6 +290,8 @@ module _ (sizes : Sizes) (s : Table.State Call View) (kept : IsKept sizes s) (id
       single = single_all;
       tries = tries_all;
       stood = stood_all;
+      came = λ x c. stood_still sizes kept.account account_then (step.Go v.actor ∷ []) refl x.known.offer (kept.roots.came x c);
+      parting = parted_more kept.account.offered kept.account.offers kept.account.parted s.words words_then less new unparted kept.roots.parting;
       marks = marks_all;
       fates = fates_all;
       pending = pending_all;
@@ -319,10 +321,7 @@ module _ (sizes : Sizes) (s : Table.State Call View) (kept : IsKept sizes s) (id
   spare_then : (other : ℕ) → other ≢ slot → IsSpare sizes kept.account kept.stands other → IsSpare sizes account_then kept.stands other
   spare_then other differs h = (
     λ k n e. h.0 k n (e.0, sym (offers.leaves.nodes k) ∙ e.1),
-    λ k c. elim (first_or_more new kept.account.offers k c) [
-      | inl is_new ↦ (λ e. differs (sym e ∙ ap (λ (x : Known). x.slot) is_new))
-      | inr old ↦ h.1 k old
-    ],
+    each_more (λ k. k.slot ≢ other) new kept.account.offers (λ e. differs (sym e)) h.1,
   )
 
   pin_same : (a : ℕ) → 1 ≤ a → slice_index words_then (pin_word a) ≡ slice_index s.words (pin_word a)
@@ -344,26 +343,26 @@ module _ (sizes : Sizes) (s : Table.State Call View) (kept : IsKept sizes s) (id
         let differs : name ≢ slot = λ same. apart (kept.pools other id w v b 1 slot e at (subst (λ n. IsFree w b n) same free) its_own) in
         (spare_then name differs x.1, slot_same b name free.0 x.0));
     plain = plain_running sizes kept.account account_then kept.bounds ((step.Go v.actor) ∷ []) refl s.words words_then v.actor operation runs;
+    offering = knows_more kept.account.offered kept.account.offers kept.account.parted s.words words_then less new unparted;
   }
 
   own_then : IsSeat sizes account_then kept.stands words_then view_then
   own_then =
       seat_owing sizes account_then kept.stands words_then (record view_then { owed = v.owed }) view_then.owed
+      (seat_offering sizes account_then kept.stands words_then (record view_then { owed = v.owed; offer = v.offer }) view_then.offer
       (own_kept sizes s kept id v at account_then kept.stands words_then stays operation (operation_after now operation) runs offers.own refl refl (held id v at) all_then.counted
       (pin_same v.actor seat.low) view_then.pool None (λ g n o e. absurd (none-some n e)) []
       (λ b name f. (let before = spending.was_free sizes s kept id v at 1 medium slot rest pool b name f.0 f.1 in
       let x = seat.spare b name before.0 in (still_taken b name f.0 x.0, spare_then name before.1 x.1)))
-      (spending.once_then sizes s kept id v at 1 medium slot rest pool) (λ d c. absurd (omega (arith, c.1))))
+      (spending.once_then sizes s kept id v at 1 medium slot rest pool) (λ d c. absurd (omega (arith, c.1)))
+      (knows_more kept.account.offered kept.account.offers kept.account.parted s.words words_then less new unparted v.actor v.pin v.offer v.pool.parted seat.offering))
+      (knows_own kept.account.offered kept.account.offers kept.account.parted s.words words_then less new unparted v.pin v.offer v.pool.parted seat.offering))
 
   closings_then : (g who : ℕ) → g < handle_limit → SaysClosing (slice_index words_then (root_word g)) who → IsClosing (set s.views id view_then) g who
   closings_then g who below says = elim (cases_eq g handle) [
-    | inl same ↦ absurd (not_closing (subst (λ n. SaysClosing n who) (ap (λ n. slice_index words_then (root_word n)) same ∙ root_here) says))
-    | inr differs ↦ closing_stays sizes s kept id v at view_then refl refl (λ h e. e) refl g who (kept.closings g who below (subst (λ n. SaysClosing n who) (root_beside g differs) says))
+    | inl same ↦ absurd (not_closing (word.Offered slot) who fits (omega arith) (subst (λ n. SaysClosing n who) (ap (λ n. slice_index words_then (root_word n)) same ∙ root_here) says))
+    | inr apart ↦ closing_stays sizes s kept id v at view_then refl refl (λ h e. (e, refl)) refl (λ c. c) g who (kept.closings g who below (subst (λ n. SaysClosing n who) (root_beside g apart) says))
   ]
-    where
-      not_closing : SaysClosing (root_code (word.Offered slot)) who → ⊥
-      not_closing (inl h) = let wrong = same_kind (word.Offered slot) (word.ClosingWritable h.0 who) fits h.1 h.2 in omega (arith, wrong)
-      not_closing (inr h) = let wrong = same_kind (word.Offered slot) (word.ClosingReadOnly h.0 who) fits h.1 h.2 in omega (arith, wrong)
 
   openings_then : (g found_slot : ℕ) → g < handle_limit → IsRootWord (word.Opening found_slot) → slice_index words_then (root_word g) ≡ root_code (word.Opening found_slot) → NoOffer account_then
       found_slot →
@@ -374,14 +373,10 @@ module _ (sizes : Sizes) (s : Table.State Call View) (kept : IsKept sizes s) (id
         (omega (arith, wrong)))
     | inr differs ↦
         opening_stays sizes s kept id v at view_then refl refl next g found_slot
-        (λ r f. (
-          reserves_on kept.account.offers now next keeps v g r,
-          (
-            medium,
-            spending.still_free sizes s kept id v at 1 medium slot rest pool 1 found_slot
-                (λ same. nothing new (first_there new kept.account.offers) (sym same)) f,
-          ),
-        )) (λ other w e apart f r. reserves_on kept.account.offers now next keeps w g r)
+        (λ r f.
+        (let other : found_slot ≢ slot = λ same. nothing new (first_there new kept.account.offers) (sym same) in
+        (reserves_on kept.account.offers now next keeps v g r, (medium, spending.still_free sizes s kept id v at 1 medium slot rest pool 1 found_slot other f))))
+        (λ other w e apart f r. reserves_on kept.account.offers now next keeps w g r)
         (kept.openings g found_slot below in_range (sym (root_beside g differs) ∙ is) (λ k c. nothing k (more_there new kept.account.offers k c)))
   ]
 
@@ -398,3 +393,6 @@ module _ (sizes : Sizes) (s : Table.State Call View) (kept : IsKept sizes s) (id
   offered_kept held_still =
       assembled sizes s kept id v at view_then refl refl account_then kept.stands words_then all_then closings_then own_then (other_kept sizes s kept id v at account_then kept.stands words_then stays)
       (λ b name f. inl (spending.was_free sizes s kept id v at 1 medium slot rest pool b name f.0 f.1).0) numbers_then held_still
+      (cells_spent sizes s kept id v at view_then account_then kept.stands words_then (beside_cell sizes s.words (root_word handle) (root_code (word.Offered slot))
+      (handle_before sizes handle low)) 1 slot
+      its_own still_taken spare_then (λ b n f. (spending.was_free sizes s kept id v at 1 medium slot rest pool b n f.0 f.1).0))

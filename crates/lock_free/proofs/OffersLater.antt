@@ -12,24 +12,32 @@ use Rattle.lock_free.specs.Places.{words_in, words_of}
 use Rattle.lock_free.specs.RootWords.{IsRootAt}
 use Rattle.lock_free.proofs.Fates.{settled_still}
 use Rattle.lock_free.proofs.OneStep.Roots.{reached_still}
+use Rattle.lock_free.proofs.PartingStay.{met_still}
+use Rattle.lock_free.specs.Parting.{IsMet}
 
 module _ (v w : View) (l : Later v w) where
   pub sizes_same : w.sizes ≡ v.sizes
   sizes_same = ap (λ (x : View). x.sizes) l.is
 
-  abbrev pub offer_later : (handle slot : ℕ) → HasOffer v.sizes v.account handle slot → HasOffer w.sizes w.account handle slot
+  pub pin_same : w.pin ≡ v.pin
+  pin_same = ap (λ (x : View). x.pin) l.is
+
+  pub met_later : (k : Known) → IsMet v.account v.pin k → IsMet w.account w.pin k
+  met_later k h = subst (λ p. IsMet w.account p k) (sym pin_same) (met_still v.account w.account v.pin k l.offers h)
+
+  abbrev pub offer_later : (handle slot : ℕ) → HasOffer v.sizes v.account v.pin handle slot → HasOffer w.sizes w.account w.pin handle slot
   offer_later handle slot h = record {
     its = h.its;
-    here = l.offers h.its h.here;
+    here = met_later h.its h.here;
     place = h.place;
     on = h.on;
     inside = subst (λ z. 2 * slot + words_in 1 ≤ words_of z) (sym sizes_same) h.inside;
   }
 
-  abbrev pub opening_later : (handle slot : ℕ) → HasOpening v.sizes v.account handle slot → HasOpening w.sizes w.account handle slot
+  abbrev pub opening_later : (handle slot : ℕ) → HasOpening v.sizes v.account v.pin handle slot → HasOpening w.sizes w.account w.pin handle slot
   opening_later handle slot h = record {
     its = h.its;
-    here = l.offers h.its h.here;
+    here = met_later h.its h.here;
     place = h.place;
     opens = h.opens;
     inside = subst (λ z. 2 * slot + words_in 1 ≤ words_of z) (sym sizes_same) h.inside;

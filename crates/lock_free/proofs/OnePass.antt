@@ -51,7 +51,7 @@ module _ (n : ℕ) (v : View) (sound : IsSound n v) (name : ℕ) (passing : IsPa
   abbrev its : Ref
   its = passing.0
 
-  reached : (main : Ref) × HasCome (Goes (read.Prev main)) v w × KnowsLink w its main link
+  pub reached : (main : Ref) × HasCome (Goes (read.Prev main)) v w × KnowsLink w its main link
   reached = link_come n n v w sound then its link passing.2 g
 
   pub reached_passing : IsPassing w name (resume.Header link)

@@ -35,7 +35,7 @@ module _ (v : View) (s : Table.State Call View) (kept : IsKept v.sizes s) (heard
   -- what is left of another seat
   pub record IsLeft (u : View) : Type 0 where
     pub spent : u.sizes.seats ≡ 0
-    pub bare : (u.pool ≡ no_slots) × (u.retired ≡ []) × (u.account.offers ≡ []) × (u.owed ≡ [])
+    pub bare : (u.pool ≡ no_slots) × (u.retired ≡ []) × (u.account.offered ≡ []) × (u.owed ≡ []) × (u.offer ≡ None)
     pub idle : operation_of state u.actor ≡ None
 
   module _ (k : ℕ) (u : View) (at_u : get_elem? s.views k ≡ some u) (apart : k ≡ id → ⊥) where

@@ -1,8 +1,8 @@
--- Exchanges of the word of an open handle: an offer that is settled is taken out of it, and a mark that a seat would close the handle is made or taken away.
+-- Exchanges of the word of a handle: an offer that is settled is taken out of it, and a mark that a seat would close the handle is made or taken away.
 use Rattle.history.specs.declared.calls.Call.{Call}
-use Rattle.std.proofs.Common.{◌≡◌, ◌≢◌, ◌^◌, ◌==◌, ℕ, ◌<◌, inl, inr, Bool, true, false, List, ◌∷◌, [], Contains, set, slice_index, Option, Some, None, refl, sym, ap, subst, ◌∙◌, arith}
+use Rattle.std.proofs.Common.{◌≡◌, ◌≢◌, ◌^◌, ◌==◌, ◌⊎◌, ℕ, ◌<◌, ◌≤◌, inl, inr, Bool, true, false, List, ◌∷◌, [], Contains, set, slice_index, Option, Some, None, refl, sym, ap, subst, ◌∙◌, arith}
 use Rattle.std.proofs.Common.{if◌then◌else◌}
-use Rattle.std.proofs.lemmas.Bool.{cases_eq, ne_eqb}
+use Rattle.std.proofs.lemmas.Bool.{cases_eq, ne_eqb, false≢true}
 use Rattle.std.proofs.lemmas.List.Elements.{Contains-get_or}
 use mathlib.Core.Option.{some}
 use lib.ListN.{get_elem?}
@@ -38,7 +38,7 @@ use Rattle.lock_free.proofs.Framing.{has_words, class_small, node_end}
 use Rattle.lock_free.proofs.RootCodes.{kind, same_kind}
 use Rattle.lock_free.proofs.RootFound.{slot_fits, offered_is, opening_is}
 use Rattle.lock_free.proofs.RootSteps as root
-use Rattle.lock_free.proofs.Rewritten.{IsPlainWord, rewrite_kept}
+use Rattle.lock_free.proofs.Rewritten.{SaysSame, rewrite_kept}
 
 -- ---- which root a settled offer leaves
 
@@ -96,9 +96,8 @@ pub not_closing : (w : HandleWord) (who : ℕ) → IsRootWord w → kind w < 6 �
 not_closing w who fits unmarked (inl h) = let same = same_kind w (word.ClosingWritable h.0 who) fits h.1 h.2 in omega (arith, same, unmarked)
 not_closing w who fits unmarked (inr h) = let same = same_kind w (word.ClosingReadOnly h.0 who) fits h.1 h.2 in omega (arith, same, unmarked)
 
-module _ (sizes : Sizes) (s : Table.State Call View) (kept : IsKept sizes s) (id : ℕ) (v : View) (at : get_elem? s.views id ≡ some v) (handle : ℕ) (low : handle < handle_limit) (access : Access)
-    (q : Ref)
-    (plain : root_at (state_of sizes kept.account) handle ≡ open_with access (Plain q)) (w : HandleWord) (fits : IsRootWord w) (is : IsPlainWord access (place_of kept.account q) w) where
+module _ (sizes : Sizes) (s : Table.State Call View) (kept : IsKept sizes s) (id : ℕ) (v : View) (at : get_elem? s.views id ≡ some v) (handle : ℕ) (low : handle < handle_limit) (w : HandleWord)
+    (fits : IsRootWord w) (is : SaysSame sizes s kept handle w) where
   abbrev pub words_then : List ℕ
   words_then = set s.words (root_word handle) (root_code w)
 
@@ -122,14 +121,14 @@ module _ (sizes : Sizes) (s : Table.State Call View) (kept : IsKept sizes s) (id
     -- by a seat that would close it, or not: an offer or another's mark is taken out
     pub clean_kept : IsKept sizes (record { words = words_then; homes = s.homes; views = set s.views id v })
     clean_kept =
-        rewrite_kept sizes s kept id v at handle low access q plain w fits is v.entered v.closing seat.entered seat.calls
+        rewrite_kept sizes s kept id v at handle low w fits is v.entered v.closing seat.entered seat.calls
         (λ g who below says. elim (cases_eq g handle) [
           | inl same ↦ absurd (says_none g who same says)
-          | inr differs ↦ closing_at sizes s kept id v at v refl refl g who (λ e. e) (λ c this on its. this) (kept.closings g who below (says_else g who differs says))
+          | inr differs ↦ closing_at sizes s kept id v at v refl refl g who (λ e. (e, refl)) (λ c this on its. this) (λ c. c) (kept.closings g who below (says_else g who differs says))
         ])
 
   -- the seat marks the handle: it would close it, and has looked at nobody's pin yet
-  module _ (marks : (who : ℕ) → SaysClosing (root_code w) who → who ≡ v.actor) where
+  module _ (marks : (who : ℕ) → SaysClosing (root_code w) who → who ≡ v.actor) (unsure : v.passed.cleared ≡ false) where
     abbrev pub begins : Closing
     begins = record { handle = handle; looked = 0 }
 
@@ -142,6 +141,10 @@ module _ (sizes : Sizes) (s : Table.State Call View) (kept : IsKept sizes s) (id
       | inr h ↦ (kept.seats other x h.1).low
     ]
 
+    none_yet : (v.passed.cleared ≡ true) ⊎ (1 ≤ 0) → ⊥
+    none_yet (inl cleared) = false≢true (sym unsure ∙ cleared)
+    none_yet (inr less) = omega (arith, less)
+
     closes_here : (who : ℕ) → who ≡ v.actor → IsClosing (set s.views id marking) handle who
     closes_here who own = record {
       id = id;
@@ -151,17 +154,18 @@ module _ (sizes : Sizes) (s : Table.State Call View) (kept : IsKept sizes s) (id
       closing = begins;
       is = newest begins v.closing;
       this = refl;
-      none = λ other x e inside apart. positive other x e;
+      none = λ other x e inside apart shown. positive other x e;
+      clear = λ some other x e inside apart. absurd (none_yet some);
     }
 
     pub mark_kept : IsKept sizes (record { words = words_then; homes = s.homes; views = set s.views id marking })
     mark_kept =
-        rewrite_kept sizes s kept id v at handle low access q plain w fits is v.entered (begins ∷ v.closing) seat.entered seat.calls
+        rewrite_kept sizes s kept id v at handle low w fits is v.entered (begins ∷ v.closing) seat.entered seat.calls
         (λ g who below says. elim (cases_eq g handle) [
           | inl same ↦
               subst (λ n. IsClosing (set s.views id marking) n who) (sym same)
               (closes_here who (marks who (subst (λ n. SaysClosing n who) (ap (λ n. slice_index words_then (root_word n)) same ∙ root_here) says)))
           | inr differs ↦
-              closing_at sizes s kept id v at marking refl refl g who (λ e. e) (λ c is_it on own. older begins v.closing g (λ e. differs (sym e)) ∙ is_it)
+              closing_at sizes s kept id v at marking refl refl g who (λ e. (e, refl)) (λ c is_it on own. older begins v.closing g (λ e. differs (sym e)) ∙ is_it) (λ c. c)
               (kept.closings g who below (says_else g who differs says))
         ])

@@ -35,9 +35,11 @@ use Rattle.lock_free.specs.Loading.{IsSound}
 use Rattle.lock_free.specs.Nodes.{IsAhead, AreOwners, StandsAs, InTable, class_of, of_branch, decided}
 use Rattle.lock_free.specs.Opening.{counted_words, first_words, first_link, first_handle}
 use Rattle.lock_free.specs.Owning.{IsOwnBy, at_first}
-use Rattle.lock_free.specs.Places.{AreSizes, HaveTaken, IsSlot, IsTaken, branch_slot, count_word, epoch_word, root_slot, words_of, generation_word, taken_word, root_word, pin_word}
+use Rattle.lock_free.specs.Cells.{AreCells, Stores}
+use Rattle.lock_free.specs.Places.{AreSizes, cell_word, HaveTaken, IsSlot, IsTaken, branch_slot, count_word, epoch_word, root_slot, words_of, generation_word, taken_word, root_word, pin_word}
 use Rattle.lock_free.specs.Roots.{MeansRoot}
-use Rattle.lock_free.specs.Rules.{Once, first_account, first_view, Standing, NodesStand, RootsStand, SaysClosing, IsSeat, IsKept, IsRuled}
+use Rattle.lock_free.specs.FirstViews.{first_view}
+use Rattle.lock_free.specs.Rules.{Once, first_account, IsSpare, Standing, NodesStand, RootsStand, SaysClosing, IsSeat, IsKept, IsRuled}
 use Rattle.lock_free.proofs.CountWords.{count_above, count_beside, slot_taken}
 use Rattle.lock_free.proofs.FirstHeld.{held_first, only_view}
 use Rattle.lock_free.proofs.Framing.{class_small}
@@ -47,6 +49,7 @@ use Rattle.lock_free.proofs.Idle.{empty_has, none_free, none_twice}
 use Rattle.lock_free.proofs.OneStep.Found.{slot_at}
 use Rattle.lock_free.proofs.RootCodes.{kind, same_kind}
 use Rattle.lock_free.proofs.Waiting.{waited_none}
+use Rattle.lock_free.proofs.PartingStay.{knows_nothing}
 
 zeros : (n k : ℕ) → slice_index (replicate n 0) k ≡ 0
 zeros zero k = refl
@@ -242,6 +245,8 @@ module _ (sizes : Sizes) where
       single = λ k l c. absurd (empty_has k c);
       tries = λ k l c. absurd (empty_has k c);
       stood = λ k c. absurd (empty_has k c);
+      came = λ x c. absurd (empty_has x c);
+      parting = record { known = λ k c. absurd (empty_has k c); left = λ k c. absurd (empty_has k c); unnamed = λ k c. absurd (empty_has k c) };
       fates = λ k c. absurd (empty_has k c);
       marks = λ k c. absurd (empty_has k c);
       pending = λ k c. absurd (empty_has k c);
@@ -284,6 +289,7 @@ module _ (sizes : Sizes) where
       once = none_twice sizes 1 sizes.seats account;
       drafts = λ d c. absurd (empty_has d c);
       plain = λ d c. absurd (empty_has d c);
+      offering = knows_nothing account.offered account.offers account.parted (first_words sizes) 1;
     }
 
     abbrev its : (w : View) (id : ℕ) → get_elem? (first_view sizes ∷ []) id ≡ some w → (id ≡ 0) × (first_view sizes ≡ w)
@@ -313,6 +319,20 @@ module _ (sizes : Sizes) where
     held_is : AreHeld sizes account all_stand (first_words sizes) (first_view sizes ∷ [])
     held_is = held_first sizes all_stand (λ k. refl) (first_words sizes) one_reference counts_of
 
+    -- nothing stands in cells
+    none_stored : (class number name : ℕ) → Stores sizes (first_words sizes) class number name → ⊥
+    none_stored class number name h =
+        let root = ok.root in
+        h.2 (sym h.1
+        ∙ zero_is (cell_word sizes class number) (λ e. absurd (omega (arith, root, e))) (λ e. absurd (omega (arith, e))) (λ e. absurd (omega (arith, e))) (λ e. absurd (omega (arith, e))))
+
+    cells_are : AreCells sizes (IsSpare sizes account all_stand) (first_words sizes) (first_view sizes ∷ [])
+    cells_are = record {
+      spare = λ class number name h. absurd (none_stored class number name h);
+      nobodys = λ class number name h id v b e f. none_stored class number name h;
+      once = λ b c m n name h g. absurd (none_stored b m name h);
+    }
+
     pub opens : IsKept sizes (opening {S = Call} (first_words sizes) [] (first_view sizes))
     opens = record {
       account = account;
@@ -335,6 +355,7 @@ module _ (sizes : Sizes) where
       pools = λ i j v w b c name ei ej hv hw. (its v i ei).0 ∙ sym (its w j ej).0;
       numbers = λ i j v w handle ei ej hv hw. (its v i ei).0 ∙ sym (its w j ej).0;
       held = held_is;
+      cells = cells_are;
     }
 
     none_retired : (id : ℕ) (v : View) → get_elem? (first_view sizes ∷ []) id ≡ some v → (x : Retired) → Contains v.retired x → ⊥
@@ -347,7 +368,8 @@ module _ (sizes : Sizes) where
       epochs = record {
         seen = λ id v e. subst (λ n. n ≤ slice_index (first_words sizes) epoch_word) (ap (λ (x : View). x.epoch) (its v id e).1) (omega arith);
         pinned = λ id v e p is. absurd (none-some p (ap (λ (x : View). x.pin) (its v id e).1 ∙ is));
-        passed = λ i j v w ei ej below p is. absurd (none-some p (ap (λ (x : View). x.pin) (its w j ej).1 ∙ is));
+        passed = λ i j v w ei ej fell below p is shown. absurd (none-some p (ap (λ (x : View). x.pin) (its w j ej).1 ∙ is));
+        cleared = λ i j v w ei ej all p is hidden. absurd (none-some p (ap (λ (x : View). x.pin) (its w j ej).1 ∙ is));
       };
       retired = record {
         stamps = λ id v e x c. absurd (none_retired id v e x c);

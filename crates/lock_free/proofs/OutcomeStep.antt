@@ -8,7 +8,7 @@ use Rattle.std.proofs.lemmas.List.Sums.{sum_by-cons}
 use mathlib.Core.Option.{some}
 use lib.ListN.{get_elem?}
 use Rattle.atomic_table.specs.Table as Table
-use Rattle.atomic_table.specs.Table.{Me, Allows, step}
+use Rattle.atomic_table.specs.Table.{step}
 use Rattle.machine_model.specs.Beneath.slot_arena.specs.declared.refs.Ref.{Ref}
 use Rattle.machine_model.specs.Beneath.slot_arena.specs.Refs.{slot_of}
 use Rattle.machine_model.specs.Beneath.slot_arena.specs.Heaps.{node_at, node_of, refs_of_node, refs_of_prev, refs_of_slot, stored}
@@ -40,13 +40,12 @@ use Rattle.lock_free.specs.Holdings.{AreHeld}
 use Rattle.lock_free.specs.Live.{IsKnown, from_operation, from_slot, refs_of_claim, refs_of_claims, IsLive}
 use Rattle.lock_free.specs.Loading.{seen}
 use Rattle.lock_free.specs.Making.{refs_of_offer}
-use Rattle.lock_free.specs.OfferWords.{carried_by, outcome_by}
+use Rattle.lock_free.specs.OfferWords.{carried_by}
 use Rattle.lock_free.specs.Outcomes.{IsConcluding, made_for, times_given}
 use Rattle.lock_free.specs.Owing.{next_change, owes_then, owing}
 use Rattle.lock_free.specs.Rules.{IsKept}
 use Rattle.lock_free.proofs.ClaimsThere.{has_often}
 use Rattle.lock_free.proofs.CompleteStep as step_of
-use Rattle.lock_free.proofs.CompleteStep.{its_offer, tells_it}
 use Rattle.lock_free.proofs.GivenCounted.{fewer_given, given_counted}
 use Rattle.lock_free.proofs.HeldGives.{held_gives}
 use Rattle.lock_free.proofs.HeldGone.{IsLetting}
@@ -54,7 +53,7 @@ use Rattle.lock_free.proofs.HeldLeads.{alike_slots}
 use Rattle.lock_free.proofs.HeldStep.{taken_now}
 use Rattle.lock_free.proofs.Led.{led_here, led_own, led_lives}
 use Rattle.lock_free.proofs.Lettings.{TakesNone, going_lets}
-use Rattle.lock_free.proofs.OfferStep.{refs_at_hand}
+use Rattle.lock_free.proofs.OfferRefs.{refs_at_hand}
 use Rattle.lock_free.proofs.OneStep.Found.{slot_at}
 use Rattle.lock_free.proofs.OutcomeClaims.{completing_gives, completing_makes}
 use Rattle.lock_free.proofs.LetGoGives.{let_go_gives}
@@ -89,9 +88,6 @@ module _ (v : View) (slot : ℕ) (expected : Bool) (c : IsConcluding v slot expe
 
   abbrev pub word : ℕ
   word = 2 * k.slot
-
-  abbrev pub outcome : ℕ
-  outcome = outcome_by expected
 
   module _ (s : Table.State Call View) (kept : IsKept v.sizes s) (id : ℕ) (at : get_elem? s.views id ≡ some v) where
     abbrev pub found : ℕ

@@ -24,6 +24,7 @@ use Rattle.lock_free.specs.Passing.{IsPlaced}
 use Rattle.lock_free.specs.Places.{words_in}
 use Rattle.lock_free.specs.Rules.{IsFree, pool_of}
 use Rattle.lock_free.specs.SeenEntries.{HasMadeNext}
+use Rattle.lock_free.specs.Reclaiming.{kind_of_node}
 use Rattle.lock_free.specs.Stocks.{Stocked, IsStock, NotesLast, HasSlot}
 use Rattle.lock_free.specs.Owning.{MayOwn}
 use Rattle.lock_free.specs.Storing.{IsOwnWord, drafted, IsAtMake, IsAdded, HasMade}
@@ -139,7 +140,7 @@ module _ (before : View) (class name : ℕ) (mid : View) (slot : HasSlot before 
       new_there other q = subst (λ x. HasNew before x name after) (one_node before node other p q) its_new
 
       -- and noted
-      pub stock_there : (stock next : Stocked) → IsStock stock mid → next.sizes ≡ stock.sizes → NotesLast stock class next →
+      pub stock_there : (stock next : Stocked) → IsStock stock mid → next.sizes ≡ stock.sizes → NotesLast stock (kind_of_node node) class next →
           next.limbo ≡ stock.limbo → IsStock next after
       stock_there stock next is sizes noted limbo =
           let (pool, made_is) = noted slot.last.0 name (ap (λ x. pool_of x class) is.pool ∙ slot.last.1) in

@@ -13,7 +13,8 @@ use Rattle.lock_free.specs.declared.rules.View.{View}
 use Rattle.lock_free.specs.declared.sizes.Sizes.{Sizes}
 use Rattle.lock_free.specs.Loading.{IsSound}
 use Rattle.lock_free.specs.Places.{stride, words_in, words_of, part_of, slots_in, taken_word}
-use Rattle.lock_free.specs.Rules.{pool_of, IsKept, IsRuled}
+use Rattle.lock_free.specs.Shadows.{IsShadowed}
+use Rattle.lock_free.specs.Rules.{pool_of, IsKept}
 use Rattle.lock_free.specs.Storing.{IsOwnWord, drafted, has_drafted, with_free, has_taken}
 use Rattle.lock_free.proofs.CountWords.{before_apart}
 use Rattle.lock_free.proofs.Geometry.{slot_end}
@@ -25,7 +26,8 @@ use Rattle.lock_free.proofs.Taking.{take_kept, same_class}
 
 -- ---- a word is written
 
-pub draft_allowed : (sizes : Sizes) (size id : ℕ) (me : Me Call View) (some_seats : 1 ≤ me.0.sizes.seats) (word value : ℕ) → IsOwnWord me.0 word → Allows (IsRuled sizes) size id me word (λ n. value)
+pub draft_allowed : (sizes : Sizes) (size id : ℕ) (me : Me Call View) (some_seats : 1 ≤ me.0.sizes.seats) (word value : ℕ) → IsOwnWord me.0 word → Allows (IsShadowed sizes) size id me word
+    (λ n. value)
     (λ n. has_drafted (step size word value 0 none) me value)
 draft_allowed sizes size id me some_seats word value (class, name, free, low, high) =
     allowed sizes size id me word (λ n. value) (λ n. has_drafted (step size word value 0 none) me value)
@@ -101,10 +103,10 @@ module _ (sizes : Sizes) (size id : ℕ) (me : Me Call View) (class : ℕ) (smal
       | inr differs ↦ lost differs
     ]
 
-  pub take_allowed : 1 ≤ me.0.sizes.seats → Allows (IsRuled sizes) size id me word (λ n. either (n == count) (count + 1) n) (has_taken (step size word count (count + 1) none) me)
+  pub take_allowed : 1 ≤ me.0.sizes.seats → Allows (IsShadowed sizes) size id me word (λ n. either (n == count) (count + 1) n) (has_taken (step size word count (count + 1) none) me)
   take_allowed some_seats =
       allowed sizes size id me word (λ n. either (n == count) (count + 1) n) (has_taken (step size word count (count + 1) none) me) some_seats
-      (λ s kept at. inl (before_apart v.sizes word (λ e. omega (arith, e)) (omega (arith, small))))
+      (λ s kept at. inl (before_apart v.sizes word (omega arith) (omega (arith, small))))
       (λ s kept at. (let x = taken_or_lost s kept at in (x.0, x.2, x.3))) (λ s kept at. (taken_or_lost s kept at).1)
 
 pub taken_sound : (words : ℕ) (v : View) (class count name : ℕ) → class < 3 → count < slots_in v.sizes class → 2 * name ≡ part_of v.sizes class + stride class * count → IsSound words v →

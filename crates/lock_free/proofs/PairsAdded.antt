@@ -10,8 +10,8 @@ use Rattle.lock_free.specs.Passing.{IsOnWay}
 use Rattle.lock_free.specs.Scans.{HasAdded, HasAddedSome}
 use Rattle.lock_free.specs.Walks.{HasAllPairs, HasWalked, IsLeft, IsWalking}
 use Rattle.lock_free.proofs.OnLines.{way_on}
-use Rattle.lock_free.proofs.WalkLines.{left_by, next_gives_up, walked_self, walking_on, walking_then}
-use Rattle.lock_free.proofs.WalkNexts.{then_all, then_left, then_walked}
+use Rattle.lock_free.proofs.OneWalk.Lines.{left_by, next_gives_up, walked_self, walking_on, walking_then}
+use Rattle.lock_free.proofs.OneWalk.Nexts.{then_all, then_left, then_walked}
 
 pub added_none : (way : Way) (v : View) (stack : List Entry) (list : List (ℕ × ℕ)) → IsOnWay v way → (told : List (ℕ × ℕ)) × IsWalking v stack told → HasAddedSome way v stack list 0 v stack list
 added_none way v stack list on (told, at) = record {

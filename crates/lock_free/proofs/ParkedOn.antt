@@ -14,7 +14,7 @@ use Rattle.lock_free.specs.declared.parking.Came.TheVariants as came
 use Rattle.lock_free.specs.declared.rules.View.{View}
 use Rattle.lock_free.specs.declared.reclaiming.Decided.{Decided}
 use Rattle.lock_free.specs.Calling.{cut_short, CutBy, GaveUp, HasCutShort}
-use Rattle.lock_free.specs.Exchanging.{given_back}
+use Rattle.lock_free.specs.GivingUp.{given_back}
 use Rattle.lock_free.specs.Leaving.{EndsOrMay, HasDecidedSwap, HasSwappedOn, IsClimbAfter, IsRepair, IsSwapLeft, IsUpdate}
 use Rattle.lock_free.specs.Loading.{now, seen, Runs, Saw}
 use Rattle.lock_free.specs.Parking.{HasRunTo, HasWoundUp, IsBare, IsSwapFor, StillOwns}

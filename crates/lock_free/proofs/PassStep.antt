@@ -15,7 +15,8 @@ use Rattle.lock_free.specs.declared.rules.View.{View}
 use Rattle.lock_free.specs.declared.sizes.Sizes.{Sizes}
 use Rattle.lock_free.specs.Loading.{IsSound}
 use Rattle.lock_free.specs.Places.{pin_word}
-use Rattle.lock_free.specs.Rules.{IsKept, IsRuled}
+use Rattle.lock_free.specs.Shadows.{IsShadowed}
+use Rattle.lock_free.specs.Rules.{IsKept}
 use Rattle.lock_free.specs.SeatWords.{is_out, WouldClose, closes, passing, HasPassed, is_passed, has_passed}
 use Rattle.lock_free.proofs.Assembling.{closing_at}
 use Rattle.lock_free.proofs.Closers.{seat_kept, pass_kept}
@@ -30,7 +31,8 @@ either_one false b e = inr e
 is_same : (n m : ℕ) → (n == m) ≡ true → n ≡ m
 is_same n m e = elim (cases_eq n m) [ inl same ↦ same | inr differs ↦ absurd (true≢false (sym e ∙ ne_eqb n m differs)) ]
 
-module _ (v : View) (handle looked : ℕ) (low : handle < 256) (others : List Closing) (would : v.closing ≡ closes handle looked ∷ others) (s : Table.State Call View) (kept : IsKept v.sizes s) (id : ℕ)
+module _ (v : View) (handle looked : ℕ) (low : handle < 256) (others : List Closing) (would : v.closing ≡ closes handle looked ∷ others) (cleared : v.passed.cleared ≡ true)
+    (s : Table.State Call View) (kept : IsKept v.sizes s) (id : ℕ)
     (at : get_elem? s.views id ≡ some v) where
   abbrev found : ℕ
   found = slice_index s.words (pin_word (looked + 1))
@@ -51,12 +53,12 @@ module _ (v : View) (handle looked : ℕ) (low : handle < 256) (others : List Cl
       × (rest_of w ≡ rest_of v)
 
   passes_by : (b : Bool) → is_passed v handle looked found ≡ b → (w : View) × Passed w
-  passes_by true e = (passing v handle looked, (pass_kept v.sizes s kept id v at handle looked others would (nobody e), (λ x. refl, λ x. absurd (true≢false (sym e ∙ x))), refl))
+  passes_by true e = (passing v handle looked, (pass_kept v.sizes s kept id v at handle looked others would cleared (nobody e), (λ x. refl, λ x. absurd (true≢false (sym e ∙ x))), refl))
   passes_by false e = (
     v,
     (
       seat_kept v.sizes s kept id v at v.entered v.closing (kept.seats id v at).entered (kept.seats id v at).calls
-          (λ g who below h. closing_at v.sizes s kept id v at v refl refl g who (λ x. x) (λ c x y z. x) (kept.closings g who below h)),
+          (λ g who below h. closing_at v.sizes s kept id v at v refl refl g who (λ x. (x, refl)) (λ c x y z. x) (λ c. c) (kept.closings g who below h)),
       (λ x. absurd (true≢false (sym x ∙ e)), λ x. refl),
       refl,
     ),
@@ -66,11 +68,11 @@ module _ (v : View) (handle looked : ℕ) (low : handle < 256) (others : List Cl
   passes = passes_by (is_passed v handle looked found) refl
 
 pub pass_allowed : (sizes : Sizes) (size id : ℕ) (me : Me Call View) (some_seats : 1 ≤ me.0.sizes.seats) (handle looked : ℕ) → handle < 256 → WouldClose me.0 handle looked →
-    Allows (IsRuled sizes) size id me (pin_word (looked + 1)) (λ n. n) (has_passed (step size (pin_word (looked + 1)) 0 0 none) me)
-pass_allowed sizes size id me some_seats handle looked low (others, would) =
+    Allows (IsShadowed sizes) size id me (pin_word (looked + 1)) (λ n. n) (has_passed (step size (pin_word (looked + 1)) 0 0 none) me)
+pass_allowed sizes size id me some_seats handle looked low (others, would, cleared) =
     allowed sizes size id me (pin_word (looked + 1)) (λ n. n) (has_passed (step size (pin_word (looked + 1)) 0 0 none) me)
     some_seats (λ s kept at. inr refl)
-    (λ s kept at. (let x = passes me.0 handle looked low others would s kept id at in (
+    (λ s kept at. (let x = passes me.0 handle looked low others would cleared s kept id at in (
       x.0,
       subst (λ ws. IsKept me.0.sizes (record { words = ws; homes = s.homes; views = set s.views id x.0 })) (sym (set-get_or s.words (pin_word (looked + 1)) 0)) x.1.0,
       (
@@ -79,7 +81,7 @@ pass_allowed sizes size id me some_seats handle looked low (others, would) =
         refl,
       ),
     )))
-    (λ s kept at. (passes me.0 handle looked low others would s kept id at).1.2)
+    (λ s kept at. (passes me.0 handle looked low others would cleared s kept id at).1.2)
 
 -- what is sound stays so
 pub pass_sound : (words : ℕ) (before : View) (handle looked : ℕ) (out : Bool) (after : View) → HasPassed before handle looked out after → IsSound words before → IsSound words after

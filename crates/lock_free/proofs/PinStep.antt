@@ -2,10 +2,11 @@
 use Rattle.lock_free.proofs.Waiting.{grown_none}
 use Rattle.lock_free.proofs.BegunSince.{begun_since, begun_grown, first_bounds}
 use Rattle.machine_model.specs.Calls.{handle_of}
+use Rattle.lock_free.specs.declared.rules.Checked.{Checked}
 use Rattle.lock_free.specs.declared.rules.Retired.{Retired}
 use Rattle.proof_garbage.specs.Grace.{HaveEnded}
 use Rattle.history.specs.declared.calls.Call.{Call}
-use Rattle.std.proofs.Common.{◌≤◌, ◌≡◌, ◌≢◌, ◌⊎◌, inl, inr, List, slice_index, ◌+◌, ◌-◌, ◌*◌, ◌/◌, ◌%◌, ◌^◌, ◌<◌, ◌==◌, ℕ, set, Option, []}
+use Rattle.std.proofs.Common.{◌≤◌, ◌≡◌, ◌≢◌, ◌⊎◌, inl, inr, List, slice_index, ◌+◌, ◌-◌, ◌*◌, ◌/◌, ◌%◌, ◌^◌, ◌<◌, ◌==◌, ℕ, Bool, true, set, Option, []}
 use Rattle.std.proofs.Common.{Contains, map, Some, None, refl, sym, ap, subst, ◌∙◌, arith, ne_eqb, if◌then◌else◌}
 use Rattle.std.proofs.lemmas.List.{set-set}
 use Rattle.std.proofs.lemmas.Option.{same_Some, none-some}
@@ -24,7 +25,8 @@ use Rattle.lock_free.specs.declared.sizes.Sizes.{Sizes}
 use Rattle.lock_free.specs.Accounts.{state_of, HasGrown}
 use Rattle.lock_free.specs.Loading.{IsSound}
 use Rattle.lock_free.specs.Places.{pin_word}
-use Rattle.lock_free.specs.Rules.{AreEpochs, IsKept, IsPinned, IsRuled, pin_word_of, HasPinnedIdle, AreRetired, IsApartFrom, IsFarFrom, Once}
+use Rattle.lock_free.specs.Shadows.{IsShadowed}
+use Rattle.lock_free.specs.Rules.{AreEpochs, IsKept, IsPinned, pin_word_of, HasPinnedIdle, AreRetired, IsApartFrom, IsFarFrom, Once}
 use Rattle.lock_free.specs.SeatWords.{IsIdle, pinned_for, unpinned, has_pinned, has_unpinned}
 use Rattle.lock_free.proofs.PinnedFor.{asks_kept}
 use Rattle.lock_free.proofs.Assembling.{here}
@@ -35,9 +37,11 @@ use Rattle.lock_free.specs.Links.{link_in}
 use Rattle.lock_free.proofs.EpochStays.{epoch_in, pinned_still, stays_elsewhere}
 use Rattle.lock_free.proofs.Exchanged.{words_hit}
 use Rattle.lock_free.proofs.Idle.{empty_has}
-use Rattle.lock_free.proofs.Moments.{allowed_by, allowed_unpinned}
+use Rattle.lock_free.proofs.Moments.{allowed_by, ruled_unpinned}
+use Rattle.lock_free.proofs.OneGlance.Shadowed.{AllowsRuled, lifted}
 use Rattle.lock_free.proofs.OneStep.Idle.{idle_stays}
 use Rattle.lock_free.proofs.Pinning.{pin_kept}
+use Rattle.lock_free.proofs.PartingStay.{knows_pinning, knows_unpinned}
 
 -- the pin comes back from its word
 parts_back : (n epoch handle : ℕ) → n ≡ 1 + handle + 2 ^ 9 * epoch → handle < 2 ^ 9 → ((n - 1) / 2 ^ 9 ≡ epoch) × ((n - 1) % 2 ^ 9 ≡ handle) × (n ≢ 0)
@@ -63,6 +67,7 @@ module _ (v : View) (idle : IsIdle v) (s : Table.State Call View) (kept : IsKept
 
   pub unpins : Leaves None (unpinned v)
   unpins = pin_kept v.sizes s kept id v at (idle_there v s kept id at idle) None [] (λ k. omega arith) (λ p is. absurd (none-some p is))
+      (knows_unpinned kept.account.offered kept.account.offers kept.account.parted s.words v.actor v.pin v.offer v.pool.parted (kept.seats id v at).offering)
 
   -- who is pinned then has pinned itself while nothing ran there
   its_idle : (pin : Pinned) → pin.account ≡ kept.account → (p : Pinned) → Some pin ≡ Some p → HasPinnedIdle v.sizes kept.account v.actor p
@@ -75,18 +80,20 @@ module _ (v : View) (idle : IsIdle v) (s : Table.State Call View) (kept : IsKept
   pub asks : (pin : Pinned) (call : Call) → pin.account ≡ kept.account → Leaves (Some pin) (pinned_for v pin call)
   asks pin call its_account =
       let pinned = record v { pin = Some pin; entered = None; owed = [] } in
-      let first = pin_kept v.sizes s kept id v at (idle_there v s kept id at idle) (Some pin) [] (λ k. omega arith) (its_idle pin its_account) in
-      subst (λ views. IsKept v.sizes (record { words = set s.words (pin_word v.actor) (pin_code pin.pin); homes = s.homes; views = views })) (set-set s.views id pinned (pinned_for v pin call))
-      (asks_kept v.sizes (record { words = set s.words (pin_word v.actor) (pin_code pin.pin); homes = s.homes; views = set s.views id pinned }) first id pinned
-      (here v.sizes s kept id v at pinned refl refl) (Some call) v.epoch v.passed)
+      let first = pin_kept v.sizes s kept id v at (idle_there v s kept id at idle) (Some pin) [] (λ k. omega arith) (its_idle pin its_account)
+      (knows_pinning kept.account s.words v.actor pin v.offer v.pool.parted its_account kept.roots.parting
+      (knows_unpinned kept.account.offered kept.account.offers kept.account.parted s.words v.actor v.pin v.offer v.pool.parted (kept.seats id v at).offering)) in
+      subst (λ views. IsKept v.sizes (record { words = set s.words (pin_word v.actor) (pin_word_of (Some pin)); homes = s.homes; views = views })) (set-set s.views id pinned (pinned_for v pin call))
+      (asks_kept v.sizes (record { words = set s.words (pin_word v.actor) (pin_word_of (Some pin)); homes = s.homes; views = set s.views id pinned }) first id pinned
+      (here v.sizes s kept id v at pinned refl refl) (Some call) v.epoch v.passed (λ c. c))
 
 far : (m n : ℕ) → (m ≤ n) ⊎ (n < m)
 far m n = grind arith
 
 -- the epoch is known to be as late as its word says
-module _ (v : View) (pin : Pin) (fits : IsPin pin) (late : pin.epoch ≤ v.epoch) (call : Call) where
+module _ (v : View) (pin : Pin) (fits : IsPin pin) (late : pin.epoch ≤ v.epoch) (shown : Bool) (call : Call) where
   abbrev pub pinned_at : (s : Table.State Call View) → IsKept v.sizes s → Pinned
-  pinned_at s kept = record { pin = pin; since = epoch_in s.words; account = kept.account }
+  pinned_at s kept = record { pin = pin; since = epoch_in s.words; account = kept.account; shown = shown }
 
   abbrev pub pinning : (s : Table.State Call View) → IsKept v.sizes s → View
   pinning s kept = pinned_for v (pinned_at s kept) call
@@ -122,10 +129,16 @@ module _ (v : View) (pin : Pin) (fits : IsPin pin) (late : pin.epoch ≤ v.epoch
         | inl new ↦ subst (IsPinned words) (sym new) is_pinned
         | inr old ↦ pinned_still s.words words same p (h.pinned b.0 b.1 b.2 p old)
       ]);
-      passed = λ i j x w ei ej below p is. (let b = before i x ei in let c = before j w ej in
-          let its = b.4 in let its_passed = b.5 in let its_actor = c.3 in elim (c.6 p is) [
+      passed = λ i j x w ei ej fell below p is shown. (let b = before i x ei in let c = before j w ej in
+          let its = b.4 in let its_passed = ap (λ (k : Checked). k.seats) b.5 in let its_actor = c.3 in elim (c.6 p is) [
             | inl new ↦ (let seen = h.seen b.0 b.1 b.2 in subst (λ q. x.epoch ≤ q.since) (sym new) (omega (arith, seen, its)))
-            | inr old ↦ (let all = h.passed b.0 c.0 b.1 c.1 b.2 c.2 (omega (arith, below, its_passed, its_actor)) p old in omega (arith, all, its))
+            | inr old ↦ (let all = h.passed b.0 c.0 b.1 c.1 b.2 c.2 (ap (λ (k : Checked). k.cleared) (sym b.5) ∙ fell) (omega (arith, below, its_passed, its_actor)) p old shown in omega
+                (arith, all, its))
+          ]);
+      cleared = λ i j x w ei ej all p is hidden. (let b = before i x ei in let c = before j w ej in
+          let its = b.4 in elim (c.6 p is) [
+            | inl new ↦ (let seen = h.seen b.0 b.1 b.2 in subst (λ q. x.epoch ≤ q.since) (sym new) (omega (arith, seen, its)))
+            | inr old ↦ (let low = h.cleared b.0 c.0 b.1 c.1 b.2 c.2 (ap (λ (k : Checked). k.cleared) (sym b.5) ∙ all) p old hidden in omega (arith, low, its))
           ]);
     }
 
@@ -182,42 +195,48 @@ module _ (v : View) (pin : Pin) (fits : IsPin pin) (late : pin.epoch ≤ v.epoch
 
 -- its word says that it isn't pinned
 pub pin_allowed : (sizes : Sizes) (size id : ℕ) (me : Me Call View) (some_seats : 1 ≤ me.0.sizes.seats) (pin : Pin) (call : Call) → IsPin pin → pin.epoch ≤ me.0.epoch → IsIdle me.0 → me.0.pin ≡ None →
-    Allows (IsRuled sizes) size id me (pin_word me.0.actor) (λ n. either (n == 0) (pin_code pin) n) (has_pinned (step size (pin_word me.0.actor) 0 (pin_code pin) (some call)) me)
+    Allows (IsShadowed sizes) size id me (pin_word me.0.actor) (λ n. either (n == 0) (pin_code pin) n) (has_pinned (step size (pin_word me.0.actor) 0 (pin_code pin) (some call)) me)
 pin_allowed sizes size id me some_seats pin call fits late idle free =
     allowed_by sizes size id me (pin_word me.0.actor) (λ n. either (n == 0) (pin_code pin) n) (has_pinned (step size (pin_word me.0.actor) 0 (pin_code pin) (some call)) me)
     some_seats
     (λ s kept epochs retired owed linked at. (
-      pinning me.0 pin fits late call s kept,
-      subst (λ ws. IsKept me.0.sizes (record { words = ws; homes = s.homes; views = set s.views id (pinning me.0 pin fits late call s kept) }))
+      pinning me.0 pin fits late true call s kept,
+      (inl (λ e. omega (arith, e)), refl, λ shown p is. ap (λ (q : Pinned). q.shown) (sym (same_Some (pinned_at me.0 pin fits late true call s kept) p is))),
+      subst (λ ws. IsKept me.0.sizes (record { words = ws; homes = s.homes; views = set s.views id (pinning me.0 pin fits late true call s kept) }))
           (words_hit me.0 s kept id at (pin_word me.0.actor) 0 (pin_code pin) ((kept.seats id me.0 at).pinned ∙ ap pin_word_of free) (pin_word me.0.actor) refl)
-          (asks me.0 idle s kept id at (pinned_at me.0 pin fits late call s kept) call refl),
-      epochs_pinned me.0 pin fits late call s kept id at epochs
+          (asks me.0 idle s kept id at (pinned_at me.0 pin fits late true call s kept) call refl),
+      epochs_pinned me.0 pin fits late true call s kept id at epochs
           (set s.words (pin_word me.0.actor) (either (slice_index s.words (pin_word me.0.actor) == 0) (pin_code pin) (slice_index s.words (pin_word me.0.actor))))
           (stays_elsewhere s.words (pin_word me.0.actor) (λ n. either (n == 0) (pin_code pin) n) (inl (λ e. omega (arith, e)))),
-      retired_pinned me.0 pin fits late call s kept id at epochs
+      retired_pinned me.0 pin fits late true call s kept id at epochs
           (set s.words (pin_word me.0.actor) (either (slice_index s.words (pin_word me.0.actor) == 0) (pin_code pin) (slice_index s.words (pin_word me.0.actor))))
           (stays_elsewhere s.words (pin_word me.0.actor) (λ n. either (n == 0) (pin_code pin) n) (inl (λ e. omega (arith, e)))) retired,
-      owed_then s.views id me.0 at (pinning me.0 pin fits late call s kept) (λ k c. absurd (empty_has k c)) (λ x c. c) owed,
-      linked_then s.views id me.0 at (pinning me.0 pin fits late call s kept) refl (λ x c. c) me.0.sizes s.words
+      owed_then s.views id me.0 at (pinning me.0 pin fits late true call s kept) (λ k c. absurd (empty_has k c)) (λ x c. c) owed,
+      linked_then s.views id me.0 at (pinning me.0 pin fits late true call s kept) refl (λ x c. c) me.0.sizes s.words
           (set s.words (pin_word me.0.actor) (either (slice_index s.words (pin_word me.0.actor) == 0) (pin_code pin) (slice_index s.words (pin_word me.0.actor))))
           (λ c is. ap link_in (count_same me.0.sizes (pin_word me.0.actor) (λ n. either (n == 0) (pin_code pin) n) s.words
           (inl (pin_apart me.0.sizes me.0.actor (let seat = kept.seats id me.0 at in omega (arith, seat.top, seat.most)))) c is)) linked,
       refl,
       λ other said back is. (
-        pinned_at me.0 pin fits late call s kept,
+        pinned_at me.0 pin fits late true call s kept,
         same_Some pin other (sym (pin_back pin fits) ∙ back),
-        ap (λ c. (pinned_for me.0 (pinned_at me.0 pin fits late call s kept) c, me.1)) (some-injective call said is),
+        ap (λ c. (pinned_for me.0 (pinned_at me.0 pin fits late true call s kept) c, me.1)) (some-injective call said is),
       ),
     ))
 
-pub unpin_allowed : (sizes : Sizes) (size id : ℕ) (me : Me Call View) (some_seats : 1 ≤ me.0.sizes.seats) → IsIdle me.0 →
-    Allows (IsRuled sizes) size id me (pin_word me.0.actor) (λ n. 0) (λ n. has_unpinned (step size (pin_word me.0.actor) 0 0 none) me 0)
-unpin_allowed sizes size id me some_seats idle =
-    allowed_unpinned sizes size id me (pin_word me.0.actor) (λ n. 0) (λ n. has_unpinned (step size (pin_word me.0.actor) 0 0 none) me 0)
+pub unpin_ruled : (sizes : Sizes) (size id : ℕ) (me : Me Call View) (some_seats : 1 ≤ me.0.sizes.seats) → IsIdle me.0 →
+    AllowsRuled sizes size id me (pin_word me.0.actor) (λ n. 0) (λ n. has_unpinned (step size (pin_word me.0.actor) 0 0 none) me 0)
+unpin_ruled sizes size id me some_seats idle =
+    ruled_unpinned sizes size id me (pin_word me.0.actor) (λ n. 0) (λ n. has_unpinned (step size (pin_word me.0.actor) 0 0 none) me 0)
     some_seats
     (λ s kept at. inl (pin_apart me.0.sizes me.0.actor (let seat = kept.seats id me.0 at in omega (arith, seat.top, seat.most))))
     (λ s kept at. (unpinned me.0, unpins me.0 idle s kept id at, refl))
     (λ s kept at. refl)
+
+pub unpin_allowed : (sizes : Sizes) (size id : ℕ) (me : Me Call View) (some_seats : 1 ≤ me.0.sizes.seats) → IsIdle me.0 →
+    Allows (IsShadowed sizes) size id me (pin_word me.0.actor) (λ n. 0) (λ n. has_unpinned (step size (pin_word me.0.actor) 0 0 none) me 0)
+unpin_allowed sizes size id me some_seats idle =
+    lifted sizes size id me (pin_word me.0.actor) (λ n. 0) (λ n. has_unpinned (step size (pin_word me.0.actor) 0 0 none) me 0) some_seats (unpin_ruled sizes size id me some_seats idle)
 
 -- what is sound stays so
 pub pin_sound : (words : ℕ) (v : View) (pin : Pinned) (call : Call) → IsSound words v → IsSound words (pinned_for v pin call)

@@ -7,7 +7,6 @@ use Rattle.lock_free.specs.Accounts.{state_of}
 use Rattle.lock_free.specs.Alone.{is_plain, HasSeenPlainWord, IsAlone, LoneMoment}
 use Rattle.lock_free.specs.Loading.{now}
 use Rattle.lock_free.specs.Places.{root_word}
-use Rattle.lock_free.specs.Seated.{IsResting}
 use Rattle.lock_free.specs.SeatWords.{IsIdle}
 use Rattle.lock_free.specs.Watching.{IsQuiet, KnowsPlain}
 use Rattle.lock_free.proofs.Pools.{first_there, more_there}
@@ -26,27 +25,6 @@ quiet_both u v w p q = record {
   places = λ r slot used. q.places r slot (p.slots _ ∙ used) ∙ p.places r slot used;
   led = λ r h. q.led r (p.led r h);
   was_led = λ r h. p.was_led r (q.was_led r h);
-}
-
-pub quiet_self : (v : View) → IsAlone v → IsIdle v → IsQuiet v v
-quiet_self v alone idle = record {
-  is = refl;
-  alone = alone;
-  idle = idle;
-  slots = λ k. refl;
-  roots = λ handle. refl;
-  begun = refl;
-  places = λ r slot used. refl;
-  led = λ r h. h;
-  was_led = λ r h. h;
-}
-
-pub quiet_rests : (u v : View) → IsQuiet u v → IsResting u → IsResting v
-quiet_rests u v q r = record {
-  idle = q.idle;
-  pin = ap (λ (x : View). x.pin) q.is ∙ r.pin;
-  entered = ap (λ (x : View). x.entered) q.is ∙ r.entered;
-  opens = ap (λ (x : View). x.opens) q.is ∙ r.opens;
 }
 
 -- ---- one handle more

@@ -18,9 +18,12 @@ use Rattle.lock_free.specs.Accounts.{state_of}
 use Rattle.lock_free.specs.Alone.{has_seen_plain, is_plain, HasSeenPlain, IsAlone}
 use Rattle.lock_free.specs.Loading.{IsSound}
 use Rattle.lock_free.specs.Places.{root_word, words_of}
-use Rattle.lock_free.specs.Rules.{IsKept, IsPlainSo, IsRuled, IsSeat, NamesOffer, WasGivenUp}
+use Rattle.lock_free.specs.Shadows.{IsShadowed}
+use Rattle.lock_free.specs.Rules.{IsKept, IsPlainSo, IsRuled, IsSeat, IsShown, NamesOffer, WasGivenUp}
 use Rattle.lock_free.specs.Seated.{IsResting}
+use Rattle.lock_free.proofs.OneGlance.Shadowed.{lifted}
 use Rattle.lock_free.proofs.Assembling.{all_stand, assembled, closing_stays, here, numbers_stay}
+use Rattle.lock_free.proofs.CellsStay.{cells_seen}
 use Rattle.lock_free.proofs.EpochStays.{epochs_stay, was_then}
 use Rattle.lock_free.proofs.Geometry.{root_apart}
 use Rattle.lock_free.proofs.GoneSeats.{heard_still}
@@ -77,22 +80,23 @@ module _ (v : View) (some_seats : 1 ≤ v.sizes.seats) (s : Table.State Call Vie
       once = seat.once;
       drafts = seat.drafts;
       plain = so;
+      offering = seat.offering;
     }
 
     kept_then : IsKept v.sizes (record { words = s.words; homes = s.homes; views = set s.views id (then known) })
     kept_then =
         assembled v.sizes s kept id v at (then known) refl refl kept.account kept.stands s.words (all_stand v.sizes s kept)
-        (λ g who below says. closing_stays v.sizes s kept id v at (then known) refl refl (λ h e. e) refl g who (kept.closings g who below says)) own_then
+        (λ g who below says. closing_stays v.sizes s kept id v at (then known) refl refl (λ h e. (e, refl)) refl (λ c. c) g who (kept.closings g who below says)) own_then
         (λ other w e apart. kept.seats other w e) (λ b n f. inl f)
         (numbers_stay v.sizes s kept id v at (then known) refl refl kept.account s.words (no_tries kept.account.offers (state_of v.sizes kept.account)) (λ slot none. none) (λ g below. refl) refl
-        (λ slot g e free. free)) (held_views v.sizes s kept id v at (then known) refl refl refl)
+        (λ slot g e free. free)) (held_views v.sizes s kept id v at (then known) refl refl refl) (cells_seen v.sizes s kept id v at (then known) (λ b n f. f))
 
     pub ruled_then : IsRuled v.sizes (record { words = s.words; homes = s.homes; views = set s.views id (then known) })
     ruled_then = record {
       kept = kept_then;
       epochs =
           epochs_stay s.words s.words s.views (set s.views id (then known)) refl
-          (was_then s.views id v at (then known) (record { actor = refl; epoch = refl; passed = refl; pinned = λ p is. is })) ruled.epochs;
+          (was_then s.views id v at (then known) (record { actor = refl; epoch = refl; passed = refl; glance = refl; pinned = λ p is. is })) ruled.epochs;
       retired = retired_then s.views id v at (then known) refl (λ p is. is) v.sizes s.words s.words (omega arith) ruled.retired;
       owed = owed_same s.views id v at (then known) refl refl refl ruled.owed;
       linked = linked_then s.views id v at (then known) refl (λ x c. c) v.sizes s.words s.words (λ c is. refl) ruled.linked;
@@ -137,7 +141,8 @@ module _ (v : View) (some_seats : 1 ≤ v.sizes.seats) (s : Table.State Call Vie
   ]
 
   abbrev Then : View → Type 0
-  Then w = IsRuled v.sizes (record { words = s.words; homes = s.homes; views = set s.views id w }) × HasSeenPlain v handle (is_plain (root_of found)) found w × IsSound (words_of v.sizes) w
+  Then w = IsRuled v.sizes (record { words = s.words; homes = s.homes; views = set s.views id w }) × HasSeenPlain v handle (is_plain (root_of found)) found w
+      × IsSound (words_of v.sizes) w × (w.glance ≡ v.glance) × (IsShown v → IsShown w)
 
   pub sees : (w : View) × Then w
   sees = by (is_plain (root_of found)) refl
@@ -149,6 +154,8 @@ module _ (v : View) (some_seats : 1 ≤ v.sizes.seats) (s : Table.State Call Vie
           ruled_then v some_seats s ruled id at (now_so ∷ v.plain) (more_so e),
           (record { table = s; kept = ruled.kept; heard = ruled.heard id v at; id = id; at = at; finds = refl }, (λ yes. refl), λ no. absurd (true≢false (sym e ∙ no))),
           sound_then v some_seats s ruled id at (now_so ∷ v.plain) (more_so e),
+          refl,
+          λ shown. shown,
         ),
       )
       by false e = (
@@ -157,22 +164,27 @@ module _ (v : View) (some_seats : 1 ≤ v.sizes.seats) (s : Table.State Call Vie
           ruled_then v some_seats s ruled id at v.plain (λ d c. (ruled.kept.seats id v at).plain d c),
           (record { table = s; kept = ruled.kept; heard = ruled.heard id v at; id = id; at = at; finds = refl }, (λ yes. absurd (true≢false (sym yes ∙ e))), λ no. refl),
           sound_then v some_seats s ruled id at v.plain (λ d c. (ruled.kept.seats id v at).plain d c),
+          refl,
+          λ shown. shown,
         ),
       )
 
 pub plain_allowed : (sizes : Sizes) (size id : ℕ) (me : Me Call View) (some_seats : 1 ≤ me.0.sizes.seats) → IsAlone me.0 → IsResting me.0 → (handle : ℕ) → handle < handle_limit →
-    (word : ℕ) → word ≡ root_word handle → Allows (IsRuled sizes) size id me word (λ n. n) (has_seen_plain (step size word 0 0 none) me)
+    (word : ℕ) → word ≡ root_word handle → Allows (IsShadowed sizes) size id me word (λ n. n) (has_seen_plain (step size word 0 0 none) me)
 plain_allowed sizes size id me some_seats alone rests handle low word is =
-    subst (λ i. Allows (IsRuled sizes) size id me i (λ n. n) (has_seen_plain (step size i 0 0 none) me)) (sym is) allows
+    subst (λ i. Allows (IsShadowed sizes) size id me i (λ n. n) (has_seen_plain (step size i 0 0 none) me)) (sym is) allows
   where
-    allows : Allows (IsRuled sizes) size id me (root_word handle) (λ n. n) (has_seen_plain (step size (root_word handle) 0 0 none) me)
-    allows s ruled length_is at below =
-        let its = (ruled.kept.seats id me.0 at).same some_seats in
+    allows : Allows (IsShadowed sizes) size id me (root_word handle) (λ n. n) (has_seen_plain (step size (root_word handle) 0 0 none) me)
+    allows =
+        lifted sizes size id me (root_word handle) (λ n. n) (has_seen_plain (step size (root_word handle) 0 0 none) me) some_seats
+        (λ s ruled at.
+        (let its = (ruled.kept.seats id me.0 at).same some_seats in
         let own = subst (λ z. IsRuled z s) (sym its) ruled in
         let x = sees me.0 some_seats s own id at alone rests handle low in
         let same = sym (set-get_or s.words (root_word handle) 0) in (
           x.0,
           keeps,
+          (inr refl, x.1.3, x.1.4),
           tt,
           subst (λ ws. IsRuled sizes (record { words = ws; homes = s.homes; views = set s.views id x.0 })) same
               (subst (λ z. IsRuled z (record { words = s.words; homes = s.homes; views = set s.views id x.0 })) its x.1.0),
@@ -183,4 +195,4 @@ plain_allowed sizes size id me some_seats alone rests handle low word is =
             x.1.2,
             refl,
           ),
-        )
+        )))

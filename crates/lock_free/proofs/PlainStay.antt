@@ -28,7 +28,7 @@ names_none w fits not_offered not_opening slot (inr h) = not_opening (same_kind 
 module _ (sizes : Sizes) (account after : Account) (bounds : AreBounds (bounds_for sizes account.steps)) (more : List Step) (goes_on : after.steps ≡ account.steps ++ more) where
   begun_then : (state_of sizes account).begun ≤ (state_of sizes after).begun
   begun_then =
-      let last : Account = record { steps = account.steps ++ more; names = account.names; owned = []; offers = [] } in
+      let last : Account = record { steps = account.steps ++ more; names = account.names; owned = []; offered = []; offers = []; parted = [] } in
       subst (λ xs. (state_of sizes account).begun ≤ (run (bounds_for sizes xs) xs).begun) (sym goes_on)
       (begun_grown sizes account last (bounds_more sizes account.steps more bounds) (record { steps = more; goes_on = refl; names = []; more_names = sym (append-nil account.names) }))
 

@@ -1,5 +1,5 @@
 -- The slots that are free for a seat.
-use Rattle.std.proofs.Common.{◌≡◌, ◌≢◌, ◌⊎◌, ℕ, zero, suc, ◌<◌, inl, inr, List, [], ◌∷◌, ◌++◌, Contains, get_or, map, refl, sym, ap, ◌∙◌, subst, arith}
+use Rattle.std.proofs.Common.{◌≡◌, ◌≢◌, ◌⊎◌, ℕ, zero, suc, ◌<◌, inl, inr, List, [], ◌∷◌, ◌++◌, Contains, get_or, map, refl, sym, ap, ◌∙◌, subst, arith, Bool, true, false, ◌==◌, if◌then◌else◌}
 use Rattle.std.proofs.Math.ListN.{get_or-map}
 use Rattle.std.proofs.lemmas.Bool.{cases_eq}
 use Rattle.std.proofs.lemmas.List.{length-map}
@@ -82,6 +82,16 @@ pool_else pool (suc (suc zero)) (suc (suc zero)) rest low small differs = absurd
 pool_else pool (suc (suc (suc class))) b rest low small differs = absurd (omega (arith, low))
 pool_else pool class (suc (suc (suc b))) rest low small differs = absurd (omega (arith, small))
 
+-- what was parted is so still
+parted_by : (small medium : Bool) (pool : Pool) (rest : List ℕ) →
+    (if small then record pool { small = rest } else (if medium then record pool { medium = rest } else record pool { wide = rest })).parted ≡ pool.parted
+parted_by true medium pool rest = refl
+parted_by false true pool rest = refl
+parted_by false false pool rest = refl
+
+pub parted_same : (pool : Pool) (class : ℕ) (rest : List ℕ) → (with_slots pool class rest).parted ≡ pool.parted
+parted_same pool class rest = parted_by (class == 0) (class == 1) pool rest
+
 -- with one more slot in one class
 module _ (pool : Pool) (class name : ℕ) (small : class < 3) where
   pub free_still : (b other : ℕ) → b < 3 → Contains (pool_of pool b) other → Contains (pool_of (with_slot pool class name) b) other
@@ -90,6 +100,9 @@ module _ (pool : Pool) (class name : ℕ) (small : class < 3) where
         (Contains-append_left (pool_of pool class) (name ∷ []) other (subst (λ n. Contains (pool_of pool n) other) same c))
     | inr differs ↦ subst (λ xs. Contains xs other) (sym (pool_else pool class b (pool_of pool class ++ name ∷ []) small low differs)) c
   ]
+
+  pub now_free : Contains (pool_of (with_slot pool class name) class) name
+  now_free = subst (λ xs. Contains xs name) (sym (pool_same pool class (pool_of pool class ++ name ∷ []) small)) (Contains-push (pool_of pool class) name)
 
   pub was_free : (b other : ℕ) → b < 3 → Contains (pool_of (with_slot pool class name) b) other → Contains (pool_of pool b) other ⊎ ((b ≡ class) × (name ≡ other))
   was_free b other low c = elim (cases_eq b class) [

@@ -18,7 +18,11 @@ use Rattle.machine_model.specs.Beneath.slot_arena.specs.Heaps.{no_ref, main_at, 
 use Rattle.machine_model.specs.Beneath.slot_arena.specs.Refs.{slot_of}
 use Rattle.machine_model.specs.declared.actions.Action.{Action}
 use Rattle.machine_model.specs.declared.actions.Action.TheVariants as act
+use Rattle.machine_model.specs.declared.lines.Line.TheVariants as line
+use Rattle.machine_model.specs.declared.lines.Purpose.{Purpose}
 use Rattle.machine_model.specs.declared.operations.Operation.{Operation}
+use Rattle.machine_model.specs.declared.reading.Swap.{Swap}
+use Rattle.machine_model.specs.declared.reading.SwapLine.TheVariants as swap
 use Rattle.machine_model.specs.declared.steps.Step.TheVariants as machine
 use Rattle.machine_model.specs.Acting.{operation_after}
 use Rattle.machine_model.specs.States.{State}
@@ -27,16 +31,19 @@ use Rattle.lock_free.specs.declared.accounts.Account.{Account}
 use Rattle.lock_free.specs.declared.rules.View.{View}
 use Rattle.lock_free.specs.declared.sizes.Sizes.{Sizes}
 use Rattle.lock_free.specs.Accounts.{state_of, place_of, running, gone_on}
-use Rattle.lock_free.specs.Exchanging.{IsLinkTo, IsAtPublish, given_up, HasSwapped, HasPublished, has_published}
+use Rattle.lock_free.specs.Exchanging.{IsLinkTo}
+use Rattle.lock_free.specs.SwappingIn.{IsAtPublish, HasSwapped, HasPublished, has_published}
+use Rattle.lock_free.specs.GivingUp.{given_up, HasDropped}
 use Rattle.lock_free.specs.Loading.{Moment, now, seen, IsAt, Took}
 use Rattle.lock_free.specs.Publishing.{swapped_in, Publishes}
-use Rattle.lock_free.specs.LettingGo.{HoldsGivenUp}
-use Rattle.lock_free.specs.Rules.{AreOwed, AreRetired, IsKept, IsRuled}
+use Rattle.lock_free.specs.Shadows.{IsShadowed}
+use Rattle.lock_free.specs.Rules.{AreOwed, AreRetired, IsKept}
 use Rattle.lock_free.specs.Steps.{Leads}
 use Rattle.lock_free.proofs.Asked.{links_of, mains_of, is_one_of, publishes_or_not}
 use Rattle.lock_free.proofs.Assembling.{all_stand}
 use Rattle.lock_free.proofs.Exchanged.{LeavesAt, words_hit, words_miss, sound_by}
-use Rattle.lock_free.proofs.Abandoned.{abandon_kept, abandon_sound, owed_abandoned}
+use Rattle.lock_free.proofs.FirstLines.{first_line, IsFirst}
+use Rattle.lock_free.proofs.Dropped.{dropped, dropped_kept, dropped_sound, has_dropped, owed_dropped}
 use Rattle.lock_free.proofs.LinkWords.{i_there, generation_now, hit, miss}
 use Rattle.lock_free.proofs.Looking.{main_there, o_there, acts_there, same_action}
 use Rattle.lock_free.proofs.Moments.{IsThere, allowed_giving, took_by, waited_so, its_place, node_apart}
@@ -51,7 +58,6 @@ use Rattle.proof_claims.specs.Held.{held_after, takes}
 use Rattle.lock_free.specs.Claims.{HoldsAll}
 use Rattle.lock_free.specs.Owing.{next_change, owes_then, owing}
 use Rattle.lock_free.proofs.ClaimsThere.{often_has}
-use Rattle.lock_free.proofs.HoldsGifts.{holds_given_up}
 use Rattle.lock_free.proofs.OwedStay.{owed_then}
 use Rattle.lock_free.proofs.EpochStays.{rest_beside}
 use Rattle.lock_free.proofs.PublishedKept.{published_had}
@@ -184,9 +190,6 @@ module _ (v : View) (i replaced made : Ref) (p : IsAt v (act.Publish i replaced 
 
     -- ---- all that was made for it is given up
 
-    abbrev dropped : View
-    dropped = given_up v there p.operation.private
-
     acts : action_of state o ≡ act.Publish i replaced made
     acts = acts_there v word found m does p
 
@@ -204,26 +207,41 @@ module _ (v : View) (i replaced made : Ref) (p : IsAt v (act.Publish i replaced 
     none_left : (operation_after state o).private ≡ []
     none_left = ap (private_after state o.private) acts
 
-    module _ (leads : Leads v.sizes there (gone_on v.actor there) v.actor (is_one_of o.private) (operation_after state o)) where
-      drops : found ≢ old → Left dropped
-      drops differs = (
-        subst (λ ws. IsKept v.sizes (record { words = ws; homes = s.homes; views = set s.views id dropped })) (words_miss v s kept id at word old new differs)
-            (abandon_kept v s kept id at o (operation_after state o) runs (machine.Go v.actor) tt (λ a d e. d (sym e)) leads refl refl none_left (gives_up differs) (misses_so differs)),
+    -- it is at its SWAP's first step
+    at_first : (why : Purpose) (w : Swap) → p.operation.line ≡ line.Swap why w → w.line ≡ swap.Publish
+    at_first = first_line (now v) p.operation (subst IsFirst (sym p.acts) tt)
+
+    module _ (leads : Leads v.sizes there (gone_on v.actor there) v.actor (is_one_of o.private) (operation_after state o)) (differs : found ≢ old) where
+      abbrev mark : Bool
+      mark = (o_there v word found m does p).0
+
+      abbrev next : Operation
+      next = operation_after state o
+
+      abbrev left : View
+      left = dropped v s kept id at p.operation next mark runs (machine.Go v.actor) tt (λ a d e. d (sym e)) leads refl refl none_left (gives_up differs) (misses_so differs) at_first
+
+      drops : Left left
+      drops = (
+        subst (λ ws. IsKept v.sizes (record { words = ws; homes = s.homes; views = set s.views id left })) (words_miss v s kept id at word old new differs)
+            (dropped_kept v s kept id at p.operation next mark runs (machine.Go v.actor) tt (λ a d e. d (sym e)) leads refl refl none_left (gives_up differs) (misses_so differs) at_first),
         (
-          abandon_sound v s kept id at o (operation_after state o) runs (machine.Go v.actor) tt (λ a d e. d (sym e)) leads refl refl none_left (gives_up differs) (misses_so differs),
+          dropped_sound v s kept id at p.operation next mark runs (machine.Go v.actor) tt (λ a d e. d (sym e)) leads refl refl none_left (gives_up differs) (misses_so differs) at_first,
           λ q runs_q. leads.own ∙ ap (λ x. Some (operation_after state x)) (same_Some o q (sym runs ∙ runs_q)),
         ),
       )
 
-      owed_dropped : found ≢ old → AreRetired v.sizes s.words s.views → AreOwed s.views → AreOwed (set s.views id dropped)
-      owed_dropped differs =
-          owed_abandoned v s kept id at o (operation_after state o) runs (machine.Go v.actor) tt (λ a d e. d (sym e)) leads refl refl none_left (gives_up differs) (misses_so differs)
+      owed_left : AreRetired v.sizes s.words s.views → AreOwed s.views → AreOwed (set s.views id left)
+      owed_left = owed_dropped v s kept id at p.operation next mark runs (machine.Go v.actor) tt (λ a d e. d (sym e)) leads refl refl none_left (gives_up differs) (misses_so differs) at_first
+
+      all_dropped : HasDropped (seen v there) p.operation.private p.operation.line left
+      all_dropped = has_dropped v s kept id at p.operation next mark runs (machine.Go v.actor) tt (λ a d e. d (sym e)) leads refl refl none_left (gives_up differs) (misses_so differs) at_first
 
     -- ---- either
 
     abbrev Either : Type 0
     Either = (after : View) × Left after × ((main_at state.heap i == replaced) ≡ (found == old)) × ((found == old) ≡ true → after ≡ swapped)
-        × ((found == old) ≡ false → (after ≡ dropped) × HoldsGivenUp v p.operation after.owed)
+        × ((found == old) ≡ false → (after ≡ given_up v there p.operation.private after.drafts) × HasDropped (seen v there) p.operation.private p.operation.line after)
         × (rest_beside after ≡ rest_beside v) × (AreRetired v.sizes s.words s.views → AreOwed s.views → AreOwed (set s.views id after))
 
     pub leaves : Either
@@ -241,13 +259,13 @@ module _ (v : View) (i replaced made : Ref) (p : IsAt v (act.Publish i replaced 
           ))
       | inr x ↦
           (let d = found_other x.1 in (
-            dropped,
+            left x.0 d,
             drops x.0 d,
             ne_eqb (main_at state.heap i) replaced x.1 ∙ sym (ne_eqb found old d),
             λ h. absurd (true≢false (sym h ∙ ne_eqb found old d)),
-            λ h. (refl, holds_given_up v s kept id at p.operation p.runs),
+            λ h. (refl, all_dropped x.0 d),
             refl,
-            owed_dropped x.0 d,
+            owed_left x.0 d,
           ))
     ]
 
@@ -258,7 +276,7 @@ published_in action = (no_ref, (no_ref, no_ref))
 
 swapped_so : (before : View) (account : Account) (stood : Bool) (after : View) (i replaced made : Ref) (p : IsAt before (act.Publish i replaced made)) →
     (main_at (now (seen before account)).heap i == replaced) ≡ stood → (stood ≡ true → after ≡ owing (seen before (swapped_in before.actor i made account)) (owes_then before account)) →
-    (stood ≡ false → (after ≡ given_up before account p.operation.private) × HoldsGivenUp before p.operation after.owed) →
+    (stood ≡ false → (after ≡ given_up before account p.operation.private after.drafts) × HasDropped (seen before account) p.operation.private p.operation.line after) →
     HasSwapped before account stood after
 swapped_so before account stood after i replaced made p first hit_is miss_is j other g q =
     let same = ap published_in (same_action before (act.Publish i replaced made) (act.Publish j other g) p q) in (
@@ -266,13 +284,13 @@ swapped_so before account stood after i replaced made p first hit_is miss_is j o
       λ h. subst (λ (x : Ref × (Ref × Ref)). after ≡ owing (seen before (swapped_in before.actor x.0 x.1.1 account)) (owes_then before account)) same (hit_is h),
       λ h.
           (let one = same_Some p.operation q.operation (sym p.runs ∙ q.runs) in (
-            (miss_is h).0 ∙ ap (λ (x : Operation). given_up before account x.private) one,
-            subst (λ (x : Operation). HoldsGivenUp before x after.owed) one (miss_is h).1,
+            (miss_is h).0 ∙ ap (λ (x : Operation). given_up before account x.private after.drafts) one,
+            subst (λ (x : Operation). HasDropped (seen before account) x.private x.line after) one (miss_is h).1,
           )),
     )
 
 abbrev pub AllowsPublish : Sizes → ℕ → ℕ → Me Call View → ℕ → ℕ → ℕ → Type 0
-AllowsPublish sizes size id me word old new = Allows (IsRuled sizes) size id me word (λ n. either (n == old) new n) (has_published (step size word old new none) me)
+AllowsPublish sizes size id me word old new = Allows (IsShadowed sizes) size id me word (λ n. either (n == old) new n) (has_published (step size word old new none) me)
 
 pub publish_by : (sizes : Sizes) (size id : ℕ) (me : Me Call View) (word old new x y : ℕ) → x ≡ old → y ≡ new → AllowsPublish sizes size id me word old new → AllowsPublish sizes size id me word x y
 publish_by sizes size id me at before after x y e f h = subst (λ n. AllowsPublish sizes size id me at n y) (sym e) (subst (λ n. AllowsPublish sizes size id me at before n) (sym f) h)

@@ -190,6 +190,8 @@ module _ (sizes : Sizes) (account : Account) (actor : ℕ) (operation : Operatio
         pending = roots.pending;
         tries = roots.tries;
         stood = λ k c. stood_still sizes account later (step.Go actor ∷ []) refl k.offer (roots.stood k c);
+        came = λ x c. stood_still sizes account later (step.Go actor ∷ []) refl x.known.offer (roots.came x c);
+        parting = roots.parting;
         marks = marks_kept account.offers (state_of sizes account) (state_of sizes later) (as_before publishes.tries) words_then words_then (λ k c. refl) roots.marks;
         fates = λ k c.
             fate_kept sizes account later (step.Go actor) refl k (fate words_then k) (λ e. words_same (state_of sizes account) (state_of sizes later) publishes.roots k.handle ∙ e) (roots.fates k c);

@@ -1,34 +1,22 @@
 -- A reference more to what an operation has at hand, and one less: what is known of its slot, and what hangs then.
-use Rattle.std.proofs.Common.{◌≡◌, ◌<◌, ℕ, true, List, refl, sym, ap, subst, ◌∙◌}
+use Rattle.std.proofs.Common.{◌≡◌, ℕ, true, List, refl, sym, ap, subst, ◌∙◌}
 use Rattle.machine_model.specs.Beneath.slot_arena.specs.declared.refs.Ref.{Ref}
-use Rattle.machine_model.specs.Beneath.slot_arena.specs.Refs.{slot_of}
 use Rattle.lock_free.specs.declared.counting.Raised.{Raised}
 use Rattle.lock_free.specs.declared.limbo.Limbo.{Limbo}
 use Rattle.lock_free.specs.declared.reclaiming.Kind.{Kind}
 use Rattle.lock_free.specs.declared.rules.View.{View}
 use Rattle.lock_free.specs.declared.sizes.Sizes.{Sizes}
-use Rattle.lock_free.specs.Accounts.{place_of}
 use Rattle.lock_free.specs.Counting.{HasAtHand, HasRaised, IsInSlot, lowering}
-use Rattle.lock_free.specs.Counts.{without_one}
-use Rattle.lock_free.specs.Limbos.{HasHung, IsLimbo, IsNewest, having_retired}
-use Rattle.lock_free.specs.Loading.{IsSound, now}
+use Rattle.lock_free.specs.Limbos.{IsLimbo, IsNewest, having_retired}
+use Rattle.lock_free.specs.Loading.{now}
 use Rattle.lock_free.specs.Nodes.{class_of}
 use Rattle.lock_free.specs.Owing.{owing}
-use Rattle.lock_free.specs.Places.{IsSlot}
-use Rattle.lock_free.specs.Raising.{HasKept, OwesOne}
+use Rattle.lock_free.specs.Raising.{OwesOne}
 use Rattle.lock_free.specs.Reclaiming.{HasRetiredIt}
-use Rattle.lock_free.proofs.Framing.{class_small}
 use Rattle.lock_free.proofs.GivenBack.{node_is}
 use Rattle.lock_free.proofs.LimboStays.{limbo_stays}
 
 -- ---- where it is
-
-pub in_class : (v : View) (k : Ref) (class name : ℕ) → IsInSlot v k class name → class < 3
-in_class v k class name h = subst (λ c. c < 3) h.class_is (class_small h.slot.node)
-
-pub in_slot : (words : ℕ) (v : View) → IsSound words v → (k : Ref) (class name : ℕ) → IsInSlot v k class name → IsSlot v.sizes class name
-in_slot words v sound k class name h =
-    subst (IsSlot v.sizes class) h.place (subst (λ c. IsSlot v.sizes c (place_of v.account k)) h.class_is (sound.inside (slot_of k) h.slot h.used))
 
 pub in_slot_owing : (v : View) (owed : List Ref) (k : Ref) (class name : ℕ) → IsInSlot v k class name → IsInSlot (owing v owed) k class name
 in_slot_owing v owed k class name h = record { slot = h.slot; used = h.used; class_is = h.class_is; place = h.place }
@@ -57,18 +45,6 @@ module _ (v : View) (k : Ref) (kind : Kind) (class name : ℕ) (owes : OwesOne v
 
   pub last_sizes : (sizes : Sizes) (w : View) → sizes ≡ v.sizes → HasRetiredIt v k true (lowering v k) w → sizes ≡ w.sizes
   last_sizes sizes w same retired = same ∙ sym (ap (λ (u : View). u.sizes) retired.is)
-
-  -- and hangs
-  pub last_kept : (w after : View) → HasRetiredIt v k true (lowering v k) w → HasHung w after → HasKept v (without_one k v.owed) after
-  last_kept w after retired hung =
-      let there = hung.is ∙ ap (λ (u : View). record u { epoch = after.epoch; passed = after.passed; links = after.links }) retired.is in
-      record {
-        is = there ∙ ap (λ xs. record v { epoch = after.epoch; passed = after.passed; retired = xs; owed = without_one k v.owed; links = after.links }) (sym (ap (λ (u : View). u.retired) there));
-      }
-
-  -- there are others
-  pub more_kept : (w : View) → w ≡ lowering v k → HasKept v (without_one k v.owed) w
-  more_kept w is = subst (HasKept v (without_one k v.owed)) (sym is) (record { is = refl })
 
   pub more_hangs : (limbo : Limbo) (w : View) → IsLimbo limbo v → w ≡ lowering v k → IsLimbo limbo w
   more_hangs limbo w h is = subst (IsLimbo limbo) (sym is) (limbo_stays limbo v (lowering v k) refl h)

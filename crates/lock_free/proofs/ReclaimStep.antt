@@ -1,6 +1,6 @@
 -- A slot whose time has come is free for the seat that has retired it.
 use Rattle.history.specs.declared.calls.Call.{Call}
-use Rattle.std.proofs.Common.{◌≡◌, ◌+◌, ◌≤◌, ℕ, false, [], Contains, set, slice_index, refl, sym, ap, subst, ◌∙◌, arith}
+use Rattle.std.proofs.Common.{◌≡◌, ◌+◌, ◌≤◌, ℕ, false, [], Contains, set, slice_index, refl, sym, ap, subst, ◌∙◌, arith, inr}
 use Rattle.std.proofs.lemmas.List.{set-get_or}
 use mathlib.Core.Option.{some, none}
 use lib.ListN.{get_elem?}
@@ -13,7 +13,8 @@ use Rattle.lock_free.specs.Loading.{IsSound}
 use Rattle.lock_free.specs.Links.{AreLinked, link_in}
 use Rattle.lock_free.specs.Places.{count_word, words_of}
 use Rattle.lock_free.specs.Reclaiming.{HasReclaimed, has_reclaimed, IsRipe, reclaiming}
-use Rattle.lock_free.specs.Rules.{AreEpochs, AreOwed, AreRetired, IsKept, IsRuled}
+use Rattle.lock_free.specs.Shadows.{IsShadowed}
+use Rattle.lock_free.specs.Rules.{AreEpochs, AreOwed, AreRetired, IsKept}
 use Rattle.lock_free.proofs.Assembling.{all_stand, here}
 use Rattle.lock_free.proofs.OwedStay.{owed_then}
 use Rattle.lock_free.proofs.EpochStays.{epoch_in, epochs_stay, was_then}
@@ -43,9 +44,11 @@ module _ (me : Me Call View) (sound : IsSound (words_of me.0.sizes) me.0) (x : R
       (all_stand v.sizes s kept) kept.seats (λ d none. absurd (empty_has d none))
       (held_reclaimed v.sizes s kept epochs owed id v at x c ripe shallow
       (λ live. not_live v.sizes s kept epochs old id v at x c ripe ((kept.seats id v at).retired x c).was.node live ((kept.seats id v at).retired x c).was.number))
+      (λ k n cell. refl) (λ k n low was. was)
 
   pub epochs_then : AreEpochs s.words (set s.views id then)
-  epochs_then = epochs_stay s.words s.words s.views (set s.views id then) refl (was_then s.views id v at then (record { actor = refl; epoch = refl; passed = refl; pinned = λ p is. is })) epochs
+  epochs_then = epochs_stay s.words s.words s.views (set s.views id then) refl (was_then s.views id v at then
+      (record { actor = refl; epoch = refl; passed = refl; glance = refl; pinned = λ p is. is })) epochs
 
   pub retired_then : AreRetired v.sizes s.words (set s.views id then)
   retired_then = reclaim_retired v.sizes s kept epochs old id v at x c ripe v.account [] [] s.words refl
@@ -77,15 +80,17 @@ module _ (me : Me Call View) (sound : IsSound (words_of me.0.sizes) me.0) (x : R
       )
 
 pub reclaim_allowed : (sizes : Sizes) (size id : ℕ) (me : Me Call View) (some_seats : 1 ≤ me.0.sizes.seats) → IsSound (words_of me.0.sizes) me.0 → (x : Retired) → Contains me.0.retired x →
-    x.stamp + 3 ≤ me.0.epoch → x.deep ≡ false → (word : ℕ) → count_word me.0.sizes x.class x.name ≡ word → Allows (IsRuled sizes) size id me word (λ n. n) (has_reclaimed (step size word 0 0 none) me)
+    x.stamp + 3 ≤ me.0.epoch → x.deep ≡ false → (word : ℕ) → count_word me.0.sizes x.class x.name ≡ word → Allows (IsShadowed sizes) size id me word (λ n. n) (has_reclaimed
+    (step size word 0 0 none) me)
 reclaim_allowed sizes size id me some_seats sound x c late shallow word its =
-    subst (λ i. Allows (IsRuled sizes) size id me i (λ n. n) (has_reclaimed (step size i 0 0 none) me)) its
+    subst (λ i. Allows (IsShadowed sizes) size id me i (λ n. n) (has_reclaimed (step size i 0 0 none) me)) its
     (allowed_by sizes size id me here (λ n. n) (has_reclaimed (step size here 0 0 none) me)
     some_seats
     (λ s kept epochs old owed linked at. (
     let w = then me sound x c late shallow s kept epochs old owed id at in
     let same = sym (set-get_or s.words here 0) in (
       w,
+      (inr refl, refl, λ shown. shown),
       subst (λ ws. IsKept me.0.sizes (record { words = ws; homes = s.homes; views = set s.views id w })) same (kept_then me sound x c late shallow s kept epochs old owed id at),
       subst (λ ws. AreEpochs ws (set s.views id w)) same (epochs_then me sound x c late shallow s kept epochs old owed id at),
       subst (λ ws. AreRetired me.0.sizes ws (set s.views id w)) same (retired_then me sound x c late shallow s kept epochs old owed id at),

@@ -211,7 +211,7 @@ module _ (sizes : Sizes) (s : Table.State Call View) (kept : IsKept sizes s) (ep
   -- it came to be one after it was garbage
   later_root : (h : WasRoot sizes kept.account is.was.node) (rest : List Step) → h.steps ≡ gone ++ rest → ⊥
   later_root h rest e =
-      let then : Account = record { steps = h.steps; names = x.account.names; owned = []; offers = [] } in
+      let then : Account = record { steps = h.steps; names = x.account.names; owned = []; offered = []; offers = []; parted = [] } in
       let grown : HasGrown x.account then = record { steps = rest; goes_on = e; names = []; more_names = sym (append-nil x.account.names) } in
       let ok = bounds_less sizes h.steps h.more (subst (λ l. AreBounds (bounds_for sizes l)) h.goes_on kept.bounds) in
       no_root sizes then ok x is.was grown h.handle h.access h.was
@@ -223,7 +223,7 @@ module _ (sizes : Sizes) (s : Table.State Call View) (kept : IsKept sizes s) (ep
   never_found : MayBeFound sizes kept.account is.was.node → ⊥
   never_found h = elim (which h.root) [
     | inl p ↦
-        (let first : Account = record { steps = h.root.steps; names = x.account.names; owned = []; offers = [] } in
+        (let first : Account = record { steps = h.root.steps; names = x.account.names; owned = []; offered = []; offers = []; parted = [] } in
         let grown : HasGrown first x.account = record { steps = p.0; goes_on = p.1; names = []; more_names = sym (append-nil x.account.names) } in
         let more = begun_grown sizes first x.account (first_bounds sizes x.account kept.account kept.bounds is.grown) grown in
         let since = all_ended h.actor h.operation h.runs in

@@ -1,7 +1,7 @@
 -- A retired slot on whose node nobody is any more is free for its seat: the rule is kept.
 use Rattle.history.specs.declared.calls.Call.{Call}
-use Rattle.std.proofs.Common.{◌≡◌, ◌≢◌, ◌⊎◌, ◌==◌, ◌+◌, ◌*◌, ◌++◌, ◌<◌, ◌≤◌, inl, inr, ℕ, Bool, true, false, not, List, Contains, get_or, length, map, set, slice_index, if◌then◌else◌, Some, None}
-use Rattle.std.proofs.Common.{refl, sym, ap, subst, ◌∙◌, eq-eqb, ne_eqb}
+use Rattle.std.proofs.Common.{◌≡◌, ◌≢◌, ◌⊎◌, ◌==◌, ◌+◌, ◌*◌, ◌++◌, ◌∷◌, [], ◌<◌, ◌≤◌, inl, inr, ℕ, Bool, true, false, not, List, Contains, get_or, length, map, set, slice_index, if◌then◌else◌}
+use Rattle.std.proofs.Common.{Some, None, refl, sym, ap, subst, ◌∙◌, eq-eqb, ne_eqb}
 use Rattle.std.proofs.lemmas.List.Elements.{Contains-append_cases, Contains-push}
 use Rattle.std.proofs.lemmas.Bool.{true≢false}
 use mathlib.Core.Option.{some}
@@ -21,18 +21,21 @@ use Rattle.lock_free.specs.Holdings.{AreHeld}
 use Rattle.lock_free.specs.Nodes.{class_of}
 use Rattle.lock_free.specs.Links.{AreLinked, IsLinked}
 use Rattle.lock_free.specs.Making.{with_slot}
-use Rattle.lock_free.specs.Places.{count_word, root_word, words_in, IsSlot, IsTaken}
+use Rattle.lock_free.specs.Cells.{IsCell}
+use Rattle.lock_free.specs.Places.{cell_word, count_word, root_word, words_in, IsSlot, IsTaken}
 use Rattle.lock_free.specs.Reclaiming.{reclaiming, without}
 use Rattle.lock_free.specs.Rules.{AreDrafts, AreEpochs, AreRetired, IsFree, IsKept, IsSeat, IsSpare, NodesStand, Once, SaysClosing, Standing, Stands, pool_of}
 use Rattle.lock_free.proofs.Assembling.{AllStand, assembled, closing_stays, numbers_stay}
+use Rattle.lock_free.proofs.CellsStay.{cells_stay}
 use Rattle.lock_free.proofs.CountWords.{one_class}
 use Rattle.lock_free.proofs.Drafts.{left, others_left}
 use Rattle.lock_free.proofs.EpochStays.{epoch_in}
 use Rattle.lock_free.proofs.Meanings.{no_tries}
-use Rattle.lock_free.proofs.Pools.{free_still, once_with, pool_same, was_free}
+use Rattle.lock_free.proofs.Pools.{free_still, once_with, pool_same, was_free, parted_same}
 use Rattle.lock_free.proofs.Reclaimable.{not_found, not_live}
 use Rattle.lock_free.proofs.RetiredSlots.{it_stands, place_still, retired_slot, retired_small, stands_still}
 use Rattle.lock_free.proofs.Hanging.{once_left}
+use Rattle.lock_free.specs.Parting.{KnowsOffers}
 
 gone_by : (gone stood : Bool) → (if gone then false else stood) ≡ true → (gone ≡ false) × (stood ≡ true)
 gone_by true stood e = absurd (true≢false (sym e))
@@ -175,6 +178,7 @@ module _ (sizes : Sizes) (s : Table.State Call View) (kept : IsKept sizes s) (ep
           once = h.once;
           drafts = h.drafts;
           plain = h.plain;
+          offering = h.offering;
         }
 
     none_there : Contains (pool_of v.pool x.class) x.name → ⊥
@@ -213,6 +217,8 @@ module _ (sizes : Sizes) (s : Table.State Call View) (kept : IsKept sizes s) (ep
       once = once_with v.pool x.class x.name small seat.once none_there;
       drafts = drafts_then;
       plain = seat.plain;
+      offering = subst (λ xs. KnowsOffers kept.account.offered kept.account.offers kept.account.parted words v.actor v.pin v.offer xs)
+          (sym (parted_same v.pool x.class (pool_of v.pool x.class ++ x.name ∷ []))) seat.offering;
     }
 
     not_others : (b name : ℕ) → IsFree view_then b name → IsFree v b name ⊎ ((other : ℕ) (w : View) (c : ℕ) → get_elem? s.views other ≡ some w → (other ≡ id → ⊥) → IsFree w c name → ⊥)
@@ -223,14 +229,21 @@ module _ (sizes : Sizes) (s : Table.State Call View) (kept : IsKept sizes s) (ep
 
     -- ---- the rule holds
 
-    pub reclaim_kept : AreHeld sizes kept.account stands_then words (set s.views id view_then) → IsKept sizes (record { words = words; homes = s.homes; views = set s.views id view_then })
-    reclaim_kept held =
+    pub reclaim_kept : AreHeld sizes kept.account stands_then words (set s.views id view_then) →
+        ((c n : ℕ) → IsCell c n → slice_index words (cell_word sizes c n) ≡ slice_index s.words (cell_word sizes c n)) →
+        ((c n : ℕ) → c < 3 → IsTaken sizes s.words c n → IsTaken sizes words c n) → IsKept sizes (record { words = words; homes = s.homes; views = set s.views id view_then })
+    reclaim_kept held cells_same taken =
         assembled sizes s kept id v at view_then refl refl kept.account stands_then words all_then
-        (λ handle who low says_so. closing_stays sizes s kept id v at view_then refl refl (λ h e. e) refl handle who
+        (λ handle who low says_so. closing_stays sizes s kept id v at view_then refl refl (λ h e. (e, refl)) refl (λ c. c) handle who
         (kept.closings handle who low (subst (λ n. SaysClosing n who) (roots handle low) says_so))) own_then others_then not_others
         (numbers_stay sizes s kept id v at view_then refl refl kept.account words (no_tries kept.account.offers state) (λ slot none. none) roots refl
         (λ slot handle e f. free_too 1 slot f))
         held
+        (cells_stay sizes s kept id v at view_then kept.account stands_then words cells_same (λ c n low was spare no. (taken c n low was, spare_then n spare))
+        (λ c m n b it was spare f. elim (was_free v.pool x.class x.name small b n f.0 f.1) [
+          | inl before ↦ (f.0, before)
+          | inr (class, new) ↦ absurd (not_free n spare new)
+        ]))
 
   -- what a seat has retired then it had retired before
   had : (k : ℕ) (w : View) → get_elem? (set s.views id view_then) k ≡ some w → (y : Retired) → Contains w.retired y → (u : View) × (get_elem? s.views k ≡ some u) × Contains u.retired y

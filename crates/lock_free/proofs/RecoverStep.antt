@@ -1,7 +1,7 @@
 -- The load by which the one seat that is left has all slots of a class to which no handle leads.
 use Rattle.history.specs.declared.calls.Call.{Call}
-use Rattle.std.proofs.Common.{◌≡◌, ◌<◌, ◌≤◌, inl, inr, ℕ, Bool, true, false, Contains, set, slice_index, refl, sym, ap, subst, ◌∙◌, arith}
-use Rattle.std.proofs.lemmas.Bool.{true≢false}
+use Rattle.std.proofs.Common.{◌≡◌, ◌<◌, ◌≤◌, ◌==◌, inl, inr, ℕ, zero, suc, Bool, true, false, if◌then◌else◌, List, Contains, set, slice_index, refl, sym, ap, subst, ◌∙◌, arith}
+use Rattle.std.proofs.lemmas.Bool.{cases_eq, eq-eqb, true≢false}
 use Rattle.std.proofs.lemmas.List.{set-get_or}
 use Rattle.std.proofs.lemmas.Option.{none-some}
 use mathlib.Core.Option.{some, none}
@@ -13,10 +13,12 @@ use Rattle.machine_model.specs.Beneath.slot_arena.specs.declared.refs.Ref.{Ref}
 use Rattle.lock_free.specs.declared.rules.Heard.{Heard}
 use Rattle.lock_free.specs.declared.rules.View.{View}
 use Rattle.lock_free.specs.declared.sizes.Sizes.{Sizes}
-use Rattle.lock_free.specs.Alone.{has_recovered, recovering, AreMarks, HaveReferences, HasRecovered, IsByItself, Marks}
+use Rattle.lock_free.specs.Alone.{has_recovered, left_out, name_of, recovering, stands_in, AreMarks, HaveReferences, HasRecovered, IsByItself, Marks}
 use Rattle.lock_free.specs.Loading.{IsSound}
-use Rattle.lock_free.specs.Places.{slots_in, taken_word, words_of}
+use Rattle.lock_free.specs.Places.{cell_word, slots_in, taken_word, words_of}
+use Rattle.lock_free.specs.Shadows.{IsShadowed}
 use Rattle.lock_free.specs.Rules.{IsKept, IsRuled, WasGivenUp}
+use Rattle.lock_free.proofs.OneGlance.Shadowed.{lifted}
 use Rattle.lock_free.proofs.Assembling.{here}
 use Rattle.lock_free.proofs.EpochStays.{epochs_stay, was_then}
 use Rattle.lock_free.proofs.GoneSeats.{heard_still}
@@ -25,7 +27,7 @@ use Rattle.lock_free.proofs.Idle.{empty_has}
 use Rattle.lock_free.proofs.LinksStay.{Knew, knew_none, knew_self, links_stay}
 use Rattle.lock_free.proofs.Moments.{free_inside}
 use Rattle.lock_free.proofs.OwedStay.{owed_then}
-use Rattle.lock_free.proofs.Recovered.{recover_kept, view_then}
+use Rattle.lock_free.proofs.Recovered.{recover_kept, view_then, MarksLed}
 use Rattle.lock_free.proofs.RetiredStay.{Retires, retired_stay, retires_none, retires_self}
 use Rattle.lock_free.proofs.Unmarked.{unmarked_same}
 
@@ -39,13 +41,39 @@ both_mark v class marks others are so n low = by (marks n) (others n) refl refl
     by true false e f = absurd (true≢false (sym ((so n low).1 ((are n low).0 e)) ∙ f))
     by false true e f = absurd (true≢false (sym ((are n low).1 ((so n low).0 f)) ∙ e))
 
+left_by : (marked stands : Bool) → (if marked then true else stands) ≡ false → (marked ≡ false) × (stands ≡ false)
+left_by true stands e = absurd (true≢false e)
+left_by false stands e = (refl, e)
+
+-- it stands in one of so many cells
+stands_by : (sizes : Sizes) (words : List ℕ) (class name number n : ℕ) → slice_index words (cell_word sizes class number) ≡ name → number < suc n →
+    (number < n → stands_in sizes words class name n ≡ true) → (b : Bool) → (slice_index words (cell_word sizes class n) == name) ≡ b → (if b then true else stands_in sizes words class name n) ≡ true
+stands_by sizes words class name number n is low before true e = refl
+stands_by sizes words class name number n is low before false e = elim (cases_eq number n) [
+  | inl same ↦ absurd (true≢false (sym (eq-eqb (slice_index words (cell_word sizes class n)) name (ap (λ k. slice_index words (cell_word sizes class k)) (sym same) ∙ is)) ∙ e))
+  | inr differs ↦ before (omega (arith, low, differs))
+]
+
+stands_there : (sizes : Sizes) (words : List ℕ) (class name number : ℕ) → slice_index words (cell_word sizes class number) ≡ name → (n : ℕ) → number < n → stands_in sizes words class name n ≡ true
+unfolding stands_in
+stands_there sizes words class name number is zero low = absurd (omega (arith, low))
+stands_there sizes words class name number is (suc n) low =
+    stands_by sizes words class name number n is low (λ less. stands_there sizes words class name number is n less) (slice_index words (cell_word sizes class n) == name) refl
+
 module _ (v : View) (some_seats : 1 ≤ v.sizes.seats) (s : Table.State Call View) (ruled : IsRuled v.sizes s) (id : ℕ) (at : get_elem? s.views id ≡ some v) (it : IsByItself v) (class : ℕ)
     (small : class < 3) (marks : Marks) (are : AreMarks v class marks) (counted : HaveReferences v class marks) where
   abbrev pub heard : (h : Heard) → Contains v.heard h → WasGivenUp s.views h
   heard = ruled.heard id v at
 
+  -- what stands in cells is left out
+  abbrev pub them : Marks
+  them = left_out v.sizes s.words class marks
+
+  pub led : MarksLed v class them
+  led number few l = ap (λ b. if b then true else stands_in v.sizes s.words class (name_of v.sizes class number) 32) ((are number few).1 l)
+
   abbrev pub w : View
-  w = view_then v s ruled.kept heard id at it class small marks are
+  w = view_then v s ruled.kept heard id at it class small them led
 
   -- it holds no reference, since it is pinned nowhere
   unowed : (k : Ref) → Contains v.owed k → ⊥
@@ -53,9 +81,12 @@ module _ (v : View) (some_seats : 1 ≤ v.sizes.seats) (s : Table.State Call Vie
 
   kept_then : IsKept v.sizes (record { words = s.words; homes = s.homes; views = set s.views id w })
   kept_then =
-      recover_kept v s ruled.kept heard id at it class small marks are
-      (held_recovered v s ruled.kept heard id at it class small marks are unowed
-      (λ number few unmarked_it. counted (slice_index s.words (taken_word class)) (record { table = s; kept = ruled.kept; heard = heard; id = id; at = at; finds = refl }) number few unmarked_it))
+      recover_kept v s ruled.kept heard id at it class small them led
+      (held_recovered v s ruled.kept heard id at it class small them led unowed
+      (λ number few left. counted (slice_index s.words (taken_word class)) (record { table = s; kept = ruled.kept; heard = heard; id = id; at = at; finds = refl }) number few
+      (left_by (marks number) (stands_in v.sizes s.words class (name_of v.sizes class number) 32) left).0))
+      (λ number few left n low is. (let none = (left_by (marks number) (stands_in v.sizes s.words class (name_of v.sizes class number) 32) left).1 in
+      true≢false (sym (stands_there v.sizes s.words class (name_of v.sizes class number) n is 32 low) ∙ none)))
 
   retires : (k : ℕ) (x : View) → get_elem? (set s.views id w) k ≡ some x → Retires s.views k x
   retires k x e = elim (at_set s.views id k w x e) [
@@ -73,7 +104,8 @@ module _ (v : View) (some_seats : 1 ≤ v.sizes.seats) (s : Table.State Call Vie
   ruled_then = record {
     kept = kept_then;
     epochs =
-        epochs_stay s.words s.words s.views (set s.views id w) refl (was_then s.views id v at w (record { actor = refl; epoch = refl; passed = refl; pinned = λ p is. is })) ruled.epochs;
+        epochs_stay s.words s.words s.views (set s.views id w) refl (was_then s.views id v at w
+        (record { actor = refl; epoch = refl; passed = refl; glance = refl; pinned = λ p is. is })) ruled.epochs;
     retired = retired_stay v.sizes s.words s.words s.views (set s.views id w) (omega arith) retires ruled.retired;
     owed = owed_then s.views id v at w (λ k c. (c, refl)) (λ x c. absurd (empty_has x c)) ruled.owed;
     linked = links_stay v.sizes s.words s.words s.views (set s.views id w) (λ c is. refl) knows ruled.linked;
@@ -99,8 +131,9 @@ module _ (v : View) (some_seats : 1 ≤ v.sizes.seats) (s : Table.State Call Vie
       (λ these are_these. (
         record { table = s; kept = ruled.kept; heard = heard; id = id; at = at; finds = refl },
         ap (recovering v ruled.kept.account class)
-            (unmarked_same v.sizes class marks these (slice_index s.words (taken_word class))
-            (λ m few. (let most = ruled.kept.taken class small in both_mark v class marks these are are_these m (omega (arith, few, most))))),
+            (unmarked_same v.sizes class them (left_out v.sizes s.words class these) (slice_index s.words (taken_word class))
+            (λ m few. (let most = ruled.kept.taken class small in
+            ap (λ b. if b then true else stands_in v.sizes s.words class (name_of v.sizes class m) 32) (both_mark v class marks these are are_these m (omega (arith, few, most)))))),
       )) others so
 
 -- the word is one of the table's
@@ -108,20 +141,23 @@ pub taken_inside : (n : ℕ) (v : View) → IsSound n v → (class : ℕ) → cl
 taken_inside n v sound class small = let size = sound.size in omega (arith, size, small)
 
 pub recover_allowed : (sizes : Sizes) (size id : ℕ) (me : Me Call View) (some_seats : 1 ≤ me.0.sizes.seats) → IsByItself me.0 → (class : ℕ) → class < 3 → (marks : Marks) →
-    AreMarks me.0 class marks → HaveReferences me.0 class marks → (word : ℕ) → word ≡ taken_word class → Allows (IsRuled sizes) size id me word (λ n. n) (has_recovered (step size word 0 0 none) me)
+    AreMarks me.0 class marks → HaveReferences me.0 class marks → (word : ℕ) → word ≡ taken_word class → Allows (IsShadowed sizes) size id me word (λ n. n) (has_recovered (step size word 0 0 none) me)
 recover_allowed sizes size id me some_seats it class small marks are counted word is =
-    subst (λ i. Allows (IsRuled sizes) size id me i (λ n. n) (has_recovered (step size i 0 0 none) me)) (sym is) allows
+    subst (λ i. Allows (IsShadowed sizes) size id me i (λ n. n) (has_recovered (step size i 0 0 none) me)) (sym is) allows
   where
-    allows : Allows (IsRuled sizes) size id me (taken_word class) (λ n. n) (has_recovered (step size (taken_word class) 0 0 none) me)
-    allows s ruled length_is at low =
-        let its = (ruled.kept.seats id me.0 at).same some_seats in
+    allows : Allows (IsShadowed sizes) size id me (taken_word class) (λ n. n) (has_recovered (step size (taken_word class) 0 0 none) me)
+    allows =
+        lifted sizes size id me (taken_word class) (λ n. n) (has_recovered (step size (taken_word class) 0 0 none) me) some_seats
+        (λ s ruled at.
+        (let its = (ruled.kept.seats id me.0 at).same some_seats in
         let own = subst (λ z. IsRuled z s) (sym its) ruled in
         let after = w me.0 some_seats s own id at it class small marks are counted in
         let same = sym (set-get_or s.words (taken_word class) 0) in (
           after,
           keeps,
+          (inr refl, refl, λ shown. shown),
           tt,
           subst (λ ws. IsRuled sizes (record { words = ws; homes = s.homes; views = set s.views id after })) same
               (subst (λ z. IsRuled z (record { words = s.words; homes = s.homes; views = set s.views id after })) its (ruled_then me.0 some_seats s own id at it class small marks are counted)),
           (λ b others few e so. has_them me.0 some_seats s own id at it class small marks are counted b others few e so, sound_then me.0 some_seats s own id at it class small marks are counted, refl),
-        )
+        )))

@@ -28,16 +28,18 @@ use Rattle.lock_free.specs.declared.rules.Pinned.{Pinned}
 use Rattle.lock_free.specs.declared.rules.View.{View}
 use Rattle.lock_free.specs.declared.sizes.Sizes.{Sizes}
 use Rattle.lock_free.specs.Accounts.{bounds_for, place_at, state_of, HasGrown, HasWaited}
-use Rattle.lock_free.specs.Alone.{recovering, unmarked, AreMarks, IsByItself, Marks}
+use Rattle.lock_free.specs.Alone.{name_of, recovering, unmarked, IsByItself, IsLedTo, Marks}
+use Rattle.lock_free.specs.Cells.{Stores}
 use Rattle.lock_free.specs.Live.{IsLive, from_root, from_operation, from_slot}
 use Rattle.lock_free.specs.Holdings.{AreHeld}
 use Rattle.lock_free.specs.Loading.{now}
 use Rattle.lock_free.specs.Nodes.{class_of}
-use Rattle.lock_free.specs.Places.{root_word, taken_word, IsTaken}
+use Rattle.lock_free.specs.Places.{cell_word, root_word, slots_in, taken_word, IsTaken}
 use Rattle.lock_free.specs.Roots.{MeansRoot, SaysPlain, SaysRoot, open_with}
 use Rattle.lock_free.specs.Rules.{first_account, no_slots, pool_of, HasPinnedIdle, IsFree, IsKept, IsPlainSo, IsSeat, IsSpare}
 use Rattle.lock_free.specs.Rules.{NamesOffer, NodesStand, Once, RootsStand, RunsNothing, Standing, Stands, WasGivenUp}
 use Rattle.lock_free.proofs.Assembling.{AllStand, all_stand, assembled, closing_stays}
+use Rattle.lock_free.proofs.CellsStay.{cells_stay}
 use Rattle.lock_free.proofs.CountWords.{one_class, slot_taken}
 use Rattle.lock_free.proofs.Framing.{class_small}
 use Rattle.lock_free.proofs.Idle.{empty_has, none_free}
@@ -52,12 +54,15 @@ use Rattle.lock_free.proofs.Pools.{one_there, pool_else, pool_same}
 use Rattle.lock_free.proofs.QuietSince.{led_before, same_begun, same_slot}
 use Rattle.lock_free.proofs.Unmarked.{among, is_among, named, there, unmarked_has, unmarked_once}
 use Rattle.lock_free.proofs.Waiting.{waited_none}
+use Rattle.lock_free.proofs.PartingStay.{knows_forgotten}
+use Rattle.lock_free.specs.Parting.{KnowsOffers}
+use Rattle.lock_free.specs.declared.rules.Pool.{Pool}
 
 no_pool : (u : View) (b name : ℕ) → u.pool ≡ no_slots → IsFree u b name → ⊥
 no_pool u b name none free = none_free no_sizes_here 0 0 nothing b name (free.0, subst (λ p. Contains (pool_of p b) name) none free.1)
   where
     nothing : Account
-    nothing = record { steps = []; names = []; owned = []; offers = [] }
+    nothing = record { steps = []; names = []; owned = []; offered = []; offers = []; parted = [] }
 
     no_sizes_here : Sizes
     no_sizes_here = u.sizes
@@ -89,8 +94,12 @@ module _ (sizes : Sizes) (account : Account) (nothing : RunsNothing (state_of si
 
 -- ---- the seat has them
 
+-- each slot is marked to which a handle leads
+abbrev pub MarksLed : View → ℕ → Marks → Type 0
+MarksLed v class marks = (number : ℕ) → number < slots_in v.sizes class → IsLedTo v class (name_of v.sizes class number) → marks number ≡ true
+
 module _ (v : View) (s : Table.State Call View) (kept : IsKept v.sizes s) (heard : (h : Heard) → Contains v.heard h → WasGivenUp s.views h) (id : ℕ) (at : get_elem? s.views id ≡ some v)
-    (it : IsByItself v) (class : ℕ) (small : class < 3) (marks : Marks) (are : AreMarks v class marks) where
+    (it : IsByItself v) (class : ℕ) (small : class < 3) (marks : Marks) (are : MarksLed v class marks) where
   abbrev sizes : Sizes
   sizes = v.sizes
 
@@ -107,7 +116,7 @@ module _ (v : View) (s : Table.State Call View) (kept : IsKept v.sizes s) (heard
   names = unmarked sizes class marks found
 
   abbrev pub account_then : Account
-  account_then = record account { steps = account.steps; offers = [] }
+  account_then = record account { steps = account.steps; offered = []; offers = [] }
 
   abbrev dropped : ℕ → Bool
   dropped k = is_among names (place_at account k)
@@ -150,7 +159,7 @@ module _ (v : View) (s : Table.State Call View) (kept : IsKept v.sizes s) (heard
           (slot_taken sizes s.words kept.taken class name small its) in
           let most = kept.taken class small in
           let few = u.few in
-          let marked = (are u.number (omega (arith, few, most))).1 (record {
+          let marked = are u.number (omega (arith, few, most)) (record {
             node = r;
             led = led_before v s kept heard id at v.account seat.waited it.alone r led;
             slot = slot;
@@ -180,7 +189,7 @@ module _ (v : View) (s : Table.State Call View) (kept : IsKept v.sizes s) (heard
     apart = λ j k a b h g same. kept.nodes.apart j k a b (stood j a h).0 (stood k b g).0 same;
     offers = λ x c. absurd (empty_has x c);
     written = λ k slot h.
-        stands_kept account account.steps [] dropped state state (same_nodes state state (λ j. refl)) (λ i a f x. x) (λ i a f x none. x) s.words (place_at account k) k slot slot.node
+        stands_kept account account.steps account_then dropped state state (same_nodes state state (λ j. refl)) (λ i a f x. x) (λ i a f x none. x) s.words (place_at account k) k slot slot.node
         (stood k slot h).1 (kept.nodes.written k slot (stood k slot h).0);
     inside = kept.nodes.inside;
     owners = owners_kept account account_then state state refl refl (λ i a f x. x) kept.nodes.owners;
@@ -223,6 +232,8 @@ module _ (v : View) (s : Table.State Call View) (kept : IsKept v.sizes s) (heard
     single = λ k l c. absurd (empty_has k c);
     tries = λ k l c. absurd (empty_has k c);
     stood = λ k c. absurd (empty_has k c);
+    came = λ x c. (let h = kept.roots.came x c in record { steps = h.steps; more = h.more; goes_on = h.goes_on; handle = h.handle; stood = h.stood });
+    parting = record { known = λ k c. absurd (empty_has k c); left = λ k c. absurd (empty_has k c); unnamed = λ k c. absurd (empty_has k c) };
     marks = λ k c. absurd (empty_has k c);
     fates = λ k c. absurd (empty_has k c);
     pending = λ k c. absurd (empty_has k c);
@@ -248,7 +259,7 @@ module _ (v : View) (s : Table.State Call View) (kept : IsKept v.sizes s) (heard
   grown_then : (first : Account) → HasGrown first account → HasGrown first account_then
   grown_then first h = record { steps = h.steps; goes_on = h.goes_on; names = h.names; more_names = h.more_names }
 
-  waited_then : (a : ℕ) (first : Account) → first.offers ≡ [] → HasWaited a first account → HasWaited a first account_then
+  waited_then : (a : ℕ) (first : Account) → first.offered ≡ [] → HasWaited a first account → HasWaited a first account_then
   waited_then a first none h = record {
     steps = h.steps;
     goes_on = h.goes_on;
@@ -314,6 +325,7 @@ module _ (v : View) (s : Table.State Call View) (kept : IsKept v.sizes s) (heard
     once = own_once;
     drafts = λ d c. absurd (empty_has d c);
     plain = λ d c. so_plain d (seat.plain d c);
+    offering = knows_forgotten kept.account.offered kept.account.offers kept.account.parted s.words v.actor v.pin v.offer v.pool.parted seat.offering;
   }
 
   others_then : (other : ℕ) (w : View) → get_elem? s.views other ≡ some w → (other ≡ id → ⊥) → IsSeat sizes account_then stands_then s.words w
@@ -342,18 +354,35 @@ module _ (v : View) (s : Table.State Call View) (kept : IsKept v.sizes s) (heard
         once = h.once;
         drafts = λ d c. (let x = (h.drafts d c).1 in absurd (bare x.0 x.1 x.2));
         plain = λ d c. so_plain d (h.plain d c);
+        offering = subst (λ o. KnowsOffers [] [] kept.account.parted s.words w.actor w.pin o w.pool.parted) (sym left.bare.4)
+            (subst (λ (p : Pool). KnowsOffers [] [] kept.account.parted s.words w.actor w.pin None p.parted) (sym left.bare.0)
+            (knows_forgotten kept.account.offered kept.account.offers kept.account.parted s.words w.actor w.pin w.offer w.pool.parted h.offering));
       }
+
+  -- what stands in a cell is none of them
+  not_celled : (c m n : ℕ) → Stores sizes s.words c m n → IsTaken sizes s.words c n → Contains names n →
+      ((number : ℕ) → number < found → marks number ≡ false → (k : ℕ) → k < 32 → slice_index s.words (cell_word sizes class k) ≡ name_of sizes class number → ⊥) → ⊥
+  not_celled c m n cell was among besides =
+      let u = unmarked_has sizes class marks found n among in
+      let one = one_class sizes c class n cell.0.0 small (slot_taken sizes s.words kept.taken c n cell.0.0 was) (slot_taken sizes s.words kept.taken class n small (new_spare n among).0) in
+      besides u.number u.few u.not m cell.0.1 (ap (λ k. slice_index s.words (cell_word sizes k m)) (sym one) ∙ cell.1 ∙ u.is)
 
   -- ---- the rule holds
 
-  pub recover_kept : AreHeld sizes account_then stands_then s.words (set s.views id view_then) → IsKept sizes (record { words = s.words; homes = s.homes; views = set s.views id view_then })
-  recover_kept held =
+  pub recover_kept : AreHeld sizes account_then stands_then s.words (set s.views id view_then) →
+      ((number : ℕ) → number < found → marks number ≡ false → (n : ℕ) → n < 32 → slice_index s.words (cell_word sizes class n) ≡ name_of sizes class number → ⊥) →
+      IsKept sizes (record { words = s.words; homes = s.homes; views = set s.views id view_then })
+  recover_kept held besides =
       assembled sizes s kept id v at view_then refl refl account_then stands_then s.words all_then
-      (λ handle who low says. closing_stays sizes s kept id v at view_then refl refl (λ h e. e) refl handle who (kept.closings handle who low says)) own_then others_then
+      (λ handle who low says. closing_stays sizes s kept id v at view_then refl refl (λ h e. (e, refl)) refl (λ c. c) handle who (kept.closings handle who low says)) own_then others_then
       (λ b name f. inr (λ other w c e apart g. no_pool w c name (is_left v s kept heard id at it.alone it.rests.idle other w e apart).bare.0 g))
       (record {
         openings = λ handle slot low fits is none. absurd (plain_word handle low slot (inr (fits, is)));
         number = λ handle h. inl h;
         others = λ other w e apart handle h. h;
         runners = λ a o e. inr (o, e);
-      }) held
+      }) held (cells_stay sizes s kept id v at view_then account_then stands_then s.words (λ c n cell. refl) (λ c n low was spare no. (was, spare_then n spare))
+      (λ c m n b cell was spare f. elim (cases_eq b class) [
+        | inl same ↦ absurd (not_celled c m n cell was (subst (λ xs. Contains xs n) (pool_same v.pool class names small) (subst (λ k. Contains (pool_of view_then.pool k) n) same f.1)) besides)
+        | inr differs ↦ (f.0, subst (λ xs. Contains xs n) (pool_else v.pool class b names small f.0 differs) f.1)
+      ]))

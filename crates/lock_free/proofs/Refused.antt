@@ -190,7 +190,7 @@ module _ (sizes : Sizes) (account : Account) (bounds : AreBounds (bounds_for siz
     module _ (r : WasRefused sizes x f) where
       -- what had happened before the step that let go of it
       abbrev first : Account
-      first = record { steps = r.before; names = []; owned = []; offers = [] }
+      first = record { steps = r.before; names = []; owned = []; offered = []; offers = []; parted = [] }
 
       abbrev through : List Step
       through = r.before ++ step.Go r.actor ∷ []

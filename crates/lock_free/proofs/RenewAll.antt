@@ -33,7 +33,7 @@ use Rattle.lock_free.proofs.Followings.{follows_self, follows_both, become_both,
 use Rattle.lock_free.proofs.GivenBack.{node_is}
 use Rattle.lock_free.proofs.GoingOver.{as_many, one_more, entry_at_place}
 use Rattle.lock_free.proofs.Idle.{empty_has}
-use Rattle.lock_free.proofs.Moments.{entry_lives}
+use Rattle.lock_free.proofs.LastingNodes.{entry_lives}
 use Rattle.lock_free.proofs.NextEntries.{holds_next}
 use Rattle.lock_free.proofs.OnLines.{line_is, finds_now}
 use Rattle.lock_free.proofs.RepairLooks.{renew_same, renew_parts}

@@ -26,13 +26,15 @@ use Rattle.lock_free.specs.Places.{pin_word, root_word}
 use Rattle.lock_free.specs.Roots.{NoOffer, fate, undecided, meant, open_with}
 use Rattle.lock_free.specs.Rules.{IsClosing, SaysClosing, IsFree, IsHeld, Reserves, Names, NamesOffer, IsOpening, IsSeat, IsKept, RunsNothing}
 use Rattle.lock_free.proofs.Assembling.{AllStand, all_stand, here, closing_stays, opening_stays, assembled}
-use Rattle.lock_free.proofs.RootCodes.{kind, same_kind}
+use Rattle.lock_free.proofs.CellsStay.{cells_beside, handle_before}
+use Rattle.lock_free.proofs.RootCodes.{kind, same_kind, slot_in}
 use Rattle.lock_free.proofs.RootFound.{slot_fits, offered_is, opening_is}
 use Rattle.lock_free.proofs.RootSteps as root
 use Rattle.lock_free.proofs.PlainStay.{names_none, plain_over}
 use Rattle.lock_free.proofs.Seats.{ran_so, Stays, StaysSpare, other_kept, own_else}
 use Rattle.lock_free.proofs.HeldStill.{held_words}
 use Rattle.lock_free.proofs.CountWords.{handle_apart}
+use Rattle.lock_free.proofs.PartingStay.{knows_still, names_over}
 
 -- ---- no offer stands that opens the seat's number, but its own operation's
 
@@ -82,7 +84,8 @@ module _ (sizes : Sizes) (s : Table.State Call View) (kept : IsKept sizes s) (id
     λ is. no_pending k c stands (opening_is sizes kept.account s.words kept.roots o its_held.low k c (k_fits k c) is).0,
   )
 
-  module _ (w : HandleWord) (fits : IsRootWord w) (unmarked : kind w < 6) (quiet : RunsNothing now → (slot : ℕ) → NamesOffer (root_code w) slot → ⊥) where
+  module _ (w : HandleWord) (fits : IsRootWord w) (unmarked : kind w < 6) (quiet : RunsNothing now → (slot : ℕ) → NamesOffer (root_code w) slot → ⊥)
+      (new : (k : Known) → Contains kept.account.offers k → (w ≢ word.Offered k.slot) × (w ≢ word.Opening k.slot)) where
     abbrev pub words_then : List ℕ
     words_then = set s.words (root_word o) (root_code w)
 
@@ -123,6 +126,8 @@ module _ (sizes : Sizes) (s : Table.State Call View) (kept : IsKept sizes s) (id
       taken = root.taken_rooted sizes kept.account kept.stands s.words all o its_held.low (root_code w);
       spare = λ other x b name e apart free. stays_spare other x b name e free;
       plain = plain_over sizes kept.account s.words words_then o root_beside (λ idle slot n. quiet idle slot (subst (λ x. NamesOffer x slot) root_here n));
+      offering = knows_still kept.account.offered kept.account.offers kept.account.parted s.words words_then
+          (names_over kept.account.offers s.words words_then o w fits root_beside root_here new);
     }
 
     not_closing : (who : ℕ) → SaysClosing (root_code w) who → ⊥
@@ -137,7 +142,8 @@ module _ (sizes : Sizes) (s : Table.State Call View) (kept : IsKept sizes s) (id
       closings_then : (g who : ℕ) → g < handle_limit → SaysClosing (slice_index words_then (root_word g)) who → IsClosing (set s.views id view_then) g who
       closings_then g who below says = elim (cases_eq g o) [
         | inl same ↦ absurd (not_closing who (subst (λ n. SaysClosing n who) (ap (λ n. slice_index words_then (root_word n)) same ∙ root_here) says))
-        | inr differs ↦ closing_stays sizes s kept id v at view_then refl refl (λ h e. e) refl g who (kept.closings g who below (subst (λ n. SaysClosing n who) (root_beside g differs) says))
+        | inr differs ↦ closing_stays sizes s kept id v at view_then refl refl (λ h e. (e, refl)) refl (λ c. c) g who (kept.closings g who below (subst (λ n. SaysClosing n who)
+            (root_beside g differs) says))
       ]
 
       own_by : (numbers : (g : ℕ) → Reserves now view_then g → IsHeld now words_then g) → ((p : Operation) → operation_of now v.actor ≡ Some p → opens ≡ p.opens) →
@@ -145,7 +151,7 @@ module _ (sizes : Sizes) (s : Table.State Call View) (kept : IsKept sizes s) (id
       own_by numbers reserves_then names =
           own_else sizes s kept id v at kept.account kept.stands words_then stays v.account seat.waited seat.rested seat.counts v.pin v.entered v.closing opens opening
           (pin_same v.actor seat.low ∙ seat.pinned) seat.pinned_idle seat.entered seat.calls
-          numbers reserves_then names (λ b name free. stays_spare id v b name at free)
+          numbers reserves_then names (λ b name free. stays_spare id v b name at free) (stays.offering v.actor v.pin v.offer v.pool.parted seat.offering)
 
   -- ---- the offer that is to open it is named
 
@@ -165,13 +171,17 @@ module _ (sizes : Sizes) (s : Table.State Call View) (kept : IsKept sizes s) (id
     running : RunsNothing now → (x : ℕ) → NamesOffer (root_code (word.Opening slot)) x → ⊥
     running idle x n = busy idle
 
+    fresh : (k : Known) → Contains kept.account.offers k → (word.Opening slot ≢ word.Offered k.slot) × (word.Opening slot ≢ word.Opening k.slot)
+    fresh k c = (λ e. (let wrong = ap kind e in omega (arith, wrong)), λ e. (seat.spare 1 slot free).1.1 k c (sym (ap slot_in e)))
+
     here_is : slice_index named_words (root_word o) ≡ root_code (word.Opening slot)
-    here_is = root_here (word.Opening slot) fits_slot few running
+    here_is = root_here (word.Opening slot) fits_slot few running fresh
 
     all_named : AllStand sizes kept.account kept.stands named_words
     all_named =
         root.all_rooted sizes kept.account kept.stands s.words all o its_held.low (root_code (word.Opening slot))
         (record { what = word.Opening slot; fits = fits_slot; code = refl; says = inr ((seat.spare 1 slot free).1.1, its_held.closed) }) unnamed
+        (names_over kept.account.offers s.words named_words o (word.Opening slot) fits_slot (root_beside (word.Opening slot) fits_slot few running fresh) here_is fresh)
 
     named_held : (g : ℕ) → Reserves now naming g → IsHeld now named_words g
     named_held g r =
@@ -199,17 +209,19 @@ module _ (sizes : Sizes) (s : Table.State Call View) (kept : IsKept sizes s) (id
           })
       | inr differs ↦
           opening_stays sizes s kept id v at naming refl refl now g x (λ r f. (r, f)) (λ other w e apart f r. r)
-          (kept.openings g x below fits (sym (root_beside (word.Opening slot) fits_slot few running g differs) ∙ is) nothing)
+          (kept.openings g x below fits (sym (root_beside (word.Opening slot) fits_slot few running fresh g differs) ∙ is) nothing)
     ]
 
     -- the rule holds
     pub name_kept : IsKept sizes (record { words = named_words; homes = s.homes; views = set s.views id naming })
     name_kept =
-        assembled sizes s kept id v at naming refl refl kept.account kept.stands named_words all_named (closings_then (word.Opening slot) fits_slot few running v.opens (Some slot))
-        (own_by (word.Opening slot) fits_slot few running v.opens (Some slot) named_held seat.reserves named_it)
-        (other_kept sizes s kept id v at kept.account kept.stands named_words (stays (word.Opening slot) fits_slot few running)) (λ b name f. inl f)
+        assembled sizes s kept id v at naming refl refl kept.account kept.stands named_words all_named (closings_then (word.Opening slot) fits_slot few running fresh v.opens (Some slot))
+        (own_by (word.Opening slot) fits_slot few running fresh v.opens (Some slot) named_held seat.reserves named_it)
+        (other_kept sizes s kept id v at kept.account kept.stands named_words (stays (word.Opening slot) fits_slot few running fresh)) (λ b name f. inl f)
         (record { openings = openings_named; number = λ g r. inl r; others = λ other w e apart g r. r; runners = λ a p e. inr (p, e) })
         (held_words sizes s kept id v at naming refl refl refl (root_word o) (root_code (word.Opening slot)) (handle_apart sizes o its_held.low).1)
+        (cells_beside sizes s kept id v at naming (root_word o) (root_code (word.Opening slot)) (handle_before sizes o its_held.low)
+        (stays (word.Opening slot) fits_slot few running fresh).taken (λ b n f. f))
 
   -- ---- the number is given back
 
@@ -226,26 +238,31 @@ module _ (sizes : Sizes) (s : Table.State Call View) (kept : IsKept sizes s) (id
     closes : RunsNothing now → (x : ℕ) → NamesOffer (root_code word.Closed) x → ⊥
     closes nothing = names_none word.Closed tt (λ e. omega (arith, e)) (λ e. omega (arith, e))
 
+    none_named : (k : Known) → Contains kept.account.offers k → (word.Closed ≢ word.Offered k.slot) × (word.Closed ≢ word.Opening k.slot)
+    none_named k c = (λ e. (let wrong = ap kind e in omega (arith, wrong)), λ e. (let wrong = ap kind e in omega (arith, wrong)))
+
     all_free : AllStand sizes kept.account kept.stands free_words
     all_free =
         root.all_rooted sizes kept.account kept.stands s.words all o its_held.low (root_code word.Closed) (record { what = word.Closed; fits = tt; code = refl; says = its_held.closed }) unnamed
+        (names_over kept.account.offers s.words free_words o word.Closed tt (root_beside word.Closed tt low_kind closes none_named) (root_here word.Closed tt low_kind closes none_named) none_named)
 
     openings_free : (g x : ℕ) → g < handle_limit → IsRootWord (word.Opening x) → slice_index free_words (root_word g) ≡ root_code (word.Opening x) → NoOffer kept.account x → IsOpening now
         (set s.views id freeing) g x
     openings_free g x below fits is nothing = elim (cases_eq g o) [
       | inl same ↦
-          (let wrong = same_kind word.Closed (word.Opening x) tt fits (sym (root_here word.Closed tt low_kind closes) ∙ ap (λ n. slice_index free_words (root_word n)) (sym same) ∙ is) in absurd
-          (omega (arith, wrong)))
+          (let wrong = same_kind word.Closed (word.Opening x) tt fits (sym (root_here word.Closed tt low_kind closes none_named) ∙ ap (λ n. slice_index free_words (root_word n)) (sym same) ∙ is) in
+          absurd (omega (arith, wrong)))
       | inr differs ↦
           opening_stays sizes s kept id v at freeing refl refl now g x (λ r f. absurd (differs (same_Some g o (sym r.0 ∙ reserves.0)))) (λ other w e apart f r. r)
-          (kept.openings g x below fits (sym (root_beside word.Closed tt low_kind closes g differs) ∙ is) nothing)
+          (kept.openings g x below fits (sym (root_beside word.Closed tt low_kind closes none_named g differs) ∙ is) nothing)
     ]
 
     -- the rule holds
     pub give_back_kept : IsKept sizes (record { words = free_words; homes = s.homes; views = set s.views id freeing })
     give_back_kept =
-        assembled sizes s kept id v at freeing refl refl kept.account kept.stands free_words all_free (closings_then word.Closed tt low_kind closes None None)
-        (own_by word.Closed tt low_kind closes None None (λ g r. absurd (none-some g r.0)) (λ p e. absurd (none-some p (sym idle ∙ e))) (λ g x p n. absurd (none-some g p)))
-        (other_kept sizes s kept id v at kept.account kept.stands free_words (stays word.Closed tt low_kind closes)) (λ b name f. inl f)
+        assembled sizes s kept id v at freeing refl refl kept.account kept.stands free_words all_free (closings_then word.Closed tt low_kind closes none_named None None)
+        (own_by word.Closed tt low_kind closes none_named None None (λ g r. absurd (none-some g r.0)) (λ p e. absurd (none-some p (sym idle ∙ e))) (λ g x p n. absurd (none-some g p)))
+        (other_kept sizes s kept id v at kept.account kept.stands free_words (stays word.Closed tt low_kind closes none_named)) (λ b name f. inl f)
         (record { openings = openings_free; number = λ g r. absurd (none-some g r.0); others = λ other w e apart g r. r; runners = λ a p e. inr (p, e) })
         (held_words sizes s kept id v at freeing refl refl refl (root_word o) (root_code word.Closed) (handle_apart sizes o its_held.low).1)
+        (cells_beside sizes s kept id v at freeing (root_word o) (root_code word.Closed) (handle_before sizes o its_held.low) (stays word.Closed tt low_kind closes none_named).taken (λ b n f. f))

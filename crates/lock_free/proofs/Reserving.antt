@@ -17,6 +17,7 @@ use Rattle.lock_free.specs.Places.{pin_word, root_word}
 use Rattle.lock_free.specs.Roots.{NoOffer}
 use Rattle.lock_free.specs.Rules.{IsFree, IsHeld, NamesOffer, Reserves, IsOpening, IsSeat, IsKept, SaysClosing}
 use Rattle.lock_free.proofs.Assembling.{AllStand, all_stand, closing_stays, opening_stays, Numbers, assembled}
+use Rattle.lock_free.proofs.CellsStay.{cells_beside, handle_before}
 use Rattle.lock_free.proofs.OpenHandles.{not_closing}
 use Rattle.lock_free.proofs.RootCodes.{same_kind}
 use Rattle.lock_free.proofs.RootFound.{said}
@@ -25,6 +26,7 @@ use Rattle.lock_free.proofs.PlainStay.{names_none, plain_over}
 use Rattle.lock_free.proofs.Seats.{ran_so, Stays, StaysSpare, other_kept, own_else}
 use Rattle.lock_free.proofs.HeldStill.{held_words}
 use Rattle.lock_free.proofs.CountWords.{handle_apart}
+use Rattle.lock_free.proofs.PartingStay.{knows_still, names_kind}
 
 module _ (sizes : Sizes) (s : Table.State Call View) (kept : IsKept sizes s) (id : ℕ) (v : View) (at : get_elem? s.views id ≡ some v) (idle : operation_of (state_of sizes kept.account) v.actor ≡ None)
     (opens_none : v.opens ≡ None) (o : ℕ) (below : o < handle_limit) (found : slice_index s.words (root_word o) ≡ 0) where
@@ -60,6 +62,7 @@ module _ (sizes : Sizes) (s : Table.State Call View) (kept : IsKept sizes s) (id
   all_then =
       root.all_rooted sizes kept.account kept.stands s.words all o below (root_code word.Reserved) (record { what = word.Reserved; fits = tt; code = refl; says = closed })
       (λ k c stands. (λ is. omega (arith, found, is), λ is. omega (arith, found, is)))
+      (names_kind kept.account.offers s.words words_then o word.Reserved tt root_beside root_here (λ e. omega (arith, e)) (λ e. omega (arith, e)))
 
   held : (other : ℕ) (w : View) → get_elem? s.views other ≡ some w → (g : ℕ) → Reserves now w g → IsHeld now words_then g
   held other w e g r =
@@ -91,6 +94,8 @@ module _ (sizes : Sizes) (s : Table.State Call View) (kept : IsKept sizes s) (id
     spare = λ other w b name e apart free. spare other w b name e free;
     plain = plain_over sizes kept.account s.words words_then o root_beside
         (λ idle slot n. names_none word.Reserved tt (λ e. omega (arith, e)) (λ e. omega (arith, e)) slot (subst (λ x. NamesOffer x slot) root_here n));
+    offering = knows_still kept.account.offered kept.account.offers kept.account.parted s.words words_then
+        (names_kind kept.account.offers s.words words_then o word.Reserved tt root_beside root_here (λ e. omega (arith, e)) (λ e. omega (arith, e)));
   }
 
   own_then : IsSeat sizes kept.account kept.stands words_then (reserving v o)
@@ -98,6 +103,7 @@ module _ (sizes : Sizes) (s : Table.State Call View) (kept : IsKept sizes s) (id
       own_else sizes s kept id v at kept.account kept.stands words_then stays v.account seat.waited seat.rested seat.counts v.pin v.entered v.closing (Some o) None
       (pin_same v.actor seat.low ∙ seat.pinned) seat.pinned_idle seat.entered (λ p e. absurd (none-some p (sym idle ∙ e))) (λ g r. held_own g r.0) (λ p e. absurd (none-some p (sym idle ∙ e)))
       (λ g slot p n. absurd (none-some slot n)) (λ b name free. spare id v b name at free)
+      (stays.offering v.actor v.pin v.offer v.pool.parted seat.offering)
 
   openings_then : (g slot : ℕ) → g < handle_limit → IsRootWord (word.Opening slot) → slice_index words_then (root_word g) ≡ root_code (word.Opening slot) → NoOffer kept.account slot →
       IsOpening now (set s.views id (reserving v o)) g slot
@@ -124,6 +130,7 @@ module _ (sizes : Sizes) (s : Table.State Call View) (kept : IsKept sizes s) (id
       (λ g who low says. elim (cases_eq g o) [
         | inl same ↦ absurd (not_closing word.Reserved who tt (omega arith) (subst (λ n. SaysClosing n who) (ap (λ n. slice_index words_then (root_word n)) same ∙ root_here) says))
         | inr differs ↦
-            closing_stays sizes s kept id v at (reserving v o) refl refl (λ h e. e) refl g who (kept.closings g who low (subst (λ n. SaysClosing n who) (root_beside g differs) says))
+            closing_stays sizes s kept id v at (reserving v o) refl refl (λ h e. (e, refl)) refl (λ c. c) g who (kept.closings g who low (subst (λ n. SaysClosing n who) (root_beside g differs) says))
       ]) own_then (other_kept sizes s kept id v at kept.account kept.stands words_then stays) (λ b name f. inl f) numbers_then
       (held_words sizes s kept id v at (reserving v o) refl refl refl (root_word o) (root_code word.Reserved) (handle_apart sizes o below).1)
+      (cells_beside sizes s kept id v at (reserving v o) (root_word o) (root_code word.Reserved) (handle_before sizes o below) stays.taken (λ b n f. f))

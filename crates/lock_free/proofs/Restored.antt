@@ -234,6 +234,8 @@ module _ (sizes : Sizes) (account : Account) (actor : ℕ) (operation : Operatio
         pending = over.pending;
         tries = over.tries;
         stood = λ k c. stood_still sizes account account_then (step.Go actor ∷ []) refl k.offer (over.stood k c);
+        came = λ x c. stood_still sizes account account_then (step.Go actor ∷ []) refl x.known.offer (over.came x c);
+        parting = over.parting;
         marks = marks_kept account.offers now next (as_before restores.tries) words_then words_then (λ k c. refl) over.marks;
         fates = λ k c. fate_kept sizes account account_then (step.Go actor) refl k (fate words_then k) (λ e. words_same now next restores.roots k.handle ∙ e) (over.fates k c);
       }

@@ -149,7 +149,7 @@ pub was_root : (sizes : Sizes) (account : Account) (bounds : AreBounds (bounds_f
     (grown : HasGrown x.account account) (m : Ref) → WasTakenBack sizes x m → HasIndirection (state_of sizes account) m
 was_root sizes account bounds quiet x grown m r =
     link_still sizes account bounds quiet r.before (step.Go r.actor ∷ grown.steps) (parts sizes account bounds x grown r.before r.actor r.goes_on) m
-    (root_link sizes (record { steps = r.before; names = []; owned = []; offers = [] }) (before_ok sizes account bounds x grown r.before r.actor r.goes_on)
+    (root_link sizes (record { steps = r.before; names = []; owned = []; offered = []; offers = []; parted = [] }) (before_ok sizes account bounds x grown r.before r.actor r.goes_on)
     r.actor r.offer r.main r.sees r.undone m r.made)
 
 -- ---- it was the indirection's own, and was replaced

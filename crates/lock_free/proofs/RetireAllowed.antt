@@ -1,6 +1,6 @@
 -- The load of a fresh main node's header that is the last step of its SWAP keeps the rule.
 use Rattle.history.specs.declared.calls.Call.{Call}
-use Rattle.std.proofs.Common.{◌≡◌, ◌*◌, ◌≤◌, ℕ, Bool, set, slice_index, refl, sym, ap, subst, ◌∙◌}
+use Rattle.std.proofs.Common.{◌≡◌, ◌*◌, ◌≤◌, ℕ, inr, Bool, set, slice_index, refl, sym, ap, subst, ◌∙◌}
 use Rattle.std.proofs.lemmas.List.{set-get_or}
 use Rattle.std.proofs.lemmas.Option.{same_Some}
 use mathlib.Core.Option.{some, none}
@@ -19,7 +19,8 @@ use Rattle.lock_free.specs.declared.sizes.Sizes.{Sizes}
 use Rattle.lock_free.specs.Accounts.{place_of, IsOwn}
 use Rattle.lock_free.specs.Links.{AreLinked}
 use Rattle.lock_free.specs.Reclaiming.{is_decided, HasRetired, IsChecking, has_retired}
-use Rattle.lock_free.specs.Rules.{AreEpochs, AreRetired, IsKept, IsRuled}
+use Rattle.lock_free.specs.Shadows.{IsShadowed}
+use Rattle.lock_free.specs.Rules.{AreEpochs, AreRetired, IsKept}
 use Rattle.lock_free.proofs.LinksStay.{linked_then}
 use Rattle.lock_free.proofs.Moments.{allowed_by, still_own}
 use Rattle.lock_free.proofs.RetireStep.{leaves, owed_then}
@@ -42,7 +43,7 @@ module _ (v : View) (s : Table.State Call View) (kept : IsKept v.sizes s) (id : 
       (still_own v s kept id at (slot_of j) (slot_of n) too others)
 
 pub retire_allowed : (sizes : Sizes) (size id : ℕ) (me : Me Call View) (some_seats : 1 ≤ me.0.sizes.seats) (i m f : Ref) (own : Bool) → IsChecking me.0 i m f → IsOwn me.0.account i m own →
-    (name : ℕ) → place_of me.0.account f ≡ name → Allows (IsRuled sizes) size id me (2 * name) (λ n. n) (has_retired (step size (2 * name) 0 0 none) me)
+    (name : ℕ) → place_of me.0.account f ≡ name → Allows (IsShadowed sizes) size id me (2 * name) (λ n. n) (has_retired (step size (2 * name) 0 0 none) me)
 retire_allowed sizes size id me some_seats i m f own p owned name placed =
     allowed_by sizes size id me (2 * name) (λ n. n) (has_retired (step size (2 * name) 0 0 none) me)
     some_seats
@@ -51,6 +52,7 @@ retire_allowed sizes size id me some_seats i m f own p owned name placed =
     let same = sym (set-get_or s.words (2 * name) 0) in
     let committed = is_decided (header_of (slice_index s.words (2 * name))).previous in (
       y.view_then,
+      (inr refl, y.glance, λ shown p is. shown p (sym y.pin ∙ is)),
       subst (λ ws. IsKept me.0.sizes (record { words = ws; homes = s.homes; views = set s.views id y.view_then })) same y.ruled,
       subst (λ ws. AreEpochs ws (set s.views id y.view_then)) same y.in_epochs,
       subst (λ ws. AreRetired me.0.sizes ws (set s.views id y.view_then)) same y.retired,

@@ -144,6 +144,7 @@ module _ (v : View) (i m f : Ref) (own : Bool) (p : IsChecking v i m f) (owned :
     pub heard : view_then.heard ≡ v.heard
     pub links : view_then.links ≡ v.links
     pub pin : view_then.pin ≡ v.pin
+    pub glance : view_then.glance ≡ v.glance
     pub more : (y : Retired) → Contains v.retired y → Contains view_then.retired y
     pub newly : (y : Retired) → Contains view_then.retired y → Contains v.retired y ⊎ (y.stamp ≡ epoch_in s.words)
     pub owes : (k : Ref) → Contains view_then.owed k → Contains v.owed k ⊎ Known k
@@ -207,11 +208,12 @@ module _ (v : View) (i m f : Ref) (own : Bool) (p : IsChecking v i m f) (owned :
         ruled = kept_retiring v.sizes s kept id v at o stays.1 reads takes_nothing (owes_then v there) x
             (was_garbage v.sizes there kept.bounds kept.quiet v.actor r used_r kept.counted garbage (epoch_in s.words) goes) (grown_none after) (kept.nodes.live r lives)
             (held_letting_go v s kept id at o stays.1 p.why i m f p.line_is reads takes_nothing led r x refl refl here_is claimed ends);
-        in_epochs = epochs_then view_then (record { actor = refl; epoch = refl; passed = refl; pinned = λ pin same. same });
+        in_epochs = epochs_then view_then (record { actor = refl; epoch = refl; passed = refl; glance = refl; pinned = λ pin same. same });
         retired = one_more v s kept id at epochs old r x refl refl here_is some_counted never_before w refl refl;
         heard = refl;
         links = refl;
         pin = refl;
+        glance = refl;
         more = λ y c. Contains-append_left v.retired (x ∷ []) y c;
         newly = newly v s kept id at epochs old r x refl refl here_is some_counted never_before w refl refl;
         owes = had_or v s kept id at o stays.1 p.why i m f p.line_is reads takes_nothing led;
@@ -296,11 +298,12 @@ module _ (v : View) (i m f : Ref) (own : Bool) (p : IsChecking v i m f) (owned :
       shared_replaced = record {
         view_then = w;
         ruled = kept_owing v.sizes s kept id v at o stays.1 reads takes_nothing (owes_then v there) (held_owing v s kept id at o stays.1 p.why i m f p.line_is reads takes_nothing led);
-        in_epochs = epochs_then w (record { actor = refl; epoch = refl; passed = refl; pinned = λ pin same. same });
+        in_epochs = epochs_then w (record { actor = refl; epoch = refl; passed = refl; glance = refl; pinned = λ pin same. same });
         retired = retired_then s.views id v at w refl (λ pin same. same) v.sizes s.words s.words (omega arith) old;
         heard = refl;
         links = refl;
         pin = refl;
+        glance = refl;
         more = λ y c. c;
         newly = λ y c. inl c;
         owes = had_or v s kept id at o stays.1 p.why i m f p.line_is reads takes_nothing led;

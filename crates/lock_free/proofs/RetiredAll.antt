@@ -54,7 +54,7 @@ module _ (sizes : Sizes) (words : List ℕ) where
       let at_then = set_here views id v_then low in
       let more = retired_more sizes words views id v at x (stamps x (first_there x xs)) epochs old (new x (first_there x xs)) in
       let in_epochs =
-      epochs_stay words words views views_then refl (was_then views id v at v_then (record { actor = refl; epoch = refl; passed = refl; pinned = λ p same. same })) epochs in
+      epochs_stay words words views views_then refl (was_then views id v at v_then (record { actor = refl; epoch = refl; passed = refl; glance = refl; pinned = λ p same. same })) epochs in
       let rest =
       all_retired xs views_then id v_then at_then in_epochs more (λ y c. stamps y (more_there x xs y c)) (still_new views id v at x xs new once) once.1 w
       (is ∙ sym (append_assoc v.retired (x ∷ []) xs)) pin in

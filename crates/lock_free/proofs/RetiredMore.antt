@@ -47,6 +47,7 @@ module _ (sizes : Sizes) (account : Account) (stands : Standing) (words : List â
     once = h.once;
     drafts = h.drafts;
     plain = h.plain;
+    offering = h.offering;
   }
 
 -- the same of more than one
@@ -74,6 +75,7 @@ module _ (sizes : Sizes) (account : Account) (stands : Standing) (words : List â
     once = h.once;
     drafts = h.drafts;
     plain = h.plain;
+    offering = h.offering;
   }
 
 -- ---- all that is retired

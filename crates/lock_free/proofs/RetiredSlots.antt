@@ -26,7 +26,7 @@ use Rattle.lock_free.specs.Rules.{AreRetired, IsKept, IsRetired, Once, Stands}
 use Rattle.lock_free.proofs.CountWords.{count_once, slot_taken}
 use Rattle.lock_free.proofs.Framing.{class_small}
 use Rattle.lock_free.proofs.KindsApart.{kind_same, stored_kind}
-use Rattle.lock_free.proofs.Moments.{place_stays}
+use Rattle.lock_free.proofs.LastingNodes.{place_stays}
 use Rattle.lock_free.proofs.OneStep.Found.{ref_at, slot_at}
 use Rattle.lock_free.proofs.OneStep.Widened.{slot_in}
 use Rattle.lock_free.proofs.Pools.{contains_map, first_there, mapped, more_there}

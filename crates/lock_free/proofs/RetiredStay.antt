@@ -9,7 +9,7 @@ use Rattle.lock_free.specs.declared.rules.Retired.{Retired}
 use Rattle.lock_free.specs.declared.rules.View.{View}
 use Rattle.lock_free.specs.declared.sizes.Sizes.{Sizes}
 use Rattle.lock_free.specs.Rules.{AreRetired, Once}
-use Rattle.lock_free.proofs.EpochStays.{epoch_in, rest_of}
+use Rattle.lock_free.proofs.EpochStays.{epoch_in}
 use Rattle.lock_free.proofs.Idle.{empty_has}
 
 -- the seat has retired what it had, and is pinned as it was, if at all; or it is a new one
@@ -60,9 +60,3 @@ module _ (views : List View) (id : ℕ) (v : View) (at : get_elem? views id ≡ 
 -- where the epoch is what it was
 pub epoch_still : (words words_then : List ℕ) → epoch_in words_then ≡ epoch_in words → epoch_in words ≤ epoch_in words_then
 epoch_still words words_then same = omega (arith, same)
-
-pub same_retired : (v w : View) → rest_of w ≡ rest_of v → w.retired ≡ v.retired
-same_retired v w same = ap (λ r. r.5) same
-
-pub same_pin : (v w : View) → rest_of w ≡ rest_of v → (p : Pinned) → w.pin ≡ Some p → v.pin ≡ Some p
-same_pin v w same p is = sym (ap (λ r. r.4) same) ∙ is

@@ -1,6 +1,6 @@
 -- The load by which the root of a handle is asked for is the operation's step, where the word names the root.
 use Rattle.history.specs.declared.calls.Call.{Call}
-use Rattle.std.proofs.Common.{◌≤◌, ◌≡◌, ◌<◌, ◌∷◌, [], ℕ, set, slice_index, refl, sym, ap, subst, ◌∙◌, inr}
+use Rattle.std.proofs.Common.{◌≤◌, ◌≡◌, ◌<◌, ◌∷◌, [], ℕ, None, inl, set, slice_index, refl, sym, ap, subst, ◌∙◌, inr, ◌⊎◌}
 use Rattle.std.proofs.lemmas.List.{set-get_or}
 use mathlib.Core.Option.{some, none}
 use lib.ListN.{get_elem?}
@@ -21,26 +21,30 @@ use Rattle.machine_model.specs.Operations.{action_of}
 use Rattle.machine_model.specs.States.{State, root_at}
 use Rattle.proof_garbage.specs.Beneath.proof_generations.proofs.Handles.Running.{place_of_actor}
 use Rattle.lock_free.proofs.EpochStays.{rest_of}
+use Rattle.std.proofs.lemmas.Option.{none-some}
 use Rattle.lock_free.specs.declared.accounts.Account.{Account}
 use Rattle.lock_free.specs.declared.asking.Named.{Named}
 use Rattle.lock_free.specs.declared.asking.Named.TheVariants as named
 use Rattle.lock_free.specs.declared.rules.View.{View}
 use Rattle.lock_free.specs.declared.sizes.Sizes.{Sizes}
 use Rattle.lock_free.specs.Accounts.{state_of, gone_on, running}
-use Rattle.lock_free.specs.HandleWords.{TellsRoot}
+use Rattle.lock_free.specs.HandleWords.{TellsRoot, HasOffer}
 use Rattle.lock_free.specs.Loading.{now, seen, HasGone, HasSeen, IsSound, SameSlots}
 use Rattle.lock_free.specs.Places.{root_word, words_of}
 use Rattle.lock_free.specs.Roots.{MeansRoot, SaysRoot, SaysPlain}
 use Rattle.lock_free.specs.RootWords.{AsksAt, IsFound, IsRootAt, HasFoundRoot, HasAskedRoot, LoadedAs, has_asked, named_by}
-use Rattle.lock_free.specs.Rules.{IsKept, IsRuled}
+use Rattle.lock_free.specs.Shadows.{IsShadowed}
+use Rattle.lock_free.specs.Rules.{IsKept}
 use Rattle.lock_free.proofs.Definition.{IsReading, waits}
 use Rattle.lock_free.proofs.Looking.{saw, same_slots, went}
-use Rattle.lock_free.proofs.Moments.{allowed, seat, seen_view, seen_kept, waited_so, gone_view, gone_kept, gone_sound, gone_took}
+use Rattle.lock_free.proofs.OneGlance.Shadowed.{AllowsRuled, lifted}
+use Rattle.lock_free.proofs.Moments.{ruled_still, seat, seen_view, seen_kept, waited_so, gone_view, gone_kept, gone_sound, gone_took}
 use Rattle.lock_free.proofs.OneStep.Handled.{handle_low}
 use Rattle.lock_free.proofs.OneStep.Standing.{has}
 use Rattle.lock_free.proofs.OneStep.Roots.{root_is_link}
 use Rattle.lock_free.proofs.RootCodes.{root_back}
 use Rattle.lock_free.proofs.SeenRoots.{root_told}
+use Rattle.lock_free.proofs.Led.{led_pinned}
 
 -- its handle is one of the machine's
 pub asks_low : (n : ℕ) (v : View) → IsSound n v → (handle : ℕ) → AsksAt v handle → handle < 256
@@ -77,10 +81,10 @@ module _ (v : View) (handle : ℕ) (asks : AsksAt v handle) (s : Table.State Cal
   asks_as (named.Offer slot) = (seen_view v s kept id at, saw_it)
   asks_as named.Nothing = (seen_view v s kept id at, saw_it)
 
-pub ask_allowed : (sizes : Sizes) (size id : ℕ) (me : Me Call View) (some_seats : 1 ≤ me.0.sizes.seats) (handle : ℕ) → AsksAt me.0 handle →
-    Allows (IsRuled sizes) size id me (root_word handle) (λ n. n) (has_asked (step size (root_word handle) 0 0 none) me)
-ask_allowed sizes size id me some_seats handle asks =
-    allowed sizes size id me (root_word handle) (λ n. n) (has_asked (step size (root_word handle) 0 0 none) me)
+pub ask_ruled : (sizes : Sizes) (size id : ℕ) (me : Me Call View) (some_seats : 1 ≤ me.0.sizes.seats) (handle : ℕ) → AsksAt me.0 handle →
+    AllowsRuled sizes size id me (root_word handle) (λ n. n) (has_asked (step size (root_word handle) 0 0 none) me)
+ask_ruled sizes size id me some_seats handle asks =
+    ruled_still sizes size id me (root_word handle) (λ n. n) (has_asked (step size (root_word handle) 0 0 none) me)
     some_seats (λ s kept at. inr refl)
     (λ s kept at. (let x = asks_as me.0 handle asks s kept id at (named_by (root_of (slice_index s.words (root_word handle)))) in (
       x.0,
@@ -88,6 +92,11 @@ ask_allowed sizes size id me some_seats handle asks =
       (x.1.1, x.1.2, refl),
     )))
     (λ s kept at. (asks_as me.0 handle asks s kept id at (named_by (root_of (slice_index s.words (root_word handle))))).1.3)
+
+pub ask_allowed : (sizes : Sizes) (size id : ℕ) (me : Me Call View) (some_seats : 1 ≤ me.0.sizes.seats) (handle : ℕ) → AsksAt me.0 handle →
+    Allows (IsShadowed sizes) size id me (root_word handle) (λ n. n) (has_asked (step size (root_word handle) 0 0 none) me)
+ask_allowed sizes size id me some_seats handle asks =
+    lifted sizes size id me (root_word handle) (λ n. n) (has_asked (step size (root_word handle) 0 0 none) me) some_seats (ask_ruled sizes size id me some_seats handle asks)
 
 -- ---- what the seat is told
 
@@ -151,13 +160,23 @@ module _ (before : View) (handle : ℕ) (low : handle < 256) (asks : AsksAt befo
           found = subst (λ x. IsFound x h.root) (sym g.1) its;
         }
 
+  -- who asks is pinned
+  offer_known : (account : Account) (slot : ℕ) (h : HasSeen before (root_word handle) found after) → HasOffer before.sizes account before.pin handle slot ⊎ (before.pin ≡ None) →
+      HasOffer before.sizes account before.pin handle slot
+  offer_known account slot h (inl has) = has
+  offer_known account slot h (inr free) =
+      let m = h.0 in
+      let there = (waited_so before m.table m.kept m.id m.at).stays asks.acts.operation asks.acts.runs in
+      let pinned = led_pinned before m.table m.kept m.id m.at (record asks.acts.operation { is_marked = there.0 }) there.1 in
+      absurd (none-some pinned.0 (sym free ∙ pinned.1))
+
   told_by : (w : HandleWord) → root_of found ≡ w → LoadedAs (named_by w) before (root_word handle) found after → HasAskedRoot before handle (named_by w) after
   told_by (word.Writable slot) e g = root_found g Writable slot (said g (word.Writable slot) e)
   told_by (word.ReadOnly slot) e g = root_found g ReadOnly slot (said g (word.ReadOnly slot) e)
   told_by (word.ClosingWritable slot seat) e g = root_found g Writable slot (said g (word.ClosingWritable slot seat) e)
   told_by (word.ClosingReadOnly slot seat) e g = root_found g ReadOnly slot (said g (word.ClosingReadOnly slot seat) e)
   told_by (word.Offered slot) e h =
-      let x = root_told before handle found after low h in (x.0, subst (λ w. TellsRoot before.sizes x.0.account handle w) e x.2)
+      let x = root_told before handle found after low h in (x.0, offer_known x.0.account slot h (subst (λ w. TellsRoot before.sizes x.0.account before.pin handle w) e x.2))
   told_by (word.Opening slot) e h = saw before 0 (root_word handle) found after h
   told_by word.Closed e h = saw before 0 (root_word handle) found after h
   told_by word.Reserved e h = saw before 0 (root_word handle) found after h

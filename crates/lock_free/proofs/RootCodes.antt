@@ -40,3 +40,9 @@ kind (word.ClosingReadOnly slot seat) = 7
 
 pub same_kind : (v w : RootWord) → IsRootWord v → IsRootWord w → root_code v ≡ root_code w → kind v ≡ kind w
 same_kind v w fv fw e = ap kind (same_word v w fv fw e)
+
+-- the slot of the offer that it names
+abbrev pub slot_in : RootWord → ℕ
+slot_in (word.Offered slot) = slot
+slot_in (word.Opening slot) = slot
+slot_in w = 0

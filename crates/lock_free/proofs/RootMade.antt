@@ -31,7 +31,8 @@ use Rattle.lock_free.specs.Loading.{now, IsAt, IsSound, Took}
 use Rattle.lock_free.specs.Making.{over_of, AreDrafted, DraftsNode, made_at, made_by, Makes}
 use Rattle.lock_free.specs.Nodes.{class_of}
 use Rattle.lock_free.specs.Places.{generation_word, words_of}
-use Rattle.lock_free.specs.Rules.{pool_of, AreOwed, IsFree, IsKept, IsRuled}
+use Rattle.lock_free.specs.Shadows.{IsShadowed}
+use Rattle.lock_free.specs.Rules.{pool_of, AreOwed, IsFree, IsKept}
 use Rattle.lock_free.specs.Storing.{WritesRoot, IsAtMakeRoot, IsAdded, has_made_root}
 use Rattle.lock_free.proofs.Added.{added}
 use Rattle.lock_free.proofs.Exchanged.{words_hit, words_miss}
@@ -62,6 +63,7 @@ use Rattle.lock_free.proofs.MadeOwe.{owes_one_more, OwesOneMore}
 use Rattle.lock_free.specs.OwesAt.{owes_at}
 use Rattle.lock_free.proofs.OwesPrivate.{line_apart}
 use Rattle.proof_memory.specs.Making.{made_node}
+use Rattle.lock_free.proofs.PartingStay.{standing_stood}
 
 module _ (v : View) (generation : ℕ) (main : Ref) (rest : List ℕ) (name : ℕ) (own : Bool) (p : IsAt v (act.MakeRoot main)) (w : WritesRoot v p.operation.line generation main rest name own)
     (holding : HoldsRaised v) (s : Table.State Call View) (kept : IsKept v.sizes s) (id : ℕ) (at : get_elem? s.views id ≡ some v) where
@@ -93,7 +95,7 @@ module _ (v : View) (generation : ℕ) (main : Ref) (rest : List ℕ) (name : �
     makes : Makes v.sizes there (made_at v.actor name own root there) v.actor o root 1
     makes =
         subst (λ g. Makes v.sizes there (made_at v.actor name own (Indirection g main) there) v.actor o (Indirection g main) 1) next_is
-        (making.root_makes v.sizes there kept.bounds v.actor o stays.1 kept.quiet kept.counted kept.roots.stood name own main acts)
+        (making.root_makes v.sizes there kept.bounds v.actor o stays.1 kept.quiet kept.counted (standing_stood v.sizes there s.words kept.roots) name own main acts)
 
     place : place_of v.account main ≡ place_of there main
     place = sym (same_place v s kept id at (slot_of main) w.used.0 w.used.1)
@@ -182,7 +184,7 @@ module _ (v : View) (generation : ℕ) (main : Ref) (rest : List ℕ) (name : �
 
 abbrev AllowsRoot : Sizes → ℕ → ℕ → Me Call View → ℕ → Type 0
 AllowsRoot sizes size id me generation =
-    Allows (IsRuled sizes) size id me generation_word (λ n. either (n == generation) (generation + 1) n) (has_made_root (step size generation_word generation (generation + 1) none) me)
+    Allows (IsShadowed sizes) size id me generation_word (λ n. either (n == generation) (generation + 1) n) (has_made_root (step size generation_word generation (generation + 1) none) me)
 
 -- by what was found
 module _ (sizes : Sizes) (size id : ℕ) (me : Me Call View) (generation : ℕ) (main : Ref) (rest : List ℕ) (name : ℕ) (own : Bool) (p : IsAt me.0 (act.MakeRoot main))
@@ -243,7 +245,7 @@ pub root_allowed : (sizes : Sizes) (size id : ℕ) (me : Me Call View) (some_sea
     AllowsRoot sizes size id me generation
 root_allowed sizes size id me some_seats generation (main, rest, name, own, p, w) holding =
     allowed_owing sizes size id me generation_word (λ n. either (n == generation) (generation + 1) n) (has_made_root (step size generation_word generation (generation + 1) none) me) some_seats
-    (λ s kept at. inl (before_apart me.0.sizes generation_word (λ e. omega (arith, e)) (omega arith)))
+    (λ s kept at. inl (before_apart me.0.sizes generation_word (omega arith) (omega arith)))
     (λ s kept at. (let x = made_or_not sizes size id me generation main rest name own p w holding s kept at in (x.0, x.3, x.4)))
     (λ s kept at. (made_or_not sizes size id me generation main rest name own p w holding s kept at).1)
     (λ s kept at. (made_or_not sizes size id me generation main rest name own p w holding s kept at).2)

@@ -21,6 +21,7 @@ use Rattle.lock_free.specs.CopySteps.{IsAtCopy, IsAtNewRoot, HasTriedRoot, HasRo
 use Rattle.lock_free.specs.Loading.{now, seen, IsAt, IsSound, Runs, Waited, Took}
 use Rattle.lock_free.specs.Making.{made_by}
 use Rattle.lock_free.specs.Rules.{pool_of}
+use Rattle.lock_free.specs.declared.reclaiming.Kind.TheVariants as kinds
 use Rattle.lock_free.specs.Stocks.{Stocked, IsStock, NotesLast, HasSlot}
 use Rattle.lock_free.specs.Owning.{IsBuilding}
 use Rattle.lock_free.specs.Storing.{IsAdded, IsAtMakeRoot, IsOwnWord, drafted}
@@ -171,7 +172,7 @@ module _ (n : ℕ) (before : View) (name : ℕ) (mid : View) (slot : HasSlot bef
       }
 
   -- and noted
-  pub root_noted : (stock next : Stocked) → IsStock stock mid → next.sizes ≡ stock.sizes → NotesLast stock 0 next → next.limbo ≡ stock.limbo → IsStock next after
+  pub root_noted : (stock next : Stocked) → IsStock stock mid → next.sizes ≡ stock.sizes → NotesLast stock kinds.Indirection 0 next → next.limbo ≡ stock.limbo → IsStock next after
   root_noted stock next is sizes noted limbo =
       let (pool, made_is) = noted slot.last.0 name (ap (λ x. pool_of x 0) is.pool ∙ slot.last.1) in
       subst (IsStock next) (sym it.is)

@@ -27,16 +27,18 @@ use Rattle.lock_free.proofs.Geometry.{IsWordOf, root_below, root_apart}
 use Rattle.lock_free.proofs.Owners.{owners_kept}
 use Rattle.lock_free.proofs.Keeping.{stands_kept, written_kept, meaning_kept, same_nodes}
 use Rattle.lock_free.proofs.Meanings.{stood_still}
+use Rattle.lock_free.proofs.PartingStay.{NamesLess, parted_still}
 
 -- ---- a step that changes no node
 
-module _ (sizes : Sizes) (account : Account) (steps : List Step) (offers : List Known) (leaves : LeavesNodes sizes account (record account { steps = steps; offers = offers })) (stands : Standing)
+module _ (sizes : Sizes) (account : Account) (steps : List Step) (others : Account)
+    (leaves : LeavesNodes sizes account (record others { steps = steps; names = account.names; owned = account.owned })) (stands : Standing)
     (words : List ℕ) where
   abbrev now : State
   now = state_of sizes account
 
   abbrev later : Account
-  later = record account { steps = steps; offers = offers }
+  later = record others { steps = steps; names = account.names; owned = account.owned }
 
   abbrev next : State
   next = state_of sizes later
@@ -45,7 +47,7 @@ module _ (sizes : Sizes) (account : Account) (steps : List Step) (offers : List 
   stood k slot h = (h.0, sym (leaves.nodes k) ∙ h.1)
 
   pub nodes_left : (more : List Step) → steps ≡ account.steps ++ more →
-      ((x : Known) → Contains offers x → (k : ℕ) (slot : Slot) → Stands stands now k slot → place_at account k ≢ x.slot) → NodesStand sizes account stands words →
+      ((x : Known) → Contains others.offers x → (k : ℕ) (slot : Slot) → Stands stands now k slot → place_at account k ≢ x.slot) → NodesStand sizes account stands words →
       NodesStand sizes later stands words
   nodes_left more goes_on apart nodes = record {
     within = λ k slot h. nodes.within k slot (stood k slot h);
@@ -54,7 +56,7 @@ module _ (sizes : Sizes) (account : Account) (steps : List Step) (offers : List 
     offers = λ x c k slot h. apart x c k slot (stood k slot h);
     written = λ k slot h.
         (let was = stood k slot h in
-        stands_kept account steps offers nothing now next (same_nodes now next leaves.nodes) leaves.aheads (λ i a f e none. leaves.still i a f e) words (place_at account k) k slot slot.node refl
+        stands_kept account steps others nothing now next (same_nodes now next leaves.nodes) leaves.aheads (λ i a f e none. leaves.still i a f e) words (place_at account k) k slot slot.node refl
         (nodes.written k slot was));
     inside = λ k slot e. nodes.inside k slot (sym (leaves.nodes k) ∙ e);
     owners = owners_kept account later now next refl refl leaves.aheads nodes.owners;
@@ -67,7 +69,7 @@ module _ (sizes : Sizes) (account : Account) (steps : List Step) (offers : List 
   }
 
   pub written_left : (k : Known) → IsWritten account words k → IsWritten later words k
-  written_left = written_kept account steps offers nothing now next (same_nodes now next leaves.nodes) leaves.aheads (λ i a f e none. leaves.still i a f e) words
+  written_left = written_kept account steps others nothing now next (same_nodes now next leaves.nodes) leaves.aheads (λ i a f e none. leaves.still i a f e) words
 
 -- where no root changes either, with the marks of operations as they are then
 module _ (sizes : Sizes) (account : Account) (s : Step) (leaves : LeavesNodes sizes account (record account { steps = account.steps ++ s ∷ [] })) (stands : Standing) (words : List ℕ)
@@ -83,16 +85,18 @@ module _ (sizes : Sizes) (account : Account) (s : Step) (leaves : LeavesNodes si
     size = all.size;
     taken = all.taken;
     generations = all.generations ∙ sym leaves.generations;
-    nodes = nodes_left sizes account (account.steps ++ s ∷ []) account.offers leaves stands words (s ∷ []) refl all.nodes.offers all.nodes;
+    nodes = nodes_left sizes account (account.steps ++ s ∷ []) account leaves stands words (s ∷ []) refl all.nodes.offers all.nodes;
     roots = record {
       means = λ handle low.
           meaning_kept account (account.steps ++ s ∷ []) words handle _ _
           (subst (λ rs. MeansRoot account words handle (slice_index words (root_word handle)) (get_or rs handle None)) (sym roots) (all.roots.means handle low));
-      offers = λ k c. written_left sizes account (account.steps ++ s ∷ []) account.offers leaves stands words k (all.roots.offers k c);
+      offers = λ k c. written_left sizes account (account.steps ++ s ∷ []) account leaves stands words k (all.roots.offers k c);
       blocks = all.roots.blocks;
       single = all.roots.single;
       tries = all.roots.tries;
       stood = λ k c. stood_still sizes account (record account { steps = account.steps ++ s ∷ [] }) (s ∷ []) refl k.offer (all.roots.stood k c);
+      came = λ x c. stood_still sizes account (record account { steps = account.steps ++ s ∷ [] }) (s ∷ []) refl x.known.offer (all.roots.came x c);
+      parting = all.roots.parting;
       marks = marks;
       fates = λ k c.
           fate_kept sizes account (record account { steps = account.steps ++ s ∷ [] }) s refl k (fate words k)
@@ -170,7 +174,7 @@ module _ (sizes : Sizes) (account : Account) (stands : Standing) (words : List �
   -- where it says what the handle's root is, all stands as before
   module _ (means : MeansRoot account rooted handle x (root_at (state_of sizes account) handle))
       (unnamed : (k : Known) → Contains account.offers k → fate words k ≡ undecided → (slice_index words i ≡ root_code (word.Offered k.slot) → ⊥) ×
-      (slice_index words i ≡ root_code (word.Opening k.slot) → ⊥)) where
+      (slice_index words i ≡ root_code (word.Opening k.slot) → ⊥)) (less : NamesLess account.offers words rooted) where
     means_by : (g : ℕ) → g < handle_limit → MeansRoot account rooted g (slice_index rooted (root_word g)) (root_at (state_of sizes account) g)
     means_by g low_g = elim (cases_eq g handle) [
       | inl same ↦
@@ -198,6 +202,8 @@ module _ (sizes : Sizes) (account : Account) (stands : Standing) (words : List �
         single = all.roots.single;
         tries = all.roots.tries;
         stood = all.roots.stood;
+        came = all.roots.came;
+        parting = parted_still account.offered account.offers account.parted words rooted less all.roots.parting;
         marks = marks_over account words i x not_its (state_of sizes account) all.roots.marks;
         fates = λ k c. fate_said sizes account k (fate words k) (fate rooted k) (fate_rooted k c) (all.roots.fates k c);
         pending = λ k c stands.

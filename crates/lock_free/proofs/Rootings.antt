@@ -73,8 +73,8 @@ one_look n way u v w h sound stayed =
 
 -- ---- an offer stands there
 
-module _ (n : ℕ) (v : View) (sound : IsSound n v) (way : Way) (at : IsAtRoot v) (on : IsOnWay v way) (offer : ℕ) (knows : HasOffer v.sizes v.account way.handle offer) (w : View) (then : IsSound n w)
-    (found : HasFoundOffer v way.handle offer w) where
+module _ (n : ℕ) (v : View) (sound : IsSound n v) (way : Way) (at : IsAtRoot v) (on : IsOnWay v way) (offer : ℕ) (knows : HasOffer v.sizes v.account v.pin way.handle offer) (w : View)
+    (then : IsSound n w) (found : HasFoundOffer v way.handle offer w) where
   abbrev its : Known
   its = knows.its
 

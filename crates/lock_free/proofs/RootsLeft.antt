@@ -47,8 +47,8 @@ left_after u v w result at stayed h = record {
 }
 
 -- a COMPLETE of another one's offer is out of tries
-module _ (n : ℕ) (v : View) (sound : IsSound n v) (way : Way) (at : IsAtRoot v) (on : IsOnWay v way) (offer : ℕ) (knows : HasOffer v.sizes v.account way.handle offer) (w : View) (then : IsSound n w)
-    (found : HasFoundOffer v way.handle offer w) (next : Completing) (z : View) (h : HasCompletedOn w way.handle offer next z) where
+module _ (n : ℕ) (v : View) (sound : IsSound n v) (way : Way) (at : IsAtRoot v) (on : IsOnWay v way) (offer : ℕ) (knows : HasOffer v.sizes v.account v.pin way.handle offer) (w : View)
+    (then : IsSound n w) (found : HasFoundOffer v way.handle offer w) (next : Completing) (z : View) (h : HasCompletedOn w way.handle offer next z) where
   abbrev y : ReadLine
   y = h.0
 

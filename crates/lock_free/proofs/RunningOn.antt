@@ -37,6 +37,7 @@ still_both u v w p q = record {
     pool = w.pool;
     drafts = w.drafts;
     opening = w.opening;
+    offer = w.offer;
     retired = w.retired;
     owed =
         w.owed;
@@ -53,6 +54,7 @@ pub still_with : (v w x : View) → w ≡ record v {
   pool = x.pool;
   drafts = x.drafts;
   opening = x.opening;
+  offer = x.offer;
   retired = x.retired;
   owed = x.owed;
   links = x.links;
@@ -65,6 +67,7 @@ still_with v w x is more = record {
     pool = z.pool;
     drafts = z.drafts;
     opening = z.opening;
+    offer = z.offer;
     retired = z.retired;
     owed = z.owed;
     links =
@@ -127,7 +130,7 @@ runs_on_left v w answer g = record { still = still_follows v w g.follows; runs =
 
 pub runs_on_given_up : (v w : View) (operation : Operation) (answer : Reply) → Runs v operation → GaveUp v operation answer w → RunsOn v w
 runs_on_given_up v w operation answer at g = record {
-  still = still_with v w (once_given_up v g.account operation.private) g.after_is
+  still = still_with v w (once_given_up v g.account operation.private w.drafts) g.after_is
       (goes_both v.account.steps g.account.steps (taking (step.GiveUp v.actor) g.account).steps (g.waited.waited.steps, g.waited.waited.goes_on) (step.GiveUp v.actor ∷ [], refl));
   runs = λ o r. (
     gave_up operation answer,

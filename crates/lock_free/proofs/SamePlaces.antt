@@ -28,7 +28,8 @@ use Rattle.lock_free.proofs.EntryLooks.{slot_small}
 use Rattle.lock_free.proofs.GivenBack.{node_is}
 use Rattle.lock_free.proofs.Laters.{main_kind, saw_later, waited_later}
 use Rattle.lock_free.proofs.Looking.{saw, seen_pair}
-use Rattle.lock_free.proofs.Moments.{IsThere, held_there, its_place, entry_lives}
+use Rattle.lock_free.proofs.LastingNodes.{entry_lives}
+use Rattle.lock_free.proofs.Moments.{IsThere, held_there, its_place}
 use Rattle.lock_free.proofs.Verdicts.{main_same}
 
 module _ (n : ℕ) (v : View) (sound : IsSound n v) (name position other found : ℕ) (after : View) (h : HasSeen v (2 * name + 1 + position / 2) found after) where

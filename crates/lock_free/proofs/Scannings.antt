@@ -44,9 +44,9 @@ use Rattle.lock_free.proofs.Comings.{runs_one}
 use Rattle.lock_free.proofs.OnLines.{way_on}
 use Rattle.lock_free.proofs.RunningOn.{runs_on_moved}
 use Rattle.lock_free.proofs.StockStays.{stock_moved}
-use Rattle.lock_free.proofs.WalkBegins.{walking_now, way_walked}
-use Rattle.lock_free.proofs.WalkLines.{next_gives_up, next_same, walking_on, walking_then}
-use Rattle.lock_free.proofs.WalksWhole.{ended_after}
+use Rattle.lock_free.proofs.OneWalk.Begins.{walking_now, way_walked}
+use Rattle.lock_free.proofs.OneWalk.Lines.{next_gives_up, next_same, walking_on, walking_then}
+use Rattle.lock_free.proofs.OneWalk.Whole.{ended_after}
 
 -- ---- its line says what was taken
 

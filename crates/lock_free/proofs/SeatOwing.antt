@@ -30,6 +30,7 @@ seat_owing sizes account stands words v owed h = record {
   once = h.once;
   drafts = h.drafts;
   plain = h.plain;
+  offering = h.offering;
 }
 
 pub owing_sound : (words : ℕ) (v : View) (owed : List ℕ) → IsSound words v → IsSound words (owing v owed)

@@ -1,6 +1,6 @@
 -- What an access of one seat leaves of the seats.
 use Rattle.history.specs.declared.calls.Call.{Call}
-use Rattle.std.proofs.Common.{◌≡◌, ◌≢◌, ℕ, suc, ◌<◌, ◌≤◌, true, Option, List, Contains, get_or, slice_index, is_some, length, Some, None, refl, sym, ap, ◌∙◌, arith}
+use Rattle.std.proofs.Common.{◌≡◌, ◌≢◌, ℕ, suc, ◌<◌, ◌≤◌, true, Option, List, Contains, get_or, slice_index, is_some, length, Some, None, refl, sym, ap, ◌∙◌, arith, subst}
 use Rattle.std.proofs.lemmas.Option.{none-some, same_Some}
 use mathlib.Core.Option.{some}
 use lib.ListN.{get_elem?}
@@ -23,6 +23,8 @@ use Rattle.lock_free.specs.Trying.{KeepsTries}
 use Rattle.lock_free.proofs.Geometry.{IsWordOf}
 use Rattle.lock_free.proofs.Meanings.{reserved}
 use Rattle.lock_free.proofs.Waiting.{grown_both, grown_by, waited_none}
+use Rattle.lock_free.proofs.PartingStay.{OffersStay}
+use Rattle.lock_free.specs.Parting.{KnowsOffers}
 
 -- it ran before, for the same call
 pub record Ran (before : State) (a : ℕ) (o : Operation) : Type 0 where
@@ -75,6 +77,8 @@ module _ (sizes : Sizes) (s : Table.State Call View) (kept : IsKept sizes s) (id
     pub spare : (other : ℕ) (w : View) (b name : ℕ) → get_elem? s.views other ≡ some w → (other ≡ id → ⊥) → IsFree w b name → StaysSpare b name
     -- handles whose words name no offer
     pub plain : (d : ℕ × ℕ) → IsPlainSo sizes kept.account s.words d → IsPlainSo sizes account words d
+    -- offers
+    pub offering : OffersStay kept.account account s.words words
 
   -- the seat with what is free for it then and what it has written there
   abbrev pub seat_then : Pool → Option ℕ → List (ℕ × ℕ) → View
@@ -135,6 +139,7 @@ module _ (sizes : Sizes) (s : Table.State Call View) (kept : IsKept sizes s) (id
               let slot = x.1 in
               ((stays.spare other w slot.0 slot.1 e apart slot.2).1 d.0 (record { low = slot.3; high = slot.4 }) ∙ x.0, slot));
           plain = λ d c. stays.plain d (h.plain d c);
+          offering = stays.offering w.actor w.pin w.offer w.pool.parted h.offering;
         }
 
     -- and the seat itself, where the access is its operation's step, with what is free for it then and what it has written there
@@ -145,7 +150,8 @@ module _ (sizes : Sizes) (s : Table.State Call View) (kept : IsKept sizes s) (id
         (names : (handle slot : ℕ) → v.opens ≡ Some handle → opening ≡ Some slot → (v.opening ≡ Some slot) ×
         (Names s.words v handle slot → (slice_index words (root_word handle) ≡ slice_index s.words (root_word handle)) × Contains (pool_of pool 1) slot)) (drafts : List (ℕ × ℕ))
         (spare : (b name : ℕ) → IsFree (seat_then pool opening drafts) b name → IsTaken sizes words b name × IsSpare sizes account stands name) (once : (b : ℕ) → b < 3 → Once (pool_of pool b))
-        (written : (d : ℕ × ℕ) → Contains drafts d → AreDrafts words (seat_then pool opening drafts) d) where
+        (written : (d : ℕ × ℕ) → Contains drafts d → AreDrafts words (seat_then pool opening drafts) d)
+        (knows : KnowsOffers account.offered account.offers account.parted words v.actor v.pin v.offer pool.parted) where
       pub own_kept : IsSeat sizes account stands words (seat_then pool opening drafts)
       own_kept =
           let h = kept.seats id v at in
@@ -174,6 +180,7 @@ module _ (sizes : Sizes) (s : Table.State Call View) (kept : IsKept sizes s) (id
             once = once;
             drafts = written;
             plain = λ d c. stays.plain d (h.plain d c);
+            offering = knows;
           }
 
     -- and the seat itself, where it pins itself, enters a handle, would close one, or reserves a number
@@ -191,7 +198,7 @@ module _ (sizes : Sizes) (s : Table.State Call View) (kept : IsKept sizes s) (id
           (numbers : (handle : ℕ) → Reserves (state_of sizes account) seat_else handle → IsHeld (state_of sizes account) words handle)
           (reserves : (o : Operation) → operation_of (state_of sizes account) v.actor ≡ Some o → opens ≡ o.opens)
           (names : (handle slot : ℕ) → opens ≡ Some handle → opening ≡ Some slot → Names words seat_else handle slot)
-          (spare : (b name : ℕ) → IsFree v b name → StaysSpare b name) where
+          (spare : (b name : ℕ) → IsFree v b name → StaysSpare b name) (knows : KnowsOffers account.offered account.offers account.parted words v.actor pin v.offer v.pool.parted) where
         pub own_else : IsSeat sizes account stands words seat_else
         own_else =
             let h = kept.seats id v at in
@@ -219,6 +226,7 @@ module _ (sizes : Sizes) (s : Table.State Call View) (kept : IsKept sizes s) (id
               once = h.once;
               drafts = λ d c. drafts_kept seat_else d (h.drafts d c) (λ b name f. (f, (spare b name f).1));
               plain = λ d c. stays.plain d (h.plain d c);
+              offering = knows;
             }
 
 -- ---- an access that is no step
@@ -230,7 +238,8 @@ module _ (sizes : Sizes) (s : Table.State Call View) (kept : IsKept sizes s) (id
     (spare : (b name : ℕ) → IsFree (record v { pool = pool; drafts = drafts }) b name → IsTaken sizes words b name × IsSpare sizes kept.account kept.stands name)
     (once : (b : ℕ) → b < 3 → Once (pool_of pool b))
     (written : (d : ℕ × ℕ) → Contains drafts d → AreDrafts words (record v { pool = pool; drafts = drafts }) d)
-    (still : (handle slot : ℕ) → Names s.words v handle slot → (slice_index words (root_word handle) ≡ slice_index s.words (root_word handle)) × Contains (pool_of pool 1) slot) where
+    (still : (handle slot : ℕ) → Names s.words v handle slot → (slice_index words (root_word handle) ≡ slice_index s.words (root_word handle)) × Contains (pool_of pool 1) slot)
+    (same_parted : pool.parted ≡ v.pool.parted) where
   pub own_still : IsSeat sizes kept.account kept.stands words (record v { pool = pool; drafts = drafts })
   own_still =
       let h = kept.seats id v at in
@@ -257,4 +266,6 @@ module _ (sizes : Sizes) (s : Table.State Call View) (kept : IsKept sizes s) (id
         once = once;
         drafts = written;
         plain = λ d c. stays.plain d (h.plain d c);
+        offering = subst (λ xs. KnowsOffers kept.account.offered kept.account.offers kept.account.parted words v.actor v.pin v.offer xs) (sym same_parted)
+            (stays.offering v.actor v.pin v.offer v.pool.parted h.offering);
       }

@@ -9,7 +9,8 @@ use Rattle.lock_free.specs.Accounts.{HasWaited}
 use Rattle.lock_free.specs.Answers.{silent, talk_at}
 use Rattle.lock_free.specs.Loading.{now, HasSeen, IsSound}
 use Rattle.lock_free.specs.Places.{AreSizes}
-use Rattle.lock_free.specs.Rules.{first_view}
+use Rattle.lock_free.specs.FirstViews.{first_view}
+use Rattle.lock_free.specs.Rules.{no_slots}
 use Rattle.lock_free.specs.Seated.{HasActors, HasSplit, IsResting, IsSeated, Seated}
 use Rattle.lock_free.specs.SeatWords.{IsIdle}
 use Rattle.lock_free.specs.Splitting.{of_last, without_last}
@@ -27,19 +28,21 @@ pub record IsEmpty (stock : Stocked) : Type 0 where
   pub small : stock.pool.small ≡ []
   pub medium : stock.pool.medium ≡ []
   pub wide : stock.pool.wide ≡ []
+  pub parted : stock.pool.parted ≡ []
   pub made : stock.made ≡ []
   pub limbo : (v : View) → v.retired ≡ [] → IsLimbo stock.limbo v
 
-no_pool : (pool : Pool) → pool.small ≡ [] → pool.medium ≡ [] → pool.wide ≡ [] → pool ≡ record { small = []; medium = []; wide = [] }
-no_pool pool small medium wide =
-    ap (λ x. record { small = x; medium = pool.medium; wide = pool.wide }) small ∙ ap (λ y. record { small = []; medium = y; wide = pool.wide }) medium
-    ∙ ap (λ z. record { small = []; medium = []; wide = z }) wide
+no_pool : (pool : Pool) → pool.small ≡ [] → pool.medium ≡ [] → pool.wide ≡ [] → pool.parted ≡ [] → pool ≡ no_slots
+no_pool pool small medium wide parted =
+    ap (λ x. record { small = x; medium = pool.medium; wide = pool.wide; parted = pool.parted }) small
+    ∙ ap (λ y. record { small = []; medium = y; wide = pool.wide; parted = pool.parted }) medium
+    ∙ ap (λ z. record { small = []; medium = []; wide = z; parted = pool.parted }) wide ∙ ap (λ w. record { small = []; medium = []; wide = []; parted = w }) parted
 
-new_stock : (stock : Stocked) → IsEmpty stock → (v : View) → stock.sizes ≡ v.sizes → v.pool ≡ record { small = []; medium = []; wide = [] } → operation_of (now v) v.actor ≡ None →
+new_stock : (stock : Stocked) → IsEmpty stock → (v : View) → stock.sizes ≡ v.sizes → v.pool ≡ no_slots → operation_of (now v) v.actor ≡ None →
     v.retired ≡ [] → IsStock stock v
 new_stock stock empty v sizes pool idle none = record {
   sizes = sizes;
-  pool = no_pool stock.pool empty.small empty.medium empty.wide ∙ sym pool;
+  pool = no_pool stock.pool empty.small empty.medium empty.wide empty.parted ∙ sym pool;
   made = empty.made ∙ sym (ap (λ o. map (made_of v) (own_of o)) idle);
   limbo = empty.limbo v none;
 }

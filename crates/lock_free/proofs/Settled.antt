@@ -34,6 +34,7 @@ use Rattle.lock_free.specs.Rules.{NodesStand, IsClosing, SaysClosing, IsSpare, I
 use Rattle.lock_free.specs.Fates.{TellsFate, IsSettled, IsMarkedThen, is_carried_out, is_taken_back}
 use Rattle.lock_free.specs.Settling.{Settles}
 use Rattle.lock_free.proofs.Assembling.{AllStand, all_stand, closing_stays, opening_stays, Numbers, assembled}
+use Rattle.lock_free.proofs.CellsStay.{before_cells, cells_step}
 use Rattle.lock_free.proofs.Fates.{fate_kept, fate_said, fate_settled}
 use Rattle.lock_free.proofs.Framing.{else_word, below_word, still_taken, have_still, stands_over, class_small}
 use Rattle.lock_free.proofs.Geometry.{IsWordOf, slots_apart, above, inside, root_below}
@@ -47,6 +48,7 @@ use Rattle.lock_free.proofs.Tries.{is_or_not, ran_settled, reserved_settled, not
 use Rattle.lock_free.proofs.Waiting.{waited_more, quiet_more}
 use Rattle.machine_model.specs.Beneath.slot_arena.specs.declared.refs.Ref.{Ref}
 use Rattle.lock_free.specs.Holdings.{AreHeld}
+use Rattle.lock_free.proofs.PartingStay.{knows_still, names_same, parted_still}
 
 module _ (sizes : Sizes) (s : Table.State Call View) (kept : IsKept sizes s) (id : ℕ) (v : View) (at : get_elem? s.views id ≡ some v) (operation : Operation)
     (runs : operation_of (state_of sizes kept.account) v.actor ≡ Some operation) (n : ℕ) (k : Known) (here : Contains kept.account.offers k)
@@ -136,7 +138,7 @@ module _ (sizes : Sizes) (s : Table.State Call View) (kept : IsKept sizes s) (id
   }
 
   nodes_then : NodesStand sizes account_then kept.stands words_then
-  nodes_then = root.nodes_left sizes kept.account account_then.steps kept.account.offers settles.leaves kept.stands words_then (step.Go v.actor ∷ []) refl kept.nodes.offers nodes_over
+  nodes_then = root.nodes_left sizes kept.account account_then.steps kept.account settles.leaves kept.stands words_then (step.Go v.actor ∷ []) refl kept.nodes.offers nodes_over
 
   -- ---- what words of handles mean
 
@@ -190,7 +192,7 @@ module _ (sizes : Sizes) (s : Table.State Call View) (kept : IsKept sizes s) (id
 
   written_all : (l : Known) → Contains kept.account.offers l → IsWritten account_then words_then l
   written_all l c =
-      let w = root.written_left sizes kept.account account_then.steps kept.account.offers settles.leaves kept.stands s.words l (kept.roots.offers l c) in
+      let w = root.written_left sizes kept.account account_then.steps kept.account settles.leaves kept.stands s.words l (kept.roots.offers l c) in
       record { olds = else_same (2 * l.slot + 1) (λ same. omega (arith, same)) ∙ w.olds; news = else_same (2 * l.slot + 2) (last_apart l c) ∙ w.news }
     where
       last_apart : (l : Known) → Contains kept.account.offers l → 2 * l.slot + 2 ≢ i
@@ -272,6 +274,8 @@ module _ (sizes : Sizes) (s : Table.State Call View) (kept : IsKept sizes s) (id
       single = kept.roots.single;
       tries = kept.roots.tries;
       stood = λ l c. stood_still sizes kept.account account_then (step.Go v.actor ∷ []) refl l.offer (kept.roots.stood l c);
+      came = λ x c. stood_still sizes kept.account account_then (step.Go v.actor ∷ []) refl x.known.offer (kept.roots.came x c);
+      parting = parted_still kept.account.offered kept.account.offers kept.account.parted s.words words_then (names_same kept.account.offers s.words words_then root_same) kept.roots.parting;
       marks = marks_all;
       fates = fates_all;
       pending = pending_all;
@@ -335,6 +339,8 @@ module _ (sizes : Sizes) (s : Table.State Call View) (kept : IsKept sizes s) (id
     taken = taken_still;
     spare = λ other w b name e apart free. (let x = (kept.seats other w e).spare b name free in (spare_then name x.1, slot_same b name free.0 x.0 x.1));
     plain = plain_running sizes kept.account account_then kept.bounds ((step.Go v.actor) ∷ []) refl s.words words_then v.actor operation runs;
+    offering = knows_still kept.account.offered kept.account.offers kept.account.parted s.words words_then
+        (names_same kept.account.offers s.words words_then root_same);
   }
 
   pub own_then : IsSeat sizes account_then kept.stands words_then view_then
@@ -343,7 +349,7 @@ module _ (sizes : Sizes) (s : Table.State Call View) (kept : IsKept sizes s) (id
       (before_slots (pin_word v.actor) (let top = seat.top in let most = seat.most in omega (arith, top, most))) v.pool v.opening (λ g slot o m. (m, λ x. (root_same g x.low, x.free.1))) v.drafts
       (λ b name f. (let x = seat.spare b name f in (taken_still b name f.0 x.0, spare_then name x.1))) seat.once
       (λ d c. drafts_kept sizes s kept id v at account_then kept.stands words_then stays view_then d (seat.drafts d c)
-      (λ b name f. (f, (let x = seat.spare b name f in slot_same b name f.0 x.0 x.1))))
+      (λ b name f. (f, (let x = seat.spare b name f in slot_same b name f.0 x.0 x.1)))) (stays.offering v.actor v.pin v.offer v.pool.parted seat.offering)
 
   -- with what it owes and has retired then
   abbrev pub Then : List Ref → List Retired → View
@@ -352,7 +358,7 @@ module _ (sizes : Sizes) (s : Table.State Call View) (kept : IsKept sizes s) (id
   closings_then : (owed : List Ref) (retired : List Retired) (g who : ℕ) → g < handle_limit → SaysClosing (slice_index words_then (root_word g)) who →
       IsClosing (set s.views id (Then owed retired)) g who
   closings_then owed retired g who below says =
-      closing_stays sizes s kept id v at (Then owed retired) refl refl (λ h e. e) refl g who (kept.closings g who below (subst (λ m. SaysClosing m who) (root_same g below) says))
+      closing_stays sizes s kept id v at (Then owed retired) refl refl (λ h e. (e, refl)) refl (λ c. c) g who (kept.closings g who below (subst (λ m. SaysClosing m who) (root_same g below) says))
 
   -- a number whose word names no offer isn't the one that is opened
   not_its : (g slot : ℕ) → g < handle_limit → IsRootWord (word.Opening slot) → slice_index words_then (root_word g) ≡ root_code (word.Opening slot) → NoOffer account_then slot → k.offer.opens ≡
@@ -385,3 +391,5 @@ module _ (sizes : Sizes) (s : Table.State Call View) (kept : IsKept sizes s) (id
   settle_all owed retired its is_held =
       assembled sizes s kept id v at (Then owed retired) refl refl account_then kept.stands words_then all_then (closings_then owed retired) its
       (other_kept sizes s kept id v at account_then kept.stands words_then stays) (λ b name f. inl f) (numbers_then owed retired) is_held
+      (cells_step sizes s kept id v at (Then owed retired) account_then kept.stands i n
+      (before_cells sizes s.words kept.taken 1 k.slot i medium (kept.roots.blocks k here) its_word) taken_still spare_then (λ b m f. f))

@@ -8,12 +8,14 @@ use Rattle.trie_words.specs.declared.roots.RootWord.{RootWord}
 use Rattle.trie_words.specs.declared.roots.RootWord.TheVariants as word
 use Rattle.machine_model.specs.Beneath.slot_arena.specs.declared.refs.Ref.{Ref}
 use Rattle.lock_free.specs.declared.reclaiming.Kind.TheVariants as kinds
+use Rattle.lock_free.specs.declared.rules.Checked.{Checked}
 use Rattle.lock_free.specs.declared.rules.Closing.{Closing}
 use Rattle.lock_free.specs.declared.rules.Pinned.{Pinned}
 use Rattle.lock_free.specs.declared.rules.View.{View}
 use Rattle.lock_free.specs.Closing.{with_marks, HasMarkedAndShut, HasShutIt, RestsAs, ShutPinned, Watched}
 use Rattle.lock_free.specs.Counts.{without_one}
-use Rattle.lock_free.specs.HandleWords.{is_unmarked, marked_by, marking, owes_closed, HasSeenRoot, ShutBy}
+use Rattle.lock_free.specs.Glances.{clearing}
+use Rattle.lock_free.specs.HandleWords.{is_unmarked, marked_by, marking, owes_closed, ShutBy}
 use Rattle.lock_free.specs.Limbos.{hanging_of}
 use Rattle.lock_free.specs.Loading.{IsSound, Saw}
 use Rattle.lock_free.specs.Places.{small_class}
@@ -26,25 +28,28 @@ use Rattle.lock_free.proofs.BetweenCalls.{idle_stock}
 use Rattle.lock_free.proofs.CopyGifts.{one_gone}
 use Rattle.lock_free.proofs.OneStep.Idle.{idle_stays}
 use Rattle.lock_free.proofs.Pools.{first_there}
-use Rattle.lock_free.proofs.Waiting.{waited_twice}
 
 -- what is sound stays so with other marks
-pub marks_sound : (words : ℕ) (v : View) (marks : List Closing) → IsSound words v → IsSound words (with_marks v marks)
-marks_sound words v marks h = record { size = h.size; range = h.range; bounds = h.bounds; keys = h.keys; counted = h.counted; inside = h.inside; free = h.free }
+pub marks_sound : (words : ℕ) (v : View) (marks : List Closing) (passed : Checked) → IsSound words v → IsSound words (with_marks v marks passed)
+marks_sound words v marks passed h = record { size = h.size; range = h.range; bounds = h.bounds; keys = h.keys; counted = h.counted; inside = h.inside; free = h.free }
 
 -- ---- it looks at pins
 
 -- it has looked at so many
 pub record Passed (before v : View) (handle looked : ℕ) : Type 0 where
   pub marks : List Closing
-  pub is : v ≡ with_marks before marks
+  pub is : v ≡ with_marks before marks before.passed
   pub would : WouldClose v handle looked
 
 pub none_passed : (before : View) (handle : ℕ) → WouldClose before handle 0 → Passed before before handle 0
 none_passed before handle would = record { marks = before.closing; is = refl; would = would }
 
 pub passed_sound : (words : ℕ) (before v : View) (handle looked : ℕ) → Passed before v handle looked → IsSound words before → IsSound words v
-passed_sound words before v handle looked p sound = subst (IsSound words) (sym p.is) (marks_sound words before p.marks sound)
+passed_sound words before v handle looked p sound = subst (IsSound words) (sym p.is) (marks_sound words before p.marks before.passed sound)
+
+-- it has let glances fall before
+pub fell_and_passed : (v u w : View) → u ≡ clearing v → ((marks : List Closing) × (w ≡ with_marks u marks u.passed)) → (marks : List Closing) × (w ≡ with_marks v marks (clearing v).passed)
+fell_and_passed v u w fell (marks, is) = (marks, is ∙ ap (λ (x : View). with_marks x marks x.passed) fell)
 
 -- ---- it marks the handle, and closes it
 
@@ -64,14 +69,14 @@ rests_so : (v : View) → v.pin ≡ None → v.entered ≡ None → v ≡ record
 rests_so v free outside = ap (λ p. record v { pin = p }) free ∙ ap (λ e. record v { pin = None; entered = e }) outside
 
 -- but for its marks
-pub rests_marks : (v : View) (marks : List Closing) → IsResting v → RestsAs v (with_marks v marks)
-rests_marks v marks r = record { is = ap (λ (x : View). with_marks x marks) (rests_so v r.pin r.entered) }
+pub rests_marks : (v : View) (marks : List Closing) (passed : Checked) → IsResting v → RestsAs v (with_marks v marks passed)
+rests_marks v marks passed r = record { is = ap (λ (x : View). with_marks x marks passed) (rests_so v r.pin r.entered) }
 
 pub rests_self : (v : View) → IsResting v → RestsAs v v
-rests_self v r = rests_marks v v.closing r
+rests_self v r = rests_marks v v.closing v.passed r
 
-pub rests_pinned : (v : View) (marks : List Closing) (pinned : Pinned) (call : Call) → RestsAs v (unpinned (pinned_for (with_marks v marks) pinned call))
-rests_pinned v marks pinned call = record { is = refl }
+pub rests_pinned : (v : View) (marks : List Closing) (passed : Checked) (pinned : Pinned) (call : Call) → RestsAs v (unpinned (pinned_for (with_marks v marks passed) pinned call))
+rests_pinned v marks passed pinned call = record { is = refl }
 
 pub resting_seen : (v w : View) → Saw v w → IsResting v → IsResting w
 resting_seen v w s r = record {
@@ -81,13 +86,13 @@ resting_seen v w s r = record {
   opens = ap (λ (x : View). x.opens) s.after_is ∙ r.opens;
 }
 
-pub resting_marks : (v : View) (marks : List Closing) → IsResting v → IsResting (with_marks v marks)
-resting_marks v marks r = record { idle = r.idle; pin = r.pin; entered = r.entered; opens = r.opens }
+pub resting_marks : (v : View) (marks : List Closing) (passed : Checked) → IsResting v → IsResting (with_marks v marks passed)
+resting_marks v marks passed r = record { idle = r.idle; pin = r.pin; entered = r.entered; opens = r.opens }
 
 -- ---- its stock
 
-pub marks_stock : (stock : Stocked) (v : View) (marks : List Closing) → IsIdle v → IsStock stock v → IsStock stock (with_marks v marks)
-marks_stock stock v marks idle is = idle_stock stock v (with_marks v marks) idle idle refl refl is
+pub marks_stock : (stock : Stocked) (v : View) (marks : List Closing) (passed : Checked) → IsIdle v → IsStock stock v → IsStock stock (with_marks v marks passed)
+marks_stock stock v marks passed idle is = idle_stock stock v (with_marks v marks passed) idle idle refl refl is
 
 pub seen_stock : (stock : Stocked) (v w : View) → Saw v w → IsIdle v → IsStock stock v → IsStock stock w
 seen_stock stock v w s idle is = idle_stock stock v w idle (idle_seen v w s idle) (ap hanging_of s.after_is) (ap (λ (x : View). x.pool) s.after_is) is
@@ -121,22 +126,17 @@ module _ (v : View) (handle name : ℕ) (y : View) (s : ShutBy v handle name y) 
 pub marked_shut : (v : View) (handle : ℕ) (closed : Bool) (w : View) → HasMarkedAndShut (marking v handle) handle closed w → HasMarkedAndShut v handle closed w
 marked_shut v handle closed w h = (h.0, λ e. record { is = (h.1 e).is })
 
-pub passed_shut : (v : View) (marks : List Closing) (handle : ℕ) (closed : Bool) (w : View) → ShutPinned (with_marks v marks) handle closed w → HasMarkedAndShut v handle closed w
-passed_shut v marks handle closed w h = (
-  λ e. (marks, subst (λ b. ShutPinned (with_marks v marks) handle b w) e h),
-  λ e. unshut (subst (λ b. ShutPinned (with_marks v marks) handle b w) e h),
+pub passed_shut : (v : View) (marks : List Closing) (passed : Checked) (handle : ℕ) (closed : Bool) (w : View) → ShutPinned (with_marks v marks passed) handle closed w →
+    HasMarkedAndShut v handle closed w
+passed_shut v marks passed handle closed w h = (
+  λ e. (marks, passed, subst (λ b. ShutPinned (with_marks v marks passed) handle b w) e h),
+  λ e. unshut (subst (λ b. ShutPinned (with_marks v marks passed) handle b w) e h),
 )
   where
-    unshut : ShutPinned (with_marks v marks) handle false w → RestsAs v w
-    unshut n = subst (RestsAs v) (sym (n.after_is ∙ ap unpinned n.shut)) (rests_pinned v marks n.pinned n.call)
+    unshut : ShutPinned (with_marks v marks passed) handle false w → RestsAs v w
+    unshut n = subst (RestsAs v) (sym (n.after_is ∙ ap unpinned n.shut)) (rests_pinned v marks passed n.pinned n.call)
 
 -- ---- all of it
 
 pub watched_saw : (before after : View) → Saw before after → IsResting before → Watched before after
 watched_saw before after s r = record { at = after; saw = s; rests = rests_self after (resting_seen before after s r) }
-
--- what a seat has seen of a handle's word it has seen since before
-pub seen_since : (before at after : View) (handle : ℕ) (w : RootWord) → Saw before at → HasSeenRoot at handle w after → HasSeenRoot before handle w after
-seen_since before at after handle w s h =
-    let x = subst (λ z. HasSeenRoot z handle w after) s.after_is h in
-    (record { account = x.0.account; waited = waited_twice before s.account x.0.account s.waited x.0.waited; after_is = x.0.after_is }, x.1, x.2)

@@ -1,5 +1,5 @@
 -- A seat is split: its last actor gets a seat of its own.
-use Rattle.std.proofs.Common.{◌≡◌, ◌≢◌, ℕ, zero, suc, ◌<◌, ◌≤◌, ◌⊎◌, Contains, inl, inr, List, [], ◌∷◌, ◌++◌, Some, length, set, length-set, refl, sym, ap, subst, ◌∙◌, arith}
+use Rattle.std.proofs.Common.{◌≡◌, ◌≢◌, ℕ, true, zero, suc, ◌<◌, ◌≤◌, ◌⊎◌, Contains, inl, inr, List, [], ◌∷◌, ◌++◌, Some, length, set, length-set, refl, sym, ap, subst, ◌∙◌, arith}
 use Rattle.std.proofs.lemmas.Bool.{cases_eq}
 use Rattle.std.proofs.lemmas.Option.{none-some}
 use Rattle.std.proofs.lemmas.List.Sums.{sum_by_push}
@@ -20,8 +20,12 @@ use Rattle.lock_free.specs.Accounts.{state_of}
 use Rattle.lock_free.specs.Loading.{IsSound}
 use Rattle.lock_free.specs.Counts.{how_often, owed_on}
 use Rattle.lock_free.specs.Holdings.{AreHeld, retired_in, retired_on}
-use Rattle.lock_free.specs.Rules.{AreEpochs, AreOwed, AreRetired, HasActor, HasSeat, IsClosing, IsFree, IsKept, IsOpening, IsRuled, IsSeat, latest, Reserves, WasGivenUp}
+use Rattle.lock_free.specs.Cells.{Stores}
+use Rattle.lock_free.specs.Shadows.{IsShadowed}
+use Rattle.lock_free.specs.Rules.{AreEpochs, AreOwed, AreRetired, HasActor, HasSeat, IsClosing, IsFree, IsKept, IsOpening, IsRuled, IsSeat, IsShown, latest, Reserves, WasGivenUp}
 use Rattle.lock_free.specs.Splitting.{without_last, of_last}
+use Rattle.lock_free.proofs.Assembling.{cleared_or}
+use Rattle.lock_free.proofs.OneGlance.Shadowed.{lifted_split}
 use Rattle.lock_free.proofs.CountsStay.{owed_set}
 use Rattle.lock_free.proofs.HeldStill.{retired_set}
 use Rattle.lock_free.proofs.OwedStay.{Owed, owed_as, owed_none, owed_self, owed_stay}
@@ -36,6 +40,7 @@ use Rattle.lock_free.specs.OwesAt.{owes_at}
 use Rattle.lock_free.specs.Reached.{IsDead, IsOwed, IsReached, at_first}
 use Rattle.lock_free.proofs.HeldFrom.{held_within}
 use Rattle.machine_model.specs.Beneath.slot_arena.specs.declared.refs.Ref.{Ref}
+use Rattle.lock_free.proofs.PartingStay.{knows_nothing}
 
 at_more : (xs : List View) (x w : View) (k : ℕ) → get_elem? (xs ++ x ∷ []) k ≡ some w → (get_elem? xs k ≡ some w) ⊎ ((k ≡ length xs) × (x ≡ w))
 at_more [] x w zero e = inr (refl, some-injective x w e)
@@ -93,6 +98,12 @@ module _ (sizes : Sizes) (s : Table.State Call View) (kept : IsKept sizes s) (id
   none_second : (b name : ℕ) → IsFree second b name → ⊥
   none_second b name free = none_free v.sizes v.last v.last v.account b name free
 
+  -- what stands in a cell is free for none
+  not_free : (class number name : ℕ) → Stores sizes s.words class number name → (k : ℕ) (x : View) (b : ℕ) → Was k x → IsFree x b name → ⊥
+  not_free class number name h k x b (was_first e p) f = kept.cells.nobodys class number name h id v b at (subst (λ (y : View). IsFree y b name) (sym p) f)
+  not_free class number name h k x b (was_other e p) f = kept.cells.nobodys class number name h k x b p f
+  not_free class number name h k x b (was_second e p) f = none_second b name (subst (λ (y : View). IsFree y b name) (sym p) f)
+
   -- ---- each is a seat
 
   abbrev state : State
@@ -125,6 +136,7 @@ module _ (sizes : Sizes) (s : Table.State Call View) (kept : IsKept sizes s) (id
         once = seat.once;
         drafts = seat.drafts;
         plain = seat.plain;
+        offering = seat.offering;
       }
 
   idle : (o : Operation) → operation_of state v.last ≡ Some o → ⊥
@@ -154,6 +166,7 @@ module _ (sizes : Sizes) (s : Table.State Call View) (kept : IsKept sizes s) (id
         once = none_twice v.sizes v.last v.last v.account;
         drafts = λ d c. absurd (empty_has d c);
         plain = λ d c. absurd (empty_has d c);
+        offering = knows_nothing kept.account.offered kept.account.offers kept.account.parted s.words v.last;
       }
 
   seat_by : (k : ℕ) (w : View) → Was k w → SeatThen w
@@ -199,6 +212,7 @@ module _ (sizes : Sizes) (s : Table.State Call View) (kept : IsKept sizes s) (id
           is = ap (λ (x : View). latest x.closing handle) is ∙ h.is;
           this = h.this;
           none = λ other w e inside apart. none_by other w (was other w e) inside apart;
+          clear = λ fell other w e inside apart. clear_by (cleared_or (λ so. ap (λ (x : View). x.passed.cleared) (sym is) ∙ so) fell) other w (was other w e) inside apart;
         })
     | inr differs ↦ record {
       id = h.id;
@@ -209,15 +223,22 @@ module _ (sizes : Sizes) (s : Table.State Call View) (kept : IsKept sizes s) (id
       is = h.is;
       this = h.this;
       none = λ other w e inside apart. none_by other w (was other w e) inside apart;
+      clear = λ fell other w e inside apart. clear_by fell other w (was other w e) inside apart;
     }
   ]
     where
-      none_by : (other : ℕ) (w : View) → Was other w → w.entered ≡ Some handle → w.actor ≢ who → h.closing.looked < w.actor
-      none_by other w (was_first e p) inside apart =
+      none_by : (other : ℕ) (w : View) → Was other w → w.entered ≡ Some handle → w.actor ≢ who → IsShown w → h.closing.looked < w.actor
+      none_by other w (was_first e p) inside apart shown =
           subst (λ n. h.closing.looked < n) (ap (λ (x : View). x.actor) p)
-          (h.none id v at (ap (λ (x : View). x.entered) p ∙ inside) (λ is. apart (ap (λ (x : View). x.actor) (sym p) ∙ is)))
-      none_by other w (was_other e p) inside apart = h.none other w p inside apart
-      none_by other w (was_second e p) inside apart = absurd (none-some handle (ap (λ (x : View). x.entered) p ∙ inside))
+          (h.none id v at (ap (λ (x : View). x.entered) p ∙ inside) (λ is. apart (ap (λ (x : View). x.actor) (sym p) ∙ is)) (λ q is. shown q (ap (λ (x : View). x.pin) (sym p) ∙ is)))
+      none_by other w (was_other e p) inside apart shown = h.none other w p inside apart shown
+      none_by other w (was_second e p) inside apart shown = absurd (none-some handle (ap (λ (x : View). x.entered) p ∙ inside))
+
+      clear_by : (h.view.passed.cleared ≡ true) ⊎ (1 ≤ h.closing.looked) → (other : ℕ) (w : View) → Was other w → w.entered ≡ Some handle → w.actor ≢ who → IsShown w
+      clear_by fell other w (was_first e p) inside apart =
+          λ q is. h.clear fell id v at (ap (λ (x : View). x.entered) p ∙ inside) (λ same. apart (ap (λ (x : View). x.actor) (sym p) ∙ same)) q (ap (λ (x : View). x.pin) p ∙ is)
+      clear_by fell other w (was_other e p) inside apart = h.clear fell other w p inside apart
+      clear_by fell other w (was_second e p) inside apart = absurd (none-some handle (ap (λ (x : View). x.entered) p ∙ inside))
 
   split_owed : (k : ℕ) → owed_on k split_views ≡ owed_on k s.views
   split_owed k =
@@ -297,6 +318,11 @@ module _ (sizes : Sizes) (s : Table.State Call View) (kept : IsKept sizes s) (id
         alone_then (λ w. Reserves state w handle) (λ w. Reserves state w handle) (λ i j x y ei ej hx hy. kept.numbers i j x y handle ei ej hx hy) (λ h. h) (λ h. absurd (none-some handle h.0)) (λ h. h)
         (λ h. absurd (none-some handle h.0)) (λ h g. none-some handle g.0) (λ h g. none-some handle h.0) i j x y ei ej hx hy;
     held = split_held;
+    cells = record {
+      spare = kept.cells.spare;
+      nobodys = λ class number name h k x b e f. not_free class number name h k x b (was k x e) f;
+      once = kept.cells.once;
+    };
   }
 
   -- ---- whom seats have heard of
@@ -314,7 +340,7 @@ module _ (sizes : Sizes) (s : Table.State Call View) (kept : IsKept sizes s) (id
     heard_by k x (was_second e p) h c = let none = (subst (λ hs. Contains hs h) (ap (λ (y : View). y.heard) (sym p)) c).1 in absurd (omega (arith, none))
 
     was_before : (k : ℕ) (x : View) → Was k x → Before s.views x
-    was_before k x (was_first e p) = was_one id v at (subst (IsAsWas v) p (record { actor = refl; epoch = refl; passed = refl; pinned = λ q e. e }))
+    was_before k x (was_first e p) = was_one id v at (subst (IsAsWas v) p (record { actor = refl; epoch = refl; passed = refl; glance = refl; pinned = λ q e. e }))
     was_before k x (was_other e p) = was_one k x p (as_was x)
     was_before k x (was_second e p) = is_new (ap (λ (y : View). y.pin) (sym p)) (ap (λ (y : View). y.epoch) (sym p))
 
@@ -344,8 +370,10 @@ module _ (sizes : Sizes) (s : Table.State Call View) (kept : IsKept sizes s) (id
       heard = λ k x e h c. heard_by k x (was k x e) h c;
     }
 
-pub splits : (sizes : Sizes) (id : ℕ) (v : View) → 1 ≤ v.sizes.seats → v.actor < v.last → Splits (IsRuled sizes) id v (without_last v) (of_last v)
-splits sizes id v some_seats more s ruled at = split_ruled sizes s ruled.kept id v at more some_seats ruled.heard ruled.epochs ruled.retired ruled.owed ruled.linked
+pub splits : (sizes : Sizes) (id : ℕ) (v : View) → 1 ≤ v.sizes.seats → v.actor < v.last → Splits (IsShadowed sizes) id v (without_last v) (of_last v)
+splits sizes id v some_seats more =
+    lifted_split sizes id v some_seats (without_last v) (of_last v) (refl, refl) (refl, refl)
+    (λ s ruled at. split_ruled sizes s ruled.kept id v at more some_seats ruled.heard ruled.epochs ruled.retired ruled.owed ruled.linked)
 
 pub left_sound : (words : ℕ) (v : View) → IsSound words v → IsSound words (without_last v)
 left_sound words v h = record { size = h.size; range = h.range; bounds = h.bounds; keys = h.keys; counted = h.counted; inside = h.inside; free = h.free }

@@ -3,11 +3,13 @@ use Rattle.std.proofs.Common.{◌≡◌, ◌⊎◌, ◌+◌, ◌<◌, ◌≤◌,
 use Rattle.std.proofs.Common.{if◌then◌else◌, drop, get_or, length, refl, sym, ap, subst, ◌∙◌, arith}
 use Rattle.std.proofs.Math.Seq.{drop-cons}
 use Rattle.std.proofs.lemmas.List.{length-append}
+use Rattle.lock_free.specs.declared.accounts.PartedSlot.{PartedSlot}
 use Rattle.lock_free.specs.declared.rules.Pool.{Pool}
 use Rattle.lock_free.specs.declared.stock.OwnNode.{OwnNode}
 use Rattle.lock_free.specs.Making.{with_slot, with_slots}
 use Rattle.lock_free.specs.Rules.{pool_of}
-use Rattle.lock_free.specs.Stocks.{put_back, IsPopped}
+use Rattle.lock_free.specs.OwnOffers.{without_first}
+use Rattle.lock_free.specs.Stocks.{put_back, AreFew, IsPopped, most_kept}
 
 abbrev picked : Bool → Bool → Pool → List ℕ
 picked small medium pool = if small then pool.small else (if medium then pool.medium else pool.wide)
@@ -54,6 +56,43 @@ added_more before after class slot is b =
           omega (arith, same, now, was)
       | inr other ↦ let kept = ap length other in omega (arith, same, kept)
     ]
+
+-- where there is room for one more of its class
+pub added_fits : (before after : Pool) (class slot made : ℕ) → after ≡ with_slot before class slot → length (pool_of before class) + made + 1 ≤ 128 →
+    ((b : ℕ) → length (pool_of before b) + made ≤ 128) → (b : ℕ) → length (pool_of after b) + made ≤ 128
+added_fits before after class slot made is room few b =
+    let same = ap (λ p. length (pool_of p b)) is in
+    elim (class_or before class b (pool_of before class ++ slot ∷ [])) [
+      | inl its ↦ let now = ap length its.0 ∙ length-append (pool_of before class) (slot ∷ []) in omega (arith, same, now, room)
+      | inr other ↦ let kept = ap length other in let fits = few b in omega (arith, same, kept, fits)
+    ]
+
+-- ---- the slot of the first offer that was parted is free
+
+freed_at : (before after : Pool) (slot : ℕ) (rest : List PartedSlot) (made : List OwnNode) → after ≡ without_first before slot rest → length (pool_of before 1) + length made + 1 ≤ most_kept →
+    AreFew before made → AreFew after made
+freed_at before after slot rest made is room few b =
+    let same : length (pool_of after b) ≡ length (pool_of (with_slot before 1 slot) b) = ap (λ p. length (pool_of p b)) is in
+    elim (class_or before 1 b (pool_of before 1 ++ slot ∷ [])) [
+      | inl its ↦
+          let now = ap length its.0 ∙ length-append (pool_of before 1) (slot ∷ []) in
+          omega (arith, same, now, room)
+      | inr other ↦
+          let kept = ap length other in
+          let old = few b in
+          omega (arith, same, kept, old)
+    ]
+
+freed_from : (before after : Pool) (made : List OwnNode) (slots : List PartedSlot) → before.parted ≡ slots → 0 < length slots →
+    ((y : PartedSlot) (rest : List PartedSlot) → before.parted ≡ y ∷ rest → after ≡ without_first before y.slot rest) → length (pool_of before 1) + length made + 1 ≤ most_kept → AreFew before made →
+    AreFew after made
+freed_from before after made [] first some is room few = absurd (omega (arith, some))
+freed_from before after made (y ∷ rest) first some is room few = freed_at before after y.slot rest made (is y rest first) room few
+
+pub freed_few : (before after : Pool) (made : List OwnNode) → 0 < length before.parted →
+    ((y : PartedSlot) (rest : List PartedSlot) → before.parted ≡ y ∷ rest → after ≡ without_first before y.slot rest) → length (pool_of before 1) + length made + 1 ≤ most_kept → AreFew before made →
+    AreFew after made
+freed_few before after made some is room few = freed_from before after made before.parted refl some is room few
 
 -- ---- one more of what was made is given back
 

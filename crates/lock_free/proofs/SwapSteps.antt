@@ -28,8 +28,8 @@ use Rattle.lock_free.specs.declared.rules.View.{View}
 use Rattle.lock_free.specs.declared.swapping.Swapped.TheVariants.{Misses}
 use Rattle.lock_free.specs.Accounts.{bounds_for, first, later, place_of, IsOwn}
 use Rattle.lock_free.specs.Becoming.{Follows}
-use Rattle.lock_free.specs.Exchanging.{HasPublished, given_up}
-use Rattle.lock_free.specs.LettingGo.{HoldsGivenUp}
+use Rattle.lock_free.specs.SwappingIn.{HasPublished}
+use Rattle.lock_free.specs.GivingUp.{given_up, HasDropped}
 use Rattle.lock_free.specs.Loading.{now, seen, Runs, IsAt, IsSound}
 use Rattle.lock_free.specs.Nodes.{class_of}
 use Rattle.lock_free.specs.Owing.{owes_then, owing}
@@ -92,7 +92,7 @@ module _ (v : View) (name : ℕ) (link : Link) (class fresh : ℕ) (is_at : IsAt
     state = now (seen v account)
 
     abbrev what : ((main_at state.heap i == a) ≡ stood) × (stood ≡ true → w ≡ owing (seen v (swapped_in v.actor i f account)) (owes_then v account))
-        × (stood ≡ false → (w ≡ given_up v account o0.private) × HoldsGivenUp v o0 w.owed)
+        × (stood ≡ false → (w ≡ given_up v account o0.private w.drafts) × HasDropped (seen v account) o0.private o0.line w)
     what = g.3 i a f at_publish
 
     seen_later : Later v (seen v account)
@@ -113,7 +113,7 @@ module _ (v : View) (name : ℕ) (link : Link) (class fresh : ℕ) (is_at : IsAt
     -- it isn't swapped in
     pub missed : stood ≡ false → HasSwapDone v Misses w
     missed e = (
-      (account, g.1, λ o r. (what.2 e).0 ∙ ap (λ (z : Operation). given_up v account z.private) (runs_one v swaps.0 o swaps.1 r)),
+      (account, g.1, λ o r. (what.2 e).0 ∙ ap (λ (z : Operation). given_up v account z.private w.drafts) (runs_one v swaps.0 o swaps.1 r)),
       lifted w false goes,
     )
       where
@@ -127,7 +127,7 @@ module _ (v : View) (name : ℕ) (link : Link) (class fresh : ℕ) (is_at : IsAt
             )
 
     pub missed_holds : stood ≡ false → HoldsSwapped v Misses w
-    missed_holds e o r = subst (λ (z : Operation). HoldsGivenUp v z w.owed) (runs_one v swaps.0 o swaps.1 r) (what.2 e).1
+    missed_holds e = (account, g.1, λ o r. subst (λ (z : Operation). HasDropped (seen v account) z.private z.line w) (runs_one v swaps.0 o swaps.1 r) (what.2 e).1)
 
     -- it is swapped in
     module _ (e : stood ≡ true) where

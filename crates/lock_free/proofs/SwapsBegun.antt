@@ -23,7 +23,7 @@ use Rattle.lock_free.proofs.LimboStays.{limbo_stays}
 use Rattle.lock_free.specs.declared.swapping.Swapped.{Swapped}
 use Rattle.lock_free.specs.declared.swapping.Swapped.TheVariants.{Commits, Fails, Misses}
 use Rattle.lock_free.specs.Becoming.{Follows}
-use Rattle.lock_free.specs.Exchanging.{HasPublished}
+use Rattle.lock_free.specs.SwappingIn.{HasPublished}
 use Rattle.lock_free.specs.Dropping.{AreDropped}
 use Rattle.lock_free.specs.Leaving.{HasDecidedSwap, HasLeftSwap, HasSwappedOn, IsSwapLeft, IsSwapOf, LeavesSwap}
 use Rattle.lock_free.specs.Limbos.{hanging_of, IsLimbo}

@@ -17,7 +17,7 @@ use Rattle.lock_free.specs.declared.swapping.Swapped.{Swapped}
 use Rattle.lock_free.specs.declared.swapping.Swapped.TheVariants.{Commits, Fails, Misses}
 use Rattle.lock_free.specs.Accounts.{bounds_for, gone_on}
 use Rattle.lock_free.specs.Becoming.{Follows, HasBecome}
-use Rattle.lock_free.specs.Exchanging.{given_back, given_up}
+use Rattle.lock_free.specs.GivingUp.{given_back, given_up}
 use Rattle.lock_free.specs.Loading.{now, seen, Runs, IsSound}
 use Rattle.lock_free.specs.Making.{with_slot}
 use Rattle.lock_free.specs.Passing.{Later}
@@ -44,7 +44,7 @@ module _ (n : ℕ) (before after : View) (sound : IsSound n before) (last : IsSo
     abbrev account : Account
     account = g.0.0
 
-    its : after ≡ given_up before account s.0.private
+    its : after ≡ given_up before account s.0.private after.drafts
     its = g.0.2 s.0 s.1
 
     bounds : AreBounds (bounds_for before.sizes (gone_on before.actor account).steps)

@@ -1,6 +1,6 @@
 -- A slot that was never handed out becomes free for a seat: the exchange of the count of its class.
 use Rattle.history.specs.declared.calls.Call.{Call}
-use Rattle.std.proofs.Common.{◌≡◌, ◌≢◌, ◌+◌, ◌*◌, ◌⊎◌, ℕ, zero, suc, ◌<◌, ◌≤◌, inl, inr, List, set, slice_index, refl, sym, subst, ◌∙◌, arith, length-set}
+use Rattle.std.proofs.Common.{◌≡◌, ◌≢◌, ◌+◌, ◌*◌, ◌⊎◌, ◌++◌, ◌∷◌, [], ℕ, zero, suc, ◌<◌, ◌≤◌, inl, inr, List, set, slice_index, refl, sym, subst, ◌∙◌, arith, length-set}
 use Rattle.std.proofs.lemmas.Bool.{cases_eq}
 use Rattle.std.proofs.lemmas.List.{get_or-set_same}
 use mathlib.Core.Option.{some}
@@ -13,16 +13,18 @@ use Rattle.lock_free.specs.Accounts.{state_of}
 use Rattle.lock_free.specs.Making.{with_slot}
 use Rattle.lock_free.specs.Nodes.{class_of}
 use Rattle.lock_free.specs.Places.{stride, slots_in, part_of, first_slot_word, taken_word, generation_word, pin_word, root_word, IsTaken, HaveTaken}
-use Rattle.lock_free.specs.Rules.{IsClosing, SaysClosing, IsFree, IsSpare, AreDrafts, IsSeat, IsKept}
+use Rattle.lock_free.specs.Rules.{IsClosing, SaysClosing, IsFree, IsSpare, AreDrafts, IsSeat, IsKept, pool_of}
 use Rattle.lock_free.proofs.Meanings.{no_tries}
 use Rattle.lock_free.proofs.Assembling.{AllStand, closing_stays, numbers_stay, assembled}
+use Rattle.lock_free.proofs.CellsStay.{beside_cell, cells_stay}
 use Rattle.lock_free.proofs.Framing.{else_word, class_small, has_words, no_slot, nodes_below, roots_below}
 use Rattle.lock_free.proofs.Geometry.{IsWordOf, slots_apart, root_below}
-use Rattle.lock_free.proofs.Pools.{free_still, was_free, once_with}
+use Rattle.lock_free.proofs.Pools.{free_still, was_free, once_with, parted_same}
 use Rattle.lock_free.proofs.PlainStay.{plain_elsewhere}
 use Rattle.lock_free.proofs.Seats.{ran_so, numbers_so, Stays, other_kept, own_still}
 use Rattle.lock_free.proofs.HeldStill.{held_words}
 use Rattle.lock_free.proofs.CountWords.{before_apart}
+use Rattle.lock_free.proofs.PartingStay.{knows_still, names_same}
 
 pub same_class : (b c : ℕ) → taken_word b ≡ taken_word c → b ≡ c
 same_class b c e = omega (arith, e)
@@ -129,6 +131,8 @@ module _ (sizes : Sizes) (s : Table.State Call View) (kept : IsKept sizes s) (id
     taken = taken_then;
     spare = λ other w b n e apart free. (let x = (kept.seats other w e).spare b n free in (x.1, slot_words b n free.0 x.0));
     plain = plain_elsewhere sizes kept.account s.words words_then root_same;
+    offering = knows_still kept.account.offered kept.account.offers kept.account.parted s.words words_then
+        (names_same kept.account.offers s.words words_then root_same);
   }
 
   own_spare : (b other : ℕ) → IsFree view_then b other → IsTaken sizes words_then b other × IsSpare sizes kept.account kept.stands other
@@ -155,6 +159,7 @@ module _ (sizes : Sizes) (s : Table.State Call View) (kept : IsKept sizes s) (id
       (pin_same v.actor) view_then.pool v.drafts own_spare
       (once_with v.pool class name small seat.once (λ c. not_taken class small (seat.spare class name (small, c)).0)) (λ d c. drafted d (seat.drafts d c))
       (λ handle slot y. (root_same handle y.low, free_still v.pool class name small 1 slot y.free.0 y.free.1))
+      (parted_same v.pool class (pool_of v.pool class ++ name ∷ []))
 
   free_then : (b other : ℕ) → IsFree view_then b other → IsFree v b other ⊎ ((n : ℕ) (w : View) (c : ℕ) → get_elem? s.views n ≡ some w → (n ≡ id → ⊥) → IsFree w c other → ⊥)
   free_then b other free = elim (was_free v.pool class name small b other free.0 free.1) [
@@ -164,7 +169,7 @@ module _ (sizes : Sizes) (s : Table.State Call View) (kept : IsKept sizes s) (id
 
   closings_then : (handle who : ℕ) → handle < handle_limit → SaysClosing (slice_index words_then (root_word handle)) who → IsClosing (set s.views id view_then) handle who
   closings_then handle who low says =
-      closing_stays sizes s kept id v at view_then refl refl (λ h e. e) refl handle who (kept.closings handle who low (subst (λ n. SaysClosing n who) (root_same handle low) says))
+      closing_stays sizes s kept id v at view_then refl refl (λ h e. (e, refl)) refl (λ c. c) handle who (kept.closings handle who low (subst (λ n. SaysClosing n who) (root_same handle low) says))
 
   -- the rule holds
   pub take_kept : IsKept sizes (record { words = words_then; homes = s.homes; views = set s.views id view_then })
@@ -174,4 +179,9 @@ module _ (sizes : Sizes) (s : Table.State Call View) (kept : IsKept sizes s) (id
       (numbers_stay sizes s kept id v at view_then refl refl kept.account words_then (no_tries kept.account.offers (state_of sizes kept.account)) (λ slot none. none) root_same refl
       (λ slot handle e free. (free.0, free_still v.pool class name small 1 slot free.0 free.1)))
       (held_words sizes s kept id v at view_then refl refl refl (taken_word class) (number + 1)
-      (before_apart sizes (taken_word class) (λ e. omega (arith, e)) (omega (arith, small))).1)
+      (before_apart sizes (taken_word class) (omega arith) (omega (arith, small))).1)
+      (cells_stay sizes s kept id v at view_then kept.account kept.stands words_then (beside_cell sizes s.words (taken_word class) (number + 1) (omega (arith, small)))
+      (λ c n low was spare no. (taken_then c n low was, spare)) (λ c m n b it was spare f. elim (was_free v.pool class name small b n f.0 f.1) [
+        | inl old ↦ (f.0, old)
+        | inr new ↦ absurd (not_taken c it.0.0 (subst (IsTaken sizes s.words c) (sym new.1) was))
+      ]))

@@ -19,13 +19,14 @@ use Rattle.lock_free.specs.Accounts.{place_of, state_of}
 use Rattle.lock_free.specs.HandleWords.{is_marked, without_mark, has_unmarked}
 use Rattle.lock_free.specs.Places.{root_word}
 use Rattle.lock_free.specs.Roots.{MeansRoot, SaysRoot}
-use Rattle.lock_free.specs.Rules.{IsKept, IsRuled}
+use Rattle.lock_free.specs.Shadows.{IsShadowed}
+use Rattle.lock_free.specs.Rules.{IsKept}
 use Rattle.lock_free.proofs.Assembling.{closing_at}
 use Rattle.lock_free.proofs.Closers.{seat_kept}
 use Rattle.lock_free.proofs.Exchanged.{words_then, words_hit, words_miss}
 use Rattle.lock_free.proofs.Moments.{allowed}
 use Rattle.lock_free.proofs.OpenHandles.{clean_kept}
-use Rattle.lock_free.proofs.Rewritten.{IsPlainWord, is_writable, is_read_only}
+use Rattle.lock_free.proofs.Rewritten.{IsPlainWord, is_writable, is_read_only, plain_same}
 use Rattle.lock_free.proofs.RootCodes.{same_word}
 
 -- the word without it is in range
@@ -50,18 +51,20 @@ module _ (v : View) (handle : ℕ) (low : handle < 256) (s : Table.State Call Vi
   hits : (w : RootWord) → IsRootWord w → is_marked w ≡ true → found ≡ root_code w → Unmarks (root_code (without_mark w))
   hits (word.ClosingWritable slot seat) fits marked e =
       let x = says (word.ClosingWritable slot seat) fits e in
-      clean_kept v.sizes s kept id v at handle low Writable x.root x.is (word.Writable slot) fits.0
-      (subst (λ n. IsPlainWord Writable (place_of kept.account x.root) (word.Writable n)) (sym x.place) (is_writable refl)) (omega arith)
+      clean_kept v.sizes s kept id v at handle low (word.Writable slot) fits.0
+      (plain_same v.sizes s kept handle low Writable x.root x.is (word.Writable slot)
+      (subst (λ n. IsPlainWord Writable (place_of kept.account x.root) (word.Writable n)) (sym x.place) (is_writable refl))) (omega arith)
   hits (word.ClosingReadOnly slot seat) fits marked e =
       let x = says (word.ClosingReadOnly slot seat) fits e in
-      clean_kept v.sizes s kept id v at handle low ReadOnly x.root x.is (word.ReadOnly slot) fits.0
-      (subst (λ n. IsPlainWord ReadOnly (place_of kept.account x.root) (word.ReadOnly n)) (sym x.place) (is_read_only refl)) (omega arith)
+      clean_kept v.sizes s kept id v at handle low (word.ReadOnly slot) fits.0
+      (plain_same v.sizes s kept handle low ReadOnly x.root x.is (word.ReadOnly slot)
+      (subst (λ n. IsPlainWord ReadOnly (place_of kept.account x.root) (word.ReadOnly n)) (sym x.place) (is_read_only refl))) (omega arith)
   hits w fits marked e = absurd (false≢true marked)
 
   misses : IsKept v.sizes (record { words = s.words; homes = s.homes; views = set s.views id v })
   misses =
       seat_kept v.sizes s kept id v at v.entered v.closing (kept.seats id v at).entered (kept.seats id v at).calls
-      (λ g who below h. closing_at v.sizes s kept id v at v refl refl g who (λ x. x) (λ c x y z. x) (kept.closings g who below h))
+      (λ g who below h. closing_at v.sizes s kept id v at v refl refl g who (λ x. (x, refl)) (λ c x y z. x) (λ c. c) (kept.closings g who below h))
 
   pub unmarks : (w : RootWord) → IsRootWord w → is_marked w ≡ true →
       IsKept v.sizes (record { words = words_then v s kept id at (root_word handle) (root_code w) (root_code (without_mark w)); homes = s.homes; views = set s.views id v })
@@ -75,7 +78,7 @@ module _ (v : View) (handle : ℕ) (low : handle < 256) (s : Table.State Call Vi
   ]
 
 pub unmark_allowed : (sizes : Sizes) (size id : ℕ) (me : Me Call View) (some_seats : 1 ≤ me.0.sizes.seats) (handle : ℕ) → handle < 256 → (w : RootWord) → IsRootWord w → is_marked w ≡ true →
-    Allows (IsRuled sizes) size id me (root_word handle) (λ n. either (n == root_code w) (root_code (without_mark w)) n)
+    Allows (IsShadowed sizes) size id me (root_word handle) (λ n. either (n == root_code w) (root_code (without_mark w)) n)
     (has_unmarked (step size (root_word handle) (root_code w) (root_code (without_mark w)) none) me)
 unmark_allowed sizes size id me some_seats handle low w fits marked =
     allowed sizes size id me (root_word handle) (λ n. either (n == root_code w) (root_code (without_mark w)) n)

@@ -1,8 +1,8 @@
 -- The slots of a class that aren't marked.
-use Rattle.std.proofs.Common.{◌≡◌, ◌⊎◌, ◌+◌, ◌*◌, ◌<◌, ◌≤◌, ◌++◌, ◌==◌, inl, inr, ℕ, zero, suc, Bool, true, false, List, [], ◌∷◌, Contains, if◌then◌else◌, refl, sym, ap, subst, ◌∙◌, arith}
+use Rattle.std.proofs.Common.{◌≡◌, ◌+◌, ◌*◌, ◌<◌, ◌++◌, ◌==◌, inl, inr, ℕ, zero, suc, Bool, true, false, List, [], ◌∷◌, Contains, if◌then◌else◌, refl, sym, ap, subst, ◌∙◌, arith}
 use Rattle.std.proofs.Common.{eq-eqb, eqb-true}
-use Rattle.std.proofs.lemmas.Bool.{cases_lt, true≢false}
-use Rattle.std.proofs.lemmas.List.Elements.{Contains-append_left, Contains-append_cases, Contains-push}
+use Rattle.std.proofs.lemmas.Bool.{true≢false}
+use Rattle.std.proofs.lemmas.List.Elements.{Contains-append_cases}
 use Rattle.lock_free.specs.declared.sizes.Sizes.{Sizes}
 use Rattle.lock_free.specs.Alone.{Marks, name_of, unmarked}
 use Rattle.lock_free.specs.Places.{part_of, stride}
@@ -58,10 +58,6 @@ one_number sizes (suc zero) m n low e = omega (arith, e)
 one_number sizes (suc (suc zero)) m n low e = omega (arith, e)
 one_number sizes (suc (suc (suc class))) m n low e = absurd (omega (arith, low))
 
--- the slot with this first word
-pub name_is : (sizes : Sizes) (class n name : ℕ) → class < 3 → 2 * name ≡ part_of sizes class + stride class * n → name ≡ name_of sizes class n
-name_is sizes class n name low e = omega (arith, e, named sizes class n low)
-
 -- ---- those that aren't marked
 
 module _ (sizes : Sizes) (class : ℕ) (marks : Marks) where
@@ -89,25 +85,6 @@ module _ (sizes : Sizes) (class : ℕ) (marks : Marks) where
   unfolding unmarked
   unmarked_has zero name c = absurd (empty_has name c)
   unmarked_has (suc n) name c = has_by n name (marks n) refl (unmarked_has n name) c
-
-  last_of : (n m : ℕ) → m < suc n → (m < n → Contains (unmarked sizes class marks n) (name_of sizes class m)) → (m < n) ⊎ (n ≤ m) → Contains (More n false) (name_of sizes class m)
-  last_of n m low before (inl less) = Contains-append_left (unmarked sizes class marks n) (name_of sizes class n ∷ []) (name_of sizes class m) (before less)
-  last_of n m low before (inr more) =
-      let e : n ≡ m = omega (arith, low, more) in
-      subst (λ k. Contains (More n false) (name_of sizes class k)) e (Contains-push (unmarked sizes class marks n) (name_of sizes class n))
-
-  less_by : (n m : ℕ) → m < suc n → marks m ≡ false → marks n ≡ true → (m < n) ⊎ (n ≤ m) → m < n
-  less_by n m low is marked (inl less) = less
-  less_by n m low is marked (inr more) = let e : m ≡ n = omega (arith, low, more) in absurd (true≢false (sym marked ∙ ap marks (sym e) ∙ is))
-
-  all_by : (n m : ℕ) → m < suc n → marks m ≡ false → (m < n → Contains (unmarked sizes class marks n) (name_of sizes class m)) → (b : Bool) → marks n ≡ b → Contains (More n b) (name_of sizes class m)
-  all_by n m low is before true e = before (less_by n m low is e (cases_lt m n))
-  all_by n m low is before false e = last_of n m low before (cases_lt m n)
-
-  pub unmarked_all : (n m : ℕ) → m < n → marks m ≡ false → Contains (unmarked sizes class marks n) (name_of sizes class m)
-  unfolding unmarked
-  unmarked_all zero m low is = absurd (omega (arith, low))
-  unmarked_all (suc n) m low is = all_by n m low is (λ less. unmarked_all n m less is) (marks n) refl
 
   once_by : (low : class < 3) (n : ℕ) → Once (unmarked sizes class marks n) → (b : Bool) → Once (More n b)
   once_by low n before true = before

@@ -48,7 +48,7 @@ waited_both actor first middle last h k = record {
   owned = k.owned ++ h.owned;
   more_owned = k.more_owned ∙ ap (λ xs. k.owned ++ xs) h.more_owned ∙ sym (append_assoc k.owned h.owned first.owned);
   offers = k.offers ++ h.offers;
-  more_offers = k.more_offers ∙ ap (λ xs. k.offers ++ xs) h.more_offers ∙ sym (append_assoc k.offers h.offers first.offers);
+  more_offers = k.more_offers ∙ ap (λ xs. k.offers ++ xs) h.more_offers ∙ sym (append_assoc k.offers h.offers first.offered);
 }
 
 -- with fewer offers to begin with
@@ -61,8 +61,8 @@ waited_unoffered actor first last h = record {
   more_names = h.more_names;
   owned = h.owned;
   more_owned = h.more_owned;
-  offers = last.offers;
-  more_offers = sym (append-nil last.offers);
+  offers = last.offered;
+  more_offers = sym (append-nil last.offered);
 }
 
 -- and with none at the end
@@ -102,7 +102,13 @@ grown_by actor first last h = record { steps = h.steps; goes_on = h.goes_on; nam
 -- the account with these steps, names, owners and offers more
 abbrev pub more : Account → List Step → List ℕ → List Owned → List Known → Account
 more account steps names owned offers =
-    record { steps = account.steps ++ steps; names = account.names ++ names; owned = owned ++ account.owned; offers = offers ++ account.offers }
+    record account {
+      steps = account.steps ++ steps;
+      names = account.names ++ names;
+      owned = owned ++ account.owned;
+      offered = offers ++ account.offered;
+      offers = offers ++ account.offers;
+    }
 
 pub waited_more : (actor : ℕ) (first account : Account) (steps : List Step) (names : List ℕ) (owned : List Owned) (offers : List Known) → All (IsOfOther actor) steps → HasWaited actor first account →
     HasWaited actor first (more account steps names owned offers)
@@ -115,7 +121,7 @@ waited_more actor first account steps names owned offers others h = record {
   owned = owned ++ h.owned;
   more_owned = ap (λ xs. owned ++ xs) h.more_owned ∙ sym (append_assoc owned h.owned first.owned);
   offers = offers ++ h.offers;
-  more_offers = ap (λ xs. offers ++ xs) h.more_offers ∙ sym (append_assoc offers h.offers first.offers);
+  more_offers = ap (λ xs. offers ++ xs) h.more_offers ∙ sym (append_assoc offers h.offers first.offered);
 }
 
 -- ---- what a seat has seen of it

@@ -41,17 +41,22 @@ use Rattle.lock_free.specs.Alone.{IsAlone, LoneMoment, WasLeft}
 use Rattle.lock_free.specs.Live.{IsLive, from_root, from_slot}
 use Rattle.lock_free.specs.Loading.{now, seen, IsSound, Moment}
 use Rattle.lock_free.specs.Nodes.{class_of, half_in, is_single, SaysPrevious, decided, ahead, pending as says_pending, failed as says_failed, SaysShape, of_branch, of_list, of_tomb}
+use Rattle.lock_free.specs.Shadows.{IsShadowed}
 use Rattle.lock_free.specs.Rules.{IsPlainSo, IsRuled, IsSeat, RunsNothing}
 use Rattle.lock_free.specs.SeatWords.{IsIdle}
-use Rattle.lock_free.specs.Watching.{has_watched, a_branch, a_list, a_tomb, failed, none, pending}
-use Rattle.lock_free.specs.Watching.{HasWatched, HasWatchedEntry, HasWatchedHeader, HasWatchedLink, IsLed, IsLedIn, IsQuiet, NamesPrevious, NamesShape, SaysNode}
+use Rattle.lock_free.specs.LeftNodes.{NamesShape}
+use Rattle.lock_free.specs.Watching.{has_watched, failed, none, pending}
+use Rattle.lock_free.specs.LeftNodes.{a_branch, a_list, a_tomb}
+use Rattle.lock_free.specs.Watching.{HasWatched, HasWatchedEntry, HasWatchedHeader, HasWatchedLink, IsLed, IsLedIn, IsQuiet, NamesPrevious, SaysNode}
+use Rattle.lock_free.proofs.OneGlance.Shadowed.{lifted}
 use Rattle.lock_free.proofs.Asked.{live_in_use}
 use Rattle.lock_free.proofs.Framing.{class_small}
 use Rattle.lock_free.proofs.Looking.{says_link, says_main, says_pair}
 use Rattle.lock_free.proofs.Decoding.{place_small}
 use Rattle.lock_free.proofs.Keeping.{same_nodes}
 use Rattle.lock_free.proofs.Made.{got_in}
-use Rattle.lock_free.proofs.Moments.{before, entry_lives, is_there, same_place, IsThere}
+use Rattle.lock_free.proofs.LastingNodes.{entry_lives}
+use Rattle.lock_free.proofs.Moments.{before, is_there, same_place, IsThere}
 use Rattle.lock_free.proofs.OnlySeat.{rests, runs_nothing}
 use Rattle.lock_free.proofs.PlainSeen.{ruled_then, sound_then}
 use Rattle.lock_free.proofs.Within.{entries_room, two_words, used_inside}
@@ -81,19 +86,22 @@ led_wide more m state (followed.from_slot q r k c) =
 -- ---- the load
 
 pub watch_allowed : (sizes : Sizes) (size id : ℕ) (me : Me Call View) (word : ℕ) (some_seats : 1 ≤ me.0.sizes.seats) →
-    Allows (IsRuled sizes) size id me word (λ n. n) (has_watched (step size word 0 0 nothing_said) me)
-watch_allowed sizes size id me word some_seats s ruled length_is at low =
-    let its = (ruled.kept.seats id me.0 at).same some_seats in
+    Allows (IsShadowed sizes) size id me word (λ n. n) (has_watched (step size word 0 0 nothing_said) me)
+watch_allowed sizes size id me word some_seats =
+    lifted sizes size id me word (λ n. n) (has_watched (step size word 0 0 nothing_said) me) some_seats
+    (λ s ruled at.
+    (let its = (ruled.kept.seats id me.0 at).same some_seats in
     let own = subst (λ z. IsRuled z s) (sym its) ruled in
     let known : (d : ℕ × ℕ) → Contains me.0.plain d → IsPlainSo me.0.sizes own.kept.account s.words d = λ d c. (own.kept.seats id me.0 at).plain d c in
     let after = seen me.0 own.kept.account in (
       after,
       keeps,
+      (inr refl, refl, λ shown. shown),
       tt,
       subst (λ ws. IsRuled sizes (record { words = ws; homes = s.homes; views = set s.views id after })) (sym (set-get_or s.words word 0))
           (subst (λ z. IsRuled z (record { words = s.words; homes = s.homes; views = set s.views id after })) its (ruled_then me.0 some_seats s own id at me.0.plain known)),
       ((record { table = s; kept = own.kept; heard = own.heard id me.0 at; id = id; at = at; finds = refl }, refl), sound_then me.0 some_seats s own id at me.0.plain known, refl),
-    )
+    )))
 
 -- ---- nothing has changed
 

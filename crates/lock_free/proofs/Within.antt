@@ -16,7 +16,7 @@ use Rattle.lock_free.specs.Nodes.{class_of}
 use Rattle.lock_free.specs.Places.{words_in, class_for}
 use Rattle.lock_free.proofs.Asked.{live_in_use}
 use Rattle.lock_free.proofs.Framing.{class_small, node_end}
-use Rattle.lock_free.proofs.Moments.{entry_lives}
+use Rattle.lock_free.proofs.LastingNodes.{entry_lives}
 
 pub two_words : (class : ℕ) → class < 3 → 2 ≤ words_in class
 two_words zero h = omega arith

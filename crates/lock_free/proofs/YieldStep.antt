@@ -24,15 +24,16 @@ use Rattle.lock_free.specs.Places.{words_of}
 use Rattle.lock_free.specs.RootOffers.{MeetsOffer, YieldedAs, HasYielded, has_yielded}
 use Rattle.lock_free.specs.RootWords.{fate_by}
 use Rattle.lock_free.specs.Roots.{undecided, carried_out}
-use Rattle.lock_free.specs.Rules.{AreOwed, AreRetired, IsKept, IsRuled}
+use Rattle.lock_free.specs.Shadows.{IsShadowed}
+use Rattle.lock_free.specs.Rules.{AreOwed, AreRetired, IsKept}
 use Rattle.lock_free.proofs.AbortStep.{known_there}
 use Rattle.lock_free.proofs.OwedStay.{owed_then}
 use Rattle.lock_free.proofs.Moments.{allowed_giving, seen_kept, waited_so}
 use Rattle.lock_free.proofs.OfferMet.{settled_as}
-use Rattle.lock_free.proofs.OfferMisses.{dropped, dropped_kept, dropped_sound, has_missed, owed_dropped}
+use Rattle.lock_free.proofs.OfferMisses.{missed, missed_kept, missed_sound, has_missed, owed_missed}
 use Rattle.lock_free.proofs.Stood.{stands_there}
 
-module _ (v : View) (slot : ℕ) (offer : Descriptor) (p : IsAt v (act.Offer offer)) (met : HasOffer v.sizes v.account (handle_of p.operation.call) slot) (s : Table.State Call View)
+module _ (v : View) (slot : ℕ) (offer : Descriptor) (p : IsAt v (act.Offer offer)) (met : HasOffer v.sizes v.account v.pin (handle_of p.operation.call) slot) (s : Table.State Call View)
     (kept : IsKept v.sizes s) (id : ℕ) (at : get_elem? s.views id ≡ some v) where
   abbrev found : ℕ
   found = slice_index s.words (2 * slot)
@@ -63,13 +64,13 @@ module _ (v : View) (slot : ℕ) (offer : Descriptor) (p : IsAt v (act.Offer off
   leaves = elim (cases_eq found 0) [
     | inl e ↦
         let none = another e in
-        let after = dropped v offer p s kept id at none in (
+        let after = missed v offer p s kept id at none in (
           after,
           (
-            same_words after (dropped_kept v offer p s kept id at none),
-            (dropped_sound v offer p s kept id at none, subst (λ b. YieldedAs b v (2 * slot) found after) (sym (eq-eqb found 0 e)) (has_missed v offer p s kept id at none)),
+            same_words after (missed_kept v offer p s kept id at none),
+            (missed_sound v offer p s kept id at none, subst (λ b. YieldedAs b v (2 * slot) found after) (sym (eq-eqb found 0 e)) (has_missed v offer p s kept id at none)),
             refl,
-            owed_dropped v offer p s kept id at none,
+            owed_missed v offer p s kept id at none,
           ),
         )
     | inr differs ↦
@@ -85,7 +86,7 @@ module _ (v : View) (slot : ℕ) (offer : Descriptor) (p : IsAt v (act.Offer off
         )
   ]
 
-pub yield_allowed : (sizes : Sizes) (size id : ℕ) (me : Me Call View) (some_seats : 1 ≤ me.0.sizes.seats) (slot : ℕ) → MeetsOffer me.0 slot → Allows (IsRuled sizes) size id me (2 * slot) (λ n. n)
+pub yield_allowed : (sizes : Sizes) (size id : ℕ) (me : Me Call View) (some_seats : 1 ≤ me.0.sizes.seats) (slot : ℕ) → MeetsOffer me.0 slot → Allows (IsShadowed sizes) size id me (2 * slot) (λ n. n)
     (has_yielded (step size (2 * slot) 0 0 none) me)
 yield_allowed sizes size id me some_seats slot (offer, p, met) =
     allowed_giving sizes size id me (2 * slot) (λ n. n) (has_yielded (step size (2 * slot) 0 0 none) me)
@@ -95,7 +96,7 @@ yield_allowed sizes size id me some_seats slot (offer, p, met) =
 
 -- ---- what the seat is told
 
-module _ (before : View) (handle name found : ℕ) (knows : HasOffer before.sizes before.account handle name) (after : View) where
+module _ (before : View) (handle name found : ℕ) (knows : HasOffer before.sizes before.account before.pin handle name) (after : View) where
   yielded_by : (none one : Bool) → (found == undecided) ≡ none → (found == carried_out) ≡ one → YieldedAs none before (2 * name) found after → HasYielded before name
       (if none then became.Undecided else (if one then became.CarriedOut else became.TakenBack)) after
   yielded_by true one e f h = h

@@ -62,7 +62,7 @@ pub record HasWaited (actor : ℕ) (before after : Account) : Type 0 where
   pub owned : List Owned
   pub more_owned : after.owned ≡ owned ++ before.owned
   pub offers : List Known
-  pub more_offers : after.offers ≡ offers ++ before.offers
+  pub more_offers : after.offered ≡ offers ++ before.offered
 
 -- the actor's operation
 abbrev pub running : Sizes → Account → ℕ → Operation → Type 0

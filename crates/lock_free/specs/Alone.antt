@@ -1,6 +1,6 @@
 -- A seat that is alone makes each slot free for it to which no open handle leads.
 use Rattle.history.specs.declared.calls.Call.{Call}
-use Rattle.std.specs.Prelude.{◌≡◌, ◌⊎◌, ◌+◌, ◌*◌, ◌/◌, ◌<◌, ◌≤◌, ◌++◌, ℕ, zero, suc, Bool, true, false, List, [], ◌∷◌, Contains, None, slice_index, if◌then◌else◌}
+use Rattle.std.specs.Prelude.{◌≡◌, ◌⊎◌, ◌+◌, ◌*◌, ◌/◌, ◌<◌, ◌≤◌, ◌++◌, ◌==◌, ℕ, zero, suc, Bool, true, false, List, [], ◌∷◌, Contains, None, slice_index, if◌then◌else◌}
 use mathlib.Core.Option.{some}
 use lib.ListN.{get_elem?}
 use Rattle.atomic_table.specs.Table as Table
@@ -22,7 +22,7 @@ use Rattle.lock_free.specs.Finishing.{unoffered}
 use Rattle.lock_free.specs.Loading.{now, seen, IsSound, IsUsed}
 use Rattle.lock_free.specs.Making.{with_slots}
 use Rattle.lock_free.specs.Nodes.{class_of}
-use Rattle.lock_free.specs.Places.{count_word, part_of, root_word, slots_in, stride, taken_word, words_of}
+use Rattle.lock_free.specs.Places.{cell_word, count_word, part_of, root_word, slots_in, stride, taken_word, words_of}
 use Rattle.lock_free.specs.Rules.{HasActor, IsKept, WasGivenUp}
 use Rattle.lock_free.specs.Seated.{IsResting}
 use Rattle.lock_free.specs.Telling.{GoesOn}
@@ -87,6 +87,15 @@ unfoldable pub unmarked : Sizes → ℕ → Marks → ℕ → List ℕ
 unmarked sizes class marks zero = []
 unmarked sizes class marks (suc n) = if marks n then unmarked sizes class marks n else unmarked sizes class marks n ++ name_of sizes class n ∷ []
 
+-- whether this slot stands in one of so many cells of the class
+unfoldable pub stands_in : Sizes → List ℕ → ℕ → ℕ → ℕ → Bool
+stands_in sizes words class name zero = false
+stands_in sizes words class name (suc n) = if slice_index words (cell_word sizes class n) == name then true else stands_in sizes words class name n
+
+-- those that are marked, and those that stand in cells
+abbrev pub left_out : Sizes → List ℕ → ℕ → Marks → Marks
+left_out sizes words class marks number = if marks number then true else stands_in sizes words class (name_of sizes class number) 32
+
 -- Whatever the words are at the access, those of the counts of the slots of the class that were handed out and aren't marked say that there is a reference.
 abbrev pub HaveReferences : View → ℕ → Marks → Type 0
 HaveReferences v class marks =
@@ -97,12 +106,14 @@ HaveReferences v class marks =
 
 -- just these slots of the class are free for the seat, and none is retired
 abbrev pub recovering : View → Account → ℕ → List ℕ → View
-recovering v account class names = record v { account = unoffered account; pool = with_slots v.pool class names; drafts = []; retired = []; links = [] }
+recovering v account class names =
+    record v { account = unoffered account; offer = None; pool = record (with_slots v.pool class names) { parted = [] }; drafts = []; retired = []; links = [] }
 
--- of all that were handed out those to which no handle leads
+-- of all that were handed out those to which no handle leads, and that stand in no cell
 abbrev pub HasRecovered : View → ℕ → Marks → ℕ → View → Type 0
 HasRecovered before class marks found after =
-    (m : LoneMoment before (taken_word class) found) × (after ≡ recovering before m.kept.account class (unmarked before.sizes class marks found))
+    (m : LoneMoment before (taken_word class) found) ×
+    (after ≡ recovering before m.kept.account class (unmarked before.sizes class (left_out before.sizes m.table.words class marks) found))
 
 -- by a load of the word that says how many were
 abbrev pub has_recovered : Step Call → Me Call View → ℕ → Me Call View → Type 0

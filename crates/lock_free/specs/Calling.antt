@@ -20,7 +20,6 @@ use Rattle.machine_model.specs.Beneath.slot_arena.specs.declared.refs.Ref.{Ref}
 use Rattle.machine_model.specs.GivingUp.{gave_up, given_up}
 use Rattle.machine_model.specs.Machine.{begin_denial, begun_operation}
 use Rattle.lock_free.specs.Owing.{owes_given_up}
-use Rattle.lock_free.specs.LettingGo.{HoldsGivenUp}
 use Rattle.lock_free.specs.declared.accounts.Account.{Account}
 use Rattle.lock_free.specs.declared.calling.Denial.{Denial}
 use Rattle.lock_free.specs.declared.calling.Denial.TheVariants as denial
@@ -31,7 +30,8 @@ use Rattle.lock_free.specs.declared.rules.Pinned.{Pinned}
 use Rattle.lock_free.specs.declared.rules.View.{View}
 use Rattle.lock_free.specs.Accounts.{running}
 use Rattle.lock_free.specs.Beginning.{taking}
-use Rattle.lock_free.specs.Exchanging.{given_back}
+use Rattle.lock_free.specs.Freeing.{HasLetGo}
+use Rattle.lock_free.specs.GivingUp.{given_back, HasDropped}
 use Rattle.lock_free.specs.HandleWords.{is_marked, HasSeenRoot, TellsRoot}
 use Rattle.lock_free.specs.Loading.{now, seen, IsSound, Runs, Saw, Waited}
 use Rattle.lock_free.specs.Passing.{IsOnWay}
@@ -88,7 +88,7 @@ pub record HasBegun (before : View) (call : Call) (found : RootWord) (after : Vi
   pub runs : running after.sizes after.account after.actor (first_operation before account call)
   pub access : (first_operation before account call).access ≡ access_in found
   pub fits : IsRootWord found
-  pub tells : TellsRoot before.sizes account (handle_of call) found
+  pub tells : TellsRoot before.sizes account before.pin (handle_of call) found
   -- and the history has its begin
   pub told : history_of after.sizes after.account ≡ history_of before.sizes account ++ event.Begin (first_operation before account call).id before.actor call before.opens ∷ []
 
@@ -142,11 +142,12 @@ HasCalled before call (Err why) after = (pin : Pinned) × (at : View) × IsRefus
 abbrev pub MayGiveUp : View → Type 0
 MayGiveUp v = (operation : Operation) × (answer : Reply) × Runs v operation × (given_up operation.call operation.line ≡ Some answer)
 
-abbrev pub once_given_up : View → Account → List Ref → View
-once_given_up v account private =
+abbrev pub once_given_up : View → Account → List Ref → List (ℕ × ℕ) → View
+once_given_up v account private drafts =
     record v {
       account = taking (step.GiveUp v.actor) account;
       pool = given_back (now (seen v account)) account private v.pool;
+      drafts = drafts;
       owed = owes_given_up v account private;
     }
 
@@ -154,8 +155,8 @@ once_given_up v account private =
 pub record GaveUp (before : View) (operation : Operation) (answer : Reply) (after : View) : Type 0 where
   pub account : Account
   pub waited : Waited before account
-  pub after_is : after ≡ once_given_up before account operation.private
-  pub holds : HoldsGivenUp before operation after.owed
+  pub after_is : after ≡ once_given_up before account operation.private after.drafts
+  pub dropped : HasDropped (seen before account) operation.private operation.line after
   pub runs : Runs after (gave_up operation answer)
 
 abbrev pub HasGivenUp : View → View → Type 0
@@ -164,11 +165,11 @@ HasGivenUp before after = (operation : Operation) (answer : Reply) → Runs befo
 abbrev pub has_given_up : Step Call → Me Call View → ℕ → Me Call View → Type 0
 has_given_up access before found after = HasGivenUp before.0 after.0 × IsSound (words_of before.0.sizes) after.0 × (after.1 ≡ before.1)
 
--- it has given up, and has ended with what it then had to answer
+-- it has given up, its seat has let go of what it held by that, and it has ended with what it then had to answer
 abbrev pub IsCancelled : View → View → Type 0
 IsCancelled before after =
-    (operation : Operation) (answer : Reply) → Runs before operation → given_up operation.call operation.line ≡ Some answer → (at : View) × GaveUp before operation answer at × HasEnded at answer
-    after
+    (operation : Operation) (answer : Reply) → Runs before operation → given_up operation.call operation.line ≡ Some answer → (at : View) × (left : View) × GaveUp before operation answer at
+    × HasLetGo at left × HasEnded left answer after
 
 -- ---- an operation is cut short, at any load
 

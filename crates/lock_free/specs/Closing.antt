@@ -1,33 +1,27 @@
 -- What closing a handle comes to.
 use Rattle.history.specs.declared.calls.Call.{Call}
-use Rattle.std.specs.Prelude.{◌≡◌, ◌≤◌, ℕ, Bool, true, false, List, [], ◌∷◌, Option, Some, None}
-use Rattle.trie_words.specs.declared.roots.RootWord.{RootWord}
+use Rattle.std.specs.Prelude.{◌≡◌, ◌≤◌, ℕ, Bool, true, false, List, [], ◌∷◌, None}
 use Rattle.machine_model.specs.States.{handle_limit, root_at}
 use Rattle.lock_free.specs.declared.closing.Shut.{Shut}
 use Rattle.lock_free.specs.declared.closing.Shut.TheVariants as shut
+use Rattle.lock_free.specs.declared.rules.Checked.{Checked}
 use Rattle.lock_free.specs.declared.rules.Closing.{Closing}
 use Rattle.lock_free.specs.declared.rules.Pinned.{Pinned}
 use Rattle.lock_free.specs.declared.rules.View.{View}
-use Rattle.lock_free.specs.HandleWords.{HasSeenRoot, ShutBy}
+use Rattle.lock_free.specs.HandleWords.{ShutBy}
 use Rattle.lock_free.specs.Loading.{now, Saw}
 use Rattle.lock_free.specs.Raising.{HasReleasedAll}
 use Rattle.lock_free.specs.SeatWords.{pinned_for, unpinned, WouldClose}
 
--- the seat with these marks of handles: where its marks are gone from the words they say nothing
-abbrev pub with_marks : View → List Closing → View
-with_marks v marks = record v { closing = marks }
-
--- ---- it looks at the handle's word
-
-abbrev pub HasLooked : View → ℕ → Option RootWord → View → Type 0
-HasLooked before handle (Some found) after = HasSeenRoot before handle found after
-HasLooked before handle None after = Saw before after
+-- the seat with these marks of handles: where its marks are gone from the words they say nothing. It may have let glances fall.
+abbrev pub with_marks : View → List Closing → Checked → View
+with_marks v marks passed = record v { closing = marks; passed = passed }
 
 -- ---- it looks at all pins
 
 abbrev pub HasPassedAll : View → ℕ → Bool → View → Type 0
 HasPassedAll before handle out after =
-    ((marks : List Closing) × (after ≡ with_marks before marks)) × (out ≡ true → WouldClose after handle before.sizes.seats)
+    ((marks : List Closing) × (after ≡ with_marks before marks before.passed)) × (out ≡ true → WouldClose after handle before.sizes.seats)
 
 -- ---- it closes a handle that it has marked
 
@@ -51,16 +45,16 @@ pub record ShutPinned (before : View) (handle : ℕ) (closed : Bool) (after : Vi
   pub shut : ShutOrNot (pinned_for before pinned call) handle closed rest
   pub after_is : after ≡ unpinned rest
 
--- Pinned nowhere, it is as it was but for its marks, and for the call for which it has pinned itself last.
+-- Pinned nowhere, it is as it was but for its marks, for glances that it has let fall, and for the call for which it has pinned itself last.
 pub record RestsAs (before after : View) : Type 0 where
-  pub is : after ≡ record before { closing = after.closing; asks = after.asks; pin = None; entered = None; owed = after.owed }
+  pub is : after ≡ record before { closing = after.closing; passed = after.passed; asks = after.asks; pin = None; entered = None; owed = after.owed }
 
 -- ---- it marks the handle and closes it
 
 -- it is closed, or nothing has happened
 abbrev pub HasMarkedAndShut : View → ℕ → Bool → View → Type 0
 HasMarkedAndShut before handle closed after =
-    (closed ≡ true → (marks : List Closing) × ShutPinned (with_marks before marks) handle true after) × (closed ≡ false → RestsAs before after)
+    (closed ≡ true → (marks : List Closing) × (passed : Checked) × ShutPinned (with_marks before marks passed) handle true after) × (closed ≡ false → RestsAs before after)
 
 -- ---- all of it
 
@@ -80,7 +74,8 @@ pub record HasClosedIt (before : View) (handle : ℕ) (after : View) : Type 0 wh
   pub at : View
   pub saw : Saw before at
   pub marks : List Closing
-  pub closes : ShutPinned (with_marks at marks) handle true after
+  pub passed : Checked
+  pub closes : ShutPinned (with_marks at marks passed) handle true after
 
 abbrev pub HasShut : View → ℕ → Shut → View → Type 0
 HasShut before handle shut.Closed after = HasClosedIt before handle after

@@ -38,7 +38,7 @@ use Rattle.lock_free.specs.Outcomes.{ArePlaced, made_for, root_retired}
 use Rattle.lock_free.specs.Owning.{IsBuilding}
 use Rattle.lock_free.specs.Passing.{IsPlaced, KnowsLink, KnowsMain}
 use Rattle.lock_free.specs.RootOffers.{IsToOffer}
-use Rattle.lock_free.specs.RootWords.{IsToOpen}
+use Rattle.lock_free.specs.OwnOffers.{IsOwnCopy}
 use Rattle.lock_free.specs.Roots.{IsItsTry, undecided}
 use Rattle.lock_free.specs.RunningOn.{IsStill}
 use Rattle.lock_free.specs.Stocks.{IsStock, Stocked}
@@ -216,7 +216,7 @@ pub record IsCopying (v : View) (k : CopyKind) (handle : ℕ) (opens : Option �
 
 -- Its offer, which is in this slot, stands.
 pub record IsToComplete (v : View) (handle slot : ℕ) : Type 0 where
-  pub its : HasOffer v.sizes v.account handle slot
+  pub its : HasOffer v.sizes v.account v.pin handle slot
   pub at : IsAtCopy v (copy.Complete (completing its.its.offer))
   pub on : handle_of at.0.call ≡ handle
   pub its_try : IsItsTry at.0 its.its.offer
@@ -234,7 +234,7 @@ pub record HasLeftRoots (stock : Stocked) (slot : ℕ) (v : View) : Type 0 where
   pub operation : Operation
   pub runs : Runs v operation
   pub handle : ℕ
-  pub its : HasOffer v.sizes v.account handle slot
+  pub its : HasOffer v.sizes v.account v.pin handle slot
   pub rest : List Retired
   pub epoch : ℕ
   pub is : v.retired ≡ rest ++ map (root_retired v.account epoch) (made_for its.its.offer)
@@ -250,11 +250,6 @@ pub record HasHungRoots (before after : View) : Type 0 where
 pub record HasCopied (before : View) (carried : Bool) (after : View) : Type 0 where
   pub moved : HasMoved (copied_line carried) before (as_before before after)
   pub owed : (k : Ref) → how_often k after.owed ≡ how_often k before.owed
-
--- ---- what it opens is opened
-
-abbrev pub IsToOpenAll : View → CopyKind → Option ℕ → ℕ → Type 0
-IsToOpenAll v k opens slot = (number : ℕ) → opens ≡ Some number → (number < 256) × IsToOpen v number slot (is_snapshot k)
 
 -- ---- a try as a whole
 
@@ -304,7 +299,7 @@ OriginalOrNot before None after = (reads : ReadLine) × HasCome (Goes reads) bef
 
 -- its own offer was brought to stand, and is to be completed from there on
 pub record IsOwnCompleting (v : View) (handle : ℕ) (s : Completing) : Type 0 where
-  pub its : HasOffer v.sizes v.account handle s.offer
+  pub its : HasOffer v.sizes v.account v.pin handle s.offer
   pub reads : ReadLine
   pub at : IsAtCopy v (copy.Complete (record { offer = its.its.offer; line = complete.Reading reads }))
   pub on : handle_of at.0.call ≡ handle
@@ -319,18 +314,18 @@ pub record HasCopiedOn (before : View) (handle offer : ℕ) (next : Completing) 
   pub come : HasCome (Goes reads) before after
   pub is : IsOwnCompleting after handle next
 
--- the operation has run on to there; what its offer opens is to be opened once it is carried out
+-- the operation has run on to there; its offer is to be parted once it is settled
 pub record LeavesCopy (before : View) (k : CopyKind) (handle : ℕ) (opens : Option ℕ) (s : Completing) (after : View) : Type 0 where
   pub on : RunsOn before after
   pub is : IsOwnCompleting after handle s
-  pub opening : IsToOpenAll after k opens s.offer
+  pub own : IsOwnCopy after handle s.offer opens (is_snapshot k)
 
 abbrev pub HasLeftCopy : View → CopyKind → ℕ → Option ℕ → Left → View → Type 0
 HasLeftCopy before k handle opens left.MayGiveUp after = RunsOn before after × MayLeave (λ call. reply.NoSlots) after
 HasLeftCopy before k handle opens (left.Completing s) after = LeavesCopy before k handle opens s after
 HasLeftCopy before k handle opens (left.Swapping s) after = ⊥
 
--- its own offer is settled, and what that opens is open
+-- its own offer is settled and parted, and what that opens is open
 pub record HasSettledCopy (before : View) (done : Bool) (after : View) : Type 0 where
   pub still : IsStill before after
   pub comes : (operation : Operation) → Runs before operation → Runs after (record operation { line = copied_line done operation })

@@ -7,13 +7,13 @@ use Rattle.trie_words.specs.declared.pins.Pin.{Pin}
 use Rattle.lock_free.specs.declared.rules.Retired.{Retired}
 use Rattle.lock_free.specs.declared.rules.View.{View}
 use Rattle.lock_free.specs.Places.{IsSlot}
-use Rattle.lock_free.specs.Rules.{Once}
+use Rattle.lock_free.specs.Rules.{Once, none_checked}
 
 -- ---- it is looked at
 
 -- the seat knows the epoch, and has looked at no pin since
 abbrev pub knowing : View → ℕ → View
-knowing v epoch = record v { epoch = epoch; passed = 0 }
+knowing v epoch = record v { epoch = epoch; passed = none_checked }
 
 -- What the seat has retired are slots of the table, none of them twice, and it has retired none of them in a later epoch.
 pub record AreItsSlots (v : View) (epoch : ℕ) : Type 0 where
@@ -36,7 +36,7 @@ is_in epoch (Some pin) = pin.epoch == epoch
 
 -- it goes by the next seat
 abbrev pub going_by : View → View
-going_by v = record v { passed = v.passed + 1 }
+going_by v = record v { passed = record v.passed { seats = v.passed.seats + 1 } }
 
 abbrev pub HasChecked : View → Bool → View → Type 0
 HasChecked before present after = (present ≡ true → after ≡ going_by before) × (present ≡ false → after ≡ before)
@@ -46,7 +46,7 @@ has_checked step before found after = HasChecked before.0 (is_in before.0.epoch 
 
 -- so many of them
 abbrev pub having_passed : View → ℕ → View
-having_passed v passed = record v { passed = passed }
+having_passed v seats = record v { passed = record v.passed { seats = seats } }
 
 abbrev pub HasCheckedAll : View → Bool → View → Type 0
 HasCheckedAll before present after = (passed : ℕ) × (after ≡ having_passed before passed) × (present ≡ true → passed ≡ before.sizes.seats)

@@ -1,7 +1,5 @@
 -- What exchanges of nodes' words ask and tell.
-use Rattle.history.specs.declared.calls.Call.{Call}
-use Rattle.std.specs.Prelude.{◌≡◌, ◌≢◌, ◌⊎◌, ℕ, ◌==◌, Bool, true, false, List, [], ◌∷◌, Option}
-use Rattle.atomic_table.specs.Table.{Me, Step}
+use Rattle.std.specs.Prelude.{◌≡◌, ◌≢◌, ◌⊎◌, ℕ, ◌==◌, Bool, true, false, Option}
 use Rattle.trie_words.specs.declared.headers.Header.{Header}
 use Rattle.trie_words.specs.declared.headers.Previous.{Previous}
 use Rattle.trie_words.specs.declared.headers.Previous.TheVariants as previous
@@ -9,22 +7,14 @@ use Rattle.trie_words.specs.declared.links.Link.{Link}
 use Rattle.trie_words.specs.declared.names.Name.{Name}
 use Rattle.machine_model.specs.Beneath.slot_arena.specs.declared.refs.Ref.{Ref}
 use Rattle.machine_model.specs.Beneath.slot_arena.specs.declared.nodes.Slot.{Slot}
-use Rattle.machine_model.specs.Beneath.slot_arena.specs.Heaps.{node_at, main_at, prev_at, generation_at}
+use Rattle.machine_model.specs.Beneath.slot_arena.specs.Heaps.{main_at, prev_at, generation_at}
 use Rattle.machine_model.specs.Beneath.slot_arena.specs.Refs.{slot_of}
 use Rattle.machine_model.specs.declared.actions.Action.TheVariants as act
 use Rattle.machine_model.specs.Reading.{is_licensed, is_pending}
-use Rattle.machine_model.specs.States.{State}
-use Rattle.lock_free.specs.Owing.{owes_given_up, owes_then, owing}
-use Rattle.lock_free.specs.declared.accounts.Account.{Account}
-use Rattle.lock_free.specs.declared.rules.Pool.{Pool}
 use Rattle.lock_free.specs.declared.rules.View.{View}
-use Rattle.lock_free.specs.Accounts.{place_of, IsOwn, gone_on}
-use Rattle.lock_free.specs.LettingGo.{HoldsGivenUp}
-use Rattle.lock_free.specs.Loading.{Moment, now, seen, IsAt, IsSound, Stores, Waited, Took, Went}
-use Rattle.lock_free.specs.Making.{with_slot}
-use Rattle.lock_free.specs.Nodes.{SaysShape, class_of}
-use Rattle.lock_free.specs.Places.{words_of}
-use Rattle.lock_free.specs.Publishing.{swapped_in}
+use Rattle.lock_free.specs.Accounts.{place_of, IsOwn}
+use Rattle.lock_free.specs.Loading.{now, seen, IsAt, Stores, Went}
+use Rattle.lock_free.specs.Nodes.{SaysShape}
 
 -- ---- what a seat knows of words
 
@@ -83,34 +73,3 @@ IsAtRestore v name link former =
 abbrev pub HasRestored : View → Bool → View → Type 0
 HasRestored before stood after =
     (w : Went before after) × ((i main replaced : Ref) → IsAt before (act.Restore i main replaced) → (main_at (now (seen before w.account)).heap i == main) ≡ stood)
-
--- ---- a fresh main node is swapped in
-
-abbrev pub IsAtPublish : View → ℕ → Link → ℕ → Type 0
-IsAtPublish v name link fresh =
-    (i : Ref) × (replaced : Ref) × (made : Ref) × IsAt v (act.Publish i replaced made) × (place_of v.account i ≡ name) × IsLinkTo v i replaced link × (place_of v.account made ≡ fresh)
-
--- the slots of these nodes are free for the seat again
-abbrev pub given_back : State → Account → List Ref → Pool → Pool
-given_back state account [] pool = pool
-given_back state account (r ∷ rs) pool = given_back state account rs (with_slot pool (class_of (node_at state.heap r)) (place_of account r))
-
--- the seat where it failed: all nodes of its own are given up, and what they held of others is its own then
-abbrev pub given_up : View → Account → List Ref → View
-given_up v account private =
-    record v { account = gone_on v.actor account; pool = given_back (now (seen v account)) account private v.pool; owed = owes_given_up v account private }
-
--- what the exchange left, where the replaced one was found, and where it wasn't
-abbrev pub HasSwapped : View → Account → Bool → View → Type 0
-HasSwapped before account stood after = (i replaced made : Ref) (p : IsAt before (act.Publish i replaced made)) →
-    ((main_at (now (seen before account)).heap i == replaced) ≡ stood)
-    × (stood ≡ true → after ≡ owing (seen before (swapped_in before.actor i made account)) (owes_then before account))
-    × (stood ≡ false → (after ≡ given_up before account p.operation.private) × HoldsGivenUp before p.operation after.owed)
-
-abbrev pub HasPublished : View → Bool → View → Type 0
-HasPublished before stood after = (account : Account) × Waited before account × Took before account after × HasSwapped before account stood after
-
-abbrev pub has_published : Step Call → Me Call View → ℕ → Me Call View → Type 0
-has_published step before found after =
-    ((m : Moment before.0 step.word found) × Took before.0 m.kept.account after.0 × HasSwapped before.0 m.kept.account (found == step.first) after.0) × IsSound (words_of before.0.sizes) after.0 ×
-    (after.1 ≡ before.1)

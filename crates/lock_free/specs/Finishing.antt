@@ -1,6 +1,6 @@
 -- The end of a map: its seats are brought together.
 use Rattle.history.specs.declared.calls.Call.{Call}
-use Rattle.std.specs.Prelude.{◌≡◌, ◌<◌, ◌≤◌, ℕ, [], ◌∷◌, Contains, List, All}
+use Rattle.std.specs.Prelude.{◌≡◌, ◌<◌, ◌≤◌, ℕ, [], ◌∷◌, Contains, List, None, All}
 use Rattle.atomic_table.specs.Table.{Me, Step}
 use Rattle.machine_model.specs.Beneath.ctrie_base.specs.declared.hashes.HashKind.TheVariants.{Low}
 use Rattle.lock_free.specs.declared.accounts.Account.{Account}
@@ -10,7 +10,8 @@ use Rattle.lock_free.specs.declared.sizes.Sizes.{Sizes}
 use Rattle.lock_free.specs.Accounts.{HasWaited}
 use Rattle.lock_free.specs.Answers.{silent, talk_of}
 use Rattle.lock_free.specs.Loading.{HasSeen}
-use Rattle.lock_free.specs.Rules.{idle_view, no_slots}
+use Rattle.lock_free.specs.FirstViews.{idle_view}
+use Rattle.lock_free.specs.Rules.{no_slots}
 use Rattle.lock_free.specs.Telling.{history_of, GoesOn, IsExplainedSoFar}
 
 -- by a load that is no step the seat gives back whatever slots of the table it has; there are none
@@ -24,15 +25,15 @@ no_sizes = record { seats = 0; hash = Low; small = 0; medium = 0; wide = 0 }
 
 -- nobody's view
 abbrev pub no_view : View
-no_view = idle_view no_sizes 0 0 (record { steps = []; names = []; owned = []; offers = [] })
+no_view = idle_view no_sizes 0 0 (record { steps = []; names = []; owned = []; offered = []; offers = []; parted = [] })
 
 -- the account without its offers, of which only who is in a call knows
 abbrev pub unoffered : Account → Account
-unoffered account = record account { offers = [] }
+unoffered account = record account { offered = []; offers = [] }
 
 -- what is left of the seat, by which no access is made: no slot is free for it, none is retired, and it holds no reference
 abbrev pub gone : View → View
-gone w = record w { sizes = no_sizes; account = unoffered w.account; pool = no_slots; drafts = []; retired = []; owed = []; links = [] }
+gone w = record w { sizes = no_sizes; account = unoffered w.account; offer = None; pool = no_slots; drafts = []; retired = []; owed = []; links = [] }
 
 -- what is known of it
 abbrev pub seen_by : View → Account → Heard

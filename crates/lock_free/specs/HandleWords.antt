@@ -3,7 +3,7 @@ use Rattle.history.specs.declared.calls.Call.{Call}
 use Rattle.history.specs.declared.calls.Call.TheVariants.{Close}
 use Rattle.history.specs.declared.events.Event.TheVariants as event
 use Rattle.history.specs.declared.replies.Reply.TheVariants as reply
-use Rattle.std.specs.Prelude.{◌≡◌, ◌==◌, ◌+◌, ◌*◌, ◌≤◌, ◌⊎◌, ℕ, Bool, true, false, List, [], ◌∷◌, ◌++◌, Contains, Option, Some, None}
+use Rattle.std.specs.Prelude.{◌≡◌, ◌==◌, ◌+◌, ◌*◌, ◌≤◌, ◌⊎◌, ℕ, Bool, true, false, List, [], ◌∷◌, ◌++◌, Option, Some, None}
 use Rattle.atomic_table.specs.Table.{Me, Step}
 use Rattle.trie_words.specs.Codes.{IsRootWord, root_code}
 use Rattle.trie_words.specs.declared.roots.RootWord.{RootWord}
@@ -25,42 +25,43 @@ use Rattle.lock_free.specs.Accounts.{place_of, state_of}
 use Rattle.lock_free.specs.Beginning.{closed_by}
 use Rattle.lock_free.specs.Counting.{IsInSlot}
 use Rattle.lock_free.specs.Loading.{now, IsSound, Saw, Waited}
+use Rattle.lock_free.specs.Parting.{IsMet}
 use Rattle.lock_free.specs.Places.{small_class, words_of, words_in, root_word}
 use Rattle.lock_free.specs.Reclaiming.{kind_of_node}
 use Rattle.lock_free.specs.Roots.{SaysPlain, open_with}
 use Rattle.lock_free.specs.SeatWords.{IsIdle, WouldClose}
 use Rattle.lock_free.specs.Telling.{history_of}
 
--- an offer for this handle was made in this slot
-pub record HasOffer (sizes : Sizes) (account : Account) (handle slot : ℕ) : Type 0 where
+-- A seat that is pinned so may rely on an offer for this handle in this slot.
+pub record HasOffer (sizes : Sizes) (account : Account) (pin : Option Pinned) (handle slot : ℕ) : Type 0 where
   pub its : Known
-  pub here : Contains account.offers its
+  pub here : IsMet account pin its
   pub place : its.slot ≡ slot
   pub on : its.handle ≡ handle
   pub inside : 2 * slot + words_in 1 ≤ words_of sizes
 
--- an offer in this slot opens the handle
-pub record HasOpening (sizes : Sizes) (account : Account) (handle slot : ℕ) : Type 0 where
+-- on one in this slot that opens the handle
+pub record HasOpening (sizes : Sizes) (account : Account) (pin : Option Pinned) (handle slot : ℕ) : Type 0 where
   pub its : Known
-  pub here : Contains account.offers its
+  pub here : IsMet account pin its
   pub place : its.slot ≡ slot
   pub opens : its.offer.opens ≡ Some handle
   pub inside : 2 * slot + words_in 1 ≤ words_of sizes
 
--- the handle is closed, has the root in this slot, or stands by an offer
-abbrev pub TellsRoot : Sizes → Account → ℕ → RootWord → Type 0
-TellsRoot sizes account handle word.Closed = root_at (state_of sizes account) handle ≡ None
-TellsRoot sizes account handle word.Reserved = root_at (state_of sizes account) handle ≡ None
-TellsRoot sizes account handle (word.Writable slot) = SaysPlain account Writable slot (root_at (state_of sizes account) handle)
-TellsRoot sizes account handle (word.ReadOnly slot) = SaysPlain account ReadOnly slot (root_at (state_of sizes account) handle)
-TellsRoot sizes account handle (word.ClosingWritable slot seat) = SaysPlain account Writable slot (root_at (state_of sizes account) handle)
-TellsRoot sizes account handle (word.ClosingReadOnly slot seat) = SaysPlain account ReadOnly slot (root_at (state_of sizes account) handle)
-TellsRoot sizes account handle (word.Offered slot) = HasOffer sizes account handle slot
-TellsRoot sizes account handle (word.Opening slot) = HasOpening sizes account handle slot ⊎ (root_at (state_of sizes account) handle ≡ None)
+-- the handle is closed, has the root in this slot, or stands by an offer, on which the seat may rely if it is pinned
+abbrev pub TellsRoot : Sizes → Account → Option Pinned → ℕ → RootWord → Type 0
+TellsRoot sizes account pin handle word.Closed = root_at (state_of sizes account) handle ≡ None
+TellsRoot sizes account pin handle word.Reserved = root_at (state_of sizes account) handle ≡ None
+TellsRoot sizes account pin handle (word.Writable slot) = SaysPlain account Writable slot (root_at (state_of sizes account) handle)
+TellsRoot sizes account pin handle (word.ReadOnly slot) = SaysPlain account ReadOnly slot (root_at (state_of sizes account) handle)
+TellsRoot sizes account pin handle (word.ClosingWritable slot seat) = SaysPlain account Writable slot (root_at (state_of sizes account) handle)
+TellsRoot sizes account pin handle (word.ClosingReadOnly slot seat) = SaysPlain account ReadOnly slot (root_at (state_of sizes account) handle)
+TellsRoot sizes account pin handle (word.Offered slot) = HasOffer sizes account pin handle slot ⊎ (pin ≡ None)
+TellsRoot sizes account pin handle (word.Opening slot) = HasOpening sizes account pin handle slot ⊎ (pin ≡ None) ⊎ (root_at (state_of sizes account) handle ≡ None)
 
 -- it has seen the word of this handle
 abbrev pub HasSeenRoot : View → ℕ → RootWord → View → Type 0
-HasSeenRoot before handle found after = (s : Saw before after) × IsRootWord found × TellsRoot before.sizes s.account handle found
+HasSeenRoot before handle found after = (s : Saw before after) × IsRootWord found × TellsRoot before.sizes s.account before.pin handle found
 
 -- ---- a handle is marked, which a seat would close
 
@@ -76,12 +77,16 @@ marked_by seat (word.Writable slot) = word.ClosingWritable slot seat
 marked_by seat (word.ReadOnly slot) = word.ClosingReadOnly slot seat
 marked_by seat w = w
 
--- it has looked at nobody's pin yet
 abbrev pub begins_with : ℕ → Closing
 begins_with handle = record { handle = handle; looked = 0 }
 
+-- glances may be under way then
 abbrev pub marking : View → ℕ → View
-marking v handle = record v { closing = begins_with handle ∷ v.closing }
+marking v handle = record v { closing = begins_with handle ∷ v.closing; passed = record v.passed { cleared = false } }
+
+-- it has marked the handle last, and has looked at nobody's pin yet
+abbrev pub HasJustMarked : View → ℕ → Type 0
+HasJustMarked v handle = (others : List Closing) × (v.closing ≡ begins_with handle ∷ others)
 
 -- the mark was made, or the word was another
 abbrev pub HasMarked : View → ℕ → Bool → View → Type 0

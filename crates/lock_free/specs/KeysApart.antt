@@ -5,7 +5,8 @@ use Rattle.lock_free.specs.declared.sizes.Sizes.{Sizes}
 use Rattle.lock_free.specs.Answers.{Begun, Talk, silent, talk_at}
 use Rattle.lock_free.specs.Finishing.{IsTold}
 use Rattle.lock_free.specs.OneKey.{is_on, touches, KeyReplays}
-use Rattle.lock_free.specs.Rules.{first_view, HasActor}
+use Rattle.lock_free.specs.FirstViews.{first_view}
+use Rattle.lock_free.specs.Rules.{HasActor}
 use Rattle.lock_free.specs.SeatWords.{IsIdle}
 
 -- what an actor has called, and what it runs, doesn't touch the key

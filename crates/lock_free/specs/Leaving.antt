@@ -190,7 +190,7 @@ EndsOrMay v answer = (operation : Operation) × Runs v operation × ((operation.
 -- ---- a COMPLETE is under way
 
 pub record IsCompleteOf (v : View) (handle : ℕ) (s : Completing) : Type 0 where
-  pub its : HasOffer v.sizes v.account handle s.offer
+  pub its : HasOffer v.sizes v.account v.pin handle s.offer
   pub operation : Operation
   pub runs : Runs v operation
   pub on : handle_of operation.call ≡ handle

@@ -1,12 +1,12 @@
 -- What a seat holds itself once a node is let go of, in words of what nodes name: at the end of its SWAP, or where its operation gives up what it has made.
-use Rattle.std.specs.Prelude.{◌≢◌, ◌⊎◌, Bool, true, false, List, [], Contains, Option, Some, None}
+use Rattle.std.specs.Prelude.{◌≢◌, ◌⊎◌, ◌∷◌, ◌++◌, Bool, true, false, List, [], Contains, Option, Some, None}
 use Rattle.machine_model.specs.Beneath.slot_arena.specs.declared.refs.Ref.{Ref}
 use Rattle.machine_model.specs.Beneath.slot_arena.specs.Heaps.{node_at, refs_of_node}
 use Rattle.machine_model.specs.declared.lines.Line.{Line}
 use Rattle.machine_model.specs.declared.lines.Line.TheVariants as line
-use Rattle.machine_model.specs.declared.operations.Operation.{Operation}
 use Rattle.lock_free.specs.declared.rules.View.{View}
 use Rattle.lock_free.specs.Accounts.{IsOwn}
+use Rattle.lock_free.specs.Claims.{HoldsAll}
 use Rattle.lock_free.specs.Loading.{now}
 
 -- what the node names
@@ -47,7 +47,22 @@ abbrev pub HasItself : View → Line → Ref → Ref → Type 0
 HasItself v (line.Swap why s) x k = (s.fresh ≢ x) ⊎ (IsOwn v.account s.indirection s.replaced false ⊎ ¬ Contains (names_of v s.replaced) k)
 HasItself v l x k = Unit {0}
 
+-- Of the nodes that this one names, which the operation has made, so many that it hasn't made itself, nor is to let that one take over.
+pub record AreOthers (v : View) (private : List Ref) (l : Line) (x : Ref) (ks : List Ref) : Type 0 where
+  pub named : HoldsAll ks (names_of v x)
+  pub apart : (k : Ref) → Contains ks k → ¬ Contains private k
+  pub itself : (k : Ref) → Contains ks k → HasItself v l x k
+
+-- so of each of these
+abbrev pub AreOthersOf : View → List Ref → Line → List Ref → List (List Ref) → Type 0
+AreOthersOf v private l [] [] = Unit {0}
+AreOthersOf v private l (x ∷ xs) (ks ∷ kss) = AreOthers v private l x ks × AreOthersOf v private l xs kss
+AreOthersOf v private l xs kss = ⊥
+
+abbrev pub all_of : List (List Ref) → List Ref
+all_of [] = []
+all_of (ks ∷ kss) = ks ++ all_of kss
+
 -- the seat holds what its nodes named of others
-abbrev pub HoldsGivenUp : View → Operation → List Ref → Type 0
-HoldsGivenUp v operation owed =
-    (x k : Ref) → Contains operation.private x → Contains (names_of v x) k → ¬ Contains operation.private k → HasItself v operation.line x k → Contains owed k
+abbrev pub HoldsGivenUp : View → List Ref → Line → List Ref → Type 0
+HoldsGivenUp v private l owed = (kss : List (List Ref)) → AreOthersOf v private l private kss → HoldsAll (all_of kss) owed

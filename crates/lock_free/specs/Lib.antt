@@ -4,6 +4,7 @@ pub mod Accounts
 pub mod Live
 pub mod Nodes
 pub mod Roots
+pub mod Parting
 pub mod Trying
 pub mod Fates
 pub mod Owning
@@ -11,6 +12,7 @@ pub mod Counts
 pub mod Claims
 pub mod OwesAt
 pub mod Reached
+pub mod Cells
 pub mod Holdings
 pub mod Owing
 pub mod Links
@@ -26,6 +28,11 @@ pub mod Deciding
 pub mod Restoring
 pub mod Offering
 pub mod Settling
+pub mod Shadows
+pub mod FirstViews
+pub mod GlanceGets
+pub mod Glances
+pub mod Glancing
 pub mod Beginning
 pub mod Exchanging
 pub mod Storing
@@ -39,6 +46,7 @@ pub mod RootOffers
 pub mod Numbers
 pub mod OfReads
 pub mod Passing
+pub mod OwnOffers
 pub mod Dropping
 pub mod Entries
 pub mod Swaps
@@ -48,9 +56,14 @@ pub mod Epochs
 pub mod Reclaiming
 pub mod Linking
 pub mod Limbos
+pub mod CellWords
+pub mod LeftNodes
+pub mod GivingUp
+pub mod SwappingIn
 pub mod Freeing
 pub mod Becoming
 pub mod Stocks
+pub mod LettingMadeGo
 pub mod SeenEntries
 pub mod SeenNames
 pub mod Raising
@@ -88,6 +101,7 @@ pub mod SeatCalls
 pub mod WholeCalls
 pub mod UnderWay
 pub mod TriedCalls
+pub mod SlotWaits
 pub mod Scans
 pub mod ScanSeats
 pub mod Accesses

@@ -103,7 +103,7 @@ owned_with owned k own node = owned
 
 abbrev pub made_at : ℕ → ℕ → Bool → Node → Account → Account
 made_at actor name own node account =
-    record { steps = account.steps ++ step.Go actor ∷ []; names = account.names ++ name ∷ []; owned = owned_with account.owned (length account.names) own node; offers = account.offers }
+    record account { steps = account.steps ++ step.Go actor ∷ []; names = account.names ++ name ∷ []; owned = owned_with account.owned (length account.names) own node }
 
 -- the references of an offer
 abbrev pub refs_of_offer : Descriptor → List Ref

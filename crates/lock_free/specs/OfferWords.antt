@@ -1,6 +1,6 @@
 -- What accesses of offers' first words ask and tell.
 use Rattle.history.specs.declared.calls.Call.{Call}
-use Rattle.std.specs.Prelude.{◌≡◌, ◌==◌, ◌||◌, ℕ, Bool, Contains, if◌then◌else◌}
+use Rattle.std.specs.Prelude.{◌≡◌, ◌==◌, ◌||◌, ℕ, Bool, if◌then◌else◌}
 use Rattle.atomic_table.specs.Table.{Me, Step}
 use Rattle.machine_model.specs.Beneath.slot_arena.specs.declared.refs.Ref.{Ref}
 use Rattle.machine_model.specs.declared.actions.Action.{Action}
@@ -17,13 +17,14 @@ use Rattle.lock_free.specs.declared.rules.View.{View}
 use Rattle.lock_free.specs.Accounts.{running, gone_on}
 use Rattle.lock_free.specs.Fates.{IsUnsettled}
 use Rattle.lock_free.specs.Loading.{now, seen, IsAt, Went, Moment, Waited, Runs, IsSound}
+use Rattle.lock_free.specs.Parting.{IsMet}
 use Rattle.lock_free.specs.Places.{words_of}
 use Rattle.lock_free.specs.Roots.{IsItsTry, undecided, carried_out, taken_back}
 
 -- the seat knows the offer in this slot, which was made on its operation's handle, and the operation is to do that to it
 pub record IsAtOffer (v : View) (does : Descriptor → Action) (slot : ℕ) : Type 0 where
   pub its : Known
-  pub here : Contains v.account.offers its
+  pub here : IsMet v.account v.pin its
   pub place : its.slot ≡ slot
   pub acts : IsAt v (does its.offer)
   pub on : its.handle ≡ handle_of acts.operation.call
@@ -52,7 +53,7 @@ carried_by found expected = if found == undecided then expected else (found == c
 pub record IsAtComplete (v : View) (slot : ℕ) (expected : Bool) : Type 0 where
   pub its : Known
   pub main : Ref
-  pub here : Contains v.account.offers its
+  pub here : IsMet v.account v.pin its
   pub place : its.slot ≡ slot
   pub acts : IsAt v (act.Complete its.offer main)
   pub on : its.handle ≡ handle_of acts.operation.call

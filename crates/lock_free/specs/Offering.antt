@@ -1,5 +1,5 @@
 -- An offer comes to stand in the root word of a handle: what a seat has written of it before, what the definition's step leaves, and what the seat knows then.
-use Rattle.std.specs.Prelude.{◌≡◌, ◌≢◌, ◌⊎◌, ℕ, ◌+◌, ◌*◌, false, List, [], ◌∷◌, ◌++◌, Contains, Some, None, slice_index_or}
+use Rattle.std.specs.Prelude.{◌≡◌, ◌≢◌, ◌⊎◌, ℕ, ◌+◌, ◌*◌, true, false, is_some, List, [], ◌∷◌, ◌++◌, Contains, Some, None, slice_index_or}
 use Rattle.trie_words.specs.Codes.{pair_code}
 use Rattle.history.specs.declared.calls.Access.TheVariants.{Writable}
 use Rattle.machine_model.specs.Beneath.slot_arena.specs.declared.refs.Ref.{Ref}
@@ -17,6 +17,7 @@ use Rattle.machine_model.specs.States.{State, operation_of, root_at}
 use Rattle.lock_free.specs.Owing.{owes_then}
 use Rattle.lock_free.specs.declared.accounts.Account.{Account}
 use Rattle.lock_free.specs.declared.accounts.Known.{Known}
+use Rattle.lock_free.specs.declared.accounts.OwnOffer.{OwnOffer}
 use Rattle.lock_free.specs.declared.rules.View.{View}
 use Rattle.lock_free.specs.declared.sizes.Sizes.{Sizes}
 use Rattle.lock_free.specs.Accounts.{bounds_for, state_of, place_of, HasStood, MayBeFound}
@@ -45,12 +46,20 @@ pub record DraftsOffer (account : Account) (drafts : List (ℕ × ℕ)) (slot : 
 
 -- ---- what the definition's step leaves
 
-abbrev pub known_at : ℕ → ℕ → Descriptor → Known
-known_at slot handle offer = record { slot = slot; handle = handle; offer = offer }
+-- the words of its handle and of that which it opens name it
+abbrev pub own_offer : Known → OwnOffer
+own_offer known = record { known = known; is_named = true; is_opening = is_some known.offer.opens }
+
+abbrev pub known_at : ℕ → ℕ → ℕ → Descriptor → Known
+known_at maker slot handle offer = record { slot = slot; handle = handle; maker = maker; offer = offer }
 
 abbrev pub offered_at : ℕ → ℕ → ℕ → Descriptor → Account → Account
 offered_at actor slot handle offer account =
-    record { steps = account.steps ++ step.Go actor ∷ []; names = account.names; owned = account.owned; offers = known_at slot handle offer ∷ account.offers }
+    record account {
+      steps = account.steps ++ step.Go actor ∷ [];
+      offered = known_at actor slot handle offer ∷ account.offered;
+      offers = known_at actor slot handle offer ∷ account.offers;
+    }
 
 -- the actor's operation offers this, where its root still stands
 pub record Offers (sizes : Sizes) (account : Account) (actor slot : ℕ) (operation : Operation) (offer : Descriptor) : Type 0 where
@@ -90,6 +99,7 @@ offered_by v slot handle rest offer account = record v {
   account = offered_at v.actor slot handle offer account;
   pool = with_slots v.pool 1 rest;
   opening = None;
+  offer = Some (own_offer (known_at v.actor slot handle offer));
   drafts = [];
   owed =
       owes_then v account;

@@ -13,13 +13,14 @@ use Rattle.lock_free.specs.declared.parking.Came.TheVariants as came
 use Rattle.lock_free.specs.declared.parking.Parked.{Parked}
 use Rattle.lock_free.specs.declared.parking.Parked.TheVariants as parked
 use Rattle.lock_free.specs.declared.rules.View.{View}
-use Rattle.lock_free.specs.CopySteps.{copies, copy_kind, IsOwnCompleting, IsToOpenAll}
+use Rattle.lock_free.specs.CopySteps.{copies, copy_kind, is_snapshot, IsOwnCompleting}
 use Rattle.lock_free.specs.Holding.{IsOn}
 use Rattle.machine_model.specs.declared.operations.Operation.{Operation}
 use Rattle.lock_free.specs.Leaving.{IsClimbAfter, IsRepair, IsSwapLeft, IsUpdate}
 use Rattle.lock_free.specs.Loading.{Runs}
 use Rattle.lock_free.specs.RunningOn.{MayAnswer, RunsOn}
 use Rattle.lock_free.specs.Stocks.{own_nodes, IsStock, Stocked}
+use Rattle.lock_free.specs.OwnOffers.{IsOwnCopy}
 
 -- ---- what is under way
 
@@ -32,7 +33,7 @@ pub record IsCopyLeft (v : View) (s : Completing) (opens : Option ℕ) : Type 0 
   pub is : IsOwnCompleting v handle s
   pub copies : copies is.at.0.call ≡ true
   pub number : is.at.0.opens ≡ opens
-  pub opening : IsToOpenAll v (copy_kind is.at.0.call) opens s.offer
+  pub own : IsOwnCopy v handle s.offer opens (is_snapshot (copy_kind is.at.0.call))
 
 abbrev pub IsParked : View → Parked → Type 0
 IsParked v (parked.Repairs s) = IsSwapFor IsRepair v s

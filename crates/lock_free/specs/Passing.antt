@@ -45,7 +45,7 @@ pub record Later (v w : View) : Type 0 where
   pub owns : (a b : Ref) (c : Bool) → IsOwn v.account a b c → IsOwn w.account a b c
   pub nodes : (r : Ref) (slot : Slot) → IsUsed v r slot → (later : Slot) × IsUsed w r later × SameNode slot.node later.node
   pub goes_on : (more : List Step) × (w.account.steps ≡ v.account.steps ++ more)
-  pub offers : (k : Known) → Contains v.account.offers k → Contains w.account.offers k
+  pub offers : (k : Known) → Contains v.account.offered k → Contains w.account.offered k
 
 -- the operation's READ has come to this
 pub record HasCome (out : After ReadLine Ref) (v w : View) : Type 0 where

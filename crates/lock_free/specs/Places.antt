@@ -1,10 +1,14 @@
--- Which word is what: counters, a word for each handle and each seat, three parts with slots of one size each, and a word for each small slot. A slot is named by its first word, halved.
+-- Which word is what: counters, a word for each handle and each seat, three parts with slots of one size each, a word for each small slot, and cells. A slot is named by its first word, halved.
 use Rattle.std.specs.Prelude.{◌≡◌, ℕ, ◌+◌, ◌*◌, ◌^◌, ◌<◌, ◌≤◌, ◌==◌, if◌then◌else◌, nat_le, List, slice_index}
 use Rattle.lock_free.specs.declared.sizes.Sizes.{Sizes}
 
 -- 16 words are two lines of the cache, so that who writes one counter doesn't take another from a processor
 abbrev pub epoch_word : ℕ
 epoch_word = 0
+
+-- which counts up where the epoch may grow or a handle be closed: who glances looks whether it is what it was
+abbrev pub glance_word : ℕ
+glance_word = 1
 
 abbrev pub generation_word : ℕ
 generation_word = 16
@@ -45,9 +49,16 @@ part_of sizes class =
     if class == 0 then first_slot_word sizes
     else (if class == 1 then first_slot_word sizes + 2 * sizes.small else first_slot_word sizes + 2 * sizes.small + 8 * sizes.medium)
 
--- small slots have no room for counts: these have a part of their own
+-- small slots have no room for counts: these have a part of their own, and cells come after it
+abbrev pub first_cell_word : Sizes → ℕ
+first_cell_word sizes = first_slot_word sizes + 3 * sizes.small + 8 * sizes.medium + 24 * sizes.wide
+
+-- 32 cells for each class
 abbrev pub words_of : Sizes → ℕ
-words_of sizes = first_slot_word sizes + 3 * sizes.small + 8 * sizes.medium + 24 * sizes.wide
+words_of sizes = first_cell_word sizes + 96
+
+abbrev pub cell_word : Sizes → ℕ → ℕ → ℕ
+cell_word sizes class number = first_cell_word sizes + 32 * class + number
 
 -- there is a slot of this class with this name
 pub record IsSlot (sizes : Sizes) (class : ℕ) (name : ℕ) : Type 0 where

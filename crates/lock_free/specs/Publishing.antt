@@ -29,7 +29,7 @@ owned_now indirection fresh = record { holder = slot_of indirection; held = slot
 
 abbrev pub swapped_in : ℕ → Ref → Ref → Account → Account
 swapped_in actor indirection fresh account =
-    record { steps = account.steps ++ step.Go actor ∷ []; names = account.names; owned = owned_now indirection fresh ∷ account.owned; offers = account.offers }
+    record account { steps = account.steps ++ step.Go actor ∷ []; owned = owned_now indirection fresh ∷ account.owned }
 
 -- the slot with this main word, or this prev word
 abbrev pub with_main_of : Slot → ℕ → Ref → Slot

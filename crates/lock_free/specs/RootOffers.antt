@@ -1,6 +1,6 @@
 -- What the exchange of a handle's word that is to bring an offer to stand asks and tells.
 use Rattle.history.specs.declared.calls.Call.{Call}
-use Rattle.std.specs.Prelude.{◌≡◌, ◌==◌, ◌++◌, ◌∷◌, ℕ, Bool, true, false, List, [], Some, if◌then◌else◌}
+use Rattle.std.specs.Prelude.{◌≡◌, ◌==◌, ◌<◌, ◌++◌, ◌∷◌, ℕ, Bool, true, false, List, [], Some, if◌then◌else◌}
 use Rattle.atomic_table.specs.Table.{Me, Step}
 use Rattle.trie_words.specs.Codes.{root_of}
 use Rattle.trie_words.specs.declared.roots.RootWord.{RootWord}
@@ -9,24 +9,26 @@ use Rattle.machine_model.specs.declared.actions.Action.TheVariants as act
 use Rattle.machine_model.specs.declared.operations.Operation.{Operation}
 use Rattle.machine_model.specs.declared.roots.Descriptor.{Descriptor}
 use Rattle.machine_model.specs.Calls.{handle_of}
-use Rattle.machine_model.specs.States.{word_at}
+use Rattle.machine_model.specs.States.{word_at, handle_limit}
 use Rattle.machine_model.specs.Swapping.{is_plain}
 use Rattle.lock_free.specs.declared.accounts.Account.{Account}
 use Rattle.lock_free.specs.declared.offers.Fate.{Fate}
 use Rattle.lock_free.specs.declared.offers.Fate.TheVariants as fate
 use Rattle.lock_free.specs.declared.root_offers.Proposed.{Proposed}
 use Rattle.lock_free.specs.declared.root_offers.Proposed.TheVariants.{Stands, Misses, Meets}
+use Rattle.lock_free.specs.declared.rules.Pinned.{Pinned}
 use Rattle.lock_free.specs.declared.rules.View.{View}
 use Rattle.lock_free.specs.Accounts.{place_of}
-use Rattle.lock_free.specs.Exchanging.{given_up}
+use Rattle.lock_free.specs.GivingUp.{given_up, HasDropped}
 use Rattle.lock_free.specs.HandleWords.{HasOffer, HasSeenRoot}
 use Rattle.lock_free.specs.Loading.{now, seen, HasSeen, IsAt, IsSound, Runs, Saw, Waited, Took}
-use Rattle.lock_free.specs.Offering.{DraftsOffer, offered_by}
+use Rattle.lock_free.specs.Offering.{DraftsOffer, known_at, offered_by}
+use Rattle.lock_free.specs.Parting.{IsMet}
 use Rattle.lock_free.specs.Places.{words_of}
 use Rattle.lock_free.specs.RootWords.{HasSeenSettled}
 use Rattle.lock_free.specs.Roots.{undecided, carried_out, taken_back}
 use Rattle.lock_free.specs.Rules.{pool_of}
-use Rattle.std.specs.Prelude.{Option, None}
+use Rattle.std.specs.Prelude.{Option, Some, None}
 
 -- ---- what is asked
 
@@ -49,22 +51,26 @@ TookOffer before account stood after =
     Waited before account × Took before account after
     × ((offer : Descriptor) (p : IsAt before (act.Offer offer)) → is_plain (word_at (now (seen before account)) (handle_of p.operation.call)) offer.root ≡ stood)
 
--- the offer in this slot stands
+-- the offer in this slot stands, and the seat may rely on it
 abbrev pub HasOffered : View → ℕ → View → Type 0
 HasOffered before slot after =
     (account : Account) × TookOffer before account true after
     × ((offer : Descriptor) (p : IsAt before (act.Offer offer)) (rest : List ℕ) → pool_of before.pool 1 ≡ rest ++ slot ∷ [] → after ≡ offered_by before slot
     (handle_of p.operation.call) rest offer account)
+    × ((offer : Descriptor) (p : IsAt before (act.Offer offer)) → IsMet after.account after.pin (known_at before.actor slot (handle_of p.operation.call) offer)
+    × (handle_of p.operation.call < handle_limit))
 
 -- another root stood there, or another offer: what was made is free for the seat again
 abbrev pub HasMissed : View → View → Type 0
-HasMissed before after = (account : Account) × TookOffer before account false after × ((o : Operation) → Runs before o → after ≡ given_up before account o.private)
+HasMissed before after =
+    (account : Account) × TookOffer before account false after × ((o : Operation) → Runs before o →
+    (after ≡ given_up before account o.private after.drafts) × HasDropped (seen before account) o.private o.line after)
 
--- or no step was taken: the word says that a seat would close the handle, or names an offer
+-- or no step was taken: the word says that a seat would close the handle, or names an offer; who offers is pinned
 abbrev pub HasProposed : View → ℕ → ℕ → Proposed → View → Type 0
 HasProposed before handle slot Stands after = HasOffered before slot after
 HasProposed before handle slot Misses after = HasMissed before after
-HasProposed before handle slot (Meets word) after = HasSeenRoot before handle word after
+HasProposed before handle slot (Meets word) after = HasSeenRoot before handle word after × ((pinned : Pinned) × (before.pin ≡ Some pinned))
 
 -- by what was found
 abbrev pub proposed_by : ℕ → RootWord → Proposed
@@ -80,7 +86,7 @@ has_proposed step before found after =
 
 -- an offer in this slot stands, or stood, where the operation is to offer
 abbrev pub MeetsOffer : View → ℕ → Type 0
-MeetsOffer v slot = (offer : Descriptor) × (p : IsAt v (act.Offer offer)) × HasOffer v.sizes v.account (handle_of p.operation.call) slot
+MeetsOffer v slot = (offer : Descriptor) × (p : IsAt v (act.Offer offer)) × HasOffer v.sizes v.account v.pin (handle_of p.operation.call) slot
 
 -- where it is undecided, the load of its first word is the step by which the operation misses
 abbrev pub YieldedAs : Bool → View → ℕ → ℕ → View → Type 0

@@ -1,7 +1,7 @@
 -- What accesses ask and tell by which an operation asks for the root of its handle, and meets the offer that stands there.
 use Rattle.history.specs.declared.calls.Call.{Call}
 use Rattle.history.specs.declared.calls.Access.{Access}
-use Rattle.std.specs.Prelude.{◌≡◌, ◌==◌, ℕ, Bool, true, false, Contains, is_some, Some, None, if◌then◌else◌}
+use Rattle.std.specs.Prelude.{◌≡◌, ◌==◌, ℕ, Bool, true, false, is_some, Some, None, if◌then◌else◌}
 use Rattle.atomic_table.specs.Table.{Me, Step}
 use Rattle.trie_words.specs.Codes.{root_of}
 use Rattle.trie_words.specs.declared.entries.Pair.{Pair}
@@ -29,6 +29,7 @@ use Rattle.lock_free.specs.Fates.{HasSettled, IsUnsettled}
 use Rattle.lock_free.specs.HandleWords.{HasOffer, HasOpening}
 use Rattle.lock_free.specs.Loading.{now, seen, Holds, IsAt, IsUsed, Saw, Went, SameSlots, HasSeen, HasGone, IsSound}
 use Rattle.lock_free.specs.Passing.{IsPlaced}
+use Rattle.lock_free.specs.Parting.{IsMet}
 use Rattle.lock_free.specs.Places.{words_of}
 use Rattle.lock_free.specs.Roots.{open_with, undecided, carried_out, taken_back}
 
@@ -86,7 +87,7 @@ pub record HasFoundRoot (before : View) (handle name : ℕ) (after : View) : Typ
 
 abbrev pub HasAskedRoot : View → ℕ → Named → View → Type 0
 HasAskedRoot before handle (named.Root slot) after = HasFoundRoot before handle slot after
-HasAskedRoot before handle (named.Offer slot) after = (s : Saw before after) × HasOffer before.sizes s.account handle slot
+HasAskedRoot before handle (named.Offer slot) after = (s : Saw before after) × HasOffer before.sizes s.account before.pin handle slot
 HasAskedRoot before handle named.Nothing after = Saw before after
 
 -- ---- a root's generation
@@ -114,11 +115,11 @@ has_met step before found after = MetAs (found == undecided) before.0 step.word 
 -- it stood there when the step was taken
 pub record HasFoundOffer (before : View) (handle name : ℕ) (after : View) : Type 0 where
   pub went : Went before after
-  pub is : (k : Known) → Contains before.account.offers k → k.slot ≡ name → root_at (now (seen before went.account)) handle ≡ open_with Writable (Offer k.offer)
+  pub is : (k : Known) → IsMet before.account before.pin k → k.slot ≡ name → root_at (now (seen before went.account)) handle ≡ open_with Writable (Offer k.offer)
 
 -- it was settled so
 abbrev pub HasSeenSettled : View → ℕ → ℕ → View → Type 0
-HasSeenSettled before name n after = (s : Saw before after) × ((k : Known) → Contains before.account.offers k → k.slot ≡ name → HasSettled before.sizes s.account k n)
+HasSeenSettled before name n after = (s : Saw before after) × ((k : Known) → IsMet before.account before.pin k → k.slot ≡ name → HasSettled before.sizes s.account k n)
 
 abbrev pub HasMetOffer : View → ℕ → ℕ → Fate → View → Type 0
 HasMetOffer before handle name fate.Undecided after = HasFoundOffer before handle name after
@@ -128,7 +129,7 @@ HasMetOffer before handle name fate.TakenBack after = HasSeenSettled before name
 -- the same, by a load that is no step
 abbrev pub HasSeenFate : View → ℕ → Fate → View → Type 0
 HasSeenFate before name fate.Undecided after =
-    (s : Saw before after) × ((k : Known) → Contains before.account.offers k → k.slot ≡ name → root_at (now (seen before s.account)) k.handle ≡ open_with Writable (Offer k.offer))
+    (s : Saw before after) × ((k : Known) → IsMet before.account before.pin k → k.slot ≡ name → root_at (now (seen before s.account)) k.handle ≡ open_with Writable (Offer k.offer))
 HasSeenFate before name fate.CarriedOut after = HasSeenSettled before name carried_out after
 HasSeenFate before name fate.TakenBack after = HasSeenSettled before name taken_back after
 
@@ -141,10 +142,10 @@ pub record SaysOlds (before : View) (account : Account) (k : Known) (pair : Pair
   pub only : IsUnsettled before.sizes account k → (r : Ref) → Holds before r → place_of before.account r ≡ pair.high → r ≡ k.offer.expected
 
 abbrev pub KnowsOffer : View → ℕ → Type 0
-KnowsOffer v name = (handle : ℕ) × HasOffer v.sizes v.account handle name
+KnowsOffer v name = (handle : ℕ) × HasOffer v.sizes v.account v.pin handle name
 
 abbrev pub HasSeenOlds : View → ℕ → Pair → View → Type 0
-HasSeenOlds before name pair after = (s : Saw before after) × ((k : Known) → Contains before.account.offers k → k.slot ≡ name → SaysOlds before s.account k pair)
+HasSeenOlds before name pair after = (s : Saw before after) × ((k : Known) → IsMet before.account before.pin k → k.slot ≡ name → SaysOlds before s.account k pair)
 
 -- the new root, and that of the handle that it opens
 pub record SaysNews (before : View) (account : Account) (k : Known) (pair : Pair) : Type 0 where
@@ -153,7 +154,7 @@ pub record SaysNews (before : View) (account : Account) (k : Known) (pair : Pair
   pub alone : k.offer.second ≡ None → pair.high ≡ 0
 
 abbrev pub HasSeenNews : View → ℕ → Pair → View → Type 0
-HasSeenNews before name pair after = (s : Saw before after) × ((k : Known) → Contains before.account.offers k → k.slot ≡ name → SaysNews before s.account k pair)
+HasSeenNews before name pair after = (s : Saw before after) × ((k : Known) → IsMet before.account before.pin k → k.slot ≡ name → SaysNews before s.account k pair)
 
 -- ---- it is taken out of the word
 
@@ -162,7 +163,7 @@ abbrev pub settled_root : ℕ → Descriptor → Ref
 settled_root n offer = if n == carried_out then offer.successor else offer.root
 
 pub record IsAtClean (v : View) (handle offer root : ℕ) : Type 0 where
-  pub its : HasOffer v.sizes v.account handle offer
+  pub its : HasOffer v.sizes v.account v.pin handle offer
   pub outcome : ℕ
   pub settled : HasSettled v.sizes v.account its.its outcome
   pub place : IsPlaced v (settled_root outcome its.its.offer) root
@@ -171,22 +172,20 @@ pub record IsAtClean (v : View) (handle offer root : ℕ) : Type 0 where
 abbrev pub has_cleaned : Step Call → Me Call View → ℕ → Me Call View → Type 0
 has_cleaned step before found after = after ≡ before
 
--- ---- the handle that it opens is opened
+-- ---- it is taken out of the word of the handle that it opens
 
--- so: writable over a root of its own, or for readers over the old one
-pub data OpensAs (v : View) (offer : Descriptor) : HandleWord → Type 0 where
-  as_copy : (r : Ref) (name : ℕ) → offer.second ≡ Some r → IsPlaced v r name → OpensAs v offer (word.Writable name)
-  for_readers : (name : ℕ) → offer.second ≡ None → IsPlaced v offer.root name → OpensAs v offer (word.ReadOnly name)
+-- By how it was settled: the handle is open, writable over a root of its own, or for readers over the old one; or its number is reserved, as before.
+pub data OpensAs (v : View) (offer : Descriptor) : ℕ → HandleWord → Type 0 where
+  as_copy : (r : Ref) (name : ℕ) → offer.second ≡ Some r → IsPlaced v r name → OpensAs v offer carried_out (word.Writable name)
+  for_readers : (name : ℕ) → offer.second ≡ None → IsPlaced v offer.root name → OpensAs v offer carried_out (word.ReadOnly name)
+  still_reserved : OpensAs v offer taken_back word.Reserved
 
 pub record IsAtOpen (v : View) (handle offer : ℕ) (opened : HandleWord) : Type 0 where
-  pub its : HasOpening v.sizes v.account handle offer
-  pub settled : HasSettled v.sizes v.account its.its carried_out
-  pub opens : OpensAs v its.its.offer opened
+  pub its : HasOpening v.sizes v.account v.pin handle offer
+  pub outcome : ℕ
+  pub settled : HasSettled v.sizes v.account its.its outcome
+  pub opens : OpensAs v its.its.offer outcome opened
 
--- the offer opens a handle that may be written, or one for readers
-abbrev pub IsToOpen : View → ℕ → ℕ → Bool → Type 0
-IsToOpen v handle offer writable = (h : HasOpening v.sizes v.account handle offer) × (is_some h.its.offer.second ≡ writable)
-
--- and it was carried out
+-- The offer opens a handle that may be written, or one for readers, and was carried out.
 abbrev pub IsOpenedBy : View → ℕ → ℕ → Bool → Type 0
-IsOpenedBy v handle offer writable = (h : HasOpening v.sizes v.account handle offer) × HasSettled v.sizes v.account h.its carried_out × (is_some h.its.offer.second ≡ writable)
+IsOpenedBy v handle offer writable = (h : HasOpening v.sizes v.account v.pin handle offer) × HasSettled v.sizes v.account h.its carried_out × (is_some h.its.offer.second ≡ writable)

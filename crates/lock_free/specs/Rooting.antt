@@ -33,7 +33,7 @@ use Rattle.lock_free.specs.RootWords.{IsRootAt}
 -- ---- an offer that is settled
 
 abbrev pub IsSettledAt : View → ℕ → ℕ → Bool → Type 0
-IsSettledAt v handle offer carried = (h : HasOffer v.sizes v.account handle offer) × HasSettled v.sizes v.account h.its (outcome_by carried)
+IsSettledAt v handle offer carried = (h : HasOffer v.sizes v.account v.pin handle offer) × HasSettled v.sizes v.account h.its (outcome_by carried)
 
 -- ---- COMPLETE
 
@@ -58,7 +58,7 @@ completing_of l = None
 
 -- the operation is at the first line of a COMPLETE of the offer in this slot
 pub record IsCompleting (v : View) (handle offer : ℕ) : Type 0 where
-  pub its : HasOffer v.sizes v.account handle offer
+  pub its : HasOffer v.sizes v.account v.pin handle offer
   pub operation : Operation
   pub runs : Runs v operation
   pub on : handle_of operation.call ≡ handle

@@ -8,6 +8,7 @@ use lib.ListN.{get_elem?}
 use Rattle.atomic_table.specs.Table as Table
 use Rattle.trie_words.specs.Codes.{pin_code, root_code, IsPin, IsRootWord}
 use Rattle.trie_words.specs.declared.roots.RootWord.TheVariants as word
+use Rattle.lock_free.specs.declared.rules.Checked.{Checked}
 use Rattle.lock_free.specs.declared.rules.Closing.{Closing}
 use Rattle.lock_free.specs.declared.rules.Heard.{Heard}
 use Rattle.lock_free.specs.declared.rules.Pinned.{Pinned}
@@ -34,14 +35,18 @@ use Rattle.machine_model.specs.declared.steps.Step.TheVariants as step
 use Rattle.machine_model.specs.States.{State, root_at, operation_of, handle_limit}
 use Rattle.lock_free.specs.declared.accounts.Account.{Account}
 use Rattle.lock_free.specs.declared.accounts.Known.{Known}
+use Rattle.lock_free.specs.declared.accounts.Parted.{Parted}
 use Rattle.lock_free.specs.declared.rules.View.{View}
 use Rattle.lock_free.specs.declared.sizes.Sizes.{Sizes}
+pub use Rattle.lock_free.specs.Cells.{pool_of, AreCells, IsFree}
 use Rattle.lock_free.specs.Holdings.{AreHeld}
 use Rattle.lock_free.specs.Links.{AreLinked}
 use Rattle.lock_free.specs.Accounts.{bounds_for, state_of, place_at, HasGrown, HasWaited, HasStood, MayBeFound}
 use Rattle.lock_free.specs.Fates.{TellsFate}
 use Rattle.lock_free.specs.Nodes.{StandsAs, InTable, AreOwners, class_of}
 use Rattle.lock_free.specs.Owning.{AreOwn, IsOwnBy}
+pub use Rattle.lock_free.specs.Parting.{NamesOffer, Once}
+use Rattle.lock_free.specs.Parting.{AreParted, KnowsOffers}
 use Rattle.lock_free.specs.Places.{AreSizes, branch_slot, root_slot, words_of, words_in, IsSlot, IsTaken, HaveTaken, epoch_word, generation_word, pin_word, root_word}
 use Rattle.lock_free.specs.Roots.{MeansRoot, IsWritten, NoOffer, AreMarked, IsPending, fate, undecided}
 
@@ -51,43 +56,17 @@ first_account sizes = record {
   steps = [];
   names = branch_slot sizes ∷ root_slot sizes ∷ [];
   owned = record { holder = 1; held = 0; is_own = true } ∷ [];
+  offered = [];
   offers = [];
+  parted = [];
 }
 
 abbrev pub no_slots : Pool
-no_slots = record { small = []; medium = []; wide = [] }
+no_slots = record { small = []; medium = []; wide = []; parted = [] }
 
--- the view of a seat that has these actors and no slots, and makes no call
-abbrev pub idle_view : Sizes → ℕ → ℕ → Account → View
-idle_view sizes actor last account = record {
-  sizes = sizes;
-  actor = actor;
-  last = last;
-  account = account;
-  pin = None;
-  asks = None;
-  entered = None;
-  closing = [];
-  epoch = 0;
-  passed = 0;
-  opens = None;
-  opening = None;
-  pool = no_slots;
-  drafts = [];
-  retired = [];
-  owed = [];
-  links = [];
-  plain = [];
-  heard = [];
-}
-
-abbrev pub first_view : Sizes → View
-first_view sizes = idle_view sizes 1 sizes.seats (first_account sizes)
-
--- no number stands twice
-abbrev pub Once : List ℕ → Type 0
-Once [] = Unit {0}
-Once (n ∷ ns) = ¬ Contains ns n × Once ns
+-- nothing since the epoch was looked at
+abbrev pub none_checked : Checked
+none_checked = record { cleared = false; seats = 0 }
 
 -- ---- nodes
 
@@ -125,15 +104,21 @@ pub record RootsStand (sizes : Sizes) (account : Account) (words : List ℕ) : T
   pub single : (k l : Known) → Contains account.offers k → Contains account.offers l → k.slot ≡ l.slot → k ≡ l
   -- and a try of an operation has one
   pub tries : (k l : Known) → Contains account.offers k → Contains account.offers l → k.offer.operation ≡ l.offer.operation → k.offer.attempt ≡ l.offer.attempt → k ≡ l
-  pub stood : (k : Known) → Contains account.offers k → HasStood sizes account k.offer
+  pub stood : (k : Known) → Contains account.offered k → HasStood sizes account k.offer
+  pub came : (x : Parted) → Contains account.parted x → HasStood sizes account x.known.offer
   pub marks : AreMarked (state_of sizes account) words account.offers
   pub fates : (k : Known) → Contains account.offers k → TellsFate sizes account k (fate words k)
   pub pending : (k : Known) → Contains account.offers k → fate words k ≡ undecided → IsPending words k
+  pub parting : AreParted account.offered account.offers account.parted words
 
 -- the seat's last mark of this handle
 abbrev pub latest : List Closing → ℕ → Option Closing
 latest [] handle = None
 latest (c ∷ marks) handle = if c.handle == handle then Some c else latest marks handle
+
+-- the seat isn't pinned, or its word says that it is
+abbrev pub IsShown : View → Type 0
+IsShown v = (pinned : Pinned) → v.pin ≡ Some pinned → pinned.shown ≡ true
 
 -- who would close a handle has found no call on it at the seats that it has looked at, and none has begun there since
 pub record IsClosing (views : List View) (handle seat : ℕ) : Type 0 where
@@ -144,7 +129,9 @@ pub record IsClosing (views : List View) (handle seat : ℕ) : Type 0 where
   pub closing : Closing
   pub is : latest view.closing handle ≡ Some closing
   pub this : closing.handle ≡ handle
-  pub none : (other : ℕ) (w : View) → get_elem? views other ≡ some w → w.entered ≡ Some handle → w.actor ≢ seat → closing.looked < w.actor
+  pub none : (other : ℕ) (w : View) → get_elem? views other ≡ some w → w.entered ≡ Some handle → w.actor ≢ seat → IsShown w → closing.looked < w.actor
+  -- nor is a glance under way on it, once all have fallen
+  pub clear : (view.passed.cleared ≡ true) ⊎ (1 ≤ closing.looked) → (other : ℕ) (w : View) → get_elem? views other ≡ some w → w.entered ≡ Some handle → w.actor ≢ seat → IsShown w
 
 -- the word says that this seat would close the handle
 abbrev pub SaysClosing : ℕ → ℕ → Type 0
@@ -156,14 +143,7 @@ SaysClosing found seat =
 
 abbrev pub pin_word_of : Option Pinned → ℕ
 pin_word_of None = 0
-pin_word_of (Some pinned) = pin_code pinned.pin
-
-abbrev pub pool_of : Pool → ℕ → List ℕ
-pool_of pool class = if class == 0 then pool.small else (if class == 1 then pool.medium else pool.wide)
-
--- the slot is free for the seat
-abbrev pub IsFree : View → ℕ → ℕ → Type 0
-IsFree v class name = (class < 3) × Contains (pool_of v.pool class) name
+pin_word_of (Some pinned) = if pinned.shown then pin_code pinned.pin else 0
 
 -- no node and no offer has the slot
 abbrev pub IsSpare : Sizes → Account → Standing → ℕ → Type 0
@@ -195,11 +175,6 @@ pub record Names (words : List ℕ) (v : View) (handle slot : ℕ) : Type 0 wher
 
 abbrev pub RunsNothing : State → Type 0
 RunsNothing state = (actor : ℕ) → operation_of state actor ≡ None
-
--- the word names the offer in this slot
-abbrev pub NamesOffer : ℕ → ℕ → Type 0
-NamesOffer found slot =
-    (IsRootWord (word.Offered slot) × (found ≡ root_code (word.Offered slot))) ⊎ (IsRootWord (word.Opening slot) × (found ≡ root_code (word.Opening slot)))
 
 -- When so many operations had begun nothing ran, and the handle's word named no offer: it names none until the next one begins.
 pub record IsPlainSo (sizes : Sizes) (account : Account) (words : List ℕ) (d : ℕ × ℕ) : Type 0 where
@@ -282,6 +257,7 @@ pub record IsSeat (sizes : Sizes) (account : Account) (stands : Standing) (words
   pub once : (class : ℕ) → class < 3 → Once (pool_of v.pool class)
   pub drafts : (d : ℕ × ℕ) → Contains v.drafts d → AreDrafts words v d
   pub plain : (d : ℕ × ℕ) → Contains v.plain d → IsPlainSo sizes account words d
+  pub offering : KnowsOffers account.offered account.offers account.parted words v.actor v.pin v.offer v.pool.parted
 
 -- the actor is one of the seat's
 abbrev pub HasActor : View → ℕ → Type 0
@@ -333,6 +309,7 @@ pub record IsKept (sizes : Sizes) (s : Table.State Call View) : Type 0 where
   pub numbers : (i j : ℕ) (v w : View) (handle : ℕ) → get_elem? s.views i ≡ some v → get_elem? s.views j ≡ some w → Reserves (state_of sizes account) v handle → Reserves
       (state_of sizes account) w handle → i ≡ j
   pub held : AreHeld sizes account stands s.words s.views
+  pub cells : AreCells sizes (IsSpare sizes account stands) s.words s.views
 
 -- ---- seats that were given up
 
@@ -345,7 +322,7 @@ pub record WasGivenUp (views : List View) (h : Heard) : Type 0 where
   pub actor : view.actor ≡ h.actor
   pub last : view.last ≡ h.last
   pub account : view.account ≡ h.account
-  pub bare : (view.pool ≡ no_slots) × (view.retired ≡ []) × (view.account.offers ≡ []) × (view.owed ≡ [])
+  pub bare : (view.pool ≡ no_slots) × (view.retired ≡ []) × (view.account.offered ≡ []) × (view.owed ≡ []) × (view.offer ≡ None)
 
 -- ---- the epoch
 
@@ -360,8 +337,12 @@ pub record IsPinned (words : List ℕ) (pinned : Pinned) : Type 0 where
 pub record AreEpochs (words : List ℕ) (views : List View) : Type 0 where
   pub seen : (id : ℕ) (v : View) → get_elem? views id ≡ some v → v.epoch ≤ slice_index words epoch_word
   pub pinned : (id : ℕ) (v : View) → get_elem? views id ≡ some v → (pinned : Pinned) → v.pin ≡ Some pinned → IsPinned words pinned
-  -- if a seat is pinned by which another one has gone, it has pinned itself since the epoch that this one has seen
-  pub passed : (i j : ℕ) (v w : View) → get_elem? views i ≡ some v → get_elem? views j ≡ some w → w.actor ≤ v.passed → (pinned : Pinned) → w.pin ≡ Some pinned → v.epoch ≤ pinned.since
+  -- if a seat is pinned by which another one has gone once all glances had fallen, it has pinned itself since the epoch that this one has seen
+  pub passed : (i j : ℕ) (v w : View) → get_elem? views i ≡ some v → get_elem? views j ≡ some w → v.passed.cleared ≡ true → w.actor ≤ v.passed.seats → (pinned : Pinned) → w.pin ≡ Some pinned →
+      pinned.shown ≡ true → v.epoch ≤ pinned.since
+  -- and so has whoever glances then
+  pub cleared : (i j : ℕ) (v w : View) → get_elem? views i ≡ some v → get_elem? views j ≡ some w → v.passed.cleared ≡ true → (pinned : Pinned) → w.pin ≡ Some pinned → pinned.shown ≡ false →
+      v.epoch ≤ pinned.since
 
 -- ---- retired slots, the epoch and pins
 

@@ -7,10 +7,11 @@ use Rattle.lock_free.specs.declared.rules.View.{View}
 use Rattle.lock_free.specs.Loading.{Runs}
 use Rattle.lock_free.specs.Telling.{GoesOn}
 
--- More has happened, and the seat is what it was, but for its own slots, those that it has retired with their links, what it has seen of the epoch, and what the
--- word of the number that it has reserved names.
+-- More has happened, and the seat is what it was, but for its own slots, those that it has retired with their links, what it has seen of the epoch, its offer, and
+-- what the word of the number that it has reserved names.
 pub record IsStill (v w : View) : Type 0 where
-  pub is : w ≡ record v { account = w.account; epoch = w.epoch; passed = w.passed; pool = w.pool; drafts = w.drafts; opening = w.opening; retired = w.retired; owed = w.owed; links = w.links }
+  pub is : w ≡
+      record v { account = w.account; epoch = w.epoch; passed = w.passed; pool = w.pool; drafts = w.drafts; opening = w.opening; offer = w.offer; retired = w.retired; owed = w.owed; links = w.links }
   pub goes_on : GoesOn v.account.steps w.account.steps
 
 -- it is the same operation, in whichever try and on whichever line

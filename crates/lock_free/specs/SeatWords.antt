@@ -85,9 +85,9 @@ is_out handle (Some pin) = if pin.handle == handle then false else true
 abbrev pub closes : ℕ → ℕ → Closing
 closes handle looked = record { handle = handle; looked = looked }
 
--- it has marked the handle last, and has looked at so many since
+-- it has marked the handle last, all glances have fallen since, and then it has looked at so many
 abbrev pub WouldClose : View → ℕ → ℕ → Type 0
-WouldClose v handle looked = (others : List Closing) × (v.closing ≡ closes handle looked ∷ others)
+WouldClose v handle looked = (others : List Closing) × (v.closing ≡ closes handle looked ∷ others) × (v.passed.cleared ≡ true)
 
 abbrev pub passing : View → ℕ → ℕ → View
 passing v handle looked = record v { closing = closes handle (looked + 1) ∷ v.closing }

@@ -1,7 +1,7 @@
 -- A seat of several actors is split.
 use Rattle.std.specs.Prelude.{◌-◌}
 use Rattle.lock_free.specs.declared.rules.View.{View}
-use Rattle.lock_free.specs.Rules.{idle_view}
+use Rattle.lock_free.specs.FirstViews.{idle_view}
 
 -- what is left of a seat whose last actor gets a seat of its own, and that one
 abbrev pub without_last : View → View

@@ -10,6 +10,7 @@ use Rattle.lock_free.specs.declared.swapping.Swapped.TheVariants.{Misses}
 use Rattle.lock_free.specs.Becoming.{HasBecome}
 use Rattle.lock_free.specs.Swaps.{swap_done, is_done, IsSwapping}
 use Rattle.lock_free.specs.declared.limbo.Limbo.{Limbo}
+use Rattle.lock_free.specs.declared.reclaiming.Kind.{Kind}
 use Rattle.lock_free.specs.declared.rules.Pool.{Pool}
 use Rattle.lock_free.specs.declared.rules.View.{View}
 use Rattle.lock_free.specs.declared.sizes.Sizes.{Sizes}
@@ -19,6 +20,7 @@ use Rattle.lock_free.specs.Limbos.{IsLimbo}
 use Rattle.lock_free.specs.Loading.{now}
 use Rattle.lock_free.specs.Making.{with_slots, with_slot}
 use Rattle.lock_free.specs.Nodes.{class_of}
+use Rattle.lock_free.specs.Reclaiming.{kind_of_node}
 use Rattle.lock_free.specs.Rules.{pool_of}
 
 -- a stock as contracts see it: free slots by class, the next one last, what was made, in order, and how hangs what the seat has retired
@@ -39,7 +41,7 @@ abbrev pub own_nodes : View → List Ref
 own_nodes v = own_of (operation_of (now v) v.actor)
 
 abbrev pub made_of : View → Ref → OwnNode
-made_of v r = record { class = class_of (node_at (now v).heap r); slot = place_of v.account r }
+made_of v r = record { kind = kind_of_node (node_at (now v).heap r); class = class_of (node_at (now v).heap r); slot = place_of v.account r }
 
 -- its free slots and what was made are this seat's
 pub record HoldsSlots (stock : Stocked) (v : View) : Type 0 where
@@ -91,10 +93,10 @@ abbrev pub IsPopped : Pool → ℕ → Option ℕ → Pool → Type 0
 IsPopped before class None after = (pool_of before class ≡ []) × (after ≡ before)
 IsPopped before class (Some name) after = (rest : List ℕ) × (pool_of before class ≡ rest ++ name ∷ []) × (after ≡ with_slots before class rest)
 
--- the last free slot of the class has become that of a node
-abbrev pub NotesLast : Stocked → ℕ → Stocked → Type 0
-NotesLast before class after = (rest : List ℕ) (name : ℕ) → pool_of before.pool class ≡ rest ++ name ∷ [] →
-    (after.pool ≡ with_slots before.pool class rest) × (after.made ≡ before.made ++ record { class = class; slot = name } ∷ [])
+-- the last free slot of the class has become that of a node of this kind
+abbrev pub NotesLast : Stocked → Kind → ℕ → Stocked → Type 0
+NotesLast before kind class after = (rest : List ℕ) (name : ℕ) → pool_of before.pool class ≡ rest ++ name ∷ [] →
+    (after.pool ≡ with_slots before.pool class rest) × (after.made ≡ before.made ++ record { kind = kind; class = class; slot = name } ∷ [])
 
 -- ---- a slot for the next node
 

@@ -19,10 +19,9 @@ use Rattle.lock_free.specs.declared.reclaiming.Decided.{Decided}
 use Rattle.lock_free.specs.declared.reclaiming.Decided.TheVariants as decided
 use Rattle.lock_free.specs.declared.swapping.Swapped.{Swapped}
 use Rattle.lock_free.specs.declared.swapping.Swapped.TheVariants.{Commits, Fails, Misses}
-use Rattle.lock_free.specs.Exchanging.{given_up}
 use Rattle.lock_free.specs.Dropping.{AreDropped}
-use Rattle.lock_free.specs.LettingGo.{HoldsGivenUp}
-use Rattle.lock_free.specs.Loading.{now, Runs, Waited}
+use Rattle.lock_free.specs.Loading.{now, Runs, Waited, seen}
+use Rattle.lock_free.specs.GivingUp.{given_up, HasDropped}
 use Rattle.lock_free.specs.Nodes.{class_of}
 use Rattle.lock_free.specs.Passing.{KnowsLink, IsPlaced}
 use Rattle.lock_free.specs.Reclaiming.{retiree_of, LaterRetiring}
@@ -73,7 +72,7 @@ swapped_by (decided.Fails r) = Fails r
 
 -- what is left of the seat's own: where the replaced node wasn't found, all that it has made is free for it again
 abbrev pub LeavesOwn : View → Swapped → View → Type 0
-LeavesOwn before Misses after = (account : Account) × Waited before account × ((o : Operation) → Runs before o → after ≡ given_up before account o.private)
+LeavesOwn before Misses after = (account : Account) × Waited before account × ((o : Operation) → Runs before o → after ≡ given_up before account o.private after.drafts)
 LeavesOwn before result after = LaterRetiring before after
 
 abbrev pub HasSwapDone : View → Swapped → View → Type 0
@@ -82,7 +81,7 @@ HasSwapDone before result after =
     × ((why : Purpose) (i replaced made : Ref) → IsSwapping before why i replaced made → (o : Operation) → Runs before o → Runs after
     (swap_done why (node_at (now before).heap made) (is_done result) o))
 
--- where the replaced node wasn't found, the seat holds itself what all that it has made held
+-- where the replaced node wasn't found, what all that it has made held is the seat's, which knows the words of its slots
 abbrev pub HoldsSwapped : View → Swapped → View → Type 0
-HoldsSwapped before Misses after = (o : Operation) → Runs before o → HoldsGivenUp before o after.owed
+HoldsSwapped before Misses after = (account : Account) × Waited before account × ((o : Operation) → Runs before o → HasDropped (seen before account) o.private o.line after)
 HoldsSwapped before result after = Unit {0}

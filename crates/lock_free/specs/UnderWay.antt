@@ -12,7 +12,7 @@ use Rattle.lock_free.specs.declared.rules.View.{View}
 use Rattle.lock_free.specs.Answering.{HasAnswered}
 use Rattle.lock_free.specs.Attempts.{HasEndedWith}
 use Rattle.lock_free.specs.BegunCalls.{WasDeniedSo}
-use Rattle.lock_free.specs.Limbos.{HasReclaimedSome}
+use Rattle.lock_free.specs.CellWords.{HasTidied}
 use Rattle.lock_free.specs.Loading.{IsAt, IsSound}
 use Rattle.lock_free.specs.Parking.{opens_of, IsParked}
 use Rattle.lock_free.specs.RunningOn.{RunsOn}
@@ -61,10 +61,10 @@ HasRunBy before call opens (ran.UnderWay access parked) after = IsUnderWay befor
 abbrev pub HasRunOn : View → Call → Ran → View → Type 0
 HasRunOn v call result after = (before : View) (opens : Option ℕ) → IsUnderWay before call opens v → HasRunBy before call opens result after
 
--- its operation has ended, this is told of it, and some of what it has retired is free again
+-- its operation has ended, this is told of it, and some of what it has retired is free again, for it or for others
 abbrev pub HasFinished : View → Call → Result Reply CallError → View → Type 0
 HasFinished v call told after = (answer : Reply) × (lack : CallError) × IsLackOf call lack × (told ≡ told_by answer lack) × (ended : View) × HasEndedWith v answer ended
-    × HasReclaimedSome ended after
+    × HasTidied ended after
 
 -- or it is where it was
 abbrev pub HasComeOut : View → Call → Access → Ran → View → Type 0

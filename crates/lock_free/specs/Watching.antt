@@ -1,15 +1,12 @@
 -- What a seat that is alone sees of nodes to which handles lead: nothing changes meanwhile.
 use Rattle.history.specs.declared.calls.Call.{Call}
-use Rattle.std.specs.Prelude.{◌≡◌, ◌<◌, ℕ, Bool, true, length, slice_get, slice_index_or, Contains, Some, None}
+use Rattle.std.specs.Prelude.{◌≡◌, ◌<◌, ℕ, Bool, true, slice_get, slice_index_or, Contains, Some, None}
 use Rattle.atomic_table.specs.Table.{Me, Step}
 use Rattle.trie_words.specs.declared.entries.Entry.{Entry}
 use Rattle.trie_words.specs.declared.headers.Header.{Header}
 use Rattle.trie_words.specs.declared.headers.Previous.{Previous}
 use Rattle.trie_words.specs.declared.headers.Previous.TheVariants as previous
-use Rattle.trie_words.specs.declared.headers.Shape.{Shape}
-use Rattle.trie_words.specs.declared.headers.Shape.TheVariants as shape
-use Rattle.machine_model.specs.Beneath.slot_arena.specs.declared.nodes.Node.{Node}
-use Rattle.machine_model.specs.Beneath.slot_arena.specs.declared.nodes.Node.TheVariants.{Indirection, Branch, Tomb, List as Listed}
+use Rattle.machine_model.specs.Beneath.slot_arena.specs.declared.nodes.Node.TheVariants.{Indirection}
 use Rattle.machine_model.specs.Beneath.slot_arena.specs.declared.nodes.Prev.{Prev}
 use Rattle.machine_model.specs.Beneath.slot_arena.specs.declared.nodes.Prev.TheVariants as prev
 use Rattle.machine_model.specs.Beneath.slot_arena.specs.declared.nodes.Slot.{Slot}
@@ -21,6 +18,7 @@ use Rattle.proof_claims.specs.Beneath.proof_reuse.specs.Beneath.proof_followed.s
 use Rattle.lock_free.specs.declared.rules.View.{View}
 use Rattle.lock_free.specs.Accounts.{place_of}
 use Rattle.lock_free.specs.Alone.{IsAlone, LoneMoment}
+use Rattle.lock_free.specs.LeftNodes.{NamesShape}
 use Rattle.lock_free.specs.Loading.{now, seen, IsSound, IsUsed}
 use Rattle.lock_free.specs.Nodes.{is_single}
 use Rattle.lock_free.specs.Places.{words_of}
@@ -69,12 +67,6 @@ pub data NamesPrevious (v : View) : Prev → Previous → Type 0 where
   none : NamesPrevious v prev.None previous.None
   pending : (p : Ref) (own : Bool) → NamesPrevious v (prev.Pending p) (previous.Pending (record { slot = place_of v.account p; own = own }))
   failed : (p : Ref) (own : Bool) → NamesPrevious v (prev.Failed p) (previous.Failed (record { slot = place_of v.account p; own = own }))
-
--- what a main node is
-pub data NamesShape (v : View) : Node → Shape → Type 0 where
-  a_branch : (bitmap : ℕ) (entries : _) → NamesShape v (Branch bitmap entries) (shape.Branch bitmap)
-  a_tomb : (single : Ref) (own : Bool) → NamesShape v (Tomb single) (shape.Tomb (record { slot = place_of v.account single; own = own; is_single = true }))
-  a_list : (singles : _) → NamesShape v (Listed singles) (shape.List (length singles.items))
 
 -- it says what stands in the slot
 pub record SaysNode (v : View) (slot : Slot) (header : Header) : Type 0 where

@@ -1,12 +1,13 @@
 //! The epoch: it grows by one at a time, once no seat is in a call that it began in an earlier one.
 
-ghost use Rattle.std.specs.Prelude.{◌≡◌, ◌+◌, ◌<◌, ◌≤◌, ◌^◌};
+ghost use Rattle.std.specs.Prelude.{true, ◌≡◌, ◌+◌, ◌<◌, ◌≤◌, ◌^◌};
 ghost use Rattle.lock_free.specs.Epochs.{is_in, HasAdvanced, HasChecked, HasCheckedAll, HasSeenEpoch, HasTriedToAdvance};
 ghost use Rattle.lock_free.specs.Loading.{IsSound};
 
+use crate::glance_plays::{Advances, Checks, SeesEpoch};
+use crate::glances::fell_within;
 use crate::loads::{Actor, Words};
 use crate::pins::pin_word_of;
-use crate::rules::{Advances, Checks, SeesEpoch};
 use crate::sizes::Sizes;
 use trie_words::Pin;
 
@@ -17,6 +18,7 @@ pub(crate) const EPOCH_WORD: usize = 0;
 const EPOCHS: u64 = 1 << 54;
 
 /// Looks at the epoch.
+#[inline(always)]
 pub fn see_epoch(words: &Words, actor: &mut Actor) -> u64
     requires table { actor.old.table_id ≡ words.now.table_id }
     requires sound { IsSound words.now.table_id.words actor.old.me.0 }
@@ -43,7 +45,7 @@ fn check(words: &Words, actor: &mut Actor, epoch: u64, passed: u8) -> bool
     requires table { actor.old.table_id ≡ words.now.table_id }
     requires sound { IsSound words.now.table_id.words actor.old.me.0 }
     requires seen { actor.old.me.0.epoch ≡ epoch }
-    requires next { actor.old.me.0.passed ≡ passed }
+    requires next { actor.old.me.0.passed.seats ≡ passed }
     requires small { passed + 1 < 256 }
     requires few { passed + 1 ≤ actor.old.me.0.sizes.seats }
     ensures table { actor.new.table_id ≡ actor.old.table_id }
@@ -61,7 +63,7 @@ fn check_all(words: &Words, actor: &mut Actor, sizes: &Sizes, epoch: u64) -> boo
     requires sound { IsSound words.now.table_id.words actor.old.me.0 }
     requires sizes { actor.old.me.0.sizes ≡ sizes.now }
     requires seen { actor.old.me.0.epoch ≡ epoch }
-    requires none { actor.old.me.0.passed ≡ 0 }
+    requires none { actor.old.me.0.passed.seats ≡ 0 }
     ensures table { actor.new.table_id ≡ actor.old.table_id }
     ensures sound { IsSound words.now.table_id.words actor.new.me.0 }
     ensures checked { HasCheckedAll actor.old.me.0 result actor.new.me.0 }
@@ -74,13 +76,15 @@ fn check_all(words: &Words, actor: &mut Actor, sizes: &Sizes, epoch: u64) -> boo
     true
 }
 
-/// Lets the epoch grow by one, where it is still the one that the seat has seen, and the seat has gone by all others since. Returns
+/// Lets the epoch grow by one, where it is still the one that the seat has seen, and all glances have fallen and the seat has gone by all
+/// others since. Returns
 /// whether it was so.
 fn grow(words: &Words, actor: &mut Actor, epoch: u64) -> bool
     requires table { actor.old.table_id ≡ words.now.table_id }
     requires sound { IsSound words.now.table_id.words actor.old.me.0 }
     requires seen { actor.old.me.0.epoch ≡ epoch }
-    requires all { actor.old.me.0.passed ≡ actor.old.me.0.sizes.seats }
+    requires fallen { actor.old.me.0.passed.cleared ≡ true }
+    requires all { actor.old.me.0.passed.seats ≡ actor.old.me.0.sizes.seats }
     requires low { epoch + 1 < 2 ^ 54 }
     ensures table { actor.new.table_id ≡ actor.old.table_id }
     ensures sound { IsSound words.now.table_id.words actor.new.me.0 }
@@ -100,7 +104,10 @@ pub fn advance(words: &Words, actor: &mut Actor, sizes: &Sizes) -> bool
     ensures tried { HasTriedToAdvance actor.old.me.0 result actor.new.me.0 }
 {
     let epoch = see_epoch(words, actor);
-    if epoch >= EPOCHS - 1 || !check_all(words, actor, sizes, epoch) {
+    if epoch >= EPOCHS - 1 || !fell_within(1, words, actor) {
+        return false;
+    }
+    if !check_all(words, actor, sizes, epoch) {
         return false;
     }
     grow(words, actor, epoch)

@@ -22,7 +22,7 @@ pub enum Named {
 
 /// What this word says of the root.
 #[inline(always)]
-fn named_of(word: RootWord) -> Named
+pub(crate) fn named_of(word: RootWord) -> Named
     ensures { result ≡ named_by word }
 {
     match word {

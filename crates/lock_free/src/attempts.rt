@@ -16,11 +16,11 @@ ghost use Rattle.lock_free.specs.Seeking.{IsCalled};
 ghost use Rattle.lock_free.specs.Stocks.{IsStock};
 
 use crate::building::Builder;
-use crate::calling::give_up;
 use crate::changing::Edit;
 use crate::cleaning::single_in;
 use crate::climbs::climb_within;
 use crate::descending::{Path, Update};
+use crate::giving_up::give_all_up;
 use crate::key_tries::try_key_within;
 use crate::leaving::Swapping;
 use crate::loads::{Actor, Words};
@@ -138,8 +138,7 @@ fn leave_climb(words: &Words, actor: &mut Actor, stock: &mut Stock, reply: Reply
     ensures stock { IsStock stock.new actor.new.me.0 }
     ensures left { HasRunTo actor.old.me.0 result actor.new.me.0 }
 {
-    give_up(words, actor);
-    stock.give_back();
+    give_all_up(words, actor, stock);
     Came::Answered(reply)
 }
 

@@ -8,6 +8,7 @@ ghost use Rattle.lock_free.specs.Stocks.{IsStock};
 
 use crate::call_errors::CallError;
 use crate::calling::{start, start_within};
+use crate::lacks::Manner;
 use crate::loads::{Actor, Words};
 use crate::reading::Way;
 use crate::stock::Stock;
@@ -37,7 +38,7 @@ pub(crate) fn begin_call<R: Wait>(
     ensures begun { HasBegunCall actor.old.me.0 call result actor.new.me.0 }
     ensures rests { IfErr result (λ why. RestsAgain actor.old.me.0 actor.new.me.0) }
 {
-    stock.begin();
+    stock.begin(Manner::Waits);
     match start(rt, words, actor, seat, stock.epoch(), &call) {
         Ok(way) => Ok(way),
         Err(denial) => Err(CallError::from(denial)),
@@ -67,7 +68,7 @@ pub(crate) fn begin_call_within(
     ensures begun { HasTriedToBegin actor.old.me.0 call result actor.new.me.0 }
     ensures rests { IfErr result (λ why. RestsAgain actor.old.me.0 actor.new.me.0) }
 {
-    stock.begin();
+    stock.begin(Manner::Tries);
     match start_within(tries, words, actor, seat, stock.epoch(), &call) {
         Ok(Some(way)) => Ok(way),
         Ok(None) => Err(CallError::Spent),

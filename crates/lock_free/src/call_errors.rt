@@ -17,9 +17,11 @@ pub enum CallError {
     NotReadOnly,
     /// The key has no value and is to get one, and 32 other keys have its hash.
     Crowded,
-    /// No slot is free for what the call has to make.
+    /// No slot is free for what the call has to make. A change, a copy or a clear with a runtime has waited first, where slots that its seat has
+    /// retired were to be free soon.
     Full,
-    /// It didn't come through in its number of tries, and nothing of it is under way. It may come through if it is made again.
+    /// It didn't come through in its number of tries, and nothing of it is under way; or no slot was free in them, but some that its seat has
+    /// retired are to be soon. It may come through if it is made again.
     Spent,
     /// A copy, where each of the 256 handles is open or about to be opened.
     HandlesFull,

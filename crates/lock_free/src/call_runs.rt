@@ -1,10 +1,11 @@
 //! Whole calls in a number of tries.
 
-ghost use Rattle.std.specs.Prelude.{◌≡◌, ◌<◌, ◌≤◌, ◌⊎◌, ℕ, is_some, Some};
-ghost use Rattle.machine_model.specs.Calls.{handle_of, opens_handle};
+ghost use Rattle.std.specs.Prelude.{◌≡◌, ◌<◌, ◌≤◌, ◌⊎◌, ℕ, false, is_some, None, Some};
+ghost use Rattle.machine_model.specs.Calls.{copies, handle_of, opens_handle};
 ghost use Rattle.machine_model.specs.Lines.{new_try};
-ghost use Rattle.lock_free.specs.declared.call_errors.CallError.{CallError as Lack};
+ghost use Rattle.lock_free.specs.declared.call_errors.CallError.{CallError as Error};
 ghost use Rattle.lock_free.specs.Attempts.{IsEnding, IsTried};
+ghost use Rattle.lock_free.specs.CellWords.{HasTidied};
 ghost use Rattle.lock_free.specs.Holding.{IsOn};
 ghost use Rattle.lock_free.specs.Loading.{IsSound};
 ghost use Rattle.lock_free.specs.Parking.{opens_of, IsCome, IsToOpenAs};
@@ -17,8 +18,10 @@ ghost use Rattle.lock_free.specs.WholeCalls.{RestsWith};
 
 use crate::beginning::{begin_call, begin_call_within};
 use crate::call_errors::CallError;
+use crate::cells::give_some;
 use crate::copy_runs::{is_copy, run_tried};
-use crate::freeing::{let_go, tidy};
+use crate::freeing::{let_go, make_free};
+use crate::lacks::Lack;
 use crate::loads::{Actor, Words};
 use crate::parking::{Came, Parked, go_on};
 use crate::reading::Way;
@@ -51,24 +54,23 @@ fn told_by(reply: Reply, lack: CallError) -> Result<Reply, CallError>
     }
 }
 
-/// What an operation of this call lacked that has given up.
+/// What an operation of this call lacked that has given up. One in a number of tries is out of these rather than without a slot, where some are to
+/// be free soon: its caller calls again.
 #[inline(always)]
 fn lack_of(stock: &Stock, call: Call) -> CallError
     ensures { IsLackOf call result }
 {
-    if stock.lacks() {
-        CallError::Full
-    } else if is_copy(call) && stock.is_worn_out() {
-        CallError::WornOut
-    } else {
-        CallError::Spent
+    match stock.lacked() {
+        Lack::Slot | Lack::SlotSoon => CallError::Full,
+        Lack::Generation if is_copy(call) => CallError::WornOut,
+        Lack::Generation | Lack::Tries | Lack::Nothing => CallError::Spent,
     }
 }
 
 /// What the caller of this call is told of this reply.
 #[inline(always)]
 fn told_of(stock: &Stock, call: Call, reply: Reply) -> Result<Reply, CallError>
-    ensures { (lack : Lack) × IsLackOf call lack × (result ≡ told_by reply lack) }
+    ensures { (lack : Error) × IsLackOf call lack × (result ≡ told_by reply lack) }
 {
     match reply {
         Reply::NoSlots => Err(lack_of(stock, call)),
@@ -76,8 +78,30 @@ fn told_of(stock: &Stock, call: Call, reply: Reply) -> Result<Reply, CallError>
     }
 }
 
+/// Where the seat is to look at the epoch, makes some of what it has retired free for it, and gives others some of what it has over; but after
+/// no copy, since the word of the number that it has reserved may name one of these slots.
+#[inline(always)]
+fn tidy_up(words: &Words, actor: &mut Actor, stock: &mut Stock, call: Call)
+    requires table { actor.old.table_id ≡ words.now.table_id }
+    requires sound { IsSound words.now.table_id.words actor.old.me.0 }
+    requires stock { IsStock stock.old actor.old.me.0 }
+    requires unopened { copies call ≡ false → actor.old.me.0.opens ≡ None }
+    ensures table { actor.new.table_id ≡ actor.old.table_id }
+    ensures sound { IsSound words.now.table_id.words actor.new.me.0 }
+    ensures stock { IsStock stock.new actor.new.me.0 }
+    ensures tidied { HasTidied actor.old.me.0 actor.new.me.0 }
+{
+    if !stock.is_due() {
+        return;
+    }
+    make_free(words, actor, stock);
+    if !is_copy(call) {
+        give_some(words, actor, stock);
+    }
+}
+
 /// Ends the operation of this call by this seat, `seat`, with this reply, or as one that gives up. Some of what the seat has retired may be free
-/// for it then.
+/// for it then, or for others.
 #[inline(always)]
 pub(crate) fn finish_call(
     words: &Words,
@@ -93,6 +117,7 @@ pub(crate) fn finish_call(
     requires its { actor.old.me.0.actor ≡ seat }
     requires few { actor.old.me.0.actor ≤ actor.old.me.0.sizes.seats }
     requires ending { IsEnding actor.old.me.0 answered }
+    requires unopened { copies call ≡ false → actor.old.me.0.opens ≡ None }
     ensures table { actor.new.table_id ≡ actor.old.table_id }
     ensures sound { IsSound words.now.table_id.words actor.new.me.0 }
     ensures stock { IsStock stock.new actor.new.me.0 }
@@ -101,7 +126,7 @@ pub(crate) fn finish_call(
     let_go(words, actor, stock);
     let reply = end_with(words, actor, stock, seat, answered);
     let told = told_of(stock, call, reply);
-    tidy(words, actor, stock);
+    tidy_up(words, actor, stock, call);
     told
 }
 
@@ -122,6 +147,7 @@ pub(crate) fn come_out(
     requires its { actor.old.me.0.actor ≡ seat }
     requires few { actor.old.me.0.actor ≤ actor.old.me.0.sizes.seats }
     requires come { IsCome actor.old.me.0 came }
+    requires unopened { copies call ≡ false → actor.old.me.0.opens ≡ None }
     ensures table { actor.new.table_id ≡ actor.old.table_id }
     ensures sound { IsSound words.now.table_id.words actor.new.me.0 }
     ensures stock { IsStock stock.new actor.new.me.0 }
@@ -160,6 +186,7 @@ fn run_begun(
     requires low { way.handle < 256 }
     requires opens { IsToOpenAs actor.old.me.0 opens }
     requires at { IsOn actor.old.me.0 new_try }
+    requires unopened { copies call ≡ false → actor.old.me.0.opens ≡ None }
     ensures table { actor.new.table_id ≡ actor.old.table_id }
     ensures sound { IsSound words.now.table_id.words actor.new.me.0 }
     ensures stock { IsStock stock.new actor.new.me.0 }

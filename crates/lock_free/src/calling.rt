@@ -3,13 +3,13 @@
 ghost use Rattle.std.specs.Prelude.{◌≡◌, ◌<◌, ◌≤◌, ◌^◌};
 ghost use Rattle.machine_model.specs.Calls.{handle_of, key_of, needs_read_only, needs_writable};
 ghost use Rattle.lock_free.specs.Calling.{access_in, started_by, HasCalled, HasCutShort, HasGivenUp, HasTriedToStart, CalledOrNot, StartedOrNot};
-ghost use Rattle.lock_free.specs.Calling.{IsBeginner, IsCancelled, IsCaller, IsRunning, MayGiveUp};
+ghost use Rattle.lock_free.specs.Calling.{IsBeginner, IsCaller, IsRunning, MayGiveUp};
 ghost use Rattle.lock_free.specs.Loading.{IsSound};
 
 use crate::advancing::EPOCH_WORD;
 use crate::handles::{root_word_of, unmark};
 use crate::loads::{Actor, Words};
-use crate::pins::{finish, pin, unpin};
+use crate::pins::{pin, unpin};
 use crate::reading::Way;
 use crate::rules::{Abandons, CutsShort, Starts};
 use crate::tasks::key_of;
@@ -60,7 +60,7 @@ fn needs_read_only(call: &Call) -> bool
 
 /// A law: the key of a call has 64 bits, since it is one of the program's. It does nothing.
 #[inline(always)]
-fn key_fits(call: Call)
+pub(crate) fn key_fits(call: Call)
     ensures { key_of call < 2 ^ 64 }
 {
     let _ = key_of(call);
@@ -227,19 +227,4 @@ pub fn cut_short(words: &Words, actor: &mut Actor)
     ensures cut { HasCutShort actor.old.me.0 actor.new.me.0 }
 {
     words.load::<CutsShort>(actor, EPOCH_WORD);
-}
-
-/// Ends the operation of this seat at once, as one that gives up. The seat is pinned no more.
-pub fn cancel(words: &Words, actor: &mut Actor, seat: u8)
-    requires table { actor.old.table_id ≡ words.now.table_id }
-    requires sound { IsSound words.now.table_id.words actor.old.me.0 }
-    requires its { actor.old.me.0.actor ≡ seat }
-    requires few { actor.old.me.0.actor ≤ actor.old.me.0.sizes.seats }
-    requires may { MayGiveUp actor.old.me.0 }
-    ensures table { actor.new.table_id ≡ actor.old.table_id }
-    ensures sound { IsSound words.now.table_id.words actor.new.me.0 }
-    ensures cancelled { IsCancelled actor.old.me.0 actor.new.me.0 }
-{
-    give_up(words, actor);
-    finish(words, actor, seat);
 }

@@ -10,12 +10,12 @@ ghost use Rattle.lock_free.specs.Stocks.{IsStock};
 use crate::cleaning::{Cleaned, CleanedEntries, look_over, single_in};
 use crate::contracting::make_contracted;
 use crate::entries::see_entries;
-use crate::leaving::{Drops, Swapping};
+use crate::leaving::Swapping;
 use crate::loads::{Actor, Words, look_at_main};
 use crate::makes::class_of;
 use crate::reading::{Given, Passed, ReadFrom, Way, read_on};
 use crate::stock::Stock;
-use crate::swapping::swap_made_within;
+use crate::swapping::swap_seen_within;
 use arrayvec::ArrayVec;
 use trie_words::{Entry, Link, Shape};
 
@@ -147,7 +147,7 @@ fn clean_branch_within(
         return Ok(false);
     };
     let class = class_of(Shape::Branch(bitmap));
-    match swap_made_within(
+    match swap_seen_within(
         tries,
         words,
         actor,
@@ -157,7 +157,6 @@ fn clean_branch_within(
         link,
         class,
         fresh,
-        Drops::Others,
     ) {
         Ok(_) => Ok(true),
         Err(swapping) => Err(swapping),

@@ -12,13 +12,13 @@ use crate::cleaning::single_in;
 use crate::climbing::{Climbed, entombs, holds_it, put};
 use crate::contracting::make_contracted;
 use crate::entries::see_entries;
-use crate::leaving::{Drops, Swapping};
+use crate::leaving::Swapping;
 use crate::loads::{Actor, Words, look_at_main};
 use crate::makes::class_of;
 use crate::reading::{Given, Passed, ReadFrom, Way, read_on};
 use crate::rooting::root_within;
 use crate::stock::Stock;
-use crate::swapping::{Swapped, swap_made_within};
+use crate::swapping::{Swapped, swap_seen_within};
 use arrayvec::ArrayVec;
 use nodes::{flag_of, position_of};
 use trie_words::{Entry, Link, Shape};
@@ -89,17 +89,8 @@ fn contract_within(
         return Ok(Climbed::Full);
     };
     let class = class_of(Shape::Branch(bitmap));
-    let swapped = match swap_made_within(
-        tries,
-        words,
-        actor,
-        stock,
-        way,
-        parent,
-        link,
-        class,
-        fresh,
-        Drops::Others,
+    let swapped = match swap_seen_within(
+        tries, words, actor, stock, way, parent, link, class, fresh,
     ) {
         Ok(swapped) => swapped,
         Err(swapping) => return Err(swapping),

@@ -3,21 +3,20 @@
 ghost use Rattle.std.specs.Prelude.{◌≡◌, ◌<◌, ◌≤◌, true, Some, None};
 ghost use Rattle.trie_words.specs.Codes.{IsRootWord, root_code};
 ghost use Rattle.lock_free.specs.declared.rules.Pinned.{Pinned};
-ghost use Rattle.lock_free.specs.Closing.{HasLooked, HasMarkedAndShut, HasPassedAll, HasShut, ShutOrNot, ShutPinned};
-ghost use Rattle.lock_free.specs.HandleWords.{is_unmarked, HasOffer};
-ghost use Rattle.lock_free.specs.Loading.{IsSound, Saw};
+ghost use Rattle.lock_free.specs.Closing.{HasMarkedAndShut, HasPassedAll, HasShut, ShutOrNot, ShutPinned};
+ghost use Rattle.lock_free.specs.HandleWords.{is_unmarked, HasJustMarked};
+ghost use Rattle.lock_free.specs.Loading.{IsSound};
 ghost use Rattle.lock_free.specs.Rules.{SaysClosing};
 ghost use Rattle.lock_free.specs.Seated.{IsResting};
 ghost use Rattle.lock_free.specs.SeatWords.{IsIdle, WouldClose};
 ghost use Rattle.lock_free.specs.Stocks.{IsStock};
 
+use crate::glances::fell_within;
 use crate::handles::{close, mark, once_marked, root_slot, see_root, unmark};
 use crate::loads::{Actor, Words};
-use crate::offers::{Fate, see_fate};
 use crate::pins::{pass, pin, unpin};
 use crate::raising::release;
 use crate::reclaiming::Kind;
-use crate::rooting::clean_settled;
 use crate::sizes::Sizes;
 use crate::stock::Stock;
 use history::Call;
@@ -25,6 +24,9 @@ use trie_words::{Pin, RootWord};
 
 /// What the pin of a seat names that is in no call: there is no such handle.
 const NO_HANDLE: u16 = 256;
+
+/// Who would close a handle tries so often to let all glances fall.
+const FALLS: u64 = 64;
 
 /// What comes of closing a handle.
 #[derive(Clone, Copy, Debug, PartialEq, Eq, Drop)]
@@ -127,8 +129,8 @@ fn shut_unpinned(
     closed
 }
 
-/// Closes the handle, which the seat has marked so, if its word is this one still and no other seat is in a call on it. Returns whether it
-/// was so.
+/// Closes the handle, which the seat has marked so, if its word is this one still, glances could be let fall and no other seat is in a call
+/// on it. Returns whether it was so.
 fn close_passed(
     words: &Words,
     actor: &mut Actor,
@@ -145,13 +147,16 @@ fn close_passed(
     requires low { handle < 256 }
     requires fits { IsRootWord marked }
     requires marked { SaysClosing (root_code marked) own }
-    requires closing { WouldClose actor.old.me.0 handle 0 }
+    requires closing { HasJustMarked actor.old.me.0 handle }
     requires rests { IsResting actor.old.me.0 }
     ensures table { actor.new.table_id ≡ actor.old.table_id }
     ensures sound { IsSound words.now.table_id.words actor.new.me.0 }
     ensures stock { IsStock stock.new actor.new.me.0 }
     ensures shut { HasMarkedAndShut actor.old.me.0 handle result actor.new.me.0 }
 {
+    if !fell_within(FALLS, words, actor) {
+        return false;
+    }
     if !pass_all(words, actor, &stock.sizes(), own, handle) {
         return false;
     }
@@ -192,43 +197,6 @@ fn close_marked(
     false
 }
 
-/// Takes the offer in this slot, which was found in the word of this handle, out of it if it is settled. Returns whether it is.
-fn clean_if_settled(words: &Words, actor: &mut Actor, handle: u16, offer: u32) -> bool
-    requires table { actor.old.table_id ≡ words.now.table_id }
-    requires sound { IsSound words.now.table_id.words actor.old.me.0 }
-    requires low { handle < 256 }
-    requires known { HasOffer actor.old.me.0.sizes actor.old.me.0.account handle offer }
-    ensures table { actor.new.table_id ≡ actor.old.table_id }
-    ensures sound { IsSound words.now.table_id.words actor.new.me.0 }
-    ensures saw { Saw actor.old.me.0 actor.new.me.0 }
-{
-    match see_fate(words, actor, offer) {
-        Fate::Undecided => return false,
-        Fate::CarriedOut => clean_settled(words, actor, handle, offer, true),
-        Fate::TakenBack => clean_settled(words, actor, handle, offer, false),
-    }
-    true
-}
-
-/// Looks at the word of the handle, once a settled offer is taken out of it. `None` where an offer stands there that isn't settled.
-fn see_settled(words: &Words, actor: &mut Actor, handle: u16) -> Option<RootWord>
-    requires table { actor.old.table_id ≡ words.now.table_id }
-    requires sound { IsSound words.now.table_id.words actor.old.me.0 }
-    requires low { handle < 256 }
-    ensures table { actor.new.table_id ≡ actor.old.table_id }
-    ensures sound { IsSound words.now.table_id.words actor.new.me.0 }
-    ensures looked { HasLooked actor.old.me.0 handle result actor.new.me.0 }
-{
-    let word = see_root(words, actor, handle);
-    let RootWord::Offered(offer) = word else {
-        return Some(word);
-    };
-    if !clean_if_settled(words, actor, handle, offer) {
-        return None;
-    }
-    Some(see_root(words, actor, handle))
-}
-
 /// Closes the handle, if it is open and no other seat is in a call on it. It never waits, and helps nobody: `own` is the seat's number.
 pub fn close_handle(
     words: &Words,
@@ -249,9 +217,7 @@ pub fn close_handle(
     ensures stock { IsStock stock.new actor.new.me.0 }
     ensures shut { HasShut actor.old.me.0 handle result actor.new.me.0 }
 {
-    let Some(word) = see_settled(words, actor, handle) else {
-        return Shut::Busy;
-    };
+    let word = see_root(words, actor, handle);
     match word {
         RootWord::Closed | RootWord::Reserved => Shut::NoHandle,
         RootWord::Writable(_) | RootWord::ReadOnly(_) => {

@@ -2,19 +2,23 @@
 
 ghost use Rattle.std.specs.Prelude.{◌≡◌, ◌<◌, IfErr, IfOk};
 ghost use Rattle.lock_free.specs.CopySteps.{HasCopied, HasCopiedOn, HasHungRoots, HasLeftCopy, HasLeftRoots, HasMadeCopy, HasTriedCopy, IsAtOriginal, IsAtTry, IsCopying, IsKind};
-ghost use Rattle.lock_free.specs.CopySteps.{IsOwnCompleting, IsToComplete, IsToOpenAll, LeavesCopy, OriginalOrNot};
+ghost use Rattle.lock_free.specs.CopySteps.{IsOwnCompleting, IsToComplete, LeavesCopy, OriginalOrNot};
 ghost use Rattle.lock_free.specs.Loading.{IsSound};
 ghost use Rattle.lock_free.specs.Passing.{IsOnWay};
 ghost use Rattle.lock_free.specs.Stocks.{IsStock};
 
 use crate::copy_gifts::{release_main, release_root, see_copy_main};
 use crate::copy_roots::CopyKind;
-use crate::copying::{Copied, open_copy, prepare};
+use crate::copying::{Copied, prepare};
+use crate::giving_up::let_made_go;
+use crate::hung_slots::hang_roots;
 use crate::leaving::{Completing, Left};
 use crate::loads::{Actor, Words};
 use crate::makes::class_of;
 use crate::offers::{conclude, see_news, see_olds};
+use crate::parting::part_copy;
 use crate::reading::{Given, Passed, ReadFrom, Way, read_on};
+use crate::reclaiming::Kind;
 use crate::root_offers::offer_within;
 use crate::rooting::{is_expected_on, root_within};
 use crate::stock::Stock;
@@ -52,7 +56,7 @@ fn hang_left(words: &Words, actor: &mut Actor, stock: &mut Stock, offer: u32)
     ensures hung { HasHungRoots actor.old.me.0 actor.new.me.0 }
 {
     let roots = see_news(words, actor, offer);
-    stock.hang_roots(words, actor, roots);
+    hang_roots(words, actor, stock, roots);
 }
 
 /// Completes the seat's own offer of such a copy from there on, within so many tries. Returns whether it was carried out, by this seat or
@@ -163,20 +167,18 @@ fn try_copy_within(
         return Ok(Copied::Full);
     };
     if !stands {
-        stock.give_back();
+        let made = stock.give_back();
+        let_made_go(words, actor, stock, &made, None, &[]);
         return Ok(Copied::Again);
     }
-    stock.note(1);
+    stock.note(Kind::Replaced, 1);
     stock.hand_over();
     let carried = match complete_own_within(tries, words, actor, stock, way, which, slot) {
         Ok(carried) => carried,
         Err(next) => return Err(next),
     };
-    if !carried {
-        return Ok(Copied::Again);
-    }
-    open_copy(words, actor, which, opens, slot);
-    Ok(Copied::Done)
+    part_copy(words, actor, stock, way.handle, which, opens, slot);
+    Ok(if carried { Copied::Done } else { Copied::Again })
 }
 
 /// COPY on a handle that may be written: tries it from the root, so often at most. Returns whether it was carried out: then the operation

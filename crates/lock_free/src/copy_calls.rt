@@ -7,15 +7,15 @@ ghost use Rattle.machine_model.specs.Calls.{opens_handle};
 ghost use Rattle.lock_free.specs.Attempts.{IsTried};
 ghost use Rattle.lock_free.specs.KeyReplies.{FitsError, TellsHandle};
 ghost use Rattle.lock_free.specs.Loading.{IsSound};
-ghost use Rattle.lock_free.specs.SeatCalls.{IsTold};
+ghost use Rattle.lock_free.specs.SlotWaits.{IsToldAtLast, IsToldCopyAtLast};
 ghost use Rattle.lock_free.specs.Stocks.{IsStock};
-ghost use Rattle.lock_free.specs.WholeCalls.{HasLeft, IsToldCopy, RestsWith};
+ghost use Rattle.lock_free.specs.WholeCalls.{HasLeft, RestsWith};
 
 use crate::call_errors::CallError;
 use crate::loads::{Actor, Words};
 use crate::seating::Seat;
+use crate::slot_waits::run_at_last;
 use crate::stock::Stock;
-use crate::try_runs::run_to_end;
 use history::{Call, Reply};
 use std::sync::Wait;
 
@@ -51,10 +51,10 @@ fn open_copy<R: Wait>(
     ensures sound { IsSound words.now.table_id.words actor.new.me.0 }
     ensures stock { IsStock stock.new actor.new.me.0 }
     ensures left { HasLeft actor.old.me.0 actor.new.me.0 }
-    ensures told { IsToldCopy actor.old.me.0 call result actor.new.me.0 }
+    ensures told { IsToldCopyAtLast actor.old.me.0 call result actor.new.me.0 }
     ensures why { IfErr result (FitsError call) }
 {
-    match run_to_end(rt, words, actor, stock, seat, call) {
+    match run_at_last(rt, words, actor, stock, seat, call) {
         Ok(reply) => Ok(handle_in(reply)),
         Err(error) => Err(error),
     }
@@ -79,10 +79,10 @@ fn clear_all<R: Wait>(
     ensures sound { IsSound words.now.table_id.words actor.new.me.0 }
     ensures stock { IsStock stock.new actor.new.me.0 }
     ensures left { HasLeft actor.old.me.0 actor.new.me.0 }
-    ensures told { IsTold (λ done. reply.Cleared) actor.old.me.0 (Clear handle) result actor.new.me.0 }
+    ensures told { IsToldAtLast (λ done. reply.Cleared) actor.old.me.0 (Clear handle) result actor.new.me.0 }
     ensures why { IfErr result (FitsError (Clear handle)) }
 {
-    match run_to_end(rt, words, actor, stock, seat, Call::Clear { handle }) {
+    match run_at_last(rt, words, actor, stock, seat, Call::Clear { handle }) {
         Ok(_) => Ok(()),
         Err(why) => Err(why),
     }
@@ -104,7 +104,7 @@ impl Seat {
     ) -> Result<u16, CallError>
         requires table { self.old.table ≡ words.now.table_id }
         ensures seat { HasGoneOn self.old self.new }
-        ensures told { IsToldCopy self.old.view (Snapshot handle) result self.new.view }
+        ensures told { IsToldCopyAtLast self.old.view (Snapshot handle) result self.new.view }
         ensures why { IfErr result (FitsError (Snapshot handle)) }
     {
         let call = Call::Snapshot { handle };
@@ -120,7 +120,7 @@ impl Seat {
     pub fn freeze<R: Wait>(&mut self, rt: &R, words: &Words, handle: u16) -> Result<u16, CallError>
         requires table { self.old.table ≡ words.now.table_id }
         ensures seat { HasGoneOn self.old self.new }
-        ensures told { IsToldCopy self.old.view (Freeze handle) result self.new.view }
+        ensures told { IsToldCopyAtLast self.old.view (Freeze handle) result self.new.view }
         ensures why { IfErr result (FitsError (Freeze handle)) }
     {
         let call = Call::Freeze { handle };
@@ -136,7 +136,7 @@ impl Seat {
     pub fn clear<R: Wait>(&mut self, rt: &R, words: &Words, handle: u16) -> Result<(), CallError>
         requires table { self.old.table ≡ words.now.table_id }
         ensures seat { HasGoneOn self.old self.new }
-        ensures told { IsTold (λ done. reply.Cleared) self.old.view (Clear handle) result self.new.view }
+        ensures told { IsToldAtLast (λ done. reply.Cleared) self.old.view (Clear handle) result self.new.view }
         ensures why { IfErr result (FitsError (Clear handle)) }
     {
         let (actor, stock) = (&mut self.actor, &mut self.stock);

@@ -16,8 +16,9 @@ use crate::loads::{Actor, Words};
 use crate::makes::make_branch;
 use crate::raising::{raise, release};
 use crate::reclaiming::Kind;
-use crate::stock::{Stock, take};
+use crate::stock::Stock;
 use crate::stores::{GENERATION, draft, make_root};
+use crate::taken::take;
 use trie_words::{Link, Name, Previous};
 
 /// So many generations can be given out.
@@ -100,7 +101,7 @@ fn make_new_root(
     if !try_roots(tries, words, actor, stock, slot, main) {
         return None;
     }
-    stock.note(0);
+    stock.note(Kind::Indirection, 0);
     Some(slot)
 }
 

@@ -4,9 +4,10 @@ ghost use Rattle.std.specs.Prelude.{◌≡◌, ◌<◌, IfErr, IfOk};
 ghost use Rattle.machine_model.specs.Calls.{copies};
 ghost use Rattle.machine_model.specs.Copying.{copied_reply};
 ghost use Rattle.machine_model.specs.Lines.{new_try};
-ghost use Rattle.lock_free.specs.CopySteps.{copy_kind, HasSettledCopy, IsAtTry, IsCopying, IsKind, IsOwnCompleting, IsToOpenAll, LeavesCopy};
+ghost use Rattle.lock_free.specs.CopySteps.{copy_kind, is_snapshot, HasSettledCopy, IsAtTry, IsCopying, IsKind, IsOwnCompleting, LeavesCopy};
 ghost use Rattle.lock_free.specs.Holding.{IsOn};
 ghost use Rattle.lock_free.specs.Loading.{IsSound};
+ghost use Rattle.lock_free.specs.OwnOffers.{IsOwnCopy};
 ghost use Rattle.lock_free.specs.Parking.{HasRunTo, IsCopyLeft, IsToOpenAs};
 ghost use Rattle.lock_free.specs.Passing.{IsOnWay};
 ghost use Rattle.lock_free.specs.Seeking.{IsCalled};
@@ -15,10 +16,10 @@ ghost use Rattle.lock_free.specs.Stocks.{IsStock};
 use crate::attempts::run_key;
 use crate::copies::{complete_own_on, make_copy_within};
 use crate::copy_roots::CopyKind;
-use crate::copying::open_copy;
 use crate::leaving::{Completing, Left};
 use crate::loads::{Actor, Words};
 use crate::parking::{Came, Parked};
+use crate::parting::part_copy;
 use crate::reading::Way;
 use crate::stock::Stock;
 use history::{Access, Call, Reply};
@@ -44,8 +45,8 @@ fn copied_reply(call: Call, opens: Option<u16>) -> Reply
     }
 }
 
-/// Settles the seat's own offer from there on, within so many tries, and opens the handle that it opens once it was carried out. Returns
-/// whether it was; or from where it goes on.
+/// Settles the seat's own offer from there on, within so many tries, and parts it: the handle that it opens is open then, if it was carried
+/// out. Returns whether it was; or from where it goes on.
 fn settle_own(
     tries: u64,
     words: &Words,
@@ -62,7 +63,7 @@ fn settle_own(
     requires way { IsOnWay actor.old.me.0 way }
     requires completing { IsOwnCompleting actor.old.me.0 way.handle completing }
     requires which { IsKind actor.old.me.0 which }
-    requires opening { IsToOpenAll actor.old.me.0 which opens completing.offer }
+    requires own { IsOwnCopy actor.old.me.0 way.handle completing.offer opens (is_snapshot which) }
     ensures table { actor.new.table_id ≡ actor.old.table_id }
     ensures sound { IsSound words.now.table_id.words actor.new.me.0 }
     ensures stock { IsStock stock.new actor.new.me.0 }
@@ -73,11 +74,9 @@ fn settle_own(
         Ok(carried) => carried,
         Err(next) => return Err(next),
     };
-    if !carried {
-        return Ok(false);
-    }
-    open_copy(words, actor, which, opens, completing.offer);
-    Ok(true)
+    let handle = way.handle;
+    part_copy(words, actor, stock, handle, which, opens, completing.offer);
+    Ok(carried)
 }
 
 /// The COMPLETE of the own offer of this call's copy, on a handle that allows this, goes on in so many tries. Once it was carried out the

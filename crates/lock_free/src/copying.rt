@@ -1,8 +1,8 @@
 //! COPY: the offer of a new root in the place of the old one is written, and the handle that it opens is opened.
 
 ghost use Rattle.std.specs.Prelude.{◌≡◌, OnSome};
-ghost use Rattle.lock_free.specs.CopySteps.{HasDraftedOffer, HasPreparedOrNone, IsCopying, IsReady, IsToOpenAll, is_snapshot};
-ghost use Rattle.lock_free.specs.Loading.{IsSound, Saw};
+ghost use Rattle.lock_free.specs.CopySteps.{HasDraftedOffer, HasPreparedOrNone, IsCopying, IsReady};
+ghost use Rattle.lock_free.specs.Loading.{IsSound};
 ghost use Rattle.lock_free.specs.Rules.{IsFree};
 ghost use Rattle.lock_free.specs.Stocks.{HasRoom, IsStock};
 
@@ -10,9 +10,9 @@ use crate::copy_roots::{CopyKind, NewRoots, make_roots};
 use crate::loads::{Actor, Words};
 use crate::numbers::name;
 use crate::offers::UNDECIDED;
-use crate::rooting::open_if_carried_out;
-use crate::stock::{Stock, take};
+use crate::stock::Stock;
 use crate::stores::draft;
+use crate::taken::take;
 use trie_words::Pair;
 
 /// What a try of a copy comes to.
@@ -73,6 +73,10 @@ pub fn prepare(
     ensures room { OnSome result (HasRoom stock.new 1) }
     ensures prepared { HasPreparedOrNone actor.old.me.0 which opens handle root result actor.new.me.0 }
 {
+    if !stock.has_room_to_part() {
+        stock.lack();
+        return None;
+    }
     let roots = make_roots(tries, words, actor, stock, which, main, class)?;
     let slot = take(tries, words, actor, stock, 1)?;
     draft_offer(words, actor, slot, root, main, roots);
@@ -81,30 +85,4 @@ pub fn prepare(
         None => {}
     }
     Some(slot)
-}
-
-/// Whether such a copy may be written.
-fn is_writable(which: CopyKind) -> bool
-    ensures { result ≡ is_snapshot which }
-{
-    match which {
-        CopyKind::Snapshot => true,
-        CopyKind::Freeze => false,
-        CopyKind::Clear => false,
-    }
-}
-
-/// Opens the handle of a copy whose offer, in this slot, was carried out, unless another seat has.
-pub fn open_copy(words: &Words, actor: &mut Actor, which: CopyKind, opens: Option<u16>, slot: u32)
-    requires table { actor.old.table_id ≡ words.now.table_id }
-    requires sound { IsSound words.now.table_id.words actor.old.me.0 }
-    requires opening { IsToOpenAll actor.old.me.0 which opens slot }
-    ensures table { actor.new.table_id ≡ actor.old.table_id }
-    ensures sound { IsSound words.now.table_id.words actor.new.me.0 }
-    ensures saw { Saw actor.old.me.0 actor.new.me.0 }
-{
-    match opens {
-        Some(number) => open_if_carried_out(words, actor, number, slot, is_writable(which)),
-        None => {}
-    }
 }

@@ -89,6 +89,7 @@ pub fn try_raise(words: &Words, actor: &mut Actor, sizes: &Sizes, class: u32, sl
 
 /// Counts a reference less to the node in this slot: one that the seat holds, and that isn't the first one to what its operation has
 /// just made.
+#[inline(always)]
 pub fn lower(words: &Words, actor: &mut Actor, sizes: &Sizes, class: u32, slot: u32) -> Lowered
     requires table { actor.old.table_id ≡ words.now.table_id }
     requires sound { IsSound words.now.table_id.words actor.old.me.0 }

@@ -3,7 +3,8 @@
 ghost use Rattle.std.specs.Prelude.{◌≡◌};
 ghost use Rattle.trie_words.specs.Codes.{IsHeader, IsLink, IsName};
 ghost use Rattle.lock_free.specs.Loading.{IsSound};
-ghost use Rattle.lock_free.specs.Exchanging.{decided_header, IsAtDecide, HasDecided, IsAtRestore, HasRestored, IsAtPublish, HasPublished};
+ghost use Rattle.lock_free.specs.Exchanging.{decided_header, IsAtDecide, HasDecided, IsAtRestore, HasRestored};
+ghost use Rattle.lock_free.specs.SwappingIn.{IsAtPublish, HasPublished};
 
 use crate::loads::{Actor, Words};
 use crate::rules::{Goes, Publishes};

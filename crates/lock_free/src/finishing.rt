@@ -4,7 +4,7 @@ ghost use Rattle.std.specs.Prelude.{◌≡◌, [], All, map};
 ghost use Rattle.atomic_table.specs.Table.{Joins};
 ghost use Rattle.lock_free.specs.Finishing.{hearing, HasHeard, HasHeardMore, IsTold};
 ghost use Rattle.lock_free.specs.Loading.{IsSound};
-ghost use Rattle.lock_free.specs.Rules.{IsRuled};
+ghost use Rattle.lock_free.specs.Shadows.{IsShadowed};
 ghost use Rattle.lock_free.specs.Seated.{IsResting};
 
 use crate::loads::{Actor, Words};
@@ -19,7 +19,7 @@ fn hear_as<N: Picks>(words: &Words, actor: &mut Actor, other: Actor)
     requires table { (actor.old.table_id ≡ words.now.table_id) × (other.table_id ≡ words.now.table_id) }
     requires sound { IsSound words.now.table_id.words actor.old.me.0 }
     requires bare { other.me.1 ≡ [] }
-    requires joins { Joins (IsRuled words.now.key) actor.old.id actor.old.me.0 other.id other.me.0 (hearing actor.old.me.0 other.me.0) N.spent }
+    requires joins { Joins (IsShadowed words.now.key) actor.old.id actor.old.me.0 other.id other.me.0 (hearing actor.old.me.0 other.me.0) N.spent }
     ensures table { actor.new.table_id ≡ actor.old.table_id }
     ensures heard { actor.new.me.0 ≡ hearing actor.old.me.0 other.me.0 }
 {

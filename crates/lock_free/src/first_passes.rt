@@ -197,6 +197,17 @@ fn end_put_back(
     }
 }
 
+/// The same. What a function of its own has returned through memory is copied here alone, and not on the way that is mostly taken.
+#[inline(always)]
+fn told_apart(told: Option<ReadFrom>) -> Option<ReadFrom>
+    ensures { result ≡ told }
+{
+    match told {
+        None => None,
+        Some(from) => Some(from),
+    }
+}
+
 /// The same from the header of the main node to which this link of the indirection leads, where one look at it is mostly enough.
 #[inline(always)]
 fn end_at_header(
@@ -220,7 +231,7 @@ fn end_at_header(
         Previous::None => None,
         Previous::Failed(former) => {
             let (generation, main) = (link.generation, link.main);
-            end_put_back(
+            told_apart(end_put_back(
                 tries,
                 words,
                 actor,
@@ -229,12 +240,19 @@ fn end_at_header(
                 generation,
                 main,
                 former,
-            )
+            ))
         }
         Previous::Pending(_) => {
             match settle_in_place(tries, words, actor, way, link, header) {
                 Passed::Gives(_) => None,
-                Passed::Again(next) => end_on(tries, words, actor, way, indirection, next),
+                Passed::Again(next) => told_apart(end_on(
+                    tries,
+                    words,
+                    actor,
+                    way,
+                    indirection,
+                    next,
+                )),
             }
         }
     }
@@ -260,6 +278,6 @@ pub fn end_read_within(
 {
     match from {
         ReadFrom::Header(link) => { end_at_header(tries, words, actor, way, indirection, link) }
-        other => end_on(tries, words, actor, way, indirection, other),
+        other => told_apart(end_on(tries, words, actor, way, indirection, other)),
     }
 }

@@ -1,10 +1,15 @@
 //! Free slots of a seat, by class, in plain memory.
 
-ghost use Rattle.std.specs.Prelude.{◌≡◌, ℕ, ◌<◌, ◌≤◌, [], length};
+ghost use Rattle.std.specs.Prelude.{◌≡◌, ℕ, ◌+◌, ◌<◌, ◌≤◌, List, [], ◌∷◌, length, IsFalse, IsTrue};
+ghost use Rattle.lock_free.specs.declared.accounts.PartedSlot.{PartedSlot};
 ghost use Rattle.lock_free.specs.Making.{with_slot};
+ghost use Rattle.lock_free.specs.OwnOffers.{most_parted, with_parted, without_first, IsFullOfParted, IsRipeIn};
 ghost use Rattle.lock_free.specs.Rules.{pool_of};
 ghost use Rattle.lock_free.specs.Stocks.{IsLast, IsPopped};
 
+use crate::accounts::PartedSlot;
+use crate::reclaiming::is_ripe;
+use crate::sizes::Sizes;
 use arrayvec::ArrayVec;
 use std::marker::Model;
 
@@ -14,6 +19,8 @@ pub struct Free {
     small: ArrayVec<u32, 128>,
     medium: ArrayVec<u32, 128>,
     wide: ArrayVec<u32, 128>,
+    /// Those of offers that are to be free, the earliest first.
+    parted: ArrayVec<PartedSlot, 64>,
 }
 
 impl Model for Free {
@@ -21,7 +28,26 @@ impl Model for Free {
 
     ghost Value = { Pool };
 
-    ghost view = { λ s. record { small = s.small.items; medium = s.medium.items; wide = s.wide.items } };
+    ghost view = { λ s. record { small = s.small.items; medium = s.medium.items; wide = s.wide.items; parted = s.parted.items } };
+}
+
+/// A try of an operation has room for what it makes where so many slots can be added yet.
+const TRY: usize = 35;
+
+/// So many of this class are a seat's part of a quarter of them.
+#[inline(never)]
+fn part_of(sizes: &Sizes, class: u32) -> usize {
+    (sizes.slots(class) / (4 * u32::from(sizes.seats).max(1))) as usize
+}
+
+/// So many of this class most calls make.
+#[inline(always)]
+fn most_made(class: u32) -> usize {
+    match class {
+        0 => 16,
+        1 => 8,
+        _ => 2,
+    }
 }
 
 impl Free {
@@ -29,11 +55,13 @@ impl Free {
         ensures small { result.small ≡ [] }
         ensures medium { result.medium ≡ [] }
         ensures wide { result.wide ≡ [] }
+        ensures parted { result.parted ≡ [] }
     {
         Free {
             small: ArrayVec::new(),
             medium: ArrayVec::new(),
             wide: ArrayVec::new(),
+            parted: ArrayVec::new(),
         }
     }
 
@@ -72,6 +100,19 @@ impl Free {
         self.small.len().max(self.medium.len()).max(self.wide.len())
     }
 
+    /// Whether there are fewer of this class than a seat keeps for its next call, where it can: what most calls make, and no more than a part of
+    /// a small map.
+    #[inline(always)]
+    pub(crate) fn wants(&self, sizes: &Sizes, class: u32) -> bool {
+        let len = self.len(class);
+        len < most_made(class) && len < part_of(sizes, class)
+    }
+
+    /// Whether there are of some class.
+    pub(crate) fn is_low(&self, sizes: &Sizes) -> bool {
+        self.wants(sizes, 0) || self.wants(sizes, 1) || self.wants(sizes, 2)
+    }
+
     /// One slot more, the next one of its class.
     #[inline(always)]
     pub(crate) fn add(&mut self, class: u32, slot: u32)
@@ -95,5 +136,58 @@ impl Free {
             1 => self.medium.pop(),
             _ => self.wide.pop(),
         }
+    }
+
+    /// Whether the slot of one more offer can be noted.
+    pub(crate) fn has_room_to_part(&self) -> bool
+        ensures room { IsTrue result → length self.now.parted < most_parted }
+        ensures full { IsFalse result → IsFullOfParted self.now }
+    {
+        self.parted.len() < 64
+    }
+
+    /// One more that is to be free, once the epoch is later by three than this one.
+    pub(crate) fn part(&mut self, slot: u32, stamp: u64)
+        requires { length self.old.parted < most_parted }
+        ensures { self.new ≡ with_parted self.old slot stamp }
+    {
+        self.parted.push(PartedSlot { slot, stamp });
+    }
+
+    /// Whether there are such.
+    pub(crate) fn has_any_parted(&self) -> bool {
+        !self.parted.is_empty()
+    }
+
+    /// Whether there are, and there is room for the first one, beside so many slots that were made: more than for those of nodes, which
+    /// so don't hold it back.
+    pub(crate) fn has_parted(&self, made: usize) -> bool
+        requires { made ≤ 128 }
+        ensures some { IsTrue result → 0 < length self.now.parted }
+        ensures room { IsTrue result → length (pool_of self.now 1) + made + 1 ≤ 128 }
+    {
+        !self.parted.is_empty() && self.medium.len() + made + TRY <= 128
+    }
+
+    /// Whether there is, and the epoch of the first one is three before this one.
+    pub(crate) fn has_ripe(&self, made: usize, epoch: u64) -> bool
+        requires { made ≤ 128 }
+        ensures ripe { IsTrue result → IsRipeIn self.now epoch }
+        ensures room { IsTrue result → length (pool_of self.now 1) + made + 1 ≤ 128 }
+    {
+        match self.parted.first() {
+            Some(first) => self.has_parted(made) && is_ripe(epoch, first.stamp),
+            None => false,
+        }
+    }
+
+    /// It is free.
+    pub(crate) fn free_parted(&mut self)
+        requires some { 0 < length self.old.parted }
+        requires room { length (pool_of self.old 1) < 128 }
+        ensures { (y : PartedSlot) (rest : List PartedSlot) → self.old.parted ≡ y ∷ rest → self.new ≡ without_first self.old y.slot rest }
+    {
+        let first = self.parted.remove(0);
+        self.medium.push(first.slot);
     }
 }

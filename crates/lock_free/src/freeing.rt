@@ -1,31 +1,32 @@
-//! Slots of nodes that had no reference any more become free, and the seat lets go of what these held.
+//! A slot of a node that had no reference any more becomes free, and the seat lets go of what that held.
 
-ghost use Rattle.std.specs.Prelude.{◌≡◌, ◌+◌, ◌*◌, ◌<◌, ◌≤◌, ◌≢◌, []};
-ghost use Rattle.machine_model.specs.Beneath.slot_arena.specs.declared.nodes.Slot.{Slot as Standing};
-ghost use Rattle.machine_model.specs.Beneath.slot_arena.specs.declared.refs.Ref.{Ref as ARef};
-ghost use Rattle.machine_model.specs.Beneath.slot_arena.specs.Heaps.{entries_of};
+ghost use Rattle.std.specs.Prelude.{◌≡◌, ◌*◌, ◌<◌, ◌≤◌, [], length};
 ghost use Rattle.lock_free.specs.declared.reclaiming.Kind.TheVariants as kinds;
 ghost use Rattle.lock_free.specs.Calling.{IsRunning};
 ghost use Rattle.lock_free.specs.Freeing.{has_freed, has_seen_draft};
-ghost use Rattle.lock_free.specs.Freeing.{HasFreed, HasFreedSome, HasLeftEntries, HasLeftOne, HasLeftPosition, HasLetGo, HasSeenDraft, HasSeenHalf, HasSeenHalves, IsRipeDeep};
+ghost use Rattle.lock_free.specs.Freeing.{HasFreed, HasFreedSome, HasSeenDraft, IsRipeDeep};
 ghost use Rattle.lock_free.specs.Halves.{entries_of_halves};
-ghost use Rattle.lock_free.specs.Limbos.{chains_of, HasReclaimedSome, IsLimbo};
+ghost use Rattle.lock_free.specs.LeftNodes.{entries_beside, is_among, HasLetManyGo, HasLetNamesGo, HasSeenHalf, HasSeenHalves, LeavesMany, LeavesPosition, MayLetGo, MayLetManyGo};
+ghost use Rattle.lock_free.specs.Limbos.{HasReclaimedSome, IsLimbo};
 ghost use Rattle.lock_free.specs.Loading.{IsSound};
 ghost use Rattle.lock_free.specs.Places.{IsSlot};
 ghost use Rattle.lock_free.specs.Stocks.{IsStock};
 
 use crate::links::link_in;
 use crate::loads::{Actor, Words};
+use crate::parting::free_offers;
 use crate::raising::{release, release_entries};
 use crate::reclaiming::Kind;
+use crate::refilling::refill;
 use crate::replaced::reclaim_some;
+use crate::ripe_nodes::free_deep;
 use crate::rules::View;
 use crate::sizes::Sizes;
 use crate::stock::Stock;
 use arrayvec::ArrayVec;
 use atomic_table::Play;
 use history::Call;
-use trie_words::{Header, Link, Pair, Shape};
+use trie_words::{Entry, Header, Link, Pair, Shape};
 
 /// A slot whose node had no reference any more is free for the seat, which holds what the node held.
 pub struct Frees;
@@ -45,7 +46,7 @@ impl Play<Call, View> for SeesDraft {
 const ONE: u64 = 1 << 32;
 
 /// So many of each kind and class are made free at once, at most.
-const AT_ONCE: u64 = 16;
+const AT_ONCE: u64 = 64;
 
 /// So many of each class of nodes that were replaced.
 const REPLACED_AT_ONCE: u64 = 64;
@@ -68,7 +69,7 @@ pub fn reclaim_deep(words: &Words, actor: &mut Actor, sizes: &Sizes, class: u32,
 }
 
 /// A word of a slot that is free for the seat.
-fn see_draft(words: &Words, actor: &mut Actor, word: usize) -> u64
+pub(crate) fn see_draft(words: &Words, actor: &mut Actor, word: usize) -> u64
     requires table { actor.old.table_id ≡ words.now.table_id }
     requires sound { IsSound words.now.table_id.words actor.old.me.0 }
     requires inside { word < words.now.table_id.words }
@@ -79,22 +80,46 @@ fn see_draft(words: &Words, actor: &mut Actor, word: usize) -> u64
     words.load::<SeesDraft>(actor, word)
 }
 
-/// Lets go of the main node of the indirection that stood in this slot.
-fn release_link(words: &Words, actor: &mut Actor, stock: &mut Stock, slot: u32)
+/// Whether this slot is one of these.
+fn is_among(slots: &[u32], slot: u32) -> bool
+    ensures { result ≡ is_among slots.now slot }
+{
+    slots.iter().any(|other| *other == slot)
+}
+
+/// Those of these halves whose entries lead to none of these slots.
+fn beside(halves: &[u32], left_out: &[u32]) -> ArrayVec<u32, 32>
+    requires few { length halves.now ≤ 32 }
+    ensures { entries_of_halves result.items ≡ entries_beside left_out.now (entries_of_halves halves.now) }
+{
+    let mut others = ArrayVec::new();
+    for n in 0..halves.len() {
+        if !is_among(left_out, Entry::of_half(halves[n]).slot) {
+            others.push(halves[n]);
+        }
+    }
+    others
+}
+
+/// Lets go of the main node of the indirection that stood in this slot, unless it stands in one of those.
+fn release_link(words: &Words, actor: &mut Actor, stock: &mut Stock, slot: u32, left_out: &[u32])
     requires table { actor.old.table_id ≡ words.now.table_id }
     requires sound { IsSound words.now.table_id.words actor.old.me.0 }
     requires sizes { stock.old.sizes ≡ actor.old.me.0.sizes }
     requires limbo { IsLimbo stock.old.limbo actor.old.me.0 }
-    requires left { HasLeftOne actor.old.me.0 slot kinds.Indirection }
+    requires left { MayLetGo actor.old.me.0 slot kinds.Indirection left_out.now }
     ensures table { actor.new.table_id ≡ actor.old.table_id }
     ensures sound { IsSound words.now.table_id.words actor.new.me.0 }
     ensures same { stock.new ≡ record stock.old { limbo = stock.new.limbo } }
     ensures limbo { IsLimbo stock.new.limbo actor.new.me.0 }
-    ensures let_go { HasLetGo actor.old.me.0 actor.new.me.0 }
+    ensures released { HasLetNamesGo actor.old.me.0 slot kinds.Indirection left_out.now actor.new.me.0 }
 {
     let main = Link::of_word(see_draft(words, actor, 2 * slot as usize))
         .main
         .slot;
+    if is_among(left_out, main) {
+        return;
+    }
     let class = stock.sizes().class(main);
     release(words, actor, stock, Kind::Main, class, main);
 }
@@ -103,7 +128,7 @@ fn release_link(words: &Words, actor: &mut Actor, stock: &mut Stock, slot: u32)
 fn see_left_half(words: &Words, actor: &mut Actor, slot: u32, position: usize) -> u32
     requires table { actor.old.table_id ≡ words.now.table_id }
     requires sound { IsSound words.now.table_id.words actor.old.me.0 }
-    requires left { HasLeftPosition actor.old.me.0 slot position }
+    requires left { LeavesPosition actor.old.me.0 slot position }
     ensures table { actor.new.table_id ≡ actor.old.table_id }
     ensures same { actor.new.me ≡ actor.old.me }
     ensures seen { HasSeenHalf actor.old.me.0 slot position result }
@@ -127,7 +152,7 @@ fn see_left_halves(
 )
     requires table { actor.old.table_id ≡ words.now.table_id }
     requires sound { IsSound words.now.table_id.words actor.old.me.0 }
-    requires left { HasLeftEntries actor.old.me.0 slot count }
+    requires left { LeavesMany actor.old.me.0 slot count }
     requires none { halves.old.items ≡ [] }
     ensures table { actor.new.table_id ≡ actor.old.table_id }
     ensures same { actor.new.me ≡ actor.old.me }
@@ -138,162 +163,91 @@ fn see_left_halves(
     }
 }
 
-/// Lets go of the entries of the branch or list that stood in this slot, so many.
-fn release_left(words: &Words, actor: &mut Actor, stock: &mut Stock, slot: u32, count: usize)
+/// Lets go of the entries of the branch or list that stood in this slot, so many, but for those that stand in one of those.
+fn release_left(
+    words: &Words,
+    actor: &mut Actor,
+    stock: &mut Stock,
+    slot: u32,
+    count: usize,
+    left_out: &[u32],
+)
     requires table { actor.old.table_id ≡ words.now.table_id }
     requires sound { IsSound words.now.table_id.words actor.old.me.0 }
     requires sizes { stock.old.sizes ≡ actor.old.me.0.sizes }
     requires limbo { IsLimbo stock.old.limbo actor.old.me.0 }
-    requires left { HasLeftEntries actor.old.me.0 slot count }
+    requires left { MayLetManyGo actor.old.me.0 slot count left_out.now }
     ensures table { actor.new.table_id ≡ actor.old.table_id }
     ensures sound { IsSound words.now.table_id.words actor.new.me.0 }
     ensures same { stock.new ≡ record stock.old { limbo = stock.new.limbo } }
     ensures limbo { IsLimbo stock.new.limbo actor.new.me.0 }
-    ensures let_go { HasLetGo actor.old.me.0 actor.new.me.0 }
+    ensures released { HasLetManyGo actor.old.me.0 slot count left_out.now actor.new.me.0 }
 {
     let mut halves = ArrayVec::new();
     see_left_halves(words, actor, slot, count, &mut halves);
-    release_entries(words, actor, stock, &halves, None);
+    let others = beside(&halves, left_out);
+    release_entries(words, actor, stock, &others, None);
 }
 
-/// Lets go of what the main node named that stood in this slot.
-fn release_main(words: &Words, actor: &mut Actor, stock: &mut Stock, slot: u32)
+/// Lets go of what the main node named that stood in this slot, but for what stands in one of those.
+fn release_main(words: &Words, actor: &mut Actor, stock: &mut Stock, slot: u32, left_out: &[u32])
     requires table { actor.old.table_id ≡ words.now.table_id }
     requires sound { IsSound words.now.table_id.words actor.old.me.0 }
     requires sizes { stock.old.sizes ≡ actor.old.me.0.sizes }
     requires limbo { IsLimbo stock.old.limbo actor.old.me.0 }
-    requires left { HasLeftOne actor.old.me.0 slot kinds.Main }
+    requires left { MayLetGo actor.old.me.0 slot kinds.Main left_out.now }
     ensures table { actor.new.table_id ≡ actor.old.table_id }
     ensures sound { IsSound words.now.table_id.words actor.new.me.0 }
     ensures same { stock.new ≡ record stock.old { limbo = stock.new.limbo } }
     ensures limbo { IsLimbo stock.new.limbo actor.new.me.0 }
-    ensures let_go { HasLetGo actor.old.me.0 actor.new.me.0 }
+    ensures released { HasLetNamesGo actor.old.me.0 slot kinds.Main left_out.now actor.new.me.0 }
 {
     match Header::of_word(see_draft(words, actor, 2 * slot as usize)).shape {
-        Shape::Tomb(single) => release(words, actor, stock, Kind::Single, 0, single.slot),
-        Shape::Branch(bitmap) => {
-            release_left(words, actor, stock, slot, bitmap.count_ones() as usize);
+        Shape::Tomb(single) => {
+            if is_among(left_out, single.slot) {
+                return;
+            }
+            release(words, actor, stock, Kind::Single, 0, single.slot);
         }
-        Shape::List(count) => release_left(words, actor, stock, slot, count as usize),
+        Shape::Branch(bitmap) => {
+            let count = bitmap.count_ones() as usize;
+            release_left(words, actor, stock, slot, count, left_out);
+        }
+        Shape::List(count) => {
+            release_left(words, actor, stock, slot, count as usize, left_out);
+        }
     }
 }
 
-/// Lets go of what the node of this kind named that stood in this slot.
-fn release_names(words: &Words, actor: &mut Actor, stock: &mut Stock, kind: Kind, slot: u32)
-    requires table { actor.old.table_id ≡ words.now.table_id }
-    requires sound { IsSound words.now.table_id.words actor.old.me.0 }
-    requires sizes { stock.old.sizes ≡ actor.old.me.0.sizes }
-    requires limbo { IsLimbo stock.old.limbo actor.old.me.0 }
-    requires left { HasLeftOne actor.old.me.0 slot kind }
-    ensures table { actor.new.table_id ≡ actor.old.table_id }
-    ensures sound { IsSound words.now.table_id.words actor.new.me.0 }
-    ensures same { stock.new ≡ record stock.old { limbo = stock.new.limbo } }
-    ensures limbo { IsLimbo stock.new.limbo actor.new.me.0 }
-    ensures let_go { HasLetGo actor.old.me.0 actor.new.me.0 }
-{
-    match kind {
-        Kind::Indirection => release_link(words, actor, stock, slot),
-        Kind::Main => release_main(words, actor, stock, slot),
-        Kind::Single | Kind::Replaced => {}
-    }
-}
-
-/// Makes the first slot of the aged chain of this kind and class, whose epoch is three back, free for the seat, and lets go of what its
-/// node held, if there is one, and the stock has room for it. Returns whether it did.
-fn free_one(words: &Words, actor: &mut Actor, stock: &mut Stock, kind: Kind, class: u32) -> bool
-    requires table { actor.old.table_id ≡ words.now.table_id }
-    requires sound { IsSound words.now.table_id.words actor.old.me.0 }
-    requires stock { IsStock stock.old actor.old.me.0 }
-    requires running { IsRunning actor.old.me.0 }
-    requires deep { kind ≢ kinds.Replaced }
-    requires class { class < 3 }
-    requires ripe { (chains_of stock.old.limbo kind class).aged.stamp + 3 ≤ actor.old.me.0.epoch }
-    ensures table { actor.new.table_id ≡ actor.old.table_id }
-    ensures sound { IsSound words.now.table_id.words actor.new.me.0 }
-    ensures stock { IsStock stock.new actor.new.me.0 }
-    ensures freed { HasFreedSome actor.old.me.0 actor.new.me.0 }
-{
-    let Some(slot) = stock.first_aged(kind, class) else {
-        return false;
-    };
-    if !stock.takes_back(class) {
-        return false;
-    }
-    let sizes = stock.sizes();
-    let link = reclaim_deep(words, actor, &sizes, class, slot);
-    stock.lead_on(kind, class, link);
-    stock.add(class, slot);
-    release_names(words, actor, stock, kind, slot);
-    true
-}
-
-/// The same with so many slots at most, one after the other, as long as those of the chain are that old.
-fn free_some(
-    tries: u64,
+/// Lets go of what the node of this kind named that stood in this slot, but for what stands in one of those.
+pub(crate) fn release_names(
     words: &Words,
     actor: &mut Actor,
     stock: &mut Stock,
     kind: Kind,
-    class: u32,
+    slot: u32,
+    left_out: &[u32],
 )
     requires table { actor.old.table_id ≡ words.now.table_id }
     requires sound { IsSound words.now.table_id.words actor.old.me.0 }
-    requires stock { IsStock stock.old actor.old.me.0 }
-    requires running { IsRunning actor.old.me.0 }
-    requires deep { kind ≢ kinds.Replaced }
-    requires class { class < 3 }
+    requires sizes { stock.old.sizes ≡ actor.old.me.0.sizes }
+    requires limbo { IsLimbo stock.old.limbo actor.old.me.0 }
+    requires left { MayLetGo actor.old.me.0 slot kind left_out.now }
     ensures table { actor.new.table_id ≡ actor.old.table_id }
     ensures sound { IsSound words.now.table_id.words actor.new.me.0 }
-    ensures stock { IsStock stock.new actor.new.me.0 }
-    ensures freed { HasFreedSome actor.old.me.0 actor.new.me.0 }
+    ensures same { stock.new ≡ record stock.old { limbo = stock.new.limbo } }
+    ensures limbo { IsLimbo stock.new.limbo actor.new.me.0 }
+    ensures released { HasLetNamesGo actor.old.me.0 slot kind left_out.now actor.new.me.0 }
 {
-    stock.turn(kind, class);
-    for _ in 0..tries {
-        if !stock.has_ripe(kind, class) {
-            return;
-        }
-        if !free_one(words, actor, stock, kind, class) {
-            return;
-        }
+    match kind {
+        Kind::Indirection => release_link(words, actor, stock, slot, left_out),
+        Kind::Main => release_main(words, actor, stock, slot, left_out),
+        Kind::Single | Kind::Replaced => {}
     }
 }
 
-/// The same with slots of each class.
-fn free_kind(tries: u64, words: &Words, actor: &mut Actor, stock: &mut Stock, kind: Kind)
-    requires table { actor.old.table_id ≡ words.now.table_id }
-    requires sound { IsSound words.now.table_id.words actor.old.me.0 }
-    requires stock { IsStock stock.old actor.old.me.0 }
-    requires running { IsRunning actor.old.me.0 }
-    requires deep { kind ≢ kinds.Replaced }
-    ensures table { actor.new.table_id ≡ actor.old.table_id }
-    ensures sound { IsSound words.now.table_id.words actor.new.me.0 }
-    ensures stock { IsStock stock.new actor.new.me.0 }
-    ensures freed { HasFreedSome actor.old.me.0 actor.new.me.0 }
-{
-    free_some(tries, words, actor, stock, kind, 0);
-    free_some(tries, words, actor, stock, kind, 1);
-    free_some(tries, words, actor, stock, kind, 2);
-}
-
-/// Makes slots free for the seat whose nodes had no reference any more, so many of each kind and class at most, once the epoch is three
-/// later, and lets go of what these held.
-#[inline(never)]
-fn free_deep(tries: u64, words: &Words, actor: &mut Actor, stock: &mut Stock)
-    requires table { actor.old.table_id ≡ words.now.table_id }
-    requires sound { IsSound words.now.table_id.words actor.old.me.0 }
-    requires stock { IsStock stock.old actor.old.me.0 }
-    requires running { IsRunning actor.old.me.0 }
-    ensures table { actor.new.table_id ≡ actor.old.table_id }
-    ensures sound { IsSound words.now.table_id.words actor.new.me.0 }
-    ensures stock { IsStock stock.new actor.new.me.0 }
-    ensures freed { HasFreedSome actor.old.me.0 actor.new.me.0 }
-{
-    free_kind(tries, words, actor, stock, Kind::Main);
-    free_kind(tries, words, actor, stock, Kind::Indirection);
-    free_kind(tries, words, actor, stock, Kind::Single);
-}
-
-/// Does so where its call has found no slot, or the seat has begun some calls or retired some slots since it last did so.
+/// Makes slots free for the seat whose nodes had no reference any more, and lets go of what these held, where its call has found no slot, or the
+/// seat has begun some calls or retired some slots since it last did so.
 #[inline(always)]
 pub fn let_go(words: &Words, actor: &mut Actor, stock: &mut Stock)
     requires table { actor.old.table_id ≡ words.now.table_id }
@@ -311,27 +265,9 @@ pub fn let_go(words: &Words, actor: &mut Actor, stock: &mut Stock)
     free_deep(AT_ONCE, words, actor, stock);
 }
 
-/// Makes slots that the seat has retired free for it again, where its call has found none, or it has begun some calls or retired some
-/// slots since it last did so.
-#[inline(always)]
-pub fn tidy(words: &Words, actor: &mut Actor, stock: &mut Stock)
-    requires table { actor.old.table_id ≡ words.now.table_id }
-    requires sound { IsSound words.now.table_id.words actor.old.me.0 }
-    requires stock { IsStock stock.old actor.old.me.0 }
-    ensures table { actor.new.table_id ≡ actor.old.table_id }
-    ensures sound { IsSound words.now.table_id.words actor.new.me.0 }
-    ensures stock { IsStock stock.new actor.new.me.0 }
-    ensures reclaimed { HasReclaimedSome actor.old.me.0 actor.new.me.0 }
-{
-    if !stock.is_due() {
-        return;
-    }
-    make_free(words, actor, stock);
-}
-
-/// Makes slots that the seat has retired free for it again, if the epoch has grown enough since.
+/// Makes slots that the seat has retired free for it again, if the epoch has grown enough since, and takes fresh ones where it wants more.
 #[inline(never)]
-fn make_free(words: &Words, actor: &mut Actor, stock: &mut Stock)
+pub(crate) fn make_free(words: &Words, actor: &mut Actor, stock: &mut Stock)
     requires table { actor.old.table_id ≡ words.now.table_id }
     requires sound { IsSound words.now.table_id.words actor.old.me.0 }
     requires stock { IsStock stock.old actor.old.me.0 }
@@ -343,4 +279,6 @@ fn make_free(words: &Words, actor: &mut Actor, stock: &mut Stock)
     let mut limbo = stock.limbo();
     reclaim_some(REPLACED_AT_ONCE, words, actor, &mut limbo, stock);
     stock.hold(limbo);
+    free_offers(words, actor, stock);
+    refill(words, actor, stock);
 }

@@ -8,7 +8,7 @@ ghost use Rattle.lock_free.specs.declared.descending.Found.TheVariants as found;
 ghost use Rattle.lock_free.specs.declared.rules.View.{View};
 ghost use Rattle.lock_free.specs.BegunCalls.{StillBegins};
 ghost use Rattle.lock_free.specs.Descending.{HasFound, IsAtOne, IsOnPath, IsTask};
-ghost use Rattle.lock_free.specs.GetRuns.{HasGotten, HasToldGet, IsLookup};
+ghost use Rattle.lock_free.specs.GetRuns.{HasGotten, HasToldGet, IsLookup, IsToldOrAgain};
 ghost use Rattle.lock_free.specs.Holding.{IsOn};
 ghost use Rattle.lock_free.specs.KeyReplies.{FitsError, TellsValue};
 ghost use Rattle.lock_free.specs.KeyRuns.{IsCalling};
@@ -16,7 +16,6 @@ ghost use Rattle.lock_free.specs.LinkReads.{IsThere};
 ghost use Rattle.lock_free.specs.Loading.{IsSound};
 ghost use Rattle.lock_free.specs.Reaching.{IsAtPlace};
 ghost use Rattle.lock_free.specs.RunningOn.{MayAnswer};
-ghost use Rattle.lock_free.specs.SeatCalls.{IsTold};
 ghost use Rattle.lock_free.specs.Stocks.{IsStock};
 ghost use Rattle.lock_free.specs.UnderWay.{IsUnderWay};
 ghost use Rattle.lock_free.specs.WholeCalls.{HasLeft, RestsWith};
@@ -26,13 +25,15 @@ use crate::call_runs::HANDLES;
 use crate::calling::start_within;
 use crate::descending::Path;
 use crate::finding::{Met, meet_single};
-use crate::key_ends::{reached_on, spent_on};
+use crate::glance_gets::glance;
 use crate::key_runs::call_late;
+use crate::lacks::Manner;
 use crate::loads::{Actor, Words};
 use crate::reaching::{Place, Reached, go_down_within};
 use crate::reading::Way;
 use crate::rooting::seek_root_within;
 use crate::seating::end;
+use crate::slow_ends::{reached_on, spent_on};
 use crate::stock::Stock;
 use crate::tasks::Task;
 use history::{Access, Call, Reply};
@@ -303,7 +304,41 @@ fn get_late<R: Wait>(
     }
 }
 
-/// A get by this seat, `seat`, as long as it takes.
+/// A get by this seat, `seat`, as long as it takes, which pins itself for it.
+#[inline(never)]
+fn get_pinned<R: Wait>(
+    rt: &R,
+    words: &Words,
+    actor: &mut Actor,
+    stock: &mut Stock,
+    seat: u8,
+    handle: u16,
+    key: u64,
+) -> Result<Option<u64>, CallError>
+    requires table { actor.old.table_id ≡ words.now.table_id }
+    requires sound { IsSound words.now.table_id.words actor.old.me.0 }
+    requires stock { IsStock stock.old actor.old.me.0 }
+    requires its { actor.old.me.0.actor ≡ seat }
+    requires few { actor.old.me.0.actor ≤ actor.old.me.0.sizes.seats }
+    requires low { handle < 256 }
+    requires ready { RestsWith actor.old.me.0 None }
+    ensures table { actor.new.table_id ≡ actor.old.table_id }
+    ensures sound { IsSound words.now.table_id.words actor.new.me.0 }
+    ensures stock { IsStock stock.new actor.new.me.0 }
+    ensures left { HasLeft actor.old.me.0 actor.new.me.0 }
+    ensures told { (before : View) → StillBegins words.now.table_id.words before (Get handle key) actor.old.me.0 → HasToldGet before (Get handle key) result actor.new.me.0 }
+{
+    stock.begin(Manner::Waits);
+    let call = Call::Get { handle, key };
+    let way = match start_within(u64::MAX, words, actor, seat, stock.epoch(), &call) {
+        Ok(Some(way)) => way,
+        Ok(None) => return get_late(rt, words, actor, stock, seat, handle, key),
+        Err(denial) => return Err(CallError::from(denial)),
+    };
+    get_begun(rt, words, actor, stock, seat, handle, key, way.access)
+}
+
+/// A get by this seat, `seat`, as long as it takes. It glances first, and pins itself only if its glance was for nothing.
 #[inline(always)]
 pub(crate) fn run_get<R: Wait>(
     rt: &R,
@@ -324,18 +359,15 @@ pub(crate) fn run_get<R: Wait>(
     ensures sound { IsSound words.now.table_id.words actor.new.me.0 }
     ensures stock { IsStock stock.new actor.new.me.0 }
     ensures left { HasLeft actor.old.me.0 actor.new.me.0 }
-    ensures told { IsTold reply.Found actor.old.me.0 (Get handle key) result actor.new.me.0 }
+    ensures told { IsToldOrAgain reply.Found actor.old.me.0 (Get handle key) result actor.new.me.0 }
     ensures why { IfErr result (FitsError (Get handle key)) }
 {
     if handle >= HANDLES {
         return Err(CallError::NoHandle);
     }
-    stock.begin();
-    let call = Call::Get { handle, key };
-    let way = match start_within(u64::MAX, words, actor, seat, stock.epoch(), &call) {
-        Ok(Some(way)) => way,
-        Ok(None) => return get_late(rt, words, actor, stock, seat, handle, key),
-        Err(denial) => return Err(CallError::from(denial)),
-    };
-    get_begun(rt, words, actor, stock, seat, handle, key, way.access)
+    let sizes = stock.sizes();
+    match glance(words, actor, &sizes, handle, key) {
+        Some(value) => Ok(value),
+        None => get_pinned(rt, words, actor, stock, seat, handle, key),
+    }
 }

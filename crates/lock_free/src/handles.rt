@@ -5,7 +5,7 @@ ghost use Rattle.trie_words.specs.Codes.{IsRootWord, root_code};
 ghost use Rattle.lock_free.specs.HandleWords.{is_marked, is_unmarked, marked_by, slot_named, without_mark, HasClosed, HasMarked, HasSeenRoot};
 ghost use Rattle.lock_free.specs.Loading.{IsSound};
 ghost use Rattle.lock_free.specs.Places.{root_word};
-ghost use Rattle.lock_free.specs.RootWords.{IsAtClean, IsAtOpen};
+ghost use Rattle.lock_free.specs.RootWords.{IsAtClean};
 ghost use Rattle.lock_free.specs.Rules.{SaysClosing};
 ghost use Rattle.lock_free.specs.SeatWords.{IsIdle, WouldClose};
 
@@ -51,20 +51,6 @@ pub fn clean(words: &Words, actor: &mut Actor, handle: u16, offer: u32, root: u3
     let offered = RootWord::Offered(offer).to_word();
     let plain = RootWord::Writable(root).to_word();
     words.compare_exchange::<Cleans>(actor, root_word_of(handle), offered, plain);
-}
-
-/// Opens this handle so, which the offer in this slot opens, unless that is done: the offer was carried out.
-pub fn open_number(words: &Words, actor: &mut Actor, handle: u16, offer: u32, opened: RootWord)
-    requires table { actor.old.table_id ≡ words.now.table_id }
-    requires sound { IsSound words.now.table_id.words actor.old.me.0 }
-    requires low { handle < 256 }
-    requires opening { IsAtOpen actor.old.me.0 handle offer opened }
-    ensures table { actor.new.table_id ≡ actor.old.table_id }
-    ensures same { actor.new.me ≡ actor.old.me }
-{
-    let opening = RootWord::Opening(offer).to_word();
-    let plain = opened.to_word();
-    words.compare_exchange::<Cleans>(actor, root_word_of(handle), opening, plain);
 }
 
 /// This word of an open handle, with the mark of a seat that would close it.

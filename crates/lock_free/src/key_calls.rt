@@ -8,9 +8,9 @@ ghost use Rattle.lock_free.specs.KeyReplies.{FitsCall, FitsError, TellsTruth};
 
 use crate::call_errors::CallError;
 use crate::get_runs::{run_get, value_in};
-use crate::key_runs::run_call;
 use crate::loads::Words;
 use crate::seating::Seat;
+use crate::slot_waits::key_at_last;
 use history::{Call, Reply};
 use std::sync::Wait;
 
@@ -27,9 +27,11 @@ fn truth_in(answer: Reply) -> bool
 
 impl Seat {
     ghost use Rattle.lock_free.specs.Seated.{HasGoneOn};
-    ghost use Rattle.lock_free.specs.SeatCalls.{IsTold, IsToldIfSome};
+    ghost use Rattle.lock_free.specs.GetRuns.{IsToldIfSomeOrAgain, IsToldOrAgain};
+    ghost use Rattle.lock_free.specs.SeatCalls.{IsTold};
+    ghost use Rattle.lock_free.specs.SlotWaits.{IsToldAtLast};
 
-    /// A call on a key. Returns its reply.
+    /// A call on a key, which waits for slots where it has found none, while some are to be free for the seat soon. Returns its reply.
     pub(crate) fn call_key<R: Wait>(
         &mut self,
         rt: &R,
@@ -39,15 +41,15 @@ impl Seat {
         requires table { self.old.table ≡ words.now.table_id }
         requires keyed { IsKeyed call }
         ensures seat { HasGoneOn self.old self.new }
-        ensures told { IsTold (λ r. r) self.old.view call result self.new.view }
+        ensures told { IsToldAtLast (λ r. r) self.old.view call result self.new.view }
         ensures why { IfErr result (FitsError call) }
         ensures fits { IfOk result (FitsCall call) }
     {
         let (actor, stock) = (&mut self.actor, &mut self.stock);
-        run_call(rt, words, actor, stock, self.number, call)
+        key_at_last(rt, words, actor, stock, self.number, call)
     }
 
-    /// The value of this key, if it has one.
+    /// The value of this key, if it has one. The seat reads without a pin first; where that comes to nothing the call is made anew, pinned.
     ///
     /// # Errors
     ///
@@ -61,7 +63,7 @@ impl Seat {
     ) -> Result<Option<u64>, CallError>
         requires table { self.old.table ≡ words.now.table_id }
         ensures seat { HasGoneOn self.old self.new }
-        ensures told { IsTold reply.Found self.old.view (Get handle key) result self.new.view }
+        ensures told { IsToldOrAgain reply.Found self.old.view (Get handle key) result self.new.view }
         ensures why { IfErr result (FitsError (Get handle key)) }
     {
         let (actor, stock) = (&mut self.actor, &mut self.stock);
@@ -73,6 +75,7 @@ impl Seat {
     /// # Errors
     ///
     /// `NoHandle`; and `Full`, where the way to the key has to be renewed first; and `Spent`, after 2^64 - 1 tries alone.
+    #[tactic(auto, using(crate::proofs::GetsWhole::told_some))]
     pub fn contains<R: Wait>(
         &mut self,
         rt: &R,
@@ -82,7 +85,7 @@ impl Seat {
     ) -> Result<bool, CallError>
         requires table { self.old.table ≡ words.now.table_id }
         ensures seat { HasGoneOn self.old self.new }
-        ensures told { IsToldIfSome self.old.view (Get handle key) result self.new.view }
+        ensures told { IsToldIfSomeOrAgain self.old.view (Get handle key) result self.new.view }
         ensures why { IfErr result (FitsError (Get handle key)) }
     {
         Ok(self.get(rt, words, handle, key)?.is_some())
@@ -103,7 +106,7 @@ impl Seat {
     ) -> Result<Option<u64>, CallError>
         requires table { self.old.table ≡ words.now.table_id }
         ensures seat { HasGoneOn self.old self.new }
-        ensures told { IsTold reply.Found self.old.view (Put handle key value) result self.new.view }
+        ensures told { IsToldAtLast reply.Found self.old.view (Put handle key value) result self.new.view }
         ensures why { IfErr result (FitsError (Put handle key value)) }
     {
         Ok(value_in(self.call_key(rt, words, Call::Put { handle, key, value })?))
@@ -124,7 +127,7 @@ impl Seat {
     ) -> Result<Option<u64>, CallError>
         requires table { self.old.table ≡ words.now.table_id }
         ensures seat { HasGoneOn self.old self.new }
-        ensures told { IsTold reply.Found self.old.view (PutIfAbsent handle key value) result self.new.view }
+        ensures told { IsToldAtLast reply.Found self.old.view (PutIfAbsent handle key value) result self.new.view }
         ensures why { IfErr result (FitsError (PutIfAbsent handle key value)) }
     {
         Ok(value_in(self.call_key(rt, words, Call::PutIfAbsent { handle, key, value })?))
@@ -145,7 +148,7 @@ impl Seat {
     ) -> Result<Option<u64>, CallError>
         requires table { self.old.table ≡ words.now.table_id }
         ensures seat { HasGoneOn self.old self.new }
-        ensures told { IsTold reply.Found self.old.view (Replace handle key value) result self.new.view }
+        ensures told { IsToldAtLast reply.Found self.old.view (Replace handle key value) result self.new.view }
         ensures why { IfErr result (FitsError (Replace handle key value)) }
     {
         Ok(value_in(self.call_key(rt, words, Call::Replace { handle, key, value })?))
@@ -167,7 +170,7 @@ impl Seat {
     ) -> Result<bool, CallError>
         requires table { self.old.table ≡ words.now.table_id }
         ensures seat { HasGoneOn self.old self.new }
-        ensures told { IsTold reply.Truth self.old.view (ReplaceIf handle key old new) result self.new.view }
+        ensures told { IsToldAtLast reply.Truth self.old.view (ReplaceIf handle key old new) result self.new.view }
         ensures why { IfErr result (FitsError (ReplaceIf handle key old new)) }
     {
         let call = Call::ReplaceIf {
@@ -193,7 +196,7 @@ impl Seat {
     ) -> Result<Option<u64>, CallError>
         requires table { self.old.table ≡ words.now.table_id }
         ensures seat { HasGoneOn self.old self.new }
-        ensures told { IsTold reply.Found self.old.view (Remove handle key) result self.new.view }
+        ensures told { IsToldAtLast reply.Found self.old.view (Remove handle key) result self.new.view }
         ensures why { IfErr result (FitsError (Remove handle key)) }
     {
         Ok(value_in(self.call_key(rt, words, Call::Remove { handle, key })?))
@@ -214,7 +217,7 @@ impl Seat {
     ) -> Result<bool, CallError>
         requires table { self.old.table ≡ words.now.table_id }
         ensures seat { HasGoneOn self.old self.new }
-        ensures told { IsTold reply.Truth self.old.view (RemoveIf handle key value) result self.new.view }
+        ensures told { IsToldAtLast reply.Truth self.old.view (RemoveIf handle key value) result self.new.view }
         ensures why { IfErr result (FitsError (RemoveIf handle key value)) }
     {
         let call = Call::RemoveIf { handle, key, value };

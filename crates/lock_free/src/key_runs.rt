@@ -23,13 +23,13 @@ use crate::call_runs::HANDLES;
 use crate::calling::start_within;
 use crate::descending::{Path, Rest, rest_in};
 use crate::finding::{Met, meet_single};
-use crate::key_ends::{
-    answer, call_on, give_and_end, reached_on, removal_on, spent_on, take_and_end,
-};
+use crate::key_ends::{answer, give_and_end, take_and_end};
+use crate::lacks::Manner;
 use crate::loads::{Actor, Words};
 use crate::reaching::{Place, Reached, go_down_within};
 use crate::reading::{Given, Way};
 use crate::rooting::seek_root_within;
+use crate::slow_ends::{call_on, reached_on, removal_on, spent_on};
 use crate::stock::Stock;
 use crate::tasks::{Task, absent_reply, inserts, when_found};
 use crate::ways_down::see_given;
@@ -379,7 +379,7 @@ pub(crate) fn run_call<R: Wait>(
     if call.handle() >= HANDLES {
         return Err(CallError::NoHandle);
     }
-    stock.begin();
+    stock.begin(Manner::Waits);
     let way = match start_within(u64::MAX, words, actor, seat, stock.epoch(), &call) {
         Ok(Some(way)) => way,
         Ok(None) => return call_late(rt, words, actor, stock, seat, call),

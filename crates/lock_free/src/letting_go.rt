@@ -11,7 +11,7 @@ ghost use Rattle.lock_free.specs.SeenNames.{elsewhere, slots_of, HasDropped, Has
 use crate::entries::see_halves;
 use crate::leaving::{Drops, Swapping};
 use crate::loads::{Actor, Words, see_entry, see_main};
-use crate::raising::{kind_for, release, release_entries};
+use crate::raising::{kind_for, release, release_entries, release_in_place};
 use crate::reclaiming::{Decided, Kind};
 use crate::stock::Stock;
 use arrayvec::ArrayVec;
@@ -167,7 +167,7 @@ fn release_dropped(words: &Words, actor: &mut Actor, stock: &mut Stock, dropped:
 {
     if let Some(entry) = dropped {
         let kind = kind_for(entry.is_single);
-        release(words, actor, stock, kind, 0, entry.slot);
+        release_in_place(words, actor, stock, kind, 0, entry.slot);
     }
 }
 

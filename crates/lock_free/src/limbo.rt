@@ -77,6 +77,7 @@ impl Chains {
     }
 
     /// Whether there are slots.
+    #[inline(always)]
     fn has_any(&self) -> bool
         ensures { is_some (turned self.now.aged.first self.now).aged.first ≡ true → result ≡ true }
     {
@@ -84,6 +85,7 @@ impl Chains {
     }
 
     /// The young chain is the aged one, once that has no slots.
+    #[inline(always)]
     fn turned(self) -> Chains
         ensures { result ≡ turned self.aged.first self }
     {
@@ -135,6 +137,18 @@ impl ByClass {
         }
     }
 
+    /// This is the young chain of this class now.
+    #[inline(always)]
+    fn set_young(&mut self, class: u32, young: Chain)
+        ensures { self.new ≡ with_class self.old class (record { young = young; aged = (in_class self.old class).aged }) }
+    {
+        match class {
+            0 => self.small.young = young,
+            1 => self.medium.young = young,
+            _ => self.wide.young = young,
+        }
+    }
+
     /// Whether there are slots of any class.
     fn has_any(&self) -> bool
         ensures { (class : ℕ) → is_some (turned (in_class self.now class).aged.first (in_class self.now class)).aged.first ≡ true → result ≡ true }
@@ -157,38 +171,17 @@ impl Limbo {
         }
     }
 
-    /// The chains of this kind.
-    #[inline(always)]
-    fn kind(&self, kind: Kind) -> ByClass
-        ensures { result ≡ by_kind self.now kind }
-    {
-        match kind {
-            Kind::Replaced => self.replaced,
-            Kind::Single => self.singles,
-            Kind::Indirection => self.indirections,
-            Kind::Main => self.mains,
-        }
-    }
-
-    /// The chains of this kind are these now.
-    #[inline(always)]
-    fn set_kind(&mut self, kind: Kind, classes: ByClass)
-        ensures { self.new ≡ with_kind self.old kind classes }
-    {
-        match kind {
-            Kind::Replaced => self.replaced = classes,
-            Kind::Single => self.singles = classes,
-            Kind::Indirection => self.indirections = classes,
-            Kind::Main => self.mains = classes,
-        }
-    }
-
     /// The chains of this kind and class.
     #[inline(always)]
     fn chains(&self, kind: Kind, class: u32) -> Chains
         ensures { result ≡ chains_of self.now kind class }
     {
-        self.kind(kind).chains(class)
+        match kind {
+            Kind::Replaced => self.replaced.chains(class),
+            Kind::Single => self.singles.chains(class),
+            Kind::Indirection => self.indirections.chains(class),
+            Kind::Main => self.mains.chains(class),
+        }
     }
 
     /// The chains of this kind and class are these now.
@@ -196,20 +189,54 @@ impl Limbo {
     fn set_chains(&mut self, kind: Kind, class: u32, chains: Chains)
         ensures { self.new ≡ with_chains self.old kind class chains }
     {
-        let mut classes = self.kind(kind);
-        classes.set_chains(class, chains);
-        self.set_kind(kind, classes);
+        match kind {
+            Kind::Replaced => self.replaced.set_chains(class, chains),
+            Kind::Single => self.singles.set_chains(class, chains),
+            Kind::Indirection => self.indirections.set_chains(class, chains),
+            Kind::Main => self.mains.set_chains(class, chains),
+        }
+    }
+
+    /// The first slot of the young chain of this kind and class.
+    #[inline(always)]
+    fn first_young(&self, kind: Kind, class: u32) -> Option<u32>
+        ensures { result ≡ (chains_of self.now kind class).young.first }
+    {
+        self.chains(kind, class).young.first
+    }
+
+    /// This is the young chain of this kind and class now.
+    #[inline(always)]
+    fn set_young(&mut self, kind: Kind, class: u32, young: Chain)
+        ensures { self.new ≡ with_chains self.old kind class (record { young = young; aged = (chains_of self.old kind class).aged }) }
+    {
+        match kind {
+            Kind::Replaced => self.replaced.set_young(class, young),
+            Kind::Single => self.singles.set_young(class, young),
+            Kind::Indirection => self.indirections.set_young(class, young),
+            Kind::Main => self.mains.set_young(class, young),
+        }
     }
 
     /// The young chain of this kind and class is the aged one, once that has no slots.
+    #[inline(always)]
     pub(crate) fn turn(&mut self, kind: Kind, class: u32)
         ensures { self.new ≡ turned_in self.old kind class }
     {
         let chains = self.chains(kind, class);
-        self.set_chains(kind, class, chains.turned());
+        if chains.aged.first.is_none() {
+            self.set_chains(kind, class, chains.turned());
+        }
+    }
+
+    /// Whether there are slots of this kind and class.
+    #[inline(always)]
+    pub(crate) fn has_some(&self, kind: Kind, class: u32) -> bool {
+        self.chains(kind, class).has_any()
     }
 
     /// The first slot of the aged chain of this kind and class.
+    #[inline(always)]
     pub(crate) fn first_aged(&self, kind: Kind, class: u32) -> Option<u32>
         ensures { result ≡ (chains_of self.now kind class).aged.first }
     {
@@ -218,6 +245,7 @@ impl Limbo {
 
     /// Whether the aged chain of this kind and class has slots, all of which were retired three epochs before the one that the seat has
     /// seen last.
+    #[inline(always)]
     pub(crate) fn has_ripe(&self, kind: Kind, class: u32) -> bool
         ensures ripe { IsTrue result → (chains_of self.now kind class).aged.stamp + 3 ≤ self.now.seen }
         ensures some { is_some (chains_of self.now kind class).aged.first ≡ true → (chains_of self.now kind class).aged.stamp + 3 ≤ self.now.seen → result ≡ true }
@@ -239,7 +267,16 @@ impl Limbo {
             || self.mains.has_any()
     }
 
+    /// Whether there are slots of this class.
+    pub(crate) fn has_any_of(&self, class: u32) -> bool {
+        self.replaced.chains(class).has_any()
+            || self.singles.chains(class).has_any()
+            || self.indirections.chains(class).has_any()
+            || self.mains.chains(class).has_any()
+    }
+
     /// The first slot of the aged chain of this kind and class, whose link this was, is left out.
+    #[inline(always)]
     pub(crate) fn lead_on(&mut self, kind: Kind, class: u32, link: u32)
         ensures { self.new ≡ led_on self.old kind class link }
     {
@@ -271,13 +308,12 @@ pub fn hang(
 {
     let stamp = see_epoch(words, actor);
     let known = see_link(words, actor, sizes, class, slot);
-    let mut chains = limbo.chains(kind, class);
-    let next = link_to(chains.young.first);
+    let next = link_to(limbo.first_young(kind, class));
     link(words, actor, sizes, class, slot, known, next);
-    chains.young = Chain {
+    let young = Chain {
         first: Some(slot),
         stamp,
     };
-    limbo.set_chains(kind, class, chains);
+    limbo.set_young(kind, class, young);
     limbo.seen = stamp;
 }

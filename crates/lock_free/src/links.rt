@@ -14,6 +14,7 @@ use crate::sizes::Sizes;
 const LINKS: u64 = 1 << 32;
 
 /// The link in the word of a count.
+#[inline(always)]
 pub(crate) fn link_in(count: u64) -> u32
     ensures { result ≡ link_in count }
 {
@@ -21,6 +22,7 @@ pub(crate) fn link_in(count: u64) -> u32
 }
 
 /// Looks at the link of a slot that the seat has retired. From then on the seat knows it.
+#[inline(always)]
 pub fn see_link(words: &Words, actor: &mut Actor, sizes: &Sizes, class: u32, slot: u32) -> u32
     requires table { actor.old.table_id ≡ words.now.table_id }
     requires sound { IsSound words.now.table_id.words actor.old.me.0 }
@@ -37,6 +39,7 @@ pub fn see_link(words: &Words, actor: &mut Actor, sizes: &Sizes, class: u32, slo
 
 /// Makes another link of the one that the seat knows of a slot that it has retired. The slot's count stays what it is, whoever changes it
 /// at this time.
+#[inline(always)]
 pub fn link(
     words: &Words,
     actor: &mut Actor,

@@ -16,8 +16,10 @@ ghost use Rattle.lock_free.specs.Stocks.{IsStock};
 
 use crate::entries::halves_of;
 use crate::loads::{Actor, Words};
-use crate::stock::{Stock, take};
+use crate::reclaiming::Kind;
+use crate::stock::Stock;
 use crate::stores::{draft, make};
+use crate::taken::take;
 use trie_words::{Entry, Header, Link, Name, Pair, Previous, Shape};
 
 /// The class of the slot of a main node with so many entries.
@@ -65,7 +67,7 @@ pub fn make_single(
     let slot = take(tries, words, actor, stock, 0)?;
     draft(words, actor, 2 * slot as usize, key);
     make(words, actor, 2 * slot as usize + 1, value);
-    stock.note(0);
+    stock.note(Kind::Single, 0);
     Some(slot)
 }
 
@@ -93,7 +95,7 @@ pub fn make_link(
     let slot = take(tries, words, actor, stock, 0)?;
     let link = Link { generation, main };
     make(words, actor, 2 * slot as usize, link.to_word());
-    stock.note(0);
+    stock.note(Kind::Indirection, 0);
     Some(slot)
 }
 
@@ -161,7 +163,7 @@ pub fn make_main(
     let slot = take(tries, words, actor, stock, class)?;
     write_entries(words, actor, slot, halves);
     make(words, actor, 2 * slot as usize, header.to_word());
-    stock.note(class);
+    stock.note(Kind::Main, class);
     Some(slot)
 }
 

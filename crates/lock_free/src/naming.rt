@@ -11,8 +11,10 @@ ghost use Rattle.lock_free.specs.Finishing.{IsTold as IsToldAll};
 ghost use Rattle.lock_free.specs.KeyReplies.{FitsError};
 ghost use Rattle.lock_free.specs.Naming.{MapId, no_map};
 ghost use Rattle.lock_free.specs.Seated.{HasGoneOn, HasSplit};
-ghost use Rattle.lock_free.specs.SeatCalls.{IsTold, IsToldIfSome};
-ghost use Rattle.lock_free.specs.WholeCalls.{IsToldClose, IsToldCopy};
+ghost use Rattle.lock_free.specs.GetRuns.{IsToldIfSomeOrAgain, IsToldOrAgain};
+ghost use Rattle.lock_free.specs.SeatCalls.{IsTold};
+ghost use Rattle.lock_free.specs.SlotWaits.{IsToldAtLast, IsToldCopyAtLast};
+ghost use Rattle.lock_free.specs.WholeCalls.{IsToldClose};
 
 use crate::call_errors::CallError;
 use crate::finishing::finish_map;
@@ -164,7 +166,7 @@ impl<N: MapName> NamedSeat<N> {
         key: u64,
     ) -> Result<Option<u64>, CallError>
         ensures seat { HasGoneOn self.old self.new }
-        ensures told { IsTold reply.Found self.old.view (Get handle key) result self.new.view }
+        ensures told { IsToldOrAgain reply.Found self.old.view (Get handle key) result self.new.view }
         ensures why { IfErr result (FitsError (Get handle key)) }
     {
         self.seat.get(rt, &words.board.shared, handle, key)
@@ -179,7 +181,7 @@ impl<N: MapName> NamedSeat<N> {
         key: u64,
     ) -> Result<bool, CallError>
         ensures seat { HasGoneOn self.old self.new }
-        ensures told { IsToldIfSome self.old.view (Get handle key) result self.new.view }
+        ensures told { IsToldIfSomeOrAgain self.old.view (Get handle key) result self.new.view }
         ensures why { IfErr result (FitsError (Get handle key)) }
     {
         self.seat.contains(rt, &words.board.shared, handle, key)
@@ -195,7 +197,7 @@ impl<N: MapName> NamedSeat<N> {
         value: u64,
     ) -> Result<Option<u64>, CallError>
         ensures seat { HasGoneOn self.old self.new }
-        ensures told { IsTold reply.Found self.old.view (Put handle key value) result self.new.view }
+        ensures told { IsToldAtLast reply.Found self.old.view (Put handle key value) result self.new.view }
         ensures why { IfErr result (FitsError (Put handle key value)) }
     {
         self.seat.put(rt, &words.board.shared, handle, key, value)
@@ -211,7 +213,7 @@ impl<N: MapName> NamedSeat<N> {
         value: u64,
     ) -> Result<Option<u64>, CallError>
         ensures seat { HasGoneOn self.old self.new }
-        ensures told { IsTold reply.Found self.old.view (PutIfAbsent handle key value) result self.new.view }
+        ensures told { IsToldAtLast reply.Found self.old.view (PutIfAbsent handle key value) result self.new.view }
         ensures why { IfErr result (FitsError (PutIfAbsent handle key value)) }
     {
         self.seat
@@ -228,7 +230,7 @@ impl<N: MapName> NamedSeat<N> {
         value: u64,
     ) -> Result<Option<u64>, CallError>
         ensures seat { HasGoneOn self.old self.new }
-        ensures told { IsTold reply.Found self.old.view (Replace handle key value) result self.new.view }
+        ensures told { IsToldAtLast reply.Found self.old.view (Replace handle key value) result self.new.view }
         ensures why { IfErr result (FitsError (Replace handle key value)) }
     {
         self.seat
@@ -246,7 +248,7 @@ impl<N: MapName> NamedSeat<N> {
         new: u64,
     ) -> Result<bool, CallError>
         ensures seat { HasGoneOn self.old self.new }
-        ensures told { IsTold reply.Truth self.old.view (ReplaceIf handle key old new) result self.new.view }
+        ensures told { IsToldAtLast reply.Truth self.old.view (ReplaceIf handle key old new) result self.new.view }
         ensures why { IfErr result (FitsError (ReplaceIf handle key old new)) }
     {
         self.seat
@@ -262,7 +264,7 @@ impl<N: MapName> NamedSeat<N> {
         key: u64,
     ) -> Result<Option<u64>, CallError>
         ensures seat { HasGoneOn self.old self.new }
-        ensures told { IsTold reply.Found self.old.view (Remove handle key) result self.new.view }
+        ensures told { IsToldAtLast reply.Found self.old.view (Remove handle key) result self.new.view }
         ensures why { IfErr result (FitsError (Remove handle key)) }
     {
         self.seat.remove(rt, &words.board.shared, handle, key)
@@ -278,7 +280,7 @@ impl<N: MapName> NamedSeat<N> {
         value: u64,
     ) -> Result<bool, CallError>
         ensures seat { HasGoneOn self.old self.new }
-        ensures told { IsTold reply.Truth self.old.view (RemoveIf handle key value) result self.new.view }
+        ensures told { IsToldAtLast reply.Truth self.old.view (RemoveIf handle key value) result self.new.view }
         ensures why { IfErr result (FitsError (RemoveIf handle key value)) }
     {
         self.seat
@@ -293,7 +295,7 @@ impl<N: MapName> NamedSeat<N> {
         handle: u16,
     ) -> Result<u16, CallError>
         ensures seat { HasGoneOn self.old self.new }
-        ensures told { IsToldCopy self.old.view (Snapshot handle) result self.new.view }
+        ensures told { IsToldCopyAtLast self.old.view (Snapshot handle) result self.new.view }
         ensures why { IfErr result (FitsError (Snapshot handle)) }
     {
         self.seat.snapshot(rt, &words.board.shared, handle)
@@ -307,7 +309,7 @@ impl<N: MapName> NamedSeat<N> {
         handle: u16,
     ) -> Result<u16, CallError>
         ensures seat { HasGoneOn self.old self.new }
-        ensures told { IsToldCopy self.old.view (Freeze handle) result self.new.view }
+        ensures told { IsToldCopyAtLast self.old.view (Freeze handle) result self.new.view }
         ensures why { IfErr result (FitsError (Freeze handle)) }
     {
         self.seat.freeze(rt, &words.board.shared, handle)
@@ -321,7 +323,7 @@ impl<N: MapName> NamedSeat<N> {
         handle: u16,
     ) -> Result<(), CallError>
         ensures seat { HasGoneOn self.old self.new }
-        ensures told { IsTold (λ done. reply.Cleared) self.old.view (Clear handle) result self.new.view }
+        ensures told { IsToldAtLast (λ done. reply.Cleared) self.old.view (Clear handle) result self.new.view }
         ensures why { IfErr result (FitsError (Clear handle)) }
     {
         self.seat.clear(rt, &words.board.shared, handle)

@@ -57,7 +57,7 @@ pub fn meet_offer(words: &Words, actor: &mut Actor, handle: u16, offer: u32) -> 
     requires table { actor.old.table_id ≡ words.now.table_id }
     requires sound { IsSound words.now.table_id.words actor.old.me.0 }
     requires asking { AsksAt actor.old.me.0 handle }
-    requires known { HasOffer actor.old.me.0.sizes actor.old.me.0.account handle offer }
+    requires known { HasOffer actor.old.me.0.sizes actor.old.me.0.account actor.old.me.0.pin handle offer }
     ensures table { actor.new.table_id ≡ actor.old.table_id }
     ensures sound { IsSound words.now.table_id.words actor.new.me.0 }
     ensures met { HasMetOffer actor.old.me.0 handle offer result actor.new.me.0 }

@@ -4,7 +4,7 @@ ghost use Rattle.std.specs.Prelude.{◌≡◌, ◌<◌, [], IfOk, IfErr, OnOk};
 ghost use Rattle.lock_free.specs.Loading.{IsSound};
 ghost use Rattle.lock_free.specs.Opening.{first_words, Refuses};
 ghost use Rattle.lock_free.specs.Places.{AreSizes, words_of};
-ghost use Rattle.lock_free.specs.Rules.{first_view};
+ghost use Rattle.lock_free.specs.FirstViews.{first_view};
 ghost use Rattle.lock_free.specs.Splitting.{of_last, without_last};
 
 use crate::handles::root_word_of;

@@ -90,7 +90,8 @@ impl Seat {
     ///
     /// # Errors
     ///
-    /// As of the call itself; and `Spent`, where the tries are used up and nothing is under way.
+    /// As of the call itself; and `Spent`, where the tries are used up and nothing is under way, or no slot was free while some that the seat has
+    /// retired are to be soon.
     pub fn try_call(self, words: &Words, tries: u64, call: Call) -> Tried
         requires table { self.table ≡ words.now.table_id }
         requires tried { IsTried call }

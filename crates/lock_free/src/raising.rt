@@ -48,7 +48,8 @@ pub fn raise(
 
 /// Counts a reference less to the node of this kind in this slot: one that the seat holds. If it was the last one, the slot hangs with all else
 /// that the seat has retired.
-pub fn release(
+#[inline(always)]
+pub fn release_in_place(
     words: &Words,
     actor: &mut Actor,
     stock: &mut Stock,
@@ -71,6 +72,29 @@ pub fn release(
         Lowered::Last => stock.hang_one(words, actor, kind, class, slot),
         Lowered::Done => {}
     }
+}
+
+/// The same, as a function of its own.
+pub fn release(
+    words: &Words,
+    actor: &mut Actor,
+    stock: &mut Stock,
+    kind: Kind,
+    class: u32,
+    slot: u32,
+)
+    requires table { actor.old.table_id ≡ words.now.table_id }
+    requires sound { IsSound words.now.table_id.words actor.old.me.0 }
+    requires sizes { stock.old.sizes ≡ actor.old.me.0.sizes }
+    requires limbo { IsLimbo stock.old.limbo actor.old.me.0 }
+    requires owed { (k : ARef) × OwesOne actor.old.me.0 k kind class slot }
+    ensures table { actor.new.table_id ≡ actor.old.table_id }
+    ensures sound { IsSound words.now.table_id.words actor.new.me.0 }
+    ensures same { stock.new ≡ record stock.old { limbo = stock.new.limbo } }
+    ensures limbo { IsLimbo stock.new.limbo actor.new.me.0 }
+    ensures released { (k : ARef) → OwesOne actor.old.me.0 k kind class slot → HasKept actor.old.me.0 (without_one k actor.old.me.0.owed) actor.new.me.0 }
+{
+    release_in_place(words, actor, stock, kind, class, slot);
 }
 
 /// Whether this position is left out.

@@ -18,9 +18,10 @@ use trie_words::{Header, Name, Previous};
 const GRACE: u64 = 3;
 
 /// What a seat has retired.
-#[derive(Clone, Copy, Drop)]
+#[derive(Clone, Copy, Default, Drop)]
 pub enum Kind {
     /// A main node that was an indirection's own and was replaced: it holds nothing any more.
+    #[default]
     Replaced,
     /// A single to which there is no reference any more.
     Single,
@@ -100,6 +101,7 @@ pub(crate) fn is_decided(previous: Previous) -> bool
 /// The last step of a SWAP of the fresh main node in this slot for the one of this name, which is in a slot of this class. Returns whether
 /// it was committed, with the slot that the seat has retired. The seat holds then what the retired node held itself, or, where it was
 /// committed over one that isn't the indirection's own, the reference to that one.
+#[inline(always)]
 pub fn check_swap(
     words: &Words,
     actor: &mut Actor,

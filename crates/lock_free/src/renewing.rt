@@ -298,6 +298,7 @@ pub fn renew_within(
         class,
         fresh,
         Drops::Others,
+        &[],
     ) {
         Ok(swapped) => Ok(renewed_by(swapped)),
         Err(swapping) => Err(swapping),

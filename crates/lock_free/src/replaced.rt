@@ -1,6 +1,6 @@
 //! Slots of replaced nodes become free again for the seat that has retired them.
 
-ghost use Rattle.std.specs.Prelude.{◌≡◌, ℕ, ◌+◌, ◌<◌, ◌≤◌};
+ghost use Rattle.std.specs.Prelude.{◌≡◌, ℕ, ◌+◌, ◌<◌, ◌≤◌, is_some, true};
 ghost use Rattle.lock_free.specs.declared.reclaiming.Kind.TheVariants.{Replaced};
 ghost use Rattle.lock_free.specs.Freed.{kept_free, next_chain, FreesFirst, FreesRipe, KeepsOthers};
 ghost use Rattle.lock_free.specs.Limbos.{chains_of, HasReclaimedSome, IsLimbo};
@@ -110,9 +110,17 @@ fn free_ripe(
     free_some(tries, words, actor, limbo, stock, class);
 }
 
+/// Whether slots are to be free for the seat once the epoch has grown.
+fn has_some(limbo: &Limbo, stock: &Stock) -> bool
+    ensures { (class : ℕ) → is_some (next_chain limbo.now class).first ≡ true → result ≡ true }
+{
+    limbo.has_any() || stock.has_any_parted()
+}
+
 /// Makes slots of replaced nodes free for the seat again, so many of each class at most, as long as its stock has room for those of that
-/// class: those of the aged chain, once the epoch is three later. Where the seat has retired some, it lets the epoch grow, unless a seat is
+/// class: those of the aged chain, once the epoch is three later. Where the seat has some to free, it lets the epoch grow, unless a seat is
 /// in a call that it began in an earlier one: what one class still has to free holds back no other one.
+#[inline(never)]
 pub fn reclaim_some(
     tries: u64,
     words: &Words,
@@ -133,7 +141,7 @@ pub fn reclaim_some(
 {
     let epoch = see_epoch(words, actor);
     limbo.seen = epoch;
-    if !limbo.has_any() {
+    if !has_some(limbo, stock) {
         return;
     }
     free_ripe(tries, words, actor, limbo, stock, 0);

@@ -1,10 +1,11 @@
 //! An offer comes to stand in the word of a handle.
 
-ghost use Rattle.std.specs.Prelude.{◌≡◌, ◌<◌};
+ghost use Rattle.std.specs.Prelude.{◌≡◌, ◌<◌, Some};
 ghost use Rattle.trie_words.specs.Codes.{IsRootWord};
 ghost use Rattle.machine_model.specs.declared.actions.Action.TheVariants as act;
 ghost use Rattle.machine_model.specs.declared.roots.Descriptor.{Descriptor};
 ghost use Rattle.machine_model.specs.Calls.{handle_of};
+ghost use Rattle.lock_free.specs.declared.rules.Pinned.{Pinned};
 ghost use Rattle.lock_free.specs.HandleWords.{TellsRoot};
 ghost use Rattle.lock_free.specs.Loading.{IsAt, IsSound};
 ghost use Rattle.lock_free.specs.RootOffers.{HasMadeWay, HasOfferedWithin, HasProposed, HasYielded, IsToOffer, MeetsOffer, proposed_by};
@@ -75,7 +76,8 @@ fn make_way(words: &Words, actor: &mut Actor, handle: u16, found: RootWord) -> b
     requires low { handle < 256 }
     requires offering { (offer : Descriptor) × (p : IsAt actor.old.me.0 (act.Offer offer)) × (handle_of p.operation.call ≡ handle) }
     requires fits { IsRootWord found }
-    requires tells { TellsRoot actor.old.me.0.sizes actor.old.me.0.account handle found }
+    requires pinned { (pinned : Pinned) × (actor.old.me.0.pin ≡ Some pinned) }
+    requires tells { TellsRoot actor.old.me.0.sizes actor.old.me.0.account actor.old.me.0.pin handle found }
     ensures table { actor.new.table_id ≡ actor.old.table_id }
     ensures sound { IsSound words.now.table_id.words actor.new.me.0 }
     ensures made { HasMadeWay actor.old.me.0 result actor.new.me.0 }

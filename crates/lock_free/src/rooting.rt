@@ -6,14 +6,13 @@ ghost use Rattle.lock_free.specs.HandleWords.{HasOffer};
 ghost use Rattle.lock_free.specs.Leaving.{HasCompletedOn, HasLeftOff, HasStayedOrLeft, IsCompleteOf};
 ghost use Rattle.lock_free.specs.Loading.{IsSound, Saw};
 ghost use Rattle.lock_free.specs.Passing.{IsOnWay};
-ghost use Rattle.lock_free.specs.RootWords.{IsOpenedBy, IsToOpen};
 ghost use Rattle.lock_free.specs.Rooting.{HasHelped, HasReadExpected, HasRooted, IsAtRoot, IsCompleting, IsSettledAt};
 
 use crate::asking::{Named, ask_word, see_generation};
-use crate::handles::{clean, open_number};
+use crate::handles::clean;
 use crate::leaving::{Completing, Left};
 use crate::loads::{Actor, Words};
-use crate::offers::{Fate, complete, meet_offer, see_fate, see_news, see_olds};
+use crate::offers::{Fate, complete, meet_offer, see_news, see_olds};
 use crate::reading::{Passed, ReadFrom, Way, read_on};
 use trie_words::RootWord;
 
@@ -48,48 +47,6 @@ pub fn clean_settled(
         see_olds(words, actor, offer).low
     };
     clean(words, actor, handle, offer, root);
-}
-
-/// Opens this handle, which the offer in this slot opens, unless that is done: the offer was carried out. The handle may be written, or
-/// is for readers.
-pub fn open_handle(words: &Words, actor: &mut Actor, handle: u16, offer: u32, is_writable: bool)
-    requires table { actor.old.table_id ≡ words.now.table_id }
-    requires sound { IsSound words.now.table_id.words actor.old.me.0 }
-    requires low { handle < 256 }
-    requires opened { IsOpenedBy actor.old.me.0 handle offer is_writable }
-    ensures table { actor.new.table_id ≡ actor.old.table_id }
-    ensures sound { IsSound words.now.table_id.words actor.new.me.0 }
-    ensures saw { Saw actor.old.me.0 actor.new.me.0 }
-{
-    let opened = if is_writable {
-        RootWord::Writable(see_news(words, actor, offer).high)
-    } else {
-        RootWord::ReadOnly(see_olds(words, actor, offer).low)
-    };
-    open_number(words, actor, handle, offer, opened);
-}
-
-/// Opens this handle, which the offer in this slot opens, once that is carried out: so does who offered, before its call ends.
-pub fn open_if_carried_out(
-    words: &Words,
-    actor: &mut Actor,
-    handle: u16,
-    offer: u32,
-    is_writable: bool,
-)
-    requires table { actor.old.table_id ≡ words.now.table_id }
-    requires sound { IsSound words.now.table_id.words actor.old.me.0 }
-    requires low { handle < 256 }
-    requires opening { IsToOpen actor.old.me.0 handle offer is_writable }
-    ensures table { actor.new.table_id ≡ actor.old.table_id }
-    ensures sound { IsSound words.now.table_id.words actor.new.me.0 }
-    ensures saw { Saw actor.old.me.0 actor.new.me.0 }
-{
-    match see_fate(words, actor, offer) {
-        Fate::CarriedOut => open_handle(words, actor, handle, offer, is_writable),
-        Fate::Undecided => {}
-        Fate::TakenBack => {}
-    }
 }
 
 /// The READ of a COMPLETE, on to its end within so many tries. Returns whether it gives the main node that the offer expects; or from where
@@ -174,7 +131,7 @@ fn help_within(tries: u64, words: &Words, actor: &mut Actor, way: Way, offer: u3
     requires sound { IsSound words.now.table_id.words actor.old.me.0 }
     requires way { IsOnWay actor.old.me.0 way }
     requires at { IsAtRoot actor.old.me.0 }
-    requires known { HasOffer actor.old.me.0.sizes actor.old.me.0.account way.handle offer }
+    requires known { HasOffer actor.old.me.0.sizes actor.old.me.0.account actor.old.me.0.pin way.handle offer }
     ensures table { actor.new.table_id ≡ actor.old.table_id }
     ensures sound { IsSound words.now.table_id.words actor.new.me.0 }
     ensures stays { HasStayedOrLeft actor.old.me.0 result actor.new.me.0 }

@@ -1,11 +1,12 @@
 //! The rule of the words.
 
 ghost use Rattle.lock_free.specs.declared.rules.View.{View};
-ghost use Rattle.lock_free.specs.Rules.{IsRuled, first_view};
+ghost use Rattle.lock_free.specs.FirstViews.{first_view};
+ghost use Rattle.history.specs.declared.calls.Call.{Call};
+ghost use Rattle.lock_free.specs.Shadows.{IsShadowed};
 ghost use Rattle.lock_free.specs.Loading.{has_seen, has_gone};
 ghost use Rattle.lock_free.specs.Calling.{has_cut_short, has_given_up, has_started};
-ghost use Rattle.lock_free.specs.Epochs.{has_advanced, has_checked, has_seen_epoch};
-ghost use Rattle.lock_free.specs.Exchanging.{has_published};
+ghost use Rattle.lock_free.specs.SwappingIn.{has_published};
 ghost use Rattle.lock_free.specs.Finishing.{has_emptied, hearing, no_view};
 ghost use Rattle.lock_free.specs.HandleWords.{has_closed, has_marked, has_unmarked};
 ghost use Rattle.lock_free.specs.Linking.{has_linked, has_seen_link};
@@ -18,7 +19,7 @@ ghost use Rattle.lock_free.specs.SeatWords.{has_ended, has_passed, has_pinned, h
 ghost use Rattle.lock_free.specs.Splitting.{without_last, of_last};
 ghost use Rattle.lock_free.specs.Storing.{has_drafted, has_made, has_made_root, has_taken};
 
-use crate::accounts::Account;
+use crate::accounts::{Account, OwnOffer, PartedSlot};
 use crate::sizes::Sizes;
 use atomic_table::{Join, Play, Split, TableRule};
 use history::Call;
@@ -26,17 +27,27 @@ use std::collections::LinkedList;
 use std::marker::{Brand, PhantomData};
 use trie_words::Pin;
 
-/// The slots that are free for one seat alone, by their size. No value of it is made.
+/// The slots that are free for one seat alone, by their size, and those of its offers that are to be, the earliest first. No value of it
+/// is made.
 pub struct Pool {
     pub small: LinkedList<u32>,
     pub medium: LinkedList<u32>,
     pub wide: LinkedList<u32>,
+    pub parted: LinkedList<PartedSlot>,
 }
 
 /// A handle that a seat has marked to close it, and how many seats it has found in no call on it since. No value of it is made.
 pub struct Closing {
     pub handle: u16,
     pub looked: u8,
+}
+
+/// What a seat has done since it looked at the epoch, which it would let grow, or marked a handle, which it would close: whether all
+/// glances that were under way have fallen, and how many seats it has found since in no call that was begun before that epoch. No value
+/// of it is made.
+pub struct Checked {
+    pub cleared: bool,
+    pub seats: u8,
 }
 
 /// Another seat of which a seat has heard, with its actors and what had happened at its last access: it was given up then. No value of
@@ -52,6 +63,8 @@ pub struct Pinned {
     pub pin: Pin,
     pub since: u64,
     pub account: Account,
+    /// Its word says so. A seat that glances is pinned and no word says it.
+    pub shown: bool,
 }
 
 /// A slot of this class that a seat has retired, since no root leads to its node any more: the node's number, what the epoch was
@@ -65,6 +78,14 @@ pub struct Retired {
     /// Its last reference was lowered: what it names is held till the slot is free. If not it was replaced, as an indirection's own main
     /// node, and holds nothing.
     pub deep: bool,
+}
+
+/// A seat glances: what it has seen counts while the word that counts glances is what it was when it began, unless it knows that it isn't
+/// any more. Its view has no sizes meanwhile: these are they. No value of it is made.
+pub struct Glance {
+    pub sizes: Sizes,
+    pub read: u64,
+    pub lost: bool,
 }
 
 /// What a seat knows. No value of it is made.
@@ -87,13 +108,15 @@ pub struct View {
     pub closing: LinkedList<Closing>,
     /// What the epoch was when it looked at it last.
     pub epoch: u64,
-    /// So many seats it has found since in no call that was begun before that epoch.
-    pub passed: u8,
+    /// What it has done since.
+    pub passed: Checked,
     /// The number that it has reserved.
     pub opens: Option<u16>,
     /// The slot of the offer that it writes, which the word of that number names already.
     pub opening: Option<u32>,
-    /// The slots that are free for it alone.
+    /// The latest offer of its own, if a handle's word may name it still.
+    pub offer: Option<OwnOffer>,
+    /// The slots that are free for it alone, and those of offers.
     pub pool: Pool,
     /// What it has written in these: the number of a word, and what it has.
     pub drafts: LinkedList<(u64, u64)>,
@@ -107,12 +130,14 @@ pub struct View {
     pub plain: LinkedList<(u16, u64)>,
     /// The seats of which it has heard.
     pub heard: LinkedList<Heard>,
+    /// It glances.
+    pub glance: Option<Glance>,
 }
 
 pub struct Rule;
 
 impl TableRule<Call, View, Sizes> for Rule {
-    ghost holds = { IsRuled };
+    ghost holds = { IsShadowed };
 
     ghost first = { first_view };
 }
@@ -214,27 +239,6 @@ pub struct Unpins;
 
 impl Play<Call, View> for Unpins {
     ghost then = { has_unpinned };
-}
-
-/// The epoch is looked at.
-pub struct SeesEpoch;
-
-impl Play<Call, View> for SeesEpoch {
-    ghost then = { has_seen_epoch };
-}
-
-/// A seat that would let the epoch grow looks at the next seat's pin.
-pub struct Checks;
-
-impl Play<Call, View> for Checks {
-    ghost then = { has_checked };
-}
-
-/// The epoch grows, or doesn't.
-pub struct Advances;
-
-impl Play<Call, View> for Advances {
-    ghost then = { has_advanced };
 }
 
 /// A SWAP's last step is taken, and the slot of the main node that it lets go of is retired, or isn't.

@@ -9,12 +9,12 @@ ghost use Rattle.lock_free.specs.Attempts.{HasEndedWith, IsEnding};
 ghost use Rattle.lock_free.specs.Loading.{IsAt, IsSound};
 ghost use Rattle.lock_free.specs.Opening.{Refuses};
 ghost use Rattle.lock_free.specs.Places.{AreSizes, words_of};
-ghost use Rattle.lock_free.specs.Rules.{first_view};
+ghost use Rattle.lock_free.specs.FirstViews.{first_view};
 ghost use Rattle.lock_free.specs.RunningOn.{MayAnswer};
 ghost use Rattle.lock_free.specs.SeatWords.{IsAtEnd, HasEnded};
 ghost use Rattle.lock_free.specs.Stocks.{IsStock};
 
-use crate::calling::cancel;
+use crate::giving_up::give_all_up;
 use crate::loads::{Actor, Words};
 use crate::opening::{Board, OpenError, open as open_board, split};
 use crate::pins::finish;
@@ -142,8 +142,8 @@ pub(crate) fn refuse(words: &Words, actor: &mut Actor, stock: &mut Stock, seat: 
     ensures stock { IsStock stock.new actor.new.me.0 }
     ensures refused { IsCancelled actor.old.me.0 actor.new.me.0 }
 {
-    cancel(words, actor, seat);
-    stock.give_back();
+    give_all_up(words, actor, stock);
+    finish(words, actor, seat);
 }
 
 /// Ends the operation of this seat, `seat`, with the reply to which it has come, or as one that has found no slot. Returns that reply.

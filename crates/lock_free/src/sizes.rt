@@ -1,7 +1,7 @@
 //! How many words there are, and for what.
 
 ghost use Rattle.std.specs.Prelude.{◌≡◌, ℕ, ◌+◌, ◌*◌, ◌<◌, ◌≤◌, ◌^◌, ◌↔◌, IsTrue};
-ghost use Rattle.lock_free.specs.Places.{count_word, part_of, slots_in, stride, words_of, AreSizes, IsSlot};
+ghost use Rattle.lock_free.specs.Places.{cell_word, count_word, part_of, slots_in, stride, words_of, AreSizes, IsSlot};
 
 use nodes::HashKind;
 
@@ -25,7 +25,7 @@ impl Sizes {
     pub fn words(&self) -> u64
         ensures { result ≡ words_of self.now }
     {
-        self.part(2) + 24 * u64::from(self.wide) + u64::from(self.small)
+        self.part(2) + 24 * u64::from(self.wide) + u64::from(self.small) + 96
     }
 
     /// Whether they are in range: there are seats, two small slots at least, and 2^28 words at most.
@@ -88,6 +88,7 @@ impl Sizes {
     }
 
     /// The word that counts references to the node in this slot of the class.
+    #[inline(always)]
     pub fn count_word(&self, class: u32, slot: u32) -> usize
         ensures { result ≡ count_word self.now class slot }
     {
@@ -102,5 +103,18 @@ impl Sizes {
             1 => 2 * name + 7,
             _ => 2 * name + 23,
         }
+    }
+    /// The word of the cell of this number, below 32, of the class.
+    pub fn cell_word(&self, class: u32, number: usize) -> usize
+        requires class { class < 3 }
+        requires number { number < 32 }
+        ensures { result ≡ cell_word self.now class number }
+    {
+        352 + 16 * self.seats as usize
+            + 3 * self.small as usize
+            + 8 * self.medium as usize
+            + 24 * self.wide as usize
+            + 32 * class as usize
+            + number
     }
 }

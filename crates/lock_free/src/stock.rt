@@ -1,29 +1,34 @@
 //! What a seat owns in plain memory: slots that are free for it, and those of the nodes that its operation has made.
 
-ghost use Rattle.std.specs.Prelude.{◌≡◌, ◌+◌, ◌<◌, ◌≤◌, ◌^◌, [], IsTrue, OnSome};
+ghost use Rattle.std.specs.Prelude.{◌≡◌, ◌+◌, ◌<◌, ◌≤◌, ◌^◌, ◌++◌, ◌∷◌, ℕ, List, [], IsFalse, IsTrue, length};
+ghost use Rattle.lock_free.specs.declared.accounts.PartedSlot.{PartedSlot};
 ghost use Rattle.lock_free.specs.declared.rules.View.{View};
 ghost use Rattle.lock_free.specs.Freed.{kept_free};
-ghost use Rattle.lock_free.specs.Limbos.{chains_of, led_on, turned_in, having_retired, AreNewest, HasHung, IsLimbo, IsNewest, IsNewestOrNone, IsNext};
+ghost use Rattle.lock_free.specs.Limbos.{chains_of, led_on, turned_in, having_retired, HasHung, IsLimbo, IsNewest, IsNext};
 ghost use Rattle.lock_free.specs.Loading.{IsSound};
-ghost use Rattle.lock_free.specs.Making.{with_slot};
+ghost use Rattle.lock_free.specs.Making.{with_slot, with_slots};
+ghost use Rattle.lock_free.specs.OwnOffers.{most_parted, with_parted, without_first, IsFullOfParted, IsRipeIn};
 ghost use Rattle.lock_free.specs.Rules.{pool_of};
-ghost use Rattle.lock_free.specs.Stocks.{HasRoom, HasRoomFor, HasSlotOrNone, IsLast, IsStock, NotesLast, put_back};
+ghost use Rattle.lock_free.specs.Stocks.{HasRoom, HasRoomFor, IsLast, NotesLast, put_back};
 
 use crate::free_slots::Free;
+use crate::lacks::{Lack, Lacks, Manner};
 use crate::limbo::{Limbo, hang};
 use crate::loads::{Actor, Words};
-use crate::reclaiming::{Kind, Retiree};
+use crate::reclaiming::Kind;
 use crate::sizes::Sizes;
-use crate::stores::{Tried, try_take};
 use arrayvec::ArrayVec;
 use std::marker::Model;
-use trie_words::Pair;
+use std::mem;
 
 /// So many slots of a class are kept at most, with those of all nodes that were made. One try of an operation makes 33 at most.
 const MOST_KEPT: usize = 128;
 
 /// A seat that has begun so many calls, or retired so many slots, looks at the epoch and makes some free again when its call ends.
 const OFTEN: u32 = 16;
+
+/// One that wants more slots does so after this many: not at each call, since there may be none to be had.
+const OFTEN_IF_LOW: u32 = 4;
 
 /// A seat's word has room for this epoch, and for none after it.
 const LAST_EPOCH: u64 = (1 << 54) - 1;
@@ -34,6 +39,8 @@ const KEPT_FREE: usize = 48;
 /// A node that the seat's operation has made and nobody else knows.
 #[derive(Clone, Copy, Default, Drop)]
 pub struct OwnNode {
+    /// Which kind of node it is, a replaced one never.
+    pub kind: Kind,
     /// The class of its slot, below 3.
     pub class: u32,
     /// Its slot.
@@ -49,12 +56,10 @@ pub struct Stock {
     made: ArrayVec<OwnNode, 128>,
     /// What the seat has retired.
     limbo: Limbo,
-    /// How many calls it has begun, and slots it has retired, since it last would make some free.
+    /// How many calls it has begun, and slots it has retired, since it last would make some free; ever so many where it has found none.
     newly: u32,
-    /// Whether its call has found no slot.
-    lacks: bool,
-    /// Whether its call has found no generation.
-    worn_out: bool,
+    /// How its call is made, and what that has lacked.
+    lacks: Lacks,
 }
 
 impl Model for Stock {
@@ -75,6 +80,7 @@ impl Stock {
         ensures medium { result.pool.medium ≡ [] }
         ensures wide { result.pool.wide ≡ [] }
         ensures made { result.made ≡ [] }
+        ensures parted { result.pool.parted ≡ [] }
         ensures limbo { (v : View) → v.retired ≡ [] → IsLimbo result.limbo v }
     {
         Stock {
@@ -83,42 +89,56 @@ impl Stock {
             made: ArrayVec::new(),
             limbo: Limbo::new(),
             newly: 0,
-            lacks: false,
-            worn_out: false,
+            lacks: Lacks::new(),
         }
     }
 
-    /// A call begins, which has found no lack yet.
-    pub fn begin(&mut self)
+    /// A call begins in this manner, which has lacked nothing yet.
+    #[inline(always)]
+    pub fn begin(&mut self, manner: Manner)
         ensures { self.new ≡ self.old }
     {
         self.newly = self.newly.saturating_add(1);
-        self.lacks = false;
-        self.worn_out = false;
+        self.lacks.begin(manner);
     }
 
-    /// Its call has found no slot.
-    fn lack(&mut self)
-        ensures { self.new ≡ self.old }
-    {
-        self.lacks = true;
-    }
-
-    /// Whether its call has found no slot.
-    pub fn lacks(&self) -> bool {
-        self.lacks
+    /// What its call has lacked.
+    pub fn lacked(&self) -> Lack {
+        self.lacks.lack()
     }
 
     /// Its call has found no generation.
     pub fn wear_out(&mut self)
         ensures { self.new ≡ self.old }
     {
-        self.worn_out = true;
+        self.lacks.wear_out();
     }
 
-    /// Whether its call has found no generation.
-    pub fn is_worn_out(&self) -> bool {
-        self.worn_out
+    /// Whether slots of this class hang that the seat has retired, and it can keep more of them.
+    fn has_to_come(&self, class: u32) -> bool {
+        self.takes_back(class) && self.limbo.has_any_of(class)
+    }
+
+    /// Its call has found no slot. Where there are other seats, these may leave it some soon.
+    pub(crate) fn lack(&mut self)
+        ensures { self.new ≡ self.old }
+    {
+        let others = self.sizes.seats > 1 || self.free.has_parted(self.made.len());
+        let soon = others || self.has_to_come(0) || self.has_to_come(1) || self.has_to_come(2);
+        self.lacks.find_none(soon, self.limbo.seen);
+        self.newly = u32::MAX;
+    }
+
+    /// Whether slots of offers are to be free for the seat.
+    pub(crate) fn has_any_parted(&self) -> bool {
+        self.free.has_any_parted()
+    }
+
+    /// Its call has waited for slots in vain: until the epoch has grown none waits for them.
+    pub fn stop_waiting(&mut self)
+        ensures { self.new ≡ self.old }
+    {
+        self.lacks.stop_waiting(self.limbo.seen);
     }
 
     /// An epoch that the seat has seen, the last one if that isn't out of range. A call that it begins is pinned in it.
@@ -131,6 +151,7 @@ impl Stock {
     }
 
     /// How many of everything its seat's map has.
+    #[inline(always)]
     pub fn sizes(&self) -> Sizes
         ensures { result ≡ self.now.sizes }
     {
@@ -138,10 +159,26 @@ impl Stock {
     }
 
     /// The last free slot of this class.
-    fn last(&self, class: u32) -> Option<u32>
+    #[inline(always)]
+    pub(crate) fn last(&self, class: u32) -> Option<u32>
         ensures { IsLast (pool_of self.now.pool class) result }
     {
         self.free.last(class)
+    }
+
+    /// How many slots of this class are free.
+    pub(crate) fn free_len(&self, class: u32) -> usize {
+        self.free.len(class)
+    }
+
+    /// The last free slot of this class isn't free for the seat any more.
+    pub(crate) fn leave_out(&mut self, class: u32)
+        ensures sizes { self.new.sizes ≡ self.old.sizes }
+        ensures pool { (rest : List ℕ) (name : ℕ) → pool_of self.old.pool class ≡ rest ++ name ∷ [] → self.new.pool ≡ with_slots self.old.pool class rest }
+        ensures made { self.new.made ≡ self.old.made }
+        ensures limbo { self.new.limbo ≡ self.old.limbo }
+    {
+        let _ = self.free.pop(class);
     }
 
     /// Whether two slots more can be kept.
@@ -153,6 +190,7 @@ impl Stock {
     }
 
     /// Whether one slot more of this class leaves room for all that a try may make of it, however many are free of other classes.
+    #[inline(always)]
     pub fn takes_back(&self, class: u32) -> bool
         ensures room { IsTrue result → HasRoomFor self.now class kept_free }
         ensures takes { HasRoomFor self.now class kept_free → IsTrue result }
@@ -161,6 +199,7 @@ impl Stock {
     }
 
     /// One slot more of this class is free.
+    #[inline(always)]
     pub fn add(&mut self, class: u32, slot: u32)
         requires room { HasRoomFor self.old class 1 }
         ensures sizes { self.new.sizes ≡ self.old.sizes }
@@ -171,31 +210,69 @@ impl Stock {
         self.free.add(class, slot);
     }
 
-    /// A node was made in the last free slot of this class.
+    /// Whether the slot of one more offer can be noted.
+    pub fn has_room_to_part(&self) -> bool
+        ensures room { IsTrue result → length self.now.pool.parted < most_parted }
+        ensures full { IsFalse result → IsFullOfParted self.now.pool }
+    {
+        self.free.has_room_to_part()
+    }
+
+    /// One more of an offer is to be free, once the epoch is later by three than this one.
+    pub fn part(&mut self, slot: u32, stamp: u64)
+        requires { length self.old.pool.parted < most_parted }
+        ensures { self.new ≡ record self.old { pool = with_parted self.old.pool slot stamp } }
+    {
+        self.newly = self.newly.saturating_add(1);
+        self.free.part(slot, stamp);
+    }
+
+    /// Whether there are such, there is room for the first one where it is free, and the epoch that the seat has seen is that late.
+    pub fn has_ripe_offer(&self) -> bool
+        ensures ripe { IsTrue result → IsRipeIn self.now.pool self.now.limbo.seen }
+        ensures room { IsTrue result → HasRoomFor self.now 1 1 }
+    {
+        self.free.has_ripe(self.made.len(), self.limbo.seen)
+    }
+
+    /// The first one is free.
+    pub fn free_parted(&mut self)
+        requires some { 0 < length self.old.pool.parted }
+        requires room { HasRoomFor self.old 1 1 }
+        ensures sizes { self.new.sizes ≡ self.old.sizes }
+        ensures pool { (y : PartedSlot) (rest : List PartedSlot) → self.old.pool.parted ≡ y ∷ rest → self.new.pool ≡ without_first self.old.pool y.slot rest }
+        ensures made { self.new.made ≡ self.old.made }
+        ensures limbo { self.new.limbo ≡ self.old.limbo }
+    {
+        self.free.free_parted();
+    }
+
+    /// A node of this kind was made in the last free slot of this class.
     #[inline(always)]
-    pub fn note(&mut self, class: u32)
+    pub fn note(&mut self, kind: Kind, class: u32)
         requires room { HasRoom self.old 1 }
         ensures sizes { self.new.sizes ≡ self.old.sizes }
-        ensures noted { NotesLast self.old class self.new }
+        ensures noted { NotesLast self.old kind class self.new }
         ensures limbo { self.new.limbo ≡ self.old.limbo }
     {
         if let Some(slot) = self.free.pop(class) {
-            self.made.push(OwnNode { class, slot });
+            self.made.push(OwnNode { kind, class, slot });
         }
     }
 
-    /// Nobody ever knew what was made: its slots are free again.
-    pub fn give_back(&mut self)
+    /// Nobody ever knew what was made: its slots are free again. Returns what it was.
+    pub fn give_back(&mut self) -> ArrayVec<OwnNode, 128>
         ensures sizes { self.new.sizes ≡ self.old.sizes }
         ensures pool { self.new.pool ≡ put_back self.old.made self.old.pool }
         ensures made { self.new.made ≡ [] }
         ensures limbo { self.new.limbo ≡ self.old.limbo }
+        ensures was { result.items ≡ self.old.made }
     {
         for n in 0..self.made.len() {
             let made = self.made[n];
             self.free.add(made.class, made.slot);
         }
-        self.made.clear();
+        mem::replace(&mut self.made, ArrayVec::new())
     }
 
     /// What was made has become others' too.
@@ -223,15 +300,22 @@ impl Stock {
         self.newly = 0;
     }
 
+    /// Whether slots of this kind and class hang that the seat has retired.
+    #[inline(always)]
+    pub fn has_retired(&self, kind: Kind, class: u32) -> bool {
+        self.limbo.has_some(kind, class)
+    }
+
     /// The first slot of the aged chain of this kind and class.
+    #[inline(always)]
     pub fn first_aged(&self, kind: Kind, class: u32) -> Option<u32>
         ensures { result ≡ (chains_of self.now.limbo kind class).aged.first }
     {
         self.limbo.first_aged(kind, class)
     }
 
-    /// Whether the aged chain of this kind and class has slots, all of which were retired three epochs before the one that the seat has
-    /// seen last.
+    /// Whether the aged chain of this kind and class has slots, all retired three epochs before the one that the seat has seen last.
+    #[inline(always)]
     pub fn has_ripe(&self, kind: Kind, class: u32) -> bool
         ensures { IsTrue result → (chains_of self.now.limbo kind class).aged.stamp + 3 ≤ self.now.limbo.seen }
     {
@@ -239,6 +323,7 @@ impl Stock {
     }
 
     /// The young chain of this kind and class is the aged one, once that has no slots.
+    #[inline(always)]
     pub fn turn(&mut self, kind: Kind, class: u32)
         ensures { self.new ≡ record self.old { limbo = turned_in self.old.limbo kind class } }
     {
@@ -246,6 +331,7 @@ impl Stock {
     }
 
     /// The first slot of the aged chain of this kind and class, whose link this was, is left out.
+    #[inline(always)]
     pub fn lead_on(&mut self, kind: Kind, class: u32, link: u32)
         ensures { self.new ≡ record self.old { limbo = led_on self.old.limbo kind class link } }
     {
@@ -255,11 +341,24 @@ impl Stock {
     /// Whether the seat is to look at the epoch, and make some free of what it has retired.
     #[inline(always)]
     pub fn is_due(&self) -> bool {
-        self.lacks || self.newly >= OFTEN
+        self.newly >= OFTEN || (self.newly >= OFTEN_IF_LOW && self.free.is_low(&self.sizes))
+    }
+
+    /// Whether fewer slots of this class are free than the seat's next call may want.
+    pub fn wants(&self, class: u32) -> bool {
+        self.free.wants(&self.sizes, class)
     }
 
     /// Hangs the slot that the seat has retired with those of its kind and class. All that it had retired before hangs already.
-    fn hang_next(&mut self, words: &Words, actor: &mut Actor, kind: Kind, class: u32, slot: u32)
+    #[inline(always)]
+    pub(crate) fn hang_next(
+        &mut self,
+        words: &Words,
+        actor: &mut Actor,
+        kind: Kind,
+        class: u32,
+        slot: u32,
+    )
         requires table { actor.old.table_id ≡ words.now.table_id }
         requires sound { IsSound words.now.table_id.words actor.old.me.0 }
         requires sizes { self.old.sizes ≡ actor.old.me.0.sizes }
@@ -271,18 +370,13 @@ impl Stock {
         ensures hung { HasHung actor.old.me.0 actor.new.me.0 }
     {
         self.newly = self.newly.saturating_add(1);
-        hang(
-            words,
-            actor,
-            &self.sizes,
-            &mut self.limbo,
-            kind,
-            class,
-            slot,
-        );
+        let sizes = self.sizes;
+        let limbo = &mut self.limbo;
+        hang(words, actor, &sizes, limbo, kind, class, slot);
     }
 
     /// Hangs the slot that the seat has just retired with those of its kind and class.
+    #[inline(always)]
     pub fn hang_one(&mut self, words: &Words, actor: &mut Actor, kind: Kind, class: u32, slot: u32)
         requires table { actor.old.table_id ≡ words.now.table_id }
         requires sound { IsSound words.now.table_id.words actor.old.me.0 }
@@ -296,81 +390,4 @@ impl Stock {
     {
         self.hang_next(words, actor, kind, class, slot);
     }
-
-    /// Hangs the slots of the roots that the seat has just retired: the lower one, and the higher one unless it is 0.
-    pub fn hang_roots(&mut self, words: &Words, actor: &mut Actor, roots: Pair)
-        requires table { actor.old.table_id ≡ words.now.table_id }
-        requires sound { IsSound words.now.table_id.words actor.old.me.0 }
-        requires sizes { self.old.sizes ≡ actor.old.me.0.sizes }
-        requires newest { AreNewest self.old.limbo actor.old.me.0 roots }
-        ensures table { actor.new.table_id ≡ actor.old.table_id }
-        ensures sound { IsSound words.now.table_id.words actor.new.me.0 }
-        ensures same { self.new ≡ record self.old { limbo = self.new.limbo } }
-        ensures limbo { IsLimbo self.new.limbo actor.new.me.0 }
-        ensures hung { HasHung actor.old.me.0 actor.new.me.0 }
-    {
-        self.hang_next(words, actor, Kind::Replaced, 0, roots.low);
-        if roots.high != 0 {
-            self.hang_next(words, actor, Kind::Replaced, 0, roots.high);
-        }
-    }
-
-    /// Hangs the slot of a replaced node that the seat has just retired, if there is one.
-    pub fn hang(&mut self, words: &Words, actor: &mut Actor, retired: Option<Retiree>)
-        requires table { actor.old.table_id ≡ words.now.table_id }
-        requires sound { IsSound words.now.table_id.words actor.old.me.0 }
-        requires sizes { self.old.sizes ≡ actor.old.me.0.sizes }
-        requires newest { IsNewestOrNone self.old.limbo actor.old.me.0 retired }
-        ensures table { actor.new.table_id ≡ actor.old.table_id }
-        ensures sound { IsSound words.now.table_id.words actor.new.me.0 }
-        ensures same { self.new ≡ record self.old { limbo = self.new.limbo } }
-        ensures limbo { IsLimbo self.new.limbo actor.new.me.0 }
-        ensures hung { HasHung actor.old.me.0 actor.new.me.0 }
-    {
-        if let Some(retiree) = retired {
-            self.hang_one(words, actor, Kind::Replaced, retiree.class, retiree.slot);
-        }
-    }
-}
-
-/// A slot of this class for the next node: the last of those that are free then. None where all were handed out, or others took each one
-/// first at so many tries.
-pub fn take(
-    tries: u64,
-    words: &Words,
-    actor: &mut Actor,
-    stock: &mut Stock,
-    class: u32,
-) -> Option<u32>
-    requires table { actor.old.table_id ≡ words.now.table_id }
-    requires sound { IsSound words.now.table_id.words actor.old.me.0 }
-    requires stock { IsStock stock.old actor.old.me.0 }
-    requires class { class < 3 }
-    ensures table { actor.new.table_id ≡ actor.old.table_id }
-    ensures sound { IsSound words.now.table_id.words actor.new.me.0 }
-    ensures stock { IsStock stock.new actor.new.me.0 }
-    ensures room { OnSome result (HasRoom stock.new 1) }
-    ensures slot { HasSlotOrNone actor.old.me.0 class result actor.new.me.0 }
-{
-    if !stock.has_room() {
-        stock.lack();
-        return None;
-    }
-    if let Some(slot) = stock.last(class) {
-        return Some(slot);
-    }
-    for _ in 0..tries {
-        match try_take(words, actor, &stock.sizes, class) {
-            Tried::Slot(slot) => {
-                stock.add(class, slot);
-                return Some(slot);
-            }
-            Tried::Full => {
-                stock.lack();
-                return None;
-            }
-            Tried::Lost => {}
-        }
-    }
-    None
 }

@@ -33,6 +33,7 @@ pub(crate) fn taken_word_of(class: u32) -> usize
 }
 
 /// Tries to take a slot of this class, which no seat had before.
+#[inline(never)]
 pub fn try_take(words: &Words, actor: &mut Actor, sizes: &Sizes, class: u32) -> Tried
     requires table { actor.old.table_id ≡ words.now.table_id }
     requires sound { IsSound words.now.table_id.words actor.old.me.0 }

@@ -1,21 +1,24 @@
 //! SWAP: a fresh main node in the place of another.
 
-ghost use Rattle.std.specs.Prelude.{◌≡◌, [], IfErr, IfOk};
+ghost use Rattle.std.specs.Prelude.{◌≡◌, ◌≤◌, IfErr, IfOk, length};
 ghost use Rattle.lock_free.specs.Entries.{HasStayed};
 ghost use Rattle.lock_free.specs.Leaving.{HasCheckedOn, HasDecidedSwap, HasEndedSwap, HasLeftSwap, HasSwappedOn, IsAtCheck, IsSwapLeft};
+ghost use Rattle.lock_free.specs.LettingMadeGo.{KeepsNamed};
 ghost use Rattle.lock_free.specs.Limbos.{IsLimbo};
 ghost use Rattle.lock_free.specs.Loading.{IsSound};
 ghost use Rattle.lock_free.specs.Passing.{IsOnWay};
 ghost use Rattle.lock_free.specs.Swaps.{HasSwapDone, HoldsSwapped, IsAtSwap, RetiresOwn, SwapDrops, retired_by, swapped_by};
-ghost use Rattle.lock_free.specs.Stocks.{IsStock, HasSwapped, settled_pool};
+ghost use Rattle.lock_free.specs.Stocks.{IsStock, HasSwapped};
 
 use crate::exchanges::publish;
 use crate::first_passes::end_read_within;
+use crate::hung_slots::hang_replaced;
 use crate::leaving::{Drops, Swapping};
 use crate::letting_go::{let_go_by, let_go_told, see_dropped, see_names, see_taken};
 use crate::loads::{Actor, Words, see_main};
 use crate::reading::{ReadFrom, Way};
 use crate::reclaiming::{Decided, Retiree, check_swap, is_decided};
+use crate::settling::settle_stock;
 use crate::stock::Stock;
 use arrayvec::ArrayVec;
 use trie_words::{Link, Name};
@@ -81,7 +84,7 @@ fn check_on(words: &Words, actor: &mut Actor, stock: &mut Stock, swapping: Swapp
         swapping.replaced,
         swapping.class,
     );
-    stock.hang(words, actor, retired_by(decided));
+    hang_replaced(words, actor, stock, retired_by(decided));
     decided
 }
 
@@ -146,7 +149,8 @@ fn end_swap(words: &Words, actor: &mut Actor, stock: &mut Stock, swapping: Swapp
     if is_told(words, actor, swapping) {
         end_told(words, actor, stock, swapping)
     } else {
-        end_looking(words, actor, stock, swapping)
+        let later = Swapping { ..swapping };
+        end_looking(words, actor, stock, later)
     }
 }
 
@@ -252,21 +256,9 @@ pub fn swap_within(
     }
 }
 
-/// What was made for a SWAP that came to this is handed over, or free again.
-#[inline(always)]
-fn settle_stock(stock: &mut Stock, swapped: Swapped)
-    ensures sizes { stock.new.sizes ≡ stock.old.sizes }
-    ensures pool { stock.new.pool ≡ settled_pool swapped stock.old.made stock.old.pool }
-    ensures made { stock.new.made ≡ [] }
-    ensures limbo { stock.new.limbo ≡ stock.old.limbo }
-{
-    match swapped {
-        Swapped::Misses => stock.give_back(),
-        Swapped::Commits(_) | Swapped::Fails(_) => stock.hand_over(),
-    }
-}
-
-/// The same SWAP, with what the seat owns: what was made for it is handed over, or free again.
+/// The same SWAP, with what the seat owns: what was made for it is handed over; or it is free again, and the seat lets go of what that named
+/// of others. `kept` has the halves of the entries of the main node that is to be replaced where the fresh one names others than these, too,
+/// and nothing where it doesn't.
 #[inline(always)]
 pub fn swap_made_within(
     tries: u64,
@@ -279,6 +271,7 @@ pub fn swap_made_within(
     class: u32,
     fresh: u32,
     drops: Drops,
+    kept: &[u32],
 ) -> Result<Swapped, Swapping>
     requires table { actor.old.table_id ≡ words.now.table_id }
     requires sound { IsSound words.now.table_id.words actor.old.me.0 }
@@ -286,12 +279,13 @@ pub fn swap_made_within(
     requires way { IsOnWay actor.old.me.0 way }
     requires swapping { IsAtSwap actor.old.me.0 indirection link class fresh }
     requires drops { SwapDrops actor.old.me.0 drops }
+    requires few { length kept.now ≤ 32 }
+    requires kept { KeepsNamed actor.old.me.0 kept.now }
     ensures table { actor.new.table_id ≡ actor.old.table_id }
     ensures sound { IsSound words.now.table_id.words actor.new.me.0 }
     ensures stock { IsStock stock.new actor.new.me.0 }
     ensures done { IfOk result (λ swapped. HasSwapped actor.old.me.0 swapped actor.new.me.0) }
     ensures which { IfOk result (RetiresOwn link.main class fresh) }
-    ensures holds { IfOk result (λ swapped. HoldsSwapped actor.old.me.0 swapped actor.new.me.0) }
     ensures left { IfErr result (λ left. HasLeftSwap actor.old.me.0 left actor.new.me.0) }
 {
     match swap_within(
@@ -307,7 +301,7 @@ pub fn swap_made_within(
         drops,
     ) {
         Ok(swapped) => {
-            settle_stock(stock, swapped);
+            settle_stock(words, actor, stock, swapped, link.main.own, fresh, kept);
             Ok(swapped)
         }
         Err(swapping) => {
@@ -315,4 +309,45 @@ pub fn swap_made_within(
             Err(swapping)
         }
     }
+}
+
+/// The same SWAP of a fresh main node that names others than the one that it is to replace: what that one names is seen before.
+pub fn swap_seen_within(
+    tries: u64,
+    words: &Words,
+    actor: &mut Actor,
+    stock: &mut Stock,
+    way: Way,
+    indirection: u32,
+    link: Link,
+    class: u32,
+    fresh: u32,
+) -> Result<Swapped, Swapping>
+    requires table { actor.old.table_id ≡ words.now.table_id }
+    requires sound { IsSound words.now.table_id.words actor.old.me.0 }
+    requires stock { IsStock stock.old actor.old.me.0 }
+    requires way { IsOnWay actor.old.me.0 way }
+    requires swapping { IsAtSwap actor.old.me.0 indirection link class fresh }
+    ensures table { actor.new.table_id ≡ actor.old.table_id }
+    ensures sound { IsSound words.now.table_id.words actor.new.me.0 }
+    ensures stock { IsStock stock.new actor.new.me.0 }
+    ensures done { IfOk result (λ swapped. HasSwapped actor.old.me.0 swapped actor.new.me.0) }
+    ensures which { IfOk result (RetiresOwn link.main class fresh) }
+    ensures left { IfErr result (λ left. HasLeftSwap actor.old.me.0 left actor.new.me.0) }
+{
+    let mut kept = ArrayVec::new();
+    see_taken(words, actor, link.main, &mut kept);
+    swap_made_within(
+        tries,
+        words,
+        actor,
+        stock,
+        way,
+        indirection,
+        link,
+        class,
+        fresh,
+        Drops::Others,
+        &kept,
+    )
 }

@@ -88,6 +88,7 @@ pub fn update_within(
         class_of(given.header.shape),
         fresh,
         drops_at(site),
+        &[],
     ) {
         Ok(swapped) => Ok(Some(swapped)),
         Err(swapping) => Err(swapping),
@@ -144,6 +145,7 @@ pub fn change_main_within(
         class_of(given.header.shape),
         fresh,
         drops_of(change),
+        &[],
     ) {
         Ok(swapped) => Ok(Some(swapped)),
         Err(swapping) => Err(swapping),

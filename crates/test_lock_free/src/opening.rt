@@ -56,7 +56,8 @@ fn seats_call_the_map(rt: HostRuntime) -> Result<(), Fail> {
     Ok(())
 }
 
-/// Two of five small slots are the first branch and its root. A put takes one for its single, and one for the main node.
+/// One of five small slots is the root, and each key takes one for its single. A main node of at most two entries takes a small one,
+/// too, which the next call uses again.
 #[test]
 fn a_call_without_a_slot_is_refused(rt: HostRuntime) -> Result<(), Fail> {
     let Ok((board, mut seat)) = open(rt.alloc(), sizes(1, 5, 4)) else {
@@ -64,11 +65,15 @@ fn a_call_without_a_slot_is_refused(rt: HostRuntime) -> Result<(), Fail> {
     };
     let words = &board.shared;
     assert_eq!(rt; seat.put(&rt, words, 0, 7, 70), Ok(None));
-    assert_eq!(rt; seat.put(&rt, words, 0, 8, 80), Err(CallError::Full));
-    assert_eq!(rt; seat.get(&rt, words, 0, 8), Ok(None));
-    // The slot of its single was given back.
+    assert_eq!(rt; seat.put(&rt, words, 0, 8, 80), Ok(None));
+    assert_eq!(rt; seat.put(&rt, words, 0, 9, 90), Ok(None));
+    assert_eq!(rt; seat.put(&rt, words, 0, 10, 100), Ok(None));
+    assert_eq!(rt; seat.put(&rt, words, 0, 11, 110), Err(CallError::Full));
+    assert_eq!(rt; seat.get(&rt, words, 0, 11), Ok(None));
+    // The slot of a single that is taken out is used again.
     assert_eq!(rt; seat.remove(&rt, words, 0, 7), Ok(Some(70)));
-    assert_eq!(rt; seat.get(&rt, words, 0, 7), Ok(None));
+    assert_eq!(rt; seat.put(&rt, words, 0, 11, 110), Ok(None));
     assert_eq!(rt; seat.put(&rt, words, 0, 7, 71), Err(CallError::Full));
+    assert_eq!(rt; seat.get(&rt, words, 0, 7), Ok(None));
     Ok(())
 }

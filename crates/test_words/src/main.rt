@@ -8,7 +8,15 @@
 //! `test_words chains THREADS ROUNDS HASH SEED` lets each of them write the keys of its chains in order, over and over, and look at
 //! frozen copies of the map, in which each chain of any thread has to stand in order. The exit status is 3 where one doesn't.
 //!
+//! `test_words handed KEYS HASH` lets one thread put so many keys, and another one remove each, in a map of few slots. The exit status is 3
+//! where a call is refused, or told something else.
+//!
 //! `test_words walk HASH` lists the pairs of a small map, by one thread.
+//!
+//! `test_words copies ROUNDS HASH` copies a map of few slots in so many rounds, by one thread: it takes a snapshot, freezes it and clears it.
+//!
+//! `test_words freezes ROUNDS CHANGES HASH` freezes a map of few slots in so many rounds, by one thread, after so many changes each, while
+//! another one changes it. The exit status is 3 where a call is refused.
 //!
 //! The exit status is 1 where the words are none of these, and 2 where memory or the map is too small. Without words a little of each is
 //! done, and nothing written that hangs on the schedule.
@@ -17,6 +25,9 @@
 mod callers;
 mod calls;
 mod chains;
+mod copies;
+mod freezes;
+mod handed;
 mod keys;
 mod made;
 mod maps;
@@ -40,7 +51,10 @@ use std::{env, io};
 enum Task {
     Mixed(mixed::Load),
     Chains(chains::Load),
+    Handed(handed::Load),
     Walk(walks::Load),
+    Copies(copies::Load),
+    Freezes(freezes::Load),
 }
 
 /// The task of these words.
@@ -50,7 +64,10 @@ fn task_of(words: &[String]) -> Option<Task> {
         "mixed" => Some(Task::Mixed(mixed::load_of(Manner::Waits, others)?)),
         "tried" => Some(Task::Mixed(mixed::load_of(Manner::Tries, others)?)),
         "chains" => Some(Task::Chains(chains::load_of(others)?)),
+        "handed" => Some(Task::Handed(handed::load_of(others)?)),
         "walk" => Some(Task::Walk(walks::load_of(others)?)),
+        "copies" => Some(Task::Copies(copies::load_of(others)?)),
+        "freezes" => Some(Task::Freezes(freezes::load_of(others)?)),
         _ => None,
     }
 }
@@ -63,7 +80,10 @@ fn carry_out<R: Threads + Wait + Sync + Print + AllocGlobal>(
     match task {
         Task::Mixed(load) => mixed::write(rt, load, io::writer(rt)).map(|_| true),
         Task::Chains(load) => chains::judge(rt, load),
+        Task::Handed(load) => handed::judge(rt, load),
         Task::Walk(load) => walks::write(rt, load).map(|_| true),
+        Task::Copies(load) => copies::write(rt, load).map(|_| true),
+        Task::Freezes(load) => freezes::judge(rt, load),
     }
 }
 
@@ -72,6 +92,7 @@ fn little<R: Threads + Wait + Sync + Print + AllocGlobal>(rt: &R) -> Result<bool
     mixed::small(rt, Manner::Waits)?;
     mixed::small(rt, Manner::Tries)?;
     walks::small(rt)?;
+    copies::small(rt)?;
     chains::small(rt)
 }
 

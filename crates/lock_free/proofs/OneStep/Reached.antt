@@ -52,8 +52,8 @@ pub reached_by_then : (sizes : Sizes) (account after : Account) → AreBounds (b
     MayBeFound sizes after r → MayBeFound sizes account r ⊎ IsLive (state_of sizes after) r
 reached_by_then sizes account after bounds s goes_on r h = elim (parted account.steps s h.root.steps h.root.more (sym goes_on ∙ h.root.goes_on)) [
   | inl before ↦
-      (let first : Account = record { steps = h.root.steps; names = account.names; owned = []; offers = [] } in
-      let last : Account = record { steps = account.steps ++ s ∷ []; names = account.names; owned = []; offers = [] } in
+      (let first : Account = record { steps = h.root.steps; names = account.names; owned = []; offered = []; offers = []; parted = [] } in
+      let last : Account = record { steps = account.steps ++ s ∷ []; names = account.names; owned = []; offered = []; offers = []; parted = [] } in
       let begun = begun_grown sizes first account bounds (record { steps = before.0; goes_on = before.1; names = []; more_names = sym (append-nil account.names) }) in
       let ran = ran_before sizes account last (bounds_more sizes account.steps (s ∷ []) bounds) (record { steps = s ∷ []; goes_on = refl; names = []; more_names = sym (append-nil account.names) })
       (state_of sizes first).begun begun h.actor h.operation (subst (λ xs. operation_of (run (bounds_for sizes xs) xs) h.actor ≡ Some h.operation) goes_on h.runs) h.began in

@@ -1,5 +1,5 @@
 use Rattle.std.specs.Prelude.{◌+◌, ◌-◌}
-use Rattle.proof_alone.specs.Calls.{steps_of}
+use Rattle.proof_sizes.specs.Beneath.proof_alone.specs.Calls.{steps_of}
 use Rattle.ctrie_map.proofs.Stepping.{IsOnWay}
 use Rattle.ctrie_map.proofs.performing.step_through.Given as goal
 

@@ -8,7 +8,7 @@ use Rattle.lock_free.proofs.CallEnds.{cancelled_with}
 use Rattle.lock_free.proofs.CallsBegun.{begun_so}
 use Rattle.lock_free.proofs.CallsDenied.{no_handle_denied}
 use Rattle.lock_free.proofs.CallsUnderWay.{left_again}
-use Rattle.lock_free.proofs.WalksWhole.{ended_left}
+use Rattle.lock_free.proofs.OneWalk.Whole.{ended_left}
 use Rattle.lock_free.proofs.access_calls.ask_access_within.Goals as goal
 
 pub returns-then-handle-ge-HANDLES-clause-told : goal.returns-then-handle-ge-HANDLES-clause-told

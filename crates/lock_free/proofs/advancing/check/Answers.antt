@@ -4,7 +4,7 @@ use Rattle.atomic_table.specs.Table.{Allows, step}
 use Rattle.trie_words.specs.Codes.{pin_of}
 use Rattle.lock_free.specs.Epochs.{HasChecked, has_checked, is_in}
 use Rattle.lock_free.specs.Places.{pin_word}
-use Rattle.lock_free.specs.Rules.{IsRuled}
+use Rattle.lock_free.specs.Shadows.{IsShadowed}
 use Rattle.lock_free.proofs.EpochSteps.{check_allowed, checked_sound}
 use Rattle.lock_free.proofs.PassStep.{next_inside}
 use Rattle.lock_free.proofs.advancing.check.Goals as goal
@@ -18,7 +18,7 @@ load-found-requires c =
     let word_is = c.pin_word_of.ensures ∙ ap (λ n. pin_word (n + 1)) (sym c.requires.next) in (
       c.requires.table,
       subst (λ n. n < c.args.words.now.table_id.words) (sym c.pin_word_of.ensures) (next_inside c.args.words.now.table_id.words me.0 c.requires.sound (c.args.passed + 1) c.requires.few),
-      subst (λ n. Allows (IsRuled sizes) slots id me n (λ x. x) (has_checked (step slots n 0 0 none) me)) (sym word_is) (check_allowed sizes slots id me c.requires.sound.bounds.1),
+      subst (λ n. Allows (IsShadowed sizes) slots id me n (λ x. x) (has_checked (step slots n 0 0 none) me)) (sym word_is) (check_allowed sizes slots id me c.requires.sound.bounds.1),
     )
 
 pub returns-clause-checked : goal.returns-clause-checked

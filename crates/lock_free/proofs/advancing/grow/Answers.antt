@@ -8,7 +8,7 @@ pub compare_exchange-requires : goal.compare_exchange-requires
 compare_exchange-requires c = (
   c.requires.table,
   epoch_inside c.args.words.now.table_id.words c.args.actor.now.me.0 c.requires.sound,
-  advance_allowed c.args.words.now.key c.args.words.now.table_id.slots c.args.actor.now.id c.args.actor.now.me c.requires.sound.bounds.1 c.args.epoch c.requires.seen c.requires.all,
+  advance_allowed c.args.words.now.key c.args.words.now.table_id.slots c.args.actor.now.id c.args.actor.now.me c.requires.sound.bounds.1 c.args.epoch c.requires.seen c.requires.all c.requires.fallen,
 )
 
 pub returns-clause-grew : goal.returns-clause-grew

@@ -1,5 +1,6 @@
 use Rattle.std.proofs.Common.{ap, sym, subst}
 use Rattle.lock_free.specs.Loading.{IsSound}
+use Rattle.lock_free.specs.Rules.{none_checked}
 use Rattle.lock_free.proofs.EpochSteps.{known_sound, see_allowed}
 use Rattle.lock_free.proofs.GiveUpStep.{epoch_inside}
 use Rattle.lock_free.proofs.advancing.see_epoch.Goals as goal
@@ -14,4 +15,4 @@ load-requires c = (
 pub returns-clause-sound : goal.returns-clause-sound
 returns-clause-sound c =
     subst (IsSound c.args.words.now.table_id.words) (sym (ap (λ me. me.0) c.load.ensures.2.1))
-    (known_sound c.args.words.now.table_id.words c.args.actor.now.me.0 c.load.result 0 c.requires.sound)
+    (known_sound c.args.words.now.table_id.words c.args.actor.now.me.0 c.load.result none_checked c.requires.sound)

@@ -4,7 +4,7 @@ use Rattle.atomic_table.specs.Table.{Allows, step}
 use Rattle.trie_words.specs.Codes.{root_of}
 use Rattle.lock_free.specs.Loading.{IsSound}
 use Rattle.lock_free.specs.RootWords.{HasAskedRoot, LoadedAs, has_asked, named_by}
-use Rattle.lock_free.specs.Rules.{IsRuled}
+use Rattle.lock_free.specs.Shadows.{IsShadowed}
 use Rattle.lock_free.proofs.RootAsked.{ask_allowed, ask_told, asks_low}
 use Rattle.lock_free.proofs.SeenRoots.{root_inside}
 use Rattle.lock_free.proofs.asking.ask_word.Goals as goal
@@ -18,7 +18,7 @@ load-found-requires c =
       c.requires.table,
       subst (λ n. n < c.args.words.now.table_id.words) (sym c.root_word_of.ensures)
           (root_inside c.args.words.now.table_id.words me.0 c.requires.sound c.args.handle (asks_low c.args.words.now.table_id.words me.0 c.requires.sound c.args.handle c.requires.asking)),
-      subst (λ n. Allows (IsRuled sizes) slots id me n (λ x. x) (has_asked (step slots n 0 0 none) me)) (sym c.root_word_of.ensures)
+      subst (λ n. Allows (IsShadowed sizes) slots id me n (λ x. x) (has_asked (step slots n 0 0 none) me)) (sym c.root_word_of.ensures)
           (ask_allowed sizes slots id me c.requires.sound.bounds.1 c.args.handle c.requires.asking),
     )
 

@@ -1,4 +1,6 @@
+use Rattle.std.proofs.Common.{◌∙◌}
 use Rattle.lock_free.specs.Parking.{opens_of}
+use Rattle.lock_free.proofs.CallBegins.{opens_run}
 use Rattle.lock_free.proofs.CallNumbers.{number_parked}
 use Rattle.lock_free.proofs.CallsUnderWay.{left_out, parked_runs, run_out}
 use Rattle.lock_free.proofs.call_runs.run_on_within.Goals as goal
@@ -11,6 +13,14 @@ go_on-came-requires-clause-parked c = c.requires.going.its
 
 pub come_out-requires-clause-come : goal.come_out-requires-clause-come
 come_out-requires-clause-come c = c.go_on-came.ensures.run.1
+
+pub come_out-requires-clause-unopened : goal.come_out-requires-clause-unopened
+come_out-requires-clause-unopened c plain =
+    let v = c.args.actor.now.me.0 in
+    let going = c.requires.going in
+    let running = parked_runs v c.args.parked going.its in
+    opens_run v c.go_on-came.new.actor.me.0 c.go_on-came.ensures.run.0 ∙ going.number
+    ∙ (number_parked v c.args.call c.args.access going.called c.args.parked going.its running.0 running.1).plain plain
 
 pub returns-clause-run : goal.returns-clause-run
 returns-clause-run c before opens under =

@@ -1,5 +1,7 @@
-use Rattle.std.proofs.Common.{inl, inr}
+use Rattle.std.proofs.Common.{inl, inr, ◌∙◌}
 use Rattle.lock_free.proofs.CallsBegun.{begun_so, not_begun}
+use Rattle.lock_free.proofs.CallBegins.{opens_begun}
+use Rattle.lock_free.proofs.CallNumbers.{plain_none}
 use Rattle.lock_free.proofs.CallsUnderWay.{begun_left, begun_run}
 use Rattle.lock_free.proofs.CopiesParked.{begun_low, begun_opens}
 use Rattle.lock_free.proofs.WholeCalls.{begun_called, begun_try, tried_ready}
@@ -38,6 +40,13 @@ run_begun-requires-clause-at c =
     let v = c.args.actor.now.me.0 in
     let u = c.begin_call_within.new.actor.me.0 in
     begun_try v c.args.opens c.requires.ready c.args.call c.in-Ok.way u (begun_so v c.args.call c.in-Ok.way u (c.in-Ok.ensures {u = tt}).begun) c.requires.tried
+
+pub run_begun-requires-clause-unopened : goal.run_begun-requires-clause-unopened
+run_begun-requires-clause-unopened c plain =
+    let v = c.args.actor.now.me.0 in
+    let u = c.begin_call_within.new.actor.me.0 in
+    opens_begun v c.args.opens c.requires.ready c.args.call c.in-Ok.way u
+    (begun_so v c.args.call c.in-Ok.way u (c.in-Ok.ensures {u = tt}).begun) ∙ plain_none c.args.call c.args.opens c.requires.number plain
 
 pub returns-in-Ok-clause-run : goal.returns-in-Ok-clause-run
 returns-in-Ok-clause-run c =

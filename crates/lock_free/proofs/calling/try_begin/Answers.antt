@@ -4,7 +4,7 @@ use Rattle.atomic_table.specs.Table.{Allows, step}
 use Rattle.lock_free.specs.Calling.{started_by, HasTriedToStart, has_started}
 use Rattle.lock_free.specs.Loading.{IsSound}
 use Rattle.lock_free.specs.Places.{root_word}
-use Rattle.lock_free.specs.Rules.{IsRuled}
+use Rattle.lock_free.specs.Shadows.{IsShadowed}
 use Rattle.lock_free.proofs.BeginStep.{begin_step_allowed}
 use Rattle.lock_free.proofs.SeenRoots.{root_inside}
 use Rattle.lock_free.proofs.calling.try_begin.Goals as goal
@@ -19,7 +19,7 @@ load-found-requires c =
     let word_is = c.root_word_of.ensures ∙ ap root_word c.handle.ensures in (
       c.requires.table,
       subst (λ n. n < c.args.words.now.table_id.words) (sym word_is) (root_inside c.args.words.now.table_id.words me.0 c.requires.sound _ c.requires.low),
-      subst (λ n. Allows (IsRuled sizes) slots id me n (λ x. x) (has_started (step slots n 0 0 none) me)) (sym word_is)
+      subst (λ n. Allows (IsShadowed sizes) slots id me n (λ x. x) (has_started (step slots n 0 0 none) me)) (sym word_is)
           (begin_step_allowed sizes slots id me c.requires.sound.bounds.1 call c.requires.beginner c.requires.low c.key_fits.ensures),
     )
 

@@ -4,7 +4,7 @@ use Rattle.lock_free.specs.Contracting.{counted_in}
 use Rattle.lock_free.specs.Raising.{MayHold}
 use Rattle.lock_free.proofs.CleanBranches.{clean_has, cleaning, cleaning_way, cleaned_stock, unchanged, contracted_making}
 use Rattle.lock_free.proofs.CleanBranches.{contracted_over, contracted_owes, clean_gives_up, clean_swap, clean_swap_way, clean_left, spent_branch, spent_branch_stock}
-use Rattle.lock_free.proofs.CleanBranches.{cleaned_there, clean_left, spent_branch, spent_branch_stock}
+use Rattle.lock_free.proofs.CleanBranches.{cleaned_there}
 use Rattle.lock_free.specs.Leaving.{AllCleanedOrNot}
 use Rattle.lock_free.proofs.cleans.clean_branch_within.Goals as goal
 
@@ -66,16 +66,16 @@ make_contracted-requires-clause-holds c =
     c.clean_entries_within.new.actor.me.0 c.clean_entries_within.ensures.sound c.in-Some.cleaned
     (c.in-Some.ensures {u = tt}).cleaned (sym c.is_empty.ensures ∙ c.if-is_empty.false))
 
-pub swap_made_within-requires-clause-way : goal.swap_made_within-requires-clause-way
-swap_made_within-requires-clause-way c =
+pub swap_seen_within-requires-clause-way : goal.swap_seen_within-requires-clause-way
+swap_seen_within-requires-clause-way c =
     clean_swap_way c.args.words.now.table_id.words c.args.actor.now.me.0 c.requires.sound c.args.indirection c.args.link c.args.bitmap c.args.may_entomb c.requires.at
     c.see_entries-entries.new.actor.me.0 c.see_entries-entries.ensures.sound (count_ones c.args.bitmap) c.see_entries-entries.result.items refl c.see_entries-entries.ensures.seen
     c.clean_entries_within.new.actor.me.0 c.clean_entries_within.ensures.sound c.in-Some.cleaned
     (c.in-Some.ensures {u = tt}).cleaned (sym c.is_empty.ensures ∙ c.if-is_empty.false)
     c.make_contracted.new.actor.me.0 c.make_contracted.result c.make_contracted.ensures.built c.in-Some-make_contracted.fresh c.in-Some-make_contracted.is c.args.way c.requires.way
 
-pub swap_made_within-requires-clause-swapping : goal.swap_made_within-requires-clause-swapping
-swap_made_within-requires-clause-swapping c =
+pub swap_seen_within-requires-clause-swapping : goal.swap_seen_within-requires-clause-swapping
+swap_seen_within-requires-clause-swapping c =
     clean_swap c.args.words.now.table_id.words c.args.actor.now.me.0 c.requires.sound c.args.indirection c.args.link c.args.bitmap c.args.may_entomb c.requires.at
     c.see_entries-entries.new.actor.me.0 c.see_entries-entries.ensures.sound (count_ones c.args.bitmap) c.see_entries-entries.result.items refl c.see_entries-entries.ensures.seen
     c.clean_entries_within.new.actor.me.0 c.clean_entries_within.ensures.sound c.in-Some.cleaned
@@ -90,7 +90,7 @@ returns-in-Ok-clause-cleaned c =
     c.clean_entries_within.new.actor.me.0 c.clean_entries_within.ensures.sound c.in-Some.cleaned
     (c.in-Some.ensures {u = tt}).cleaned (sym c.is_empty.ensures ∙ c.if-is_empty.false)
     c.make_contracted.new.actor.me.0 c.make_contracted.result c.make_contracted.ensures.built c.in-Some-make_contracted.fresh c.in-Some-make_contracted.is c.in-Ok.field-0
-    c.swap_made_within.new.actor.me.0 (c.in-Ok.ensures {u = tt}).done
+    c.swap_seen_within.new.actor.me.0 (c.in-Ok.ensures {u = tt}).done
 
 pub returns-in_default-make_contracted-clause-cleaned : goal.returns-in_default-make_contracted-clause-cleaned
 returns-in_default-make_contracted-clause-cleaned c =
@@ -107,7 +107,7 @@ returns-in-Err-clause-left c =
     c.clean_entries_within.new.actor.me.0 c.clean_entries_within.ensures.sound c.in-Some.cleaned
     (c.in-Some.ensures {u = tt}).cleaned (sym c.is_empty.ensures ∙ c.if-is_empty.false)
     c.make_contracted.new.actor.me.0 c.make_contracted.result c.make_contracted.ensures.built c.in-Some-make_contracted.fresh c.in-Some-make_contracted.is c.in-Err.swapping
-    c.swap_made_within.new.actor.me.0 (c.in-Err.ensures {u = tt}).left
+    c.swap_seen_within.new.actor.me.0 (c.in-Err.ensures {u = tt}).left
 
 pub returns-in_default-clause-stock : goal.returns-in_default-clause-stock
 returns-in_default-clause-stock c =

@@ -21,13 +21,13 @@ returns-in_default-clause-contracted c =
     gives_up c.args.words.now.table_id.words c.args.actor.now.me.0 c.requires.sound c.args.parent c.args.link c.args.bitmap c.args.entries.now.items c.args.single c.args.may_entomb c.requires.at
     c.make_contracted.new.actor.me.0 c.make_contracted.result c.make_contracted.ensures.built c.in_default.is
 
-pub swap_made_within-requires-clause-way : goal.swap_made_within-requires-clause-way
-swap_made_within-requires-clause-way c =
+pub swap_seen_within-requires-clause-way : goal.swap_seen_within-requires-clause-way
+swap_seen_within-requires-clause-way c =
     its_way c.args.words.now.table_id.words c.args.actor.now.me.0 c.requires.sound c.args.parent c.args.link c.args.bitmap c.args.entries.now.items c.args.single c.args.may_entomb c.requires.at
     c.make_contracted.new.actor.me.0 c.make_contracted.result c.make_contracted.ensures.built c.in-Some.fresh c.in-Some.is c.args.way c.requires.way
 
-pub swap_made_within-requires-clause-swapping : goal.swap_made_within-requires-clause-swapping
-swap_made_within-requires-clause-swapping c =
+pub swap_seen_within-requires-clause-swapping : goal.swap_seen_within-requires-clause-swapping
+swap_seen_within-requires-clause-swapping c =
     its_swap c.args.words.now.table_id.words c.args.actor.now.me.0 c.requires.sound c.args.parent c.args.link c.args.bitmap c.args.entries.now.items c.args.single c.args.may_entomb c.requires.at
     c.make_contracted.new.actor.me.0 c.make_contracted.result c.make_contracted.ensures.built c.in-Some.fresh c.in-Some.is c.class_of-class.result c.class_of-class.ensures
 
@@ -35,81 +35,81 @@ pub returns-then-entombs-clause-contracted : goal.returns-then-entombs-clause-co
 returns-then-entombs-clause-contracted c =
     goes_higher c.args.words.now.table_id.words c.args.actor.now.me.0 c.requires.sound c.args.parent c.args.link c.args.bitmap c.args.entries.now.items c.args.single c.args.may_entomb c.requires.at
     c.make_contracted.new.actor.me.0 c.make_contracted.result c.make_contracted.ensures.built c.in-Some.fresh c.in-Some.is
-    c.in-Ok.swapped c.swap_made_within.new.actor.me.0 (c.in-Ok.ensures {u = tt}).done c.in-Commits.field-0 c.in-Commits.is (sym c.entombs.ensures ∙ c.if-entombs.true)
+    c.in-Ok.swapped c.swap_seen_within.new.actor.me.0 (c.in-Ok.ensures {u = tt}).done c.in-Commits.field-0 c.in-Commits.is (sym c.entombs.ensures ∙ c.if-entombs.true)
 
 pub returns-else-entombs-clause-contracted : goal.returns-else-entombs-clause-contracted
 returns-else-entombs-clause-contracted c =
     ends_there c.args.words.now.table_id.words c.args.actor.now.me.0 c.requires.sound c.args.parent c.args.link c.args.bitmap c.args.entries.now.items c.args.single c.args.may_entomb c.requires.at
     c.make_contracted.new.actor.me.0 c.make_contracted.result c.make_contracted.ensures.built c.in-Some.fresh c.in-Some.is
-    c.in-Ok.swapped c.swap_made_within.new.actor.me.0 (c.in-Ok.ensures {u = tt}).done c.in-Commits.field-0 c.in-Commits.is (sym c.entombs.ensures ∙ c.if-entombs.false)
+    c.in-Ok.swapped c.swap_seen_within.new.actor.me.0 (c.in-Ok.ensures {u = tt}).done c.in-Commits.field-0 c.in-Commits.is (sym c.entombs.ensures ∙ c.if-entombs.false)
 
 pub ask_again_within-requires-clause-way : goal.ask_again_within-requires-clause-way
 ask_again_within-requires-clause-way c =
     ask_way c.args.words.now.table_id.words c.args.actor.now.me.0 c.requires.sound c.args.parent c.args.link c.args.bitmap c.args.entries.now.items c.args.single c.args.may_entomb c.requires.at
     c.make_contracted.new.actor.me.0 c.make_contracted.result c.make_contracted.ensures.built c.in-Some.fresh c.in-Some.is
-    c.in-Ok.swapped c.swap_made_within.new.actor.me.0 (c.in-Ok.ensures {u = tt}).done (ap is_done c.in-Fails.is) c.args.way c.requires.way
+    c.in-Ok.swapped c.swap_seen_within.new.actor.me.0 (c.in-Ok.ensures {u = tt}).done (ap is_done c.in-Fails.is) c.args.way c.requires.way
 
 pub ask_again_within-requires-clause-start : goal.ask_again_within-requires-clause-start
 ask_again_within-requires-clause-start c =
     ask_start c.args.words.now.table_id.words c.args.actor.now.me.0 c.requires.sound c.args.parent c.args.link c.args.bitmap c.args.entries.now.items c.args.single c.args.may_entomb c.requires.at
     c.make_contracted.new.actor.me.0 c.make_contracted.result c.make_contracted.ensures.built c.in-Some.fresh c.in-Some.is
-    c.in-Ok.swapped c.swap_made_within.new.actor.me.0 (c.in-Ok.ensures {u = tt}).done (ap is_done c.in-Fails.is) c.args.start c.requires.start
+    c.in-Ok.swapped c.swap_seen_within.new.actor.me.0 (c.in-Ok.ensures {u = tt}).done (ap is_done c.in-Fails.is) c.args.start c.requires.start
 
 pub ask_again_within-requires-clause-at : goal.ask_again_within-requires-clause-at
 ask_again_within-requires-clause-at c =
     is_asking c.args.words.now.table_id.words c.args.actor.now.me.0 c.requires.sound c.args.parent c.args.link c.args.bitmap c.args.entries.now.items c.args.single c.args.may_entomb c.requires.at
     c.make_contracted.new.actor.me.0 c.make_contracted.result c.make_contracted.ensures.built c.in-Some.fresh c.in-Some.is
-    c.in-Ok.swapped c.swap_made_within.new.actor.me.0 (c.in-Ok.ensures {u = tt}).done (ap is_done c.in-Fails.is)
+    c.in-Ok.swapped c.swap_seen_within.new.actor.me.0 (c.in-Ok.ensures {u = tt}).done (ap is_done c.in-Fails.is)
 
 pub returns-in-Fails-clause-contracted : goal.returns-in-Fails-clause-contracted
 returns-in-Fails-clause-contracted c =
     asked_or_spent c.args.words.now.table_id.words c.args.actor.now.me.0 c.requires.sound c.args.parent c.args.link c.args.bitmap c.args.entries.now.items c.args.single c.args.may_entomb c.requires.at
     c.make_contracted.new.actor.me.0 c.make_contracted.result c.make_contracted.ensures.built c.in-Some.fresh c.in-Some.is
-    c.in-Ok.swapped c.swap_made_within.new.actor.me.0 (c.in-Ok.ensures {u = tt}).done (ap is_done c.in-Fails.is)
-    c.swap_made_within.ensures.sound c.ask_again_within.new.actor.me.0 c.ask_again_within.result c.ask_again_within.ensures.asked
+    c.in-Ok.swapped c.swap_seen_within.new.actor.me.0 (c.in-Ok.ensures {u = tt}).done (ap is_done c.in-Fails.is)
+    c.swap_seen_within.ensures.sound c.ask_again_within.new.actor.me.0 c.ask_again_within.result c.ask_again_within.ensures.asked
 
 pub returns-in-Fails-clause-stock : goal.returns-in-Fails-clause-stock
 returns-in-Fails-clause-stock c =
     spent_or_stock c.args.words.now.table_id.words c.args.actor.now.me.0 c.requires.sound c.args.parent c.args.link c.args.bitmap c.args.entries.now.items c.args.single c.args.may_entomb c.requires.at
     c.make_contracted.new.actor.me.0 c.make_contracted.result c.make_contracted.ensures.built c.in-Some.fresh c.in-Some.is
-    c.in-Ok.swapped c.swap_made_within.new.actor.me.0 (c.in-Ok.ensures {u = tt}).done (ap is_done c.in-Fails.is)
-    c.swap_made_within.ensures.sound c.ask_again_within.new.actor.me.0 c.ask_again_within.result c.ask_again_within.ensures.asked c.swap_made_within.new.stock c.swap_made_within.ensures.stock
+    c.in-Ok.swapped c.swap_seen_within.new.actor.me.0 (c.in-Ok.ensures {u = tt}).done (ap is_done c.in-Fails.is)
+    c.swap_seen_within.ensures.sound c.ask_again_within.new.actor.me.0 c.ask_again_within.result c.ask_again_within.ensures.asked c.swap_seen_within.new.stock c.swap_seen_within.ensures.stock
 
 pub ask_again_within-requires-in-Misses-clause-way : goal.ask_again_within-requires-in-Misses-clause-way
 ask_again_within-requires-in-Misses-clause-way c =
     ask_way c.args.words.now.table_id.words c.args.actor.now.me.0 c.requires.sound c.args.parent c.args.link c.args.bitmap c.args.entries.now.items c.args.single c.args.may_entomb c.requires.at
     c.make_contracted.new.actor.me.0 c.make_contracted.result c.make_contracted.ensures.built c.in-Some.fresh c.in-Some.is
-    c.in-Ok.swapped c.swap_made_within.new.actor.me.0 (c.in-Ok.ensures {u = tt}).done (ap is_done c.in-Misses.is) c.args.way c.requires.way
+    c.in-Ok.swapped c.swap_seen_within.new.actor.me.0 (c.in-Ok.ensures {u = tt}).done (ap is_done c.in-Misses.is) c.args.way c.requires.way
 
 pub ask_again_within-requires-in-Misses-clause-start : goal.ask_again_within-requires-in-Misses-clause-start
 ask_again_within-requires-in-Misses-clause-start c =
     ask_start c.args.words.now.table_id.words c.args.actor.now.me.0 c.requires.sound c.args.parent c.args.link c.args.bitmap c.args.entries.now.items c.args.single c.args.may_entomb c.requires.at
     c.make_contracted.new.actor.me.0 c.make_contracted.result c.make_contracted.ensures.built c.in-Some.fresh c.in-Some.is
-    c.in-Ok.swapped c.swap_made_within.new.actor.me.0 (c.in-Ok.ensures {u = tt}).done (ap is_done c.in-Misses.is) c.args.start c.requires.start
+    c.in-Ok.swapped c.swap_seen_within.new.actor.me.0 (c.in-Ok.ensures {u = tt}).done (ap is_done c.in-Misses.is) c.args.start c.requires.start
 
 pub ask_again_within-requires-in-Misses-clause-at : goal.ask_again_within-requires-in-Misses-clause-at
 ask_again_within-requires-in-Misses-clause-at c =
     is_asking c.args.words.now.table_id.words c.args.actor.now.me.0 c.requires.sound c.args.parent c.args.link c.args.bitmap c.args.entries.now.items c.args.single c.args.may_entomb c.requires.at
     c.make_contracted.new.actor.me.0 c.make_contracted.result c.make_contracted.ensures.built c.in-Some.fresh c.in-Some.is
-    c.in-Ok.swapped c.swap_made_within.new.actor.me.0 (c.in-Ok.ensures {u = tt}).done (ap is_done c.in-Misses.is)
+    c.in-Ok.swapped c.swap_seen_within.new.actor.me.0 (c.in-Ok.ensures {u = tt}).done (ap is_done c.in-Misses.is)
 
 pub returns-in-Misses-clause-contracted : goal.returns-in-Misses-clause-contracted
 returns-in-Misses-clause-contracted c =
     asked_or_spent c.args.words.now.table_id.words c.args.actor.now.me.0 c.requires.sound c.args.parent c.args.link c.args.bitmap c.args.entries.now.items c.args.single c.args.may_entomb c.requires.at
     c.make_contracted.new.actor.me.0 c.make_contracted.result c.make_contracted.ensures.built c.in-Some.fresh c.in-Some.is
-    c.in-Ok.swapped c.swap_made_within.new.actor.me.0 (c.in-Ok.ensures {u = tt}).done (ap is_done c.in-Misses.is)
-    c.swap_made_within.ensures.sound c.ask_again_within-in-Misses.new.actor.me.0 c.ask_again_within-in-Misses.result c.ask_again_within-in-Misses.ensures.asked
+    c.in-Ok.swapped c.swap_seen_within.new.actor.me.0 (c.in-Ok.ensures {u = tt}).done (ap is_done c.in-Misses.is)
+    c.swap_seen_within.ensures.sound c.ask_again_within-in-Misses.new.actor.me.0 c.ask_again_within-in-Misses.result c.ask_again_within-in-Misses.ensures.asked
 
 pub returns-in-Misses-clause-stock : goal.returns-in-Misses-clause-stock
 returns-in-Misses-clause-stock c =
     spent_or_stock c.args.words.now.table_id.words c.args.actor.now.me.0 c.requires.sound c.args.parent c.args.link c.args.bitmap c.args.entries.now.items c.args.single c.args.may_entomb c.requires.at
     c.make_contracted.new.actor.me.0 c.make_contracted.result c.make_contracted.ensures.built c.in-Some.fresh c.in-Some.is
-    c.in-Ok.swapped c.swap_made_within.new.actor.me.0 (c.in-Ok.ensures {u = tt}).done (ap is_done c.in-Misses.is)
-    c.swap_made_within.ensures.sound c.ask_again_within-in-Misses.new.actor.me.0 c.ask_again_within-in-Misses.result c.ask_again_within-in-Misses.ensures.asked c.swap_made_within.new.stock
-    c.swap_made_within.ensures.stock
+    c.in-Ok.swapped c.swap_seen_within.new.actor.me.0 (c.in-Ok.ensures {u = tt}).done (ap is_done c.in-Misses.is)
+    c.swap_seen_within.ensures.sound c.ask_again_within-in-Misses.new.actor.me.0 c.ask_again_within-in-Misses.result c.ask_again_within-in-Misses.ensures.asked c.swap_seen_within.new.stock
+    c.swap_seen_within.ensures.stock
 
 pub returns-in-Err-clause-left : goal.returns-in-Err-clause-left
 returns-in-Err-clause-left c =
     contract_left c.args.words.now.table_id.words c.args.actor.now.me.0 c.requires.sound c.args.parent c.args.link c.args.bitmap c.args.entries.now.items c.args.single c.args.may_entomb c.requires.at
     c.make_contracted.new.actor.me.0 c.make_contracted.result c.make_contracted.ensures.built c.in-Some.fresh c.in-Some.is
-    c.in-Err.swapping c.swap_made_within.new.actor.me.0 (c.in-Err.ensures {u = tt}).left
+    c.in-Err.swapping c.swap_seen_within.new.actor.me.0 (c.in-Err.ensures {u = tt}).left

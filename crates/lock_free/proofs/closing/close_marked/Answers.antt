@@ -3,10 +3,9 @@ use Rattle.std.proofs.lemmas.Bool.{false≢true}
 use Rattle.trie_words.specs.Codes.{root_code, IsRootWord}
 use Rattle.lock_free.specs.declared.rules.View.{View}
 use Rattle.lock_free.specs.Closing.{HasMarkedAndShut, RestsAs}
-use Rattle.lock_free.specs.HandleWords.{begins_with, marking}
+use Rattle.lock_free.specs.HandleWords.{begins_with, marking, HasJustMarked}
 use Rattle.lock_free.specs.Rules.{SaysClosing}
 use Rattle.lock_free.specs.Seated.{IsResting}
-use Rattle.lock_free.specs.SeatWords.{WouldClose}
 use Rattle.lock_free.specs.Stocks.{IsStock}
 use Rattle.lock_free.proofs.MarkStep.{marked_fits}
 use Rattle.lock_free.proofs.Shutting.{marked_shut, marks_stock, resting_marks, rests_self, says_marked}
@@ -24,7 +23,8 @@ returns-then-not-mark-clause-shut c = (
 pub close_passed-requires-clause-stock : goal.close_passed-requires-clause-stock
 close_passed-requires-clause-stock c =
     let v = c.args.actor.now.me.0 in
-    subst (IsStock c.args.stock.now) (sym (c.if-not-mark.ensures.marked.0 refl)) (marks_stock c.args.stock.now v (begins_with c.args.handle ∷ v.closing) c.requires.rests.idle c.requires.stock)
+    subst (IsStock c.args.stock.now) (sym (c.if-not-mark.ensures.marked.0 refl)) (marks_stock c.args.stock.now v (begins_with c.args.handle ∷ v.closing)
+    (record v.passed { cleared = false }) c.requires.rests.idle c.requires.stock)
 
 pub close_passed-requires-clause-its : goal.close_passed-requires-clause-its
 close_passed-requires-clause-its c = ap (λ (v : View). v.actor) (c.if-not-mark.ensures.marked.0 refl) ∙ c.requires.its
@@ -43,12 +43,12 @@ close_passed-requires-clause-marked c =
 
 pub close_passed-requires-clause-closing : goal.close_passed-requires-clause-closing
 close_passed-requires-clause-closing c =
-    subst (λ v. WouldClose v c.args.handle 0) (sym (c.if-not-mark.ensures.marked.0 refl)) (c.args.actor.now.me.0.closing, refl)
+    subst (λ v. HasJustMarked v c.args.handle) (sym (c.if-not-mark.ensures.marked.0 refl)) (c.args.actor.now.me.0.closing, refl)
 
 pub close_passed-requires-clause-rests : goal.close_passed-requires-clause-rests
 close_passed-requires-clause-rests c =
     let v = c.args.actor.now.me.0 in
-    subst IsResting (sym (c.if-not-mark.ensures.marked.0 refl)) (resting_marks v (begins_with c.args.handle ∷ v.closing) c.requires.rests)
+    subst IsResting (sym (c.if-not-mark.ensures.marked.0 refl)) (resting_marks v (begins_with c.args.handle ∷ v.closing) (record v.passed { cleared = false }) c.requires.rests)
 
 pub returns-then-close_passed-clause-shut : goal.returns-then-close_passed-clause-shut
 returns-then-close_passed-clause-shut c =

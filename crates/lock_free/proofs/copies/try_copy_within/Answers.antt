@@ -1,9 +1,10 @@
-use Rattle.std.proofs.Common.{true, false, subst, ◌∙◌}
-use Rattle.lock_free.specs.CopySteps.{HasCopied, HasPreparedOrNone, OriginalOrNot}
+use Rattle.std.proofs.Common.{subst, ◌∙◌}
+use Rattle.lock_free.specs.CopySteps.{HasPreparedOrNone, HasTried, OriginalOrNot}
 use Rattle.lock_free.specs.RootOffers.{HasOfferedOrMissed, HasOfferedWithin}
 use Rattle.lock_free.proofs.CopyTries.{left_copy, spent_stock, spent_stopped, unoffered, unoffered_stock}
-use Rattle.lock_free.proofs.CopyTries.{copied_tried, copying_then, kind_then, missed_stock, missed_tried, opened_stock}
-use Rattle.lock_free.proofs.CopyTries.{opened_tried, opens_all, ready_then, stock_read, stock_then, stopped_read, to_complete, way_then}
+use Rattle.lock_free.proofs.CopyTries.{copied_tried, copying_then, kind_then, missed_stock, missed_tried, missed_may}
+use Rattle.lock_free.proofs.FreesOn.{let_go_stock}
+use Rattle.lock_free.proofs.CopyTries.{copied_copy, copied_runs, parted_tried, ready_then, stock_read, stock_then, stopped_read, to_complete, way_then}
 use Rattle.lock_free.proofs.copies.try_copy_within.Goals as goal
 
 pub prepare-requires-clause-stock : goal.prepare-requires-clause-stock
@@ -29,15 +30,46 @@ returns-in_default-prepare-clause-tried c =
     (subst (λ x. HasPreparedOrNone c.read_original_within.new.actor.me.0 c.args.which c.args.opens c.args.way.handle c.args.root x c.prepare.new.actor.me.0) c.in_default-prepare.is
     c.prepare.ensures.prepared)
 
-pub returns-then-not-stands-clause-stock : goal.returns-then-not-stands-clause-stock
-returns-then-not-stands-clause-stock c =
-    missed_stock c.args.words.now.table_id.words c.args.actor.now.me.0 c.requires.sound c.args.which c.args.way.handle c.args.opens c.requires.copying c.args.root c.requires.at
+pub let_made_go-requires-clause-sizes : goal.let_made_go-requires-clause-sizes
+let_made_go-requires-clause-sizes c =
+    (missed_stock c.args.words.now.table_id.words c.args.actor.now.me.0 c.requires.sound c.args.which c.args.way.handle c.args.opens c.requires.copying c.args.root c.requires.at
     c.in-Some.given
     c.read_original_within.new.actor.me.0 (c.in-Some.ensures {u = tt}).original c.in-Some-prepare.slot c.prepare.new.actor.me.0 (c.in-Some-prepare.ensures {u = tt}).prepared c.prepare.ensures.sound
     c.offer_within.new.actor.me.0
     (subst (λ b. HasOfferedOrMissed c.prepare.new.actor.me.0 c.in-Some-prepare.slot b c.offer_within.new.actor.me.0) c.if-not-stands.true (c.in-Some-offer_within.ensures {u = tt}).offered)
-    c.prepare.new.stock c.give_back.new.self
-    c.prepare.ensures.stock c.give_back.ensures.sizes c.give_back.ensures.pool c.give_back.ensures.made c.give_back.ensures.limbo
+    c.prepare.new.stock c.give_back-made.new.self
+    c.prepare.ensures.stock c.give_back-made.ensures.sizes c.give_back-made.ensures.pool c.give_back-made.ensures.made c.give_back-made.ensures.limbo).sizes
+
+pub let_made_go-requires-clause-limbo : goal.let_made_go-requires-clause-limbo
+let_made_go-requires-clause-limbo c =
+    (missed_stock c.args.words.now.table_id.words c.args.actor.now.me.0 c.requires.sound c.args.which c.args.way.handle c.args.opens c.requires.copying c.args.root c.requires.at
+    c.in-Some.given
+    c.read_original_within.new.actor.me.0 (c.in-Some.ensures {u = tt}).original c.in-Some-prepare.slot c.prepare.new.actor.me.0 (c.in-Some-prepare.ensures {u = tt}).prepared c.prepare.ensures.sound
+    c.offer_within.new.actor.me.0
+    (subst (λ b. HasOfferedOrMissed c.prepare.new.actor.me.0 c.in-Some-prepare.slot b c.offer_within.new.actor.me.0) c.if-not-stands.true (c.in-Some-offer_within.ensures {u = tt}).offered)
+    c.prepare.new.stock c.give_back-made.new.self
+    c.prepare.ensures.stock c.give_back-made.ensures.sizes c.give_back-made.ensures.pool c.give_back-made.ensures.made c.give_back-made.ensures.limbo).limbo
+
+pub let_made_go-requires-clause-may : goal.let_made_go-requires-clause-may
+let_made_go-requires-clause-may c =
+    missed_may c.args.words.now.table_id.words c.args.actor.now.me.0 c.requires.sound c.args.which c.args.way.handle c.args.opens c.requires.copying c.args.root c.requires.at
+    c.in-Some.given
+    c.read_original_within.new.actor.me.0 (c.in-Some.ensures {u = tt}).original c.in-Some-prepare.slot c.prepare.new.actor.me.0 (c.in-Some-prepare.ensures {u = tt}).prepared c.prepare.ensures.sound
+    c.offer_within.new.actor.me.0
+    (subst (λ b. HasOfferedOrMissed c.prepare.new.actor.me.0 c.in-Some-prepare.slot b c.offer_within.new.actor.me.0) c.if-not-stands.true (c.in-Some-offer_within.ensures {u = tt}).offered)
+    c.prepare.new.stock c.prepare.ensures.stock c.give_back-made.result.items c.give_back-made.ensures.was
+
+pub returns-then-not-stands-clause-stock : goal.returns-then-not-stands-clause-stock
+returns-then-not-stands-clause-stock c =
+    let_go_stock c.offer_within.new.actor.me.0 c.let_made_go.new.actor.me.0 c.give_back-made.new.self c.let_made_go.new.stock
+    (missed_stock c.args.words.now.table_id.words c.args.actor.now.me.0 c.requires.sound c.args.which c.args.way.handle c.args.opens c.requires.copying c.args.root c.requires.at
+    c.in-Some.given
+    c.read_original_within.new.actor.me.0 (c.in-Some.ensures {u = tt}).original c.in-Some-prepare.slot c.prepare.new.actor.me.0 (c.in-Some-prepare.ensures {u = tt}).prepared c.prepare.ensures.sound
+    c.offer_within.new.actor.me.0
+    (subst (λ b. HasOfferedOrMissed c.prepare.new.actor.me.0 c.in-Some-prepare.slot b c.offer_within.new.actor.me.0) c.if-not-stands.true (c.in-Some-offer_within.ensures {u = tt}).offered)
+    c.prepare.new.stock c.give_back-made.new.self
+    c.prepare.ensures.stock c.give_back-made.ensures.sizes c.give_back-made.ensures.pool c.give_back-made.ensures.made c.give_back-made.ensures.limbo)
+    c.let_made_go.ensures.let_go c.let_made_go.ensures.same c.let_made_go.ensures.limbo
 
 pub returns-then-not-stands-clause-tried : goal.returns-then-not-stands-clause-tried
 returns-then-not-stands-clause-tried c =
@@ -46,6 +78,7 @@ returns-then-not-stands-clause-tried c =
     c.read_original_within.new.actor.me.0 (c.in-Some.ensures {u = tt}).original c.in-Some-prepare.slot c.prepare.new.actor.me.0 (c.in-Some-prepare.ensures {u = tt}).prepared c.prepare.ensures.sound
     c.offer_within.new.actor.me.0
     (subst (λ b. HasOfferedOrMissed c.prepare.new.actor.me.0 c.in-Some-prepare.slot b c.offer_within.new.actor.me.0) c.if-not-stands.true (c.in-Some-offer_within.ensures {u = tt}).offered)
+    c.let_made_go.new.actor.me.0 c.let_made_go.ensures.let_go
 
 pub complete_own_within-requires-clause-way : goal.complete_own_within-requires-clause-way
 complete_own_within-requires-clause-way c =
@@ -83,55 +116,51 @@ complete_own_within-requires-clause-which c =
     c.offer_within.new.actor.me.0
     (subst (λ b. HasOfferedOrMissed c.prepare.new.actor.me.0 c.in-Some-prepare.slot b c.offer_within.new.actor.me.0) c.if-not-stands.false (c.in-Some-offer_within.ensures {u = tt}).offered)
 
-pub returns-then-not-carried-clause-tried : goal.returns-then-not-carried-clause-tried
-returns-then-not-carried-clause-tried c =
-    copied_tried c.args.words.now.table_id.words c.args.actor.now.me.0 c.requires.sound c.args.which c.args.way.handle c.args.opens c.requires.copying c.args.root c.requires.at
+pub part_copy-requires-clause-own : goal.part_copy-requires-clause-own
+part_copy-requires-clause-own c =
+    copied_copy c.args.words.now.table_id.words c.args.actor.now.me.0 c.requires.sound c.args.which c.args.way.handle c.args.opens c.requires.copying c.args.root c.requires.at
     c.in-Some.given c.read_original_within.new.actor.me.0 (c.in-Some.ensures {u = tt}).original c.in-Some-prepare.slot c.prepare.new.actor.me.0 (c.in-Some-prepare.ensures {u = tt}).prepared
     c.prepare.ensures.sound c.offer_within.new.actor.me.0
     (subst (λ b. HasOfferedOrMissed c.prepare.new.actor.me.0 c.in-Some-prepare.slot b c.offer_within.new.actor.me.0) c.if-not-stands.false (c.in-Some-offer_within.ensures {u = tt}).offered)
-    c.offer_within.ensures.sound false
-    c.complete_own_within.new.actor.me.0 (subst (λ b. HasCopied c.offer_within.new.actor.me.0 b c.complete_own_within.new.actor.me.0) c.if-not-carried.true (c.in-Ok.ensures {u = tt}).copied)
+    c.offer_within.ensures.sound c.in-Ok.carried c.complete_own_within.new.actor.me.0 (c.in-Ok.ensures {u = tt}).copied
 
-pub open_copy-requires-clause-opening : goal.open_copy-requires-clause-opening
-open_copy-requires-clause-opening c =
-    opens_all c.args.words.now.table_id.words c.args.actor.now.me.0 c.requires.sound c.args.which c.args.way.handle c.args.opens c.requires.copying c.args.root c.requires.at
+pub part_copy-requires-clause-runs : goal.part_copy-requires-clause-runs
+part_copy-requires-clause-runs c =
+    copied_runs c.args.words.now.table_id.words c.args.actor.now.me.0 c.requires.sound c.args.which c.args.way.handle c.args.opens c.requires.copying c.args.root c.requires.at
     c.in-Some.given c.read_original_within.new.actor.me.0 (c.in-Some.ensures {u = tt}).original c.in-Some-prepare.slot c.prepare.new.actor.me.0 (c.in-Some-prepare.ensures {u = tt}).prepared
     c.prepare.ensures.sound c.offer_within.new.actor.me.0
     (subst (λ b. HasOfferedOrMissed c.prepare.new.actor.me.0 c.in-Some-prepare.slot b c.offer_within.new.actor.me.0) c.if-not-stands.false (c.in-Some-offer_within.ensures {u = tt}).offered)
-    c.offer_within.ensures.sound true
-    c.complete_own_within.new.actor.me.0 (subst (λ b. HasCopied c.offer_within.new.actor.me.0 b c.complete_own_within.new.actor.me.0) c.if-not-carried.false (c.in-Ok.ensures {u = tt}).copied)
+    c.offer_within.ensures.sound c.in-Ok.carried c.complete_own_within.new.actor.me.0 (c.in-Ok.ensures {u = tt}).copied
 
-pub returns-clause-stock : goal.returns-clause-stock
-returns-clause-stock c =
+pub returns-then-carried-clause-tried : goal.returns-then-carried-clause-tried
+returns-then-carried-clause-tried c =
     let tried = copied_tried c.args.words.now.table_id.words c.args.actor.now.me.0 c.requires.sound c.args.which c.args.way.handle c.args.opens c.requires.copying c.args.root c.requires.at
     c.in-Some.given c.read_original_within.new.actor.me.0 (c.in-Some.ensures {u = tt}).original c.in-Some-prepare.slot c.prepare.new.actor.me.0 (c.in-Some-prepare.ensures {u = tt}).prepared
     c.prepare.ensures.sound c.offer_within.new.actor.me.0
     (subst (λ b. HasOfferedOrMissed c.prepare.new.actor.me.0 c.in-Some-prepare.slot b c.offer_within.new.actor.me.0) c.if-not-stands.false (c.in-Some-offer_within.ensures {u = tt}).offered)
-    c.offer_within.ensures.sound true
-    c.complete_own_within.new.actor.me.0 (subst (λ b. HasCopied c.offer_within.new.actor.me.0 b c.complete_own_within.new.actor.me.0) c.if-not-carried.false (c.in-Ok.ensures {u = tt}).copied) in
-    opened_stock c.args.words.now.table_id.words c.args.actor.now.me.0 c.requires.sound c.args.which c.args.way.handle c.args.opens c.requires.copying c.args.root c.requires.at
+    c.offer_within.ensures.sound c.in-Ok.carried c.complete_own_within.new.actor.me.0 (c.in-Ok.ensures {u = tt}).copied in
+    subst (λ b. HasTried c.args.actor.now.me.0 b c.part_copy.new.actor.me.0) c.if-carried.true
+    (parted_tried c.args.words.now.table_id.words c.args.actor.now.me.0 c.requires.sound c.args.which c.args.way.handle c.args.opens c.requires.copying c.args.root c.requires.at
     c.in-Some.given c.read_original_within.new.actor.me.0 (c.in-Some.ensures {u = tt}).original c.in-Some-prepare.slot c.prepare.new.actor.me.0 (c.in-Some-prepare.ensures {u = tt}).prepared
     c.prepare.ensures.sound c.offer_within.new.actor.me.0
     (subst (λ b. HasOfferedOrMissed c.prepare.new.actor.me.0 c.in-Some-prepare.slot b c.offer_within.new.actor.me.0) c.if-not-stands.false (c.in-Some-offer_within.ensures {u = tt}).offered)
-    c.offer_within.ensures.sound true
-    c.complete_own_within.new.actor.me.0 (subst (λ b. HasCopied c.offer_within.new.actor.me.0 b c.complete_own_within.new.actor.me.0) c.if-not-carried.false (c.in-Ok.ensures {u = tt}).copied)
-    c.complete_own_within.ensures.sound c.open_copy.new.actor.me.0 c.open_copy.ensures.saw c.complete_own_within.new.stock tried c.complete_own_within.ensures.stock
+    c.offer_within.ensures.sound c.in-Ok.carried c.complete_own_within.new.actor.me.0 (c.in-Ok.ensures {u = tt}).copied
+    c.part_copy.new.actor.me.0 c.part_copy.ensures.moved tried)
 
-pub returns-clause-tried : goal.returns-clause-tried
-returns-clause-tried c =
+pub returns-else-carried-clause-tried : goal.returns-else-carried-clause-tried
+returns-else-carried-clause-tried c =
     let tried = copied_tried c.args.words.now.table_id.words c.args.actor.now.me.0 c.requires.sound c.args.which c.args.way.handle c.args.opens c.requires.copying c.args.root c.requires.at
     c.in-Some.given c.read_original_within.new.actor.me.0 (c.in-Some.ensures {u = tt}).original c.in-Some-prepare.slot c.prepare.new.actor.me.0 (c.in-Some-prepare.ensures {u = tt}).prepared
     c.prepare.ensures.sound c.offer_within.new.actor.me.0
     (subst (λ b. HasOfferedOrMissed c.prepare.new.actor.me.0 c.in-Some-prepare.slot b c.offer_within.new.actor.me.0) c.if-not-stands.false (c.in-Some-offer_within.ensures {u = tt}).offered)
-    c.offer_within.ensures.sound true
-    c.complete_own_within.new.actor.me.0 (subst (λ b. HasCopied c.offer_within.new.actor.me.0 b c.complete_own_within.new.actor.me.0) c.if-not-carried.false (c.in-Ok.ensures {u = tt}).copied) in
-    opened_tried c.args.words.now.table_id.words c.args.actor.now.me.0 c.requires.sound c.args.which c.args.way.handle c.args.opens c.requires.copying c.args.root c.requires.at
+    c.offer_within.ensures.sound c.in-Ok.carried c.complete_own_within.new.actor.me.0 (c.in-Ok.ensures {u = tt}).copied in
+    subst (λ b. HasTried c.args.actor.now.me.0 b c.part_copy.new.actor.me.0) c.if-carried.false
+    (parted_tried c.args.words.now.table_id.words c.args.actor.now.me.0 c.requires.sound c.args.which c.args.way.handle c.args.opens c.requires.copying c.args.root c.requires.at
     c.in-Some.given c.read_original_within.new.actor.me.0 (c.in-Some.ensures {u = tt}).original c.in-Some-prepare.slot c.prepare.new.actor.me.0 (c.in-Some-prepare.ensures {u = tt}).prepared
     c.prepare.ensures.sound c.offer_within.new.actor.me.0
     (subst (λ b. HasOfferedOrMissed c.prepare.new.actor.me.0 c.in-Some-prepare.slot b c.offer_within.new.actor.me.0) c.if-not-stands.false (c.in-Some-offer_within.ensures {u = tt}).offered)
-    c.offer_within.ensures.sound true
-    c.complete_own_within.new.actor.me.0 (subst (λ b. HasCopied c.offer_within.new.actor.me.0 b c.complete_own_within.new.actor.me.0) c.if-not-carried.false (c.in-Ok.ensures {u = tt}).copied)
-    c.complete_own_within.ensures.sound c.open_copy.new.actor.me.0 c.open_copy.ensures.saw tried
+    c.offer_within.ensures.sound c.in-Ok.carried c.complete_own_within.new.actor.me.0 (c.in-Ok.ensures {u = tt}).copied
+    c.part_copy.new.actor.me.0 c.part_copy.ensures.moved tried)
 
 pub returns-in_default-clause-stock : goal.returns-in_default-clause-stock
 returns-in_default-clause-stock c =

@@ -2,7 +2,7 @@ use Rattle.std.proofs.Common.{ap, sym, subst, ◌∙◌}
 use Rattle.lock_free.specs.declared.parking.Came.TheVariants as came
 use Rattle.lock_free.specs.CopySteps.{copy_kind, HasSettledCopy}
 use Rattle.lock_free.specs.Parking.{HasRunTo}
-use Rattle.lock_free.proofs.CopiesParked.{its_call, its_completing, its_opening, left_parked, settled_answered, settled_spent}
+use Rattle.lock_free.proofs.CopiesParked.{its_call, its_completing, its_copy, left_parked, settled_answered, settled_spent}
 use Rattle.lock_free.proofs.ParkedOn.{way_called}
 use Rattle.lock_free.proofs.copy_runs.copy_goes_on.Goals as goal
 
@@ -17,9 +17,10 @@ settle_own-requires-clause-completing c =
 pub settle_own-requires-clause-which : goal.settle_own-requires-clause-which
 settle_own-requires-clause-which c o runs = ap copy_kind (c.requires.called o runs).0 ∙ sym c.kind_of.ensures
 
-pub settle_own-requires-clause-opening : goal.settle_own-requires-clause-opening
-settle_own-requires-clause-opening c =
-    its_opening c.args.actor.now.me.0 c.args.completing c.args.opens c.requires.parked c.args.call c.args.access c.requires.called c.kind_of.result c.kind_of.ensures
+pub settle_own-requires-clause-own : goal.settle_own-requires-clause-own
+settle_own-requires-clause-own c =
+    its_copy c.args.actor.now.me.0 c.args.completing c.args.opens c.requires.parked c.args.call c.args.access c.requires.called c.kind_of.result c.kind_of.ensures c.handle-handle.result
+    c.handle-handle.ensures
 
 pub returns-in-Ok-true-clause-run : goal.returns-in-Ok-true-clause-run
 returns-in-Ok-true-clause-run c =

@@ -1,7 +1,7 @@
 use Rattle.std.proofs.Common.{ap, sym, subst}
 use Rattle.lock_free.specs.CopySteps.{HasPreparedOrNone}
 use Rattle.lock_free.proofs.LimboStays.{stock_elsewhere}
-use Rattle.lock_free.proofs.CopyOffers.{drafted_only, named_only, named_so, names_it, slot_free, stopped_there, unnamed_so}
+use Rattle.lock_free.proofs.CopyOffers.{stopped_ready, drafted_only, named_only, named_so, names_it, slot_free, stopped_there, unnamed_so}
 use Rattle.lock_free.proofs.copying.prepare.Goals as goal
 
 pub returns-in_err-roots-clause-prepared : goal.returns-in_err-roots-clause-prepared
@@ -61,3 +61,6 @@ returns-in-None-clause-stock c =
     let b = c.take.new.actor.me.0 in
     let d = c.draft_offer.new.actor.me.0 in
     stock_elsewhere c.take.new.stock b d (drafted_only b d c.draft_offer.ensures.drafted.is) (c.in_ok-slot.ensures {u = tt}).stock
+
+pub returns-then-not-has_room_to_part-clause-prepared : goal.returns-then-not-has_room_to_part-clause-prepared
+returns-then-not-has_room_to_part-clause-prepared c = stopped_ready c.args.actor.now.me.0 c.args.which c.args.root c.args.main c.args.class c.requires.ready

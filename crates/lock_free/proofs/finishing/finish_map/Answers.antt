@@ -1,6 +1,8 @@
-use Rattle.std.proofs.Common.{◌≡◌, Some, subst, sym, ◌∙◌}
+use Rattle.std.proofs.Common.{◌≡◌, ◌≤◌, Some, ap, subst, sym, ◌∙◌}
 use Rattle.std.specs.Slots.{slots_items}
 use Rattle.std.proofs.lemmas.List.Elements.{All-pop}
+use Rattle.lock_free.specs.declared.rules.View.{View}
+use Rattle.lock_free.specs.declared.sizes.Sizes.{Sizes}
 use Rattle.lock_free.specs.Finishing.{HasHeardMore}
 use Rattle.lock_free.specs.Loading.{IsSound}
 use Rattle.lock_free.specs.Seated.{Seated}
@@ -28,6 +30,10 @@ returns-in_default c =
 pub returns : goal.returns
 returns c =
     let v = c.gather.new.actor in
-    finished_all (λ (seat : Seated). seat.view) c.every_order_is_legal.ensures c.args.board.shared.key v.id v.me.0 (slots_items c.close_with.result.words) (slots_items c.close_with.result.slots)
+    let some_seats = subst (λ (z : Sizes). 1 ≤ z.seats) (sym (ap (λ (x : View). x.sizes) (c.gather.ensures.more.is ∙ ap (λ
+    (x : View). record x { heard = v.me.0.heard }) c.into_actor-last.ensures.same)))
+    c.into_actor-last.ensures.sound.bounds.1 in
+    finished_all (λ (seat : Seated). seat.view) c.every_order_is_legal.ensures c.args.board.shared.key v.id v.me.0 some_seats (slots_items c.close_with.result.words)
+    (slots_items c.close_with.result.slots)
     c.close_with.ensures.values.2 c.args.seats.items c.pop.new.self.items c.in-Some.last c.in-Some.ensures.items
     (subst (λ w. HasHeardMore w v.me.0) c.into_actor-last.ensures.same c.gather.ensures.more) c.gather.ensures.all

@@ -1,6 +1,7 @@
+use Rattle.std.proofs.Common.{subst, sym}
 use Rattle.lock_free.specs.declared.reading.Passed.TheVariants as passed
 use Rattle.lock_free.specs.declared.reading.ReadFrom.TheVariants as resume
-use Rattle.lock_free.specs.LinkReads.{given_by}
+use Rattle.lock_free.specs.LinkReads.{given_by, HasReadOut}
 use Rattle.lock_free.proofs.LinkWays.{goes_from, out_after, out_told, some_from}
 use Rattle.lock_free.proofs.OnePass.{at_header, failed_passes, gives, is_failed, is_pending, on_after, pending_passes}
 use Rattle.lock_free.proofs.first_passes.end_at_header.Goals as goal
@@ -31,11 +32,12 @@ end_put_back-requires-clause-next c q w then p =
 pub returns-in-Failed-clause-ended : goal.returns-in-Failed-clause-ended
 returns-in-Failed-clause-ended c =
     let h = c.end_put_back.ensures.ended in
-    out_told c.args.words.now.table_id.words c.args.way c.args.indirection c.args.actor.now.me.0 (resume.Header c.args.link) c.requires.sound c.requires.way c.requires.passing h.1 h.2 h.0
+    subst (λ told. HasReadOut c.args.actor.now.me.0 told c.end_put_back.new.actor.me.0) (sym c.told_apart.ensures)
+    (out_told c.args.words.now.table_id.words c.args.way c.args.indirection c.args.actor.now.me.0 (resume.Header c.args.link) c.requires.sound c.requires.way c.requires.passing h.1 h.2 h.0
     (failed_passes c.args.actor.now.me.0 c.args.indirection c.args.link c.requires.passing
     c.args.words.now.table_id.words c.read_header-header.new.actor.me.0 c.requires.sound c.read_header-header.ensures.sound c.read_header-header.result c.read_header-header.ensures.read
     c.in-Failed.former c.in-Failed.is h.1 h.0 h.3)
-    c.end_put_back.result c.end_put_back.new.actor.me.0 h.4
+    c.end_put_back.result c.end_put_back.new.actor.me.0 h.4)
 
 pub settle_in_place-requires-clause-way : goal.settle_in_place-requires-clause-way
 settle_in_place-requires-clause-way c = on_after c.args.actor.now.me.0 c.args.indirection c.args.link c.requires.passing
@@ -73,10 +75,11 @@ end_on-requires-clause-passing c =
 
 pub returns-in-Again-clause-ended : goal.returns-in-Again-clause-ended
 returns-in-Again-clause-ended c =
-    out_after c.args.words.now.table_id.words c.args.way c.args.indirection c.args.actor.now.me.0 c.settle_in_place.new.actor.me.0 c.in-Again.next
+    subst (λ told. HasReadOut c.args.actor.now.me.0 told c.end_on.new.actor.me.0) (sym c.told_apart-in-Again.ensures)
+    (out_after c.args.words.now.table_id.words c.args.way c.args.indirection c.args.actor.now.me.0 c.settle_in_place.new.actor.me.0 c.in-Again.next
     (some_from c.args.words.now.table_id.words c.args.way c.args.indirection c.args.actor.now.me.0 (resume.Header c.args.link) c.requires.sound c.requires.way c.requires.passing
     c.settle_in_place.new.actor.me.0 c.settle_in_place.ensures.sound c.in-Again.next
     (pending_passes c.args.actor.now.me.0 c.args.indirection c.args.link c.requires.passing
     c.args.words.now.table_id.words c.read_header-header.new.actor.me.0 c.requires.sound c.read_header-header.ensures.sound c.read_header-header.result c.read_header-header.ensures.read
     c.args.way c.requires.way c.in-Pending.field-0 c.in-Pending.is c.settle_in_place.new.actor.me.0 (passed.Again c.in-Again.next) (c.in-Again.ensures {u = tt}).passed))
-    c.end_on.new.actor.me.0 c.end_on.result c.end_on.ensures.ended
+    c.end_on.new.actor.me.0 c.end_on.result c.end_on.ensures.ended)

@@ -1,6 +1,6 @@
 use Rattle.std.proofs.Common.{◌%◌, Bool, if◌then◌else◌, eq-eqb, ne_eqb, sym, ap, subst, ◌∙◌}
 use Rattle.trie_words.specs.declared.entries.Pair.{Pair}
-use Rattle.lock_free.specs.Freeing.{HasSeenHalf}
+use Rattle.lock_free.specs.LeftNodes.{HasSeenHalf}
 use Rattle.lock_free.specs.Nodes.{half_in}
 use Rattle.lock_free.proofs.LeftEntries.{entry_inside, half_seen}
 use Rattle.lock_free.proofs.freeing.see_left_half.Goals as goal

@@ -1,7 +1,7 @@
 use Rattle.std.proofs.Common.{◌∷◌, [], refl, sym, ap, subst, ◌∙◌, arith, length, length-append}
 use Rattle.std.proofs.lemmas.List.{length-map}
 use Rattle.trie_words.specs.Codes.{entry_of}
-use Rattle.lock_free.specs.Freeing.{HasLeftPosition, HasSeenHalf}
+use Rattle.lock_free.specs.LeftNodes.{HasSeenHalf, LeavesPosition}
 use Rattle.lock_free.specs.Halves.{entries_of_halves}
 use Rattle.lock_free.specs.Loading.{IsSound}
 use Rattle.lock_free.proofs.EntryHalves.{entries_more}
@@ -23,7 +23,7 @@ see_left_half-requires-clause-sound c = subst (λ (me : _). IsSound c.args.words
 
 pub see_left_half-requires-clause-left : goal.see_left_half-requires-clause-left
 see_left_half-requires-clause-left c =
-    subst (λ (me : _). HasLeftPosition me.0 c.args.slot c.loop-position.position) (sym c.loop-position.invariant.1)
+    subst (λ (me : _). LeavesPosition me.0 c.args.slot c.loop-position.position) (sym c.loop-position.invariant.1)
     (next_left c.args.actor.now.me.0 c.args.slot c.args.count c.loop-position.position c.requires.left c.loop-position-test.true)
 
 pub loop-position-preserved : goal.loop-position-preserved

@@ -1,168 +1,55 @@
-use Rattle.std.proofs.Common.{ℕ, Option, None, Ok, Err, refl, sym, ap, subst, ◌∙◌}
+use Rattle.std.proofs.Common.{inl, inr, subst, ◌∙◌}
 use Rattle.history.specs.declared.calls.Call.TheVariants.{Get}
-use Rattle.history.specs.declared.replies.Reply.TheVariants as reply
-use Rattle.lock_free.specs.Calling.{CalledOrNot}
-use Rattle.lock_free.specs.SeatCalls.{error_of}
-use Rattle.lock_free.specs.Stocks.{IsStock}
-use Rattle.lock_free.proofs.CallBegins.{opens_begun, same_begun}
-use Rattle.lock_free.proofs.CallsBegun.{begun_keeps, denied_again, denied_keeps, denied_so, late_again, late_keeps, late_still, ready_caller}
+use Rattle.lock_free.specs.GlanceGets.{HasGlancedAtKey}
+use Rattle.lock_free.proofs.CallsBegun.{still_now}
 use Rattle.lock_free.proofs.CallsDenied.{no_handle_denied}
-use Rattle.lock_free.proofs.CallsUnderWay.{begun_under_way, few_then, left_again, left_both}
-use Rattle.lock_free.proofs.LimboStays.{pinned_late}
-use Rattle.lock_free.proofs.Unbegun.{denied_told, denied_why}
-use Rattle.lock_free.proofs.WholeCalls.{begun_called, begun_try, tried_ready}
+use Rattle.lock_free.proofs.CallsUnderWay.{few_then, left_both}
 use Rattle.lock_free.proofs.get_runs.run_get.Goals as goal
 
 pub returns-then-handle-ge-HANDLES-clause-told : goal.returns-then-handle-ge-HANDLES-clause-told
-returns-then-handle-ge-HANDLES-clause-told g c = no_handle_denied c.args.actor.now.me.0 (Get c.args.handle c.args.key) c.if-handle-ge-HANDLES.true
+returns-then-handle-ge-HANDLES-clause-told g c = inl (no_handle_denied c.args.actor.now.me.0 (Get c.args.handle c.args.key) c.if-handle-ge-HANDLES.true)
 
-pub start_within-requires-clause-late : goal.start_within-requires-clause-late
-start_within-requires-clause-late g c = pinned_late c.args.stock.now c.begin.new.self c.args.actor.now.me.0 c.requires.stock c.begin.ensures c.epoch.result c.epoch.ensures.seen
+pub returns-in-Some-clause-told : goal.returns-in-Some-clause-told
+returns-in-Some-clause-told g c =
+    inl (subst (λ r. HasGlancedAtKey c.args.words.now.table_id.words c.args.actor.now.me.0 (Get c.args.handle c.args.key) r c.glance.new.actor.me.0) c.in-Some.is c.glance.ensures.told)
 
-pub start_within-requires-clause-caller : goal.start_within-requires-clause-caller
-start_within-requires-clause-caller g c = ready_caller c.args.actor.now.me.0 (Get c.args.handle c.args.key)
-    (tried_ready c.args.actor.now.me.0 None c.requires.ready (Get c.args.handle c.args.key) tt refl)
+pub returns-in-Some-clause-stock : goal.returns-in-Some-clause-stock
+returns-in-Some-clause-stock g c = c.glance.ensures.stock c.args.stock.now c.requires.stock
 
-pub get_late-requires-clause-stock : goal.get_late-requires-clause-stock
-get_late-requires-clause-stock g c =
+pub get_pinned-requires-clause-stock : goal.get_pinned-requires-clause-stock
+get_pinned-requires-clause-stock g c = c.glance.ensures.stock c.args.stock.now c.requires.stock
+
+pub get_pinned-requires-clause-its : goal.get_pinned-requires-clause-its
+get_pinned-requires-clause-its g c = c.glance.ensures.left.same.actor ∙ c.requires.its
+
+pub get_pinned-requires-clause-few : goal.get_pinned-requires-clause-few
+get_pinned-requires-clause-few g c = few_then c.args.actor.now.me.0 c.glance.new.actor.me.0 c.glance.ensures.left.same c.requires.few
+
+pub get_pinned-requires-clause-ready : goal.get_pinned-requires-clause-ready
+get_pinned-requires-clause-ready g c = c.glance.ensures.left.rests
+
+pub returns-in-None-clause-left : goal.returns-in-None-clause-left
+returns-in-None-clause-left g c = left_both c.args.actor.now.me.0 c.glance.new.actor.me.0 c.get_pinned.new.actor.me.0 c.glance.ensures.left.same c.get_pinned.ensures.left
+
+pub returns-in-None-clause-told : goal.returns-in-None-clause-told
+returns-in-None-clause-told g c =
+    let n = c.args.words.now.table_id.words in
     let v = c.args.actor.now.me.0 in
-    let x = c.start_within.new.actor.me.0 in
-    late_keeps v (Get c.args.handle c.args.key) (tried_ready c.args.actor.now.me.0 None c.requires.ready (Get c.args.handle c.args.key) tt refl) x
-    (subst (λ r. CalledOrNot v (Get c.args.handle c.args.key) (Ok r) x) c.in-Ok-None.field-0-is (c.in-Ok-None.ensures {u = tt}).called) c.begin.new.self
-    (subst (λ s. IsStock s v) (sym c.begin.ensures) c.requires.stock)
+    let call = Get c.args.handle c.args.key in
+    let at = c.glance.new.actor.me.0 in
+    elim (subst (λ r. HasGlancedAtKey n v call r at) c.in-None.is c.glance.ensures.told) [
+      | inl refused ↦ inr (
+        at,
+        c.glance.ensures.left.same,
+        refused,
+        c.get_pinned.ensures.left.same,
+        (c.get_pinned.ensures.told at
+            (still_now n at call c.glance.ensures.sound c.glance.ensures.left.rests)).0,
+      )
+      | inr still ↦ inl (c.get_pinned.ensures.told v still).0
+    ]
 
-pub get_late-requires-clause-its : goal.get_late-requires-clause-its
-get_late-requires-clause-its g c =
-    let v = c.args.actor.now.me.0 in
-    let x = c.start_within.new.actor.me.0 in
-    (late_again v (Get c.args.handle c.args.key) (tried_ready c.args.actor.now.me.0 None c.requires.ready (Get c.args.handle c.args.key) tt refl) x
-    (subst (λ r. CalledOrNot v (Get c.args.handle c.args.key) (Ok r) x) c.in-Ok-None.field-0-is (c.in-Ok-None.ensures {u = tt}).called) None c.requires.ready).0.actor ∙ c.requires.its
-
-pub get_late-requires-clause-few : goal.get_late-requires-clause-few
-get_late-requires-clause-few g c =
-    let v = c.args.actor.now.me.0 in
-    let x = c.start_within.new.actor.me.0 in
-    few_then v x (late_again v (Get c.args.handle c.args.key) (tried_ready c.args.actor.now.me.0 None c.requires.ready (Get c.args.handle c.args.key) tt refl) x
-    (subst (λ r. CalledOrNot v (Get c.args.handle c.args.key) (Ok r) x) c.in-Ok-None.field-0-is (c.in-Ok-None.ensures {u = tt}).called) None c.requires.ready).0 c.requires.few
-
-pub get_late-requires-clause-ready : goal.get_late-requires-clause-ready
-get_late-requires-clause-ready g c =
-    let v = c.args.actor.now.me.0 in
-    let x = c.start_within.new.actor.me.0 in
-    (late_again v (Get c.args.handle c.args.key) (tried_ready c.args.actor.now.me.0 None c.requires.ready (Get c.args.handle c.args.key) tt refl) x
-    (subst (λ r. CalledOrNot v (Get c.args.handle c.args.key) (Ok r) x) c.in-Ok-None.field-0-is (c.in-Ok-None.ensures {u = tt}).called) None c.requires.ready).1
-
-pub returns-in-Ok-None-clause-left : goal.returns-in-Ok-None-clause-left
-returns-in-Ok-None-clause-left g c =
-    let v = c.args.actor.now.me.0 in
-    let x = c.start_within.new.actor.me.0 in
-    left_both v x c.get_late.new.actor.me.0 (late_again v (Get c.args.handle c.args.key) (tried_ready c.args.actor.now.me.0 None c.requires.ready (Get c.args.handle c.args.key) tt refl) x
-    (subst (λ r. CalledOrNot v (Get c.args.handle c.args.key) (Ok r) x) c.in-Ok-None.field-0-is (c.in-Ok-None.ensures {u = tt}).called) None c.requires.ready).0 c.get_late.ensures.left
-
-pub returns-in-Ok-None-clause-told : goal.returns-in-Ok-None-clause-told
-returns-in-Ok-None-clause-told g c =
-    let v = c.args.actor.now.me.0 in
-    let x = c.start_within.new.actor.me.0 in
-    (c.get_late.ensures.told v (late_still v (Get c.args.handle c.args.key) (tried_ready c.args.actor.now.me.0 None c.requires.ready (Get c.args.handle c.args.key) tt refl) x
-    (subst (λ r. CalledOrNot v (Get c.args.handle c.args.key) (Ok r) x) c.in-Ok-None.field-0-is (c.in-Ok-None.ensures {u = tt}).called) c.args.words.now.table_id.words c.requires.sound
-    c.requires.ready
-    c.start_within.ensures.sound)).0
-
-pub returns-in-Err-clause-stock : goal.returns-in-Err-clause-stock
-returns-in-Err-clause-stock g c =
-    let v = c.args.actor.now.me.0 in
-    denied_keeps v (Get c.args.handle c.args.key) (tried_ready c.args.actor.now.me.0 None c.requires.ready (Get c.args.handle c.args.key) tt refl) c.in-Err.denial c.start_within.new.actor.me.0
-    (c.in-Err.ensures {u = tt}).called c.begin.new.self
-    (subst (λ s. IsStock s v) (sym c.begin.ensures) c.requires.stock)
-
-pub returns-in-Err-clause-left : goal.returns-in-Err-clause-left
-returns-in-Err-clause-left g c =
-    let v = c.args.actor.now.me.0 in
-    let x = c.start_within.new.actor.me.0 in
-    left_again v x c.requires.ready (denied_again v (Get c.args.handle c.args.key) (tried_ready c.args.actor.now.me.0 None c.requires.ready (Get c.args.handle c.args.key) tt refl) c.in-Err.denial x
-    (c.in-Err.ensures {u = tt}).called)
-
-pub get_begun-requires-clause-stock : goal.get_begun-requires-clause-stock
-get_begun-requires-clause-stock g c =
-    let v = c.args.actor.now.me.0 in
-    let x = c.start_within.new.actor.me.0 in
-    begun_keeps v (Get c.args.handle c.args.key) (tried_ready c.args.actor.now.me.0 None c.requires.ready (Get c.args.handle c.args.key) tt refl) c.in-Ok-Some.way x
-    (subst (λ r. CalledOrNot v (Get c.args.handle c.args.key) (Ok r) x) c.in-Ok-Some.field-0-is (c.in-Ok-Some.ensures {u = tt}).called) c.begin.new.self
-    (subst (λ s. IsStock s v) (sym c.begin.ensures) c.requires.stock)
-
-pub get_begun-requires-clause-calling : goal.get_begun-requires-clause-calling
-get_begun-requires-clause-calling g c =
-    let v = c.args.actor.now.me.0 in
-    let x = c.start_within.new.actor.me.0 in
-    let begun = subst (λ r. CalledOrNot v (Get c.args.handle c.args.key) (Ok r) x) c.in-Ok-Some.field-0-is (c.in-Ok-Some.ensures {u = tt}).called in
-    let at = begun_try v None c.requires.ready (Get c.args.handle c.args.key) c.in-Ok-Some.way x begun tt in
-    record {
-      running = (at.0, at.1);
-      called = begun_called v None c.requires.ready (Get c.args.handle c.args.key) c.in-Ok-Some.way x begun;
-      tried = tt;
-      keyed = refl;
-      none = opens_begun v None c.requires.ready (Get c.args.handle c.args.key) c.in-Ok-Some.way x begun;
-    }
-
-pub get_begun-requires-clause-at : goal.get_begun-requires-clause-at
-get_begun-requires-clause-at g c =
-    let v = c.args.actor.now.me.0 in
-    let x = c.start_within.new.actor.me.0 in
-    begun_try v None c.requires.ready (Get c.args.handle c.args.key) c.in-Ok-Some.way x
-    (subst (λ r. CalledOrNot v (Get c.args.handle c.args.key) (Ok r) x) c.in-Ok-Some.field-0-is (c.in-Ok-Some.ensures {u = tt}).called) tt
-
-pub returns-clause-left : goal.returns-clause-left
-returns-clause-left g c =
-    let v = c.args.actor.now.me.0 in
-    let x = c.start_within.new.actor.me.0 in
-    left_both v x c.get_begun.new.actor.me.0
-    (same_begun v None c.requires.ready (Get c.args.handle c.args.key) c.in-Ok-Some.way x
-    (subst (λ r. CalledOrNot v (Get c.args.handle c.args.key) (Ok r) x) c.in-Ok-Some.field-0-is (c.in-Ok-Some.ensures {u = tt}).called)) c.get_begun.ensures.left
-
-pub returns-in-Ok-None-clause-why : goal.returns-in-Ok-None-clause-why
-returns-in-Ok-None-clause-why g c =
-    let v = c.args.actor.now.me.0 in
-    let x = c.start_within.new.actor.me.0 in
-    (c.get_late.ensures.told v (late_still v (Get c.args.handle c.args.key) (tried_ready c.args.actor.now.me.0 None c.requires.ready (Get c.args.handle c.args.key) tt refl) x
-    (subst (λ r. CalledOrNot v (Get c.args.handle c.args.key) (Ok r) x) c.in-Ok-None.field-0-is (c.in-Ok-None.ensures {u = tt}).called) c.args.words.now.table_id.words c.requires.sound
-    c.requires.ready
-    c.start_within.ensures.sound)).1
-
-pub returns-in-Err-clause-told : goal.returns-in-Err-clause-told
-returns-in-Err-clause-told g c =
-    let v = c.args.actor.now.me.0 in
-    let x = c.start_within.new.actor.me.0 in
-    denied_told reply.Found v c.requires.ready (Get c.args.handle c.args.key) (error_of c.in-Err.denial) x (Err c.from.result) (ap (λ e. Err e) c.from.ensures)
-    (denied_so v (Get c.args.handle c.args.key) (tried_ready c.args.actor.now.me.0 None c.requires.ready (Get c.args.handle c.args.key) tt refl) c.in-Err.denial x (c.in-Err.ensures {u = tt}).called)
-
-pub returns-in-Err-clause-why : goal.returns-in-Err-clause-why
-returns-in-Err-clause-why g c =
-    let v = c.args.actor.now.me.0 in
-    let x = c.start_within.new.actor.me.0 in
-    denied_why {A = Option ℕ} v (Get c.args.handle c.args.key) (error_of c.in-Err.denial) x (Err c.from.result) (ap (λ e. Err e) c.from.ensures)
-    (denied_so v (Get c.args.handle c.args.key) (tried_ready c.args.actor.now.me.0 None c.requires.ready (Get c.args.handle c.args.key) tt refl) c.in-Err.denial x (c.in-Err.ensures {u = tt}).called)
-
-pub get_begun-requires-clause-under : goal.get_begun-requires-clause-under
-get_begun-requires-clause-under g c =
-    let v = c.args.actor.now.me.0 in
-    let x = c.start_within.new.actor.me.0 in (
-      v,
-      (begun_under_way c.args.words.now.table_id.words v c.requires.sound None c.requires.ready (Get c.args.handle c.args.key) c.in-Ok-Some.way x c.start_within.ensures.sound
-          (subst (λ r. CalledOrNot v (Get c.args.handle c.args.key) (Ok r) x) c.in-Ok-Some.field-0-is (c.in-Ok-Some.ensures {u = tt}).called)),
-    )
-
-pub returns-clause-told : goal.returns-clause-told
-returns-clause-told g c =
-    let v = c.args.actor.now.me.0 in
-    let x = c.start_within.new.actor.me.0 in
-    (c.get_begun.ensures.told v
-    (begun_under_way c.args.words.now.table_id.words v c.requires.sound None c.requires.ready (Get c.args.handle c.args.key) c.in-Ok-Some.way x c.start_within.ensures.sound
-    (subst (λ r. CalledOrNot v (Get c.args.handle c.args.key) (Ok r) x) c.in-Ok-Some.field-0-is (c.in-Ok-Some.ensures {u = tt}).called))).0
-
-pub returns-clause-why : goal.returns-clause-why
-returns-clause-why g c =
-    let v = c.args.actor.now.me.0 in
-    let x = c.start_within.new.actor.me.0 in
-    (c.get_begun.ensures.told v
-    (begun_under_way c.args.words.now.table_id.words v c.requires.sound None c.requires.ready (Get c.args.handle c.args.key) c.in-Ok-Some.way x c.start_within.ensures.sound
-    (subst (λ r. CalledOrNot v (Get c.args.handle c.args.key) (Ok r) x) c.in-Ok-Some.field-0-is (c.in-Ok-Some.ensures {u = tt}).called))).1
+pub returns-in-None-clause-why : goal.returns-in-None-clause-why
+returns-in-None-clause-why g c =
+    let at = c.glance.new.actor.me.0 in
+    (c.get_pinned.ensures.told at (still_now c.args.words.now.table_id.words at (Get c.args.handle c.args.key) c.glance.ensures.sound c.glance.ensures.left.rests)).1

@@ -5,7 +5,7 @@ use Rattle.atomic_table.specs.Table.{Allows, step}
 use Rattle.lock_free.specs.HandleWords.{has_closed}
 use Rattle.lock_free.specs.Loading.{IsSound}
 use Rattle.lock_free.specs.Places.{root_word}
-use Rattle.lock_free.specs.Rules.{IsRuled}
+use Rattle.lock_free.specs.Shadows.{IsShadowed}
 use Rattle.lock_free.proofs.CloseStep.{close_allows}
 use Rattle.lock_free.proofs.SeenRoots.{root_inside}
 use Rattle.lock_free.proofs.handles.close.Goals as goal
@@ -18,8 +18,8 @@ compare_exchange-requires c =
     let me = c.args.actor.now.me in (
       c.requires.table,
       subst (λ n. n < c.args.words.now.table_id.words) (sym c.root_word_of.ensures) (root_inside c.args.words.now.table_id.words me.0 c.requires.sound c.args.handle c.requires.low),
-      subst (λ n. Allows (IsRuled sizes) slots id me n (λ x. either (x == c.to_word-open.result) 0 x) (has_closed (step slots n c.to_word-open.result 0 none) me)) (sym c.root_word_of.ensures)
-          (subst (λ n. Allows (IsRuled sizes) slots id me (root_word c.args.handle) (λ x. either (x == n) 0 x) (has_closed (step slots (root_word c.args.handle) n 0 none) me))
+      subst (λ n. Allows (IsShadowed sizes) slots id me n (λ x. either (x == c.to_word-open.result) 0 x) (has_closed (step slots n c.to_word-open.result 0 none) me)) (sym c.root_word_of.ensures)
+          (subst (λ n. Allows (IsShadowed sizes) slots id me (root_word c.args.handle) (λ x. either (x == n) 0 x) (has_closed (step slots (root_word c.args.handle) n 0 none) me))
           (sym c.to_word-open.ensures)
           (close_allows sizes slots id me c.requires.sound.bounds.1 c.args.handle c.args.looked c.requires.low c.requires.closing c.requires.all
           c.requires.outside c.requires.idle c.args.word c.requires.fits c.requires.marked)),

@@ -1,5 +1,6 @@
-use Rattle.std.proofs.Common.{ap, subst, sym}
+use Rattle.std.proofs.Common.{◌∙◌, refl, ap, subst, sym}
 use Rattle.lock_free.specs.declared.rules.View.{View}
+use Rattle.lock_free.specs.Limbos.{chains_of, link_to}
 use Rattle.lock_free.specs.Linking.{HasRetiredSlot}
 use Rattle.lock_free.specs.Places.{IsSlot}
 use Rattle.lock_free.proofs.HungNext.{hung_next, next_held, next_slot, next_small}
@@ -33,4 +34,5 @@ returns-clause-limbo c h =
     let v = c.args.actor.now.me.0 in
     hung_next c.args.limbo.now v c.args.kind c.args.class c.args.slot h c.see_epoch-stamp.result c.see_link-known.result c.see_epoch-stamp.ensures.seen.2 c.args.sizes.now
     c.requires.sizes c.see_epoch-stamp.new.actor.me.0 c.see_link-known.new.actor.me.0 c.link.new.actor.me.0 (ap (λ (me : _). me.0) c.see_epoch-stamp.ensures.seen.1) c.see_link-known.ensures.seen
-    c.chains-chains.result c.chains-chains.ensures c.link_to-next.result c.link_to-next.ensures c.link.ensures.linked c.set_chains.new.self c.set_chains.ensures
+    (chains_of c.args.limbo.now c.args.kind c.args.class) refl c.link_to-next.result (c.link_to-next.ensures ∙ ap link_to c.first_young.ensures) c.link.ensures.linked
+    c.set_young.new.self c.set_young.ensures

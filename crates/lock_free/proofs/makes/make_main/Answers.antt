@@ -5,8 +5,8 @@ use Rattle.lock_free.specs.Halves.{entries_of_halves}
 use Rattle.lock_free.specs.Owing.{HoldsRaised}
 use Rattle.lock_free.specs.Places.{class_for}
 use Rattle.lock_free.specs.SeenEntries.{HasWritten, IsOwnSlot}
-use Rattle.lock_free.specs.Stocks.{HasSlot}
-use Rattle.lock_free.proofs.MainMakes.{small_class, own_slot, header_fits, main_ready, class_is}
+use Rattle.lock_free.specs.Stocks.{HasSlot, NotesLast}
+use Rattle.lock_free.proofs.MainMakes.{small_class, own_slot, header_fits, main_ready, class_is, kind_is}
 use Rattle.lock_free.proofs.OwnMakes.{new_there, stock_there}
 use Rattle.lock_free.proofs.makes.make_main.Goals as goal
 
@@ -48,7 +48,11 @@ returns-clause-stock c = stock_there c.args.actor.now.me.0 c.class_for-class.res
     (entries_of_halves c.args.halves.now) c.requires.making
     c.args.header.previous c.requires.over)
     c.args.words.now.table_id.words c.write_entries.ensures.sound _ c.to_word.result c.make.new.actor.me.0 c.make.ensures.made c.take.new.stock c.note.new.self c.take.ensures.stock
-    c.note.ensures.sizes c.note.ensures.noted c.note.ensures.limbo
+    c.note.ensures.sizes
+    (subst (λ k. NotesLast c.take.new.stock k c.class_for-class.result c.note.new.self)
+    (kind_is c.args.words.now.table_id.words c.args.actor.now.me.0 c.requires.sound c.args.header.shape (entries_of_halves c.args.halves.now) c.requires.making c.args.header.previous
+    c.requires.over) c.note.ensures.noted)
+    c.note.ensures.limbo
 
 pub returns-clause-made : goal.returns-clause-made
 returns-clause-made c = new_there c.args.actor.now.me.0 c.class_for-class.result c.in_ok-slot.slot c.take.new.actor.me.0 (c.in_ok-slot.ensures {u = tt}).slot c.write_entries.new.actor.me.0

@@ -6,7 +6,7 @@ use Rattle.trie_words.specs.declared.roots.RootWord.TheVariants as word
 use Rattle.lock_free.specs.Loading.{IsSound}
 use Rattle.lock_free.specs.Numbers.{has_named}
 use Rattle.lock_free.specs.Places.{root_word}
-use Rattle.lock_free.specs.Rules.{IsRuled}
+use Rattle.lock_free.specs.Shadows.{IsShadowed}
 use Rattle.lock_free.proofs.NumberSteps.{name_allowed, opens_sound, slot_in_range}
 use Rattle.lock_free.proofs.RootCodes.{root_back}
 use Rattle.lock_free.proofs.SeenRoots.{root_inside}
@@ -24,9 +24,9 @@ store-requires c =
     let fits = slot_in_range c.args.words.now.table_id.words me.0 c.requires.sound c.args.slot c.requires.naming.free in (
       c.requires.table,
       subst (λ n. n < c.args.words.now.table_id.words) (sym c.root_word_of.ensures) (root_inside c.args.words.now.table_id.words me.0 c.requires.sound c.args.number c.requires.low),
-      subst (λ n. Allows (IsRuled sizes) slots id me n (λ x. c.to_word-named.result) (λ x. has_named (step slots n c.to_word-named.result 0 none) me c.to_word-named.result))
+      subst (λ n. Allows (IsShadowed sizes) slots id me n (λ x. c.to_word-named.result) (λ x. has_named (step slots n c.to_word-named.result 0 none) me c.to_word-named.result))
           (sym c.root_word_of.ensures)
-          (subst (λ y. Allows (IsRuled sizes) slots id me (root_word c.args.number) (λ x. y) (λ x. has_named (step slots (root_word c.args.number) y 0 none) me y)) (sym c.to_word-named.ensures)
+          (subst (λ y. Allows (IsShadowed sizes) slots id me (root_word c.args.number) (λ x. y) (λ x. has_named (step slots (root_word c.args.number) y 0 none) me y)) (sym c.to_word-named.ensures)
           (name_allowed sizes slots id me c.requires.sound.bounds.1 c.args.number c.args.slot c.requires.low c.requires.naming fits)),
     )
 

@@ -5,7 +5,7 @@ use Rattle.atomic_table.specs.Table.{Allows, step}
 use Rattle.trie_words.specs.Codes.{root_code}
 use Rattle.trie_words.specs.declared.roots.RootWord.TheVariants as word
 use Rattle.lock_free.specs.Numbers.{has_reserved}
-use Rattle.lock_free.specs.Rules.{IsRuled}
+use Rattle.lock_free.specs.Shadows.{IsShadowed}
 use Rattle.lock_free.proofs.NumberSteps.{reserve_allowed, tried_sound}
 use Rattle.lock_free.proofs.SeenRoots.{root_inside}
 use Rattle.lock_free.proofs.numbers.try_reserve.Goals as goal
@@ -18,7 +18,7 @@ compare_exchange-requires c =
     let me = c.args.actor.now.me in (
       c.requires.table,
       subst (λ n. n < c.args.words.now.table_id.words) (sym c.root_word_of.ensures) (root_inside c.args.words.now.table_id.words me.0 c.requires.sound c.args.number c.requires.low),
-      subst (λ n. Allows (IsRuled sizes) slots id me n (λ x. either (x == 0) (root_code word.Reserved) x) (has_reserved (step slots n 0 (root_code word.Reserved) none) me))
+      subst (λ n. Allows (IsShadowed sizes) slots id me n (λ x. either (x == 0) (root_code word.Reserved) x) (has_reserved (step slots n 0 (root_code word.Reserved) none) me))
           (sym c.root_word_of.ensures)
           (reserve_allowed sizes slots id me c.requires.sound.bounds.1 c.args.number c.requires.low c.requires.idle c.requires.none),
     )

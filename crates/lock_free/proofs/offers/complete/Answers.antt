@@ -3,7 +3,7 @@ use mathlib.Core.Option.{none}
 use prog.Atomic.{either}
 use Rattle.atomic_table.specs.Table.{Allows, step}
 use Rattle.lock_free.specs.OfferWords.{HasCompleted, has_completed}
-use Rattle.lock_free.specs.Rules.{IsRuled}
+use Rattle.lock_free.specs.Shadows.{IsShadowed}
 use Rattle.lock_free.proofs.CompleteStep.{complete_allowed, complete_told}
 use Rattle.lock_free.proofs.offers.complete.Goals as goal
 
@@ -16,7 +16,7 @@ compare_exchange-found-requires c =
     let word = 2 * c.args.offer in (
       c.requires.table,
       c.requires.within,
-      subst (λ n. Allows (IsRuled sizes) slots id me word (λ x. either (x == 0) n x) (has_completed (step slots word 0 n none) me)) (sym c.outcome_of-outcome.ensures)
+      subst (λ n. Allows (IsShadowed sizes) slots id me word (λ x. either (x == 0) n x) (has_completed (step slots word 0 n none) me)) (sym c.outcome_of-outcome.ensures)
           (complete_allowed sizes slots id me c.requires.sound.bounds.1 c.args.offer c.args.is_expected c.requires.completing),
     )
 

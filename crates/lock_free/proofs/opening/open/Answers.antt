@@ -2,14 +2,16 @@ use Rattle.std.proofs.Common.{sym, ap, subst, ◌∙◌, List, ℕ, [], length}
 use Rattle.history.specs.declared.calls.Call.{Call}
 use Rattle.atomic_table.specs.Table.{opening}
 use Rattle.lock_free.specs.Loading.{IsSound}
-use Rattle.lock_free.specs.Rules.{IsRuled, first_view}
-use Rattle.lock_free.proofs.Opens.{opens_ruled, first_sound, size_is}
+use Rattle.lock_free.specs.FirstViews.{first_view}
+use Rattle.lock_free.specs.Shadows.{IsShadowed}
+use Rattle.lock_free.proofs.OneGlance.Opened.{opens_shadowed}
+use Rattle.lock_free.proofs.Opens.{first_sound, size_is}
 use Rattle.lock_free.proofs.opening.open.Goals as goal
 
 pub of_words-requires : goal.of_words-requires
 of_words-requires c =
     let ok = c.are_in_range.ensures.0 c.if-not-are_in_range.false in
-    subst (λ (ws : List ℕ). IsRuled c.args.sizes (opening {S = Call} ws [] (first_view c.args.sizes))) (sym (c.as_slice.ensures.value ∙ c.in-Ok.ensures)) (opens_ruled c.args.sizes ok)
+    subst (λ (ws : List ℕ). IsShadowed c.args.sizes (opening {S = Call} ws [] (first_view c.args.sizes))) (sym (c.as_slice.ensures.value ∙ c.in-Ok.ensures)) (opens_shadowed c.args.sizes ok)
 
 pub returns-in-Ok-of_words-clause-sound : goal.returns-in-Ok-of_words-clause-sound
 returns-in-Ok-of_words-clause-sound c =

@@ -2,7 +2,7 @@ use Rattle.std.proofs.Common.{◌==◌, ◌||◌, ◌<◌, ◌+◌, sym, subst, 
 use mathlib.Core.Option.{none}
 use Rattle.atomic_table.specs.Table.{Allows, step}
 use Rattle.trie_words.specs.Codes.{pin_of}
-use Rattle.lock_free.specs.Rules.{IsRuled}
+use Rattle.lock_free.specs.Shadows.{IsShadowed}
 use Rattle.lock_free.specs.SeatWords.{HasPassed, is_out, is_passed, has_passed}
 use Rattle.lock_free.proofs.PassStep.{pass_allowed, pass_sound, next_inside}
 use Rattle.lock_free.proofs.pins.pass.Goals as goal
@@ -15,7 +15,7 @@ load-found-requires c =
     let me = c.args.actor.now.me in (
       c.requires.table,
       subst (λ n. n < c.args.words.now.table_id.words) (sym c.pin_word_of.ensures) (next_inside c.args.words.now.table_id.words me.0 c.requires.sound (c.args.looked + 1) c.requires.few),
-      subst (λ n. Allows (IsRuled sizes) slots id me n (λ x. x) (has_passed (step slots n 0 0 none) me)) (sym c.pin_word_of.ensures)
+      subst (λ n. Allows (IsShadowed sizes) slots id me n (λ x. x) (has_passed (step slots n 0 0 none) me)) (sym c.pin_word_of.ensures)
           (pass_allowed sizes slots id me c.requires.sound.bounds.1 c.args.handle c.args.looked c.requires.low c.requires.closing),
     )
 

@@ -3,7 +3,7 @@ use mathlib.Core.Option.{none}
 use Rattle.atomic_table.specs.Table.{Allows, step}
 use Rattle.lock_free.specs.Loading.{IsSound}
 use Rattle.lock_free.specs.Places.{pin_word}
-use Rattle.lock_free.specs.Rules.{IsRuled}
+use Rattle.lock_free.specs.Shadows.{IsShadowed}
 use Rattle.lock_free.specs.SeatWords.{has_unpinned}
 use Rattle.lock_free.proofs.EndStep.{pin_inside}
 use Rattle.lock_free.proofs.PinStep.{unpin_allowed, unpin_sound}
@@ -18,7 +18,7 @@ store-requires c =
     let word_is = c.pin_word_of.ensures ∙ ap pin_word (sym c.requires.its) in (
       c.requires.table,
       subst (λ n. n < c.args.words.now.table_id.words) (sym word_is) (pin_inside c.args.words.now.table_id.words me.0 c.requires.sound c.requires.few),
-      subst (λ n. Allows (IsRuled sizes) slots id me n (λ x. 0) (λ x. has_unpinned (step slots n 0 0 none) me 0)) (sym word_is)
+      subst (λ n. Allows (IsShadowed sizes) slots id me n (λ x. 0) (λ x. has_unpinned (step slots n 0 0 none) me 0)) (sym word_is)
           (unpin_allowed sizes slots id me c.requires.sound.bounds.1 c.requires.idle),
     )
 

@@ -12,8 +12,8 @@ free_ripe-requires-clause-limbo c =
     let is = ap (λ (me : _). me.0) c.see_epoch-epoch.ensures.seen.1 in
     knowing_limbo c.args.limbo.now v w (knowing_more v w epoch is c.see_epoch-epoch.ensures.seen.0) c.requires.limbo epoch (known_epoch v w epoch is)
 
-pub returns-then-not-has_any-clause-limbo : goal.returns-then-not-has_any-clause-limbo
-returns-then-not-has_any-clause-limbo c =
+pub returns-then-not-has_some-clause-limbo : goal.returns-then-not-has_some-clause-limbo
+returns-then-not-has_some-clause-limbo c =
     let v = c.args.actor.now.me.0 in
     let w = c.see_epoch-epoch.new.actor.me.0 in
     let epoch = c.see_epoch-epoch.result in

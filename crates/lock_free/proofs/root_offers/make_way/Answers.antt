@@ -8,7 +8,7 @@ use Rattle.lock_free.proofs.root_offers.make_way.Goals as goal
 pub yields-requires-clause-met : goal.yields-requires-clause-met
 yields-requires-clause-met c =
     let v = c.args.actor.now.me.0 in
-    offer_met v c.args.handle c.in-Offered.other c.requires.offering (told_offer v c.args.handle c.in-Offered.other c.args.found c.in-Offered.is c.requires.tells)
+    offer_met v c.args.handle c.in-Offered.other c.requires.offering (told_offer v c.args.handle c.in-Offered.other c.args.found c.in-Offered.is c.requires.pinned c.requires.tells)
 
 pub returns-in-Undecided-clause-made : goal.returns-in-Undecided-clause-made
 returns-in-Undecided-clause-made c = subst (λ f. HasYielded c.args.actor.now.me.0 c.in-Offered.other f c.yields.new.actor.me.0) c.in-Undecided.is c.yields.ensures.yielded
@@ -17,14 +17,14 @@ pub clean_settled-requires-clause-settled : goal.clean_settled-requires-clause-s
 clean_settled-requires-clause-settled c =
     let v = c.args.actor.now.me.0 in
     settled_at v c.yields.new.actor.me.0 c.args.words.now.table_id.words c.args.handle c.in-Offered.other _ true c.requires.sound
-    (told_offer v c.args.handle c.in-Offered.other c.args.found c.in-Offered.is c.requires.tells) refl
+    (told_offer v c.args.handle c.in-Offered.other c.args.found c.in-Offered.is c.requires.pinned c.requires.tells) refl
     (subst (λ f. HasYielded v c.in-Offered.other f c.yields.new.actor.me.0) c.in-CarriedOut.is c.yields.ensures.yielded)
 
 pub clean_settled-requires-in-TakenBack-clause-settled : goal.clean_settled-requires-in-TakenBack-clause-settled
 clean_settled-requires-in-TakenBack-clause-settled c =
     let v = c.args.actor.now.me.0 in
     settled_at v c.yields.new.actor.me.0 c.args.words.now.table_id.words c.args.handle c.in-Offered.other _ false c.requires.sound
-    (told_offer v c.args.handle c.in-Offered.other c.args.found c.in-Offered.is c.requires.tells) refl
+    (told_offer v c.args.handle c.in-Offered.other c.args.found c.in-Offered.is c.requires.pinned c.requires.tells) refl
     (subst (λ f. HasYielded v c.in-Offered.other f c.yields.new.actor.me.0) c.in-TakenBack.is c.yields.ensures.yielded)
 
 pub returns-in-CarriedOut-clause-made : goal.returns-in-CarriedOut-clause-made

@@ -1,8 +1,9 @@
-use Rattle.std.proofs.Common.{◌∙◌, refl, subst}
+use Rattle.std.proofs.Common.{◌∙◌, refl, subst, ap}
 use Rattle.lock_free.specs.RootOffers.{HasMadeWay, HasProposed}
 use Rattle.lock_free.proofs.Waiting.{saw_both, saw_none}
 use Rattle.lock_free.proofs.OfferTries.{missed_since, offered_since, seen_saw, seen_tells, still_to_offer, to_offer_since}
 use Rattle.lock_free.proofs.root_offers.offer_within.Goals as goal
+use Rattle.lock_free.specs.declared.rules.View.{View}
 
 pub loop-init : goal.loop-init
 loop-init c = (refl, c.requires.sound, saw_none c.args.words.now.table_id.words c.args.actor.now.me.0 c.requires.sound)
@@ -41,16 +42,23 @@ make_way-requires-clause-offering c =
     let u = c.args.actor.now.me.0 in
     let v = c.loop.actor.me.0 in
     let w = c.propose.new.actor.me.0 in
-    let told = subst (λ p. HasProposed v c.args.handle c.args.slot p w) c.in-Meets.is c.propose.ensures.proposed in
+    let told = (subst (λ p. HasProposed v c.args.handle c.args.slot p w) c.in-Meets.is c.propose.ensures.proposed).0 in
     still_to_offer w c.args.handle c.args.root c.args.slot
     (to_offer_since u w (saw_both u v c.loop.invariant.2 w (seen_saw v w c.args.handle c.in-Meets.found told)) c.args.words.now.table_id.words c.args.handle c.args.root c.args.slot
     c.requires.sound c.requires.offering)
+
+pub make_way-requires-clause-pinned : goal.make_way-requires-clause-pinned
+make_way-requires-clause-pinned c =
+    let v = c.loop.actor.me.0 in
+    let w = c.propose.new.actor.me.0 in
+    let told = subst (λ p. HasProposed v c.args.handle c.args.slot p w) c.in-Meets.is c.propose.ensures.proposed in
+    (told.1.0, ap (λ (x : View). x.pin) told.0.0.after_is ∙ told.1.1)
 
 pub make_way-requires-clause-tells : goal.make_way-requires-clause-tells
 make_way-requires-clause-tells c =
     let v = c.loop.actor.me.0 in
     let w = c.propose.new.actor.me.0 in
-    seen_tells v w c.args.handle c.in-Meets.found (subst (λ p. HasProposed v c.args.handle c.args.slot p w) c.in-Meets.is c.propose.ensures.proposed)
+    seen_tells v w c.args.handle c.in-Meets.found (subst (λ p. HasProposed v c.args.handle c.args.slot p w) c.in-Meets.is c.propose.ensures.proposed).0
 
 pub returns-then-make_way-clause-table : goal.returns-then-make_way-clause-table
 returns-then-make_way-clause-table c = c.make_way.ensures.table ∙ c.propose.ensures.table ∙ c.loop.invariant.0
@@ -60,7 +68,7 @@ returns-then-make_way-clause-offered c =
     let u = c.args.actor.now.me.0 in
     let v = c.loop.actor.me.0 in
     let w = c.propose.new.actor.me.0 in
-    let told = subst (λ p. HasProposed v c.args.handle c.args.slot p w) c.in-Meets.is c.propose.ensures.proposed in
+    let told = (subst (λ p. HasProposed v c.args.handle c.args.slot p w) c.in-Meets.is c.propose.ensures.proposed).0 in
     missed_since u w (saw_both u v c.loop.invariant.2 w (seen_saw v w c.args.handle c.in-Meets.found told)) c.make_way.new.actor.me.0
     (subst (λ b. HasMadeWay w b c.make_way.new.actor.me.0) c.if-make_way.true c.make_way.ensures.made)
 
@@ -69,7 +77,7 @@ loop-preserved c =
     let u = c.args.actor.now.me.0 in
     let v = c.loop.actor.me.0 in
     let w = c.propose.new.actor.me.0 in
-    let told = subst (λ p. HasProposed v c.args.handle c.args.slot p w) c.in-Meets.is c.propose.ensures.proposed in
+    let told = (subst (λ p. HasProposed v c.args.handle c.args.slot p w) c.in-Meets.is c.propose.ensures.proposed).0 in
     let seen = saw_both u v c.loop.invariant.2 w (seen_saw v w c.args.handle c.in-Meets.found told) in (
       c.make_way.ensures.table ∙ c.propose.ensures.table ∙ c.loop.invariant.0,
       c.make_way.ensures.sound,

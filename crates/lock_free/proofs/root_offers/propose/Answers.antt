@@ -6,7 +6,7 @@ use Rattle.trie_words.specs.Codes.{root_code}
 use Rattle.trie_words.specs.declared.roots.RootWord.TheVariants as word
 use Rattle.lock_free.specs.Places.{root_word}
 use Rattle.lock_free.specs.RootOffers.{has_proposed}
-use Rattle.lock_free.specs.Rules.{IsRuled}
+use Rattle.lock_free.specs.Shadows.{IsShadowed}
 use Rattle.lock_free.proofs.OfferStep.{offer_allowed, offer_fits}
 use Rattle.lock_free.proofs.SeenRoots.{root_inside}
 use Rattle.lock_free.proofs.root_offers.propose.Goals as goal
@@ -25,13 +25,13 @@ compare_exchange-found-requires c =
     let me = c.args.actor.now.me in (
       c.requires.table,
       subst (λ n. n < c.args.words.now.table_id.words) (sym c.root_word_of.ensures) (root_inside c.args.words.now.table_id.words me.0 c.requires.sound c.args.handle c.requires.low),
-      subst (λ n. Allows (IsRuled sizes) slots id me n (λ x. either (x == c.to_word-before.result) c.to_word-offered.result x)
+      subst (λ n. Allows (IsShadowed sizes) slots id me n (λ x. either (x == c.to_word-before.result) c.to_word-offered.result x)
           (has_proposed (step slots n c.to_word-before.result c.to_word-offered.result none) me))
           (sym c.root_word_of.ensures)
-          (subst (λ n. Allows (IsRuled sizes) slots id me (root_word c.args.handle) (λ x. either (x == n) c.to_word-offered.result x)
+          (subst (λ n. Allows (IsShadowed sizes) slots id me (root_word c.args.handle) (λ x. either (x == n) c.to_word-offered.result x)
           (has_proposed (step slots (root_word c.args.handle) n c.to_word-offered.result none) me))
           (sym c.to_word-before.ensures)
-          (subst (λ n. Allows (IsRuled sizes) slots id me (root_word c.args.handle) (λ x. either (x == root_code (word.Writable c.args.root)) n x)
+          (subst (λ n. Allows (IsShadowed sizes) slots id me (root_word c.args.handle) (λ x. either (x == root_code (word.Writable c.args.root)) n x)
           (has_proposed (step slots (root_word c.args.handle) (root_code (word.Writable c.args.root)) n none) me))
           (sym c.to_word-offered.ensures) (offer_allowed sizes slots id me c.requires.sound.bounds.1 c.args.handle c.args.root c.args.slot c.requires.offering))),
     )

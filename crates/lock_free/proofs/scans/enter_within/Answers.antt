@@ -10,7 +10,7 @@ use Rattle.lock_free.proofs.CallsDenied.{no_handle_denied}
 use Rattle.lock_free.proofs.CallsUnderWay.{left_again}
 use Rattle.lock_free.proofs.Scannings.{scan_entered, scan_listing, scan_lost_ended, scan_lost_may, scan_lost_stock, scan_refused, scan_same, scan_start, scan_stock}
 use Rattle.lock_free.proofs.Unbegun.{unbegun_told, unbegun_why}
-use Rattle.lock_free.proofs.WalksWhole.{ended_left}
+use Rattle.lock_free.proofs.OneWalk.Whole.{ended_left}
 use Rattle.lock_free.proofs.scans.enter_within.Goals as goal
 
 pub returns-then-handle-ge-HANDLES-clause-begun : goal.returns-then-handle-ge-HANDLES-clause-begun

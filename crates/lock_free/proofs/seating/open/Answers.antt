@@ -9,4 +9,4 @@ invariant_of-seat c =
     let v = c.in_ok-board.actor.me.0 in
     let none = c.new.ensures in
     first_seated c.args.sizes made.in_range c.in_ok-board.actor.table_id.words v (ap (λ me. me.0) made.actor.1) (subst (λ t. IsSound t.words v) (sym made.actor.0) made.sound) c.new.result none.sizes
-    (record { small = none.small; medium = none.medium; wide = none.wide; made = none.made; limbo = none.limbo })
+    (record { small = none.small; medium = none.medium; wide = none.wide; parted = none.parted; made = none.made; limbo = none.limbo })

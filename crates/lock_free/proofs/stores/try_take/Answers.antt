@@ -4,7 +4,7 @@ use prog.Atomic.{either}
 use Rattle.atomic_table.specs.Table.{Allows, step}
 use Rattle.lock_free.specs.Loading.{IsSound}
 use Rattle.lock_free.specs.Places.{part_of, slots_in, stride}
-use Rattle.lock_free.specs.Rules.{IsRuled}
+use Rattle.lock_free.specs.Shadows.{IsShadowed}
 use Rattle.lock_free.specs.Storing.{has_taken}
 use Rattle.lock_free.proofs.OwnSlots.{take_allowed, taken_sound}
 use Rattle.lock_free.proofs.stores.try_take.Goals as goal
@@ -18,7 +18,7 @@ compare_exchange-requires c =
     let me = c.args.actor.now.me in (
       c.requires.table,
       omega (arith, size, class, word),
-      subst (λ w. Allows (IsRuled c.args.words.now.key) c.args.words.now.table_id.slots c.args.actor.now.id me w (λ n. either (n == c.peek-count.result) (c.peek-count.result + 1) n)
+      subst (λ w. Allows (IsShadowed c.args.words.now.key) c.args.words.now.table_id.slots c.args.actor.now.id me w (λ n. either (n == c.peek-count.result) (c.peek-count.result + 1) n)
           (has_taken (step c.args.words.now.table_id.slots w c.peek-count.result (c.peek-count.result + 1) none) me)) (sym word)
           (take_allowed c.args.words.now.key c.args.words.now.table_id.slots c.args.actor.now.id me c.args.class c.requires.class c.peek-count.result few c.requires.sound.bounds.1),
     )

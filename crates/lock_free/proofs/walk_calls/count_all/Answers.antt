@@ -6,7 +6,7 @@ use Rattle.lock_free.specs.WholeCalls.{reply_or_none}
 use Rattle.lock_free.proofs.CallsDenied.{no_handle_denied}
 use Rattle.lock_free.proofs.CallsUnderWay.{left_again}
 use Rattle.lock_free.proofs.Unbegun.{denied_told, denied_why}
-use Rattle.lock_free.proofs.WalksWhole.{begun_walk, count_walk, ended_left, lack_fits, walk_told}
+use Rattle.lock_free.proofs.OneWalk.Whole.{begun_walk, count_walk, ended_left, lack_fits, walk_told}
 use Rattle.lock_free.proofs.walk_calls.count_all.Goals as goal
 
 pub begin_call-requires-clause-ready : goal.begin_call-requires-clause-ready

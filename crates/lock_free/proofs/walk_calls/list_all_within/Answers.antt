@@ -7,7 +7,7 @@ use Rattle.lock_free.proofs.CallsDenied.{no_handle_denied}
 use Rattle.lock_free.proofs.CallsBegun.{begun_so}
 use Rattle.lock_free.proofs.CallsUnderWay.{left_again}
 use Rattle.lock_free.proofs.Unbegun.{unbegun_told, unbegun_why}
-use Rattle.lock_free.proofs.WalksWhole.{begun_walk, entries_walk, ended_left, lack_fits, walk_told}
+use Rattle.lock_free.proofs.OneWalk.Whole.{begun_walk, entries_walk, ended_left, lack_fits, walk_told}
 use Rattle.lock_free.proofs.walk_calls.list_all_within.Goals as goal
 
 pub begin_call_within-requires-clause-ready : goal.begin_call_within-requires-clause-ready

@@ -3,7 +3,7 @@ use Rattle.history.specs.declared.calls.Call.TheVariants.{Entries}
 use Rattle.history.specs.declared.replies.Reply.TheVariants as reply
 use Rattle.lock_free.specs.Attempts.{HasEndedWith}
 use Rattle.lock_free.specs.WholeCalls.{IsWalkLack}
-use Rattle.lock_free.proofs.WalksWhole.{all_ended, all_ending, all_stock, at_start, lacking_ended, lacking_stock, lacks_so, may_lack}
+use Rattle.lock_free.proofs.OneWalk.Whole.{all_ended, all_ending, all_stock, at_start, lacking_ended, lacking_stock, lacks_so, may_lack}
 use Rattle.lock_free.proofs.walk_calls.list_from.Goals as goal
 
 pub all_pairs_within-requires-clause-at : goal.all_pairs_within-requires-clause-at

@@ -3,7 +3,7 @@ use Rattle.lock_free.specs.SeenEntries.{AreEntriesTo}
 use Rattle.machine_model.specs.Beneath.slot_arena.specs.Heaps.{node_at, entries_of}
 use Rattle.lock_free.specs.Loading.{now}
 use Rattle.lock_free.proofs.Laters.{later_self}
-use Rattle.lock_free.proofs.WalkMains.{branch_has, branch_seen, list_has, list_seen, tomb_seen}
+use Rattle.lock_free.proofs.OneWalk.Mains.{branch_has, branch_seen, list_has, list_seen, tomb_seen}
 use Rattle.lock_free.proofs.walking.see_all.Goals as goal
 
 pub see_entries-requires-clause-held : goal.see_entries-requires-clause-held

@@ -1,5 +1,5 @@
 use Rattle.std.proofs.Common.{refl, ◌∙◌}
-use Rattle.lock_free.proofs.WalkRoots.{asks_start, first_start, found_start, start_seen}
+use Rattle.lock_free.proofs.OneWalk.Roots.{asks_start, first_start, found_start, start_seen}
 use Rattle.lock_free.proofs.walking.start_within.Goals.{in-Offer, in-Nothing}
 use Rattle.lock_free.proofs.walking.start_within.Goals as goal
 

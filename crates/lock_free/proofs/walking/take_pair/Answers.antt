@@ -1,4 +1,4 @@
-use Rattle.lock_free.proofs.WalkTakes.{holds_taken, looks_taken, pair_taken}
+use Rattle.lock_free.proofs.OneWalk.Takes.{holds_taken, looks_taken, pair_taken}
 use Rattle.lock_free.proofs.walking.take_pair.Goals as goal
 
 pub see_key-key-requires-clause-held : goal.see_key-key-requires-clause-held

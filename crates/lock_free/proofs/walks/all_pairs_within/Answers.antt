@@ -1,8 +1,8 @@
 use Rattle.std.proofs.Common.{◌++◌, ◌∷◌, [], Ok, sym, subst, ◌∙◌}
 use Rattle.lock_free.specs.declared.walking.WalkError.{WalkError}
 use Rattle.lock_free.specs.Walks.{HasWalked, NextBy}
-use Rattle.lock_free.proofs.WalkBegins.{pairs_left, walking_now, way_walked}
-use Rattle.lock_free.proofs.WalkNexts.{then_all, then_left, then_walked}
+use Rattle.lock_free.proofs.OneWalk.Begins.{pairs_left, walking_now, way_walked}
+use Rattle.lock_free.proofs.OneWalk.Nexts.{then_all, then_left, then_walked}
 use Rattle.lock_free.proofs.walks.all_pairs_within.Goals as goal
 
 pub loop-init : goal.loop-init

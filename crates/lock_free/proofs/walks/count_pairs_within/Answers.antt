@@ -1,8 +1,8 @@
 use Rattle.std.proofs.Common.{◌++◌, ◌+◌, ◌∷◌, [], Ok, refl, sym, ap, subst, length-append, ◌∙◌}
 use Rattle.lock_free.specs.declared.walking.WalkError.{WalkError}
 use Rattle.lock_free.specs.Walks.{NextBy}
-use Rattle.lock_free.proofs.WalkBegins.{pairs_left, walking_now, way_walked}
-use Rattle.lock_free.proofs.WalkNexts.{then_all, then_left, then_walked}
+use Rattle.lock_free.proofs.OneWalk.Begins.{pairs_left, walking_now, way_walked}
+use Rattle.lock_free.proofs.OneWalk.Nexts.{then_all, then_left, then_walked}
 use Rattle.lock_free.proofs.walks.count_pairs_within.Goals as goal
 
 pub loop-count-init : goal.loop-count-init

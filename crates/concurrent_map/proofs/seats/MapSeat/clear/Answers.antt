@@ -1,11 +1,11 @@
 use Rattle.std.proofs.Common.{ap}
 use Rattle.history.specs.declared.calls.Call.TheVariants.{Clear}
 use Rattle.history.specs.declared.replies.Reply.TheVariants as reply
-use Rattle.concurrent_map.proofs.Told.{told_reply}
+use Rattle.concurrent_map.proofs.Told.{told_at_last}
 use Rattle.concurrent_map.proofs.seats.MapSeat.clear.Goals as goal
 
 pub returns-clause-told : goal.returns-clause-told
 returns-clause-told g c =
     let laws = c.histories_stay.ensures in
-    told_reply (λ done. reply.Cleared) _ _ _ _ _ _ c.self.view_is (ap (λ h. Clear h) c.number.ensures)
+    told_at_last (λ done. reply.Cleared) _ _ _ _ _ _ c.self.view_is (ap (λ h. Clear h) c.number.ensures)
     laws.go_on laws.others c.self.invariant c.clear.ensures.seat c.clear.ensures.told

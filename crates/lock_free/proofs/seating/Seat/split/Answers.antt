@@ -35,7 +35,7 @@ invariant_of-result c =
     let table = ap (λ (x : Seated). x.table) c.self.view_is ∙ c.requires.table in
     right_seated s.result.table_id.words a.me.0 0 c.load.result c.load.new.seat.me.0 c.load.ensures.2.0 is.rests is.actors more s.result.me.0 (ap (λ me. me.0) s.ensures.right)
     (subst (λ t. IsSound t.words s.result.me.0) (sym (s.ensures.table.1 ∙ c.load.ensures.0 ∙ table)) s.ensures.sound.1) c.self.inside.last is.its_last c.new.result
-    (none.sizes ∙ c.sizes.ensures ∙ is.owns.sizes) (record { small = none.small; medium = none.medium; wide = none.wide; made = none.made; limbo = none.limbo })
+    (none.sizes ∙ c.sizes.ensures ∙ is.owns.sizes) (record { small = none.small; medium = none.medium; wide = none.wide; parted = none.parted; made = none.made; limbo = none.limbo })
 
 pub returns : goal.returns
 returns c =

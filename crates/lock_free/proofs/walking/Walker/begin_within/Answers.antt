@@ -1,6 +1,6 @@
 use Rattle.std.proofs.Common.{subst}
 use Rattle.lock_free.specs.Walks.{FoundStartOrNot}
-use Rattle.lock_free.proofs.WalkBegins.{begun, begun_left, start_reads, start_spent, start_way}
+use Rattle.lock_free.proofs.OneWalk.Begins.{begun, begun_left, start_reads, start_spent, start_way}
 use Rattle.lock_free.proofs.walking.Walker.begin_within.Goals as goal
 
 pub enter_within-requires-clause-way : goal.enter_within-requires-clause-way

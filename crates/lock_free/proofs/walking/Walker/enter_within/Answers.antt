@@ -1,5 +1,5 @@
 use Rattle.std.proofs.Common.{◌++◌, reverse, ap, ◌∙◌}
-use Rattle.lock_free.proofs.WalkEnters.{enter_spent, at_main, enter_left, entered, looks_main, passing}
+use Rattle.lock_free.proofs.OneWalk.Enters.{enter_spent, at_main, enter_left, entered, looks_main, passing}
 use Rattle.lock_free.proofs.walking.Walker.enter_within.Goals as goal
 
 pub read_on-requires-clause-passing : goal.read_on-requires-clause-passing

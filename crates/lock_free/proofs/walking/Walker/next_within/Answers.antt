@@ -1,5 +1,5 @@
 use Rattle.std.proofs.Common.{◌++◌, ◌-◌, [], refl, sym, ap, take, ◌∙◌}
-use Rattle.lock_free.proofs.WalkNexts.{all_had, goes_first, goes_next, left_next, link_next, next_had, reads_next, single_next, walk_spent, way_next}
+use Rattle.lock_free.proofs.OneWalk.Nexts.{all_had, goes_first, goes_next, left_next, link_next, next_had, reads_next, single_next, walk_spent, way_next}
 use Rattle.lock_free.proofs.walking.Walker.next_within.Goals as goal
 
 pub loop-init : goal.loop-init

@@ -1,0 +1,40 @@
+-- The machine values of a `HeldCaller`. Assumes `Logic`.
+use Rattle.std.proofs.Common.{◌≡◌, List, [], ◌∷◌, ◌++◌, refl, subst}
+use seplogic.Ra.Ura.{Ura}
+use mir.Val.{Val, vstruct, of_list}
+use types.Logic.{Logic}
+use types.Kit.{Item, Goal, Seq, Step, step, ‵, ◌$◌, move, drop, fsplit, fjoin, fpick, fpack, feq_i, feq_l}
+use denote.RattleType.{RattleType, Valss}
+use denote.Builtin.{RawPtr}
+use denote.RawPtr.{Ptr, ptr_val}
+use denote.Steps.{nothing}
+use denote.Param.{layout}
+use denote.Struct.Struct.{within}
+use denote.Struct.Owning.{shape}
+use Rattle.core.proofs.alloc.Calls.{handle_tells}
+use Rattle.core.proofs.cell.Inside.{Good}
+use Rattle.std.specs.Prelude.{Option}
+use Rattle.std.specs.Global.{Global}
+use Rattle.std.specs.contracts.alloc.Global as heap
+use Rattle.ctrie_c.specs.contracts.threading.ThreadingSeat as threading
+use Rattle.ctrie_c.specs.Holding.{holds}
+use Rattle.ctrie_c.specs.contracts.held_callers.HeldCaller as held
+use Rattle.ctrie_c.proofs.HeldValues.{Z, al}
+use Rattle.ctrie_c.proofs.Values.{both}
+
+abbrev pub R : RattleType
+R = threading.the_row
+
+module _ {M : Type 1} {𝓤 : Ura M} {𝓛 : Logic 𝓤} {K : Type 0} {Γ : List (Item 𝓤)} {G : Goal 𝓤 𝓛.H} where
+  pub held_out : K → (d : held.the_row.Denot) (vs : List Val)
+      → ((h : Val) → vs ≡ both (ptr_val d.at) h ∷ [] → Good (layout Z) h → Seq K 𝓛 (‵ (holds R d.alloc d.at d.state) ∷ ‵ (Z.own_val d.alloc (h ∷ [])) ∷ Γ) G)
+      → Seq K 𝓛 (‵ (held.the_row.own_val d vs) ∷ Γ) G
+  held_out t d vs k =
+      fsplit t $ fpick t (λ vss. fsplit t $ feq_l t (λ ev. fsplit t $ feq_l t (λ ep. fsplit t $ handle_tells al t d.alloc vss.1.0 (λ h ea fits. move t (1 ∷ []) $ drop t $ move t (1 ∷ []) $
+      k h (subst (λ (ws : List Val). vs ≡ vstruct (of_list (ptr_val d.at ∷ (ws ++ []))) ∷ []) ea (subst (λ (ps : List Val). vs ≡ vstruct (of_list (ps ++ (vss.1.0 ++ []))) ∷ []) ep ev)) fits))))
+
+  pub held_in : K → (p : Ptr) (h : Val) (a : Global) (s : Option R.Denot)
+      → Step K 𝓛 (‵ (held.the_row.own_val (record { at = p; alloc = a; state = s }) (both (ptr_val p) h ∷ [])) ∷ Γ) G (‵ (holds R a p s) ∷ ‵ (Z.own_val a (h ∷ [])) ∷ Γ) G
+  held_in t p h a s = step (λ k. let v : Val = both (ptr_val p) h in
+      nothing t $ move t (2 ∷ 0 ∷ []) $ fjoin t $ feq_i t (List Val) (ptr_val p ∷ []) (ptr_val p ∷ []) refl $ fjoin t $ feq_i t (List Val) (v ∷ []) (v ∷ []) refl $ fjoin t $
+      fpack t (Valss (RawPtr ∷ Z ∷ [])) (within (shape held.the_type) (p, (heap.the_field.into a, tt)) (v ∷ [])) (ptr_val p ∷ [], (h ∷ [], tt)) $ fjoin t $ k)
