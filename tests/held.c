@@ -20,7 +20,7 @@
 
 /* A call that makes so many accesses has no end; a thousandth of it would be many. Where a worker is held and there is no access for so long,
    the others wait for it. */
-enum { MOST_ACCESSES = 1000000, MOST_SECONDS = 20, MOST_NAPS = 10000 };
+enum { MOST_ACCESSES = 10000000, MOST_SECONDS = 20, MOST_NAPS = 10000 };
 enum { MOST = 64, MOST_HOLDS = 4096 };
 
 struct hold {
@@ -146,7 +146,7 @@ static void look_for_waits(uint64_t accesses) {
     naps++;
     if (naps > MOST_NAPS && now.tv_sec - since > MOST_SECONDS) give_up("no access is made", "");
     for (int n = 0; n < atomic_load(&count); n++)
-        if (atomic_load(&workers[n].accesses_of_call) >= MOST_ACCESSES) give_up("a million accesses in one call of ", atomic_load(&workers[n].call));
+        if (atomic_load(&workers[n].accesses_of_call) >= MOST_ACCESSES) give_up("ten million accesses in one call of ", atomic_load(&workers[n].call));
 }
 
 /* Sends a signal to the first worker from this number on that isn't held. */

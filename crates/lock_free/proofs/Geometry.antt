@@ -1,8 +1,8 @@
 -- No two things have a word in common.
-use Rattle.std.proofs.Common.{◌≡◌, ◌≢◌, ◌+◌, ◌*◌, ◌<◌, ◌≤◌, ℕ, zero, suc, List, refl, ap, subst, arith, if◌then◌else◌}
+use Rattle.std.proofs.Common.{◌≡◌, ◌+◌, ◌*◌, ◌<◌, ◌≤◌, ℕ, zero, suc, List, refl, ap, subst, arith, if◌then◌else◌}
 use Rattle.std.proofs.lemmas.Bool.{ne_eqb}
 use Rattle.lock_free.specs.declared.sizes.Sizes.{Sizes}
-use Rattle.lock_free.specs.Places.{epoch_word, part_of, stride, words_in, slots_in, first_slot_word, words_of, root_word, IsSlot, IsTaken, HaveTaken}
+use Rattle.lock_free.specs.Places.{part_of, stride, words_in, slots_in, first_slot_word, words_of, root_word, IsSlot, IsTaken, HaveTaken}
 
 -- the word is one of the slot's
 pub record IsWordOf (class name i : ℕ) : Type 0 where

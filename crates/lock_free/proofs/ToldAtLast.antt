@@ -1,5 +1,5 @@
 -- A call that begins anew once it was refused: what is told of its last try.
-use Rattle.std.proofs.Common.{◌≡◌, ◌++◌, ◌∷◌, [], ℕ, Bool, true, false, Option, Some, None, Result, Ok, Err, refl, sym, ap, subst, ◌∙◌, append-nil, append_assoc}
+use Rattle.std.proofs.Common.{◌≡◌, ◌++◌, ◌∷◌, [], ℕ, Bool, true, false, inl, inr, Option, Some, None, Result, Ok, Err, refl, sym, ap, subst, ◌∙◌, append-nil, append_assoc}
 use Rattle.std.proofs.lemmas.List.Elements.{All-append, All-cons, All-nil}
 use Rattle.history.specs.declared.calls.Call.{Call}
 use Rattle.history.specs.declared.replies.Reply.{Reply}
@@ -7,13 +7,13 @@ use Rattle.history.specs.declared.replies.Reply.TheVariants as reply
 use Rattle.machine_model.specs.Calls.{opens_handle}
 use Rattle.lock_free.specs.CellWords.{HasTidied}
 use Rattle.lock_free.specs.declared.call_errors.CallError.{CallError}
-use Rattle.lock_free.specs.declared.call_errors.CallError.TheVariants.{Full}
+use Rattle.lock_free.specs.declared.call_errors.CallError.TheVariants as error
 use Rattle.lock_free.specs.declared.rules.View.{View}
 use Rattle.lock_free.specs.Answering.{answers_at, HasAnswered}
 use Rattle.lock_free.specs.Answers.{Answer}
 use Rattle.lock_free.specs.KeyReplies.{TellsHandle}
 use Rattle.lock_free.specs.Limbos.{HasReclaimedSome}
-use Rattle.lock_free.specs.SlotWaits.{HasToldAtLast, HasTriedInVain, IsRefusalOf, IsToldAtLast, IsToldCopyAtLast}
+use Rattle.lock_free.specs.SlotWaits.{HasToldAtLast, HasTriedInVain, IsInVain, IsRefusalOf, IsToldAtLast, IsToldCopyAtLast}
 use Rattle.lock_free.specs.TriedCalls.{HasTold, IsToldBy}
 use Rattle.lock_free.specs.WholeCalls.{HasLeft, SameSeat}
 use Rattle.lock_free.proofs.CellStock.{given_none}
@@ -49,16 +49,21 @@ in_vain_tidied v w x c h r = subst (HasTriedInVain v c) (sym r.is) (record {
   of_call = h.of_call;
 })
 
--- who was told that it is full was refused
-refused_so : (v w : View) (c : Call) → HasTold v c (Err Full) w → (opens : Option ℕ) × HasAnswered v c opens reply.NoSlots w
-refused_so v w c h = by (opens_handle c) h.is
+-- who was told so has given up
+gave_up : (v w : View) (c : Call) (told : Result Reply CallError) → IsInVain told → HasTold v c told w → (opens : Option ℕ) × HasAnswered v c opens reply.NoSlots w
+gave_up v w c told (inl full) h = by (opens_handle c) (subst (λ t. HasTold v c t w) full h).is
   where
-    by : (b : Bool) → IsToldBy b v c (Err Full) w → (opens : Option ℕ) × HasAnswered v c opens reply.NoSlots w
+    by : (b : Bool) → IsToldBy b v c (Err error.Full) w → (opens : Option ℕ) × HasAnswered v c opens reply.NoSlots w
+    by true (number, its) = (Some number, its)
+    by false its = (None, its)
+gave_up v w c told (inr spent) h = by (opens_handle c) (subst (λ t. HasTold v c t w) spent h).is
+  where
+    by : (b : Bool) → IsToldBy b v c (Err error.Spent) w → (opens : Option ℕ) × HasAnswered v c opens reply.NoSlots w
     by true (number, its) = (Some number, its)
     by false its = (None, its)
 
-pub in_vain_told : (v w : View) (c : Call) → HasToldAtLast v c (Err Full) w → HasTriedInVain v c w
-in_vain_told v w c (last, h, same, told) = let (opens, its) = refused_so last w c told in one_more v last w c opens h same its
+pub in_vain_told : (v w x : View) (c : Call) (told : Result Reply CallError) → HasTriedInVain v c w → SameSeat w x → IsInVain told → HasTold w c told x → HasTriedInVain v c x
+in_vain_told v w x c told h same vain is = let (opens, its) = gave_up w x c told vain is in one_more v w x c opens h same its
 
 -- ---- at last
 

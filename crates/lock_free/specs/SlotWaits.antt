@@ -1,9 +1,10 @@
 -- Calls that begin anew where they have found no slot, while some are to be free for their seat soon.
-use Rattle.std.specs.Prelude.{◌≡◌, ◌++◌, ℕ, All, List, Result}
+use Rattle.std.specs.Prelude.{◌≡◌, ◌⊎◌, ◌++◌, ℕ, All, List, Result, Err}
 use Rattle.history.specs.declared.calls.Call.{Call}
 use Rattle.history.specs.declared.replies.Reply.{Reply}
 use Rattle.history.specs.declared.replies.Reply.TheVariants as reply
 use Rattle.lock_free.specs.declared.call_errors.CallError.{CallError}
+use Rattle.lock_free.specs.declared.call_errors.CallError.TheVariants as error
 use Rattle.lock_free.specs.declared.rules.View.{View}
 use Rattle.lock_free.specs.Answering.{answers_at}
 use Rattle.lock_free.specs.Answers.{Answer}
@@ -11,10 +12,14 @@ use Rattle.lock_free.specs.SeatCalls.{IsTold}
 use Rattle.lock_free.specs.TriedCalls.{HasTold}
 use Rattle.lock_free.specs.WholeCalls.{IsToldCopy, SameSeat}
 
--- a try of this call that was refused, since no slot was had: as it stands in no order, it has changed nothing
+-- a try of this call that has given up: as it stands in no order, it has changed nothing
 pub record IsRefusalOf (call : Call) (answer : Answer) : Type 0 where
   pub its : answer.of.call ≡ call
   pub refuses : answer.reply ≡ reply.NoSlots
+
+-- who is told so has found no slot, or come to nothing: the operation has given up
+abbrev pub IsInVain : Result Reply CallError → Type 0
+IsInVain told = (told ≡ Err error.Full) ⊎ (told ≡ Err error.Spent)
 
 -- the seat was answered such refusals alone since then, or nothing
 pub record HasTriedInVain (before : View) (call : Call) (after : View) : Type 0 where

@@ -24,8 +24,26 @@ pub enum Lack {
     Generation,
 }
 
-/// So many calls may lack a slot, one after the other, before one is told that there is none.
+/// So many calls in a number of tries may lack a slot, one after the other, before one is told that there is none.
 const PATIENCE: u32 = 100_000;
+
+/// How long a call that has found no slot waits, at most.
+#[derive(Clone, Copy, Debug, PartialEq, Eq, Drop)]
+pub(crate) struct Patience {
+    /// So often it begins anew.
+    pub tries: u32,
+    /// So often its seat looks at the epoch before each of these times.
+    pub looks: u32,
+}
+
+/// Some hundredths of a second at least, which is longer than a thread mostly has to wait for its processor.
+const PATIENT: Patience = Patience {
+    tries: 100,
+    looks: 4_000,
+};
+
+/// One look more.
+const IMPATIENT: Patience = Patience { tries: 1, looks: 1 };
 
 /// How a seat's call is made, and what it lacks.
 #[derive(Clone, Copy, Debug, PartialEq, Eq, Drop)]
@@ -69,19 +87,31 @@ impl Lacks {
         self.lack = Lack::Generation;
     }
 
-    /// It has found no slot in this epoch. Some may be free for its seat soon, or not.
-    pub(crate) fn find_none(&mut self, soon: bool, epoch: u64) {
-        let in_vain = self.often >= PATIENCE || self.in_vain == Some(epoch);
+    /// It has found no slot. Some may be free for its seat soon, or not.
+    pub(crate) fn find_none(&mut self, soon: bool) {
+        let is_long = self.often >= PATIENCE;
         self.often = self.often.saturating_add(1);
         self.lack = match self.manner {
-            _ if in_vain || !soon => Lack::Slot,
+            _ if !soon => Lack::Slot,
             Manner::Waits => Lack::SlotSoon,
+            Manner::Tries if is_long => Lack::Slot,
             Manner::Tries => Lack::Tries,
         };
     }
 
-    /// It has waited for slots in vain: until the epoch has grown from this one none waits for them.
+    /// How long one that finds no slot in this epoch waits: hardly, where calls have waited in vain.
+    pub(crate) fn patience(&self, epoch: u64) -> Patience {
+        if self.in_vain == Some(epoch) {
+            IMPATIENT
+        } else {
+            PATIENT
+        }
+    }
+
+    /// It is over. If it still lacks a slot, calls have waited in vain until the epoch has grown from this one.
     pub(crate) fn stop_waiting(&mut self, epoch: u64) {
-        self.in_vain = Some(epoch);
+        if matches!(self.lack, Lack::SlotSoon) {
+            self.in_vain = Some(epoch);
+        }
     }
 }

@@ -1,12 +1,11 @@
-//! Calls that have found no slot, while some are to be free for their seat soon: they wait, and begin anew.
+//! Calls that have found no slot, while some are to be free for their seat soon: they wait, and begin anew. So do those that came to nothing.
 
-ghost use Rattle.std.specs.Prelude.{◌≡◌, ◌≤◌, Err, None, IsTrue};
-ghost use Rattle.lock_free.specs.declared.call_errors.CallError.TheVariants.{Full};
+ghost use Rattle.std.specs.Prelude.{◌≡◌, ◌≤◌, None, IsTrue};
 ghost use Rattle.lock_free.specs.declared.rules.View.{View};
 ghost use Rattle.lock_free.specs.Attempts.{IsKeyed, IsTried};
 ghost use Rattle.lock_free.specs.Limbos.{HasReclaimedSome};
 ghost use Rattle.lock_free.specs.Loading.{IsSound};
-ghost use Rattle.lock_free.specs.SlotWaits.{HasToldAtLast};
+ghost use Rattle.lock_free.specs.SlotWaits.{HasToldAtLast, HasTriedInVain, IsInVain};
 ghost use Rattle.lock_free.specs.Stocks.{IsStock};
 ghost use Rattle.lock_free.specs.TriedCalls.{HasTold};
 ghost use Rattle.lock_free.specs.WholeCalls.{HasLeft, RestsWith, SameSeat};
@@ -22,21 +21,23 @@ use history::{Call, Reply};
 use std::sync::Wait;
 use std::thread;
 
-/// So often a call begins anew, at most.
-const TRIES: u32 = 100;
-
-/// So often its seat looks at the epoch before each of them, at most.
-const LOOKS: u32 = 100;
-
-/// Whether a call that was told this is to begin anew.
+/// Whether a call that was told this, and has begun anew so often, is to begin anew: it has found no slot, while some are to be free for its seat
+/// soon; or it lacked nothing, but what it was to share with others had gone meanwhile.
 #[inline(always)]
-fn is_to_wait(stock: &Stock, told: &Result<Reply, CallError>) -> bool
-    ensures { IsTrue result → told.now ≡ Err Full }
+fn begins_anew(stock: &Stock, told: &Result<Reply, CallError>, tried: u32) -> bool
+    ensures { IsTrue result → IsInVain told.now }
 {
-    matches!(told, Err(CallError::Full)) && matches!(stock.lacked(), Lack::SlotSoon)
+    match told {
+        Err(CallError::Full) => {
+            matches!(stock.lacked(), Lack::SlotSoon) && tried < stock.patience().tries
+        }
+        Err(CallError::Spent) => matches!(stock.lacked(), Lack::Nothing),
+        _ => false,
+    }
 }
 
-/// Looks at the epoch until that has grown, or so many times; before each look other threads may run.
+/// Looks at the epoch until that has grown, or so many times; before the first of each sixteen looks other threads may run. Where the call has lacked nothing there is
+/// nothing to wait for.
 fn wait_for_epoch(words: &Words, actor: &mut Actor, stock: &mut Stock)
     requires table { actor.old.table_id ≡ words.now.table_id }
     requires sound { IsSound words.now.table_id.words actor.old.me.0 }
@@ -46,9 +47,14 @@ fn wait_for_epoch(words: &Words, actor: &mut Actor, stock: &mut Stock)
     ensures stock { IsStock stock.new actor.new.me.0 }
     ensures reclaimed { HasReclaimedSome actor.old.me.0 actor.new.me.0 }
 {
+    if matches!(stock.lacked(), Lack::Nothing) {
+        return;
+    }
     let epoch = stock.epoch();
-    for _ in 0..LOOKS {
-        thread::yield_now();
+    for look in 0..stock.patience().looks {
+        if look % 16 == 0 {
+            thread::yield_now();
+        }
         make_free(words, actor, stock);
         if stock.epoch() != epoch {
             return;
@@ -56,7 +62,7 @@ fn wait_for_epoch(words: &Words, actor: &mut Actor, stock: &mut Stock)
     }
 }
 
-/// A call by this seat, `seat`, which has found no slot, begins anew as long as some are to be free for the seat soon.
+/// A call by this seat, `seat`, which was refused such slots, or came to nothing, begins anew as long as that is so.
 #[cold]
 #[inline(never)]
 fn call_anew<R: Wait>(
@@ -77,21 +83,24 @@ fn call_anew<R: Wait>(
     ensures table { actor.new.table_id ≡ actor.old.table_id }
     ensures sound { IsSound words.now.table_id.words actor.new.me.0 }
     ensures stock { IsStock stock.new actor.new.me.0 }
-    ensures told { (before : View) → SameSeat before actor.old.me.0 → HasTold before call (Err Full) actor.old.me.0 → HasToldAtLast before call result actor.new.me.0 }
+    ensures told { (before : View) → HasTriedInVain before call actor.old.me.0 → HasToldAtLast before call result actor.new.me.0 }
     ensures left { HasLeft actor.old.me.0 actor.new.me.0 }
 {
-    for _ in 0..TRIES {
+    let mut tried = 0u32;
+    for _ in rt.forever() {
         wait_for_epoch(words, actor, stock);
         let told = run_to_end(rt, words, actor, stock, seat, call);
-        if !is_to_wait(stock, &told) {
+        tried = tried.saturating_add(1);
+        if !begins_anew(stock, &told, tried) {
+            stock.stop_waiting();
             return told;
         }
     }
-    stock.stop_waiting();
-    Err(CallError::Full)
+    unreachable!()
 }
 
-/// A call by this seat, `seat`, that was told this: where it has found no slot, while some are to be free for the seat soon, it waits for these.
+/// A call by this seat, `seat`, that was told this: where it has found no slot, while some are to be free for the seat soon, or came to nothing, it
+/// begins anew.
 #[inline(always)]
 fn wait_for_slots<R: Wait>(
     rt: &R,
@@ -115,7 +124,7 @@ fn wait_for_slots<R: Wait>(
     ensures told { (before : View) → SameSeat before actor.old.me.0 → HasTold before call told actor.old.me.0 → HasToldAtLast before call result actor.new.me.0 }
     ensures left { HasLeft actor.old.me.0 actor.new.me.0 }
 {
-    if is_to_wait(stock, &told) {
+    if begins_anew(stock, &told, 0) {
         call_anew(rt, words, actor, stock, seat, call)
     } else {
         told

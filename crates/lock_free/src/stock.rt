@@ -12,7 +12,7 @@ ghost use Rattle.lock_free.specs.Rules.{pool_of};
 ghost use Rattle.lock_free.specs.Stocks.{HasRoom, HasRoomFor, IsLast, NotesLast, put_back};
 
 use crate::free_slots::Free;
-use crate::lacks::{Lack, Lacks, Manner};
+use crate::lacks::{Lack, Lacks, Manner, Patience};
 use crate::limbo::{Limbo, hang};
 use crate::loads::{Actor, Words};
 use crate::reclaiming::Kind;
@@ -125,7 +125,7 @@ impl Stock {
     {
         let others = self.sizes.seats > 1 || self.free.has_parted(self.made.len());
         let soon = others || self.has_to_come(0) || self.has_to_come(1) || self.has_to_come(2);
-        self.lacks.find_none(soon, self.limbo.seen);
+        self.lacks.find_none(soon);
         self.newly = u32::MAX;
     }
 
@@ -134,7 +134,12 @@ impl Stock {
         self.free.has_any_parted()
     }
 
-    /// Its call has waited for slots in vain: until the epoch has grown none waits for them.
+    /// How long its call that finds no slot waits.
+    pub(crate) fn patience(&self) -> Patience {
+        self.lacks.patience(self.limbo.seen)
+    }
+
+    /// Its call is over, which has waited for slots where it still lacks one.
     pub fn stop_waiting(&mut self)
         ensures { self.new ≡ self.old }
     {

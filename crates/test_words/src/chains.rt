@@ -40,7 +40,39 @@ const REMOVED: u64 = 7;
 #[derive(Clone, Copy)]
 struct Seen {
     copies: u64,
+    /// How often it couldn't copy: a seat copies a map so often at most while another thread stays in one call.
+    refused: u64,
     wrong: u64,
+}
+
+impl Seen {
+    fn nothing() -> Seen {
+        Seen {
+            copies: 0,
+            refused: 0,
+            wrong: 0,
+        }
+    }
+
+    /// What came of a look at a copy.
+    fn add(&mut self, looked: Result<bool, CallError>) -> Result<(), CallError> {
+        match looked {
+            Ok(is_right) => {
+                self.copies = self.copies.saturating_add(1);
+                self.wrong = self.wrong.saturating_add(u64::from(!is_right));
+            }
+            Err(CallError::Full) => self.refused = self.refused.saturating_add(1),
+            Err(why) => return Err(why),
+        }
+        Ok(())
+    }
+
+    /// What another thread has seen, too.
+    fn join(&mut self, other: Seen) {
+        self.copies = self.copies.saturating_add(other.copies);
+        self.refused = self.refused.saturating_add(other.refused);
+        self.wrong = self.wrong.saturating_add(other.wrong);
+    }
 }
 
 /// A seat after its rounds, with what it has seen.
@@ -155,6 +187,27 @@ fn look<N: MapName, R: Wait>(
     Ok(is_right)
 }
 
+/// A look at a frozen copy of this copy, which is cleared then.
+fn look_at_own<N: MapName, R: Wait>(
+    rt: &R,
+    alloc: Global,
+    words: &NamedWords<N>,
+    seat: &mut NamedSeat<N>,
+    load: Load,
+    own: u16,
+) -> Result<bool, CallError> {
+    let copy = seat.freeze(rt, words, own)?;
+    let cleared = seat.clear(rt, words, own);
+    if !look(rt, alloc, words, seat, load, copy)? {
+        return Ok(false);
+    }
+    cleared?;
+    let empty = seat.freeze(rt, words, own)?;
+    let is_empty = seat.count(alloc, rt, words, empty)? == 0;
+    seat.close(words, empty)?;
+    Ok(is_empty)
+}
+
 /// A look at a frozen copy, now and then at one of a copy that may be written, and was.
 fn look_at_copy<N: MapName, R: Wait>(
     rt: &R,
@@ -169,14 +222,9 @@ fn look_at_copy<N: MapName, R: Wait>(
         return look(rt, alloc, words, seat, load, copy);
     }
     let own = seat.snapshot(rt, words, 0)?;
-    let copy = seat.freeze(rt, words, own)?;
-    seat.clear(rt, words, own)?;
-    let is_right = look(rt, alloc, words, seat, load, copy)?;
-    let empty = seat.freeze(rt, words, own)?;
-    let is_empty = seat.count(alloc, rt, words, empty)? == 0;
-    seat.close(words, empty)?;
+    let looked = look_at_own(rt, alloc, words, seat, load, own);
     seat.close(words, own)?;
-    Ok(is_right && is_empty)
+    looked
 }
 
 /// A thread's round with one of its chains.
@@ -205,18 +253,13 @@ fn work<N: MapName, R: Wait>(
     seat: &mut NamedSeat<N>,
 ) -> Result<Seen, CallError> {
     let first = 2 * u64::from(seat.number() - 1);
-    let mut seen = Seen {
-        copies: 0,
-        wrong: 0,
-    };
+    let mut seen = Seen::nothing();
     for n in 0..load.rounds {
         let round = n.wrapping_add(load.seed);
         turn(rt, words, seat, load, first, n)?;
         turn(rt, words, seat, load, first + 1, n)?;
         if round % EVERY == 0 {
-            let is_right = look_at_copy(rt, alloc, words, seat, load, round)?;
-            seen.copies = seen.copies.saturating_add(1);
-            seen.wrong = seen.wrong.saturating_add(u64::from(!is_right));
+            seen.add(look_at_copy(rt, alloc, words, seat, load, round))?;
         }
     }
     Ok(seen)
@@ -258,14 +301,10 @@ fn seen_at<N: MapName + Send + Sync, R: Threads + Wait + Sync + AllocGlobal>(
         &|seat: NamedSeat<N>| rounds_of(rt, alloc, &words, load, seat),
     )?;
     let mut seats = Vec::new(alloc);
-    let mut all = Seen {
-        copies: 0,
-        wrong: 0,
-    };
+    let mut all = Seen::nothing();
     for looker in lookers {
         let Looker { seat, seen } = looker?;
-        all.copies = all.copies.saturating_add(seen.copies);
-        all.wrong = all.wrong.saturating_add(seen.wrong);
+        all.join(seen);
         seats.push(seat)?;
     }
     match words.finish(alloc, seats) {
@@ -283,8 +322,8 @@ pub fn judge<R: Threads + Wait + Sync + Print + AllocGlobal>(
     let (board, seat) = open(rt.alloc(), sizes_for(load.threads, load.hash, puts))?;
     let seen = seen_at::<Brand, R>(rt, board, seat, load)?;
     let _ = println!(rt;
-        "chains of {} threads with the hash {}: {} copies, {} not in order",
-        load.threads, load.hash, seen.copies, seen.wrong
+        "chains of {} threads with the hash {}: {} copies, {} refused, {} not in order",
+        load.threads, load.hash, seen.copies, seen.refused, seen.wrong
     );
     Ok(seen.wrong == 0)
 }

@@ -24,10 +24,9 @@ use Rattle.lock_free.specs.UnderWay.{IsUnderWay}
 use Rattle.lock_free.specs.WholeCalls.{HasLeft, RestsWith}
 use Rattle.lock_free.proofs.BetweenCalls.{idle_stock}
 use Rattle.lock_free.proofs.CallBegins.{rests_ended}
-use Rattle.lock_free.proofs.CallsBegun.{late_again, late_keeps, late_still, still_now}
+use Rattle.lock_free.proofs.CallsBegun.{late_again, late_keeps, late_still}
 use Rattle.lock_free.proofs.CallsRunOn.{at_end}
 use Rattle.lock_free.proofs.Comings.{runs_one}
-use Rattle.lock_free.proofs.Followings.{goes_self}
 use Rattle.lock_free.proofs.GiveUpStep.{ends_then}
 use Rattle.lock_free.proofs.RunningOn.{runs_on_given_up, runs_on_self}
 use Rattle.lock_free.proofs.WholeCalls.{tried_ready}

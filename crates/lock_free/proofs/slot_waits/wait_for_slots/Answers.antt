@@ -1,15 +1,15 @@
-use Rattle.std.proofs.Common.{subst}
-use Rattle.lock_free.specs.TriedCalls.{HasTold}
 use Rattle.lock_free.proofs.CallsUnderWay.{rests_still}
-use Rattle.lock_free.proofs.ToldAtLast.{told_first}
+use Rattle.lock_free.proofs.ToldAtLast.{in_vain_told, none_in_vain, told_first}
 use Rattle.lock_free.proofs.slot_waits.wait_for_slots.Goals as goal
 
-pub returns-then-is_to_wait-clause-told : goal.returns-then-is_to_wait-clause-told
-returns-then-is_to_wait-clause-told g c before same told =
-    c.call_anew.ensures.told before same (subst (λ t. HasTold before c.args.call t c.args.actor.now.me.0) (c.is_to_wait.ensures c.if-is_to_wait.true) told)
+pub returns-then-begins_anew-clause-told : goal.returns-then-begins_anew-clause-told
+returns-then-begins_anew-clause-told g c before same told =
+    let v = c.args.actor.now.me.0 in
+    c.call_anew.ensures.told before
+    (in_vain_told before before v c.args.call c.args.told (none_in_vain before c.args.call) same (c.begins_anew.ensures c.if-begins_anew.true) told)
 
-pub returns-else-is_to_wait-clause-told : goal.returns-else-is_to_wait-clause-told
-returns-else-is_to_wait-clause-told g c before same told = told_first before c.args.actor.now.me.0 c.args.call c.args.told same told
+pub returns-else-begins_anew-clause-told : goal.returns-else-begins_anew-clause-told
+returns-else-begins_anew-clause-told g c before same told = told_first before c.args.actor.now.me.0 c.args.call c.args.told same told
 
-pub returns-else-is_to_wait-clause-left : goal.returns-else-is_to_wait-clause-left
-returns-else-is_to_wait-clause-left g c = rests_still c.args.actor.now.me.0 c.requires.ready
+pub returns-else-begins_anew-clause-left : goal.returns-else-begins_anew-clause-left
+returns-else-begins_anew-clause-left g c = rests_still c.args.actor.now.me.0 c.requires.ready
