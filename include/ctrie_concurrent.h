@@ -18,9 +18,8 @@
  * there are none, it is FULL. That may be so while other seats have free slots: each keeps some for its next calls. A map has
  * room for as many keys as it was made for, where they are random or follow one another; ask for twice as many where they lie
  * evenly, as multiples of 16 do, and for a copy beside it, of which all is overwritten. (All this is tested, and not proved.)
- * Some calls are refused all the same: a seat whose thread has ended, or rests, keeps the slots that it holds, so others may be
- * FULL until it makes calls again; and a map of ten thousand keys or more of which copies are made again and again may be FULL
- * for good, after a dozen of them or more.
+ * Some calls are refused all the same: a seat whose thread has ended, or rests, keeps the few free slots that it holds for its
+ * next calls, and those of what its last calls have replaced, so others may be FULL until it makes calls again.
  *
  * Against a map in shards (ctrie_shared.h) this one has no restore, scan, first or hear, and counts and lists read-only
  * copies alone.
@@ -55,9 +54,10 @@ enum ctrie_concurrent_code {
    BUSY to any other call; a contains is the same call as a get of the key, and a count or a list is never under way. It
    answers SPENT where the tries are used up and nothing of it is under way, or no slot was free while some that the seat has
    given up are to be free soon: no map has changed, and the seat may make any call, this one too. The calls below, of the same
-   names without try, go on so to the end. The way down to a key takes a try for each level, and has up to 14: with fewer
-   tries a call may be SPENT for ever, so take some hundred or more. For the place of a value NULL may not stand here. NO_MAP
-   where no seat is held; the other codes stand at the calls below. */
+   names without try, go on so to the end. A get or contains takes no try where nothing stands in its way. The way down to a
+   key takes a try for each level, and has up to 14: with fewer tries a call may be SPENT for ever, so take some hundred or
+   more. For the place of a value NULL may not stand here. NO_MAP where no seat is held; the other codes stand at the calls
+   below. */
 
 CTRIE_MUST_USE
 uint32_t ctrie_concurrent_try_get(struct ctrie_concurrent_seat *seat, uint64_t tries, uint16_t handle, uint64_t key,
@@ -106,7 +106,7 @@ uint32_t ctrie_concurrent_try_settle(struct ctrie_concurrent_seat *seat, uint64_
 /* ---- a map and its seats */
 
 /* Makes a map with room for this number of keys, and this number of seats at it, from 1 to 255: it takes 52 to 68 bytes a
-   key, 11 kB a seat and 15 kB, and less for fewer than 80 keys. The struct holds one seat, which hands out the others. DONE;
+   key, 16 kB a seat and 15 kB, and less for fewer than 80 keys. The struct holds one seat, which hands out the others. DONE;
    BAD_HASH, before all others; HAS_MAP where it holds one already; BAD_SIZES exactly where there is to be no seat, or there
    would be more than 2^28 words of 8 bytes, as for some 38,000,000 keys; else MEMORY, where that is refused. Where it isn't
    DONE the struct holds what it held. */

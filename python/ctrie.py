@@ -893,14 +893,13 @@ class ConcurrentCopy(_ConcurrentHandle):
 
 class ConcurrentMap(_ConcurrentHandle):
     """A map that threads share with no lock of its own. All its memory is taken at first: 52 to 68 bytes for each of the keys that it is
-    told, 11 kB for each seat, and 15 kB; less for fewer than 80 keys.
+    told, 16 kB for each seat, and 15 kB; less for fewer than 80 keys.
 
     The slots of what is replaced or removed are used again, once all calls have ended that were under way when they were given up. A call
     that finds no slot waits where some are to be free soon; where it has waited in vain, or there are none, it is `Full`. A map has room
     for as many keys as it was made for, where they are random or follow one another; ask for twice as many where they lie evenly, as
-    multiples of 16 do, and for a copy beside it, of which all is overwritten. (All this is tested, and not proved.) Some calls are
-    refused all the same: a map of ten thousand keys or more of which copies are made again and again may be `Full` for good, after a
-    dozen of them or more. `len` and a listing of the map itself are copies too.
+    multiples of 16 do, and for a copy beside it, of which all is overwritten. (All this is tested, and not proved.) `len` and a
+    listing of the map itself are copies too.
 
     Any number of threads may use it, as those of an executor. It has seats, from 1 to 255: a call takes one for as long as it lasts, and
     waits where each is taken. Beside that no call waits for another one, and one order explains the calls of all threads. A copy is of one

@@ -142,7 +142,7 @@ fn members<N: MapName>(
     let mut first = first;
     let mut members = Vec::with_capacity(alloc, usize::from(count))?;
     for _ in 1..count {
-        if let Some(seat) = first.split(words) {
+        if let Some(seat) = first.split(alloc, words)? {
             members.push(Member::new(seat))?;
         }
     }

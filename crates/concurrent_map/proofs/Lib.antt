@@ -1,4 +1,5 @@
 mod SameMap
+mod HandlesTold
 mod Told
 mod TriesTold
 mod AccessTold

@@ -7,6 +7,7 @@ use Rattle.lock_free.specs.declared.scans.Scanned.{Scanned}
 use Rattle.lock_free.specs.declared.scans.Scanned.TheVariants as plain
 use Rattle.lock_free.specs.Answering.{HasAnswered}
 use Rattle.lock_free.specs.Answers.{OthersTellNothing}
+use Rattle.lock_free.specs.Denials.{DenialsTellHandles}
 use Rattle.lock_free.specs.Places.{AreSizes}
 use Rattle.lock_free.specs.ScanSeats.{reached_by, seat_of}
 use Rattle.lock_free.specs.Scans as lf
@@ -24,12 +25,12 @@ lacking_so (plain.Paused seat) is = tt
 lacking_so (plain.Done seat) is = tt
 lacking_so (plain.Refused seat why) is = is
 
-module _ (go_on : HistoriesGoOn) (others : OthersTellNothing) where
+module _ (go_on : HistoriesGoOn) (others : OthersTellNothing) (denials : DenialsTellHandles) where
   scanned_to : (first : Seated) → AreSizes first.view.sizes → (handle : ℕ) (told : List (ℕ × ℕ)) (result : Scanned) → HasGoneOn first (seat_of result) →
       lf.ScannedTo first.view handle told (reached_by result) (seat_of result).view → ScannedTo (state_of_seat first) handle told (of_map result)
   scanned_to first sizes handle told (plain.Paused seat) on is = record { first = first; was = refl; later = on; scanning = is }
   scanned_to first sizes handle told (plain.Done seat) on is = was_answered first seat (Entries handle) None _ on is
-  scanned_to first sizes handle told (plain.Refused seat why) on is = denied first seat (Entries handle) go_on others sizes on why is
+  scanned_to first sizes handle told (plain.Refused seat why) on is = denied first seat (Entries handle) go_on others denials sizes on why is
 
   module _ (s : Seated) (sizes : AreSizes s.view.sizes) where
     -- ---- its begin
@@ -38,7 +39,7 @@ module _ (go_on : HistoriesGoOn) (others : OthersTellNothing) where
         HasBegunScan (state_of_seat s) handle (of_map result)
     begun_so handle (plain.Paused seat) on is = record { first = s; was = refl; later = on; scanning = is }
     begun_so handle (plain.Done seat) on is = elim is [ ]
-    begun_so handle (plain.Refused seat why) on (inl is) = inl (denied s seat (Entries handle) go_on others sizes on why is)
+    begun_so handle (plain.Refused seat why) on (inl is) = inl (denied s seat (Entries handle) go_on others denials sizes on why is)
     begun_so handle (plain.Refused seat why) on (inr (out, waited)) =
         let spent : why ≡ error.Spent = cc out in inr (ap (λ e. Err e) spent, was_not_made s seat go_on others sizes on waited)
 

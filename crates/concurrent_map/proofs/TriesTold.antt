@@ -8,6 +8,7 @@ use Rattle.lock_free.specs.declared.call_errors.CallError.{CallError}
 use Rattle.lock_free.specs.declared.parked_seats.Tried.{Tried}
 use Rattle.lock_free.specs.declared.parked_seats.Tried.TheVariants as plain
 use Rattle.lock_free.specs.Answers.{OthersTellNothing}
+use Rattle.lock_free.specs.Denials.{DenialsTellHandles}
 use Rattle.lock_free.specs.KeyReplies.{FitsCall, TellsTruth, TellsValue}
 use Rattle.lock_free.specs.Places.{AreSizes}
 use Rattle.lock_free.specs.Seated.{HasGoneOn, Seated}
@@ -45,10 +46,10 @@ truth_none answer is = elim is [ ]
 cleared_none : (answer : Reply) → answer ≡ reply.Cleared → opened_by answer ≡ None
 cleared_none answer is = ap opened_by is
 
-module _ (go_on : HistoriesGoOn) (others : OthersTellNothing) (s t : Seated) (call : Call) (sizes : AreSizes s.view.sizes) (on : HasGoneOn s t) where
+module _ (go_on : HistoriesGoOn) (others : OthersTellNothing) (denials : DenialsTellHandles) (s t : Seated) (call : Call) (sizes : AreSizes s.view.sizes) (on : HasGoneOn s t) where
   copied : (told : Result Reply CallError) → lf.IsToldHandle s.view call told t.view → IsReply (state_of_seat s) call told (state_of_seat t)
-  copied (Ok (reply.Opened number)) is = told_copy s t call (Ok number) go_on others sizes on is
-  copied (Err why) is = denied_copy s t call go_on others sizes on why is
+  copied (Ok (reply.Opened number)) is = told_copy s t call (Ok number) go_on others denials sizes on is
+  copied (Err why) is = denied_copy s t call go_on others denials sizes on why is
   copied (Ok answer) is = elim is [ ]
 
   -- a call that opens no handle
@@ -56,33 +57,33 @@ module _ (go_on : HistoriesGoOn) (others : OthersTellNothing) (s t : Seated) (ca
       IsReply (state_of_seat s) call told (state_of_seat t)
   replied opens_none (Ok answer) is fits =
       subst (λ (n : Option ℕ). WasAnswered (state_of_seat s) call n answer (state_of_seat t)) (sym (opens_none answer fits))
-      (told_reply_of (λ r. r) s t call (Ok answer) go_on others sizes on is)
-  replied opens_none (Err why) is fits = (None, told_reply_of (λ r. r) s t call (Err why) go_on others sizes on is)
+      (told_reply_of (λ r. r) s t call (Ok answer) go_on others denials sizes on is)
+  replied opens_none (Err why) is fits = (None, told_reply_of (λ r. r) s t call (Err why) go_on others denials sizes on is)
 
-module _ (go_on : HistoriesGoOn) (others : OthersTellNothing) (s t : Seated) (sizes : AreSizes s.view.sizes) (on : HasGoneOn s t) where
+module _ (go_on : HistoriesGoOn) (others : OthersTellNothing) (denials : DenialsTellHandles) (s t : Seated) (sizes : AreSizes s.view.sizes) (on : HasGoneOn s t) where
   replied_to : (call : Call) (told : Result Reply CallError) → lf.HasTold s.view call told t.view → IsReply (state_of_seat s) call told (state_of_seat t)
-  replied_to (Get h k) told has = replied go_on others s t (Get h k) sizes on value_none told has.is has.fits
-  replied_to (Put h k v) told has = replied go_on others s t (Put h k v) sizes on value_none told has.is has.fits
-  replied_to (PutIfAbsent h k v) told has = replied go_on others s t (PutIfAbsent h k v) sizes on value_none told has.is has.fits
-  replied_to (Replace h k v) told has = replied go_on others s t (Replace h k v) sizes on value_none told has.is has.fits
-  replied_to (ReplaceIf h k a b) told has = replied go_on others s t (ReplaceIf h k a b) sizes on truth_none told has.is has.fits
-  replied_to (Remove h k) told has = replied go_on others s t (Remove h k) sizes on value_none told has.is has.fits
-  replied_to (RemoveIf h k v) told has = replied go_on others s t (RemoveIf h k v) sizes on truth_none told has.is has.fits
-  replied_to (Clear h) told has = replied go_on others s t (Clear h) sizes on cleared_none told has.is has.fits
-  replied_to (Snapshot h) told has = copied go_on others s t (Snapshot h) sizes on told has.is
-  replied_to (Freeze h) told has = copied go_on others s t (Freeze h) sizes on told has.is
-  replied_to (Close h) told has = replied go_on others s t (Close h) sizes on (λ answer fits. absurd fits) told has.is has.fits
-  replied_to (Entries h) told has = replied go_on others s t (Entries h) sizes on (λ answer fits. absurd fits) told has.is has.fits
-  replied_to (Count h) told has = replied go_on others s t (Count h) sizes on (λ answer fits. absurd fits) told has.is has.fits
+  replied_to (Get h k) told has = replied go_on others denials s t (Get h k) sizes on value_none told has.is has.fits
+  replied_to (Put h k v) told has = replied go_on others denials s t (Put h k v) sizes on value_none told has.is has.fits
+  replied_to (PutIfAbsent h k v) told has = replied go_on others denials s t (PutIfAbsent h k v) sizes on value_none told has.is has.fits
+  replied_to (Replace h k v) told has = replied go_on others denials s t (Replace h k v) sizes on value_none told has.is has.fits
+  replied_to (ReplaceIf h k a b) told has = replied go_on others denials s t (ReplaceIf h k a b) sizes on truth_none told has.is has.fits
+  replied_to (Remove h k) told has = replied go_on others denials s t (Remove h k) sizes on value_none told has.is has.fits
+  replied_to (RemoveIf h k v) told has = replied go_on others denials s t (RemoveIf h k v) sizes on truth_none told has.is has.fits
+  replied_to (Clear h) told has = replied go_on others denials s t (Clear h) sizes on cleared_none told has.is has.fits
+  replied_to (Snapshot h) told has = copied go_on others denials s t (Snapshot h) sizes on told has.is
+  replied_to (Freeze h) told has = copied go_on others denials s t (Freeze h) sizes on told has.is
+  replied_to (Close h) told has = replied go_on others denials s t (Close h) sizes on (λ answer fits. absurd fits) told has.is has.fits
+  replied_to (Entries h) told has = replied go_on others denials s t (Entries h) sizes on (λ answer fits. absurd fits) told has.is has.fits
+  replied_to (Count h) told has = replied go_on others denials s t (Count h) sizes on (λ answer fits. absurd fits) told has.is has.fits
 
   answered : (call : Call) (told : Result Reply CallError) → lf.HasTold s.view call told t.view → IsAnswer (state_of_seat s) call told (state_of_seat t)
   answered call told has = record { is = replied_to call told has; fits = has.fits; why = has.why }
 
 -- ---- what has been tried
 
-module _ (go_on : HistoriesGoOn) (others : OthersTellNothing) (s : Seated) (call : Call) (sizes : AreSizes s.view.sizes) where
+module _ (go_on : HistoriesGoOn) (others : OthersTellNothing) (denials : DenialsTellHandles) (s : Seated) (call : Call) (sizes : AreSizes s.view.sizes) where
   tried_of : (result : Tried) → lf.GoesOnAs s result → lf.HasTriedCall s.view call result → HasTried (state_of_seat s) call (of_map result)
-  tried_of (plain.Answered seat told) on has = answered go_on others s seat sizes on call told has
+  tried_of (plain.Answered seat told) on has = answered go_on others denials s seat sizes on call told has
   tried_of (plain.Parked seat) on has = record { first = s; was = refl; later = on; parked = has }
 
   never_of : (result : Tried) → lf.GoesOnAs s result → lf.NeverBegan s.view result → NeverBegan (state_of_seat s) (of_map result)
@@ -90,18 +91,18 @@ module _ (go_on : HistoriesGoOn) (others : OthersTellNothing) (s : Seated) (call
   never_of (plain.Parked seat) on never = elim never [ ]
 
 -- of a seat that was at rest
-pub tried_told : (s : Seated) (before : SeatState) (call : Call) (result : Tried) → state_of_seat s ≡ before → HistoriesGoOn → OthersTellNothing → AreSizes s.view.sizes →
+pub tried_told : (s : Seated) (before : SeatState) (call : Call) (result : Tried) → state_of_seat s ≡ before → HistoriesGoOn → OthersTellNothing → DenialsTellHandles → AreSizes s.view.sizes →
     lf.GoesOnAs s result → lf.HasTriedCall s.view call result ⊎ lf.NeverBegan s.view result → HasTried before call (of_map result) ⊎ NeverBegan before (of_map result)
-tried_told s before call result same go_on others sizes on (inl has) = inl (subst (λ b. HasTried b call (of_map result)) same (tried_of go_on others s call sizes result on has))
-tried_told s before call result same go_on others sizes on (inr never) = inr (subst (λ b. NeverBegan b (of_map result)) same (never_of go_on others s call sizes result on never))
+tried_told s before call result same go_on others denials sizes on (inl has) = inl (subst (λ b. HasTried b call (of_map result)) same (tried_of go_on others denials s call sizes result on has))
+tried_told s before call result same go_on others denials sizes on (inr never) = inr (subst (λ b. NeverBegan b (of_map result)) same (never_of go_on others denials s call sizes result on never))
 
 later_as : (s t : Seated) → HasGoneOn s t → (result : Tried) → lf.GoesOnAs t result → lf.GoesOnAs s result
 later_as s t on (plain.Answered seat told) further = gone_further s t seat on further
 later_as s t on (plain.Parked seat) further = gone_further s t seat on further
 
 -- of one whose call is under way
-pub tried_on : (s : Seated) (before : SeatState) (call : Call) (result : Tried) → HistoriesGoOn → OthersTellNothing → AreSizes s.view.sizes → lf.GoesOnAs s result →
+pub tried_on : (s : Seated) (before : SeatState) (call : Call) (result : Tried) → HistoriesGoOn → OthersTellNothing → DenialsTellHandles → AreSizes s.view.sizes → lf.GoesOnAs s result →
     (way : IsUnderWay before call s) → lf.HasTriedCall way.first.view call result → HasTried before call (of_map result)
-tried_on s before call result go_on others sizes on way has =
+tried_on s before call result go_on others denials sizes on way has =
     subst (λ b. HasTried b call (of_map result)) way.was
-    (tried_of go_on others way.first call (subst AreSizes way.later.sizes sizes) result (later_as way.first s way.later result on) has)
+    (tried_of go_on others denials way.first call (subst AreSizes way.later.sizes sizes) result (later_as way.first s way.later result on) has)

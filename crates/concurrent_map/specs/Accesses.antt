@@ -1,26 +1,21 @@
 -- What a seat is told of a handle: whether it is open, and whether its map may be changed.
 use Rattle.std.specs.Prelude.{◌≡◌, ℕ, Bool, true, false, None, Result, Ok, Err}
-use Rattle.ctrie_base.specs.Hashes.{hash_of}
 use Rattle.history.specs.declared.calls.Access.{Access}
 use Rattle.history.specs.declared.calls.Access.TheVariants.{Writable, ReadOnly}
 use Rattle.history.specs.declared.calls.Call.TheVariants.{Count}
 use Rattle.history.specs.declared.replies.Reply.TheVariants.{NoSlots}
 use Rattle.lock_free.specs.declared.call_errors.CallError.{CallError}
 use Rattle.lock_free.specs.declared.call_errors.CallError.TheVariants as error
-use Rattle.lock_free.specs.Accesses.{WasOpen}
 use Rattle.concurrent_map.specs.Calls.{WasAnswered, WasNotMade}
+use Rattle.concurrent_map.specs.Handles.{WasNoHandleYet, WasOpenTo}
 use Rattle.concurrent_map.specs.Seats.{SeatState}
 
--- At some time during the call the handle was open and allowed this: an order explains all that had been called by then, and leads to a world in which it names such a map.
-abbrev pub WasOpenTo : SeatState → ℕ → Access → SeatState → Type 0
-WasOpenTo before handle access after = WasOpen (hash_of before.map.sizes.hash) handle access before.history after.history
-
--- It was open, and this is what it allowed; the question stands in the history as a count that was refused, where it stands there. Or the handle isn't open: for no other
--- reason is it refused.
+-- The handle was open, and this is what it allowed; the question stands in the history as a count that was refused, where it stands there. Or there was no handle, or it was
+-- only being opened: for no other reason is it refused.
 abbrev pub IsToldAccess : SeatState → ℕ → Result Access CallError → SeatState → Type 0
 IsToldAccess before handle (Ok Writable) after = WasNotMade before after × WasOpenTo before handle Writable after
 IsToldAccess before handle (Ok ReadOnly) after = WasAnswered before (Count handle) None NoSlots after × WasOpenTo before handle ReadOnly after
-IsToldAccess before handle (Err why) after = (why ≡ error.NoHandle) × WasNotMade before after
+IsToldAccess before handle (Err why) after = (why ≡ error.NoHandle) × WasNotMade before after × WasNoHandleYet before handle after
 
 -- what is returned is read off this
 abbrev pub is_open_by : Result Access CallError → Bool

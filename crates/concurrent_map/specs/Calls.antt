@@ -1,17 +1,20 @@
 -- What a call of a seat is answered, and what then stands in the history that its seat has seen.
 use Rattle.std.specs.Prelude.{◌≡◌, ◌⊎◌, ◌++◌, ◌∷◌, [], ℕ, is_some, slice_get, Bool, All, List, Option, Some, None, Result, Ok, Err}
+use Rattle.history.specs.declared.calls.Access.TheVariants.{Writable, ReadOnly}
 use Rattle.history.specs.declared.calls.Call.{Call}
 use Rattle.history.specs.declared.calls.Call.TheVariants.{Close}
 use Rattle.history.specs.declared.events.Event.{Event}
 use Rattle.history.specs.declared.events.Event.TheVariants.{Begin, End}
 use Rattle.history.specs.declared.replies.Reply.{Reply}
 use Rattle.history.specs.declared.replies.Reply.TheVariants.{Closed, Crowded, Found, NoSlots, Opened, Pairs}
+use Rattle.history.specs.Handles.{handle_of}
 use Rattle.lock_free.specs.declared.call_errors.CallError.{CallError}
 use Rattle.lock_free.specs.declared.call_errors.CallError.TheVariants as error
 use Rattle.lock_free.specs.Answering.{IsOfOthers}
 use Rattle.lock_free.specs.Answers.{Answer}
 use Rattle.lock_free.specs.SlotWaits.{IsRefusalOf}
 use Rattle.lock_free.specs.Telling.{GoesOn}
+use Rattle.concurrent_map.specs.Handles.{WasNoHandle, WasNoHandleYet, WasOpenTo}
 use Rattle.concurrent_map.specs.Seats.{SeatState, answers_of_seat}
 
 -- it is the same seat, later
@@ -41,8 +44,13 @@ pub record WasNotMade (before after : SeatState) : Type 0 where
   pub goes_on : GoesOn before.history after.history
   pub answers : answers_of_seat after ≡ answers_of_seat before
 
--- The call was refused so, and has changed nothing: it stands in the history as one that was refused, or not at all.
+-- The call was refused so, and has changed nothing. Its handle wasn't open, or was for readers, or could be written, and then it isn't in the history; or no number was left
+-- for a handle, and nothing has happened at all; else it stands in the history as one that was refused.
 abbrev pub WasRefused : SeatState → Call → Option ℕ → CallError → SeatState → Type 0
+WasRefused before call opens error.NoHandle after = WasNotMade before after × WasNoHandleYet before (handle_of call) after
+WasRefused before call opens error.ReadOnly after = WasNotMade before after × WasOpenTo before (handle_of call) ReadOnly after
+WasRefused before call opens error.NotReadOnly after = WasNotMade before after × WasOpenTo before (handle_of call) Writable after
+WasRefused before call opens error.HandlesFull after = after ≡ before
 WasRefused before call opens error.Crowded after = WasAnswered before call opens Crowded after
 WasRefused before call opens error.Full after = WasAnswered before call opens NoSlots after
 WasRefused before call opens error.Spent after = WasAnswered before call opens NoSlots after
@@ -60,14 +68,10 @@ abbrev pub IsToldIfSome : SeatState → Call → Result Bool CallError → SeatS
 IsToldIfSome before call (Ok told) after = (value : Option ℕ) × (told ≡ is_some value) × WasAnswered before call None (Found value) after
 IsToldIfSome before call (Err why) after = WasRefused before call None why after
 
--- Of a get, whose seat may read without a pin first: it is told so; or that came to nothing, and it was refused before it was made anew.
-abbrev pub IsToldOrAgain : {A : Type 0} → (A → Reply) → SeatState → Call → Result A CallError → SeatState → Type 0
-IsToldOrAgain {A} reply_of before call told after =
-    IsTold reply_of before call told after ⊎ ((at : SeatState) × WasAnswered before call None NoSlots at × IsTold reply_of at call told after)
-
-abbrev pub IsToldIfSomeOrAgain : SeatState → Call → Result Bool CallError → SeatState → Type 0
-IsToldIfSomeOrAgain before call told after =
-    IsToldIfSome before call told after ⊎ ((at : SeatState) × WasAnswered before call None NoSlots at × IsToldIfSome at call told after)
+-- Of a get that is made at once or not at all: it is told this value; or it was refused, or is not in the history.
+abbrev pub IsToldAtOnce : SeatState → Call → Option (Option ℕ) → SeatState → Type 0
+IsToldAtOnce before call (Some value) after = WasAnswered before call None (Found value) after
+IsToldAtOnce before call None after = WasAnswered before call None NoSlots after ⊎ WasNotMade before after
 
 -- it is the first pair of the list that is the reply
 abbrev pub IsToldFirst : SeatState → Call → Result (Option (ℕ × ℕ)) CallError → SeatState → Type 0
@@ -93,16 +97,20 @@ pub record WasTriedInVain (before : SeatState) (call : Call) (after : SeatState)
 abbrev pub IsToldAtLast : {A : Type 0} → (A → Reply) → SeatState → Call → Result A CallError → SeatState → Type 0
 IsToldAtLast {A} reply_of before call told after = (last : SeatState) × WasTriedInVain before call last × IsTold reply_of last call told after
 
+-- it is whether the key has a value
+abbrev pub IsToldIfSomeAtLast : SeatState → Call → Result Bool CallError → SeatState → Type 0
+IsToldIfSomeAtLast before call told after = (last : SeatState) × WasTriedInVain before call last × IsToldIfSome last call told after
+
 -- it is the handle that the last try has opened
 abbrev pub IsToldHandleAtLast : SeatState → Call → Result ℕ CallError → SeatState → Type 0
 IsToldHandleAtLast before call told after = (last : SeatState) × WasTriedInVain before call last × IsToldHandle last call told after
 
 -- ---- a close
 
--- The handle is closed; or there is none that is open, or it is busy: for no other reason is a close refused.
+-- The handle is closed; or there was none that was open, or it is busy: for no other reason is a close refused.
 abbrev pub IsToldClose : {A : Type 0} → SeatState → ℕ → Result A CallError → SeatState → Type 0
 IsToldClose {A} before handle (Ok done) after = WasAnswered before (Close handle) None Closed after
-IsToldClose {A} before handle (Err error.NoHandle) after = WasNotMade before after
+IsToldClose {A} before handle (Err error.NoHandle) after = WasNotMade before after × WasNoHandle before handle after
 IsToldClose {A} before handle (Err error.Busy) after = WasNotMade before after
 IsToldClose {A} before handle (Err why) after = ⊥
 

@@ -1,5 +1,6 @@
 pub mod Beneath
 pub mod Seats
+pub mod Handles
 pub mod Calls
 pub mod Tries
 pub mod Accesses

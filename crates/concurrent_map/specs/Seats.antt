@@ -1,19 +1,26 @@
 -- What contracts see of a map and of its seats.
-use Rattle.std.specs.Prelude.{◌≡◌, ◌+◌, ℕ, List, [], ◌∷◌, All}
+use Rattle.std.specs.Prelude.{◌≡◌, ◌+◌, ℕ, List, [], ◌∷◌, All, Option}
 use Rattle.history.specs.declared.events.Event.{Event}
 use Rattle.lock_free.specs.Answers.{Answer, talk_of}
+use Rattle.lock_free.specs.Denials.{offered_by}
 use Rattle.lock_free.specs.Naming.{MapId}
 use Rattle.lock_free.specs.Seated.{Seated}
 use Rattle.lock_free.specs.Telling.{history_of}
 
--- The map whose seat it is, its number there, and what it has seen: the begins and ends of all calls of all seats up to then.
+-- The map whose seat it is, its number there, and what it has seen: the begins and ends of all calls of all seats up to then, and which handles copies were offered to open.
 pub record SeatState : Type 0 where
   pub map : MapId
   pub number : ℕ
   pub history : List Event
+  pub offered : List (Option ℕ)
 
 abbrev pub state_of_seat : Seated → SeatState
-state_of_seat s = record { map = record { table = s.table; sizes = s.view.sizes }; number = s.view.actor; history = history_of s.view.sizes s.view.account }
+state_of_seat s = record {
+  map = record { table = s.table; sizes = s.view.sizes };
+  number = s.view.actor;
+  history = history_of s.view.sizes s.view.account;
+  offered = offered_by s.view.account;
+}
 
 -- its own calls so far, in its own order, each with its reply
 abbrev pub answers_of_seat : SeatState → List Answer

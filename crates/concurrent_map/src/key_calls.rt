@@ -4,7 +4,7 @@ ghost use Rattle.std.specs.Prelude.{IfErr};
 ghost use Rattle.history.specs.declared.calls.Call.TheVariants.{Get, Put, PutIfAbsent, Remove, RemoveIf, Replace, ReplaceIf};
 ghost use Rattle.history.specs.declared.replies.Reply.TheVariants.{Found, Truth};
 ghost use Rattle.lock_free.specs.KeyReplies.{FitsError};
-ghost use Rattle.concurrent_map.specs.Calls.{IsTold, IsToldAtLast, IsToldIfSomeOrAgain, IsToldOrAgain};
+ghost use Rattle.concurrent_map.specs.Calls.{IsToldAtLast, IsToldAtOnce, IsToldIfSomeAtLast};
 
 use crate::handles::Handle;
 use crate::maps::ConcurrentMap;
@@ -15,8 +15,8 @@ use std::sync::Wait;
 impl MapSeat {
     ghost use Rattle.concurrent_map.specs.Seats.{IsSeatOf};
 
-    /// The value of this key, if it has one. Where other seats let slots become free or close a handle meanwhile, the history may have the call
-    /// twice, the first time as refused.
+    /// The value of this key, if it has one. Where something stands in its way, as where other seats let slots become free or close a handle
+    /// meanwhile, the history has the call again, the first times as refused.
     ///
     /// # Errors
     ///
@@ -30,11 +30,22 @@ impl MapSeat {
     ) -> Result<Option<u64>, CallError>
         requires { IsSeatOf map.now self.old }
         ensures seat { IsSeatOf map.now self.new }
-        ensures told { IsToldOrAgain Found self.old (Get handle key) result self.new }
+        ensures told { IsToldAtLast Found self.old (Get handle key) result self.new }
         ensures why { IfErr result (FitsError (Get handle key)) }
     {
         histories_stay();
         self.seat.get(rt, &map.board.shared, handle.number(), key)
+    }
+
+    /// The value of this key, if it has one, where that can be read at once, and nothing stands in the way. None where it can't: that tells
+    /// nothing of the key. It always ends, whatever other threads do, so it is made before a get in a number of tries.
+    pub fn glance(&mut self, map: &ConcurrentMap, handle: Handle, key: u64) -> Option<Option<u64>>
+        requires { IsSeatOf map.now self.old }
+        ensures seat { IsSeatOf map.now self.new }
+        ensures told { IsToldAtOnce self.old (Get handle key) result self.new }
+    {
+        histories_stay();
+        self.seat.glance(&map.board.shared, handle.number(), key)
     }
 
     /// Whether this key has a value.
@@ -51,7 +62,7 @@ impl MapSeat {
     ) -> Result<bool, CallError>
         requires { IsSeatOf map.now self.old }
         ensures seat { IsSeatOf map.now self.new }
-        ensures told { IsToldIfSomeOrAgain self.old (Get handle key) result self.new }
+        ensures told { IsToldIfSomeAtLast self.old (Get handle key) result self.new }
         ensures why { IfErr result (FitsError (Get handle key)) }
     {
         histories_stay();

@@ -12,7 +12,7 @@ use crate::room::sizes_for;
 use crate::seats::{MapSeat, histories_stay};
 use ctrie_base::HashKind;
 use lock_free::{Board, OpenError, Seat, Words, first_seat_is_silent, open};
-use std::alloc::Global;
+use std::alloc::{AllocError, Global};
 use std::marker::Model;
 
 /// A map that threads share. Handle 0 names it at first, and may be written; a copy of it gets a handle of its own.
@@ -54,26 +54,35 @@ impl ConcurrentMap {
         let Ok(mut made) = Vec::with_capacity(alloc, usize::from(seats)) else {
             return Err(OpenError::Memory);
         };
-        seat_all(&board.shared, first, seats, &mut made);
-        Ok((ConcurrentMap { board }, made))
+        match seat_all(alloc, &board.shared, first, seats, &mut made) {
+            Ok(()) => Ok((ConcurrentMap { board }, made)),
+            Err(_) => Err(OpenError::Memory),
+        }
     }
 }
 
 /// Each of the actors of this seat, which has all of them, gets a seat of its own.
-fn seat_all(words: &Words, mut first: Seat, seats: u8, made: &mut Vec<MapSeat>)
+fn seat_all(
+    alloc: Global,
+    words: &Words,
+    mut first: Seat,
+    seats: u8,
+    made: &mut Vec<MapSeat>,
+) -> Result<(), AllocError>
     requires table { first.table ≡ words.now.table_id }
     requires sizes { AreSizes words.now.key }
     requires first { first.view ≡ first_view words.now.key }
     requires seats { words.now.key.seats ≡ seats }
     requires room { (made.old.items ≡ []) × (seats ≤ vec_capacity made.old) }
-    ensures seats { AreSeatsOf record { table = words.now.table_id; sizes = words.now.key } made.new.items }
-    ensures silent { AreNewSeats record { table = words.now.table_id; sizes = words.now.key } 1 made.new.items seats }
+    ensures seats { OnOk result (AreSeatsOf record { table = words.now.table_id; sizes = words.now.key } made.new.items) }
+    ensures silent { OnOk result (AreNewSeats record { table = words.now.table_id; sizes = words.now.key } 1 made.new.items seats) }
 {
     histories_stay();
     first_seat_is_silent();
     for _ in 1..seats {
-        let seat = first.split(words);
+        let seat = first.split(alloc, words)?;
         let _ = made.insert(0, MapSeat { seat });
     }
     let _ = made.insert(0, MapSeat { seat: first });
+    Ok(())
 }

@@ -2,9 +2,12 @@
 
 ghost use Rattle.std.specs.Prelude.{◌≡◌, ◌≤◌};
 ghost use Rattle.lock_free.specs.Answers.{OthersTellNothing};
+ghost use Rattle.lock_free.specs.Denials.{ClosesTellHandles, DenialsTellHandles};
 ghost use Rattle.lock_free.specs.Telling.{HistoriesGoOn};
 
-use lock_free::{Seat, histories_go_on, others_tell_nothing};
+use lock_free::{
+    Seat, closes_tell_handles, denials_tell_handles, histories_go_on, others_tell_nothing,
+};
 use std::marker::Model;
 
 /// A seat at a map. Who has it makes its calls, one after another; those of different seats may overlap. A seat may go to another thread.
@@ -34,12 +37,16 @@ impl MapSeat {
     }
 }
 
-/// Laws: a history goes on, and what others do in it tells a seat nothing.
+/// Laws: a history goes on; what others do in it tells a seat nothing; and what a call is denied for tells of its handle.
 #[inline(always)]
 pub(crate) fn histories_stay()
     ensures go_on { HistoriesGoOn }
     ensures others { OthersTellNothing }
+    ensures denials { DenialsTellHandles }
+    ensures closes { ClosesTellHandles }
 {
     histories_go_on();
     others_tell_nothing();
+    denials_tell_handles();
+    closes_tell_handles();
 }

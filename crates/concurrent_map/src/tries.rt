@@ -64,7 +64,7 @@ impl MapSeat {
     /// A call on a key, a clear, a snapshot or a freeze. Each of its loops takes so many tries at most, so it ends whatever other threads do.
     /// Where these are used up while something of it is under way, it goes on by `go_on`.
     /// The way down to a key is such a loop, with a try for each level: with fewer tries than that way has levels, at most 14, the call is
-    /// `Spent` however often it is made.
+    /// `Spent` however often it is made. A get is better made by `glance` first, which moves no seat.
     ///
     /// # Errors
     ///

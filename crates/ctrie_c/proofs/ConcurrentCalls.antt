@@ -1,6 +1,7 @@
 -- What comes of a call of a held seat at a concurrent map.
 use Rattle.std.proofs.Common.{◌≡◌, ◌⊎◌, inl, inr, ℕ, List, Option, Some, None, Result, Ok, Err, IfOk, refl, sym, ap, subst, ◌∙◌}
 use Rattle.history.specs.declared.calls.Call.{Call}
+use Rattle.history.specs.declared.calls.Call.TheVariants.{Get}
 use Rattle.history.specs.declared.replies.Reply.{Reply}
 use Rattle.history.specs.declared.replies.Reply.TheVariants as reply
 use Rattle.concurrent_map.specs.Beneath.lock_free.specs.declared.call_errors.CallError.{CallError}
@@ -10,12 +11,13 @@ use Rattle.concurrent_map.specs.Beneath.lock_free.specs.Naming.{MapId}
 use Rattle.concurrent_map.specs.Beneath.lock_free.specs.Seated.{Seated}
 use Rattle.concurrent_map.specs.declared.tries.MapTried.{MapTried}
 use Rattle.concurrent_map.specs.declared.tries.MapTried.TheVariants as tried
+use Rattle.concurrent_map.specs.Calls.{IsToldAtOnce}
 use Rattle.concurrent_map.specs.Seats.{SeatState}
 use Rattle.concurrent_map.specs.Tries.{HasTried, IsAnswer, IsTriedAt, IsUnderWay, NeverBegan}
 use Rattle.ctrie_c.specs.declared.threading.At.{At}
 use Rattle.ctrie_c.specs.declared.threading.At.TheVariants as at
 use Rattle.ctrie_c.specs.Answers.{no_map}
-use Rattle.ctrie_c.specs.Threading.{coded, come, Does, DoesAt, DoesSo, HasMade, IsHeldAt, MakesAt, SettlesAt, Threading, Walks}
+use Rattle.ctrie_c.specs.Threading.{coded, come, Does, DoesAt, DoesSo, GlancesInVain, HasMade, IsHeldAt, IsSame, Makes, MakesAt, MakesOrAgain, SettlesAt, Threading, Walks}
 
 abbrev Comes : SeatState → Call → MapTried → Type 0
 Comes before call t = HasTried before call t ⊎ NeverBegan before t
@@ -43,6 +45,37 @@ rested_made now seat call t r same is has =
     subst (λ (o : At × Result Reply ℕ). MakesAt call o.1 now o.0) (sym is)
     (subst (λ a. MakesAt call (come t call).1 a (come t call).0) (sym same)
     (record { another = λ another. absurd another; makes = λ before e. subst (λ b. HasMade b call (come t call).1 (come t call).0) e (has_made seat call t has) }))
+
+-- ---- and made a get at once
+
+module _ (now later : At) (call : Call) (seat after : SeatState) (handle key : ℕ) (was : now ≡ at.Resting seat) (is : later ≡ at.Resting after) (asks : call ≡ Get handle key) where
+  pub glanced_made : (value : Option ℕ) → IsToldAtOnce seat (Get handle key) (Some value) after → MakesAt call (Ok (reply.Found value)) now later
+  glanced_made value told =
+      subst (λ k. MakesAt k (Ok (reply.Found value)) now later) (sym asks)
+      (subst (λ a. MakesAt (Get handle key) (Ok (reply.Found value)) a later) (sym was)
+      (subst (λ a. MakesAt (Get handle key) (Ok (reply.Found value)) (at.Resting seat) a) (sym is) (record {
+        another = λ another. absurd another;
+        makes = λ before e.
+            subst (λ b. HasMade b (Get handle key) (Ok (reply.Found value)) (at.Resting after)) e
+            (Ok (reply.Found value), refl, inl (record { is = told; fits = tt; why = tt }));
+      })))
+
+  pub glanced_in_vain : IsToldAtOnce seat (Get handle key) None after → GlancesInVain call now later
+  glanced_in_vain told =
+      subst (λ k. GlancesInVain k now later) (sym asks)
+      (subst (λ a. GlancesInVain (Get handle key) a later) (sym was) (subst (λ a. GlancesInVain (Get handle key) (at.Resting seat) a) (sym is) told))
+
+-- or couldn't, and makes it still
+pub makes_still : (call : Call) (result : Result Reply ℕ) (old between new : At) → (between ≡ old) ⊎ GlancesInVain call old between → MakesAt call result between new →
+    MakesOrAgain call result old new
+makes_still call result old between new (inl e) makes = inl (subst (λ a. MakesAt call result a new) e makes)
+makes_still call result old between new (inr vain) makes = inr (between, vain, makes)
+
+-- the seat that was held is held again
+pub makes_held : (call : Call) (result : Result Reply ℕ) (old new : Option Threading) (seat lent after : Threading) → old ≡ Some seat → lent ≡ seat → new ≡ Some after → IsSame lent after →
+    MakesOrAgain call result lent.at after.at → Makes call result old new
+makes_held call result old new seat lent after was is now same makes =
+    subst (λ o. Makes call result o new) (sym (was ∙ ap Some (sym is))) (subst (λ n. Makes call result (Some lent) n) (sym now) (same, makes))
 
 -- ---- where its call was under way
 

@@ -2,6 +2,7 @@
 use Rattle.std.specs.Prelude.{◌≡◌, ◌≢◌, ◌⊎◌, ℕ, List, [], ◌∷◌, ◌++◌, length, true, false, Option, Some, None, Result, Ok, Err, IfErr}
 use Rattle.ctrie_c.specs.Vocabulary.{HashKind}
 use Rattle.history.specs.declared.calls.Call.{Call}
+use Rattle.history.specs.declared.calls.Call.TheVariants.{Get}
 use Rattle.history.specs.declared.replies.Reply.{Reply}
 use Rattle.history.specs.declared.replies.Reply.TheVariants as reply
 use Rattle.concurrent_map.specs.Beneath.lock_free.specs.declared.call_errors.CallError.{CallError}
@@ -12,7 +13,7 @@ use Rattle.concurrent_map.specs.Beneath.lock_free.specs.Naming.{MapId}
 use Rattle.concurrent_map.specs.Beneath.lock_free.specs.Places.{AreSizes}
 use Rattle.concurrent_map.specs.declared.tries.MapTried.{MapTried}
 use Rattle.concurrent_map.specs.declared.tries.MapTried.TheVariants as tried
-use Rattle.concurrent_map.specs.Calls.{IsTold, IsToldClose, RanOut}
+use Rattle.concurrent_map.specs.Calls.{IsTold, IsToldAtOnce, IsToldClose, RanOut}
 use Rattle.concurrent_map.specs.Room.{sizes_for}
 use Rattle.concurrent_map.specs.Seats.{AreNewSeats, IsSeatOf, SeatState, state_of_seat}
 use Rattle.concurrent_map.specs.Tries.{IsAnswer, IsUnderWay}
@@ -138,9 +139,18 @@ pub record MakesAt (call : Call) (result : Result Reply ℕ) (old new : At) : Ty
   pub another : IsAtAnother call old → (result ≡ Err busy) × (new ≡ old)
   pub makes : (before : SeatState) → IsToMake before call old → HasMade before call result new
 
+-- a get of a seat that rests, which it would have made at once: it was refused, or is not in the history
+abbrev pub GlancesInVain : Call → At → At → Type 0
+GlancesInVain (Get handle key) (at.Resting seat) (at.Resting after) = IsToldAtOnce seat (Get handle key) None after
+GlancesInVain call old new = ⊥
+
+-- the seat makes the call; or makes it anew
+abbrev pub MakesOrAgain : Call → Result Reply ℕ → At → At → Type 0
+MakesOrAgain call result old new = MakesAt call result old new ⊎ ((between : At) × GlancesInVain call old between × MakesAt call result between new)
+
 -- What the held seat does with a call: nothing where another one of it is under way.
 abbrev pub Makes : Call → Result Reply ℕ → Option Threading → Option Threading → Type 0
-Makes call result (Some old) (Some new) = IsSame old new × MakesAt call result old.at new.at
+Makes call result (Some old) (Some new) = IsSame old new × MakesOrAgain call result old.at new.at
 Makes call result None None = result ≡ Err no_map
 Makes call result before after = ⊥
 

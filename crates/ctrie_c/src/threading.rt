@@ -1,6 +1,6 @@
 //! Seats at a concurrent map, each with a share of it.
 
-ghost use Rattle.std.specs.Prelude.{◌≡◌, ◌≢◌, [], true, false, IfSome, IfNone, IfOk, IfErr, OnErr};
+ghost use Rattle.std.specs.Prelude.{◌≡◌, ◌≢◌, ◌⊎◌, [], true, false, Ok, IfSome, IfNone, IfOk, IfErr, OnErr};
 ghost use Rattle.std.specs.Arc.{arc_value};
 ghost use Rattle.history.specs.declared.calls.Call.TheVariants as call;
 ghost use Rattle.history.specs.declared.replies.Reply.TheVariants as reply;
@@ -9,7 +9,7 @@ ghost use Rattle.concurrent_map.specs.Beneath.lock_free.specs.Attempts.{IsTried}
 ghost use Rattle.concurrent_map.specs.Beneath.lock_free.specs.KeyReplies.{FitsCall};
 ghost use Rattle.concurrent_map.specs.Seats.{IsSeatOf};
 ghost use Rattle.ctrie_c.specs.SameCalls.{are_same};
-ghost use Rattle.ctrie_c.specs.Threading.{come, Closes, DoesAt, HasHandedOut, IsHeldAt, IsResting, IsSame, MakesAt, SettlesAt, Walks};
+ghost use Rattle.ctrie_c.specs.Threading.{come, Closes, DoesAt, GlancesInVain, HasHandedOut, IsHeldAt, IsResting, IsSame, MakesAt, MakesOrAgain, SettlesAt, Walks};
 
 use crate::codes::NO;
 use crate::concurrent_codes::{AGAIN, coded};
@@ -97,6 +97,26 @@ fn made(map: &ConcurrentMap, at: At, tries: u64, call: Call) -> (At, Result<Repl
     }
 }
 
+/// The reply to this call, where it is a get, and the seat rests and can make it at once.
+fn glanced(map: &ConcurrentMap, at: &mut At, call: Call) -> Option<Reply>
+    requires held { IsHeldAt map.now at.old }
+    ensures held { IsHeldAt map.now at.new }
+    ensures made { IfSome result (λ answer. MakesAt call (Ok answer) at.old at.new) }
+    ensures fits { IfSome result (FitsCall call) }
+    ensures in_vain { IfNone result ((at.new ≡ at.old) ⊎ GlancesInVain call at.old at.new) }
+{
+    let Call::Get { handle, key } = call else {
+        return None;
+    };
+    match at {
+        At::Resting(seat) => match seat.glance(map, Handle::new(handle), key) {
+            Some(value) => Some(Reply::Found(value)),
+            None => None,
+        },
+        _ => None,
+    }
+}
+
 /// What comes of so many tries of whichever call is under way. The code says whether the seat rests.
 fn settled(map: &ConcurrentMap, at: At, tries: u64) -> (At, u32)
     requires held { IsHeldAt map.now at }
@@ -113,8 +133,23 @@ fn settled(map: &ConcurrentMap, at: At, tries: u64) -> (At, u32)
 }
 
 impl ThreadingSeat {
-    /// Makes this call in so many tries, where no other one is under way. Returns the reply, or the code that says why there is none.
+    /// Makes this call, where no other one is under way. A get takes no tries, and the seat stays where it is, if it can make it at once.
+    /// Returns the reply, or the code that says why there is none.
     pub(crate) fn try_call(&mut self, tries: u64, call: Call) -> Result<Reply, u32>
+        requires { IsTried call }
+        ensures same { IsSame self.old self.new }
+        ensures made { MakesOrAgain call result self.old.at self.new.at }
+        ensures fits { IfOk result (FitsCall call) }
+    {
+        if let Some(reply) = glanced(&self.map, &mut self.at, call) {
+            return Ok(reply);
+        }
+        self.make(tries, call)
+    }
+
+    /// Makes this call in so many tries, where no other one is under way.
+    #[inline(never)]
+    fn make(&mut self, tries: u64, call: Call) -> Result<Reply, u32>
         requires { IsTried call }
         ensures same { IsSame self.old self.new }
         ensures made { MakesAt call result self.old.at self.new.at }

@@ -5,7 +5,7 @@ use Rattle.std.proofs.lemmas.Bool.{true≢false}
 use Rattle.std.proofs.lemmas.List.{map-append, take_more, length-take, get_or-take}
 use Rattle.std.proofs.lemmas.List.Elements.{Contains-get_or}
 use Rattle.std.proofs.lemmas.Option.{slice_get-get_or}
-use Rattle.trie_words.specs.Codes.{entry_of}
+use Rattle.trie_words.specs.Codes.{entry_code, entry_of, IsEntry}
 use Rattle.trie_words.specs.declared.entries.Entry.{Entry}
 use Rattle.trie_words.specs.declared.entries.Pair.{Pair}
 use Rattle.trie_words.proofs.Parts.{entry_back}
@@ -22,6 +22,7 @@ use Rattle.lock_free.specs.declared.rules.View.{View}
 use Rattle.lock_free.specs.Accounts.{place_of}
 use Rattle.lock_free.specs.Becoming.{Follows}
 use Rattle.lock_free.specs.Entries.{HasStayed}
+use Rattle.lock_free.specs.Halves.{IsHalf}
 use Rattle.lock_free.specs.Live.{refs_of_claims}
 use Rattle.lock_free.specs.Loading.{now, seen, IsSound, IsUsed, Holds, HasPosition, HasSeenPair, SaysPair}
 use Rattle.lock_free.specs.Nodes.{half_in, is_single}
@@ -29,6 +30,7 @@ use Rattle.lock_free.specs.Passing.{Later}
 use Rattle.lock_free.specs.SeenEntries.{entry_to, unowned, AreEntriesTo, HasEntries, HasSeenEntries}
 use Rattle.lock_free.proofs.Asked.{live_in_use}
 use Rattle.lock_free.proofs.Comings.{saw_runs}
+use Rattle.lock_free.proofs.EntryHalves.{code_small}
 use Rattle.lock_free.proofs.EntryLooks.{slot_small}
 use Rattle.lock_free.proofs.Followings.{follows_later}
 use Rattle.lock_free.proofs.GivenBack.{node_is}
@@ -137,10 +139,10 @@ module _ (n : ℕ) (before : View) (sound : IsSound n before) (name count : ℕ)
               (λ e c. (let x = used_there before sound r slot h u e (taken_from (length entries) (entries_of slot.node) e c) in let y = s.stayed.later.nodes e x.0 x.1 in (y.0, y.1))))
 
       -- a half of the pair
-      pub half_seen : (k : ℕ) → k / 2 ≡ position / 2 → k < count → (entry : Entry) → unowned entry ≡ unowned (entry_of (half_in pair k)) → (r : Ref) (slot : Slot) → Holds before
-          r → IsUsed before r slot →
-          is_branch_or_list slot.node ≡ true → count ≡ length (entries_of slot.node) → place_of before.account r ≡ name → unowned entry ≡ entry_to w (get_or (entries_of slot.node) k 0)
-      half_seen k beside low entry is r slot h u kind count_is place =
+      half_is : (k : ℕ) → k / 2 ≡ position / 2 → k < count → (r : Ref) (slot : Slot) → Holds before r → IsUsed before r slot → is_branch_or_list slot.node ≡ true →
+          count ≡ length (entries_of slot.node) → place_of before.account r ≡ name →
+          (said : Entry) × IsEntry said × (half_in pair k ≡ entry_code said) × (unowned said ≡ entry_to w (get_or (entries_of slot.node) k 0))
+      half_is k beside low r slot h u kind count_is place =
           let x = s.stayed.later.nodes r slot u in
           let e = get_or (entries_of slot.node) k 0 in
           let inside : k < length (entries_of slot.node) = subst (λ m. k < m) count_is low in
@@ -153,10 +155,22 @@ module _ (n : ℕ) (before : View) (sound : IsSound n before) (name count : ℕ)
           (ap (λ es. slice_get es k) both ∙ slice_get-get_or (entries_of slot.node) k 0 inside) in
           let used = used_there before sound r slot h u e (Contains-get_or (entries_of slot.node) k 0 inside) in
           let used_w = stayed_then.later.nodes e used.0 used.1 in
-          let said : Entry = record { slot = place_of g.0.account e; own = found.own; is_single = is_single (node_at (now middle).heap e) } in
-          is ∙ ap (λ m. unowned (entry_of m)) found.code
-          ∙ ap unowned (entry_back said (slot_small n middle (subst (IsSound n) g.0.after_is sound_w) e used_w.0 (subst (λ z. IsUsed z e used_w.0) g.0.after_is used_w.1)))
-          ∙ ap (λ (z : View). entry_to z e) (sym g.0.after_is)
+          let said : Entry = record { slot = place_of g.0.account e; own = found.own; is_single = is_single (node_at (now middle).heap e) } in (
+            said,
+            slot_small n middle (subst (IsSound n) g.0.after_is sound_w) e used_w.0 (subst (λ z. IsUsed z e used_w.0) g.0.after_is used_w.1),
+            found.code,
+            ap (λ (z : View). entry_to z e) (sym g.0.after_is),
+          )
+
+      pub half_seen : (k : ℕ) → k / 2 ≡ position / 2 → k < count → (entry : Entry) → unowned entry ≡ unowned (entry_of (half_in pair k)) → (r : Ref) (slot : Slot) → Holds before
+          r → IsUsed before r slot →
+          is_branch_or_list slot.node ≡ true → count ≡ length (entries_of slot.node) → place_of before.account r ≡ name → unowned entry ≡ entry_to w (get_or (entries_of slot.node) k 0)
+      half_seen k beside low entry is r slot h u kind count_is place =
+          let x = half_is k beside low r slot h u kind count_is place in is ∙ ap (λ m. unowned (entry_of m)) x.2 ∙ ap unowned (entry_back x.0 x.1) ∙ x.3
+
+      pub half_small : (k : ℕ) → k / 2 ≡ position / 2 → k < count → HasEntries before name count → IsHalf (half_in pair k)
+      half_small k beside low (r, slot, h, u, kind, count_is, few, place) =
+          let x = half_is k beside low r slot h u kind count_is place in subst IsHalf (sym x.2) (code_small x.0 x.1)
       -- one more
 
   pub one_more : (w : View) (entries : List Entry) (s : SeenSome before name count w entries) → length entries < count → (entry : Entry) →
@@ -209,3 +223,10 @@ module _ (size : ℕ) (before : View) (sound : IsSound size before) (name count 
       half_seen size before sound name count v sound_v entries s w sound_w (2 * n) pair g (2 * n + 1) (omega arith) more high (is_high ∙ ap (λ m. unowned (entry_of m)) (sym (high_half pair n))) r slot
       h u kind count_is place
       ∙ ap (λ k. entry_to w (get_or (entries_of slot.node) k 0)) (sym (length-append entries (low ∷ []) ∙ ap (λ k. k + 1) here_is)))
+
+  pub low_small : HasEntries before name count → IsHalf pair.low
+  low_small held = subst IsHalf (low_half pair n) (half_small size before sound name count v sound_v entries s w sound_w (2 * n) pair g (2 * n) refl few held)
+
+  pub high_small : 2 * n + 1 < count → HasEntries before name count → IsHalf pair.high
+  high_small more held =
+      subst IsHalf (high_half pair n) (half_small size before sound name count v sound_v entries s w sound_w (2 * n) pair g (2 * n + 1) (omega arith) more held)

@@ -115,8 +115,7 @@ module _ (sizes : Sizes) (s : Table.State Call View) (kept : IsKept sizes s) (id
 
   pub nobody_runs : (a : ℕ) (o : Operation) → operation_of now a ≡ Some o → handle_of o.call ≢ handle
   nobody_runs a o e same =
-      let it = kept.runners a o e in
-      nobody_inside it.id it.view it.at ((kept.seats it.id it.view it.at).calls o (ap (operation_of now) it.its ∙ e) ∙ ap Some same)
+      let it = kept.runners a o e in nobody_inside it.id it.view it.at ((kept.seats it.id it.view it.at).calls o (ap (operation_of now) it.its ∙ e) ∙ ap Some same)
 
   open_by : SaysClosing (slice_index s.words (root_word handle)) v.actor → is_some (root_at now handle) ≡ true
   open_by (inl h) = ap is_some (said sizes kept.account s.words kept.roots handle low (word.ClosingWritable h.0 v.actor) h.1 h.2).is
@@ -397,4 +396,5 @@ module _ (sizes : Sizes) (s : Table.State Call View) (kept : IsKept sizes s) (id
           others = λ other w e apart g r. reserved kept.account.offers now next keeps w g r;
           runners = λ a o e. inr (ran kept.account.offers now next keeps a o e);
         }) held_closed
-        (cells_step sizes s kept id v at view_then account_then kept.stands (root_word handle) (root_code word.Closed) (handle_before sizes handle low) stays.taken spare_then (λ b n f. f))
+        (cells_step sizes s kept id v at view_then account_then kept.stands (root_word handle) (root_code word.Closed) (handle_before sizes handle low)
+        (handle_apart sizes handle low).1 stays.taken spare_then (λ b n f. f))

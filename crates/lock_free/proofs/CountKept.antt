@@ -12,13 +12,14 @@ use Rattle.lock_free.specs.declared.rules.Retired.{Retired}
 use Rattle.lock_free.specs.declared.rules.View.{View}
 use Rattle.lock_free.specs.declared.sizes.Sizes.{Sizes}
 use Rattle.lock_free.specs.Accounts.{state_of, place_at}
+use Rattle.lock_free.specs.Cells.{AreCells, IsFree}
 use Rattle.lock_free.specs.Holdings.{AreHeld}
 use Rattle.lock_free.specs.Nodes.{class_of}
 use Rattle.lock_free.specs.Places.{first_cell_word, first_slot_word, generation_word, pin_word, root_word, IsTaken}
 use Rattle.lock_free.specs.Reclaiming.{retiring}
-use Rattle.lock_free.specs.Rules.{AreDrafts, IsClosing, IsRetired, SaysClosing, Stands, NodesStand, IsSeat, IsKept}
+use Rattle.lock_free.specs.Rules.{AreDrafts, IsClosing, IsRetired, IsSpare, SaysClosing, Stands, NodesStand, IsSeat, IsKept}
 use Rattle.lock_free.proofs.Assembling.{AllStand, closing_stays, numbers_stay, assembled}
-use Rattle.lock_free.proofs.CellsStay.{cells_beside}
+use Rattle.lock_free.proofs.CellsStay.{beside_cell, cells_stay, NoneLoosened}
 use Rattle.lock_free.proofs.CountWords.{IsBesideSlots}
 use Rattle.lock_free.proofs.Framing.{below_word, class_small, else_word, have_still, roots_still, stands_over, still_taken}
 use Rattle.lock_free.proofs.Geometry.{IsWordOf, root_below}
@@ -129,10 +130,15 @@ module _ (sizes : Sizes) (s : Table.State Call View) (kept : IsKept sizes s) (id
 
   -- ---- with what its seat holds, and the links that it knows
 
-  module _ (before : c < first_cell_word sizes) (owed : List ℕ) (links : List (ℕ × ℕ))
+  module _ (before : c < first_cell_word sizes) (loose : NoneLoosened sizes s.words words_then) (owed : List ℕ) (links : List (ℕ × ℕ))
       (held : AreHeld sizes kept.account kept.stands words_then (set s.views id (record v { owed = owed; links = links }))) where
     abbrev view_then : View
     view_then = record v { owed = owed; links = links }
+
+    cells_then : (later : View) → ((b n : ℕ) → IsFree later b n → IsFree v b n) → AreCells sizes (IsSpare sizes kept.account kept.stands) words_then (set s.views id later)
+    cells_then later free =
+        cells_stay sizes s kept id v at later kept.account kept.stands words_then (beside_cell sizes s.words c x before) loose (λ b n low was is no. (taken_then b n low was, is))
+        (λ b n k it was is f. free k n f)
 
     own_then : IsSeat sizes kept.account kept.stands words_then view_then
     own_then =
@@ -172,7 +178,7 @@ module _ (sizes : Sizes) (s : Table.State Call View) (kept : IsKept sizes s) (id
         (λ b n f. inl f)
         (numbers_stay sizes s kept id v at view_then refl refl kept.account words_then (no_tries kept.account.offers (state_of sizes kept.account)) (λ slot none. none) root_same refl
         (λ slot handle e free. free)) held
-        (cells_beside sizes s kept id v at view_then c x before taken_then (λ b n f. f))
+        (cells_then view_then (λ b n f. f))
 
     -- the same where it has retired one slot more
     module _ (y : Retired) (its : IsRetired sizes kept.account kept.stands y) (held_too : AreHeld sizes kept.account kept.stands words_then (set s.views id (retiring view_then y))) where
@@ -185,4 +191,4 @@ module _ (sizes : Sizes) (s : Table.State Call View) (kept : IsKept sizes s) (id
           (λ b n f. inl f)
           (numbers_stay sizes s kept id v at (retiring view_then y) refl refl kept.account words_then (no_tries kept.account.offers (state_of sizes kept.account)) (λ slot none. none) root_same refl
           (λ slot handle e free. free)) held_too
-          (cells_beside sizes s kept id v at (retiring view_then y) c x before taken_then (λ b n f. f))
+          (cells_then (retiring view_then y) (λ b n f. f))

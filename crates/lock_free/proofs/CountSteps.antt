@@ -31,7 +31,7 @@ use Rattle.lock_free.proofs.OneGlance.Shadowed.{Stays}
 use Rattle.lock_free.proofs.CountKept.{count_kept, count_retiring}
 use Rattle.lock_free.proofs.CountsStay.{often_first, often_other}
 use Rattle.lock_free.proofs.ClaimsThere.{has_often, often_has}
-use Rattle.lock_free.proofs.CellsStay.{count_before}
+use Rattle.lock_free.proofs.CellsStay.{count_before, links_loosen_none}
 use Rattle.lock_free.proofs.CountWords.{count_beside_slots, count_inside, count_not_epoch, count_not_glance, Aside}
 use Rattle.lock_free.proofs.EpochStays.{epoch_in, epochs_stay, stays_elsewhere, was_then}
 use Rattle.lock_free.proofs.Exchanged.{either_hit, either_miss}
@@ -94,7 +94,8 @@ module _ (v : View) (s : Table.State Call View) (kept : IsKept v.sizes s) (epoch
   pub leaves : IsKept v.sizes (record { words = words_then; homes = s.homes; views = set s.views id w }) × AreEpochs words_then (set s.views id w)
       × AreRetired v.sizes words_then (set s.views id w) × AreLinked v.sizes words_then (set s.views id w)
   leaves = (
-    count_kept v.sizes s kept id v at word (count_beside_slots v.sizes s.words kept.taken word is) new (count_before v.sizes word is) owed v.links held_then,
+    count_kept v.sizes s kept id v at word (count_beside_slots v.sizes s.words kept.taken word is) new (count_before v.sizes word is)
+        (links_loosen_none v.sizes s.words words_then same_links) owed v.links held_then,
     epochs_stay s.words words_then s.views (set s.views id w) same_epoch (was_then s.views id v at w (record { actor = refl; epoch = refl; passed = refl; glance = refl; pinned = λ p e. e })) epochs,
     retired_then s.views id v at w refl (λ p e. e) v.sizes s.words words_then (epoch_still s.words words_then same_epoch) retired,
     linked_then s.views id v at w refl (λ y c. c) v.sizes s.words words_then same_links linked,
@@ -103,7 +104,8 @@ module _ (v : View) (s : Table.State Call View) (kept : IsKept v.sizes s) (epoch
   -- the same where it has retired one slot more
   pub retires : (y : Retired) → IsRetired v.sizes kept.account kept.stands y → AreHeld v.sizes kept.account kept.stands words_then (set s.views id (retiring w y)) →
       IsKept v.sizes (record { words = words_then; homes = s.homes; views = set s.views id (retiring w y) })
-  retires y its held = count_retiring v.sizes s kept id v at word (count_beside_slots v.sizes s.words kept.taken word is) new (count_before v.sizes word is) owed v.links held_then y its held
+  retires y its held = count_retiring v.sizes s kept id v at word (count_beside_slots v.sizes s.words kept.taken word is) new (count_before v.sizes word is)
+      (links_loosen_none v.sizes s.words words_then same_links) owed v.links held_then y its held
 
 -- ---- where a count stands
 

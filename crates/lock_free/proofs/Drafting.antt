@@ -106,4 +106,5 @@ module _ (sizes : Sizes) (s : Table.State Call View) (kept : IsKept sizes s) (id
       (numbers_stay sizes s kept id v at view_then refl refl kept.account words_then (no_tries kept.account.offers (state_of sizes kept.account)) (λ slot none. none) root_same refl
       (λ slot handle e free. free))
       (held_words sizes s kept id v at view_then refl refl refl j x (slot_apart sizes s.words kept.taken class name j free.0 is_spare.0 its).1)
-      (cells_beside sizes s kept id v at view_then j x (before_cells sizes s.words kept.taken class name j free.0 is_spare.0 its) taken_then (λ b n f. f))
+      (cells_beside sizes s kept id v at view_then j x (before_cells sizes s.words kept.taken class name j free.0 is_spare.0 its)
+      (slot_apart sizes s.words kept.taken class name j free.0 is_spare.0 its).1 taken_then (λ b n f. f))

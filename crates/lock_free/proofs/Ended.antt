@@ -189,4 +189,4 @@ module _ (sizes : Sizes) (s : Table.State Call View) (kept : IsKept sizes s) (id
       (λ g who below says. closing_stays sizes s kept id v at view_then refl refl (λ h e. absurd (none-some h e)) refl (λ c. c) g who
       (kept.closings g who below (subst (λ n. SaysClosing n who) (root_same g below) says))) own_then
       (other_kept sizes s kept id v at account_then kept.stands words_then stays) (λ b name f. inl f) numbers_then (held_ended takes)
-      (cells_step sizes s kept id v at view_then account_then kept.stands (pin_word v.actor) 0 (pin_before sizes v.actor most) stays.taken spare_then (λ b n f. f))
+      (cells_step sizes s kept id v at view_then account_then kept.stands (pin_word v.actor) 0 (pin_before sizes v.actor most) (pin_apart sizes v.actor most).1 stays.taken spare_then (λ b n f. f))

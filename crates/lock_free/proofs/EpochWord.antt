@@ -109,4 +109,4 @@ module _ (sizes : Sizes) (s : Table.State Call View) (kept : IsKept sizes s) (id
       (other_kept sizes s kept id v at kept.account kept.stands grown stays) (λ b name f. inl f)
       (numbers_stay sizes s kept id v at v refl refl kept.account grown (no_tries kept.account.offers now) (λ slot none. none) root_same refl (λ slot g e free. free))
       (held_words sizes s kept id v at v refl refl refl word x (λ c is same. (let far = count_above sizes c is in omega (arith, far, same, low_word))))
-      (cells_beside sizes s kept id v at v word x (omega (arith, low_word)) taken_then (λ b n f. f))
+      (cells_beside sizes s kept id v at v word x (omega (arith, low_word)) (λ c is same. (let far = count_above sizes c is in omega (arith, far, same, low_word))) taken_then (λ b n f. f))

@@ -39,7 +39,7 @@ use Rattle.lock_free.specs.Nodes.{class_of}
 use Rattle.lock_free.specs.Places.{count_word, words_in}
 use Rattle.lock_free.specs.Rules.{AreEpochs, AreOwed, AreRetired, IsKept, IsRetired}
 use Rattle.lock_free.proofs.Assembling.{within}
-use Rattle.lock_free.proofs.CellsStay.{beside_cell, count_before}
+use Rattle.lock_free.proofs.CellsStay.{beside_cell, count_before, links_loosen_none}
 use Rattle.lock_free.proofs.CountKept.{all_then, else_same, root_same, seats_then, taken_then}
 use Rattle.lock_free.proofs.CountWords.{count_beside, count_beside_slots, count_inside, count_not_epoch, count_not_glance, Aside, IsBesideSlots}
 use Rattle.lock_free.proofs.Drafts.{left}
@@ -172,11 +172,19 @@ module _ (v : View) (running : IsRunning v) (x : Retired) (c : Contains v.retire
       (record { low = h.1; high = h.2 }) in
       (else_same v.sizes s kept id v at word no_slots new d.0 beside ∙ h.0, h.1, h.2)
 
+  same_links : SameLinks v.sizes s.words words_then
+  same_links i is_i = elim (cases_eq i word) [
+    | inl same ↦
+        subst (λ n. link_in (slice_index words_then n) ≡ link_in (slice_index s.words n)) (sym same)
+        (ap link_in (get_or-set_same s.words word new 0 (subst (λ n. word < n) (sym kept.size) (count_inside v.sizes word is_count))) ∙ more_link (slice_index s.words word))
+    | inr differs ↦ ap link_in (get_or-set_other s.words word i new 0 differs)
+  ]
+
   pub kept_then : IsKept v.sizes (record { words = words_then; homes = s.homes; views = set s.views id then })
   kept_then =
       reclaim_kept v.sizes s kept epochs old id v at x c ripe kept.account gives known words_then (root_same v.sizes s kept id v at word no_slots new) (waited_none v.actor kept.account) kept.counted
       (all_then v.sizes s kept id v at word no_slots new) (seats_then v.sizes s kept id v at word no_slots new) says held_then
-      (beside_cell v.sizes s.words word new (count_before v.sizes word is_count)) (taken_then v.sizes s kept id v at word no_slots new)
+      (beside_cell v.sizes s.words word new (count_before v.sizes word is_count)) (links_loosen_none v.sizes s.words words_then same_links) (taken_then v.sizes s kept id v at word no_slots new)
 
   epoch_same : epoch_in words_then ≡ epoch_in s.words
   epoch_same = stays_elsewhere s.words word (λ n. new) (inl (count_not_epoch v.sizes word is_count))
@@ -187,14 +195,6 @@ module _ (v : View) (running : IsRunning v) (x : Retired) (c : Contains v.retire
 
   pub retired_then : AreRetired v.sizes words_then (set s.views id then)
   retired_then = reclaim_retired v.sizes s kept epochs old id v at x c ripe kept.account gives known words_then epoch_same
-
-  same_links : SameLinks v.sizes s.words words_then
-  same_links i is_i = elim (cases_eq i word) [
-    | inl same ↦
-        subst (λ n. link_in (slice_index words_then n) ≡ link_in (slice_index s.words n)) (sym same)
-        (ap link_in (get_or-set_same s.words word new 0 (subst (λ n. word < n) (sym kept.size) (count_inside v.sizes word is_count))) ∙ more_link (slice_index s.words word))
-    | inr differs ↦ ap link_in (get_or-set_other s.words word i new 0 differs)
-  ]
 
   pub links_then : AreLinked v.sizes words_then (set s.views id then)
   links_then =

@@ -11,6 +11,7 @@ use Rattle.lock_free.specs.declared.rules.View.{View}
 use Rattle.lock_free.specs.Attempts.{HasEndedWith, IsEnding}
 use Rattle.lock_free.specs.Becoming.{Follows}
 use Rattle.lock_free.specs.Calling.{IsRunning}
+use Rattle.lock_free.specs.Epochs.{KnowsMore}
 use Rattle.lock_free.specs.Freeing.{freeing, HasFreed, HasFreedSome, HasLetGo, IsRipeDeep}
 use Rattle.lock_free.specs.Claims.{HoldsAll}
 use Rattle.lock_free.specs.LeftNodes.{beside, MayLetGo}
@@ -22,7 +23,7 @@ use Rattle.lock_free.specs.Stocks.{Stocked, IsStock, made_of, own_nodes, own_of}
 use Rattle.lock_free.proofs.Followings.{become_both, follows_self, goes_self, same_self}
 use Rattle.lock_free.proofs.KindsApart.{shallow_kind}
 use Rattle.lock_free.proofs.Laters.{waited_later}
-use Rattle.lock_free.proofs.LetGo.{item, item_class, item_held, item_kind, item_late, its_name, limbo_let_go, turned_limbo}
+use Rattle.lock_free.proofs.LetGo.{item, item_class, item_held, item_kind, item_late, its_name, knowing_limbo, limbo_let_go, turned_limbo}
 use Rattle.lock_free.proofs.LimboStays.{limbo_stays}
 use Rattle.lock_free.proofs.NewNodes.{all_made_same, own_used}
 use Rattle.lock_free.proofs.RunningOn.{runs_on_become, runs_on_both}
@@ -143,6 +144,19 @@ turned_stock v stock next kind class low is same =
 pub has_late : (v : View) (stock : Stocked) (kind : Kind) (class : ℕ) → IsStock stock v → (chains_of stock.limbo kind class).aged.stamp + 3 ≤ stock.limbo.seen →
     (chains_of stock.limbo kind class).aged.stamp + 3 ≤ v.epoch
 has_late v stock kind class is low = let seen = is.limbo.seen in omega (arith, seen, low)
+
+-- ---- the seat has seen another epoch
+
+pub knowing_stock : (stock next : Stocked) (u v : View) → KnowsMore u v → IsStock stock u → (seen : ℕ) → seen ≤ v.epoch → next ≡ record stock { limbo = record stock.limbo { seen = seen } } →
+    IsStock next v
+knowing_stock stock next u v more is seen low same =
+    subst (λ s. IsStock s v) (sym same)
+    (record {
+      sizes = is.sizes ∙ sym (ap (λ (x : View). x.sizes) more.is);
+      pool = is.pool ∙ sym (ap (λ (x : View). x.pool) more.is);
+      made = is.made ∙ sym (ap (λ (x : View). map (made_of x) (own_nodes x)) more.is);
+      limbo = knowing_limbo stock.limbo u v more is.limbo seen low;
+    })
 
 -- ---- where the operation is to end
 

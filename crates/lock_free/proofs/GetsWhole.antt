@@ -1,7 +1,8 @@
 -- A get as a whole: answered by its first try, or as a call of any kind.
-use Rattle.std.proofs.Common.{◌≡◌, ℕ, inl, inr, is_some, Option, None, Ok, refl}
+use Rattle.std.proofs.Common.{◌≡◌, ℕ, inl, inr, is_some, Option, Some, None, Ok, Err, refl}
 use Rattle.history.specs.declared.calls.Access.{Access}
 use Rattle.history.specs.declared.calls.Call.{Call}
+use Rattle.history.specs.declared.calls.Call.TheVariants.{Get}
 use Rattle.history.specs.declared.replies.Reply.TheVariants as reply
 use Rattle.history.specs.declared.replies.Reply.{Reply}
 use Rattle.machine_model.specs.declared.actions.Action.TheVariants as act
@@ -11,16 +12,19 @@ use Rattle.lock_free.specs.declared.call_errors.CallError.TheVariants as error
 use Rattle.lock_free.specs.declared.call_runs.Ran.TheVariants as ran
 use Rattle.lock_free.specs.declared.leaving.Left.TheVariants as left
 use Rattle.lock_free.specs.declared.rules.View.{View}
+use Rattle.lock_free.specs.Answering.{HasAnswered}
 use Rattle.lock_free.specs.Calling.{IsRunning}
-use Rattle.lock_free.specs.GetRuns.{HasGotten, IsToldOrAgain, IsToldIfSomeOrAgain}
+use Rattle.lock_free.specs.GetRuns.{HasGivenUp, HasGotten, HasToldGet, HasToldGetAtLast, IsToldAtOnce, IsToldIfSomeAtLast}
+use Rattle.lock_free.specs.GlanceGets.{HasGlancedAtKey}
 use Rattle.lock_free.specs.Holding.{IsOn}
 use Rattle.lock_free.specs.Leaving.{HasLeftOff, IsRepair, Leaves}
 use Rattle.lock_free.specs.Loading.{IsAt}
 use Rattle.lock_free.specs.RunningOn.{MayAnswer, RunsOn}
 use Rattle.lock_free.specs.SeatWords.{HasEnded, IsAtEnd}
 use Rattle.lock_free.specs.Seeking.{IsCalled}
+use Rattle.lock_free.specs.SlotWaits.{IsToldAtLast}
 use Rattle.lock_free.specs.UnderWay.{HasComeOut, IsUnderWay}
-use Rattle.lock_free.specs.WholeCalls.{HasLeft}
+use Rattle.lock_free.specs.WholeCalls.{HasLeft, SameSeat}
 use Rattle.lock_free.proofs.CellStock.{given_none}
 use Rattle.lock_free.proofs.CallBegins.{same_run}
 use Rattle.lock_free.proofs.CallsRunOn.{at_end}
@@ -29,6 +33,7 @@ use Rattle.lock_free.proofs.KeyTries.{left_run}
 use Rattle.lock_free.proofs.Leavings.{left_off, may_on}
 use Rattle.lock_free.proofs.LetGo.{none_reclaimed}
 use Rattle.lock_free.proofs.RunningOn.{runs_on_self}
+use Rattle.lock_free.proofs.ToldAtLast.{in_vain_both, none_in_vain, one_more}
 use Rattle.std.specs.Prelude.{Result}
 use Rattle.lock_free.specs.declared.call_errors.CallError.{CallError}
 use Rattle.std.proofs.lemmas.Option.{none-some}
@@ -85,9 +90,38 @@ module _ (v w : View) (r : RunsOn v w) where
   pub left_since_then : (x : View) → HasLeft w x → HasLeft v x
   left_since_then x left = left_both v w x (same_run v w r) left
 
+-- ---- it was refused, and was made anew
+
+pub refused_so : (v w : View) (call : Call) (told : Result (Option ℕ) CallError) → HasGivenUp told → HasToldGet v call told w → HasAnswered v call None reply.NoSlots w
+refused_so v w call (Err error.Full) gave is = is.0
+refused_so v w call (Err error.Spent) gave is = is.0
+refused_so v w call (Ok value) gave is = elim gave [ ]
+refused_so v w call (Err error.NoHandle) gave is = elim gave [ ]
+refused_so v w call (Err error.ReadOnly) gave is = elim gave [ ]
+refused_so v w call (Err error.NotReadOnly) gave is = elim gave [ ]
+refused_so v w call (Err error.Crowded) gave is = elim gave [ ]
+refused_so v w call (Err error.HandlesFull) gave is = elim gave [ ]
+refused_so v w call (Err error.Busy) gave is = elim gave [ ]
+refused_so v w call (Err error.WornOut) gave is = elim gave [ ]
+refused_so v w call (Err error.Memory) gave is = elim gave [ ]
+
+pub got_anew : (v w x : View) (handle key : ℕ) (result : Result (Option ℕ) CallError) → SameSeat v w → HasAnswered v (Get handle key) None reply.NoSlots w →
+    HasToldGetAtLast w (Get handle key) result x → HasToldGetAtLast v (Get handle key) result x
+got_anew v w x handle key result same refused ((last, in_vain, then, is), why) =
+    let call = Get handle key in ((last, in_vain_both v w last call (one_more v v w call None (none_in_vain v call) same refused) in_vain, then, is), why)
+
+pub got_first : (v w : View) (call : Call) (result : Result (Option ℕ) CallError) → SameSeat v w → HasToldGet v call result w → HasToldGetAtLast v call result w
+got_first v w call result same (is, why) = ((v, none_in_vain v call, same, is), why)
+
+-- ---- its seat has only glanced
+
+pub told_at_once : (n : ℕ) (v w : View) (call : Call) (result : Option (Option ℕ)) → HasGlancedAtKey n v call result w → IsToldAtOnce v call result w
+told_at_once n v w call (Some value) told = told
+told_at_once n v w call None (inl refused) = inl refused
+told_at_once n v w call None (inr (still, waited)) = inr waited
+
 -- ---- whether its key has a value
 
-pub told_some : (before : View) (call : Call) (value : Option ℕ) (after : View) → IsToldOrAgain reply.Found before call (Ok value) after →
-    IsToldIfSomeOrAgain before call (Ok (is_some value)) after
-told_some before call value after (inl told) = inl (value, refl, told)
-told_some before call value after (inr (at, same, refused, since, told)) = inr (at, same, refused, since, (value, refl, told))
+pub told_some : (before : View) (call : Call) (value : Option ℕ) (after : View) → IsToldAtLast reply.Found before call (Ok value) after →
+    IsToldIfSomeAtLast before call (Ok (is_some value)) after
+told_some before call value after (last, in_vain, same, told) = (last, in_vain, same, (value, refl, told))

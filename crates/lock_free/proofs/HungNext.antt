@@ -1,5 +1,5 @@
 -- A slot hangs that was retired, where the seat may have retired more since.
-use Rattle.std.proofs.Common.{◌≡◌, ◌≢◌, ◌++◌, ℕ, List, [], ◌∷◌, Contains, refl, sym, ap, subst, ◌∙◌, append-nil, append_assoc, Some, ◌<◌}
+use Rattle.std.proofs.Common.{◌≡◌, ◌≢◌, ◌++◌, ℕ, List, [], ◌∷◌, Contains, Option, refl, sym, ap, subst, ◌∙◌, append-nil, append_assoc, arith, Some, ◌^◌, ◌<◌, ◌≤◌}
 use Rattle.std.proofs.lemmas.List.{map-append}
 use Rattle.std.proofs.lemmas.List.Elements.{Contains-append_left, Contains-push}
 use Rattle.trie_words.specs.declared.entries.Pair.{Pair}
@@ -10,12 +10,15 @@ use Rattle.lock_free.specs.declared.reclaiming.Kind.TheVariants as kinds
 use Rattle.lock_free.specs.declared.rules.Retired.{Retired}
 use Rattle.lock_free.specs.declared.rules.View.{View}
 use Rattle.lock_free.specs.declared.sizes.Sizes.{Sizes}
+use Rattle.lock_free.specs.Cells.{loose_link}
 use Rattle.lock_free.specs.Epochs.{knowing, AreItsSlots}
-use Rattle.lock_free.specs.Limbos.{chains_of, having_retired, link_to, names, with_chains, AreNewest, HasHung, IsLimbo, IsNewest, IsNext, IsOfSecond}
+use Rattle.lock_free.specs.Limbos.{chains_of, having_retired, link_to, names, with_chains, AreHung, AreNewest, Hangs, HasHung, IsLimbo, IsNewest, IsNext, IsOfSecond}
 use Rattle.lock_free.specs.Linking.{linking, HasRetiredSlot}
-use Rattle.lock_free.specs.Places.{count_word, IsSlot}
+use Rattle.lock_free.specs.Places.{count_word, words_of, IsSlot}
 use Rattle.lock_free.specs.Reclaiming.{kind_of}
 use Rattle.lock_free.specs.Rules.{Once}
+use Rattle.lock_free.proofs.Geometry.{slot_end}
+use Rattle.lock_free.proofs.Pools.{first_there}
 use Rattle.lock_free.proofs.Hung.{hung_by, its_slot, its_small}
 
 once_first : (xs ys : List ℕ) → Once (xs ++ ys) → Once xs
@@ -44,6 +47,23 @@ module _ (limbo : Limbo) (v : View) (what : Kind) (class name : ℕ) (h : IsNext
 
   pub next_slot : IsSlot v.sizes class name
   next_slot = its_slot limbo at_first what class name h.newest epoch known first_facts
+
+  -- what hangs already is no link that says of a slot that it is loose
+  pub next_low : words_of v.sizes ≤ 2 ^ 28 → (first : Option ℕ) → first ≡ (chains_of limbo what class).young.first → link_to first < loose_link
+  next_low range first is = subst (λ f. link_to f < loose_link) (sym is) (by hung.young (chains_of limbo what class).young.first hung.is_young.hangs held)
+    where
+      hung : AreHung (having_retired v h.newest.rest) what class (chains_of limbo what class)
+      hung = h.newest.hanging.hung what class next_small
+
+      held : (x : Retired) → Contains hung.young x → (x.class < 3) × IsSlot v.sizes x.class x.name
+      held x c = h.newest.hanging.slots x (hung.held x (Contains-append_left hung.young hung.aged x c)).0
+
+      by : (items : List Retired) (found : Option ℕ) → Hangs v.sizes v.links found items → ((x : Retired) → Contains items x → (x.class < 3) × IsSlot v.sizes x.class x.name) →
+          link_to found < loose_link
+      by [] found none each = subst (λ f. link_to f < loose_link) (sym none) (omega arith)
+      by (x ∷ rest) found hangs each =
+          let at = each x (first_there x rest) in
+          let end = slot_end v.sizes x.class x.name at.0 at.1 in subst (λ f. link_to f < loose_link) (sym hangs.0) (omega (arith, end, range))
 
   pub hung_next : (sizes : Sizes) → v.sizes ≡ sizes → (a b w : View) → a ≡ knowing v epoch → b ≡ linking a (count_word sizes class name) known → (found : Chains) → found ≡ chains_of limbo what class →
       (link : ℕ) → link ≡ link_to found.young.first → w ≡ linking b (count_word sizes class name) link → (after : Limbo) →

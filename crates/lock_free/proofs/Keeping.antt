@@ -297,8 +297,8 @@ module _ (sizes : Sizes) (s : Table.State Call View) (kept : IsKept sizes s) (id
         (other_kept sizes s kept id v at account_then stands_then s.words stays) not_others
         (numbers_stay sizes s kept id v at w refl refl account_then s.words leads.tries (λ slot none. none) (λ handle low. refl) refl
         (λ slot handle e free. (free.0, more 1 slot free.0 free.1))) held
-        (cells_stay sizes s kept id v at w account_then stands_then s.words (λ c n cell. refl) (λ c n low was spare no. (was, spare_then n spare))
-        (λ c m n b it was spare free. elim (which b n free.0 free.1) [
+        (cells_stay sizes s kept id v at w account_then stands_then s.words (λ c n cell. refl) (λ c n h. h) (λ c n low was spare no. (was, spare_then n spare))
+        (λ c n b it was spare free. elim (which b n free.0 free.1) [
           | inl old ↦ (free.0, old)
           | inr new ↦ absurd (spare.0 new.number new.slot new.stands new.place)
         ]))

@@ -78,8 +78,7 @@ mod OwesPrivate
 mod LinesStay
 mod Drafts
 mod CountKept
-mod CellKept
-mod CellSteps
+mod Aside
 mod CellStock
 mod CountSteps
 mod Dead
@@ -276,6 +275,7 @@ mod CallsDenied
 mod OneWalk
 mod PairsAdded
 mod Scannings
+mod DenialsTold
 mod AccessTold
 mod CallEnds
 mod CallNumbers

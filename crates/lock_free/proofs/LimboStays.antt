@@ -6,7 +6,7 @@ use Rattle.lock_free.specs.declared.rules.View.{View}
 use Rattle.lock_free.specs.Limbos.{hanging_of, having_retired, Hanging, IsLimbo, IsNewestOrNone}
 use Rattle.lock_free.specs.Making.{with_slot}
 use Rattle.lock_free.specs.Reclaiming.{AddsRetired}
-use Rattle.lock_free.specs.Stocks.{Stocked, HoldsSlots, IsStock}
+use Rattle.lock_free.specs.Stocks.{Stocked, IsStock}
 use Rattle.lock_free.specs.Storing.{with_free}
 use Rattle.lock_free.proofs.KindsApart.{shallow_kind}
 
@@ -31,9 +31,6 @@ limbo_stays limbo v w same h = subst (λ (p : Hanging). IsLimbo limbo (record w 
 -- in a stock that has the same
 pub limbo_so : (stock next : Stocked) (v w : View) → IsStock stock v → next.limbo ≡ stock.limbo → hanging_of w ≡ hanging_of v → IsLimbo next.limbo w
 limbo_so stock next v w is limbo same = subst (λ l. IsLimbo l w) (sym limbo) (limbo_stays stock.limbo v w same is.limbo)
-
-pub holds_slots : (stock : Stocked) (v : View) → IsStock stock v → HoldsSlots stock v
-holds_slots stock v is = record { sizes = is.sizes; pool = is.pool; made = is.made }
 
 -- the seat has retired one slot more, or none
 pub newest_now : (limbo : Limbo) (r : Option Retiree) (v w : View) → IsLimbo limbo v → w.sizes ≡ v.sizes → w.links ≡ v.links → w.epoch ≡ v.epoch → AddsRetired r v.retired w.retired → IsNewestOrNone

@@ -11,6 +11,7 @@ use Rattle.atomic_table.specs.Table as Table
 use Rattle.lock_free.specs.declared.rules.Retired.{Retired}
 use Rattle.lock_free.specs.declared.rules.View.{View}
 use Rattle.lock_free.specs.declared.sizes.Sizes.{Sizes}
+use Rattle.lock_free.specs.Cells.{loose_link}
 use Rattle.lock_free.specs.Counts.{IsCount, references, references_in}
 use Rattle.lock_free.specs.Linking.{has_linked, has_seen_link, linking}
 use Rattle.lock_free.specs.Links.{AreLinked, IsLinked, link_in}
@@ -20,7 +21,7 @@ use Rattle.lock_free.specs.Places.{count_word}
 use Rattle.lock_free.specs.Shadows.{IsShadowed}
 use Rattle.lock_free.specs.Rules.{AreEpochs, AreOwed, AreRetired, IsKept}
 use Rattle.lock_free.proofs.CountKept.{count_kept}
-use Rattle.lock_free.proofs.CellsStay.{count_before}
+use Rattle.lock_free.proofs.CellsStay.{count_before, count_loosens_none}
 use Rattle.lock_free.proofs.CountWords.{count_beside_slots, count_inside, count_not_epoch, count_not_glance}
 use Rattle.lock_free.proofs.HeldStill.{held_then}
 use Rattle.lock_free.proofs.OwedStay.{owed_same}
@@ -32,7 +33,8 @@ use Rattle.lock_free.proofs.RetiredStay.{epoch_still, retired_then}
 
 module _ (v : View) (s : Table.State Call View) (kept : IsKept v.sizes s) (epochs : AreEpochs s.words s.views) (retired : AreRetired v.sizes s.words s.views)
     (owed : AreOwed s.views) (linked : AreLinked v.sizes s.words s.views) (id : ℕ) (at : get_elem? s.views id ≡ some v) (x : Retired) (c : Contains v.retired x)
-    (word : ℕ) (is : IsCount v.sizes word) (its : word ≡ count_word v.sizes x.class x.name) (f : ℕ → ℕ) (counts : references_in (f (slice_index s.words word)) ≡ references s.words word) where
+    (word : ℕ) (is : IsCount v.sizes word) (its : word ≡ count_word v.sizes x.class x.name) (f : ℕ → ℕ) (counts : references_in (f (slice_index s.words word)) ≡ references s.words word)
+    (loose : loose_link ≤ link_in (f (slice_index s.words word)) → loose_link ≤ link_in (slice_index s.words word)) where
   abbrev new : ℕ
   new = f (slice_index s.words word)
 
@@ -97,7 +99,8 @@ module _ (v : View) (s : Table.State Call View) (kept : IsKept v.sizes s) (epoch
   pub leaves : IsKept v.sizes (record { words = words_then; homes = s.homes; views = set s.views id w }) × AreEpochs words_then (set s.views id w)
       × AreRetired v.sizes words_then (set s.views id w) × AreOwed (set s.views id w) × AreLinked v.sizes words_then (set s.views id w)
   leaves = (
-    count_kept v.sizes s kept id v at word (count_beside_slots v.sizes s.words kept.taken word is) new (count_before v.sizes word is) v.owed (with_draft v.links word (link_in new))
+    count_kept v.sizes s kept id v at word (count_beside_slots v.sizes s.words kept.taken word is) new (count_before v.sizes word is)
+        (count_loosens_none v.sizes s.words word new (subst (λ n. word < n) (sym kept.size) (count_inside v.sizes word is)) loose) v.owed (with_draft v.links word (link_in new))
         (held_then v.sizes s kept id v at w refl refl refl words_then (λ other is_other. same_references other)),
     epochs_stay s.words words_then s.views (set s.views id w) same_epoch (was_then s.views id v at w (record { actor = refl; epoch = refl; passed = refl; glance = refl; pinned = λ p e. e })) epochs,
     retired_then s.views id v at w refl (λ p e. e) v.sizes s.words words_then (epoch_still s.words words_then same_epoch) retired,
@@ -112,15 +115,18 @@ pub see_link_allowed : (sizes : Sizes) (size id : ℕ) (me : Me Call View) (some
 see_link_allowed sizes size id me some_seats word is x c its =
     allowed_by sizes size id me word (λ n. n) (has_seen_link (step size word 0 0 none) me)
     some_seats
-    (λ s kept epochs retired owed linked at. (let y = leaves me.0 s kept epochs retired owed linked id at x c word is its (λ n. n) refl in
+    (λ s kept epochs retired owed linked at. (let y = leaves me.0 s kept epochs retired owed linked id at x c word is its (λ n. n) refl (λ h. h) in
     (linking me.0 word (link_in (slice_index s.words word)), (inr refl, refl, λ shown. shown), y.0, y.1, y.2, y.3, y.4, refl, refl)))
 
 -- the link that the seat knows becomes this one, and nothing else changes
 kept_by_link : (found known new : ℕ) → known < 2 ^ 32 → new < 2 ^ 32 → link_in found ≡ known → references_in ((found + (new + (2 ^ 64 - known)) % 2 ^ 64) % 2 ^ 64) ≡ references_in found
 kept_by_link found known new low fits is = omega (arith, low, fits, is)
 
+pub new_link : (found old new change : ℕ) → old < 2 ^ 32 → new < 2 ^ 32 → link_in found ≡ old → change ≡ (new + (2 ^ 64 - old)) % 2 ^ 64 → link_in ((found + change) % 2 ^ 64) ≡ new
+new_link found old new change low fits is by = omega (arith, low, fits, is, by)
+
 pub link_allowed : (sizes : Sizes) (size id : ℕ) (me : Me Call View) (some_seats : 1 ≤ me.0.sizes.seats) (word : ℕ) → IsCount me.0.sizes word → (known : ℕ) → Contains me.0.links (word, known) →
-    (new change : ℕ) → known < 2 ^ 32 → new < 2 ^ 32 → change ≡ (new + (2 ^ 64 - known)) % 2 ^ 64 →
+    (new change : ℕ) → known < 2 ^ 32 → new < loose_link → change ≡ (new + (2 ^ 64 - known)) % 2 ^ 64 →
     Allows (IsShadowed sizes) size id me word (λ n. (n + change) % 2 ^ 64) (has_linked (step size word change 0 none) me)
 link_allowed sizes size id me some_seats word is known has new change low fits by =
     allowed_by sizes size id me word (λ n. (n + change) % 2 ^ 64) (has_linked (step size word change 0 none) me)
@@ -129,7 +135,8 @@ link_allowed sizes size id me some_seats word is known has new change low fits b
     let z = linked.linked id me.0 at (word, known) has in
     let found = slice_index s.words word in
     let y = leaves me.0 s kept epochs retired owed linked id at z.item z.its word is z.word (λ n. (n + change) % 2 ^ 64)
-    (ap (λ c. references_in ((found + c) % 2 ^ 64)) by ∙ kept_by_link found known new low fits z.is) in (
+    (ap (λ c. references_in ((found + c) % 2 ^ 64)) by ∙ kept_by_link found known new low (omega (arith, fits)) z.is)
+    (λ above. (let link = new_link found known new change low (omega (arith, fits)) z.is by in absurd (omega (arith, above, link, fits)))) in (
       linking me.0 word (link_in ((found + change) % 2 ^ 64)),
       (inl (count_not_glance me.0.sizes word is), refl, λ shown. shown),
       y.0,
@@ -153,6 +160,3 @@ linking_sound words v word link h = record { size = h.size; range = h.range; bou
 pub retired_word : (v : View) (sizes : Sizes) → v.sizes ≡ sizes → (x : Retired) (class name : ℕ) → x.class ≡ class → x.name ≡ name → (word : ℕ) → word ≡ count_word sizes class name →
     word ≡ count_word v.sizes x.class x.name
 retired_word v sizes same x class name c n word is = is ∙ ap (λ z. count_word z class name) (sym same) ∙ ap (λ z. count_word v.sizes z name) (sym c) ∙ ap (count_word v.sizes x.class) (sym n)
-
-pub new_link : (found old new change : ℕ) → old < 2 ^ 32 → new < 2 ^ 32 → link_in found ≡ old → change ≡ (new + (2 ^ 64 - old)) % 2 ^ 64 → link_in ((found + change) % 2 ^ 64) ≡ new
-new_link found old new change low fits is by = omega (arith, low, fits, is, by)

@@ -26,10 +26,10 @@ use Rattle.lock_free.proofs.Framing.{else_word, no_slot, nodes_below, roots_belo
 use Rattle.lock_free.proofs.Geometry.{IsWordOf, slots_apart, inside, root_below}
 use Rattle.lock_free.proofs.Made.{stands_too}
 use Rattle.lock_free.proofs.MadeAll.{all_then, nodes_then, roots_then}
-use Rattle.lock_free.proofs.CellsStay.{before_cells, beside_cell}
+use Rattle.lock_free.proofs.CellsStay.{before_cells, beside_cell, word_loosens_none}
 use Rattle.lock_free.proofs.MadeSeats.{its_spare, made_kept}
-use Rattle.lock_free.specs.Counts.{references_in}
-use Rattle.lock_free.proofs.CountWords.{count_above}
+use Rattle.lock_free.specs.Counts.{references_in, IsCount}
+use Rattle.lock_free.proofs.CountWords.{count_above, slot_apart}
 use Rattle.lock_free.proofs.HeldStep.{slot_beside}
 use Rattle.lock_free.proofs.MadeSeats.{Takes}
 
@@ -107,6 +107,7 @@ module _ (sizes : Sizes) (s : Table.State Call View) (kept : IsKept sizes s) (id
         (λ handle below. (let where_it_is = root_below handle below in low (root_word handle) (omega (arith, where_it_is.1)))) still slot_same unopened evidence
         (slot_beside sizes s kept (class_of node) name (class_small node) is_spare.0 last inside_it value)
         (beside_cell sizes s.words last value (before_cells sizes s.words kept.taken (class_of node) name last (class_small node) is_spare.0 inside_it))
+        (word_loosens_none sizes s.words last value (slot_apart sizes s.words kept.taken (class_of node) name last (class_small node) is_spare.0 inside_it).1)
 
   -- ---- by the exchange of the count of generations
 
@@ -162,5 +163,8 @@ module _ (sizes : Sizes) (s : Table.State Call View) (kept : IsKept sizes s) (id
         (λ handle below. (let where_it_is = root_below handle below in beside (root_word handle) (λ e. absurd (omega (arith, e, where_it_is.0))))) root_taken
         (λ b other low differs taken j its. beside j (no_slot sizes kept.account kept.stands s.words kept.taken kept.nodes kept.roots generation_word before_slots
         (given_out + 1) root_taken b other low taken j its)) unopened evidence
-        (λ c is. ap references_in (beside c (λ same. (let far = count_above sizes c is in omega (arith, far, same)))))
-        (beside_cell sizes s.words generation_word (given_out + 1) (omega arith))
+        (λ c is. ap references_in (beside c (not_count c is))) (beside_cell sizes s.words generation_word (given_out + 1) (omega arith))
+        (word_loosens_none sizes s.words generation_word (given_out + 1) not_count)
+      where
+        not_count : (c : ℕ) → IsCount sizes c → c ≢ generation_word
+        not_count c is same = let far = count_above sizes c is in omega (arith, far, same)

@@ -26,7 +26,7 @@ use Rattle.lock_free.specs.Places.{cell_word, pin_word, root_word, IsTaken}
 use Rattle.lock_free.specs.Rules.{Standing, IsClosing, SaysClosing, IsFree, IsSpare, IsSeat, IsKept, Once, pool_of}
 use Rattle.lock_free.specs.Trying.{as_before}
 use Rattle.lock_free.proofs.Assembling.{AllStand, closing_stays, numbers_stay, assembled}
-use Rattle.lock_free.proofs.CellsStay.{cells_spent}
+use Rattle.lock_free.proofs.CellsStay.{cells_spent, NoneLoosened}
 use Rattle.lock_free.proofs.Framing.{class_small}
 use Rattle.lock_free.proofs.Geometry.{IsWordOf}
 use Rattle.lock_free.proofs.Made.{stands_too, stands_else, stands_new, place_else, place_last, stands_still}
@@ -332,12 +332,12 @@ module _ (sizes : Sizes) (s : Table.State Call View) (kept : IsKept sizes s) (id
 
     -- the rule holds
     pub made_kept : Takes → ((c : ℕ) → IsCount sizes c → references words_then c ≡ references s.words c) →
-        ((c n : ℕ) → IsCell c n → slice_index words_then (cell_word sizes c n) ≡ slice_index s.words (cell_word sizes c n)) →
+        ((c n : ℕ) → IsCell c n → slice_index words_then (cell_word sizes c n) ≡ slice_index s.words (cell_word sizes c n)) → NoneLoosened sizes s.words words_then →
         IsKept sizes (record { words = words_then; homes = s.homes; views = set s.views id view_then })
-    made_kept evidence same cells_same =
+    made_kept evidence same cells_same loose =
         assembled sizes s kept id v at view_then refl refl account_then stands_then words_then made_all closings_then own_then
         (other_kept sizes s kept id v at account_then stands_then words_then stays)
         (λ b other f. inl (was_free b other f).0)
         (numbers_stay sizes s kept id v at view_then refl refl account_then words_then (as_before makes.tries) (λ slot none. none) root_same refl
         (λ slot handle e free. (free.0, pool_still handle e slot free))) (held_then evidence same)
-        (cells_spent sizes s kept id v at view_then account_then stands_then words_then cells_same (class_of node) name its_own taken spare_then (λ b n f. (was_free b n f).0))
+        (cells_spent sizes s kept id v at view_then account_then stands_then words_then cells_same loose (class_of node) name its_own taken spare_then (λ b n f. (was_free b n f).0))

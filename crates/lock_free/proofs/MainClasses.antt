@@ -2,6 +2,7 @@
 use Rattle.std.proofs.Common.{◌≡◌, ℕ, count_ones, refl, ap, ◌∙◌}
 use Rattle.trie_words.specs.declared.headers.Header.{Header}
 use Rattle.trie_words.specs.declared.headers.Shape.{Shape}
+use Rattle.trie_words.specs.declared.headers.Shape.TheVariants as shape
 use Rattle.machine_model.specs.Beneath.slot_arena.specs.declared.refs.Ref.{Ref}
 use Rattle.machine_model.specs.Beneath.slot_arena.specs.declared.nodes.Node.{Node}
 use Rattle.machine_model.specs.Beneath.slot_arena.specs.declared.nodes.Slot.{Slot}
@@ -10,13 +11,19 @@ use Rattle.machine_model.specs.Beneath.slot_arena.specs.Refs.{slot_of}
 use Rattle.lock_free.specs.declared.accounts.Account.{Account}
 use Rattle.lock_free.specs.declared.rules.View.{View}
 use Rattle.lock_free.specs.Loading.{now, HasHeader, IsSound, IsUsed}
-use Rattle.lock_free.specs.Classes.{shape_class}
+use Rattle.lock_free.specs.Classes.{entries_in, shape_class}
 use Rattle.lock_free.specs.Nodes.{class_of, SaysShape, of_branch, of_tomb, of_list}
 use Rattle.lock_free.specs.Passing.{KnowsMain}
 use Rattle.lock_free.specs.Places.{class_for}
 use Rattle.lock_free.specs.Repairing.{IsBranch}
 use Rattle.lock_free.proofs.Counts.{entries_counted}
 use Rattle.lock_free.proofs.GivenBack.{node_is}
+
+-- by how many entries it has
+pub class_counts : (s : Shape) → class_for (entries_in s) ≡ shape_class s
+class_counts (shape.Branch bitmap) = refl
+class_counts (shape.Tomb single) = refl
+class_counts (shape.List count) = refl
 
 module _ (n : ℕ) (v : View) (sound : IsSound n v) (main : Ref) where
   class_in : (slot : Slot) → IsUsed v main slot → (account : Account) (node : Node) (s : Shape) → slot.node ≡ node → SaysShape account (slot_of main) node s → class_of node ≡ shape_class s

@@ -23,6 +23,7 @@ use Rattle.lock_free.specs.Rules.{Stands, SaysClosing, IsFree, IsSpare, IsSeat, 
 use Rattle.lock_free.specs.Trying.{SameTries, as_before}
 use Rattle.lock_free.proofs.Assembling.{AllStand, all_stand, closing_stays, numbers_stay, assembled}
 use Rattle.lock_free.proofs.CellsStay.{before_cells, cells_step}
+use Rattle.lock_free.proofs.CountWords.{slot_apart}
 use Rattle.lock_free.proofs.Framing.{class_small, else_word, still_taken, node_far, not_of_spare, root_beside, pin_beside}
 use Rattle.lock_free.proofs.Geometry.{IsWordOf}
 use Rattle.lock_free.proofs.PlainStay.{plain_running}
@@ -110,4 +111,5 @@ module _ (sizes : Sizes) (s : Table.State Call View) (kept : IsKept sizes s) (id
       (seat_owing sizes account_then kept.stands words_then view_then owed own_then) (other_kept sizes s kept id v at account_then kept.stands words_then stays)
       (λ b name free. inl free) (numbers_stay sizes s kept id v at w refl refl account_then words_then (as_before tries) (λ slot none. none) root_same refl (λ slot handle e free. free)) held
       (cells_step sizes s kept id v at w account_then kept.stands i value
-      (before_cells sizes s.words kept.taken (class_of slot.node) (place_at kept.account k) i (class_small slot.node) (kept.nodes.within k slot stood) its) stays.taken spare_then (λ b n f. f))
+      (before_cells sizes s.words kept.taken (class_of slot.node) (place_at kept.account k) i (class_small slot.node) (kept.nodes.within k slot stood) its)
+      (slot_apart sizes s.words kept.taken (class_of slot.node) (place_at kept.account k) i (class_small slot.node) (kept.nodes.within k slot stood) its).1 stays.taken spare_then (λ b n f. f))

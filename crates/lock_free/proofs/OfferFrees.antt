@@ -201,9 +201,9 @@ module _ (v : View) (y : PartedSlot) (rest : List PartedSlot) (ripe : IsRipeOffe
         runners = λ a o e. inr (o, e);
       })
       (held_to v.sizes s kept offers kept.account.parted (set s.views id then) (held_views v.sizes s kept id v at then refl refl refl))
-      (cells_stay v.sizes s kept id v at then (relisted v.sizes s kept offers kept.account.parted) kept.stands s.words (λ c n cell. refl)
+      (cells_stay v.sizes s kept id v at then (relisted v.sizes s kept offers kept.account.parted) kept.stands s.words (λ c n cell. refl) (λ c n h. h)
       (λ c n low was is no. (was, (is.0, λ k stands. is.1 k (fewer k stands))))
-      (λ c m n b it was is f. elim (was_free v.pool 1 y.slot medium b n f.0 f.1) [
+      (λ c n b it was is f. elim (was_free v.pool 1 y.slot medium b n f.0 f.1) [
         | inl old ↦ (f.0, old)
         | inr new ↦ absurd (is.1 known its.stands (its.place ∙ new.1))
       ]))

@@ -33,7 +33,8 @@ use Rattle.lock_free.specs.Rules.{Stands, IsClosing, SaysClosing, IsFree, IsSpar
 use Rattle.lock_free.specs.Trying.{try_of, KeepsTries, anew}
 use Rattle.lock_free.specs.Holdings.{AreHeld}
 use Rattle.lock_free.proofs.Assembling.{AllStand, all_stand, closing_stays, opening_stays, Numbers, assembled}
-use Rattle.lock_free.proofs.CellsStay.{beside_cell, cells_spent, handle_before}
+use Rattle.lock_free.proofs.CellsStay.{beside_cell, cells_spent, handle_before, word_loosens_none}
+use Rattle.lock_free.proofs.CountWords.{handle_apart}
 use Rattle.lock_free.proofs.Geometry.{IsWordOf}
 use Rattle.lock_free.proofs.Meanings.{means_then, stood_still, ran, reserved, reserves_on, marks_kept}
 use Rattle.lock_free.proofs.OpenHandles.{not_closing}
@@ -394,5 +395,5 @@ module _ (sizes : Sizes) (s : Table.State Call View) (kept : IsKept sizes s) (id
       assembled sizes s kept id v at view_then refl refl account_then kept.stands words_then all_then closings_then own_then (other_kept sizes s kept id v at account_then kept.stands words_then stays)
       (λ b name f. inl (spending.was_free sizes s kept id v at 1 medium slot rest pool b name f.0 f.1).0) numbers_then held_still
       (cells_spent sizes s kept id v at view_then account_then kept.stands words_then (beside_cell sizes s.words (root_word handle) (root_code (word.Offered slot))
-      (handle_before sizes handle low)) 1 slot
+      (handle_before sizes handle low)) (word_loosens_none sizes s.words (root_word handle) (root_code (word.Offered slot)) (handle_apart sizes handle low).1) 1 slot
       its_own still_taken spare_then (λ b n f. (spending.was_free sizes s kept id v at 1 medium slot rest pool b n f.0 f.1).0))

@@ -29,13 +29,14 @@ use Rattle.lock_free.specs.declared.rules.Retired.{Retired}
 use Rattle.lock_free.specs.declared.rules.View.{View}
 use Rattle.lock_free.specs.declared.sizes.Sizes.{Sizes}
 use Rattle.lock_free.specs.Accounts.{bounds_for, state_of, place_at, OwnIs, first, later}
-use Rattle.lock_free.specs.Counts.{IsCount, references}
+use Rattle.lock_free.specs.Counts.{IsCount}
 use Rattle.lock_free.specs.Holdings.{AreHeld, count_of}
 use Rattle.lock_free.specs.Loading.{IsSound}
 use Rattle.lock_free.specs.Nodes.{IsAhead, AreOwners, StandsAs, InTable, class_of, of_branch, decided}
 use Rattle.lock_free.specs.Opening.{counted_words, first_words, first_link, first_handle}
 use Rattle.lock_free.specs.Owning.{IsOwnBy, at_first}
-use Rattle.lock_free.specs.Cells.{AreCells, Stores}
+use Rattle.lock_free.specs.Cells.{AreCells, IsAside, Stores}
+use Rattle.lock_free.specs.Links.{link_in}
 use Rattle.lock_free.specs.Places.{AreSizes, cell_word, HaveTaken, IsSlot, IsTaken, branch_slot, count_word, epoch_word, root_slot, words_of, generation_word, taken_word, root_word, pin_word}
 use Rattle.lock_free.specs.Roots.{MeansRoot}
 use Rattle.lock_free.specs.FirstViews.{first_view}
@@ -113,8 +114,7 @@ module _ (sizes : Sizes) where
 
     link_is : slice_index (first_words sizes) (2 * root_slot sizes) ≡ first_link sizes
     link_is =
-        let root = ok.root in
-        get_or-set_same (set (counted_words sizes) (root_word 0) (first_handle sizes)) (2 * root_slot sizes) (first_link sizes) 0
+        let root = ok.root in get_or-set_same (set (counted_words sizes) (root_word 0) (first_handle sizes)) (2 * root_slot sizes) (first_link sizes) 0
         (omega (
           arith,
           root,
@@ -296,13 +296,12 @@ module _ (sizes : Sizes) where
     its w id e = only_view (first_view sizes) w id e
 
     -- all counts are 0 beside the first reference
-    one_reference : (c : ℕ) → IsCount sizes c → references (first_words sizes) c ≡ 1
-    one_reference c is =
+    no_count : (c : ℕ) → IsCount sizes c → slice_index (first_words sizes) c ≡ 0
+    no_count c is =
         let far = count_above sizes c is in
         let root : IsTaken sizes (first_words sizes) 0 (root_slot sizes) = record { number = 1; few = omega (arith, taken_is); first = omega arith } in
         let beside = count_beside sizes (first_words sizes) have_taken c is 0 (root_slot sizes) (2 * root_slot sizes) (omega arith) root (record { low = omega arith; high = omega arith }) in
-        let zero = zero_is c (λ e. beside (sym e)) (λ e. omega (arith, far, e)) (λ e. omega (arith, far, e)) (λ e. omega (arith, far, e)) in
-        omega (arith, zero)
+        zero_is c (λ e. beside (sym e)) (λ e. omega (arith, far, e)) (λ e. omega (arith, far, e)) (λ e. omega (arith, far, e))
 
     counts_of : (k : Ref) → IsInUse (state_of sizes account).heap k → IsCount sizes (count_of sizes account k)
     counts_of k (slot, standing) =
@@ -317,20 +316,24 @@ module _ (sizes : Sizes) where
         }
 
     held_is : AreHeld sizes account all_stand (first_words sizes) (first_view sizes ∷ [])
-    held_is = held_first sizes all_stand (λ k. refl) (first_words sizes) one_reference counts_of
+    held_is = held_first sizes all_stand (λ k. refl) (first_words sizes) (λ c is. (let zero = no_count c is in omega (arith, zero))) counts_of
 
-    -- nothing stands in cells
+    -- nothing stands in cells, or is loose
     none_stored : (class number name : ℕ) → Stores sizes (first_words sizes) class number name → ⊥
     none_stored class number name h =
-        let root = ok.root in
-        h.2 (sym h.1
-        ∙ zero_is (cell_word sizes class number) (λ e. absurd (omega (arith, root, e))) (λ e. absurd (omega (arith, e))) (λ e. absurd (omega (arith, e))) (λ e. absurd (omega (arith, e))))
+        let none = zero_is (cell_word sizes class number) (λ e. omega (arith, ok.root, e)) (λ e. omega (arith, e)) (λ e. omega (arith, e)) (λ e. omega (arith, e)) in h.2 (sym h.1 ∙ ap link_in none)
+
+    none_aside : (class name : ℕ) → IsAside sizes (first_words sizes) class name → ⊥
+    none_aside class name (inl (number, h)) = none_stored class number name h
+    none_aside class name (inr h) =
+        let link = ap link_in (no_count (count_word sizes class name) (record { class = class; small = h.0; name = name; slot = h.1; is = refl })) in let least = h.2 in omega (arith, link, least)
 
     cells_are : AreCells sizes (IsSpare sizes account all_stand) (first_words sizes) (first_view sizes ∷ [])
     cells_are = record {
-      spare = λ class number name h. absurd (none_stored class number name h);
-      nobodys = λ class number name h id v b e f. none_stored class number name h;
+      spare = λ class name h. absurd (none_aside class name h);
+      nobodys = λ class name h id v b e f. none_aside class name h;
       once = λ b c m n name h g. absurd (none_stored b m name h);
+      apart = λ b c m name h g. none_stored b m name h;
     }
 
     pub opens : IsKept sizes (opening {S = Call} (first_words sizes) [] (first_view sizes))

@@ -100,4 +100,4 @@ module _ (sizes : Sizes) (s : Table.State Call View) (kept : IsKept sizes s) (id
       (λ k c. (let some = has_often k owed c in let most = fewer k in often_has k v.owed (omega (arith, some, most)))) (λ n. omega arith) (λ y c. c)
       (lines_idle sizes s kept id v at kept.account view_then (λ a differs. refl) idle) words_then
       (λ c is. ap references_in (get_or-set_other s.words (pin_word v.actor) c (pin_word_of pin) 0 ((pin_apart sizes v.actor most).1 c is))))
-      (cells_beside sizes s kept id v at view_then (pin_word v.actor) (pin_word_of pin) (pin_before sizes v.actor most) stays.taken (λ b n f. f))
+      (cells_beside sizes s kept id v at view_then (pin_word v.actor) (pin_word_of pin) (pin_before sizes v.actor most) (pin_apart sizes v.actor most).1 stays.taken (λ b n f. f))

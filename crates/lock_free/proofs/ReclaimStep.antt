@@ -44,7 +44,7 @@ module _ (me : Me Call View) (sound : IsSound (words_of me.0.sizes) me.0) (x : R
       (all_stand v.sizes s kept) kept.seats (λ d none. absurd (empty_has d none))
       (held_reclaimed v.sizes s kept epochs owed id v at x c ripe shallow
       (λ live. not_live v.sizes s kept epochs old id v at x c ripe ((kept.seats id v at).retired x c).was.node live ((kept.seats id v at).retired x c).was.number))
-      (λ k n cell. refl) (λ k n low was. was)
+      (λ k n cell. refl) (λ k n h. h) (λ k n low was. was)
 
   pub epochs_then : AreEpochs s.words (set s.views id then)
   epochs_then = epochs_stay s.words s.words s.views (set s.views id then) refl (was_then s.views id v at then

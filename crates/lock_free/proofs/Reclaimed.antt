@@ -26,7 +26,7 @@ use Rattle.lock_free.specs.Places.{cell_word, count_word, root_word, words_in, I
 use Rattle.lock_free.specs.Reclaiming.{reclaiming, without}
 use Rattle.lock_free.specs.Rules.{AreDrafts, AreEpochs, AreRetired, IsFree, IsKept, IsSeat, IsSpare, NodesStand, Once, SaysClosing, Standing, Stands, pool_of}
 use Rattle.lock_free.proofs.Assembling.{AllStand, assembled, closing_stays, numbers_stay}
-use Rattle.lock_free.proofs.CellsStay.{cells_stay}
+use Rattle.lock_free.proofs.CellsStay.{cells_stay, NoneLoosened}
 use Rattle.lock_free.proofs.CountWords.{one_class}
 use Rattle.lock_free.proofs.Drafts.{left, others_left}
 use Rattle.lock_free.proofs.EpochStays.{epoch_in}
@@ -230,17 +230,17 @@ module _ (sizes : Sizes) (s : Table.State Call View) (kept : IsKept sizes s) (ep
     -- ---- the rule holds
 
     pub reclaim_kept : AreHeld sizes kept.account stands_then words (set s.views id view_then) →
-        ((c n : ℕ) → IsCell c n → slice_index words (cell_word sizes c n) ≡ slice_index s.words (cell_word sizes c n)) →
+        ((c n : ℕ) → IsCell c n → slice_index words (cell_word sizes c n) ≡ slice_index s.words (cell_word sizes c n)) → NoneLoosened sizes s.words words →
         ((c n : ℕ) → c < 3 → IsTaken sizes s.words c n → IsTaken sizes words c n) → IsKept sizes (record { words = words; homes = s.homes; views = set s.views id view_then })
-    reclaim_kept held cells_same taken =
+    reclaim_kept held cells_same loose taken =
         assembled sizes s kept id v at view_then refl refl kept.account stands_then words all_then
         (λ handle who low says_so. closing_stays sizes s kept id v at view_then refl refl (λ h e. (e, refl)) refl (λ c. c) handle who
         (kept.closings handle who low (subst (λ n. SaysClosing n who) (roots handle low) says_so))) own_then others_then not_others
         (numbers_stay sizes s kept id v at view_then refl refl kept.account words (no_tries kept.account.offers state) (λ slot none. none) roots refl
         (λ slot handle e f. free_too 1 slot f))
         held
-        (cells_stay sizes s kept id v at view_then kept.account stands_then words cells_same (λ c n low was spare no. (taken c n low was, spare_then n spare))
-        (λ c m n b it was spare f. elim (was_free v.pool x.class x.name small b n f.0 f.1) [
+        (cells_stay sizes s kept id v at view_then kept.account stands_then words cells_same loose (λ c n low was spare no. (taken c n low was, spare_then n spare))
+        (λ c n b it was spare f. elim (was_free v.pool x.class x.name small b n f.0 f.1) [
           | inl before ↦ (f.0, before)
           | inr (class, new) ↦ absurd (not_free n spare new)
         ]))

@@ -1,7 +1,7 @@
 -- The load by which the one seat that is left has all slots of a class to which no handle leads.
 use Rattle.history.specs.declared.calls.Call.{Call}
-use Rattle.std.proofs.Common.{◌≡◌, ◌<◌, ◌≤◌, ◌==◌, inl, inr, ℕ, zero, suc, Bool, true, false, if◌then◌else◌, List, Contains, set, slice_index, refl, sym, ap, subst, ◌∙◌, arith}
-use Rattle.std.proofs.lemmas.Bool.{cases_eq, eq-eqb, true≢false}
+use Rattle.std.proofs.Common.{◌≡◌, ◌<◌, ◌≤◌, ◌==◌, inl, inr, ℕ, zero, suc, Bool, true, false, if◌then◌else◌, nat_le, List, Contains, set, slice_index, refl, sym, ap, subst, ◌∙◌, arith}
+use Rattle.std.proofs.lemmas.Bool.{cases_eq, eq-eqb, le-leb, true≢false}
 use Rattle.std.proofs.lemmas.List.{set-get_or}
 use Rattle.std.proofs.lemmas.Option.{none-some}
 use mathlib.Core.Option.{some, none}
@@ -13,9 +13,11 @@ use Rattle.machine_model.specs.Beneath.slot_arena.specs.declared.refs.Ref.{Ref}
 use Rattle.lock_free.specs.declared.rules.Heard.{Heard}
 use Rattle.lock_free.specs.declared.rules.View.{View}
 use Rattle.lock_free.specs.declared.sizes.Sizes.{Sizes}
-use Rattle.lock_free.specs.Alone.{has_recovered, left_out, name_of, recovering, stands_in, AreMarks, HaveReferences, HasRecovered, IsByItself, Marks}
+use Rattle.lock_free.specs.Alone.{has_recovered, is_aside, left_out, name_of, recovering, stands_in, AreMarks, HaveReferences, HasRecovered, IsByItself, Marks}
+use Rattle.lock_free.specs.Cells.{loose_link, IsAside}
+use Rattle.lock_free.specs.Links.{link_in}
 use Rattle.lock_free.specs.Loading.{IsSound}
-use Rattle.lock_free.specs.Places.{cell_word, slots_in, taken_word, words_of}
+use Rattle.lock_free.specs.Places.{cell_word, count_word, slots_in, taken_word, words_of}
 use Rattle.lock_free.specs.Shadows.{IsShadowed}
 use Rattle.lock_free.specs.Rules.{IsKept, IsRuled, WasGivenUp}
 use Rattle.lock_free.proofs.OneGlance.Shadowed.{lifted}
@@ -46,31 +48,44 @@ left_by true stands e = absurd (true≢false e)
 left_by false stands e = (refl, e)
 
 -- it stands in one of so many cells
-stands_by : (sizes : Sizes) (words : List ℕ) (class name number n : ℕ) → slice_index words (cell_word sizes class number) ≡ name → number < suc n →
-    (number < n → stands_in sizes words class name n ≡ true) → (b : Bool) → (slice_index words (cell_word sizes class n) == name) ≡ b → (if b then true else stands_in sizes words class name n) ≡ true
+stands_by : (sizes : Sizes) (words : List ℕ) (class name number n : ℕ) → link_in (slice_index words (cell_word sizes class number)) ≡ name → number < suc n →
+    (number < n → stands_in sizes words class name n ≡ true) → (b : Bool) → (link_in (slice_index words (cell_word sizes class n)) == name) ≡ b →
+    (if b then true else stands_in sizes words class name n) ≡ true
 stands_by sizes words class name number n is low before true e = refl
 stands_by sizes words class name number n is low before false e = elim (cases_eq number n) [
-  | inl same ↦ absurd (true≢false (sym (eq-eqb (slice_index words (cell_word sizes class n)) name (ap (λ k. slice_index words (cell_word sizes class k)) (sym same) ∙ is)) ∙ e))
+  | inl same ↦ absurd (true≢false (sym (eq-eqb (link_in (slice_index words (cell_word sizes class n))) name (ap (λ k. link_in (slice_index words (cell_word sizes class k))) (sym same) ∙ is)) ∙ e))
   | inr differs ↦ before (omega (arith, low, differs))
 ]
 
-stands_there : (sizes : Sizes) (words : List ℕ) (class name number : ℕ) → slice_index words (cell_word sizes class number) ≡ name → (n : ℕ) → number < n → stands_in sizes words class name n ≡ true
+stands_there : (sizes : Sizes) (words : List ℕ) (class name number : ℕ) → link_in (slice_index words (cell_word sizes class number)) ≡ name → (n : ℕ) → number < n →
+    stands_in sizes words class name n ≡ true
 unfolding stands_in
 stands_there sizes words class name number is zero low = absurd (omega (arith, low))
 stands_there sizes words class name number is (suc n) low =
-    stands_by sizes words class name number n is low (λ less. stands_there sizes words class name number is n less) (slice_index words (cell_word sizes class n) == name) refl
+    stands_by sizes words class name number n is low (λ less. stands_there sizes words class name number is n less) (link_in (slice_index words (cell_word sizes class n)) == name) refl
+
+true_anyway : (b : Bool) → (if b then true else true) ≡ true
+true_anyway true = refl
+true_anyway false = refl
+
+aside_there : (sizes : Sizes) (words : List ℕ) (class name : ℕ) → IsAside sizes words class name → is_aside sizes words class name ≡ true
+aside_there sizes words class name (inl (number, h)) =
+    ap (λ b. if b then true else nat_le loose_link (link_in (slice_index words (count_word sizes class name)))) (stands_there sizes words class name number h.1 32 h.0.1)
+aside_there sizes words class name (inr h) =
+    ap (λ b. if stands_in sizes words class name 32 then true else b) (le-leb loose_link (link_in (slice_index words (count_word sizes class name))) h.2)
+    ∙ true_anyway (stands_in sizes words class name 32)
 
 module _ (v : View) (some_seats : 1 ≤ v.sizes.seats) (s : Table.State Call View) (ruled : IsRuled v.sizes s) (id : ℕ) (at : get_elem? s.views id ≡ some v) (it : IsByItself v) (class : ℕ)
     (small : class < 3) (marks : Marks) (are : AreMarks v class marks) (counted : HaveReferences v class marks) where
   abbrev pub heard : (h : Heard) → Contains v.heard h → WasGivenUp s.views h
   heard = ruled.heard id v at
 
-  -- what stands in cells is left out
+  -- what stands in cells, or is loose, is left out
   abbrev pub them : Marks
   them = left_out v.sizes s.words class marks
 
   pub led : MarksLed v class them
-  led number few l = ap (λ b. if b then true else stands_in v.sizes s.words class (name_of v.sizes class number) 32) ((are number few).1 l)
+  led number few l = ap (λ b. if b then true else is_aside v.sizes s.words class (name_of v.sizes class number)) ((are number few).1 l)
 
   abbrev pub w : View
   w = view_then v s ruled.kept heard id at it class small them led
@@ -84,9 +99,9 @@ module _ (v : View) (some_seats : 1 ≤ v.sizes.seats) (s : Table.State Call Vie
       recover_kept v s ruled.kept heard id at it class small them led
       (held_recovered v s ruled.kept heard id at it class small them led unowed
       (λ number few left. counted (slice_index s.words (taken_word class)) (record { table = s; kept = ruled.kept; heard = heard; id = id; at = at; finds = refl }) number few
-      (left_by (marks number) (stands_in v.sizes s.words class (name_of v.sizes class number) 32) left).0))
-      (λ number few left n low is. (let none = (left_by (marks number) (stands_in v.sizes s.words class (name_of v.sizes class number) 32) left).1 in
-      true≢false (sym (stands_there v.sizes s.words class (name_of v.sizes class number) n is 32 low) ∙ none)))
+      (left_by (marks number) (is_aside v.sizes s.words class (name_of v.sizes class number)) left).0))
+      (λ number few left aside. (let none = (left_by (marks number) (is_aside v.sizes s.words class (name_of v.sizes class number)) left).1 in
+      true≢false (sym (aside_there v.sizes s.words class (name_of v.sizes class number) aside) ∙ none)))
 
   retires : (k : ℕ) (x : View) → get_elem? (set s.views id w) k ≡ some x → Retires s.views k x
   retires k x e = elim (at_set s.views id k w x e) [
@@ -133,7 +148,7 @@ module _ (v : View) (some_seats : 1 ≤ v.sizes.seats) (s : Table.State Call Vie
         ap (recovering v ruled.kept.account class)
             (unmarked_same v.sizes class them (left_out v.sizes s.words class these) (slice_index s.words (taken_word class))
             (λ m few. (let most = ruled.kept.taken class small in
-            ap (λ b. if b then true else stands_in v.sizes s.words class (name_of v.sizes class m) 32) (both_mark v class marks these are are_these m (omega (arith, few, most)))))),
+            ap (λ b. if b then true else is_aside v.sizes s.words class (name_of v.sizes class m)) (both_mark v class marks these are are_these m (omega (arith, few, most)))))),
       )) others so
 
 -- the word is one of the table's

@@ -29,17 +29,17 @@ use Rattle.lock_free.specs.declared.rules.View.{View}
 use Rattle.lock_free.specs.declared.sizes.Sizes.{Sizes}
 use Rattle.lock_free.specs.Accounts.{bounds_for, place_at, state_of, HasGrown, HasWaited}
 use Rattle.lock_free.specs.Alone.{name_of, recovering, unmarked, IsByItself, IsLedTo, Marks}
-use Rattle.lock_free.specs.Cells.{Stores}
+use Rattle.lock_free.specs.Cells.{IsAside}
 use Rattle.lock_free.specs.Live.{IsLive, from_root, from_operation, from_slot}
 use Rattle.lock_free.specs.Holdings.{AreHeld}
 use Rattle.lock_free.specs.Loading.{now}
 use Rattle.lock_free.specs.Nodes.{class_of}
-use Rattle.lock_free.specs.Places.{cell_word, root_word, slots_in, taken_word, IsTaken}
+use Rattle.lock_free.specs.Places.{root_word, slots_in, taken_word, IsTaken}
 use Rattle.lock_free.specs.Roots.{MeansRoot, SaysPlain, SaysRoot, open_with}
 use Rattle.lock_free.specs.Rules.{first_account, no_slots, pool_of, HasPinnedIdle, IsFree, IsKept, IsPlainSo, IsSeat, IsSpare}
 use Rattle.lock_free.specs.Rules.{NamesOffer, NodesStand, Once, RootsStand, RunsNothing, Standing, Stands, WasGivenUp}
 use Rattle.lock_free.proofs.Assembling.{AllStand, all_stand, assembled, closing_stays}
-use Rattle.lock_free.proofs.CellsStay.{cells_stay}
+use Rattle.lock_free.proofs.CellsStay.{aside_small, cells_stay}
 use Rattle.lock_free.proofs.CountWords.{one_class, slot_taken}
 use Rattle.lock_free.proofs.Framing.{class_small}
 use Rattle.lock_free.proofs.Idle.{empty_has, none_free}
@@ -359,20 +359,22 @@ module _ (v : View) (s : Table.State Call View) (kept : IsKept v.sizes s) (heard
             (knows_forgotten kept.account.offered kept.account.offers kept.account.parted s.words w.actor w.pin w.offer w.pool.parted h.offering));
       }
 
-  -- what stands in a cell is none of them
-  not_celled : (c m n : ℕ) → Stores sizes s.words c m n → IsTaken sizes s.words c n → Contains names n →
-      ((number : ℕ) → number < found → marks number ≡ false → (k : ℕ) → k < 32 → slice_index s.words (cell_word sizes class k) ≡ name_of sizes class number → ⊥) → ⊥
-  not_celled c m n cell was among besides =
+  abbrev NoneAside : Type 0
+  NoneAside = (number : ℕ) → number < found → marks number ≡ false → IsAside sizes s.words class (name_of sizes class number) → ⊥
+
+  -- what stands in a cell, or is loose, is none of them
+  not_aside : (c n : ℕ) → IsAside sizes s.words c n → IsTaken sizes s.words c n → Contains names n → NoneAside → ⊥
+  not_aside c n aside was among none =
       let u = unmarked_has sizes class marks found n among in
-      let one = one_class sizes c class n cell.0.0 small (slot_taken sizes s.words kept.taken c n cell.0.0 was) (slot_taken sizes s.words kept.taken class n small (new_spare n among).0) in
-      besides u.number u.few u.not m cell.0.1 (ap (λ k. slice_index s.words (cell_word sizes k m)) (sym one) ∙ cell.1 ∙ u.is)
+      let low = aside_small sizes s.words c n aside in
+      let one = one_class sizes c class n low small (slot_taken sizes s.words kept.taken c n low was) (slot_taken sizes s.words kept.taken class n small (new_spare n among).0) in
+      none u.number u.few u.not (subst (IsAside sizes s.words class) u.is (subst (λ k. IsAside sizes s.words k n) one aside))
 
   -- ---- the rule holds
 
   pub recover_kept : AreHeld sizes account_then stands_then s.words (set s.views id view_then) →
-      ((number : ℕ) → number < found → marks number ≡ false → (n : ℕ) → n < 32 → slice_index s.words (cell_word sizes class n) ≡ name_of sizes class number → ⊥) →
-      IsKept sizes (record { words = s.words; homes = s.homes; views = set s.views id view_then })
-  recover_kept held besides =
+      NoneAside → IsKept sizes (record { words = s.words; homes = s.homes; views = set s.views id view_then })
+  recover_kept held none =
       assembled sizes s kept id v at view_then refl refl account_then stands_then s.words all_then
       (λ handle who low says. closing_stays sizes s kept id v at view_then refl refl (λ h e. (e, refl)) refl (λ c. c) handle who (kept.closings handle who low says)) own_then others_then
       (λ b name f. inr (λ other w c e apart g. no_pool w c name (is_left v s kept heard id at it.alone it.rests.idle other w e apart).bare.0 g))
@@ -381,8 +383,8 @@ module _ (v : View) (s : Table.State Call View) (kept : IsKept v.sizes s) (heard
         number = λ handle h. inl h;
         others = λ other w e apart handle h. h;
         runners = λ a o e. inr (o, e);
-      }) held (cells_stay sizes s kept id v at view_then account_then stands_then s.words (λ c n cell. refl) (λ c n low was spare no. (was, spare_then n spare))
-      (λ c m n b cell was spare f. elim (cases_eq b class) [
-        | inl same ↦ absurd (not_celled c m n cell was (subst (λ xs. Contains xs n) (pool_same v.pool class names small) (subst (λ k. Contains (pool_of view_then.pool k) n) same f.1)) besides)
+      }) held (cells_stay sizes s kept id v at view_then account_then stands_then s.words (λ c n cell. refl) (λ c n h. h) (λ c n low was spare no. (was, spare_then n spare))
+      (λ c n b aside was spare f. elim (cases_eq b class) [
+        | inl same ↦ absurd (not_aside c n aside was (subst (λ xs. Contains xs n) (pool_same v.pool class names small) (subst (λ k. Contains (pool_of view_then.pool k) n) same f.1)) none)
         | inr differs ↦ (f.0, subst (λ xs. Contains xs n) (pool_else v.pool class b names small f.0 differs) f.1)
       ]))

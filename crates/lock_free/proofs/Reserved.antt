@@ -220,7 +220,7 @@ module _ (sizes : Sizes) (s : Table.State Call View) (kept : IsKept sizes s) (id
         (other_kept sizes s kept id v at kept.account kept.stands named_words (stays (word.Opening slot) fits_slot few running fresh)) (λ b name f. inl f)
         (record { openings = openings_named; number = λ g r. inl r; others = λ other w e apart g r. r; runners = λ a p e. inr (p, e) })
         (held_words sizes s kept id v at naming refl refl refl (root_word o) (root_code (word.Opening slot)) (handle_apart sizes o its_held.low).1)
-        (cells_beside sizes s kept id v at naming (root_word o) (root_code (word.Opening slot)) (handle_before sizes o its_held.low)
+        (cells_beside sizes s kept id v at naming (root_word o) (root_code (word.Opening slot)) (handle_before sizes o its_held.low) (handle_apart sizes o its_held.low).1
         (stays (word.Opening slot) fits_slot few running fresh).taken (λ b n f. f))
 
   -- ---- the number is given back
@@ -265,4 +265,5 @@ module _ (sizes : Sizes) (s : Table.State Call View) (kept : IsKept sizes s) (id
         (other_kept sizes s kept id v at kept.account kept.stands free_words (stays word.Closed tt low_kind closes none_named)) (λ b name f. inl f)
         (record { openings = openings_free; number = λ g r. absurd (none-some g r.0); others = λ other w e apart g r. r; runners = λ a p e. inr (p, e) })
         (held_words sizes s kept id v at freeing refl refl refl (root_word o) (root_code word.Closed) (handle_apart sizes o its_held.low).1)
-        (cells_beside sizes s kept id v at freeing (root_word o) (root_code word.Closed) (handle_before sizes o its_held.low) (stays word.Closed tt low_kind closes none_named).taken (λ b n f. f))
+        (cells_beside sizes s kept id v at freeing (root_word o) (root_code word.Closed) (handle_before sizes o its_held.low) (handle_apart sizes o its_held.low).1
+        (stays word.Closed tt low_kind closes none_named).taken (λ b n f. f))

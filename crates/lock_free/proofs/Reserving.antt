@@ -133,4 +133,4 @@ module _ (sizes : Sizes) (s : Table.State Call View) (kept : IsKept sizes s) (id
             closing_stays sizes s kept id v at (reserving v o) refl refl (λ h e. (e, refl)) refl (λ c. c) g who (kept.closings g who low (subst (λ n. SaysClosing n who) (root_beside g differs) says))
       ]) own_then (other_kept sizes s kept id v at kept.account kept.stands words_then stays) (λ b name f. inl f) numbers_then
       (held_words sizes s kept id v at (reserving v o) refl refl refl (root_word o) (root_code word.Reserved) (handle_apart sizes o below).1)
-      (cells_beside sizes s kept id v at (reserving v o) (root_word o) (root_code word.Reserved) (handle_before sizes o below) stays.taken (λ b n f. f))
+      (cells_beside sizes s kept id v at (reserving v o) (root_word o) (root_code word.Reserved) (handle_before sizes o below) (handle_apart sizes o below).1 stays.taken (λ b n f. f))

@@ -229,4 +229,4 @@ module _ (sizes : Sizes) (s : Table.State Call View) (kept : IsKept sizes s) (id
         (other_kept sizes s kept id v at kept.account kept.stands words_then stays) (λ b name f. inl f)
         numbers_then
         (held_words sizes s kept id v at view_then refl refl refl (root_word handle) (root_code w) (handle_apart sizes handle low).1)
-        (cells_beside sizes s kept id v at view_then (root_word handle) (root_code w) (handle_before sizes handle low) stays.taken (λ b n f. f))
+        (cells_beside sizes s kept id v at view_then (root_word handle) (root_code w) (handle_before sizes handle low) (handle_apart sizes handle low).1 stays.taken (λ b n f. f))

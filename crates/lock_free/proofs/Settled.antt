@@ -35,6 +35,7 @@ use Rattle.lock_free.specs.Fates.{TellsFate, IsSettled, IsMarkedThen, is_carried
 use Rattle.lock_free.specs.Settling.{Settles}
 use Rattle.lock_free.proofs.Assembling.{AllStand, all_stand, closing_stays, opening_stays, Numbers, assembled}
 use Rattle.lock_free.proofs.CellsStay.{before_cells, cells_step}
+use Rattle.lock_free.proofs.CountWords.{slot_apart as count_apart}
 use Rattle.lock_free.proofs.Fates.{fate_kept, fate_said, fate_settled}
 use Rattle.lock_free.proofs.Framing.{else_word, below_word, still_taken, have_still, stands_over, class_small}
 use Rattle.lock_free.proofs.Geometry.{IsWordOf, slots_apart, above, inside, root_below}
@@ -392,4 +393,5 @@ module _ (sizes : Sizes) (s : Table.State Call View) (kept : IsKept sizes s) (id
       assembled sizes s kept id v at (Then owed retired) refl refl account_then kept.stands words_then all_then (closings_then owed retired) its
       (other_kept sizes s kept id v at account_then kept.stands words_then stays) (λ b name f. inl f) (numbers_then owed retired) is_held
       (cells_step sizes s kept id v at (Then owed retired) account_then kept.stands i n
-      (before_cells sizes s.words kept.taken 1 k.slot i medium (kept.roots.blocks k here) its_word) taken_still spare_then (λ b m f. f))
+      (before_cells sizes s.words kept.taken 1 k.slot i medium (kept.roots.blocks k here) its_word)
+      (count_apart sizes s.words kept.taken 1 k.slot i medium (kept.roots.blocks k here) its_word).1 taken_still spare_then (λ b m f. f))

@@ -20,7 +20,7 @@ use Rattle.lock_free.specs.Accounts.{state_of}
 use Rattle.lock_free.specs.Loading.{IsSound}
 use Rattle.lock_free.specs.Counts.{how_often, owed_on}
 use Rattle.lock_free.specs.Holdings.{AreHeld, retired_in, retired_on}
-use Rattle.lock_free.specs.Cells.{Stores}
+use Rattle.lock_free.specs.Cells.{IsAside}
 use Rattle.lock_free.specs.Shadows.{IsShadowed}
 use Rattle.lock_free.specs.Rules.{AreEpochs, AreOwed, AreRetired, HasActor, HasSeat, IsClosing, IsFree, IsKept, IsOpening, IsRuled, IsSeat, IsShown, latest, Reserves, WasGivenUp}
 use Rattle.lock_free.specs.Splitting.{without_last, of_last}
@@ -98,11 +98,11 @@ module _ (sizes : Sizes) (s : Table.State Call View) (kept : IsKept sizes s) (id
   none_second : (b name : ℕ) → IsFree second b name → ⊥
   none_second b name free = none_free v.sizes v.last v.last v.account b name free
 
-  -- what stands in a cell is free for none
-  not_free : (class number name : ℕ) → Stores sizes s.words class number name → (k : ℕ) (x : View) (b : ℕ) → Was k x → IsFree x b name → ⊥
-  not_free class number name h k x b (was_first e p) f = kept.cells.nobodys class number name h id v b at (subst (λ (y : View). IsFree y b name) (sym p) f)
-  not_free class number name h k x b (was_other e p) f = kept.cells.nobodys class number name h k x b p f
-  not_free class number name h k x b (was_second e p) f = none_second b name (subst (λ (y : View). IsFree y b name) (sym p) f)
+  -- what stands in a cell, or is loose, is free for none
+  not_free : (class name : ℕ) → IsAside sizes s.words class name → (k : ℕ) (x : View) (b : ℕ) → Was k x → IsFree x b name → ⊥
+  not_free class name h k x b (was_first e p) f = kept.cells.nobodys class name h id v b at (subst (λ (y : View). IsFree y b name) (sym p) f)
+  not_free class name h k x b (was_other e p) f = kept.cells.nobodys class name h k x b p f
+  not_free class name h k x b (was_second e p) f = none_second b name (subst (λ (y : View). IsFree y b name) (sym p) f)
 
   -- ---- each is a seat
 
@@ -320,8 +320,9 @@ module _ (sizes : Sizes) (s : Table.State Call View) (kept : IsKept sizes s) (id
     held = split_held;
     cells = record {
       spare = kept.cells.spare;
-      nobodys = λ class number name h k x b e f. not_free class number name h k x b (was k x e) f;
+      nobodys = λ class name h k x b e f. not_free class name h k x b (was k x e) f;
       once = kept.cells.once;
+      apart = kept.cells.apart;
     };
   }
 

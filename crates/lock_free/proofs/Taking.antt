@@ -16,7 +16,7 @@ use Rattle.lock_free.specs.Places.{stride, slots_in, part_of, first_slot_word, t
 use Rattle.lock_free.specs.Rules.{IsClosing, SaysClosing, IsFree, IsSpare, AreDrafts, IsSeat, IsKept, pool_of}
 use Rattle.lock_free.proofs.Meanings.{no_tries}
 use Rattle.lock_free.proofs.Assembling.{AllStand, closing_stays, numbers_stay, assembled}
-use Rattle.lock_free.proofs.CellsStay.{beside_cell, cells_stay}
+use Rattle.lock_free.proofs.CellsStay.{aside_small, beside_cell, cells_stay, word_loosens_none}
 use Rattle.lock_free.proofs.Framing.{else_word, class_small, has_words, no_slot, nodes_below, roots_below}
 use Rattle.lock_free.proofs.Geometry.{IsWordOf, slots_apart, root_below}
 use Rattle.lock_free.proofs.Pools.{free_still, was_free, once_with, parted_same}
@@ -181,7 +181,8 @@ module _ (sizes : Sizes) (s : Table.State Call View) (kept : IsKept sizes s) (id
       (held_words sizes s kept id v at view_then refl refl refl (taken_word class) (number + 1)
       (before_apart sizes (taken_word class) (omega arith) (omega (arith, small))).1)
       (cells_stay sizes s kept id v at view_then kept.account kept.stands words_then (beside_cell sizes s.words (taken_word class) (number + 1) (omega (arith, small)))
-      (λ c n low was spare no. (taken_then c n low was, spare)) (λ c m n b it was spare f. elim (was_free v.pool class name small b n f.0 f.1) [
+      (word_loosens_none sizes s.words (taken_word class) (number + 1) (before_apart sizes (taken_word class) (omega arith) (omega (arith, small))).1)
+      (λ c n low was spare no. (taken_then c n low was, spare)) (λ c n b it was spare f. elim (was_free v.pool class name small b n f.0 f.1) [
         | inl old ↦ (f.0, old)
-        | inr new ↦ absurd (not_taken c it.0.0 (subst (IsTaken sizes s.words c) (sym new.1) was))
+        | inr new ↦ absurd (not_taken c (aside_small sizes s.words c n it) (subst (IsTaken sizes s.words c) (sym new.1) was))
       ]))

@@ -31,7 +31,7 @@ none_in_vain v c = record {
   of_call = All-nil (IsRefusalOf c);
 }
 
-one_more : (v w x : View) (c : Call) (opens : Option ℕ) → HasTriedInVain v c w → SameSeat w x → HasAnswered w c opens reply.NoSlots x → HasTriedInVain v c x
+pub one_more : (v w x : View) (c : Call) (opens : Option ℕ) → HasTriedInVain v c w → SameSeat w x → HasAnswered w c opens reply.NoSlots x → HasTriedInVain v c x
 one_more v w x c opens h same a =
     let one : Answer = record { of = record { id = a.id; call = c; opens = opens }; reply = reply.NoSlots } in
     record {
@@ -40,6 +40,15 @@ one_more v w x c opens h same a =
       answers = a.answers ∙ ap (λ xs. xs ++ one ∷ []) h.answers ∙ append_assoc (answers_at v) h.refusals (one ∷ []);
       of_call = All-append (IsRefusalOf c) h.refusals (one ∷ []) h.of_call (All-cons (IsRefusalOf c) one [] (record { its = refl; refuses = refl }) (All-nil (IsRefusalOf c)));
     }
+
+-- and refused again since then
+pub in_vain_both : (v w x : View) (c : Call) → HasTriedInVain v c w → HasTriedInVain w c x → HasTriedInVain v c x
+in_vain_both v w x c h k = record {
+  same = same_seats v w x h.same k.same;
+  refusals = h.refusals ++ k.refusals;
+  answers = k.answers ∙ ap (λ xs. xs ++ k.refusals) h.answers ∙ append_assoc (answers_at v) h.refusals k.refusals;
+  of_call = All-append (IsRefusalOf c) h.refusals k.refusals h.of_call k.of_call;
+}
 
 pub in_vain_tidied : (v w x : View) (c : Call) → HasTriedInVain v c w → HasReclaimedSome w x → HasTriedInVain v c x
 in_vain_tidied v w x c h r = subst (HasTriedInVain v c) (sym r.is) (record {

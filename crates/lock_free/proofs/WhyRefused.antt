@@ -39,6 +39,9 @@ module _ (a b c d e f g h : Bool) where
       (a, refuse.NoActor) ∷ (b, refuse.ActorBusy) ∷ (c, refuse.NoHandle) ∷ (d, refuse.ReadOnly) ∷ (e, refuse.NotReadOnly) ∷ (f, refuse.Busy) ∷ (g, refuse.HandlesFull)
       ∷ (h, refuse.Spent) ∷ [])
 
+  pub no_handle_by : reason ≡ Some refuse.NoHandle → c ≡ true
+  no_handle_by is = grind (arith, is)
+
   pub writes_by : reason ≡ Some refuse.ReadOnly → d ≡ true
   writes_by is = grind (arith, is)
 

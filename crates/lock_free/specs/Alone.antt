@@ -1,6 +1,6 @@
 -- A seat that is alone makes each slot free for it to which no open handle leads.
 use Rattle.history.specs.declared.calls.Call.{Call}
-use Rattle.std.specs.Prelude.{◌≡◌, ◌⊎◌, ◌+◌, ◌*◌, ◌/◌, ◌<◌, ◌≤◌, ◌++◌, ◌==◌, ℕ, zero, suc, Bool, true, false, List, [], ◌∷◌, Contains, None, slice_index, if◌then◌else◌}
+use Rattle.std.specs.Prelude.{◌≡◌, ◌⊎◌, ◌+◌, ◌*◌, ◌/◌, ◌<◌, ◌≤◌, ◌++◌, ◌==◌, ℕ, zero, suc, Bool, true, false, List, [], ◌∷◌, Contains, None, nat_le, slice_index, if◌then◌else◌}
 use mathlib.Core.Option.{some}
 use lib.ListN.{get_elem?}
 use Rattle.atomic_table.specs.Table as Table
@@ -17,8 +17,10 @@ use Rattle.lock_free.specs.declared.rules.Heard.{Heard}
 use Rattle.lock_free.specs.declared.rules.View.{View}
 use Rattle.lock_free.specs.declared.sizes.Sizes.{Sizes}
 use Rattle.lock_free.specs.Accounts.{place_of, state_of}
+use Rattle.lock_free.specs.Cells.{loose_link}
 use Rattle.lock_free.specs.Counts.{references}
 use Rattle.lock_free.specs.Finishing.{unoffered}
+use Rattle.lock_free.specs.Links.{link_in}
 use Rattle.lock_free.specs.Loading.{now, seen, IsSound, IsUsed}
 use Rattle.lock_free.specs.Making.{with_slots}
 use Rattle.lock_free.specs.Nodes.{class_of}
@@ -90,11 +92,15 @@ unmarked sizes class marks (suc n) = if marks n then unmarked sizes class marks 
 -- whether this slot stands in one of so many cells of the class
 unfoldable pub stands_in : Sizes → List ℕ → ℕ → ℕ → ℕ → Bool
 stands_in sizes words class name zero = false
-stands_in sizes words class name (suc n) = if slice_index words (cell_word sizes class n) == name then true else stands_in sizes words class name n
+stands_in sizes words class name (suc n) = if link_in (slice_index words (cell_word sizes class n)) == name then true else stands_in sizes words class name n
 
--- those that are marked, and those that stand in cells
+-- whether it does, or is loose
+abbrev pub is_aside : Sizes → List ℕ → ℕ → ℕ → Bool
+is_aside sizes words class name = if stands_in sizes words class name 32 then true else nat_le loose_link (link_in (slice_index words (count_word sizes class name)))
+
+-- those that are marked, and those that stand in cells or are loose
 abbrev pub left_out : Sizes → List ℕ → ℕ → Marks → Marks
-left_out sizes words class marks number = if marks number then true else stands_in sizes words class (name_of sizes class number) 32
+left_out sizes words class marks number = if marks number then true else is_aside sizes words class (name_of sizes class number)
 
 -- Whatever the words are at the access, those of the counts of the slots of the class that were handed out and aren't marked say that there is a reference.
 abbrev pub HaveReferences : View → ℕ → Marks → Type 0
@@ -109,7 +115,7 @@ abbrev pub recovering : View → Account → ℕ → List ℕ → View
 recovering v account class names =
     record v { account = unoffered account; offer = None; pool = record (with_slots v.pool class names) { parted = [] }; drafts = []; retired = []; links = [] }
 
--- of all that were handed out those to which no handle leads, and that stand in no cell
+-- of all that were handed out those to which no handle leads, and that neither stand in a cell nor are loose
 abbrev pub HasRecovered : View → ℕ → Marks → ℕ → View → Type 0
 HasRecovered before class marks found after =
     (m : LoneMoment before (taken_word class) found) ×

@@ -1,20 +1,23 @@
 -- A get as a whole: its first try, and what it is told.
-use Rattle.std.specs.Prelude.{◌≡◌, ◌⊎◌, ◌<◌, ◌^◌, ℕ, false, Bool, List, Option, None, Result, Ok, Err, IfErr}
+use Rattle.std.specs.Prelude.{◌≡◌, ◌⊎◌, ◌<◌, ◌^◌, ℕ, false, Bool, List, Option, Some, None, Result, Ok, Err, IfErr}
 use Rattle.history.specs.declared.calls.Call.{Call}
-use Rattle.history.specs.declared.replies.Reply.{Reply}
 use Rattle.history.specs.declared.replies.Reply.TheVariants as reply
 use Rattle.machine_model.specs.Calls.{needs_writable}
 use Rattle.lock_free.specs.declared.call_errors.CallError.{CallError}
+use Rattle.lock_free.specs.declared.call_errors.CallError.TheVariants as error
 use Rattle.lock_free.specs.declared.leaving.Left.{Left}
 use Rattle.lock_free.specs.declared.rules.View.{View}
 use Rattle.lock_free.specs.declared.seeking.Sought.{Sought}
 use Rattle.lock_free.specs.declared.tasks.Task.{Task}
+use Rattle.lock_free.specs.Accounts.{HasWaited}
 use Rattle.lock_free.specs.Answering.{HasAnswered}
 use Rattle.lock_free.specs.Attempts.{IsSought}
+use Rattle.lock_free.specs.BegunCalls.{StillBegins}
 use Rattle.lock_free.specs.Descending.{IsTask}
 use Rattle.lock_free.specs.KeyReplies.{FitsError}
 use Rattle.lock_free.specs.Parking.{left_so, IsCome, IsOwnLeft}
 use Rattle.lock_free.specs.SeatCalls.{IsTold, IsToldIfSome}
+use Rattle.lock_free.specs.SlotWaits.{HasTriedInVain, IsToldAtLast}
 use Rattle.lock_free.specs.UnderWay.{IsUnderWay}
 use Rattle.lock_free.specs.WholeCalls.{SameSeat}
 
@@ -36,15 +39,29 @@ HasToldGet before call result after = IsTold reply.Found before call result afte
 abbrev pub HasGotten : View → Call → Result (Option ℕ) CallError → View → Type 0
 HasGotten v call result after = (before : View) → IsUnderWay before call None v → HasToldGet before call result after
 
--- ---- its seat may glance first
+-- ---- it waits for slots
 
--- the glance fell, so that the get was refused, and it was made anew
-abbrev pub IsToldAgain : View → Call → View → (View → Type 0) → Type 0
-IsToldAgain before call after Told = (at : View) × SameSeat before at × HasAnswered before call None reply.NoSlots at × SameSeat at after × Told at
+-- a get that is told so has given up: it has found no slot, or came to nothing
+abbrev pub HasGivenUp : Result (Option ℕ) CallError → Type 0
+HasGivenUp (Err error.Full) = Unit {0}
+HasGivenUp (Err error.Spent) = Unit {0}
+HasGivenUp told = ⊥
 
--- it is told this, or is told it so
-abbrev pub IsToldOrAgain : {A : Type 0} → (A → Reply) → View → Call → Result A CallError → View → Type 0
-IsToldOrAgain {A} reply_of before call told after = IsTold reply_of before call told after ⊎ IsToldAgain before call after (λ at. IsTold reply_of at call told after)
+-- its caller is told this at last
+abbrev pub HasToldGetAtLast : View → Call → Result (Option ℕ) CallError → View → Type 0
+HasToldGetAtLast before call result after = IsToldAtLast reply.Found before call result after × IfErr result (FitsError call)
 
-abbrev pub IsToldIfSomeOrAgain : View → Call → Result Bool CallError → View → Type 0
-IsToldIfSomeOrAgain before call told after = IsToldIfSome before call told after ⊎ IsToldAgain before call after (λ at. IsToldIfSome at call told after)
+-- whoever begins it still is told this at last
+abbrev pub HasGottenAtLast : ℕ → View → Call → Result (Option ℕ) CallError → View → Type 0
+HasGottenAtLast words v call result after = (before : View) → SameSeat before v → StillBegins words before call v → HasToldGetAtLast before call result after
+
+-- or whether the key has a value
+abbrev pub IsToldIfSomeAtLast : View → Call → Result Bool CallError → View → Type 0
+IsToldIfSomeAtLast before call told after = (last : View) × HasTriedInVain before call last × SameSeat last after × IsToldIfSome last call told after
+
+-- ---- its seat glances, and does no more
+
+-- it is told this value; or it was refused; or nothing of it is in the history, and others alone have gone on
+abbrev pub IsToldAtOnce : View → Call → Option (Option ℕ) → View → Type 0
+IsToldAtOnce before call (Some value) after = HasAnswered before call None (reply.Found value) after
+IsToldAtOnce before call None after = HasAnswered before call None reply.NoSlots after ⊎ HasWaited before.actor before.account after.account

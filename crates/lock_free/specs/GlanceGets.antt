@@ -22,6 +22,7 @@ use Rattle.machine_model.specs.GivingUp.{given_up}
 use Rattle.lock_free.specs.declared.rules.Glance.{Glance}
 use Rattle.lock_free.specs.declared.rules.Pinned.{Pinned}
 use Rattle.lock_free.specs.declared.rules.View.{View}
+use Rattle.lock_free.specs.Accounts.{HasWaited}
 use Rattle.lock_free.specs.Answering.{HasAnswered}
 use Rattle.lock_free.specs.BegunCalls.{StillBegins}
 use Rattle.lock_free.specs.GoingDown.{IsAtKey}
@@ -121,9 +122,10 @@ pub record HasBegunToGlance (words : ℕ) (before : View) (handle key : ℕ) (gl
 abbrev pub KeepsStock : View → View → Type 0
 KeepsStock before after = (stock : Stocked) → IsStock stock before → IsStock stock after
 
--- It was refused; or nothing of it is in the history, and what comes of the call now has come of it since before.
+-- It was refused; or nothing of it is in the history, others alone have gone on, and what comes of the call now has come of it since before.
 abbrev pub HasGlancedFor : ℕ → View → Call → View → Type 0
-HasGlancedFor words before call after = HasAnswered before call None reply.NoSlots after ⊎ StillBegins words before call after
+HasGlancedFor words before call after =
+    HasAnswered before call None reply.NoSlots after ⊎ (StillBegins words before call after × HasWaited before.actor before.account after.account)
 
 -- it was answered with this value, or the glance was for nothing
 abbrev pub HasGlancedAtKey : ℕ → View → Call → Option (Option ℕ) → View → Type 0

@@ -105,6 +105,7 @@ pub mod SlotWaits
 pub mod Scans
 pub mod ScanSeats
 pub mod Accesses
+pub mod Denials
 pub mod KeyReplies
 pub mod NamedTries
 pub mod Naming

@@ -43,12 +43,6 @@ own_nodes v = own_of (operation_of (now v) v.actor)
 abbrev pub made_of : View → Ref → OwnNode
 made_of v r = record { kind = kind_of_node (node_at (now v).heap r); class = class_of (node_at (now v).heap r); slot = place_of v.account r }
 
--- its free slots and what was made are this seat's
-pub record HoldsSlots (stock : Stocked) (v : View) : Type 0 where
-  pub sizes : stock.sizes ≡ v.sizes
-  pub pool : stock.pool ≡ v.pool
-  pub made : stock.made ≡ map (made_of v) (own_nodes v)
-
 -- the stock is this seat's
 pub record IsStock (stock : Stocked) (v : View) : Type 0 where
   pub sizes : stock.sizes ≡ v.sizes

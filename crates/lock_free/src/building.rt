@@ -4,6 +4,7 @@ ghost use Rattle.std.specs.Prelude.{◌≡◌, ◌<◌, true, IfSome};
 ghost use Rattle.lock_free.specs.BuildingUp.{by_rising, drops_at, HasBuiltSingle, HasEdit, HasLinked, HasPaired, IsAtLink, IsAtPair, IsAtSingle, IsAtSite, MakesPair, MakesRung};
 ghost use Rattle.lock_free.specs.declared.reclaiming.Kind.TheVariants as kinds;
 ghost use Rattle.lock_free.specs.Changing.{drops_of, HasBuilt};
+ghost use Rattle.lock_free.specs.Classes.{entries_in};
 ghost use Rattle.lock_free.specs.Loading.{IsSound};
 ghost use Rattle.lock_free.specs.Owing.{HoldsRaised};
 ghost use Rattle.lock_free.specs.Raising.{MayHoldOne};
@@ -50,7 +51,8 @@ pub fn drops_at(site: Site) -> Drops
     }
 }
 
-/// Makes a single of the key and its new value, and what leads to it, up to the main node that is to take the place of this one.
+/// Makes a single of the key and its new value, and what leads to it, up to the main node that is to take the place of this one, with so many
+/// entries.
 /// Returns its slot, or none where no slot is had: then the operation is in BUILD still.
 #[inline(always)]
 pub fn build(
@@ -60,12 +62,14 @@ pub fn build(
     stock: &mut Stock,
     by: Builder,
     given: Given,
+    count: usize,
     site: Site,
     former: Option<u64>,
 ) -> Option<u32>
     requires table { actor.old.table_id ≡ words.now.table_id }
     requires sound { IsSound words.now.table_id.words actor.old.me.0 }
     requires stock { IsStock stock.old actor.old.me.0 }
+    requires counted { count ≡ entries_in given.header.shape }
     requires at { IsAtSingle actor.old.me.0 by given site former }
     ensures table { actor.new.table_id ≡ actor.old.table_id }
     ensures sound { IsSound words.now.table_id.words actor.new.me.0 }
@@ -88,6 +92,7 @@ pub fn build(
         stock,
         main,
         given.header.shape,
+        count,
         flag,
         change,
     )

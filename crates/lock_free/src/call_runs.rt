@@ -18,9 +18,9 @@ ghost use Rattle.lock_free.specs.WholeCalls.{RestsWith};
 
 use crate::beginning::{begin_call, begin_call_within};
 use crate::call_errors::CallError;
-use crate::cells::give_some;
 use crate::copy_runs::{is_copy, run_tried};
 use crate::freeing::{let_go, make_free};
+use crate::heaps::give_over;
 use crate::lacks::Lack;
 use crate::loads::{Actor, Words};
 use crate::parking::{Came, Parked, go_on};
@@ -81,7 +81,7 @@ fn told_of(stock: &Stock, call: Call, reply: Reply) -> Result<Reply, CallError>
 /// Where the seat is to look at the epoch, makes some of what it has retired free for it, and gives others some of what it has over; but after
 /// no copy, since the word of the number that it has reserved may name one of these slots.
 #[inline(always)]
-fn tidy_up(words: &Words, actor: &mut Actor, stock: &mut Stock, call: Call)
+fn tidy_up(words: &Words, actor: &mut Actor, stock: &mut Stock, call: Call, is_due: bool)
     requires table { actor.old.table_id ≡ words.now.table_id }
     requires sound { IsSound words.now.table_id.words actor.old.me.0 }
     requires stock { IsStock stock.old actor.old.me.0 }
@@ -91,12 +91,14 @@ fn tidy_up(words: &Words, actor: &mut Actor, stock: &mut Stock, call: Call)
     ensures stock { IsStock stock.new actor.new.me.0 }
     ensures tidied { HasTidied actor.old.me.0 actor.new.me.0 }
 {
-    if !stock.is_due() {
+    if !is_due {
         return;
     }
     make_free(words, actor, stock);
-    if !is_copy(call) {
-        give_some(words, actor, stock);
+    if is_copy(call) {
+        stock.note_to_give();
+    } else if stock.has_to_give() {
+        give_over(words, actor, stock);
     }
 }
 
@@ -123,10 +125,11 @@ pub(crate) fn finish_call(
     ensures stock { IsStock stock.new actor.new.me.0 }
     ensures finished { HasFinished actor.old.me.0 call result actor.new.me.0 }
 {
-    let_go(words, actor, stock);
+    let is_due = stock.is_due();
+    let_go(words, actor, stock, is_due);
     let reply = end_with(words, actor, stock, seat, answered);
     let told = told_of(stock, call, reply);
-    tidy_up(words, actor, stock, call);
+    tidy_up(words, actor, stock, call, is_due);
     told
 }
 

@@ -1,4 +1,4 @@
-//! Through cells seats give each other free slots.
+//! Through cells seats give each other free slots: one stands in a cell itself, and leads to loose ones. What finds no room there is loose.
 
 ghost use Rattle.std.specs.Prelude.{◌≡◌, ◌<◌, ◌++◌, ℕ, List, [], ◌∷◌, None, OnSome};
 ghost use Rattle.lock_free.specs.CellWords.{has_fetched, has_put, HasFetched, HasFetchedSome, HasGivenSome, HasPut};
@@ -6,7 +6,9 @@ ghost use Rattle.lock_free.specs.Loading.{IsSound};
 ghost use Rattle.lock_free.specs.Rules.{pool_of};
 ghost use Rattle.lock_free.specs.Stocks.{HasRoom, HasSlotOrNone, IsStock};
 
+use crate::links::link_in;
 use crate::loads::{Actor, Words};
+use crate::loose::{loosen, take_up};
 use crate::rules::View;
 use crate::sizes::Sizes;
 use crate::stock::Stock;
@@ -27,19 +29,29 @@ impl Play<Call, View> for Fetches {
     ghost then = { has_fetched };
 }
 
-/// So many cells each class has: what a seat that is idle for long leaves to others is bounded by these.
+/// So many cells each class has.
 const CELLS: usize = 32;
 
-/// So many free slots of a class a seat keeps: more than a try of an operation makes of it.
-const KEPT: usize = 64;
+/// So many of a class a seat makes loose at once, at most.
+const LOOSENED: usize = 64;
 
-/// So many it fetches at once: enough for some calls, and others find some too.
+/// So many a seat fetches at once: enough for some calls, and others find some too.
 const FETCHED: usize = 16;
 
-/// So many of a class it gives at once.
-const GIVEN: usize = 16;
+/// The high half of a cell's word begins here.
+const HALF: u64 = 1 << 32;
 
-/// Puts the last slot of this class that is free for the seat into the cell of this number, if nothing stands in it. Returns whether it did.
+/// What stood in a cell.
+#[derive(Clone, Copy, Drop)]
+pub struct Stored {
+    /// The slot.
+    pub slot: u32,
+    /// The first of the loose slots to which it led, or 0.
+    pub next: u32,
+}
+
+/// Puts the last slot of this class that is free for the seat into the cell of this number, if nothing stands in it; it leads to this loose one,
+/// or to none where that is 0. Returns whether it did.
 pub fn put(
     words: &Words,
     actor: &mut Actor,
@@ -47,6 +59,7 @@ pub fn put(
     class: u32,
     number: usize,
     slot: u32,
+    next: u32,
 ) -> bool
     requires table { actor.old.table_id ≡ words.now.table_id }
     requires sound { IsSound words.now.table_id.words actor.old.me.0 }
@@ -63,7 +76,8 @@ pub fn put(
     if words.peek(cell) != 0 {
         return false;
     }
-    if words.compare_exchange::<Puts>(actor, cell, 0, u64::from(slot)) != 0 {
+    let stored = HALF * u64::from(next) + u64::from(slot);
+    if words.compare_exchange::<Puts>(actor, cell, 0, stored) != 0 {
         return false;
     }
     true
@@ -76,7 +90,7 @@ pub fn fetch(
     sizes: &Sizes,
     class: u32,
     number: usize,
-) -> Option<u32>
+) -> Option<Stored>
     requires table { actor.old.table_id ≡ words.now.table_id }
     requires sound { IsSound words.now.table_id.words actor.old.me.0 }
     requires sizes { actor.old.me.0.sizes ≡ sizes.now }
@@ -87,18 +101,20 @@ pub fn fetch(
     ensures fetched { HasFetched actor.old.me.0 class result actor.new.me.0 }
 {
     let cell = sizes.cell_word(class, number);
-    let slot = words.peek(cell);
+    let stored = words.peek(cell);
+    let slot = link_in(stored);
     if slot == 0 {
         return None;
     }
-    if words.compare_exchange::<Fetches>(actor, cell, slot, 0) != slot {
+    if words.compare_exchange::<Fetches>(actor, cell, stored, 0) != stored {
         return None;
     }
-    Some(slot as u32)
+    let next = (stored / HALF) as u32;
+    Some(Stored { slot, next })
 }
 
-/// Puts the last free slot of this class into the cell of this number, if nothing stands in it. Returns whether it did.
-fn give_one(words: &Words, actor: &mut Actor, stock: &mut Stock, class: u32, number: usize) -> bool
+/// Puts the last free slot of this class into the cell of this number, if nothing stands in it; all that are loose go with it.
+fn give_one(words: &Words, actor: &mut Actor, stock: &mut Stock, class: u32, number: usize)
     requires table { actor.old.table_id ≡ words.now.table_id }
     requires sound { IsSound words.now.table_id.words actor.old.me.0 }
     requires stock { IsStock stock.old actor.old.me.0 }
@@ -111,17 +127,74 @@ fn give_one(words: &Words, actor: &mut Actor, stock: &mut Stock, class: u32, num
     ensures given { HasGivenSome actor.old.me.0 actor.new.me.0 }
 {
     let Some(slot) = stock.last(class) else {
-        return false;
+        return;
     };
     let sizes = stock.sizes();
-    if put(words, actor, &sizes, class, number, slot) {
+    let next = stock.first_loose(class);
+    if put(words, actor, &sizes, class, number, slot, next) {
         stock.leave_out(class);
-        return true;
+        stock.set_first_loose(class, 0);
     }
-    false
 }
 
-/// Puts free slots of this class into cells, until so few are left that the seat keeps them, or a cell isn't empty.
+/// Makes the last free slot of this class loose; it leads on to those that were so before.
+fn loosen_one(words: &Words, actor: &mut Actor, stock: &mut Stock, class: u32)
+    requires table { actor.old.table_id ≡ words.now.table_id }
+    requires sound { IsSound words.now.table_id.words actor.old.me.0 }
+    requires stock { IsStock stock.old actor.old.me.0 }
+    requires class { class < 3 }
+    requires unopened { actor.old.me.0.opens ≡ None }
+    ensures table { actor.new.table_id ≡ actor.old.table_id }
+    ensures sound { IsSound words.now.table_id.words actor.new.me.0 }
+    ensures stock { IsStock stock.new actor.new.me.0 }
+    ensures given { HasGivenSome actor.old.me.0 actor.new.me.0 }
+{
+    let Some(slot) = stock.last(class) else {
+        return;
+    };
+    let sizes = stock.sizes();
+    if !sizes.has_slot(class, slot) {
+        return;
+    }
+    let next = stock.first_loose(class);
+    if loosen(words, actor, &sizes, class, slot, next) {
+        stock.leave_out(class);
+        stock.set_first_loose(class, slot);
+    }
+}
+
+/// Makes free slots of this class loose, until so few are left that the seat keeps them.
+fn loosen_rest(words: &Words, actor: &mut Actor, stock: &mut Stock, class: u32)
+    requires table { actor.old.table_id ≡ words.now.table_id }
+    requires sound { IsSound words.now.table_id.words actor.old.me.0 }
+    requires stock { IsStock stock.old actor.old.me.0 }
+    requires class { class < 3 }
+    requires unopened { actor.old.me.0.opens ≡ None }
+    ensures table { actor.new.table_id ≡ actor.old.table_id }
+    ensures sound { IsSound words.now.table_id.words actor.new.me.0 }
+    ensures stock { IsStock stock.new actor.new.me.0 }
+    ensures given { HasGivenSome actor.old.me.0 actor.new.me.0 }
+{
+    for _ in 0..LOOSENED {
+        if !stock.has_over(class) {
+            return;
+        }
+        loosen_one(words, actor, stock, class);
+    }
+}
+
+/// The cell at which a seat looks first. No other seat has this slot, so that most look elsewhere.
+pub(crate) fn cell_of(stock: &Stock, class: u32) -> usize
+    ensures { result < 32 }
+{
+    match stock.last(class) {
+        Some(slot) => slot as usize % CELLS,
+        None => 0,
+    }
+}
+
+/// Makes free slots of this class loose, until so few are left that the seat keeps them; and puts the last one into a cell, if one is empty, with
+/// all that are loose.
 fn give_class(words: &Words, actor: &mut Actor, stock: &mut Stock, class: u32)
     requires table { actor.old.table_id ≡ words.now.table_id }
     requires sound { IsSound words.now.table_id.words actor.old.me.0 }
@@ -133,23 +206,18 @@ fn give_class(words: &Words, actor: &mut Actor, stock: &mut Stock, class: u32)
     ensures stock { IsStock stock.new actor.new.me.0 }
     ensures given { HasGivenSome actor.old.me.0 actor.new.me.0 }
 {
-    // No other seat has this slot, so that most begin elsewhere.
-    let first = match stock.last(class) {
-        Some(slot) => slot as usize % CELLS,
-        None => 0,
-    };
-    for n in 0..GIVEN {
-        if stock.free_len(class) <= KEPT
-            || !give_one(words, actor, stock, class, (first + n) % CELLS)
-        {
+    loosen_rest(words, actor, stock, class);
+    let first = cell_of(stock, class);
+    for n in 0..CELLS {
+        if stock.first_loose(class) == 0 {
             return;
         }
+        give_one(words, actor, stock, class, (first + n) % CELLS);
     }
 }
 
-/// Puts free slots into cells, of each class of which more are free for the seat than it keeps.
-#[inline(never)]
-fn give_all(words: &Words, actor: &mut Actor, stock: &mut Stock)
+/// Gives away free slots of each class of which more are free for the seat than it keeps, and loose ones that it knows of.
+pub(crate) fn give_all(words: &Words, actor: &mut Actor, stock: &mut Stock)
     requires table { actor.old.table_id ≡ words.now.table_id }
     requires sound { IsSound words.now.table_id.words actor.old.me.0 }
     requires stock { IsStock stock.old actor.old.me.0 }
@@ -164,24 +232,7 @@ fn give_all(words: &Words, actor: &mut Actor, stock: &mut Stock)
     give_class(words, actor, stock, 2);
 }
 
-/// Does so where more are free of some class.
-#[inline(always)]
-pub fn give_some(words: &Words, actor: &mut Actor, stock: &mut Stock)
-    requires table { actor.old.table_id ≡ words.now.table_id }
-    requires sound { IsSound words.now.table_id.words actor.old.me.0 }
-    requires stock { IsStock stock.old actor.old.me.0 }
-    requires unopened { actor.old.me.0.opens ≡ None }
-    ensures table { actor.new.table_id ≡ actor.old.table_id }
-    ensures sound { IsSound words.now.table_id.words actor.new.me.0 }
-    ensures stock { IsStock stock.new actor.new.me.0 }
-    ensures given { HasGivenSome actor.old.me.0 actor.new.me.0 }
-{
-    if stock.free_len(0) > KEPT || stock.free_len(1) > KEPT || stock.free_len(2) > KEPT {
-        give_all(words, actor, stock);
-    }
-}
-
-/// Fetches one from the cell of this number, if there is room for it.
+/// Fetches one from the cell of this number, with the loose ones to which it leads, if there is room for it and the seat knows of none.
 fn fetch_one(words: &Words, actor: &mut Actor, stock: &mut Stock, class: u32, number: usize)
     requires table { actor.old.table_id ≡ words.now.table_id }
     requires sound { IsSound words.now.table_id.words actor.old.me.0 }
@@ -195,16 +246,69 @@ fn fetch_one(words: &Words, actor: &mut Actor, stock: &mut Stock, class: u32, nu
     ensures room { HasRoom stock.new 2 }
     ensures fetched { HasFetchedSome actor.old.me.0 class actor.new.me.0 }
 {
-    if !stock.takes_back(class) {
+    if !stock.takes_back(class) || stock.first_loose(class) != 0 {
         return;
     }
     let sizes = stock.sizes();
-    if let Some(slot) = fetch(words, actor, &sizes, class, number) {
-        stock.add(class, slot);
+    if let Some(stored) = fetch(words, actor, &sizes, class, number) {
+        stock.add(class, stored.slot);
+        stock.set_first_loose(class, stored.next);
     }
 }
 
-/// Fetches slots of this class from cells, some at most, and looks at each cell once.
+/// Takes up the first loose slot of this class that the seat knows of, if there is room for it.
+fn take_up_one(words: &Words, actor: &mut Actor, stock: &mut Stock, class: u32)
+    requires table { actor.old.table_id ≡ words.now.table_id }
+    requires sound { IsSound words.now.table_id.words actor.old.me.0 }
+    requires stock { IsStock stock.old actor.old.me.0 }
+    requires class { class < 3 }
+    requires room { HasRoom stock.old 2 }
+    ensures table { actor.new.table_id ≡ actor.old.table_id }
+    ensures sound { IsSound words.now.table_id.words actor.new.me.0 }
+    ensures stock { IsStock stock.new actor.new.me.0 }
+    ensures room { HasRoom stock.new 2 }
+    ensures fetched { HasFetchedSome actor.old.me.0 class actor.new.me.0 }
+{
+    if !stock.takes_back(class) {
+        return;
+    }
+    let slot = stock.first_loose(class);
+    let sizes = stock.sizes();
+    if !sizes.has_slot(class, slot) {
+        stock.set_first_loose(class, 0);
+        return;
+    }
+    match take_up(words, actor, &sizes, class, slot) {
+        Some(next) => {
+            stock.add(class, slot);
+            stock.set_first_loose(class, next);
+        }
+        None => stock.set_first_loose(class, 0),
+    }
+}
+
+/// Takes up loose slots of this class, some at most.
+fn take_up_some(words: &Words, actor: &mut Actor, stock: &mut Stock, class: u32)
+    requires table { actor.old.table_id ≡ words.now.table_id }
+    requires sound { IsSound words.now.table_id.words actor.old.me.0 }
+    requires stock { IsStock stock.old actor.old.me.0 }
+    requires class { class < 3 }
+    requires room { HasRoom stock.old 2 }
+    ensures table { actor.new.table_id ≡ actor.old.table_id }
+    ensures sound { IsSound words.now.table_id.words actor.new.me.0 }
+    ensures stock { IsStock stock.new actor.new.me.0 }
+    ensures room { HasRoom stock.new 2 }
+    ensures fetched { HasFetchedSome actor.old.me.0 class actor.new.me.0 }
+{
+    for _ in 0..FETCHED {
+        if stock.has_enough(class, FETCHED) || stock.first_loose(class) == 0 {
+            return;
+        }
+        take_up_one(words, actor, stock, class);
+    }
+}
+
+/// Takes up loose slots of this class, and fetches others from cells, some at most; it looks at each cell once.
 fn fetch_some(words: &Words, actor: &mut Actor, stock: &mut Stock, class: u32)
     requires table { actor.old.table_id ≡ words.now.table_id }
     requires sound { IsSound words.now.table_id.words actor.old.me.0 }
@@ -217,15 +321,17 @@ fn fetch_some(words: &Words, actor: &mut Actor, stock: &mut Stock, class: u32)
     ensures room { HasRoom stock.new 2 }
     ensures fetched { HasFetchedSome actor.old.me.0 class actor.new.me.0 }
 {
+    take_up_some(words, actor, stock, class);
     for number in 0..CELLS {
-        if stock.free_len(class) >= FETCHED {
+        if stock.has_enough(class, FETCHED) {
             return;
         }
         fetch_one(words, actor, stock, class, number);
+        take_up_some(words, actor, stock, class);
     }
 }
 
-/// The last slot of this class of those that are free once some are fetched from cells; or the call has found no slot.
+/// The last slot of this class of those that are free once some are taken up, or fetched from cells; or the call has found no slot.
 #[inline(never)]
 pub fn fetch_slot(words: &Words, actor: &mut Actor, stock: &mut Stock, class: u32) -> Option<u32>
     requires table { actor.old.table_id ≡ words.now.table_id }
@@ -240,6 +346,7 @@ pub fn fetch_slot(words: &Words, actor: &mut Actor, stock: &mut Stock, class: u3
     ensures slot { HasSlotOrNone actor.old.me.0 class result actor.new.me.0 }
 {
     fetch_some(words, actor, stock, class);
+    stock.note_to_give();
     let slot = stock.last(class);
     if slot.is_none() {
         stock.lack();

@@ -1,8 +1,9 @@
 //! BUILD's last line: a main node from the one before, with one change of its entries.
 
-ghost use Rattle.std.specs.Prelude.{◌≡◌, ◌<◌};
+ghost use Rattle.std.specs.Prelude.{◌≡◌, ◌<◌, count_ones};
 ghost use Rattle.trie_words.specs.declared.headers.Shape.TheVariants as shape;
 ghost use Rattle.lock_free.specs.Changing.{brought, drops_of, edited_bitmap, CanEdit, HasBuilt, IsChanging, IsNoTomb};
+ghost use Rattle.lock_free.specs.Classes.{entries_in};
 ghost use Rattle.lock_free.specs.Halves.{halves_edited, FitsHalf};
 ghost use Rattle.lock_free.specs.Loading.{IsSound};
 ghost use Rattle.lock_free.specs.Stocks.{IsStock};
@@ -80,7 +81,7 @@ fn edited_bitmap(bitmap: u32, flag: u32, change: Edit) -> u32
     }
 }
 
-/// Makes a branch from the one of this name and bitmap.
+/// Makes a branch from the one of this name and bitmap, with so many entries.
 #[inline(always)]
 fn build_branch(
     tries: u64,
@@ -89,6 +90,7 @@ fn build_branch(
     stock: &mut Stock,
     main: Name,
     bitmap: u32,
+    count: usize,
     flag: u32,
     change: Edit,
 ) -> Option<u32>
@@ -96,6 +98,7 @@ fn build_branch(
     requires sound { IsSound words.now.table_id.words actor.old.me.0 }
     requires stock { IsStock stock.old actor.old.me.0 }
     requires some { 0 < flag }
+    requires counted { count ≡ count_ones bitmap }
     requires at { IsChanging actor.old.me.0 main (shape.Branch bitmap) flag change }
     requires kept { IsNoTomb change }
     ensures table { actor.new.table_id ≡ actor.old.table_id }
@@ -103,7 +106,6 @@ fn build_branch(
     ensures stock { IsStock stock.new actor.new.me.0 }
     ensures built { HasBuilt actor.old.me.0 result actor.new.me.0 }
 {
-    let count = bitmap.count_ones() as usize;
     let mut halves = ArrayVec::new();
     see_halves(words, actor, main.slot, count, main.own, &mut halves);
     let place = position_of(flag, bitmap);
@@ -165,8 +167,8 @@ fn build_list(
     )
 }
 
-/// Makes the main node that comes from the one of this name and shape by this change, where its operation's key has this flag. Returns
-/// its slot, or none where no slot is had: then the operation is where it was.
+/// Makes the main node that comes from the one of this name and shape, with so many entries, by this change, where its operation's key has this
+/// flag. Returns its slot, or none where no slot is had: then the operation is where it was.
 #[inline(always)]
 pub fn build_main(
     tries: u64,
@@ -175,6 +177,7 @@ pub fn build_main(
     stock: &mut Stock,
     main: Name,
     shape: Shape,
+    count: usize,
     flag: u32,
     change: Edit,
 ) -> Option<u32>
@@ -182,6 +185,7 @@ pub fn build_main(
     requires sound { IsSound words.now.table_id.words actor.old.me.0 }
     requires stock { IsStock stock.old actor.old.me.0 }
     requires some { 0 < flag }
+    requires counted { count ≡ entries_in shape }
     requires at { IsChanging actor.old.me.0 main shape flag change }
     ensures table { actor.new.table_id ≡ actor.old.table_id }
     ensures sound { IsSound words.now.table_id.words actor.new.me.0 }
@@ -191,7 +195,9 @@ pub fn build_main(
     match (change, shape) {
         (Edit::Entomb(single), _) => { make_tomb_over(tries, words, actor, stock, single, main) }
         (_, Shape::Branch(bitmap)) => {
-            build_branch(tries, words, actor, stock, main, bitmap, flag, change)
+            build_branch(
+                tries, words, actor, stock, main, bitmap, count, flag, change,
+            )
         }
         (_, Shape::List(count)) => build_list(
             tries, words, actor, stock, main, count, flag, change,

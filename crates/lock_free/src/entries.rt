@@ -48,20 +48,75 @@ pub fn see_entries(
     entries
 }
 
-/// The half of a word for an entry, which is its main node's own only where that is its indirection's.
+/// The half of a word for an entry that isn't its main node's own.
 #[inline(always)]
-fn half_in(half: u32, is_own: bool) -> u32
+fn unowned_half(half: u32) -> u32
     ensures small { IsHalf result }
     ensures same { unowned (entry_of result) ≡ unowned (entry_of half) }
 {
-    if is_own {
-        half % (1 << 29)
-    } else {
-        half % (1 << 27) + (1 << 28) * (half / (1 << 28) % 2)
+    half % (1 << 27) + (1 << 28) * (half / (1 << 28) % 2)
+}
+
+/// The entries of a main node that isn't its indirection's own, as they stand in halves of words, into an empty list: nor are they.
+#[cold]
+#[inline(never)]
+fn see_unowned_halves(
+    words: &Words,
+    actor: &mut Actor,
+    main: u32,
+    count: usize,
+    halves: &mut ArrayVec<u32, 32>,
+)
+    requires table { actor.old.table_id ≡ words.now.table_id }
+    requires sound { IsSound words.now.table_id.words actor.old.me.0 }
+    requires held { HasEntries actor.old.me.0 main count }
+    requires none { halves.old.items ≡ [] }
+    ensures table { actor.new.table_id ≡ actor.old.table_id }
+    ensures sound { IsSound words.now.table_id.words actor.new.me.0 }
+    ensures halves { AreHalves halves.new.items }
+    ensures seen { HasSeenEntries actor.old.me.0 main count (entries_of_halves halves.new.items) actor.new.me.0 }
+{
+    for n in 0..count / 2 {
+        let pair = see_pair(words, actor, main, 2 * n as u32);
+        halves.push(unowned_half(pair.low));
+        halves.push(unowned_half(pair.high));
+    }
+    if count % 2 == 1 {
+        let pair = see_pair(words, actor, main, 2 * (count / 2) as u32);
+        halves.push(unowned_half(pair.low));
     }
 }
 
-/// The same entries as they stand in halves of words, into an empty list.
+/// The same of one that is, whose entries go over word by word.
+#[inline(always)]
+fn see_own_halves(
+    words: &Words,
+    actor: &mut Actor,
+    main: u32,
+    count: usize,
+    halves: &mut ArrayVec<u32, 32>,
+)
+    requires table { actor.old.table_id ≡ words.now.table_id }
+    requires sound { IsSound words.now.table_id.words actor.old.me.0 }
+    requires held { HasEntries actor.old.me.0 main count }
+    requires none { halves.old.items ≡ [] }
+    ensures table { actor.new.table_id ≡ actor.old.table_id }
+    ensures sound { IsSound words.now.table_id.words actor.new.me.0 }
+    ensures halves { AreHalves halves.new.items }
+    ensures seen { HasSeenEntries actor.old.me.0 main count (entries_of_halves halves.new.items) actor.new.me.0 }
+{
+    for n in 0..count / 2 {
+        let pair = see_pair(words, actor, main, 2 * n as u32);
+        halves.push(pair.low);
+        halves.push(pair.high);
+    }
+    if count % 2 == 1 {
+        let pair = see_pair(words, actor, main, 2 * (count / 2) as u32);
+        halves.push(pair.low);
+    }
+}
+
+/// The same, whichever it is.
 #[inline(always)]
 pub fn see_halves(
     words: &Words,
@@ -80,14 +135,10 @@ pub fn see_halves(
     ensures halves { AreHalves halves.new.items }
     ensures seen { HasSeenEntries actor.old.me.0 main count (entries_of_halves halves.new.items) actor.new.me.0 }
 {
-    for n in 0..count / 2 {
-        let pair = see_pair(words, actor, main, 2 * n as u32);
-        halves.push(half_in(pair.low, is_own));
-        halves.push(half_in(pair.high, is_own));
-    }
-    if count % 2 == 1 {
-        let pair = see_pair(words, actor, main, 2 * (count / 2) as u32);
-        halves.push(half_in(pair.low, is_own));
+    if is_own {
+        see_own_halves(words, actor, main, count, halves);
+    } else {
+        see_unowned_halves(words, actor, main, count, halves);
     }
 }
 

@@ -2,6 +2,7 @@
 
 ghost use Rattle.std.specs.Prelude.{◌≡◌, ℕ, ◌+◌, ◌<◌, ◌≤◌, List, [], ◌∷◌, length, IsFalse, IsTrue};
 ghost use Rattle.lock_free.specs.declared.accounts.PartedSlot.{PartedSlot};
+ghost use Rattle.lock_free.specs.Cells.{loose_link};
 ghost use Rattle.lock_free.specs.Making.{with_slot};
 ghost use Rattle.lock_free.specs.OwnOffers.{most_parted, with_parted, without_first, IsFullOfParted, IsRipeIn};
 ghost use Rattle.lock_free.specs.Rules.{pool_of};
@@ -10,8 +11,17 @@ ghost use Rattle.lock_free.specs.Stocks.{IsLast, IsPopped};
 use crate::accounts::PartedSlot;
 use crate::reclaiming::is_ripe;
 use crate::sizes::Sizes;
+use crate::trails::Trails;
 use arrayvec::ArrayVec;
 use std::marker::Model;
+
+/// So many free slots of each class a seat keeps for itself. What it has more it leaves to others.
+#[derive(Clone, Copy, Drop)]
+struct Kept {
+    small: usize,
+    medium: usize,
+    wide: usize,
+}
 
 /// Free slots by class, the next one last.
 #[derive(Drop)]
@@ -21,6 +31,10 @@ pub struct Free {
     wide: ArrayVec<u32, 128>,
     /// Those of offers that are to be free, the earliest first.
     parted: ArrayVec<PartedSlot, 64>,
+    /// How many the seat keeps.
+    kept: Kept,
+    /// Where slots are loose for which there was no room.
+    trails: Trails,
 }
 
 impl Model for Free {
@@ -30,6 +44,9 @@ impl Model for Free {
 
     ghost view = { λ s. record { small = s.small.items; medium = s.medium.items; wide = s.wide.items; parted = s.parted.items } };
 }
+
+/// So many of a class a seat keeps at most: as many once more have room where slots become free again.
+const MOST_OF_A_CLASS: usize = 32;
 
 /// A try of an operation has room for what it makes where so many slots can be added yet.
 const TRY: usize = 35;
@@ -50,8 +67,36 @@ fn most_made(class: u32) -> usize {
     }
 }
 
+/// So many of this class a seat keeps: its part of a quarter of them, but what most calls make in any case.
+fn kept_of(sizes: &Sizes, class: u32) -> usize {
+    part_of(sizes, class)
+        .min(MOST_OF_A_CLASS)
+        .max(most_made(class))
+}
+
+impl Kept {
+    /// Of a map of these sizes.
+    fn new(sizes: &Sizes) -> Kept {
+        Kept {
+            small: kept_of(sizes, 0),
+            medium: kept_of(sizes, 1),
+            wide: kept_of(sizes, 2),
+        }
+    }
+
+    /// So many of this class.
+    #[inline(always)]
+    fn of(&self, class: u32) -> usize {
+        match class {
+            0 => self.small,
+            1 => self.medium,
+            _ => self.wide,
+        }
+    }
+}
+
 impl Free {
-    pub(crate) fn new() -> Free
+    pub(crate) fn new(sizes: &Sizes) -> Free
         ensures small { result.small ≡ [] }
         ensures medium { result.medium ≡ [] }
         ensures wide { result.wide ≡ [] }
@@ -62,6 +107,8 @@ impl Free {
             medium: ArrayVec::new(),
             wide: ArrayVec::new(),
             parted: ArrayVec::new(),
+            kept: Kept::new(sizes),
+            trails: Trails::new(),
         }
     }
 
@@ -108,7 +155,20 @@ impl Free {
         len < most_made(class) && len < part_of(sizes, class)
     }
 
+    /// How many of this class the seat keeps.
+    #[inline(always)]
+    pub(crate) fn kept(&self, class: u32) -> usize {
+        self.kept.of(class)
+    }
+
+    /// Whether there are more of this class than it keeps.
+    #[inline(always)]
+    pub(crate) fn has_over(&self, class: u32) -> bool {
+        self.len(class) > self.kept(class)
+    }
+
     /// Whether there are of some class.
+    #[inline(always)]
     pub(crate) fn is_low(&self, sizes: &Sizes) -> bool {
         self.wants(sizes, 0) || self.wants(sizes, 1) || self.wants(sizes, 2)
     }
@@ -136,6 +196,26 @@ impl Free {
             1 => self.medium.pop(),
             _ => self.wide.pop(),
         }
+    }
+
+    /// The first loose slot of this class, or 0.
+    pub(crate) fn first_loose(&self, class: u32) -> u32
+        ensures { result < loose_link }
+    {
+        self.trails.first(class)
+    }
+
+    /// This is the first one now, or there is none where that is 0.
+    pub(crate) fn set_first_loose(&mut self, class: u32, slot: u32)
+        ensures { self.new ≡ self.old }
+    {
+        self.trails.set_first(class, slot);
+    }
+
+    /// Whether there are more of some class than the seat keeps, or loose ones.
+    #[inline(always)]
+    pub(crate) fn has_to_give(&self) -> bool {
+        self.has_over(0) || self.has_over(1) || self.has_over(2) || self.trails.has_any()
     }
 
     /// Whether the slot of one more offer can be noted.

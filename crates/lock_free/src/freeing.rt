@@ -249,7 +249,7 @@ pub(crate) fn release_names(
 /// Makes slots free for the seat whose nodes had no reference any more, and lets go of what these held, where its call has found no slot, or the
 /// seat has begun some calls or retired some slots since it last did so.
 #[inline(always)]
-pub fn let_go(words: &Words, actor: &mut Actor, stock: &mut Stock)
+pub fn let_go(words: &Words, actor: &mut Actor, stock: &mut Stock, is_due: bool)
     requires table { actor.old.table_id ≡ words.now.table_id }
     requires sound { IsSound words.now.table_id.words actor.old.me.0 }
     requires stock { IsStock stock.old actor.old.me.0 }
@@ -259,7 +259,7 @@ pub fn let_go(words: &Words, actor: &mut Actor, stock: &mut Stock)
     ensures stock { IsStock stock.new actor.new.me.0 }
     ensures freed { HasFreedSome actor.old.me.0 actor.new.me.0 }
 {
-    if !stock.is_due() {
+    if !is_due {
         return;
     }
     free_deep(AT_ONCE, words, actor, stock);
@@ -276,9 +276,7 @@ pub(crate) fn make_free(words: &Words, actor: &mut Actor, stock: &mut Stock)
     ensures stock { IsStock stock.new actor.new.me.0 }
     ensures reclaimed { HasReclaimedSome actor.old.me.0 actor.new.me.0 }
 {
-    let mut limbo = stock.limbo();
-    reclaim_some(REPLACED_AT_ONCE, words, actor, &mut limbo, stock);
-    stock.hold(limbo);
+    reclaim_some(REPLACED_AT_ONCE, words, actor, stock);
     free_offers(words, actor, stock);
     refill(words, actor, stock);
 }

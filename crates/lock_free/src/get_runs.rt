@@ -1,6 +1,6 @@
-//! Gets as a whole: straight where nothing stands in the way, else as calls of any kind.
+//! Gets of pinned seats as a whole: straight where nothing stands in the way, else as calls of any kind.
 
-ghost use Rattle.std.specs.Prelude.{◌≡◌, ◌≤◌, ◌<◌, ◌^◌, ◌∷◌, [], None, IfErr};
+ghost use Rattle.std.specs.Prelude.{◌≡◌, ◌≤◌, ◌<◌, ◌^◌, ◌∷◌, [], None};
 ghost use Rattle.history.specs.declared.calls.Call.TheVariants.{Get};
 ghost use Rattle.history.specs.declared.replies.Reply.TheVariants as reply;
 ghost use Rattle.machine_model.specs.Lines.{new_try};
@@ -8,9 +8,9 @@ ghost use Rattle.lock_free.specs.declared.descending.Found.TheVariants as found;
 ghost use Rattle.lock_free.specs.declared.rules.View.{View};
 ghost use Rattle.lock_free.specs.BegunCalls.{StillBegins};
 ghost use Rattle.lock_free.specs.Descending.{HasFound, IsAtOne, IsOnPath, IsTask};
-ghost use Rattle.lock_free.specs.GetRuns.{HasGotten, HasToldGet, IsLookup, IsToldOrAgain};
+ghost use Rattle.lock_free.specs.GetRuns.{HasGotten, HasToldGet, IsLookup};
 ghost use Rattle.lock_free.specs.Holding.{IsOn};
-ghost use Rattle.lock_free.specs.KeyReplies.{FitsError, TellsValue};
+ghost use Rattle.lock_free.specs.KeyReplies.{TellsValue};
 ghost use Rattle.lock_free.specs.KeyRuns.{IsCalling};
 ghost use Rattle.lock_free.specs.LinkReads.{IsThere};
 ghost use Rattle.lock_free.specs.Loading.{IsSound};
@@ -25,7 +25,6 @@ use crate::call_runs::HANDLES;
 use crate::calling::start_within;
 use crate::descending::Path;
 use crate::finding::{Met, meet_single};
-use crate::glance_gets::glance;
 use crate::key_runs::call_late;
 use crate::lacks::Manner;
 use crate::loads::{Actor, Words};
@@ -305,8 +304,8 @@ fn get_late<R: Wait>(
 }
 
 /// A get by this seat, `seat`, as long as it takes, which pins itself for it.
-#[inline(never)]
-fn get_pinned<R: Wait>(
+#[inline(always)]
+pub(crate) fn get_pinned<R: Wait>(
     rt: &R,
     words: &Words,
     actor: &mut Actor,
@@ -336,38 +335,4 @@ fn get_pinned<R: Wait>(
         Err(denial) => return Err(CallError::from(denial)),
     };
     get_begun(rt, words, actor, stock, seat, handle, key, way.access)
-}
-
-/// A get by this seat, `seat`, as long as it takes. It glances first, and pins itself only if its glance was for nothing.
-#[inline(always)]
-pub(crate) fn run_get<R: Wait>(
-    rt: &R,
-    words: &Words,
-    actor: &mut Actor,
-    stock: &mut Stock,
-    seat: u8,
-    handle: u16,
-    key: u64,
-) -> Result<Option<u64>, CallError>
-    requires table { actor.old.table_id ≡ words.now.table_id }
-    requires sound { IsSound words.now.table_id.words actor.old.me.0 }
-    requires stock { IsStock stock.old actor.old.me.0 }
-    requires its { actor.old.me.0.actor ≡ seat }
-    requires few { actor.old.me.0.actor ≤ actor.old.me.0.sizes.seats }
-    requires ready { RestsWith actor.old.me.0 None }
-    ensures table { actor.new.table_id ≡ actor.old.table_id }
-    ensures sound { IsSound words.now.table_id.words actor.new.me.0 }
-    ensures stock { IsStock stock.new actor.new.me.0 }
-    ensures left { HasLeft actor.old.me.0 actor.new.me.0 }
-    ensures told { IsToldOrAgain reply.Found actor.old.me.0 (Get handle key) result actor.new.me.0 }
-    ensures why { IfErr result (FitsError (Get handle key)) }
-{
-    if handle >= HANDLES {
-        return Err(CallError::NoHandle);
-    }
-    let sizes = stock.sizes();
-    match glance(words, actor, &sizes, handle, key) {
-        Some(value) => Ok(value),
-        None => get_pinned(rt, words, actor, stock, seat, handle, key),
-    }
 }

@@ -21,9 +21,10 @@ pub fn hang_roots(words: &Words, actor: &mut Actor, stock: &mut Stock, roots: Pa
     ensures limbo { IsLimbo stock.new.limbo actor.new.me.0 }
     ensures hung { HasHung actor.old.me.0 actor.new.me.0 }
 {
-    stock.hang_next(words, actor, Kind::Replaced, 0, roots.low);
+    let sizes = stock.sizes();
+    stock.hang_next(words, actor, sizes, Kind::Replaced, 0, roots.low);
     if roots.high != 0 {
-        stock.hang_next(words, actor, Kind::Replaced, 0, roots.high);
+        stock.hang_next(words, actor, sizes, Kind::Replaced, 0, roots.high);
     }
 }
 
@@ -41,6 +42,14 @@ pub fn hang_replaced(words: &Words, actor: &mut Actor, stock: &mut Stock, retire
     ensures hung { HasHung actor.old.me.0 actor.new.me.0 }
 {
     if let Some(retiree) = retired {
-        stock.hang_one(words, actor, Kind::Replaced, retiree.class, retiree.slot);
+        let sizes = stock.sizes();
+        stock.hang_one(
+            words,
+            actor,
+            sizes,
+            Kind::Replaced,
+            retiree.class,
+            retiree.slot,
+        );
     }
 }

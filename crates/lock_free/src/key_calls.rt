@@ -7,7 +7,8 @@ ghost use Rattle.lock_free.specs.Attempts.{IsKeyed};
 ghost use Rattle.lock_free.specs.KeyReplies.{FitsCall, FitsError, TellsTruth};
 
 use crate::call_errors::CallError;
-use crate::get_runs::{run_get, value_in};
+use crate::get_calls::{glance_alone, run_get};
+use crate::get_runs::value_in;
 use crate::loads::Words;
 use crate::seating::Seat;
 use crate::slot_waits::key_at_last;
@@ -27,7 +28,7 @@ fn truth_in(answer: Reply) -> bool
 
 impl Seat {
     ghost use Rattle.lock_free.specs.Seated.{HasGoneOn};
-    ghost use Rattle.lock_free.specs.GetRuns.{IsToldIfSomeOrAgain, IsToldOrAgain};
+    ghost use Rattle.lock_free.specs.GetRuns.{IsToldAtOnce, IsToldIfSomeAtLast};
     ghost use Rattle.lock_free.specs.SeatCalls.{IsTold};
     ghost use Rattle.lock_free.specs.SlotWaits.{IsToldAtLast};
 
@@ -49,11 +50,12 @@ impl Seat {
         key_at_last(rt, words, actor, stock, self.number, call)
     }
 
-    /// The value of this key, if it has one. The seat reads without a pin first; where that comes to nothing the call is made anew, pinned.
+    /// The value of this key, if it has one. The seat reads without a pin first; where that comes to nothing the call is made anew, pinned, and
+    /// waits for slots as changes do where the way to the key has to be renewed.
     ///
     /// # Errors
     ///
-    /// `NoHandle`; and `Full`, where the way to the key has to be renewed first; and `Spent`, after 2^64 - 1 tries alone.
+    /// `NoHandle` and `Full`; and `Spent`, after 2^64 - 1 tries alone.
     pub fn get<R: Wait>(
         &mut self,
         rt: &R,
@@ -63,18 +65,29 @@ impl Seat {
     ) -> Result<Option<u64>, CallError>
         requires table { self.old.table ≡ words.now.table_id }
         ensures seat { HasGoneOn self.old self.new }
-        ensures told { IsToldOrAgain reply.Found self.old.view (Get handle key) result self.new.view }
+        ensures told { IsToldAtLast reply.Found self.old.view (Get handle key) result self.new.view }
         ensures why { IfErr result (FitsError (Get handle key)) }
     {
         let (actor, stock) = (&mut self.actor, &mut self.stock);
         run_get(rt, words, actor, stock, self.number, handle, key)
     }
 
+    /// The value of this key, if it has one, where the seat can read that at once and without a pin. None where something stands in its way,
+    /// or comes in its way meanwhile: that tells nothing of the key. It takes no locked step, and always ends.
+    pub fn glance(&mut self, words: &Words, handle: u16, key: u64) -> Option<Option<u64>>
+        requires table { self.old.table ≡ words.now.table_id }
+        ensures seat { HasGoneOn self.old self.new }
+        ensures told { IsToldAtOnce self.old.view (Get handle key) result self.new.view }
+    {
+        let (actor, stock) = (&mut self.actor, &self.stock);
+        glance_alone(words, actor, stock, handle, key)
+    }
+
     /// Whether this key has a value.
     ///
     /// # Errors
     ///
-    /// `NoHandle`; and `Full`, where the way to the key has to be renewed first; and `Spent`, after 2^64 - 1 tries alone.
+    /// As of `get`.
     #[tactic(auto, using(crate::proofs::GetsWhole::told_some))]
     pub fn contains<R: Wait>(
         &mut self,
@@ -85,7 +98,7 @@ impl Seat {
     ) -> Result<bool, CallError>
         requires table { self.old.table ≡ words.now.table_id }
         ensures seat { HasGoneOn self.old self.new }
-        ensures told { IsToldIfSomeOrAgain self.old.view (Get handle key) result self.new.view }
+        ensures told { IsToldIfSomeAtLast self.old.view (Get handle key) result self.new.view }
         ensures why { IfErr result (FitsError (Get handle key)) }
     {
         Ok(self.get(rt, words, handle, key)?.is_some())

@@ -1,26 +1,21 @@
 //! How a call on a key ends: at once, or as a call of any kind.
 
-ghost use Rattle.std.specs.Prelude.{◌≡◌, ◌≤◌, ◌<◌, ◌^◌, Some, length};
-ghost use Rattle.lock_free.specs.declared.descending.Update.TheVariants as update;
-ghost use Rattle.lock_free.specs.Attempts.{IsAttempted, IsEnding, IsToChange, attempted_by};
-ghost use Rattle.lock_free.specs.Descending.{IsTask};
+ghost use Rattle.std.specs.Prelude.{◌≡◌, ◌≤◌, Some};
+ghost use Rattle.lock_free.specs.Attempts.{IsAttempted, IsEnding, attempted_by};
 ghost use Rattle.lock_free.specs.KeyRuns.{IsCalling, IsDone};
 ghost use Rattle.lock_free.specs.Loading.{IsSound};
 ghost use Rattle.lock_free.specs.Stocks.{IsStock};
 
-use crate::attempts::{give_value, take_out};
 use crate::call_errors::CallError;
 use crate::call_runs::finish_call;
 use crate::laws::seats_are_explained;
 use crate::leaving::Swapping;
 use crate::loads::{Actor, Words};
-use crate::reading::Given;
 use crate::slow_ends::{again_on, left_on, spent_on};
 use crate::stock::Stock;
 use crate::swapping::Swapped;
 use crate::tasks::{Task, changed_reply};
 use history::{Access, Call, Reply};
-use machine_model::Site;
 use std::sync::Wait;
 
 /// Ends a call on a key by this seat, `seat`, with this reply.
@@ -52,7 +47,7 @@ pub(crate) fn answer(
 
 /// Ends one whose SWAP came to this, and whose key had this value before, or none.
 #[inline(always)]
-fn end_change<R: Wait>(
+pub(crate) fn end_change<R: Wait>(
     rt: &R,
     words: &Words,
     actor: &mut Actor,
@@ -84,91 +79,4 @@ fn end_change<R: Wait>(
         Ok(None) => spent_on(rt, words, actor, stock, seat, task.call, task.access),
         Err(left) => left_on(rt, words, actor, stock, seat, task, former, left),
     }
-}
-
-/// Gives the key its new value, in a single that is made for this site of the main node at the end of the path, and ends the call.
-#[inline(always)]
-pub(crate) fn give_and_end<R: Wait>(
-    rt: &R,
-    words: &Words,
-    actor: &mut Actor,
-    stock: &mut Stock,
-    seat: u8,
-    task: &Task,
-    path: &[u32],
-    given: Given,
-    site: Site,
-    former: Option<u64>,
-) -> Result<Reply, CallError>
-    requires table { actor.old.table_id ≡ words.now.table_id }
-    requires sound { IsSound words.now.table_id.words actor.old.me.0 }
-    requires stock { IsStock stock.old actor.old.me.0 }
-    requires its { actor.old.me.0.actor ≡ seat }
-    requires few { actor.old.me.0.actor ≤ actor.old.me.0.sizes.seats }
-    requires task { IsTask actor.old.me.0 task.now }
-    requires small { task.now.start < 2 ^ 36 }
-    requires calling { IsCalling actor.old.me.0 task.now.call task.now.access }
-    requires some { 0 < length path.now }
-    requires short { length path.now ≤ 14 }
-    requires at { IsToChange actor.old.me.0 path.now given (update.Builds site former) }
-    ensures table { actor.new.table_id ≡ actor.old.table_id }
-    ensures sound { IsSound words.now.table_id.words actor.new.me.0 }
-    ensures stock { IsStock stock.new actor.new.me.0 }
-    ensures out { IsDone actor.old.me.0 task.now.call result actor.new.me.0 }
-{
-    let swapped = give_value(
-        u64::MAX,
-        words,
-        actor,
-        stock,
-        task,
-        path,
-        given,
-        site,
-        former,
-    );
-    end_change(rt, words, actor, stock, seat, task, former, swapped)
-}
-
-/// Takes the entry at this position out of the main node at the end of the path, and ends the call.
-#[inline(always)]
-pub(crate) fn take_and_end<R: Wait>(
-    rt: &R,
-    words: &Words,
-    actor: &mut Actor,
-    stock: &mut Stock,
-    seat: u8,
-    task: &Task,
-    path: &[u32],
-    given: Given,
-    position: usize,
-    former: u64,
-) -> Result<Reply, CallError>
-    requires table { actor.old.table_id ≡ words.now.table_id }
-    requires sound { IsSound words.now.table_id.words actor.old.me.0 }
-    requires stock { IsStock stock.old actor.old.me.0 }
-    requires its { actor.old.me.0.actor ≡ seat }
-    requires few { actor.old.me.0.actor ≤ actor.old.me.0.sizes.seats }
-    requires task { IsTask actor.old.me.0 task.now }
-    requires small { task.now.start < 2 ^ 36 }
-    requires calling { IsCalling actor.old.me.0 task.now.call task.now.access }
-    requires some { 0 < length path.now }
-    requires at { IsToChange actor.old.me.0 path.now given (update.Removes position former) }
-    ensures table { actor.new.table_id ≡ actor.old.table_id }
-    ensures sound { IsSound words.now.table_id.words actor.new.me.0 }
-    ensures stock { IsStock stock.new actor.new.me.0 }
-    ensures out { IsDone actor.old.me.0 task.now.call result actor.new.me.0 }
-{
-    let swapped = take_out(
-        u64::MAX,
-        words,
-        actor,
-        stock,
-        task,
-        path,
-        given,
-        position,
-        former,
-    );
-    end_change(rt, words, actor, stock, seat, task, Some(former), swapped)
 }

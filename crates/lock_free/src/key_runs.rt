@@ -16,14 +16,14 @@ ghost use Rattle.lock_free.specs.Stocks.{IsStock};
 ghost use Rattle.lock_free.specs.TriedCalls.{HasTold};
 ghost use Rattle.lock_free.specs.WholeCalls.{HasLeft, RestsWith};
 
-use crate::attempts::Attempt;
+use crate::attempts::{Attempt, give_value, take_out};
 use crate::beginning::begin_call;
 use crate::call_errors::CallError;
 use crate::call_runs::HANDLES;
 use crate::calling::start_within;
 use crate::descending::{Path, Rest, rest_in};
 use crate::finding::{Met, meet_single};
-use crate::key_ends::{answer, give_and_end, take_and_end};
+use crate::key_ends::{answer, end_change};
 use crate::lacks::Manner;
 use crate::loads::{Actor, Words};
 use crate::reaching::{Place, Reached, go_down_within};
@@ -69,9 +69,11 @@ fn call_removes<R: Wait>(
     match rest_in(given.header.shape, path.len()) {
         Rest::Any => {
             let path = path.as_slice();
-            take_and_end(
-                rt, words, actor, stock, seat, task, path, given, position, former,
-            )
+            let tries = u64::MAX;
+            let swapped = take_out(
+                tries, words, actor, stock, task, path, given, position, former,
+            );
+            end_change(rt, words, actor, stock, seat, task, Some(former), swapped)
         }
         Rest::Entry | Rest::Single => removal_on(
             rt, words, actor, stock, seat, task, path, given, position, former,
@@ -115,9 +117,9 @@ fn call_at_key<R: Wait>(
             let path = path.as_slice();
             let site = Site::At { position };
             let former = Some(value);
-            give_and_end(
-                rt, words, actor, stock, seat, task, path, given, site, former,
-            )
+            let tries = u64::MAX;
+            let swapped = give_value(tries, words, actor, stock, task, path, given, site, former);
+            end_change(rt, words, actor, stock, seat, task, former, swapped)
         }
         WhenFound::Removes => call_removes(
             rt, words, actor, stock, seat, task, path, given, position, value,
@@ -160,7 +162,8 @@ fn call_beside<R: Wait>(
     }
     let path = path.as_slice();
     let site = Site::Beside { position };
-    give_and_end(rt, words, actor, stock, seat, task, path, given, site, None)
+    let swapped = give_value(u64::MAX, words, actor, stock, task, path, given, site, None);
+    end_change(rt, words, actor, stock, seat, task, None, swapped)
 }
 
 /// A call by this seat, `seat`, whose way has ended at the single in this slot, the entry at this position of the branch that was given.
@@ -243,7 +246,8 @@ fn call_there<R: Wait>(
             let given = see_given(words, actor, link);
             let path = path.as_slice();
             let site = Site::Absent;
-            give_and_end(rt, words, actor, stock, seat, task, path, given, site, None)
+            let swapped = give_value(u64::MAX, words, actor, stock, task, path, given, site, None);
+            end_change(rt, words, actor, stock, seat, task, None, swapped)
         }
         Place::List | Place::Tomb(_) | Place::Renews => {
             reached_on(rt, words, actor, stock, seat, task, path, reached)
@@ -355,6 +359,7 @@ pub(crate) fn call_late<R: Wait>(
 }
 
 /// A call on a key by this seat, `seat`, as long as it takes.
+#[inline(always)]
 pub(crate) fn run_call<R: Wait>(
     rt: &R,
     words: &Words,

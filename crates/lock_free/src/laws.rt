@@ -4,6 +4,7 @@ ghost use Rattle.lock_free.specs.Answers.{AnswersGoOn, BeginsTellNothing, EndsAr
 ghost use Rattle.lock_free.specs.KeysApart.{FirstSeatIsSilent, KeysApartAreAnswered, RestingSeatsRunNothing};
 ghost use Rattle.lock_free.specs.OneKey.{OwnKeysAreAnswered};
 ghost use Rattle.lock_free.specs.Answering.{CallsAreAnswered, ClosesAreAnswered, RefusalsAreAnswered};
+ghost use Rattle.lock_free.specs.Denials.{ClosesTellHandles, DenialsTellHandles};
 ghost use Rattle.lock_free.specs.Telling.{HistoriesGoOn, SeatsAreExplained};
 
 use proof_linearizable::every_order_is_legal;
@@ -80,3 +81,18 @@ pub fn refusals_are_answered()
 pub fn closes_are_answered()
     ensures { ClosesAreAnswered }
 {}
+
+/// A law: a call that was denied tells of its handle that at some time since it wasn't open, or was for readers, or could be written, as an
+/// order of all calls by then explains; or that an offer which opens it has come to stand, so that its word may name that one still.
+pub fn denials_tell_handles()
+    ensures { DenialsTellHandles }
+{
+    seats_are_explained();
+}
+
+/// A law: a close that has found its handle closed tells that at some time since it wasn't open.
+pub fn closes_tell_handles()
+    ensures { ClosesTellHandles }
+{
+    seats_are_explained();
+}

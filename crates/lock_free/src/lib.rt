@@ -37,6 +37,7 @@ mod finishing;
 mod first_passes;
 mod free_slots;
 mod freeing;
+mod get_calls;
 mod get_runs;
 mod giving_up;
 mod glance_gets;
@@ -47,6 +48,7 @@ mod glance_ways;
 mod glances;
 mod glancing;
 mod handles;
+mod heaps;
 mod hung_slots;
 mod joining;
 mod key_calls;
@@ -61,6 +63,7 @@ mod licensing;
 mod limbo;
 mod links;
 mod loads;
+mod loose;
 mod makes;
 mod named_tries;
 mod naming;
@@ -96,6 +99,7 @@ mod stores;
 mod swapping;
 mod taken;
 mod tasks;
+mod trails;
 mod try_runs;
 mod updating;
 mod walk_calls;
@@ -107,9 +111,10 @@ mod ways_down;
 pub use call_errors::CallError;
 pub use finishing::finish_map;
 pub use laws::{
-    answers_go_on, begins_tell_nothing, calls_are_answered, closes_are_answered, ends_are_told,
-    first_seat_is_silent, histories_go_on, keys_apart_are_answered, others_tell_nothing,
-    own_keys_are_answered, refusals_are_answered, resting_seats_run_nothing, seats_are_explained,
+    answers_go_on, begins_tell_nothing, calls_are_answered, closes_are_answered,
+    closes_tell_handles, denials_tell_handles, ends_are_told, first_seat_is_silent,
+    histories_go_on, keys_apart_are_answered, others_tell_nothing, own_keys_are_answered,
+    refusals_are_answered, resting_seats_run_nothing, seats_are_explained,
 };
 pub use loads::Words;
 pub use named_tries::{NamedParkedSeat, NamedTried};

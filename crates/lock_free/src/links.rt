@@ -1,6 +1,7 @@
 //! Slots that a seat has retired are linked with each other, by the low halves of the words of their counts.
 
 ghost use Rattle.std.specs.Prelude.{◌≡◌, ◌<◌, Contains};
+ghost use Rattle.lock_free.specs.Cells.{loose_link};
 ghost use Rattle.lock_free.specs.Linking.{linking, HasRetiredSlot};
 ghost use Rattle.lock_free.specs.Links.{link_in};
 ghost use Rattle.lock_free.specs.Loading.{IsSound};
@@ -12,6 +13,9 @@ use crate::sizes::Sizes;
 
 /// So many links there can be.
 const LINKS: u64 = 1 << 32;
+
+/// From this one on a link says that its slot is loose; it leads then where what it is more leads.
+pub(crate) const LOOSE: u32 = 1 << 31;
 
 /// The link in the word of a count.
 #[inline(always)]
@@ -55,6 +59,7 @@ pub fn link(
     requires class { class < 3 }
     requires slot { IsSlot sizes.now class slot }
     requires known { Contains actor.old.me.0.links (count_word sizes.now class slot, known) }
+    requires new { new < loose_link }
     ensures table { actor.new.table_id ≡ actor.old.table_id }
     ensures sound { IsSound words.now.table_id.words actor.new.me.0 }
     ensures linked { actor.new.me.0 ≡ linking actor.old.me.0 (count_word sizes.now class slot) new }

@@ -9,7 +9,7 @@ ghost use Rattle.lock_free.specs.Loading.{IsAt, IsSound};
 ghost use Rattle.lock_free.specs.Owing.{HoldsRaised};
 ghost use Rattle.lock_free.specs.Owning.{MayOwn};
 ghost use Rattle.lock_free.specs.Passing.{IsPlaced};
-ghost use Rattle.lock_free.specs.Classes.{shape_class};
+ghost use Rattle.lock_free.specs.Classes.{entries_in, shape_class};
 ghost use Rattle.lock_free.specs.Places.{class_for};
 ghost use Rattle.lock_free.specs.SeenEntries.{half_at, HasMadeNext, HasWritten, IsAtBranch, IsAtList, IsAtMain, IsOver, IsOwnSlot};
 ghost use Rattle.lock_free.specs.Stocks.{IsStock};
@@ -24,13 +24,25 @@ use trie_words::{Entry, Header, Link, Name, Pair, Previous, Shape};
 
 /// The class of the slot of a main node with so many entries.
 #[inline(always)]
-fn class_for(entries: usize) -> u32
+pub(crate) fn class_for(entries: usize) -> u32
     ensures { result ≡ class_for entries }
 {
     match entries {
         0..=2 => 0,
         3..=12 => 1,
         _ => 2,
+    }
+}
+
+/// How many entries a main node of this shape has.
+#[inline(always)]
+pub(crate) fn entries_in(shape: Shape) -> usize
+    ensures { result ≡ entries_in shape }
+{
+    match shape {
+        Shape::Branch(bitmap) => bitmap.count_ones() as usize,
+        Shape::Tomb(_) => 0,
+        Shape::List(count) => count as usize,
     }
 }
 

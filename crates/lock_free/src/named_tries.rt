@@ -1,12 +1,13 @@
-//! Calls of named seats that have only so many tries.
+//! Calls of named seats that have only so many tries, or none.
 
 ghost use Rattle.std.specs.Prelude.{◌≡◌, ◌⊎◌, IfErr};
 ghost use Rattle.history.specs.declared.calls.Call.{Call as AnyCall};
-ghost use Rattle.history.specs.declared.calls.Call.TheVariants.{Count, Entries};
+ghost use Rattle.history.specs.declared.calls.Call.TheVariants.{Count, Entries, Get};
 ghost use Rattle.history.specs.declared.replies.Reply.TheVariants as reply;
 ghost use Rattle.lock_free.specs.declared.rules.View.{View};
 ghost use Rattle.lock_free.specs.Accesses.{IsToldAccess};
 ghost use Rattle.lock_free.specs.Attempts.{IsTried};
+ghost use Rattle.lock_free.specs.GetRuns.{IsToldAtOnce};
 ghost use Rattle.lock_free.specs.KeyReplies.{FitsError};
 ghost use Rattle.lock_free.specs.SeatCalls.{IsTold, RanOut};
 
@@ -66,6 +67,14 @@ impl<N: MapName> NamedSeat<N> {
     ghost use Rattle.lock_free.specs.NamedTries.{plain};
     ghost use Rattle.lock_free.specs.Seated.{HasGoneOn};
     ghost use Rattle.lock_free.specs.TriedCalls.{GoesOnAs, HasTriedCall, NeverBegan};
+
+    /// As `Seat::glance`.
+    pub fn glance(&mut self, words: &NamedWords<N>, handle: u16, key: u64) -> Option<Option<u64>>
+        ensures seat { HasGoneOn self.old self.new }
+        ensures told { IsToldAtOnce self.old.view (Get handle key) result self.new.view }
+    {
+        self.seat.glance(&words.board.shared, handle, key)
+    }
 
     /// As `Seat::try_call`.
     pub fn try_call(self, words: &NamedWords<N>, tries: u64, call: Call) -> NamedTried<N>

@@ -3,7 +3,7 @@
 //! A name stands for one map, so the type of a named seat says whose seat it is: it may lie in any container, go through any channel,
 //! and be called without a premise.
 
-ghost use Rattle.std.specs.Prelude.{◌≡◌, ◌<◌, ◌≤◌, ◌↔◌, All, IfOk, IfErr, IfSome, IfNone, IsTrue, map};
+ghost use Rattle.std.specs.Prelude.{◌≡◌, ◌<◌, ◌≤◌, ◌↔◌, All, IfOk, IfErr, IfSome, IfNone, IsTrue, OnErr, map};
 ghost use Rattle.history.specs.declared.calls.Call.TheVariants.{Clear, Count, Entries, Freeze, Get, Put, PutIfAbsent, Remove, RemoveIf, Replace, ReplaceIf, Snapshot};
 ghost use Rattle.history.specs.declared.replies.Reply.TheVariants as reply;
 ghost use Rattle.lock_free.specs.Accesses.{IsToldAccess};
@@ -11,7 +11,7 @@ ghost use Rattle.lock_free.specs.Finishing.{IsTold as IsToldAll};
 ghost use Rattle.lock_free.specs.KeyReplies.{FitsError};
 ghost use Rattle.lock_free.specs.Naming.{MapId, no_map};
 ghost use Rattle.lock_free.specs.Seated.{HasGoneOn, HasSplit};
-ghost use Rattle.lock_free.specs.GetRuns.{IsToldIfSomeOrAgain, IsToldOrAgain};
+ghost use Rattle.lock_free.specs.GetRuns.{IsToldIfSomeAtLast};
 ghost use Rattle.lock_free.specs.SeatCalls.{IsTold};
 ghost use Rattle.lock_free.specs.SlotWaits.{IsToldAtLast, IsToldCopyAtLast};
 ghost use Rattle.lock_free.specs.WholeCalls.{IsToldClose};
@@ -21,7 +21,7 @@ use crate::finishing::finish_map;
 use crate::opening::Board;
 use crate::seating::Seat;
 use history::Access;
-use std::alloc::Global;
+use std::alloc::{AllocError, Global};
 use std::marker::{Brand, Model, PhantomData};
 use std::sync::Wait;
 
@@ -147,14 +147,20 @@ impl<N: MapName> NamedSeat<N> {
     }
 
     /// As `Seat::split`. There is no seat for another thread where this one has no actor but its own.
-    pub fn split(&mut self, words: &NamedWords<N>) -> Option<NamedSeat<N>>
-        ensures split { IfSome result (λ other. HasSplit self.old self.new other) }
-        ensures last { IfNone result ((self.new ≡ self.old) × (self.old.view.last ≤ self.old.view.actor)) }
+    pub fn split(
+        &mut self,
+        alloc: Global,
+        words: &NamedWords<N>,
+    ) -> Result<Option<NamedSeat<N>>, AllocError>
+        ensures split { IfOk result (λ made. IfSome made (λ other. HasSplit self.old self.new other)) }
+        ensures last { IfOk result (λ made. IfNone made ((self.new ≡ self.old) × (self.old.view.last ≤ self.old.view.actor))) }
+        ensures unchanged { OnErr result (self.new ≡ self.old) }
     {
         if !self.seat.has_more() {
-            return None;
+            return Ok(None);
         }
-        Some(NamedSeat::new(self.seat.split(&words.board.shared)))
+        let other = self.seat.split(alloc, &words.board.shared)?;
+        Ok(Some(NamedSeat::new(other)))
     }
 
     /// As `Seat::get`.
@@ -166,7 +172,7 @@ impl<N: MapName> NamedSeat<N> {
         key: u64,
     ) -> Result<Option<u64>, CallError>
         ensures seat { HasGoneOn self.old self.new }
-        ensures told { IsToldOrAgain reply.Found self.old.view (Get handle key) result self.new.view }
+        ensures told { IsToldAtLast reply.Found self.old.view (Get handle key) result self.new.view }
         ensures why { IfErr result (FitsError (Get handle key)) }
     {
         self.seat.get(rt, &words.board.shared, handle, key)
@@ -181,7 +187,7 @@ impl<N: MapName> NamedSeat<N> {
         key: u64,
     ) -> Result<bool, CallError>
         ensures seat { HasGoneOn self.old self.new }
-        ensures told { IsToldIfSomeOrAgain self.old.view (Get handle key) result self.new.view }
+        ensures told { IsToldIfSomeAtLast self.old.view (Get handle key) result self.new.view }
         ensures why { IfErr result (FitsError (Get handle key)) }
     {
         self.seat.contains(rt, &words.board.shared, handle, key)

@@ -24,7 +24,7 @@ pub struct ParkedSeat {
     actor: Actor,
     number: u8,
     last: u8,
-    stock: Stock,
+    stock: Box<Stock>,
     call: Call,
     access: Access,
     parked: Parked,
@@ -38,7 +38,7 @@ impl Model for ParkedSeat {
 
     ghost view = { λ s. record { table = s.actor.table_id; view = s.actor.me.0 } };
 
-    ghost invariant = { λ s. IsParkedSeat s.actor.table_id.words s.actor.me.0 s.number s.last s.stock s.call s.access s.parked };
+    ghost invariant = { λ s. IsParkedSeat s.actor.table_id.words s.actor.me.0 s.number s.last s.stock.value s.call s.access s.parked };
 }
 
 /// What comes of a call in a number of tries.
@@ -51,8 +51,8 @@ pub enum Tried {
 }
 
 /// A seat of these parts whose call has come so far.
-fn tried_by(actor: Actor, number: u8, last: u8, stock: Stock, call: Call, ran: Ran) -> Tried
-    requires whole { IsSeatBy actor.table_id.words actor.me.0 number last stock call ran }
+fn tried_by(actor: Actor, number: u8, last: u8, stock: Box<Stock>, call: Call, ran: Ran) -> Tried
+    requires whole { IsSeatBy actor.table_id.words actor.me.0 number last stock.value call ran }
     ensures { result ≡ tried_by record { table = actor.table_id; view = actor.me.0 } ran }
 {
     match ran {
@@ -86,7 +86,7 @@ impl Seat {
     /// A call on a key, a clear, a snapshot or a freeze. Each of its loops takes so many tries at most, so it ends whatever other threads do.
     /// Where these are used up while something of it is under way, it goes on by `go_on`.
     /// The way down to a key is such a loop, with a try for each level: with fewer tries than that way has levels, at most 14, the call is
-    /// `Spent` however often it is made.
+    /// `Spent` however often it is made. A get is better made by `glance` first, which moves no seat.
     ///
     /// # Errors
     ///

@@ -68,8 +68,9 @@ pub fn release_in_place(
     ensures limbo { IsLimbo stock.new.limbo actor.new.me.0 }
     ensures released { (k : ARef) → OwesOne actor.old.me.0 k kind class slot → HasKept actor.old.me.0 (without_one k actor.old.me.0.owed) actor.new.me.0 }
 {
-    match lower(words, actor, &stock.sizes(), class, slot) {
-        Lowered::Last => stock.hang_one(words, actor, kind, class, slot),
+    let sizes = stock.sizes();
+    match lower(words, actor, &sizes, class, slot) {
+        Lowered::Last => stock.hang_one(words, actor, sizes, kind, class, slot),
         Lowered::Done => {}
     }
 }

@@ -11,14 +11,24 @@ ghost use Rattle.lock_free.specs.Stocks.{IsStock};
 use crate::freeing::{reclaim_deep, release_names};
 use crate::loads::{Actor, Words};
 use crate::reclaiming::Kind;
+use crate::sizes::Sizes;
 use crate::stock::Stock;
 
 /// Makes the first slot of the aged chain of this kind and class, whose epoch is three back, free for the seat, and lets go of what its
 /// node held, if there is one, and the stock has room for it. Returns whether it did.
-fn free_one(words: &Words, actor: &mut Actor, stock: &mut Stock, kind: Kind, class: u32) -> bool
+#[inline(always)]
+fn free_one(
+    words: &Words,
+    actor: &mut Actor,
+    stock: &mut Stock,
+    sizes: Sizes,
+    kind: Kind,
+    class: u32,
+) -> bool
     requires table { actor.old.table_id ≡ words.now.table_id }
     requires sound { IsSound words.now.table_id.words actor.old.me.0 }
     requires stock { IsStock stock.old actor.old.me.0 }
+    requires sizes { actor.old.me.0.sizes ≡ sizes }
     requires running { IsRunning actor.old.me.0 }
     requires deep { kind ≢ kinds.Replaced }
     requires class { class < 3 }
@@ -34,7 +44,6 @@ fn free_one(words: &Words, actor: &mut Actor, stock: &mut Stock, kind: Kind, cla
     if !stock.takes_back(class) {
         return false;
     }
-    let sizes = stock.sizes();
     let link = reclaim_deep(words, actor, &sizes, class, slot);
     stock.lead_on(kind, class, link);
     stock.add(class, slot);
@@ -63,12 +72,13 @@ fn free_aged(
     ensures stock { IsStock stock.new actor.new.me.0 }
     ensures freed { HasFreedSome actor.old.me.0 actor.new.me.0 }
 {
+    let sizes = stock.sizes();
     stock.turn(kind, class);
     for _ in 0..tries {
         if !stock.has_ripe(kind, class) {
             return;
         }
-        if !free_one(words, actor, stock, kind, class) {
+        if !free_one(words, actor, stock, sizes, kind, class) {
             return;
         }
     }

@@ -32,7 +32,7 @@ pub struct Scan {
     actor: Actor,
     number: u8,
     last: u8,
-    stock: Stock,
+    stock: Box<Stock>,
     way: Way,
     walker: Walker,
 }
@@ -45,7 +45,7 @@ impl Model for Scan {
 
     ghost view = { λ s. record { table = s.actor.table_id; view = s.actor.me.0 } };
 
-    ghost invariant = { λ s. IsScanSeat s.actor.table_id.words s.actor.me.0 s.number s.last s.stock s.way s.walker };
+    ghost invariant = { λ s. IsScanSeat s.actor.table_id.words s.actor.me.0 s.number s.last s.stock.value s.way s.walker };
 }
 
 /// How far a listing in parts has come.
@@ -64,12 +64,12 @@ fn scanned_by(
     actor: Actor,
     number: u8,
     last: u8,
-    stock: Stock,
+    stock: Box<Stock>,
     way: Way,
     walker: Walker,
     reached: Result<Reached, CallError>,
 ) -> Scanned
-    requires whole { IsScanBy actor.table_id.words actor.me.0 number last stock way walker reached }
+    requires whole { IsScanBy actor.table_id.words actor.me.0 number last stock.value way walker reached }
     ensures { result ≡ scanned_by record { table = actor.table_id; view = actor.me.0 } reached }
 {
     match reached {

@@ -1,6 +1,6 @@
 //! Seats: what threads call a map with.
 
-ghost use Rattle.std.specs.Prelude.{◌≡◌, ◌<◌, ◌≤◌, ◌↔◌, IfErr, IfOk, IsTrue, OnOk};
+ghost use Rattle.std.specs.Prelude.{◌≡◌, ◌<◌, ◌≤◌, ◌↔◌, IfErr, IfOk, IsTrue, OnErr, OnOk};
 ghost use Rattle.history.specs.declared.replies.Reply.{Reply as Answer};
 ghost use Rattle.history.specs.declared.replies.Reply.TheVariants as reply;
 ghost use Rattle.machine_model.specs.declared.actions.Action.TheVariants as act;
@@ -22,16 +22,17 @@ use crate::rules::Sees;
 use crate::sizes::Sizes;
 use crate::stock::Stock;
 use history::Reply;
-use std::alloc::Global;
+use std::alloc::{AllocError, Global};
 use std::marker::Model;
 
-/// A seat at a map. Who has it makes calls, one after another; those of different seats may overlap. It takes no memory but its own.
+/// A seat at a map. Who has it makes calls, one after another; those of different seats may overlap. What it owns stands on the heap, so
+/// moving it costs little.
 #[derive(Drop)]
 pub struct Seat {
     pub(crate) actor: Actor,
     pub(crate) number: u8,
     pub(crate) last: u8,
-    pub(crate) stock: Stock,
+    pub(crate) stock: Box<Stock>,
 }
 
 impl Model for Seat {
@@ -41,7 +42,7 @@ impl Model for Seat {
 
     ghost view = { λ s. record { table = s.actor.table_id; view = s.actor.me.0 } };
 
-    ghost invariant = { λ s. IsSeated s.actor.table_id.words s.actor.me.0 s.number s.last s.stock };
+    ghost invariant = { λ s. IsSeated s.actor.table_id.words s.actor.me.0 s.number s.last s.stock.value };
 }
 
 /// A map of these sizes, whose handle 0 is writable and empty, and its first seat, from which all others are split.
@@ -52,11 +53,14 @@ pub fn open(alloc: Global, sizes: Sizes) -> Result<(Board, Seat), OpenError>
     ensures refused { IfErr result (λ error. Refuses sizes error) }
 {
     let (board, actor) = open_board(alloc, sizes)?;
+    let Ok(stock) = Box::new(alloc, Stock::new(sizes)) else {
+        return Err(OpenError::Memory);
+    };
     let seat = Seat {
         actor,
         number: 1,
         last: sizes.seats,
-        stock: Stock::new(sizes),
+        stock,
     };
     Ok((board, seat))
 }
@@ -89,23 +93,25 @@ impl Seat {
         self.actor
     }
 
-    /// A seat for another thread.
-    pub fn split(&mut self, words: &Words) -> Seat
+    /// A seat for another thread. Without memory for it nothing has changed.
+    pub fn split(&mut self, alloc: Global, words: &Words) -> Result<Seat, AllocError>
         requires table { self.old.table ≡ words.now.table_id }
         requires more { self.old.view.actor < self.old.view.last }
-        ensures split { HasSplit self.old self.new result }
+        ensures split { IfOk result (λ other. HasSplit self.old self.new other) }
+        ensures unchanged { OnErr result (self.new ≡ self.old) }
     {
+        let stock = Box::new(alloc, Stock::new(self.stock.sizes()))?;
         let number = self.last;
         // Whoever looks sees that the actors after it run nothing.
         words.load::<Sees>(&mut self.actor, 0);
         let actor = split(words, &mut self.actor);
         self.last -= 1;
-        Seat {
+        Ok(Seat {
             actor,
             number,
             last: number,
-            stock: Stock::new(self.stock.sizes()),
-        }
+            stock,
+        })
     }
 }
 

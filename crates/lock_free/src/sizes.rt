@@ -20,6 +20,17 @@ pub struct Sizes {
     pub wide: u32,
 }
 
+/// So many words a slot of this class takes.
+fn stride(class: u32) -> u64
+    ensures { result ≡ stride class }
+{
+    match class {
+        0 => 2,
+        1 => 8,
+        _ => 24,
+    }
+}
+
 impl Sizes {
     /// How many words there are.
     pub fn words(&self) -> u64
@@ -65,12 +76,7 @@ impl Sizes {
         requires number { number < slots_in self.now class }
         ensures { 2 * result ≡ part_of self.now class + stride class * number }
     {
-        let words = match class {
-            0 => 2,
-            1 => 8,
-            _ => 24,
-        };
-        ((self.part(class) + words * u64::from(number)) / 2) as u32
+        ((self.part(class) + stride(class) * u64::from(number)) / 2) as u32
     }
 
     /// The class of this slot.
@@ -85,6 +91,20 @@ impl Sizes {
         } else {
             2
         }
+    }
+
+    /// Whether this is a slot of the class.
+    pub(crate) fn has_slot(&self, class: u32, slot: u32) -> bool
+        ensures { IsTrue result → IsSlot self.now class slot }
+    {
+        let word = 2 * u64::from(slot);
+        let first = self.part(class);
+        if word < first {
+            return false;
+        }
+        let stride = stride(class);
+        let number = (word - first) / stride;
+        first + stride * number == word && number < u64::from(self.slots(class))
     }
 
     /// The word that counts references to the node in this slot of the class.
@@ -104,6 +124,7 @@ impl Sizes {
             _ => 2 * name + 23,
         }
     }
+
     /// The word of the cell of this number, below 32, of the class.
     pub fn cell_word(&self, class: u32, number: usize) -> usize
         requires class { class < 3 }

@@ -1,9 +1,9 @@
 //! What a seat owns in plain memory: slots that are free for it, and those of the nodes that its operation has made.
 
-ghost use Rattle.std.specs.Prelude.{◌≡◌, ◌+◌, ◌<◌, ◌≤◌, ◌^◌, ◌++◌, ◌∷◌, ℕ, List, [], IsFalse, IsTrue, length};
+ghost use Rattle.std.specs.Prelude.{◌≡◌, ◌+◌, ◌<◌, ◌≤◌, ◌^◌, ◌++◌, ◌∷◌, ℕ, List, [], is_some, true, IsFalse, IsTrue, length};
 ghost use Rattle.lock_free.specs.declared.accounts.PartedSlot.{PartedSlot};
 ghost use Rattle.lock_free.specs.declared.rules.View.{View};
-ghost use Rattle.lock_free.specs.Freed.{kept_free};
+ghost use Rattle.lock_free.specs.Freed.{kept_free, next_chain};
 ghost use Rattle.lock_free.specs.Limbos.{chains_of, led_on, turned_in, having_retired, HasHung, IsLimbo, IsNewest, IsNext};
 ghost use Rattle.lock_free.specs.Loading.{IsSound};
 ghost use Rattle.lock_free.specs.Making.{with_slot, with_slots};
@@ -51,13 +51,13 @@ pub struct OwnNode {
 #[derive(Drop)]
 pub struct Stock {
     sizes: Sizes,
-    free: Free,
+    pub(crate) free: Free,
     /// What its operation has made, in order.
     made: ArrayVec<OwnNode, 128>,
     /// What the seat has retired.
     limbo: Limbo,
     /// How many calls it has begun, and slots it has retired, since it last would make some free; ever so many where it has found none.
-    newly: u32,
+    pub(crate) newly: u32,
     /// How its call is made, and what that has lacked.
     lacks: Lacks,
 }
@@ -85,7 +85,7 @@ impl Stock {
     {
         Stock {
             sizes,
-            free: Free::new(),
+            free: Free::new(&sizes),
             made: ArrayVec::new(),
             limbo: Limbo::new(),
             newly: 0,
@@ -129,11 +129,6 @@ impl Stock {
         self.newly = u32::MAX;
     }
 
-    /// Whether slots of offers are to be free for the seat.
-    pub(crate) fn has_any_parted(&self) -> bool {
-        self.free.has_any_parted()
-    }
-
     /// How long its call that finds no slot waits.
     pub(crate) fn patience(&self) -> Patience {
         self.lacks.patience(self.limbo.seen)
@@ -169,11 +164,6 @@ impl Stock {
         ensures { IsLast (pool_of self.now.pool class) result }
     {
         self.free.last(class)
-    }
-
-    /// How many slots of this class are free.
-    pub(crate) fn free_len(&self, class: u32) -> usize {
-        self.free.len(class)
     }
 
     /// The last free slot of this class isn't free for the seat any more.
@@ -290,18 +280,18 @@ impl Stock {
         self.made.clear();
     }
 
-    /// How that hangs which the seat has retired.
-    pub fn limbo(&self) -> Limbo
-        ensures { result ≡ self.now.limbo }
+    /// Whether slots are to be free for the seat once the epoch has grown.
+    pub(crate) fn has_any(&self) -> bool
+        ensures { (class : ℕ) → is_some (next_chain self.now.limbo class).first ≡ true → result ≡ true }
     {
-        self.limbo
+        self.limbo.has_any() || self.free.has_any_parted()
     }
 
-    /// It hangs so now, after some was made free.
-    pub fn hold(&mut self, limbo: Limbo)
-        ensures { self.new ≡ record self.old { limbo = limbo } }
+    /// This is the epoch that the seat has seen last, with which it makes some free.
+    pub(crate) fn see(&mut self, epoch: u64)
+        ensures { self.new ≡ record self.old { limbo = record self.old.limbo { seen = epoch } } }
     {
-        self.limbo = limbo;
+        self.limbo.seen = epoch;
         self.newly = 0;
     }
 
@@ -322,7 +312,8 @@ impl Stock {
     /// Whether the aged chain of this kind and class has slots, all retired three epochs before the one that the seat has seen last.
     #[inline(always)]
     pub fn has_ripe(&self, kind: Kind, class: u32) -> bool
-        ensures { IsTrue result → (chains_of self.now.limbo kind class).aged.stamp + 3 ≤ self.now.limbo.seen }
+        ensures ripe { IsTrue result → (chains_of self.now.limbo kind class).aged.stamp + 3 ≤ self.now.limbo.seen }
+        ensures some { is_some (chains_of self.now.limbo kind class).aged.first ≡ true → (chains_of self.now.limbo kind class).aged.stamp + 3 ≤ self.now.limbo.seen → result ≡ true }
     {
         self.limbo.has_ripe(kind, class)
     }
@@ -360,13 +351,14 @@ impl Stock {
         &mut self,
         words: &Words,
         actor: &mut Actor,
+        sizes: Sizes,
         kind: Kind,
         class: u32,
         slot: u32,
     )
         requires table { actor.old.table_id ≡ words.now.table_id }
         requires sound { IsSound words.now.table_id.words actor.old.me.0 }
-        requires sizes { self.old.sizes ≡ actor.old.me.0.sizes }
+        requires sizes { actor.old.me.0.sizes ≡ sizes }
         requires next { IsNext self.old.limbo actor.old.me.0 kind class slot }
         ensures table { actor.new.table_id ≡ actor.old.table_id }
         ensures sound { IsSound words.now.table_id.words actor.new.me.0 }
@@ -375,17 +367,24 @@ impl Stock {
         ensures hung { HasHung actor.old.me.0 actor.new.me.0 }
     {
         self.newly = self.newly.saturating_add(1);
-        let sizes = self.sizes;
         let limbo = &mut self.limbo;
         hang(words, actor, &sizes, limbo, kind, class, slot);
     }
 
     /// Hangs the slot that the seat has just retired with those of its kind and class.
     #[inline(always)]
-    pub fn hang_one(&mut self, words: &Words, actor: &mut Actor, kind: Kind, class: u32, slot: u32)
+    pub fn hang_one(
+        &mut self,
+        words: &Words,
+        actor: &mut Actor,
+        sizes: Sizes,
+        kind: Kind,
+        class: u32,
+        slot: u32,
+    )
         requires table { actor.old.table_id ≡ words.now.table_id }
         requires sound { IsSound words.now.table_id.words actor.old.me.0 }
-        requires sizes { self.old.sizes ≡ actor.old.me.0.sizes }
+        requires sizes { actor.old.me.0.sizes ≡ sizes }
         requires newest { IsNewest self.old.limbo actor.old.me.0 kind class slot }
         ensures table { actor.new.table_id ≡ actor.old.table_id }
         ensures sound { IsSound words.now.table_id.words actor.new.me.0 }
@@ -393,6 +392,6 @@ impl Stock {
         ensures limbo { IsLimbo self.new.limbo actor.new.me.0 }
         ensures hung { HasHung actor.old.me.0 actor.new.me.0 }
     {
-        self.hang_next(words, actor, kind, class, slot);
+        self.hang_next(words, actor, sizes, kind, class, slot);
     }
 }

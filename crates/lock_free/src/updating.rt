@@ -13,7 +13,7 @@ use crate::building::{Builder, build, drops_at};
 use crate::changing::{Edit, build_main, drops_of};
 use crate::leaving::Swapping;
 use crate::loads::{Actor, Words};
-use crate::makes::class_of;
+use crate::makes::{class_for, entries_in};
 use crate::parking::{Came, Parked};
 use crate::reading::{Given, Way};
 use crate::stock::Stock;
@@ -74,7 +74,8 @@ pub fn update_within(
     ensures updated { IfOk result (λ updated. HasUpdated actor.old.me.0 former updated actor.new.me.0) }
     ensures left { IfErr result (λ left. LeavesSwap (IsUpdate former) actor.old.me.0 left actor.new.me.0) }
 {
-    let Some(fresh) = build(tries, words, actor, stock, by, given, site, former) else {
+    let count = entries_in(given.header.shape);
+    let Some(fresh) = build(tries, words, actor, stock, by, given, count, site, former) else {
         return Ok(None);
     };
     match swap_made_within(
@@ -85,7 +86,7 @@ pub fn update_within(
         way,
         indirection,
         given.link,
-        class_of(given.header.shape),
+        class_for(count),
         fresh,
         drops_at(site),
         &[],
@@ -98,6 +99,7 @@ pub fn update_within(
 /// Makes this change of the main node that READ gave, where the operation's key has this flag, and swaps it in: the operation is answered,
 /// or climbs after a tomb, or begins a new try. None where no slot is had: then it is where it was. An `Err` has its SWAP that is under
 /// way.
+#[inline(always)]
 pub fn change_main_within(
     tries: u64,
     words: &Words,
@@ -122,6 +124,7 @@ pub fn change_main_within(
     ensures left { IfErr result (λ left. LeavesChange actor.old.me.0 left actor.new.me.0) }
 {
     let main = given.link.main;
+    let count = entries_in(given.header.shape);
     let Some(fresh) = build_main(
         tries,
         words,
@@ -129,6 +132,7 @@ pub fn change_main_within(
         stock,
         main,
         given.header.shape,
+        count,
         flag,
         change,
     ) else {
@@ -142,7 +146,7 @@ pub fn change_main_within(
         way,
         indirection,
         given.link,
-        class_of(given.header.shape),
+        class_for(count),
         fresh,
         drops_of(change),
         &[],

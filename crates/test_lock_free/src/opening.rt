@@ -32,7 +32,7 @@ fn seats_call_the_map(rt: HostRuntime) -> Result<(), Fail> {
         panic!(rt; "there is memory");
     };
     let words = &board.shared;
-    let mut second = first.split(words);
+    let mut second = first.split(rt.alloc(), words)?;
     assert_eq!(rt; first.put(&rt, words, 0, 7, 70), Ok(None));
     assert_eq!(rt; second.put(&rt, words, 0, 7, 71), Ok(Some(70)));
     assert_eq!(rt; first.get(&rt, words, 0, 7), Ok(Some(71)));

@@ -12,7 +12,7 @@ fn a_copy_is_listed_in_parts(rt: HostRuntime) -> Result<(), Fail> {
         panic!(rt; "there is memory");
     };
     let words = &board.shared;
-    let second = first.split(words);
+    let second = first.split(rt.alloc(), words)?;
     assert_eq!(rt; first.put(&rt, words, 0, 9, 90), Ok(None));
     assert_eq!(rt; first.put(&rt, words, 0, 7, 70), Ok(None));
     assert_eq!(rt; first.put(&rt, words, 0, 8, 80), Ok(None));

@@ -12,7 +12,7 @@ fn a_call_takes_its_tries(rt: HostRuntime) -> Result<(), Fail> {
         panic!(rt; "there is memory");
     };
     let words = &board.shared;
-    let second = first.split(words);
+    let second = first.split(rt.alloc(), words)?;
     let call = Call::Put {
         handle: 0,
         key: 7,

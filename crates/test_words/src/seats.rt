@@ -14,7 +14,7 @@ pub fn seats_of<N: MapName>(
     let mut first = first;
     let mut seats = Vec::new(alloc);
     for _ in 1..count {
-        if let Some(seat) = first.split(words) {
+        if let Some(seat) = first.split(alloc, words)? {
             seats.push(seat)?;
         }
     }

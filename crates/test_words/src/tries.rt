@@ -22,7 +22,7 @@ fn end<N: MapName, R: Wait>(
     unreachable!()
 }
 
-/// Makes this call in so many tries. Returns the seat, and what it was told.
+/// Makes this call in so many tries; a get takes none, where it can be made at once. Returns the seat, and what it was told.
 pub fn try_call<N: MapName, R: Wait>(
     rt: &R,
     words: &NamedWords<N>,
@@ -32,5 +32,11 @@ pub fn try_call<N: MapName, R: Wait>(
 ) -> (NamedSeat<N>, Result<Reply, CallError>)
     requires tried { IsTried call }
 {
+    let mut seat = seat;
+    if let Call::Get { handle, key } = call {
+        if let Some(value) = seat.glance(words, handle, key) {
+            return (seat, Ok(Reply::Found(value)));
+        }
+    }
     end(rt, words, seat.try_call(words, tries, call))
 }

@@ -23,7 +23,7 @@ use Rattle.lock_free.specs.Shadows.{HasFallen, WasEnded, inner, unpinned_only, w
 use Rattle.lock_free.specs.UnderWay.{IsUnderWay}
 use Rattle.lock_free.specs.WholeCalls.{HasLeft, RestsWith}
 use Rattle.lock_free.proofs.BetweenCalls.{idle_stock}
-use Rattle.lock_free.proofs.CallBegins.{rests_ended}
+use Rattle.lock_free.proofs.CallBegins.{rests_ended, unpinned_waited}
 use Rattle.lock_free.proofs.CallsBegun.{late_again, late_keeps, late_still}
 use Rattle.lock_free.proofs.CallsRunOn.{at_end}
 use Rattle.lock_free.proofs.Comings.{runs_one}
@@ -105,7 +105,7 @@ module _ (n : ℕ) (before : View) (sound : IsSound n before) (rests : RestsWith
     unpinned_falls is =
         let late : CalledOrNot before call (Ok None) after = (begins.0, w, begins.1, is) in
         let again = late_again before call ready after late None rests in (
-          inr (late_still before call ready after late n sound rests then),
+          inr (late_still before call ready after late n sound rests then, unpinned_waited before None rests call after begins.0 w begins.1 is),
           record { same = again.0; rests = again.1 },
           late_keeps before call ready after late,
         )

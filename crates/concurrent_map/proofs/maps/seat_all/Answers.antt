@@ -23,25 +23,25 @@ loop-init c =
       room = c.requires.room.1;
     }
 
-pub split-seat-requires-clause-table : goal.split-seat-requires-clause-table
-split-seat-requires-clause-table c = c.loop.invariant.table
+pub split-requires-clause-table : goal.split-requires-clause-table
+split-requires-clause-table c = c.loop.invariant.table
 
-pub split-seat-requires-clause-more : goal.split-seat-requires-clause-more
-split-seat-requires-clause-more c = omega (arith, c.loop.invariant.actor, c.loop.invariant.last, c.loop-test.true)
+pub split-requires-clause-more : goal.split-requires-clause-more
+split-requires-clause-more c = omega (arith, c.loop.invariant.actor, c.loop.invariant.last, c.loop-test.true)
 
 pub invariant_of-insert : goal.invariant_of-insert
-invariant_of-insert c = subst AreSizes (sym (c.split-seat.ensures.split.other_sizes ∙ c.loop.invariant.sizes)) c.requires.sizes
+invariant_of-insert c = subst AreSizes (sym ((c.in_ok-seat.ensures {u = tt}).split.other_sizes ∙ c.loop.invariant.sizes)) c.requires.sizes
 
 pub loop-preserved : goal.loop-preserved
 loop-preserved c =
     let inv = c.loop.invariant in
     let id : MapId = record { table = c.args.words.now.table_id; sizes = c.args.words.now.key } in
-    let split = c.split-seat.ensures.split in
+    let split = (c.in_ok-seat.ensures {u = tt}).split in
     let fits : vec_len c.loop.made < vec_capacity c.loop.made = omega (arith, inv.count, inv.room, c.loop-test.true) in
     let done = c.insert.ensures.succeeds fits in
-    let placed : c.insert.new.self.items ≡ state_of_seat c.split-seat.result ∷ c.loop.made.items = search (rules, done) in
+    let placed : c.insert.new.self.items ≡ state_of_seat c.in_ok-seat.seat ∷ c.loop.made.items = search (rules, done) in
     let longer : vec_len c.insert.new.self ≡ vec_len c.loop.made + 1 = search (rules, done) in
-    let more = one_more id c.loop.first c.split-seat.new.self c.split-seat.result c.loop.made.items c.insert.new.self.items (vec_len c.loop.made)
+    let more = one_more id c.loop.first c.split.new.self c.in_ok-seat.seat c.loop.made.items c.insert.new.self.items (vec_len c.loop.made)
     (same_id _ id inv.table inv.sizes) split inv.made placed in
     record {
       table = split.table ∙ inv.table;
@@ -50,7 +50,7 @@ loop-preserved c =
       last = omega (arith, inv.last, split.last);
       silent = left_is_silent _ _ _ c.histories_stay.ensures.others (subst AreSizes (sym inv.sizes) c.requires.sizes) split inv.silent;
       count = omega (arith, inv.count, longer);
-      made = subst (λ n. AreNewSeats id (c.split-seat.new.self.view.last + 1) c.insert.new.self.items n) (sym longer) more;
+      made = subst (λ n. AreNewSeats id (c.split.new.self.view.last + 1) c.insert.new.self.items n) (sym longer) more;
       room = omega (arith, inv.room, c.insert.ensures.capacity);
     }
 

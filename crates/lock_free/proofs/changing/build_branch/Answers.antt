@@ -6,7 +6,7 @@ use Rattle.machine_model.specs.Beneath.slot_arena.specs.declared.nodes.Node.TheV
 use Rattle.machine_model.specs.Beneath.slot_arena.specs.Heaps.{entries_from}
 use Rattle.lock_free.specs.Raising.{MayReplace}
 use Rattle.lock_free.specs.Halves.{entries_of_halves, halves_edited, AreHalves}
-use Rattle.lock_free.specs.SeenEntries.{IsAtBranch}
+use Rattle.lock_free.specs.SeenEntries.{HasEntries, HasSeenEntries, IsAtBranch}
 use Rattle.lock_free.proofs.ChangedMains.{edit_fits, has_entries, few_seen, over_there, stock_there, built_there}
 use Rattle.lock_free.proofs.ChangedBranches.{new_node, refs, refs_are, counted, few, branch_can, branch_ready}
 use Rattle.lock_free.proofs.EntryHalves.{can_edit_halves, edited_few, edited_is, edited_small}
@@ -16,18 +16,21 @@ use Rattle.lock_free.proofs.changing.build_branch.Goals as goal
 
 pub see_halves-requires-clause-held : goal.see_halves-requires-clause-held
 see_halves-requires-clause-held c =
-    has_entries c.args.words.now.table_id.words c.args.actor.now.me.0 c.requires.sound c.args.main (shape.Branch c.args.bitmap) c.args.flag c.args.change c.requires.at
+    subst (HasEntries c.args.actor.now.me.0 c.args.main.slot) (sym c.requires.counted)
+    (has_entries c.args.words.now.table_id.words c.args.actor.now.me.0 c.requires.sound c.args.main (shape.Branch c.args.bitmap) c.args.flag c.args.change c.requires.at
     (refs c.args.words.now.table_id.words c.args.actor.now.me.0 c.requires.sound c.args.main c.args.bitmap c.args.flag c.args.change c.requires.at)
     (refs_are c.args.words.now.table_id.words c.args.actor.now.me.0 c.requires.sound c.args.main c.args.bitmap c.args.flag c.args.change c.requires.at)
     (counted c.args.words.now.table_id.words c.args.actor.now.me.0 c.requires.sound c.args.main c.args.bitmap c.args.flag c.args.change c.requires.at)
-    (few c.args.words.now.table_id.words c.args.actor.now.me.0 c.requires.sound c.args.main c.args.bitmap c.args.flag c.args.change c.requires.at)
+    (few c.args.words.now.table_id.words c.args.actor.now.me.0 c.requires.sound c.args.main c.args.bitmap c.args.flag c.args.change c.requires.at))
 
 pub apply-requires-clause-can : goal.apply-requires-clause-can
 apply-requires-clause-can c =
     can_edit_halves c.see_halves.new.halves.items c.position_of-place.result c.args.change
     (subst (λ k. CanEdit (entries_of_halves c.see_halves.new.halves.items) k c.args.change) (sym c.position_of-place.ensures.position)
     (branch_can c.args.words.now.table_id.words c.args.actor.now.me.0 c.requires.sound c.args.main c.args.bitmap c.args.flag c.args.change c.requires.at
-    c.see_halves.new.actor.me.0 (entries_of_halves c.see_halves.new.halves.items) c.see_halves.ensures.seen))
+    c.see_halves.new.actor.me.0 (entries_of_halves c.see_halves.new.halves.items)
+    (subst (λ k. HasSeenEntries c.args.actor.now.me.0 c.args.main.slot k (entries_of_halves c.see_halves.new.halves.items) c.see_halves.new.actor.me.0)
+    c.requires.counted c.see_halves.ensures.seen)))
 
 pub apply-requires-clause-fits : goal.apply-requires-clause-fits
 apply-requires-clause-fits c = edit_fits c.args.words.now.table_id.words c.args.actor.now.me.0 c.requires.sound c.args.main (shape.Branch c.args.bitmap) c.args.flag c.args.change c.requires.at
@@ -39,7 +42,9 @@ make_branch_over-requires-clause-stock c =
     (refs_are c.args.words.now.table_id.words c.args.actor.now.me.0 c.requires.sound c.args.main c.args.bitmap c.args.flag c.args.change c.requires.at)
     (counted c.args.words.now.table_id.words c.args.actor.now.me.0 c.requires.sound c.args.main c.args.bitmap c.args.flag c.args.change c.requires.at)
     (few c.args.words.now.table_id.words c.args.actor.now.me.0 c.requires.sound c.args.main c.args.bitmap c.args.flag c.args.change c.requires.at) c.see_halves.new.actor.me.0
-    (entries_of_halves c.see_halves.new.halves.items) c.see_halves.ensures.seen c.args.stock.now c.requires.stock
+    (entries_of_halves c.see_halves.new.halves.items)
+    (subst (λ k. HasSeenEntries c.args.actor.now.me.0 c.args.main.slot k (entries_of_halves c.see_halves.new.halves.items) c.see_halves.new.actor.me.0)
+    c.requires.counted c.see_halves.ensures.seen) c.args.stock.now c.requires.stock
 
 pub make_branch_over-requires-clause-few : goal.make_branch_over-requires-clause-few
 make_branch_over-requires-clause-few c =
@@ -51,9 +56,13 @@ make_branch_over-requires-clause-few c =
     (refs_are c.args.words.now.table_id.words c.args.actor.now.me.0 c.requires.sound c.args.main c.args.bitmap c.args.flag c.args.change c.requires.at)
     (counted c.args.words.now.table_id.words c.args.actor.now.me.0 c.requires.sound c.args.main c.args.bitmap c.args.flag c.args.change c.requires.at)
     (few c.args.words.now.table_id.words c.args.actor.now.me.0 c.requires.sound c.args.main c.args.bitmap c.args.flag c.args.change c.requires.at) c.see_halves.new.actor.me.0
-    (entries_of_halves c.see_halves.new.halves.items) c.see_halves.ensures.seen (position_of c.args.flag c.args.bitmap)
+    (entries_of_halves c.see_halves.new.halves.items)
+    (subst (λ k. HasSeenEntries c.args.actor.now.me.0 c.args.main.slot k (entries_of_halves c.see_halves.new.halves.items) c.see_halves.new.actor.me.0)
+    c.requires.counted c.see_halves.ensures.seen) (position_of c.args.flag c.args.bitmap)
     (branch_can c.args.words.now.table_id.words c.args.actor.now.me.0 c.requires.sound c.args.main c.args.bitmap c.args.flag c.args.change c.requires.at
-    c.see_halves.new.actor.me.0 (entries_of_halves c.see_halves.new.halves.items) c.see_halves.ensures.seen)))
+    c.see_halves.new.actor.me.0 (entries_of_halves c.see_halves.new.halves.items)
+    (subst (λ k. HasSeenEntries c.args.actor.now.me.0 c.args.main.slot k (entries_of_halves c.see_halves.new.halves.items) c.see_halves.new.actor.me.0)
+    c.requires.counted c.see_halves.ensures.seen))))
 
 pub make_branch_over-requires-clause-halves : goal.make_branch_over-requires-clause-halves
 make_branch_over-requires-clause-halves c =
@@ -68,7 +77,9 @@ make_branch_over-requires-clause-making c =
     c.see_halves.new.halves.items (position_of c.args.flag c.args.bitmap) c.args.change (edit_fits c.args.words.now.table_id.words c.args.actor.now.me.0 c.requires.sound c.args.main
     (shape.Branch c.args.bitmap) c.args.flag c.args.change c.requires.at)))
     (branch_ready c.args.words.now.table_id.words c.args.actor.now.me.0 c.requires.sound c.args.main c.args.bitmap c.args.flag c.args.change c.requires.at
-    c.see_halves.new.actor.me.0 (entries_of_halves c.see_halves.new.halves.items) c.see_halves.ensures.seen c.requires.kept c.see_halves.ensures.sound))
+    c.see_halves.new.actor.me.0 (entries_of_halves c.see_halves.new.halves.items)
+    (subst (λ k. HasSeenEntries c.args.actor.now.me.0 c.args.main.slot k (entries_of_halves c.see_halves.new.halves.items) c.see_halves.new.actor.me.0)
+    c.requires.counted c.see_halves.ensures.seen) c.requires.kept c.see_halves.ensures.sound))
 
 pub make_branch_over-requires-clause-over : goal.make_branch_over-requires-clause-over
 make_branch_over-requires-clause-over c =
@@ -77,7 +88,9 @@ make_branch_over-requires-clause-over c =
     (refs_are c.args.words.now.table_id.words c.args.actor.now.me.0 c.requires.sound c.args.main c.args.bitmap c.args.flag c.args.change c.requires.at)
     (counted c.args.words.now.table_id.words c.args.actor.now.me.0 c.requires.sound c.args.main c.args.bitmap c.args.flag c.args.change c.requires.at)
     (few c.args.words.now.table_id.words c.args.actor.now.me.0 c.requires.sound c.args.main c.args.bitmap c.args.flag c.args.change c.requires.at) c.see_halves.new.actor.me.0
-    (entries_of_halves c.see_halves.new.halves.items) c.see_halves.ensures.seen c.see_halves.ensures.sound
+    (entries_of_halves c.see_halves.new.halves.items)
+    (subst (λ k. HasSeenEntries c.args.actor.now.me.0 c.args.main.slot k (entries_of_halves c.see_halves.new.halves.items) c.see_halves.new.actor.me.0)
+    c.requires.counted c.see_halves.ensures.seen) c.see_halves.ensures.sound
 
 -- what it names
 pub make_branch_over-requires-clause-holds : goal.make_branch_over-requires-clause-holds
@@ -97,10 +110,15 @@ make_branch_over-requires-clause-holds c =
     (refs_are c.args.words.now.table_id.words c.args.actor.now.me.0 c.requires.sound c.args.main c.args.bitmap c.args.flag c.args.change c.requires.at)
     (counted c.args.words.now.table_id.words c.args.actor.now.me.0 c.requires.sound c.args.main c.args.bitmap c.args.flag c.args.change c.requires.at)
     (few c.args.words.now.table_id.words c.args.actor.now.me.0 c.requires.sound c.args.main c.args.bitmap c.args.flag c.args.change c.requires.at) w entries
-    c.see_halves.ensures.seen c.see_halves.ensures.sound (position_of c.args.flag c.args.bitmap)
-    (branch_can c.args.words.now.table_id.words c.args.actor.now.me.0 c.requires.sound c.args.main c.args.bitmap c.args.flag c.args.change c.requires.at w entries c.see_halves.ensures.seen)
+    (subst (λ k. HasSeenEntries c.args.actor.now.me.0 c.args.main.slot k (entries_of_halves c.see_halves.new.halves.items) c.see_halves.new.actor.me.0)
+    c.requires.counted c.see_halves.ensures.seen) c.see_halves.ensures.sound (position_of c.args.flag c.args.bitmap)
+    (branch_can c.args.words.now.table_id.words c.args.actor.now.me.0 c.requires.sound c.args.main c.args.bitmap c.args.flag c.args.change c.requires.at w entries
+    (subst (λ k. HasSeenEntries c.args.actor.now.me.0 c.args.main.slot k (entries_of_halves c.see_halves.new.halves.items) c.see_halves.new.actor.me.0)
+    c.requires.counted c.see_halves.ensures.seen))
     (Branch (edited_bitmap c.args.bitmap c.args.flag c.args.change) (entries_from rs))
-    (new_node c.args.words.now.table_id.words c.args.actor.now.me.0 c.requires.sound c.args.main c.args.bitmap c.args.flag c.args.change c.requires.at w entries c.see_halves.ensures.seen
+    (new_node c.args.words.now.table_id.words c.args.actor.now.me.0 c.requires.sound c.args.main c.args.bitmap c.args.flag c.args.change c.requires.at w entries
+    (subst (λ k. HasSeenEntries c.args.actor.now.me.0 c.args.main.slot k (entries_of_halves c.see_halves.new.halves.items) c.see_halves.new.actor.me.0)
+    c.requires.counted c.see_halves.ensures.seen)
     c.requires.kept c.see_halves.ensures.sound)
     (taken_in rs)))
 
@@ -111,5 +129,7 @@ returns-clause-built c =
     (refs_are c.args.words.now.table_id.words c.args.actor.now.me.0 c.requires.sound c.args.main c.args.bitmap c.args.flag c.args.change c.requires.at)
     (counted c.args.words.now.table_id.words c.args.actor.now.me.0 c.requires.sound c.args.main c.args.bitmap c.args.flag c.args.change c.requires.at)
     (few c.args.words.now.table_id.words c.args.actor.now.me.0 c.requires.sound c.args.main c.args.bitmap c.args.flag c.args.change c.requires.at) c.see_halves.new.actor.me.0
-    (entries_of_halves c.see_halves.new.halves.items) c.see_halves.ensures.seen c.see_halves.ensures.sound c.make_branch_over.result c.make_branch_over.new.actor.me.0
+    (entries_of_halves c.see_halves.new.halves.items)
+    (subst (λ k. HasSeenEntries c.args.actor.now.me.0 c.args.main.slot k (entries_of_halves c.see_halves.new.halves.items) c.see_halves.new.actor.me.0)
+    c.requires.counted c.see_halves.ensures.seen) c.see_halves.ensures.sound c.make_branch_over.result c.make_branch_over.new.actor.me.0
     c.make_branch_over.ensures.built

@@ -1,10 +1,14 @@
-use Rattle.std.proofs.Common.{◌≡◌, ℕ, Option, IfSome, refl, sym, subst}
+use Rattle.std.proofs.Common.{◌≡◌, ℕ, inr, Option, IfNone, IfSome, refl, sym, subst}
+use Rattle.history.specs.declared.calls.Call.TheVariants.{Get}
 use Rattle.history.specs.declared.replies.Reply.TheVariants as reply
 use Rattle.machine_model.specs.declared.lines.Line.TheVariants as line
-use Rattle.lock_free.specs.GlanceGets.{GlancesOn, WhileItCounts}
+use Rattle.lock_free.specs.declared.glance_roots.Glancing.{Glancing}
+use Rattle.lock_free.specs.GlanceGets.{GlancesOn, HasGlancedFor, WhileItCounts}
 use Rattle.lock_free.specs.Glancing.{HasEndedGlance}
 use Rattle.lock_free.specs.Holding.{IsOn}
+use Rattle.lock_free.proofs.CallsBegun.{still_now}
 use Rattle.lock_free.proofs.OneGlance.Ends.{counted_so, ends_so, fallen_so, glancing_so, on_value, sizes_so}
+use Rattle.lock_free.proofs.Waiting.{waited_none}
 use Rattle.lock_free.proofs.glance_gets.glance.Goals as goal
 
 pub look-requires-clause-glances : goal.look-requires-clause-glances
@@ -50,6 +54,14 @@ end-requires-clause-ends c =
     let value = c.in-Some-look.value in
     let on = subst (λ (r : Option (Option ℕ)). GlancesOn n (λ x y. IfSome r (λ k. IsOn y (line.End (reply.Found k)))) mid w) c.in-Some-look.is c.look.ensures.found in
     ends_so n mid w begun.its.glance begun.its.is c.in-Some.glancing.count begun.count value on
+
+pub returns-in_default-clause-told : goal.returns-in_default-clause-told
+returns-in_default-clause-told c =
+    let n = c.args.words.now.table_id.words in
+    let v = c.args.actor.now.me.0 in
+    let call = Get c.args.handle c.args.key in
+    let same = subst (λ (r : Option Glancing). IfNone r (c.begin_get.new.actor.me.0 ≡ v)) c.in_default.is c.begin_get.ensures.same in
+    subst (HasGlancedFor n v call) (sym same) (inr (still_now n v call c.requires.sound c.requires.rests, waited_none v.actor v.account))
 
 pub returns-in_default-look-clause-told : goal.returns-in_default-look-clause-told
 returns-in_default-look-clause-told c =

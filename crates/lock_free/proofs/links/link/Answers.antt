@@ -19,7 +19,7 @@ fetch_add-requires c =
       c.requires.table,
       count_in c.args.words.now.table_id.words me.0 c.requires.sound c.count_word.result is,
       link_allowed c.args.words.now.key c.args.words.now.table_id.slots c.args.actor.now.id me c.requires.sound.bounds.1 c.count_word.result is c.args.known
-          (subst (λ n. Contains me.0.links (n, c.args.known)) (sym c.count_word.ensures) c.requires.known) c.args.new (by_change c.from.result c.from-2.result) c.ranges.known.fits c.ranges.new.fits
+          (subst (λ n. Contains me.0.links (n, c.args.known)) (sym c.count_word.ensures) c.requires.known) c.args.new (by_change c.from.result c.from-2.result) c.ranges.known.fits c.requires.new
           (same_change c.from.result c.from-2.result c.args.new c.args.known c.from.ensures c.from-2.ensures),
     )
 

@@ -1,4 +1,5 @@
-use Rattle.std.proofs.Common.{refl, ◌∙◌}
+use Rattle.std.proofs.Common.{ap, refl, sym, ◌∙◌}
+use Rattle.lock_free.specs.declared.rules.View.{View}
 use Rattle.lock_free.proofs.FreesOn.{freed_more, freed_none, has_late, running_on, turned_stock}
 use Rattle.lock_free.proofs.ripe_nodes.free_aged.Goals as goal
 
@@ -12,7 +13,10 @@ loop-init c = (
 )
 
 pub free_one-requires-clause-ripe : goal.free_one-requires-clause-ripe
-free_one-requires-clause-ripe c = has_late c.loop.actor.me.0 c.loop.stock c.args.kind c.args.class c.loop.invariant.2 (c.has_ripe.ensures c.if-not-has_ripe.false)
+free_one-requires-clause-ripe c = has_late c.loop.actor.me.0 c.loop.stock c.args.kind c.args.class c.loop.invariant.2 (c.has_ripe.ensures.ripe c.if-not-has_ripe.false)
+
+pub free_one-requires-clause-sizes : goal.free_one-requires-clause-sizes
+free_one-requires-clause-sizes c = ap (λ (v : View). v.sizes) c.loop.invariant.4.follows.is ∙ sym (c.sizes-sizes.ensures ∙ c.requires.stock.sizes)
 
 pub returns-then-not-free_one-clause-freed : goal.returns-then-not-free_one-clause-freed
 returns-then-not-free_one-clause-freed c = freed_more c.args.actor.now.me.0 c.loop.actor.me.0 c.free_one.new.actor.me.0 c.loop.invariant.4 c.free_one.ensures.freed

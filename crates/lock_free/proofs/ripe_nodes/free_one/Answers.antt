@@ -12,7 +12,7 @@ returns-then-not-takes_back-clause-freed c = freed_none c.args.actor.now.me.0
 
 pub reclaim_deep-link-requires-clause-slot : goal.reclaim_deep-link-requires-clause-slot
 reclaim_deep-link-requires-clause-slot c =
-    subst (λ z. IsSlot z c.args.class c.in-Some.slot) (sym (c.sizes-sizes.ensures ∙ c.requires.stock.sizes))
+    subst (λ z. IsSlot z c.args.class c.in-Some.slot) c.requires.sizes
     (item_slot c.args.stock.now.limbo c.args.actor.now.me.0 c.requires.stock.limbo c.args.kind c.args.class c.requires.class c.in-Some.slot (sym c.first_aged.ensures ∙ c.in-Some.is))
 
 pub reclaim_deep-link-requires-clause-ripe : goal.reclaim_deep-link-requires-clause-ripe

@@ -1,6 +1,8 @@
-use Rattle.std.proofs.Common.{subst}
+use Rattle.std.proofs.Common.{ap, subst, ◌∙◌}
 use Rattle.lock_free.specs.Changing.{HasBuilt}
+use Rattle.lock_free.specs.Places.{class_for}
 use Rattle.lock_free.proofs.ChangedSwaps.{no_change, change_way, change_ready, change_done, change_left, change_told}
+use Rattle.lock_free.proofs.MainClasses.{class_counts}
 use Rattle.lock_free.proofs.updating.change_main_within.Goals as goal
 
 pub build_main-requires-clause-at : goal.build_main-requires-clause-at
@@ -21,7 +23,8 @@ pub swap_made_within-requires-clause-swapping : goal.swap_made_within-requires-c
 swap_made_within-requires-clause-swapping c =
     change_ready c.args.words.now.table_id.words c.args.actor.now.me.0 c.build_main.new.actor.me.0 c.requires.sound c.args.indirection c.args.given c.args.flag c.args.change c.requires.at
     c.in-Some.fresh
-    (subst (λ r. HasBuilt c.args.actor.now.me.0 r c.build_main.new.actor.me.0) c.in-Some.is c.build_main.ensures.built) c.class_of.result c.class_of.ensures
+    (subst (λ r. HasBuilt c.args.actor.now.me.0 r c.build_main.new.actor.me.0) c.in-Some.is c.build_main.ensures.built) c.class_for.result
+    (c.class_for.ensures ∙ ap class_for c.entries_in-count.ensures ∙ class_counts c.args.given.header.shape)
 
 pub returns-in-Ok-clause-changed : goal.returns-in-Ok-clause-changed
 returns-in-Ok-clause-changed c =

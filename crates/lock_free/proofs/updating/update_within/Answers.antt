@@ -1,6 +1,8 @@
-use Rattle.std.proofs.Common.{subst}
+use Rattle.std.proofs.Common.{ap, subst, ◌∙◌}
 use Rattle.lock_free.specs.BuildingUp.{HasBuiltSingle}
+use Rattle.lock_free.specs.Places.{class_for}
 use Rattle.lock_free.proofs.Updates.{no_update, way_on, swap_ready, update_done, update_left, update_told}
+use Rattle.lock_free.proofs.MainClasses.{class_counts}
 use Rattle.lock_free.proofs.updating.update_within.Goals as goal
 
 pub returns-in_default-clause-updated : goal.returns-in_default-clause-updated
@@ -16,7 +18,8 @@ pub swap_made_within-requires-clause-swapping : goal.swap_made_within-requires-c
 swap_made_within-requires-clause-swapping c =
     swap_ready c.args.actor.now.me.0 c.build.new.actor.me.0 c.args.by c.args.given c.args.site c.args.former c.args.indirection c.requires.at c.in-Some.fresh
     (subst (λ r. HasBuiltSingle c.args.actor.now.me.0 c.args.site c.args.former r c.build.new.actor.me.0) c.in-Some.is c.build.ensures.built) c.args.words.now.table_id.words c.requires.sound
-    c.class_of.result c.class_of.ensures
+    c.class_for.result
+    (c.class_for.ensures ∙ ap class_for c.entries_in-count.ensures ∙ class_counts c.args.given.header.shape)
 
 pub returns-in-Ok-clause-updated : goal.returns-in-Ok-clause-updated
 returns-in-Ok-clause-updated c =

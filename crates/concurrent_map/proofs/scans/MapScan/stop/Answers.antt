@@ -7,5 +7,5 @@ pub returns-clause-stopped : goal.returns-clause-stopped
 returns-clause-stopped c before handle told scanning =
     let laws = c.histories_stay.ensures in
     let under = subst (IsScanning before handle told) (sym c.self.view_is) scanning in
-    stopped_since laws.go_on laws.others c.self.inside.scan c.self.invariant before handle told under c.stop.result c.stop.ensures.seat
+    stopped_since laws.go_on laws.others laws.denials c.self.inside.scan c.self.invariant before handle told under c.stop.result c.stop.ensures.seat
     (c.stop.ensures.stopped under.first.view handle told under.scanning)

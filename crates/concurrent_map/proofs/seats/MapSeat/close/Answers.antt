@@ -5,4 +5,4 @@ pub returns-clause-told : goal.returns-clause-told
 returns-clause-told c =
     let laws = c.histories_stay.ensures in
     told_close _ _ _ _ _ _ c.self.view_is c.number.ensures
-    laws.go_on laws.others c.self.invariant c.close.ensures.seat c.close.ensures.told
+    laws.go_on laws.others laws.closes c.self.invariant c.close.ensures.seat c.close.ensures.told

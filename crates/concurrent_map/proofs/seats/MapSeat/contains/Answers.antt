@@ -1,10 +1,10 @@
 use Rattle.std.proofs.Common.{ap}
 use Rattle.history.specs.declared.calls.Call.TheVariants.{Get}
-use Rattle.concurrent_map.proofs.Told.{told_if_some_or_again}
+use Rattle.concurrent_map.proofs.Told.{told_if_some_at_last}
 use Rattle.concurrent_map.proofs.seats.MapSeat.contains.Goals as goal
 
 pub returns-clause-told : goal.returns-clause-told
 returns-clause-told g c =
     let laws = c.histories_stay.ensures in
-    told_if_some_or_again _ _ _ _ _ _ c.self.view_is (ap (λ h. Get h c.args.key) c.number.ensures)
-    laws.go_on laws.others c.self.invariant c.contains.ensures.seat c.contains.ensures.told
+    told_if_some_at_last _ _ _ _ _ _ c.self.view_is (ap (λ h. Get h c.args.key) c.number.ensures)
+    laws.go_on laws.others laws.denials c.self.invariant c.contains.ensures.seat c.contains.ensures.told

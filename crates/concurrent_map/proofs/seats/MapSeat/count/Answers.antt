@@ -8,4 +8,4 @@ pub returns-clause-told : goal.returns-clause-told
 returns-clause-told g c =
     let laws = c.histories_stay.ensures in
     told_reply reply.Count _ _ _ _ _ _ c.self.view_is (ap (λ h. Count h) c.number.ensures)
-    laws.go_on laws.others c.self.invariant c.count.ensures.seat c.count.ensures.told
+    laws.go_on laws.others laws.denials c.self.invariant c.count.ensures.seat c.count.ensures.told

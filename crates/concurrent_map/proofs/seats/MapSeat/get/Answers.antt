@@ -1,11 +1,11 @@
 use Rattle.std.proofs.Common.{ap}
 use Rattle.history.specs.declared.calls.Call.TheVariants.{Get}
 use Rattle.history.specs.declared.replies.Reply.TheVariants as reply
-use Rattle.concurrent_map.proofs.Told.{told_or_again}
+use Rattle.concurrent_map.proofs.Told.{told_at_last}
 use Rattle.concurrent_map.proofs.seats.MapSeat.get.Goals as goal
 
 pub returns-clause-told : goal.returns-clause-told
 returns-clause-told g c =
     let laws = c.histories_stay.ensures in
-    told_or_again reply.Found _ _ _ _ _ _ c.self.view_is (ap (λ h. Get h c.args.key) c.number.ensures)
-    laws.go_on laws.others c.self.invariant c.get.ensures.seat c.get.ensures.told
+    told_at_last reply.Found _ _ _ _ _ _ c.self.view_is (ap (λ h. Get h c.args.key) c.number.ensures)
+    laws.go_on laws.others laws.denials c.self.invariant c.get.ensures.seat c.get.ensures.told

@@ -8,4 +8,4 @@ pub returns-clause-told : goal.returns-clause-told
 returns-clause-told g c =
     let laws = c.histories_stay.ensures in
     told_at_last reply.Found _ _ _ _ _ _ c.self.view_is (ap (λ h. PutIfAbsent h c.args.key c.args.value) c.number.ensures)
-    laws.go_on laws.others c.self.invariant c.put_if_absent.ensures.seat c.put_if_absent.ensures.told
+    laws.go_on laws.others laws.denials c.self.invariant c.put_if_absent.ensures.seat c.put_if_absent.ensures.told

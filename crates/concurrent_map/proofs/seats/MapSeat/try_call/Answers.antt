@@ -7,4 +7,4 @@ pub returns-clause-tried : goal.returns-clause-tried
 returns-clause-tried c =
     let laws = c.histories_stay.ensures in
     subst (λ t. HasTried c.args.self c.args.call t ⊎ NeverBegan c.args.self t) (sym c.new.ensures)
-    (tried_told c.self.inside.seat c.args.self c.args.call c.try_call.result c.self.view_is laws.go_on laws.others c.self.invariant c.try_call.ensures.seat c.try_call.ensures.tried)
+    (tried_told c.self.inside.seat c.args.self c.args.call c.try_call.result c.self.view_is laws.go_on laws.others laws.denials c.self.invariant c.try_call.ensures.seat c.try_call.ensures.tried)

@@ -17,8 +17,9 @@ invariant_of-self c =
     let v = c.self.inside.actor.me.0 in
     let w = c.close_handle.new.actor.me.0 in
     let left = leaves_shut v w c.args.handle c.close_handle.result c.self.invariant.rests c.close_handle.ensures.shut in
-    seat_after c.self.inside.actor.table_id.words c.close_handle.new.actor.table_id.words c.self.inside.number c.self.inside.last c.self.inside.stock c.close_handle.new.stock v w c.self.invariant
-    (ap (λ t. t.words) c.close_handle.ensures.table) (subst (λ n. IsSound n w) (ap (λ t. t.words) (sym (ap (λ s. s.table) c.self.view_is ∙ c.requires.table))) c.close_handle.ensures.sound)
+    seat_after c.self.inside.actor.table_id.words c.close_handle.new.actor.table_id.words c.self.inside.number c.self.inside.last c.self.inside.stock.value
+    c.close_handle.new.stock v w c.self.invariant (ap (λ t. t.words) c.close_handle.ensures.table)
+    (subst (λ n. IsSound n w) (ap (λ t. t.words) (sym (ap (λ s. s.table) c.self.view_is ∙ c.requires.table))) c.close_handle.ensures.sound)
     left c.close_handle.ensures.stock
 
 pub returns-clause-seat : goal.returns-clause-seat

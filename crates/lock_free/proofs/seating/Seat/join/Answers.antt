@@ -13,9 +13,9 @@ invariant_of-self c =
     let w = c.take_in.new.actor.me.0 in
     let table = ap (λ (s : Seated). s.table) c.self.view_is ∙ c.requires.table.0 in
     let same = ap (λ t. t.words) c.take_in.ensures.table in
-    subst (λ n. IsSeated n w c.self.inside.number c.self.inside.last c.self.inside.stock) (sym same)
+    subst (λ n. IsSeated n w c.self.inside.number c.self.inside.last c.self.inside.stock.value) (sym same)
     (joined_seated c.self.inside.actor.table_id.words v c.into_actor.result.me.0 w c.take_in.ensures.joined
-    (subst (λ t. IsSound t.words w) (sym table) c.take_in.ensures.sound) c.self.inside.number c.self.inside.last c.self.inside.stock c.self.invariant)
+    (subst (λ t. IsSound t.words w) (sym table) c.take_in.ensures.sound) c.self.inside.number c.self.inside.last c.self.inside.stock.value c.self.invariant)
 
 pub returns-clause-seat : goal.returns-clause-seat
 returns-clause-seat c =

@@ -2,7 +2,7 @@ use Rattle.std.proofs.Common.{◌≡◌, ◌*◌, ◌≤◌, ◌/◌, length}
 use Rattle.lock_free.specs.Halves.{entries_of_halves, AreHalves}
 use Rattle.lock_free.specs.Loading.{IsSound}
 use Rattle.lock_free.proofs.AllEntries.{SeenSome}
-use Rattle.lock_free.proofs.entries.see_halves.Given as goal
+use Rattle.lock_free.proofs.entries.see_own_halves.Given as goal
 
 abbrev pub invariant-loop-n : goal.invariant-loop-n
 invariant-loop-n l =

@@ -15,13 +15,14 @@ use Rattle.lock_free.specs.declared.rules.View.{View}
 use Rattle.lock_free.specs.declared.sizes.Sizes.{Sizes}
 use Rattle.lock_free.specs.Cells.{pool_of, IsCell, IsFree}
 use Rattle.lock_free.specs.CellWords.{has_fetched, has_put, having_put}
+use Rattle.lock_free.specs.Links.{link_in}
 use Rattle.lock_free.specs.Loading.{IsSound}
 use Rattle.lock_free.specs.Making.{with_slots}
 use Rattle.lock_free.specs.Places.{cell_word, words_in, words_of, IsSlot}
 use Rattle.lock_free.specs.Rules.{IsKept}
 use Rattle.lock_free.specs.Shadows.{IsShadowed}
 use Rattle.lock_free.specs.Storing.{with_free}
-use Rattle.lock_free.proofs.CellKept.{cell_apart, fetch_kept, fetched_slot, one_cell, put_kept}
+use Rattle.lock_free.proofs.Aside.CellKept.{cell_apart, fetch_kept, fetched_slot, one_cell, put_kept}
 use Rattle.lock_free.proofs.EpochStays.{rest_of}
 use Rattle.lock_free.proofs.Exchanged.{words_hit, words_miss}
 use Rattle.lock_free.proofs.Geometry.{slot_end}
@@ -76,27 +77,27 @@ module _ (sizes : Sizes) (size id : ℕ) (me : Me Call View) (class number : ℕ
 -- ---- the last slot of the class is put there
 
 module _ (sizes : Sizes) (size id : ℕ) (me : Me Call View) (class number : ℕ) (cell : IsCell class number) (rest : List ℕ) (name : ℕ) (pool : pool_of me.0.pool class ≡ rest ++ name ∷ [])
-    (unopened : me.0.opens ≡ None) where
+    (unopened : me.0.opens ≡ None) (x : ℕ) (names : link_in x ≡ name) where
   abbrev puts : ℕ → Me Call View → Type 0
-  puts = has_put (step size (cell_word me.0.sizes class number) 0 name none) me
+  puts = has_put (step size (cell_word me.0.sizes class number) 0 x none) me
 
-  put_each : (s : Table.State Call View) (kept : IsKept me.0.sizes s) (at : get_elem? s.views id ≡ some me.0) → Exchanged sizes size id me class number cell 0 name puts s kept at
+  put_each : (s : Table.State Call View) (kept : IsKept me.0.sizes s) (at : get_elem? s.views id ≡ some me.0) → Exchanged sizes size id me class number cell 0 x puts s kept at
   put_each s kept at = elim (cases_eq (slice_index s.words (cell_word me.0.sizes class number)) 0) [
-    | inl e ↦ hit sizes size id me class number cell 0 name puts s kept at (having_put me.0 class rest) refl
-        (put_kept me.0.sizes s kept id me.0 at class number cell rest name pool (λ handle o. none-some handle (sym unopened ∙ o))) e
+    | inl e ↦ hit sizes size id me class number cell 0 x puts s kept at (having_put me.0 class rest) refl
+        (put_kept me.0.sizes s kept id me.0 at class number cell rest name pool x names (λ handle o. none-some handle (sym unopened ∙ o))) e
         ((λ found c n ns low same is. told c n ns low same is), (λ differs. absurd (differs e)))
-    | inr differs ↦ missed sizes size id me class number cell 0 name puts s kept at differs ((λ found. absurd (differs found)), (λ other. refl))
+    | inr differs ↦ missed sizes size id me class number cell 0 x puts s kept at differs ((λ found. absurd (differs found)), (λ other. refl))
   ]
     where
-      told : (c n : ℕ) (ns : List ℕ) → IsCell c n → cell_word me.0.sizes class number ≡ cell_word me.0.sizes c n → pool_of me.0.pool c ≡ ns ++ name ∷ [] →
+      told : (c n : ℕ) (ns : List ℕ) → IsCell c n → cell_word me.0.sizes class number ≡ cell_word me.0.sizes c n → pool_of me.0.pool c ≡ ns ++ link_in x ∷ [] →
           ◌≡◌ {A = Me Call View} (having_put me.0 class rest, me.1) (having_put me.0 c ns, me.1)
       told c n ns low same is =
           let one = (one_cell me.0.sizes class number c n cell low same).0 in
-          let lists = same_from_push rest ns name name (sym pool ∙ ap (pool_of me.0.pool) one ∙ is) in
+          let lists = same_from_push rest ns name (link_in x) (sym pool ∙ ap (pool_of me.0.pool) one ∙ is) in
           ap {B = Me Call View} (λ k. (having_put me.0 k rest, me.1)) one ∙ ap {B = Me Call View} (λ ks. (having_put me.0 c ks, me.1)) lists.0
 
-  pub put_allowed : 1 ≤ me.0.sizes.seats → Allows (IsShadowed sizes) size id me (cell_word me.0.sizes class number) (λ n. either (n == 0) name n) puts
-  put_allowed some_seats = exchange_allowed sizes size id me class number cell 0 name some_seats puts put_each
+  pub put_allowed : 1 ≤ me.0.sizes.seats → Allows (IsShadowed sizes) size id me (cell_word me.0.sizes class number) (λ n. either (n == 0) x n) puts
+  put_allowed some_seats = exchange_allowed sizes size id me class number cell 0 x some_seats puts put_each
 
 -- what is free for the seat then was so before
 pub left_free : (v : View) (class : ℕ) (rest : List ℕ) (name : ℕ) → class < 3 → pool_of v.pool class ≡ rest ++ name ∷ [] → (b other : ℕ) → IsFree (having_put v class rest) b other → IsFree v b other
@@ -122,28 +123,32 @@ put_sound n v class rest name low pool h = record {
 
 -- ---- what stands there is fetched
 
-module _ (sizes : Sizes) (size id : ℕ) (me : Me Call View) (class number : ℕ) (cell : IsCell class number) (name : ℕ) (some_name : name ≢ 0) where
-  abbrev fetches : ℕ → Me Call View → Type 0
-  fetches = has_fetched (step size (cell_word me.0.sizes class number) name 0 none) me
+module _ (sizes : Sizes) (size id : ℕ) (me : Me Call View) (class number : ℕ) (cell : IsCell class number) (found : ℕ) (some_name : link_in found ≢ 0) where
+  abbrev name : ℕ
+  name = link_in found
 
-  fetch_each : (s : Table.State Call View) (kept : IsKept me.0.sizes s) (at : get_elem? s.views id ≡ some me.0) → Exchanged sizes size id me class number cell name 0 fetches s kept at
-  fetch_each s kept at = elim (cases_eq (slice_index s.words (cell_word me.0.sizes class number)) name) [
-    | inl e ↦ hit sizes size id me class number cell name 0 fetches s kept at (with_free me.0 class name) refl (fetch_kept me.0.sizes s kept id me.0 at class number cell name e some_name) e
-        ((λ found c n low same. told c n low same e), (λ differs. absurd (differs e)))
-    | inr differs ↦ missed sizes size id me class number cell name 0 fetches s kept at differs ((λ found. absurd (differs found)), (λ other. refl))
+  abbrev fetches : ℕ → Me Call View → Type 0
+  fetches = has_fetched (step size (cell_word me.0.sizes class number) found 0 none) me
+
+  fetch_each : (s : Table.State Call View) (kept : IsKept me.0.sizes s) (at : get_elem? s.views id ≡ some me.0) → Exchanged sizes size id me class number cell found 0 fetches s kept at
+  fetch_each s kept at = elim (cases_eq (slice_index s.words (cell_word me.0.sizes class number)) found) [
+    | inl e ↦ hit sizes size id me class number cell found 0 fetches s kept at (with_free me.0 class name) refl
+        (fetch_kept me.0.sizes s kept id me.0 at class number cell name (ap link_in e) some_name) e
+        ((λ hit c n low same. told c n low same e), (λ differs. absurd (differs e)))
+    | inr differs ↦ missed sizes size id me class number cell found 0 fetches s kept at differs ((λ hit. absurd (differs hit)), (λ other. refl))
   ]
     where
-      told : (c n : ℕ) → IsCell c n → cell_word me.0.sizes class number ≡ cell_word me.0.sizes c n → slice_index s.words (cell_word me.0.sizes class number) ≡ name →
-          IsSlot me.0.sizes c (slice_index s.words (cell_word me.0.sizes class number))
-          × (◌≡◌ {A = Me Call View} (with_free me.0 class name, me.1) (with_free me.0 c (slice_index s.words (cell_word me.0.sizes class number)), me.1))
+      told : (c n : ℕ) → IsCell c n → cell_word me.0.sizes class number ≡ cell_word me.0.sizes c n → slice_index s.words (cell_word me.0.sizes class number) ≡ found →
+          IsSlot me.0.sizes c (link_in (slice_index s.words (cell_word me.0.sizes class number)))
+          × (◌≡◌ {A = Me Call View} (with_free me.0 class name, me.1) (with_free me.0 c (link_in (slice_index s.words (cell_word me.0.sizes class number))), me.1))
       told c n low same e =
           let one = (one_cell me.0.sizes class number c n cell low same).0 in (
-            subst (IsSlot me.0.sizes c) (sym e) (subst (λ k. IsSlot me.0.sizes k name) one (fetched_slot me.0.sizes s kept id me.0 at class number cell name e some_name)),
-            ap {B = Me Call View} (λ k. (with_free me.0 k name, me.1)) one ∙ ap {B = Me Call View} (λ k. (with_free me.0 c k, me.1)) (sym e),
+            subst (IsSlot me.0.sizes c) (sym (ap link_in e)) (subst (λ k. IsSlot me.0.sizes k name) one (fetched_slot me.0.sizes s kept id me.0 at class number cell name (ap link_in e) some_name)),
+            ap {B = Me Call View} (λ k. (with_free me.0 k name, me.1)) one ∙ ap {B = Me Call View} (λ k. (with_free me.0 c k, me.1)) (sym (ap link_in e)),
           )
 
-  pub fetch_allowed : 1 ≤ me.0.sizes.seats → Allows (IsShadowed sizes) size id me (cell_word me.0.sizes class number) (λ n. either (n == name) 0 n) fetches
-  fetch_allowed some_seats = exchange_allowed sizes size id me class number cell name 0 some_seats fetches fetch_each
+  pub fetch_allowed : 1 ≤ me.0.sizes.seats → Allows (IsShadowed sizes) size id me (cell_word me.0.sizes class number) (λ n. either (n == found) 0 n) fetches
+  fetch_allowed some_seats = exchange_allowed sizes size id me class number cell found 0 some_seats fetches fetch_each
 
 pub fetch_sound : (n : ℕ) (v : View) (class name : ℕ) → class < 3 → IsSlot v.sizes class name → IsSound n v → IsSound n (with_free v class name)
 fetch_sound n v class name low is h = record {
