@@ -2,17 +2,27 @@
 import re
 import sys
 
-from figures import TOP, output
-
-ROOM = TOP / "crates/concurrent_map/src/room.rt"
+from figures import output
 
 
 def sizes_for(keys, seats):
-    """Returns the slots of each class of a map for so many keys and seats, by the numbers of the function of this name."""
-    told = re.findall(r"(\w+): slots_for\(keys, seats, (\d+), (\d+)\)", ROOM.read_text())
-    if [name for name, *_ in told] != ["small", "medium", "wide"]:
-        sys.exit(f"{ROOM}: no sizes are told there as they were")
-    return {name: int(each) * keys // 64 + int(more) * (seats + 1) for name, each, more in told}
+    """Returns the slots of each class of a map for so many keys and seats, as the function of this name does."""
+
+    def in_order(places):
+        return min(2 * max(keys - places, 0), max(4 * places - keys, places))
+
+    def at_random(places):
+        return min(17 * places // 16, keys**2 // (places + 7 * keys // 8 + keys**2 // (4 * places)))
+
+    def past(many, places):
+        return min(max(keys - many * places, 0), places)
+
+    levels = [32**level for level in range(7)]
+    small = max(keys + sum(map(in_order, levels)), 65 * (keys + sum(map(at_random, levels))) // 64)
+    medium = max(23 * keys // 128, sum(past(2, places) for places in levels))
+    wide = max(keys // 25, sum(past(12, places) for places in levels))
+    held = [min(keys + 16, 80), min(keys // 2 + 8, 40), min(max(keys - 12, 0), 34)]
+    return {name: slots + each * (seats + 1) for name, slots, each in zip(("small", "medium", "wide"), (small, medium, wide), held)}
 
 
 class Load:
