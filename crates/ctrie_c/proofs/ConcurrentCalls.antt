@@ -17,7 +17,7 @@ use Rattle.concurrent_map.specs.Tries.{HasTried, IsAnswer, IsTriedAt, IsUnderWay
 use Rattle.ctrie_c.specs.declared.threading.At.{At}
 use Rattle.ctrie_c.specs.declared.threading.At.TheVariants as at
 use Rattle.ctrie_c.specs.Answers.{no_map}
-use Rattle.ctrie_c.specs.Threading.{coded, come, Does, DoesAt, DoesSo, GlancesInVain, HasMade, IsHeldAt, IsSame, Makes, MakesAt, MakesOrAgain, SettlesAt, Threading, Walks}
+use Rattle.ctrie_c.specs.Threading.{coded, come, Does, DoesAt, DoesSo, HasMade, IsHeldAt, IsSame, Makes, MakesAt, MakesOrAgain, SettlesAt, Threading, Walks}
 
 abbrev Comes : SeatState → Call → MapTried → Type 0
 Comes before call t = HasTried before call t ⊎ NeverBegan before t
@@ -59,17 +59,6 @@ module _ (now later : At) (call : Call) (seat after : SeatState) (handle key : �
             subst (λ b. HasMade b (Get handle key) (Ok (reply.Found value)) (at.Resting after)) e
             (Ok (reply.Found value), refl, inl (record { is = told; fits = tt; why = tt }));
       })))
-
-  pub glanced_in_vain : IsToldAtOnce seat (Get handle key) None after → GlancesInVain call now later
-  glanced_in_vain told =
-      subst (λ k. GlancesInVain k now later) (sym asks)
-      (subst (λ a. GlancesInVain (Get handle key) a later) (sym was) (subst (λ a. GlancesInVain (Get handle key) (at.Resting seat) a) (sym is) told))
-
--- or couldn't, and makes it still
-pub makes_still : (call : Call) (result : Result Reply ℕ) (old between new : At) → (between ≡ old) ⊎ GlancesInVain call old between → MakesAt call result between new →
-    MakesOrAgain call result old new
-makes_still call result old between new (inl e) makes = inl (subst (λ a. MakesAt call result a new) e makes)
-makes_still call result old between new (inr vain) makes = inr (between, vain, makes)
 
 -- the seat that was held is held again
 pub makes_held : (call : Call) (result : Result Reply ℕ) (old new : Option Threading) (seat lent after : Threading) → old ≡ Some seat → lent ≡ seat → new ≡ Some after → IsSame lent after →
